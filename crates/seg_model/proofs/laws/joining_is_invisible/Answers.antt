@@ -1,0 +1,5 @@
+use Rattle.seg_model.proofs.Joined.{joined_reading}
+use Rattle.seg_model.proofs.laws.joining_is_invisible.Goals as goal
+
+pub returns : goal.returns
+returns c = joined_reading

@@ -1,0 +1,183 @@
+-- The check of a document that is to be added: four passes over its pairs, of which the first that finds something answers.
+use Rattle.std.specs.Prelude.{ℕ, ◌+◌, ◌^◌, List, [], ◌∷◌, map, length, Option, Some, None, Bool, true, false, ◌&&◌, ◌||◌, ◌==◌, nat_le, nat_lt, if◌then◌else◌, IsUtf8, ◌≡◌}
+use Rattle.std.specs.List.{slice_get, list_all, flat_map, AllByRecursion}
+use Rattle.seg_values.specs.declared.token.Token.{Token}
+use Rattle.seg_values.specs.declared.schema.FieldEntry.{FieldEntry}
+use Rattle.seg_values.specs.declared.schema.FieldKind.{FieldKind}
+use Rattle.seg_values.specs.declared.schema.FieldKind.TheVariants as kinds
+use Rattle.seg_values.specs.Tree.{Leaf, text, pre_tokenized, facet, byte_string, ip, Tree, leaf, array, object, Trees, no_trees, tree, Members, no_members, member, levels, Document}
+use Rattle.seg_model.specs.Fields.{Schema, Analyzer, is_json, is_indexed, indexing_tokenizer, values_of, fields}
+use Rattle.seg_model.specs.Leaves.{leaves, leaves_of, joined_path}
+use Rattle.seg_model.specs.Takes.{takes}
+use Rattle.seg_model.specs.StoredForm.{stored_form}
+use Rattle.seg_model.specs.Occurrences.{counted, start_after_all, value_tokens, leaf_text, texts_at}
+
+-- why a document is not taken
+pub data Refusal : Type 0 where
+  unknown_field : Refusal
+  wrong_value : ℕ → Refusal
+  json_leaf : Refusal
+  json_key : Refusal
+  positions_fall : Refusal
+  past_limit : Refusal
+
+-- the first refusal, and else the second
+abbrev pub or_else : Option Refusal → Option Refusal → Option Refusal
+or_else None later = later
+or_else (Some r) later = Some r
+
+-- the first refusal of a list
+abbrev pub first_refusal : {X : Type 0} → (X → Option Refusal) → List X → Option Refusal
+first_refusal f [] = None
+first_refusal f (x ∷ xs) = or_else (f x) (first_refusal f xs)
+
+abbrev pub unless : Bool → Refusal → Option Refusal
+unless true r = None
+unless false r = Some r
+
+-- ---- the first pass: fields, and the trees that they take
+
+abbrev pub value_refusal : ℕ → Tree → Option FieldEntry → Option Refusal
+value_refusal field t None = Some unknown_field
+value_refusal field t (Some entry) = unless (takes entry t) (wrong_value field)
+
+-- ---- the second pass: the leaves and keys of JSON fields
+
+abbrev pub is_json_leaf : Leaf → Bool
+is_json_leaf (pre_tokenized p) = false
+is_json_leaf (facet s) = false
+is_json_leaf (byte_string b) = false
+is_json_leaf (ip a) = false
+is_json_leaf _ = true
+
+abbrev pub has_no_zero : List ℕ → Bool
+has_no_zero [] = true
+has_no_zero (b ∷ bs) = if b == 0 then false else has_no_zero bs
+
+-- from left to right, a key before its value
+abbrev mutual
+  pub tree_refusal : Tree → Option Refusal
+  tree_refusal (leaf l) = unless (is_json_leaf l) json_leaf
+  tree_refusal (array ts) = trees_refusal ts
+  tree_refusal (object ms) = members_refusal ms
+
+  pub trees_refusal : Trees → Option Refusal
+  trees_refusal no_trees = None
+  trees_refusal (tree t ts) = or_else (tree_refusal t) (trees_refusal ts)
+
+  pub members_refusal : Members → Option Refusal
+  members_refusal no_members = None
+  members_refusal (member key t ms) = or_else (unless (has_no_zero key) json_key) (or_else (tree_refusal t) (members_refusal ms))
+
+-- a JSON field that is indexed or fast
+abbrev pub is_checked_json : FieldEntry → Bool
+is_checked_json entry = is_json entry.kind && (is_indexed entry || entry.fast)
+
+abbrev pub json_refusal : Tree → Option FieldEntry → Option Refusal
+json_refusal t None = None
+json_refusal t (Some entry) = if is_checked_json entry then tree_refusal t else None
+
+-- ---- the third pass: positions in indexed texts
+
+abbrev pub is_rising : List Token → Bool
+is_rising [] = true
+is_rising (t ∷ []) = true
+is_rising (t ∷ u ∷ ts) = nat_le t.position u.position && is_rising (u ∷ ts)
+
+-- the texts of a value of an indexed field, each as its tokens
+abbrev pub value_texts : FieldKind → (List ℕ → List Token) → Tree → List (List Token)
+value_texts kinds.Text analyze t = value_tokens analyze t ∷ []
+value_texts kinds.Json analyze t = flat_map (λ p. map analyze (leaf_text p.leaf)) (leaves t)
+value_texts _ analyze t = []
+
+abbrev pub positions_refusal : Analyzer → Tree → Option FieldEntry → Option Refusal
+positions_refusal analyzer t None = None
+positions_refusal analyzer t (Some entry) =
+    if is_indexed entry then unless (list_all (λ tokens. is_rising (counted tokens)) (value_texts entry.kind (analyzer (indexing_tokenizer entry)) t)) positions_fall else None
+
+-- ---- the fourth pass: limits
+
+abbrev pub is_u32 : ℕ → Bool
+is_u32 n = nat_lt n (2 ^ 32)
+
+abbrev pub count_of : List (List Token) → ℕ
+count_of [] = 0
+count_of (tokens ∷ texts) = length (counted tokens) + count_of texts
+
+-- the running start behind some texts, their tokens and their number
+abbrev pub texts_fit : List (List Token) → Bool
+texts_fit texts = is_u32 (start_after_all 0 texts) && is_u32 (count_of texts) && is_u32 (length texts)
+
+-- the texts of one joined path after another, and those of the field
+abbrev pub kind_fits : FieldKind → Bool → (List ℕ → List Token) → List Tree → Bool
+kind_fits kinds.Text expand_dots analyze values = texts_fit (map (value_tokens analyze) values)
+kind_fits kinds.Json expand_dots analyze values =
+    list_all (λ p. texts_fit (texts_at expand_dots analyze (joined_path expand_dots p.keys) (leaves_of values))) (leaves_of values)
+    && is_u32 (count_of (flat_map (value_texts kinds.Json analyze) values))
+kind_fits _ expand_dots analyze values = true
+
+abbrev pub field_fits : Analyzer → Document → ℕ × FieldEntry → Bool
+field_fits analyzer document f =
+    if is_indexed f.1 then is_u32 (length (values_of f.0 document)) && kind_fits f.1.kind f.1.expand_dots (analyzer (indexing_tokenizer f.1)) (values_of f.0 document) else true
+
+-- within the limits: those of each field, of the bytes that are stored, and of the levels
+abbrev pub is_within_limits : Schema → Analyzer → Document → Bool
+is_within_limits schema analyzer document =
+    list_all (field_fits analyzer document) (fields schema) && is_u32 (length (stored_form schema document)) && list_all (λ p. nat_le (levels p.1) 200) document
+
+-- ---- all passes
+
+abbrev pub fields_refusal : Schema → Document → Option Refusal
+fields_refusal schema document = first_refusal (λ p. value_refusal p.0 p.1 (slice_get schema p.0)) document
+
+abbrev pub leaves_refusal : Schema → Document → Option Refusal
+leaves_refusal schema document = first_refusal (λ p. json_refusal p.1 (slice_get schema p.0)) document
+
+abbrev pub order_refusal : Schema → Analyzer → Document → Option Refusal
+order_refusal schema analyzer document = first_refusal (λ p. positions_refusal analyzer p.1 (slice_get schema p.0)) document
+
+abbrev pub limit_refusal : Schema → Analyzer → Document → Option Refusal
+limit_refusal schema analyzer document = unless (is_within_limits schema analyzer document) past_limit
+
+-- why a document is not taken, if it is not
+abbrev pub document_refusal : Schema → Analyzer → Document → Option Refusal
+document_refusal schema analyzer document =
+    or_else (fields_refusal schema document)
+    (or_else (leaves_refusal schema document)
+    (or_else (order_refusal schema analyzer document)
+    (limit_refusal schema analyzer document)))
+
+-- ---- texts
+
+abbrev pub AreUtf8Tokens : List Token → Type 0
+AreUtf8Tokens tokens = AllByRecursion (λ t. IsUtf8 t.text) tokens
+
+abbrev pub IsUtf8Leaf : Leaf → Type 0
+IsUtf8Leaf (text s) = IsUtf8 s
+IsUtf8Leaf (pre_tokenized p) = IsUtf8 p.text × AreUtf8Tokens p.tokens
+IsUtf8Leaf (facet s) = IsUtf8 s
+IsUtf8Leaf _ = Unit {0}
+
+-- each text and each key is UTF-8
+abbrev mutual
+  pub IsUtf8Tree : Tree → Type 0
+  IsUtf8Tree (leaf l) = IsUtf8Leaf l
+  IsUtf8Tree (array ts) = AreUtf8Trees ts
+  IsUtf8Tree (object ms) = AreUtf8Members ms
+
+  pub AreUtf8Trees : Trees → Type 0
+  AreUtf8Trees no_trees = Unit {0}
+  AreUtf8Trees (tree t ts) = IsUtf8Tree t × AreUtf8Trees ts
+
+  pub AreUtf8Members : Members → Type 0
+  AreUtf8Members no_members = Unit {0}
+  AreUtf8Members (member key t ms) = IsUtf8 key × IsUtf8Tree t × AreUtf8Members ms
+
+abbrev pub IsUtf8Document : Document → Type 0
+IsUtf8Document document = AllByRecursion (λ p. IsUtf8Tree p.1) document
+
+-- a document that passes the first two passes, with texts
+pub record IsSound (schema : Schema) (document : Document) : Type 0 where
+  pub taken : fields_refusal schema document ≡ None
+  pub json : leaves_refusal schema document ≡ None
+  pub utf8 : IsUtf8Document document

@@ -1,0 +1,58 @@
+-- Fields of a schema, and the values that a document has in one.
+use Rattle.std.specs.Prelude.{ℕ, Bool, true, false, ◌&&◌, ◌||◌, if◌then◌else◌, List, map, filter, nat_eq, unwrap_or, Option, Some, None, codes}
+use Rattle.std.specs.List.{enumerate_from}
+use Rattle.seg_values.specs.declared.token.Token.{Token}
+use Rattle.seg_values.specs.declared.schema.FieldEntry.{FieldEntry}
+use Rattle.seg_values.specs.declared.schema.FieldKind.{FieldKind}
+use Rattle.seg_values.specs.declared.schema.FieldKind.TheVariants.{Text, Facet, Json}
+use Rattle.seg_values.specs.declared.schema.IndexOption.{IndexOption}
+use Rattle.seg_values.specs.declared.schema.IndexOption.TheVariants.{No}
+use Rattle.seg_values.specs.Tree.{Tree, Document}
+
+-- a schema: its field entries, of which a field is a place
+abbrev pub Schema : Type 0
+Schema = List FieldEntry
+
+-- the tokens that the analyzer with a name gives of a text
+abbrev pub Analyzer : Type 0
+Analyzer = List ℕ → List ℕ → List Token
+
+abbrev pub is_text : FieldKind → Bool
+is_text Text = true
+is_text _ = false
+
+abbrev pub is_json : FieldKind → Bool
+is_json Json = true
+is_json _ = false
+
+abbrev pub is_facet : FieldKind → Bool
+is_facet Facet = true
+is_facet _ = false
+
+abbrev pub is_on : IndexOption → Bool
+is_on No = false
+is_on _ = true
+
+abbrev pub is_indexed : FieldEntry → Bool
+is_indexed entry = is_on entry.index
+
+-- a field has lengths where it is indexed and `norms` is set
+abbrev pub has_lengths : FieldEntry → Bool
+has_lengths entry = is_indexed entry && entry.norms
+
+-- the named tokenizer of an indexed text or JSON field, else `default`
+abbrev pub indexing_tokenizer : FieldEntry → List ℕ
+indexing_tokenizer entry = if is_indexed entry && (is_text entry.kind || is_json entry.kind) then unwrap_or entry.tokenizer (codes "default") else codes "default"
+
+-- whether a field is in the schema and passes a test
+abbrev pub is_field : (FieldEntry → Bool) → Option FieldEntry → Bool
+is_field test None = false
+is_field test (Some entry) = test entry
+
+-- the values of a field, in the document's order
+abbrev pub values_of : ℕ → Document → List Tree
+values_of field document = map (λ p. p.1) (filter (λ p. nat_eq field p.0) document)
+
+-- each field with its entry
+abbrev pub fields : Schema → List (ℕ × FieldEntry)
+fields schema = enumerate_from 0 schema

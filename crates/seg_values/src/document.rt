@@ -1,0 +1,111 @@
+//! A document: fields with values, in order.
+ghost use Rattle.std.specs.Prelude.{◌≡◌, ℕ, ◌<◌, [], ◌∷◌, ◌++◌, length, slice_get, Some, OnOk, OnErr};
+ghost use Rattle.seg_values.specs.View.{tree_of};
+
+use crate::schema::Field;
+use crate::value::OwnedValue;
+use std::alloc::{AllocError, Global};
+use std::marker::Model;
+
+/// A field with a value.
+#[derive(Drop)]
+pub struct FieldValue {
+    field: Field,
+    value: OwnedValue,
+}
+
+/// Fields with values, in the order of addition.
+#[derive(Drop)]
+pub struct TantivyDocument {
+    pairs: Vec<FieldValue>,
+}
+
+impl Model for TantivyDocument {
+    ghost use Rattle.std.specs.Prelude.{List, ℕ, map};
+    ghost use Rattle.std.specs.Coded.{coded_list, coded×, coded_ℕ};
+    ghost use Rattle.seg_values.specs.Tree.{Tree};
+    ghost use Rattle.seg_values.specs.Code.{tree_code};
+
+    ghost Value = { List (ℕ × Tree) };
+
+    ghost coded = { coded_list (coded× coded_ℕ tree_code) };
+
+    ghost use Rattle.seg_values.specs.View.{pair_of};
+
+    ghost view = { λ a. map pair_of a.pairs.items };
+}
+
+impl TantivyDocument {
+    pub fn new(alloc: Global) -> TantivyDocument
+        ensures { result ≡ [] }
+    {
+        TantivyDocument {
+            pairs: Vec::new(alloc),
+        }
+    }
+
+    pub fn len(&self) -> usize
+        ensures { result ≡ length self.now }
+    {
+        self.pairs.len()
+    }
+
+    pub fn add_field_value(&mut self, field: Field, value: OwnedValue) -> Result<(), AllocError>
+        ensures ok { OnOk result (self.new ≡ self.old ++ (field, tree_of value) ∷ []) }
+        ensures err { OnErr result (self.new ≡ self.old) }
+    {
+        self.pairs.push(FieldValue { field, value })?;
+        Ok(())
+    }
+
+    pub fn pair(&self, at: usize) -> (Field, &OwnedValue)
+        requires { at < length self.now }
+        ensures { slice_get self.now at ≡ Some (result.0, tree_of result.1.now) }
+    {
+        let pair = &self.pairs[at];
+        (pair.field, &pair.value)
+    }
+}
+
+/// Documents, in order.
+#[derive(Drop)]
+pub struct Documents {
+    documents: Vec<TantivyDocument>,
+}
+
+impl Model for Documents {
+    ghost use Rattle.std.specs.Prelude.{List};
+    ghost use Rattle.std.specs.Coded.{coded_list, coded×, coded_ℕ};
+    ghost use Rattle.seg_values.specs.Tree.{Document};
+    ghost use Rattle.seg_values.specs.Code.{tree_code};
+
+    ghost Value = { List Document };
+
+    ghost coded = { coded_list (coded_list (coded× coded_ℕ tree_code)) };
+
+    ghost view = { λ a. a.documents.items };
+}
+
+impl Documents {
+    pub fn new(alloc: Global) -> Documents
+        ensures { result ≡ [] }
+    {
+        Documents {
+            documents: Vec::new(alloc),
+        }
+    }
+
+    pub fn push(&mut self, document: TantivyDocument) -> Result<(), AllocError>
+        ensures ok { OnOk result (self.new ≡ self.old ++ document ∷ []) }
+        ensures err { OnErr result (self.new ≡ self.old) }
+    {
+        self.documents.push(document)?;
+        Ok(())
+    }
+
+    pub fn as_slice(&self) -> &[TantivyDocument]
+        ensures { result.now ≡ self.now }
+    {
+        &self.documents
+    }
+}

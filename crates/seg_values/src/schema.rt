@@ -1,0 +1,202 @@
+//! Fields and schemas.
+ghost use Rattle.std.specs.Prelude.{◌≡◌, List, ℕ, ◌<◌, ◌+◌, ◌-◌, ◌^◌, ◌++◌, [], ◌∷◌, ◌↔◌, ◌⊎◌, length, slice_get, Some, None, Err, true, IfOk, IfErr, IfSome, OnOk, OnErr, IsSome};
+ghost use Rattle.seg_values.specs.Names.{field_named, kept_entry, is_allowed};
+
+use crate::error::{SchemaCause, TResult, TantivyError};
+use crate::text::Text;
+use seg_common::DateTimePrecision;
+use std::alloc::Global;
+use std::marker::Model;
+
+/// What a field's values are.
+#[derive(Clone, Copy, Debug, PartialEq, Eq)]
+pub enum FieldKind {
+    Text,
+    U64,
+    I64,
+    Bool,
+    Date,
+    Facet,
+    Bytes,
+    IpAddr,
+    Json,
+}
+
+/// Whether a field is indexed, and what its terms record.
+#[derive(Clone, Copy, Debug, PartialEq, Eq)]
+pub enum IndexOption {
+    No,
+    Basic,
+    Freqs,
+    Positions,
+}
+
+/// A field of a schema.
+#[derive(Debug, Drop)]
+pub struct FieldEntry {
+    pub name: Text,
+    pub kind: FieldKind,
+    pub stored: bool,
+    pub index: IndexOption,
+    pub tokenizer: Option<Text>,
+    pub norms: bool,
+    pub fast: bool,
+    pub fast_tokenizer: Option<Text>,
+    pub precision: DateTimePrecision,
+    pub expand_dots: bool,
+}
+
+/// A place in a schema.
+#[derive(Clone, Copy, Debug, PartialEq, Eq)]
+pub struct Field {
+    id: u32,
+}
+
+impl Model for Field {
+    ghost Value = { ℕ };
+
+    ghost view = { λ a. a.id };
+
+    ghost inverse = { λ n. record { id = n } };
+}
+
+impl Field {
+    pub fn from_field_id(id: u32) -> Field
+        ensures { result ≡ id }
+    {
+        Field { id }
+    }
+
+    pub fn field_id(self) -> u32
+        ensures { result ≡ self }
+    {
+        self.id
+    }
+}
+
+/// Field entries, in order.
+#[derive(Debug, Drop)]
+pub struct Schema {
+    entries: Vec<FieldEntry>,
+}
+
+impl Model for Schema {
+    ghost use Rattle.std.specs.Prelude.{List, ◌<◌, ◌^◌, ◌-◌, length};
+    ghost use Rattle.seg_values.specs.declared.schema.FieldEntry.{FieldEntry};
+
+    ghost Value = { List FieldEntry };
+
+    ghost view = { λ a. a.entries.items };
+
+    ghost invariant = { λ a. length a.entries.items < 2 ^ 32 - 1 };
+}
+
+impl Schema {
+    pub fn fields(&self) -> &[FieldEntry]
+        ensures { result.now ≡ self.now }
+    {
+        &self.entries
+    }
+
+    pub fn num_fields(&self) -> usize
+        ensures { result ≡ length self.now }
+    {
+        self.entries.len()
+    }
+
+    pub fn get_field_entry(&self, field: Field) -> &FieldEntry
+        requires { field < length self.now }
+        ensures { slice_get self.now field ≡ Some result.now }
+    {
+        &self.entries[field.id as usize]
+    }
+
+    /// The field with a name.
+    pub fn get_field(&self, name: &str) -> TResult<Field>
+        ensures ok { IfOk result (λ f. field_named self.now name.now ≡ Some f) }
+        ensures err { IfErr result (λ e. (e ≡ TantivyError.FieldNotFound) × (field_named self.now name.now ≡ None)) }
+    {
+        match place_of(&self.entries, name) {
+            Some(place) => Ok(Field { id: place as u32 }),
+            None => Err(TantivyError::FieldNotFound),
+        }
+    }
+}
+
+/// The place of the field with a name.
+fn place_of(entries: &[FieldEntry], name: &str) -> Option<usize>
+    ensures place { result ≡ field_named entries.now name.now }
+    ensures within { IfSome result (λ place. place < length entries.now) }
+{
+    entries.iter().position(|e| e.name.as_str() == name)
+}
+
+/// A schema under way.
+#[derive(Drop)]
+pub struct SchemaBuilder {
+    schema: Schema,
+}
+
+impl Model for SchemaBuilder {
+    ghost use Rattle.std.specs.Prelude.{List};
+    ghost use Rattle.seg_values.specs.declared.schema.FieldEntry.{FieldEntry};
+
+    ghost Value = { List FieldEntry };
+
+    ghost view = { λ a. a.schema };
+}
+
+impl SchemaBuilder {
+    pub fn new(alloc: Global) -> SchemaBuilder
+        ensures { result ≡ [] }
+    {
+        SchemaBuilder {
+            schema: Schema {
+                entries: Vec::new(alloc),
+            },
+        }
+    }
+
+    /// Adds a field. A facet is always indexed by its documents alone, fast, and without lengths.
+    pub fn add_field(&mut self, entry: FieldEntry) -> TResult<Field>
+        requires few { length self.old + 1 < 2 ^ 32 - 1 }
+        requires allowed { is_allowed entry.kind entry.index ≡ true }
+        ensures ok { IfOk result (λ f. (f ≡ length self.old) × (self.new ≡ self.old ++ kept_entry entry ∷ [])) }
+        ensures distinct { OnOk result (field_named self.old entry.name ≡ None) }
+        ensures duplicate { result ≡ Err (TantivyError.SchemaError SchemaCause.DuplicateName) → IsSome (field_named self.old entry.name) }
+        ensures causes { IfErr result (λ e. (e ≡ TantivyError.SchemaError SchemaCause.DuplicateName) ⊎ (e ≡ TantivyError.OutOfMemory)) }
+        ensures err { OnErr result (self.new ≡ self.old) }
+    {
+        if place_of(&self.schema.entries, entry.name.as_str()).is_some() {
+            return Err(TantivyError::SchemaError(SchemaCause::DuplicateName));
+        }
+        let field = Field {
+            id: self.schema.entries.len() as u32,
+        };
+        if self.schema.entries.push(kept(entry)).is_err() {
+            return Err(TantivyError::OutOfMemory);
+        }
+        Ok(field)
+    }
+
+    pub fn build(self) -> Schema
+        ensures { result ≡ self }
+    {
+        self.schema
+    }
+}
+
+/// The entry as it is kept.
+fn kept(entry: FieldEntry) -> FieldEntry
+    ensures { result ≡ kept_entry entry }
+{
+    match entry.kind {
+        FieldKind::Facet => FieldEntry {
+            index: IndexOption::Basic,
+            fast: true,
+            norms: false,
+            ..entry
+        },
+        _ => entry,
+    }
+}
