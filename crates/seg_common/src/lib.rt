@@ -1,4 +1,11 @@
-//! What every crate stands on: moments, types of columns, names of files, and the outside of a program, its sources and sinks of bytes.
+//! What every crate stands on: moments, the types of columns, the names of files, the length of a varint, and the
+//! outside of a program, its sources and sinks of bytes.
+//!
+//! A source is seen as the bytes that it has left, and a sink as the bytes that it took, each where it tells them,
+//! with a count of its faults: a call fails only where that count rose.
+//!
+//! To be read in this order: `date`, `column_type`, `name`, `varint`; `source`, `sink`; `memory_source`, `memory_sink`;
+//! `reader_source`, `writer_sink`.
 #![tactic(auto)]
 
 mod column_type;
@@ -6,15 +13,21 @@ mod date;
 mod memory_sink;
 mod memory_source;
 mod name;
+mod reader_source;
 mod sink;
 mod source;
-mod streams;
+#[cfg(test)]
+mod tests;
+mod varint;
+mod writer_sink;
 
 pub use column_type::ColumnType;
 pub use date::{DateTime, DateTimePrecision};
 pub use memory_sink::MemorySink;
 pub use memory_source::MemorySource;
 pub use name::{FileName, SegmentComponent, SegmentId};
+pub use reader_source::ReaderSource;
 pub use sink::{Sink, SinkFailed, write_whole};
 pub use source::{ReadError, Source, SourceFailed, read_to_end};
-pub use streams::{Reading, Writing};
+pub use varint::varint_len;
+pub use writer_sink::WriterSink;

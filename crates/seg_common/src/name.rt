@@ -1,12 +1,37 @@
-//! Names of segments and of their files.
+//! The names of segments and of the files of an index.
+ghost use Rattle.std.specs.Prelude.{◌≡◌, ℕ};
 
-/// The id of a segment.
+use std::marker::Model;
+
+/// The id of a segment, a number of 128 bits that no other segment of its index has.
 #[derive(Clone, Copy, Debug, PartialEq, Eq)]
 pub struct SegmentId {
-    pub id: u128,
+    id: u128,
 }
 
-/// One of the six files of a segment.
+impl Model for SegmentId {
+    ghost Value = { ℕ };
+
+    ghost view = { λ a. a.id };
+
+    ghost inverse = { λ n. record { id = n } };
+}
+
+impl SegmentId {
+    pub fn from_u128(value: u128) -> SegmentId
+        ensures { result ≡ value }
+    {
+        SegmentId { id: value }
+    }
+
+    pub fn as_u128(self) -> u128
+        ensures { result ≡ self }
+    {
+        self.id
+    }
+}
+
+/// One of the six files that each segment has.
 #[derive(Clone, Copy, Debug, PartialEq, Eq)]
 pub enum SegmentComponent {
     Terms,
@@ -17,10 +42,13 @@ pub enum SegmentComponent {
     FieldNorms,
 }
 
-/// A file of an index: its meta, a file of a segment, or the alive set of a segment after the operations up to a stamp.
+/// A file of an index.
 #[derive(Clone, Copy, Debug, PartialEq, Eq)]
 pub enum FileName {
+    /// The list of the committed segments.
     Meta,
+    /// One of the six files of a segment.
     Part(SegmentId, SegmentComponent),
+    /// Which documents of a segment the deletes up to a stamp have left alive.
     Alive(SegmentId, u64),
 }

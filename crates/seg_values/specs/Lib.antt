@@ -1,6 +1,10 @@
 pub mod Code
 pub mod Falls
 pub mod Grows
+pub mod InWords
 pub mod Names
+pub mod Registered
+pub mod Tokenizers
 pub mod Tree
 pub mod View
+pub mod Words

@@ -1,5 +1,5 @@
 -- Fields by their names, and what a schema keeps of an entry.
-use Rattle.std.specs.Prelude.{ℕ, List, Bool, true, false, Option, position, is_some}
+use Rattle.std.specs.Prelude.{ℕ, List, Bool, true, false, Option, position}
 use Rattle.std.specs.Str.{bytes_eq}
 use Rattle.seg_values.specs.declared.schema.FieldEntry.{FieldEntry}
 use Rattle.seg_values.specs.declared.schema.FieldKind.{FieldKind}

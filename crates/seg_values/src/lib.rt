@@ -1,20 +1,36 @@
-//! Plain values, schemas and documents, which contracts see as lists, trees and records.
+//! What an index is given and how its texts are cut: values, documents, schemas, and tokenizers by name.
+//!
+//! Contracts see a text as its bytes, tokens as a list, a value as a tree, a document as a list of fields with trees,
+//! and a schema as the list of its entries.
+//!
+//! Read `text`, `token` and `tokenizer` first, then `tokenizers`, `analyzers` and `tokenizer_manager` with the law in
+//! `laws`; then `value`, `facet` and `document`; last `schema` and `error`.
 #![tactic(auto)]
 
 mod analyzers;
 mod document;
 mod error;
 mod facet;
+mod laws;
 mod schema;
+#[cfg(test)]
+mod tests;
 mod text;
 mod token;
+mod tokenizer;
+mod tokenizer_manager;
+mod tokenizers;
 mod value;
 
 pub use analyzers::Analyzers;
 pub use document::{Documents, TantivyDocument};
 pub use error::{ArgumentCause, SchemaCause, TResult, TantivyError};
 pub use facet::Facet;
+pub use laws::tokens_are_words;
 pub use schema::{Field, FieldEntry, FieldKind, IndexOption, Schema, SchemaBuilder};
 pub use text::{Bytes, Numbers, Text};
 pub use token::{PreTokenizedString, Token, Tokens};
+pub use tokenizer::Tokenizer;
+pub use tokenizer_manager::TokenizerManager;
+pub use tokenizers::{DefaultTokenizer, RawTokenizer, WhitespaceTokenizer};
 pub use value::{Member, Members, OwnedValue, Values};

@@ -5,7 +5,8 @@ ghost use Rattle.seg_values.specs.Names.{field_named, kept_entry, is_allowed};
 use crate::error::{SchemaCause, TResult, TantivyError};
 use crate::text::Text;
 use seg_common::DateTimePrecision;
-use std::alloc::Global;
+use std::alloc::{AllocError, Global};
+use std::collections::HashMap;
 use std::marker::Model;
 
 /// What a field's values are.
@@ -47,7 +48,7 @@ pub struct FieldEntry {
 }
 
 /// A place in a schema.
-#[derive(Clone, Copy, Debug, PartialEq, Eq)]
+#[derive(Clone, Copy, Debug, PartialEq, Eq, PartialOrd, Ord)]
 pub struct Field {
     id: u32,
 }
@@ -78,17 +79,21 @@ impl Field {
 #[derive(Debug, Drop)]
 pub struct Schema {
     entries: Vec<FieldEntry>,
+    places: HashMap<String, u32>,
 }
 
 impl Model for Schema {
-    ghost use Rattle.std.specs.Prelude.{List, ◌<◌, ◌^◌, ◌-◌, length};
+    ghost use Rattle.std.specs.Prelude.{List, ℕ, ◌≡◌, ◌<◌, ◌^◌, ◌-◌, length};
+    ghost use Rattle.std.specs.HashMap.{get_by_text};
     ghost use Rattle.seg_values.specs.declared.schema.FieldEntry.{FieldEntry};
 
     ghost Value = { List FieldEntry };
 
+    ghost use Rattle.seg_values.specs.Names.{field_named};
+
     ghost view = { λ a. a.entries.items };
 
-    ghost invariant = { λ a. length a.entries.items < 2 ^ 32 - 1 };
+    ghost invariant = { λ a. (length a.entries.items < 2 ^ 32 - 1) × ((name : List ℕ) → get_by_text a.places name ≡ field_named a.entries.items name) };
 }
 
 impl Schema {
@@ -116,19 +121,30 @@ impl Schema {
         ensures ok { IfOk result (λ f. field_named self.now name.now ≡ Some f) }
         ensures err { IfErr result (λ e. (e ≡ TantivyError.FieldNotFound) × (field_named self.now name.now ≡ None)) }
     {
-        match place_of(&self.entries, name) {
-            Some(place) => Ok(Field { id: place as u32 }),
+        match self.places.get(name).copied() {
+            Some(id) => Ok(Field { id }),
             None => Err(TantivyError::FieldNotFound),
         }
     }
-}
 
-/// The place of the field with a name.
-fn place_of(entries: &[FieldEntry], name: &str) -> Option<usize>
-    ensures place { result ≡ field_named entries.now name.now }
-    ensures within { IfSome result (λ place. place < length entries.now) }
-{
-    entries.iter().position(|e| e.name.as_str() == name)
+    /// Adds an entry whose name is new.
+    fn push(&mut self, entry: FieldEntry) -> Result<Field, AllocError>
+        requires few { length self.old + 1 < 2 ^ 32 - 1 }
+        requires new { field_named self.old entry.name ≡ None }
+        ensures ok { IfOk result (λ f. (f ≡ length self.old) × (self.new ≡ self.old ++ entry ∷ [])) }
+        ensures err { OnErr result (self.new ≡ self.old) }
+    {
+        let id = self.entries.len() as u32;
+        let name = String::from_str(*self.entries.allocator(), entry.name.as_str())?;
+        self.entries.push(entry)?;
+        match self.places.insert(name, id) {
+            Ok(_) => Ok(Field { id }),
+            Err(_) => {
+                self.entries.pop();
+                Err(AllocError)
+            }
+        }
+    }
 }
 
 /// A schema under way.
@@ -153,6 +169,7 @@ impl SchemaBuilder {
         SchemaBuilder {
             schema: Schema {
                 entries: Vec::new(alloc),
+                places: HashMap::new(alloc),
             },
         }
     }
@@ -167,16 +184,10 @@ impl SchemaBuilder {
         ensures causes { IfErr result (λ e. (e ≡ TantivyError.SchemaError SchemaCause.DuplicateName) ⊎ (e ≡ TantivyError.OutOfMemory)) }
         ensures err { OnErr result (self.new ≡ self.old) }
     {
-        if place_of(&self.schema.entries, entry.name.as_str()).is_some() {
+        if self.schema.get_field(entry.name.as_str()).is_ok() {
             return Err(TantivyError::SchemaError(SchemaCause::DuplicateName));
         }
-        let field = Field {
-            id: self.schema.entries.len() as u32,
-        };
-        if self.schema.entries.push(kept(entry)).is_err() {
-            return Err(TantivyError::OutOfMemory);
-        }
-        Ok(field)
+        Ok(self.schema.push(kept(entry))?)
     }
 
     pub fn build(self) -> Schema

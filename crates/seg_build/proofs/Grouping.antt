@@ -1,0 +1,21 @@
+-- One more occurrence behind a list of them.
+use Rattle.std.proofs.Common.{◌≡◌, ℕ, List, [], ◌∷◌, ◌++◌, ap, ◌∙◌, refl, arith}
+use Rattle.std.proofs.lemmas.Bool.Decides.{nat_tests}
+use Rattle.seg_model.specs.Reading.{Recorded, presence, frequency, positions, Posting}
+use Rattle.seg_build.specs.Adding.{to_position, with_position}
+use Rattle.seg_build.specs.declared.hits.Hit.{Hit}
+use Rattle.seg_build.specs.Grouped.{from_position, joined, grouped}
+
+from_position-to_position : (q : ℕ) (r : Recorded) (p : ℕ) → from_position q (to_position r p) ≡ to_position (from_position q r) p
+from_position-to_position q presence p = refl
+from_position-to_position q (frequency n) p = refl
+from_position-to_position q (positions ps) p = refl
+
+joined-with_position : (g : Hit) (ps : List Posting) (d p : ℕ) → joined g (with_position ps d p) ≡ with_position (joined g ps) d p
+joined-with_position g [] d p = grind (arith, nat_tests)
+joined-with_position g (x ∷ []) d p = grind (arith, nat_tests, from_position-to_position g.position x.recorded p)
+joined-with_position g (x ∷ y ∷ ps) d p = grind (arith, nat_tests)
+
+pub grouped-push : (hs : List Hit) (h : Hit) → grouped (hs ++ h ∷ []) ≡ with_position (grouped hs) h.document h.position
+grouped-push [] h = refl
+grouped-push (g ∷ hs) h = ap (joined g) (grouped-push hs h) ∙ joined-with_position g (grouped hs) h.document h.position

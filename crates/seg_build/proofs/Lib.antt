@@ -1,0 +1,16 @@
+pub mod Added
+pub mod BuiltEntries
+pub mod Checks
+pub mod Exits
+pub mod Grouping
+pub mod Fitting
+pub mod Growing
+pub mod Hashed
+pub mod Places
+pub mod Rising
+pub mod Running
+pub mod Sorting
+pub mod Storing
+pub mod Turns
+pub mod Varints
+pub mod Whole

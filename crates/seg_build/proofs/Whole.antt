@@ -1,0 +1,146 @@
+-- What all documents give.
+use Rattle.std.proofs.Common.{◌≡◌, ℕ, zero, suc, ◌+◌, ◌<◌, ◌≤◌, Bool, true, false, cond, List, [], ◌∷◌, ◌++◌, map, Some, None, Option, length, set, sym, refl, ap, ◌∙◌, subst, arith, append_assoc, append-nil, length-append}
+use Rattle.std.specs.Prelude.{is_some, ◌&&◌}
+use Rattle.std.specs.FinMap as fin
+use Rattle.std.specs.List.{slice_get, list_all, enumerate_from}
+use Rattle.std.specs.Option.{option_map}
+use Rattle.std.proofs.lemmas.Bool.{false≢true}
+use Rattle.std.proofs.lemmas.Bool.Decides.{nat_tests}
+use Rattle.std.proofs.lemmas.List.{length-map, map-append}
+use Rattle.std.proofs.lemmas.Option.{slice_get-map}
+use Rattle.std.proofs.Math.ListN.{length-set}
+use Rattle.seg_values.specs.declared.token.Token.{Token}
+use Rattle.seg_values.specs.declared.schema.FieldEntry.{FieldEntry}
+use Rattle.seg_values.specs.declared.schema.FieldKind.{FieldKind}
+use Rattle.seg_values.specs.Tree.{Document}
+use Rattle.seg_model.specs.Built.{is_built_entry, is_built_document, is_taken, are_built}
+use Rattle.seg_model.specs.Fields.{Schema, Analyzer, is_indexed, indexing_tokenizer, values_of}
+use Rattle.seg_model.specs.Occurrences.{Occurrence, text_occurrences, kind_occurrences, occurrences_at, occurrences}
+use Rattle.seg_model.specs.Reading.{Terms, terms_of, field_terms, all_terms}
+use Rattle.seg_build.specs.Adding.{with_occurrences}
+use Rattle.seg_build.specs.Field.{start_in, count_in}
+use Rattle.seg_build.specs.Steps.{fresh, tokens_at, added_at, with_pair, with_pairs, document_fits, with_documents, documents_fit}
+use Rattle.seg_build.specs.declared.field.FieldPostings.{FieldPostings}
+use Rattle.seg_build.proofs.BuiltEntries.{IsTextEntry, text_entry_at}
+use Rattle.seg_build.proofs.Checks.{IsFresh, HasFresh, document_fits-taken}
+use Rattle.seg_build.proofs.Fitting.{is_on-text}
+use Rattle.seg_build.proofs.Growing.{terms_of-push}
+use Rattle.seg_build.proofs.Places.{some_same, texts_of, added_all, terms-added_all, document-added_all, field_after}
+
+-- ---- as many fields as before
+
+length-added_at : (id place : ℕ) (fields : List FieldPostings) (v : List Token) (o : Option FieldPostings) → length (added_at id place fields v o) ≡ length fields
+length-added_at id place fields v None = refl
+length-added_at id place fields v (Some f) = simp length-set
+
+module _ (schema : Schema) (analyzer : Analyzer) where
+  length-with_pairs : (id : ℕ) (fields : List FieldPostings) (ps : Document) → length (with_pairs schema analyzer id fields ps) ≡ length fields
+  length-with_pairs id fields [] = refl
+  length-with_pairs id fields (p ∷ ps) = length-with_pairs id (with_pair schema analyzer id fields p) ps ∙ length-added_at id p.0 fields (tokens_at analyzer p.1 (slice_get schema p.0)) (slice_get fields p.0)
+
+  length-with_documents : (first : ℕ) (fields : List FieldPostings) (ds : List Document) → length (with_documents schema analyzer first fields ds) ≡ length fields
+  length-with_documents first fields [] = refl
+  length-with_documents first fields (d ∷ ds) = length-with_documents (first + 1) (with_pairs schema analyzer first fields d) ds ∙ length-with_pairs first fields d
+
+module _ (schema : Schema) (analyzer : Analyzer) (entries : list_all is_built_entry schema ≡ true) where
+  occurrences-text : (k : ℕ) (e : FieldEntry) (ps : Document) → slice_get schema k ≡ Some e → IsTextEntry e → occurrences schema analyzer ps k ≡ text_occurrences 0 (texts_of analyzer e k ps)
+  occurrences-text k e ps at built =
+      ap (occurrences_at analyzer ps k) at
+      ∙ ap (λ b. cond b (kind_occurrences e.kind e.expand_dots (analyzer (indexing_tokenizer e)) (values_of k ps)) []) (is_on-text e built)
+      ∙ ap (λ kind. kind_occurrences kind e.expand_dots (analyzer (indexing_tokenizer e)) (values_of k ps)) built.kind
+
+  fresh_next : (id : ℕ) (field : FieldPostings) → field.document ≤ id → IsFresh schema analyzer entries (id + 1) field
+  fresh_next id field le = record { start = grind (arith, nat_tests); count = grind (arith, nat_tests) }
+
+  -- a field of the schema has the terms of some documents, and is at the beginning of the next
+  record HasTerms (before : List Document) (fields : List FieldPostings) (k : ℕ) (e : FieldEntry) : Type 0 where
+    field : FieldPostings
+    at : slice_get fields k ≡ Some field
+    terms : field.terms ≡ terms_of e (map (λ d. occurrences schema analyzer d k) before)
+    new : IsFresh schema analyzer entries (length before) field
+    past : field.document ≤ length before
+
+  abbrev AllHaveTerms : List Document → List FieldPostings → Type 0
+  AllHaveTerms before fields = (k : ℕ) (e : FieldEntry) → slice_get schema k ≡ Some e → HasTerms before fields k e
+
+  -- one more document
+  one_more : (before : List Document) (fields : List FieldPostings) (ps : Document) → AllHaveTerms before fields → AllHaveTerms (before ++ ps ∷ []) (with_pairs schema analyzer (length before) fields ps)
+  one_more before fields ps all k e at_e =
+      let has = all k e at_e in
+      let id = length before in
+      let vs = texts_of analyzer e k ps in
+      let built = text_entry_at schema k e entries at_e in
+      let after = added_all id has.field vs in
+      let occurred : Document → List Occurrence = λ d. occurrences schema analyzer d k in
+      let many : length (map occurred before) ≡ id = length-map before occurred in
+      let next : length (before ++ ps ∷ []) ≡ id + 1 = length-append before (ps ∷ []) in
+      let past = document-added_all id has.field vs has.past in
+      record {
+        field = after;
+        at = field_after schema analyzer id k e at_e fields has.field ps has.at;
+        terms = terms-added_all id has.field vs
+            ∙ ap (λ s. with_occurrences has.field.terms id (text_occurrences s vs)) has.new.start
+            ∙ ap (λ t. with_occurrences t id (text_occurrences 0 vs)) has.terms
+            ∙ ap (λ n. with_occurrences (terms_of e (map occurred before)) n (text_occurrences 0 vs)) (sym many)
+            ∙ ap (with_occurrences (terms_of e (map occurred before)) (length (map occurred before))) (sym (occurrences-text k e ps at_e built))
+            ∙ terms_of-push e built (map occurred before) (occurred ps)
+            ∙ ap (terms_of e) (sym (map-append occurred before (ps ∷ [])));
+        new = subst (λ n. IsFresh schema analyzer entries n after) (sym next) (fresh_next id after past);
+        past = omega (arith, past, next);
+      }
+
+  all_more : (before : List Document) (fields : List FieldPostings) (ds : List Document) → AllHaveTerms before fields → AllHaveTerms (before ++ ds) (with_documents schema analyzer (length before) fields ds)
+  all_more before fields [] all = subst (λ l. AllHaveTerms l fields) (sym (append-nil before)) all
+  all_more before fields (d ∷ ds) all =
+      let next : length (before ++ d ∷ []) ≡ length before + 1 = length-append before (d ∷ []) in
+      let fields' = with_pairs schema analyzer (length before) fields d in
+      subst (λ n. AllHaveTerms (before ++ d ∷ ds) (with_documents schema analyzer n fields' ds)) next
+      (subst (λ l. AllHaveTerms l (with_documents schema analyzer (length (before ++ d ∷ [])) fields' ds)) (append_assoc before (d ∷ []) ds)
+      (all_more (before ++ d ∷ []) fields' ds (one_more before fields d all)))
+
+  all_fit : (before : List Document) (fields : List FieldPostings) (ds : List Document) → AllHaveTerms before fields → documents_fit schema analyzer (length before) fields ds ≡ list_all (λ d. is_built_document schema d && is_taken schema analyzer d) ds
+  all_fit before fields [] all = refl
+  all_fit before fields (d ∷ ds) all =
+      let next : length (before ++ d ∷ []) ≡ length before + 1 = length-append before (d ∷ []) in
+      let fields' = with_pairs schema analyzer (length before) fields d in
+      ap (λ n. document_fits schema analyzer (length before) fields d && documents_fit schema analyzer n fields' ds) (sym next)
+      ∙ ap (λ b. document_fits schema analyzer (length before) fields d && b) (all_fit (before ++ d ∷ []) fields' ds (one_more before fields d all))
+      ∙ ap (λ b. b && list_all (λ d. is_built_document schema d && is_taken schema analyzer d) ds) (document_fits-taken schema analyzer (length before) entries fields (λ k e at_e. let has = all k e at_e in record { field = has.field; at = has.at; new = has.new }) d)
+
+  all_fresh : AllHaveTerms [] (map (λ _. fresh) schema)
+  all_fresh k e at_e = record {
+    field = fresh;
+    at = slice_get-map (λ (x : FieldEntry). fresh) schema k ∙ ap (option_map (λ (x : FieldEntry). fresh)) at_e;
+    terms = refl;
+    new = record { start = refl; count = refl };
+    past = omega arith;
+  }
+
+  -- documents fit exactly where they are built
+  pub documents_fit-built : (ds : List Document) → documents_fit schema analyzer 0 (map (λ _. fresh) schema) ds ≡ are_built schema analyzer ds
+  documents_fit-built ds = all_fit [] (map (λ _. fresh) schema) ds all_fresh ∙ ap (λ b. b && list_all (λ d. is_built_document schema d && is_taken schema analyzer d) ds) (sym entries)
+
+-- ---- a list of fields
+
+-- the element that stands for a place
+record Stands (fs : List FieldPostings) (i : ℕ) (terms : Terms) : Type 0 where
+  field : FieldPostings
+  at : slice_get fs i ≡ Some field
+  is : field.terms ≡ terms
+
+listed_from : (F : ℕ × FieldEntry → Terms) (n : ℕ) (xs : List FieldEntry) (fs : List FieldPostings) → length fs ≡ length xs → ((i : ℕ) (e : FieldEntry) → slice_get xs i ≡ Some e → Stands fs i (F (n + i, e))) → map (λ f. fin.entries f.terms) fs ≡ map fin.entries (map F (enumerate_from n xs))
+listed_from F n [] [] many h = refl
+listed_from F n [] (f ∷ fs) many h = absurd (omega arith)
+listed_from F n (x ∷ xs) [] many h = absurd (omega arith)
+listed_from F n (x ∷ xs) (f ∷ fs) many h =
+    let first = h 0 x refl in
+    let here : f.terms ≡ F (n, x) = ap (λ (g : FieldPostings). g.terms) (some_same f first.field first.at) ∙ first.is ∙ ap (λ m. F (m, x)) (let z : n + 0 ≡ n = omega arith in z) in
+    let rest = listed_from F (n + 1) xs fs (omega arith) (λ i e at. let s = h (suc i) e at in record { field = s.field; at = s.at; is = s.is ∙ ap (λ m. F (m, e)) (let z : n + suc i ≡ n + 1 + i = omega arith in z) }) in
+    λ j. fin.entries (here j) ∷ rest j
+
+module _ (schema : Schema) (analyzer : Analyzer) (entries : list_all is_built_entry schema ≡ true) (ds : List Document) where
+  -- and give the terms of each field
+  pub terms_of_all : map (λ f. fin.entries f.terms) (with_documents schema analyzer 0 (map (λ _. fresh) schema) ds) ≡ map fin.entries (all_terms schema analyzer ds)
+  terms_of_all = listed_from (field_terms schema analyzer ds) 0 schema _ (length-with_documents schema analyzer 0 (map (λ _. fresh) schema) ds ∙ length-map schema (λ (x : FieldEntry). fresh)) (λ i e at.
+      let has = all_more schema analyzer entries [] (map (λ _. fresh) schema) ds (all_fresh schema analyzer entries) i e at in
+      record { field = has.field; at = has.at; is = has.terms ∙ ap (λ m. field_terms schema analyzer ds (m, e)) (let z : i ≡ 0 + i = omega arith in z) })

@@ -1,0 +1,32 @@
+-- A field while documents come, and what one more text does to it.
+use Rattle.std.specs.Prelude.{ℕ, ◌+◌, List, [], length, Bool, ◌&&◌, ◌==◌, if◌then◌else◌}
+use Rattle.seg_values.specs.declared.token.Token.{Token}
+use Rattle.seg_model.specs.Checked.{is_rising, is_u32}
+use Rattle.seg_model.specs.Occurrences.{counted, placed_from, start_after}
+use Rattle.seg_build.specs.Adding.{with_occurrences}
+use Rattle.seg_build.specs.declared.field.FieldPostings.{FieldPostings}
+
+-- the positions of a text that begins at `start` do not fall, and the next one begins at a u32
+abbrev pub positions_fit : ℕ → List Token → Bool
+positions_fit start tokens = is_rising (counted tokens) && is_u32 (start_after start tokens)
+
+-- where the next text of a document begins
+abbrev pub start_in : ℕ → FieldPostings → ℕ
+start_in document field = if field.document == document then field.start else 0
+
+-- how many tokens of a document came
+abbrev pub count_in : ℕ → FieldPostings → ℕ
+count_in document field = if field.document == document then field.count else 0
+
+-- whether one more text of a document fits
+abbrev pub text_fits : ℕ → FieldPostings → List Token → Bool
+text_fits document field tokens = is_u32 (count_in document field + length (counted tokens)) && positions_fit (start_in document field) tokens
+
+-- a field with one more text of a document
+abbrev pub added : ℕ → FieldPostings → List Token → FieldPostings
+added document field tokens = record {
+  terms = with_occurrences field.terms document (placed_from (start_in document field) [] tokens);
+  document = document;
+  start = start_after (start_in document field) tokens;
+  count = count_in document field + length (counted tokens);
+}

@@ -1,0 +1,79 @@
+//! A field while documents come.
+ghost use Rattle.std.specs.Prelude.{◌≡◌, true, false, Err, OnOk};
+ghost use Rattle.std.specs.FinMap as fin;
+ghost use Rattle.seg_build.specs.Field.{start_in, count_in, text_fits, added};
+
+use crate::error::IndexError;
+use crate::terms::TermIndex;
+use crate::tokens::{add_tokens, counted_len};
+use seg_values::Token;
+use std::alloc::Global;
+
+/// The terms of a field, and how far its newest document has come: where the next text begins, and how many tokens
+/// came before it. In any other document a text begins at 0.
+#[derive(Drop)]
+pub(crate) struct FieldPostings {
+    pub terms: TermIndex,
+    pub document: u32,
+    pub start: u32,
+    pub count: u32,
+}
+
+impl FieldPostings {
+    pub fn new(alloc: Global) -> FieldPostings
+        ensures { result ≡ record { terms = fin.empty; document = 0; start = 0; count = 0 } }
+    {
+        FieldPostings {
+            terms: TermIndex::new(alloc),
+            document: 0,
+            start: 0,
+            count: 0,
+        }
+    }
+
+    /// Where the next text of a document begins.
+    fn start_in(&self, document: u32) -> u32
+        ensures { result ≡ start_in document self.now }
+    {
+        if self.document == document {
+            self.start
+        } else {
+            0
+        }
+    }
+
+    /// How many tokens of a document gave terms so far.
+    fn count_in(&self, document: u32) -> u32
+        ensures { result ≡ count_in document self.now }
+    {
+        if self.document == document {
+            self.count
+        } else {
+            0
+        }
+    }
+
+    /// Adds a text of a document that no other one is past. After an error some of its tokens may have been added.
+    pub fn add_text(
+        &mut self,
+        alloc: Global,
+        document: u32,
+        tokens: &[Token],
+    ) -> Result<(), IndexError>
+        ensures fits { OnOk result (text_fits document self.old tokens.now ≡ true) }
+        ensures added { OnOk result (self.new ≡ added document self.old tokens.now) }
+        ensures later { result ≡ Err IndexError.Later → text_fits document self.old tokens.now ≡ false }
+    {
+        let start = self.start_in(document);
+        let count = self.count_in(document);
+        let more = counted_len(tokens);
+        if more > (u32::MAX - count) as usize {
+            return Err(IndexError::Later);
+        }
+        let next = add_tokens(&mut self.terms, alloc, document, start, tokens)?;
+        self.document = document;
+        self.start = next;
+        self.count = count + more as u32;
+        Ok(())
+    }
+}

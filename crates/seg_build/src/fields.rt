@@ -1,0 +1,153 @@
+//! All documents.
+ghost use Rattle.std.specs.Prelude.{◌≡◌, ◌+◌, ◌^◌, ◌<◌, true, false, Some, Err, map, length, IfOk, OnOk};
+ghost use Rattle.std.specs.FinMap.{entries, empty};
+ghost use Rattle.std.specs.List.{list_all, slice_get, AllByRecursion};
+ghost use Rattle.seg_model.specs.Built.{is_built_entry, are_built};
+ghost use Rattle.seg_model.specs.Fields.{indexing_tokenizer};
+ghost use Rattle.seg_model.specs.Reading.{all_terms};
+ghost use Rattle.seg_build.specs.Steps.{fresh, with_documents, documents_fit};
+
+use crate::document::add_document;
+use crate::error::IndexError;
+use crate::field::FieldPostings;
+use crate::sorted::{SortedTerms, sort_terms};
+use seg_values::{
+    Analyzers, Documents, FieldEntry, FieldKind, IndexOption, Schema, TantivyDocument,
+};
+use std::alloc::{AllocError, Global};
+use std::marker::Model;
+
+/// The most documents that are indexed at once.
+const MAX_DOCUMENTS: usize = 0x7fff_ffff;
+
+/// The terms of each field of a schema, in byte order, each with its postings.
+#[derive(Drop)]
+pub struct IndexedFields {
+    fields: Vec<SortedTerms>,
+}
+
+impl Model for IndexedFields {
+    ghost use Rattle.std.specs.Prelude.{List};
+    ghost use Rattle.std.specs.Coded.{coded_list};
+    ghost use Rattle.seg_build.specs.Entries.{TermEntries, entries_code};
+
+    ghost Value = { List TermEntries };
+
+    ghost coded = { coded_list entries_code };
+
+    ghost view = { λ a. a.fields.items };
+}
+
+impl IndexedFields {
+    pub fn len(&self) -> usize
+        ensures { result ≡ length self.now }
+    {
+        self.fields.len()
+    }
+
+    /// The terms of a field.
+    pub fn get(&self, field: usize) -> &SortedTerms
+        requires { field < length self.now }
+        ensures { slice_get self.now field ≡ Some result.now }
+    {
+        &self.fields[field]
+    }
+}
+
+fn is_built(entry: &FieldEntry) -> bool
+    ensures { result ≡ is_built_entry entry.now }
+{
+    entry.kind == FieldKind::Text && entry.stored && entry.index == IndexOption::Positions
+}
+
+fn are_all_built(schema: &[FieldEntry]) -> bool
+    ensures { result ≡ list_all is_built_entry schema.now }
+{
+    schema.iter().all(is_built)
+}
+
+fn new_fields(alloc: Global, schema: &[FieldEntry]) -> Result<Vec<FieldPostings>, AllocError>
+    ensures { IfOk result (λ fields. fields.items ≡ map (λ _. fresh) schema.now) }
+{
+    schema
+        .iter()
+        .map(|_| FieldPostings::new(alloc))
+        .collect(alloc)
+}
+
+/// Adds documents, of which the first has the id 0.
+fn add_documents<Z: Analyzers>(
+    alloc: Global,
+    analyzers: &Z,
+    schema: &[FieldEntry],
+    documents: &[TantivyDocument],
+    fields: &mut [FieldPostings],
+) -> Result<(), IndexError>
+    requires known { AllByRecursion (λ e. Z.knows analyzers.now (indexing_tokenizer e)) schema.now }
+    requires entries { list_all is_built_entry schema.now ≡ true }
+    requires few { length documents.now < 2 ^ 31 }
+    requires as_many { length fields.old ≡ length schema.now }
+    ensures fits { OnOk result (documents_fit schema.now (Z.tokens_of analyzers.now) 0 fields.old documents.now ≡ true) }
+    ensures added { OnOk result (fields.new ≡ with_documents schema.now (Z.tokens_of analyzers.now) 0 fields.old documents.now) }
+    ensures later { result ≡ Err IndexError.Later → documents_fit schema.now (Z.tokens_of analyzers.now) 0 fields.old documents.now ≡ false }
+{
+    let mut id = 0;
+    for document in documents {
+        add_document(alloc, analyzers, schema, id, document, fields)?;
+        id += 1;
+    }
+    Ok(())
+}
+
+/// Orders the terms of each field.
+fn sort_fields(alloc: Global, fields: Vec<FieldPostings>) -> Result<Vec<SortedTerms>, AllocError>
+    ensures { IfOk result (λ sorted. sorted.items ≡ map (λ f. entries f.terms) fields.items) }
+{
+    let mut sorted = Vec::new(alloc);
+    for field in fields {
+        sorted.push(sort_terms(alloc, field.terms)?)?;
+    }
+    Ok(sorted)
+}
+
+/// Indexes documents, for the entries of a schema.
+fn index_slices<Z: Analyzers>(
+    alloc: Global,
+    analyzers: &Z,
+    schema: &[FieldEntry],
+    documents: &[TantivyDocument],
+) -> Result<Vec<SortedTerms>, IndexError>
+    requires known { AllByRecursion (λ e. Z.knows analyzers.now (indexing_tokenizer e)) schema.now }
+    ensures built { OnOk result (are_built schema.now (Z.tokens_of analyzers.now) documents.now ≡ true) }
+    ensures terms { IfOk result (λ fields. fields.items ≡ map entries (all_terms schema.now (Z.tokens_of analyzers.now) documents.now)) }
+    ensures later { result ≡ Err IndexError.Later → are_built schema.now (Z.tokens_of analyzers.now) documents.now ≡ false }
+{
+    if !are_all_built(schema) {
+        return Err(IndexError::Later);
+    }
+    if documents.len() > MAX_DOCUMENTS {
+        return Err(IndexError::OutOfMemory);
+    }
+    let mut fields = new_fields(alloc, schema)?;
+    add_documents(alloc, analyzers, schema, documents, &mut fields)?;
+    let sorted = sort_fields(alloc, fields)?;
+    Ok(sorted)
+}
+
+/// Indexes documents. They are refused as `Later` where `are_built` says that they are not taken yet.
+pub fn index_documents<Z: Analyzers>(
+    alloc: Global,
+    analyzers: &Z,
+    schema: &Schema,
+    documents: &Documents,
+) -> Result<IndexedFields, IndexError>
+    requires known { AllByRecursion (λ e. Z.knows analyzers.now (indexing_tokenizer e)) schema.now }
+    ensures built { OnOk result (are_built schema.now (Z.tokens_of analyzers.now) documents.now ≡ true) }
+    ensures terms { IfOk result (λ fields. fields ≡ map entries (all_terms schema.now (Z.tokens_of analyzers.now) documents.now)) }
+    ensures later { result ≡ Err IndexError.Later → are_built schema.now (Z.tokens_of analyzers.now) documents.now ≡ false }
+{
+    match index_slices(alloc, analyzers, schema.fields(), documents.as_slice()) {
+        Ok(fields) => Ok(IndexedFields { fields }),
+        Err(e) => Err(e),
+    }
+}

@@ -1,0 +1,95 @@
+//! Runs of each public call, with ample memory.
+
+use crate::{
+    DateTime, MemorySink, MemorySource, ReadError, ReaderSource, SegmentId, Sink, SinkFailed,
+    WriterSink, read_to_end, varint_len, write_whole,
+};
+use std::test::Fail;
+
+const LONG: usize = 40_000;
+
+#[test]
+fn reads_to_the_end_or_past_the_limit(rt: HostRuntime) -> Result<(), Fail> {
+    let stored: Vec<u8> = (0..LONG).map(|i| (i % 251) as u8).collect(rt.alloc())?;
+    for (limit, fails, expected) in [
+        (LONG, 9, Ok(LONG)),
+        (usize::MAX, 9, Ok(LONG)),
+        (LONG - 1, 9, Err(ReadError::TooLong)),
+        (0, 9, Err(ReadError::TooLong)),
+        (LONG, 0, Err(ReadError::Fault)),
+        (LONG, 1, Err(ReadError::Fault)),
+        (LONG, 2, Err(ReadError::Fault)),
+    ] {
+        let mut source = MemorySource::new(rt.alloc(), &stored, vec![in rt.alloc(); fails]?)?;
+        match read_to_end(rt.alloc(), &mut source, limit) {
+            Ok(bytes) => {
+                assert_eq!(rt; bytes.as_slice(), stored.as_slice());
+                assert_eq!(rt; Ok(bytes.len()), expected, "at {limit}");
+            }
+            Err(error) => assert_eq!(rt; Err(error), expected, "at {limit}"),
+        }
+    }
+    Ok(())
+}
+
+#[test]
+fn leaves_what_is_past_the_limit(rt: HostRuntime) -> Result<(), Fail> {
+    let mut source = MemorySource::new(rt.alloc(), b"0123456789", vec![in rt.alloc(); 1]?)?;
+    assert!(rt; read_to_end(rt.alloc(), &mut source, 3).is_err());
+    assert!(rt; read_to_end(rt.alloc(), &mut source, 6).is_err());
+    let rest = read_to_end(rt.alloc(), &mut source, 6)
+        .ok()
+        .ok_or("a fault")?;
+    assert_eq!(rt; rest.as_slice(), b"456789".as_slice());
+    Ok(())
+}
+
+#[test]
+fn writes_until_the_sink_fails_or_is_full(rt: HostRuntime) -> Result<(), Fail> {
+    let mut sink = MemorySink::new(rt.alloc(), 8, vec![in rt.alloc(); 1]?)?;
+    let mut answers = Vec::new(rt.alloc());
+    for piece in ["one", "two", "two", "three", "", "four"] {
+        answers.push(write_whole(&mut sink, piece.as_bytes()).is_ok())?;
+    }
+    assert_eq!(rt;
+        answers.as_slice(),
+        [true, false, true, false, true, false].as_slice()
+    );
+    assert_eq!(rt; sink.bytes(), b"onetwoth".as_slice());
+    assert_eq!(rt; sink.write(b""), Ok(0));
+    assert_eq!(rt; sink.write(b"x"), Err(SinkFailed));
+    Ok(())
+}
+
+#[test]
+fn takes_any_reader_and_writer(rt: HostRuntime) -> Result<(), Fail> {
+    let mut source = ReaderSource::new(b"a reader".as_slice());
+    let bytes = read_to_end(rt.alloc(), &mut source, 8)
+        .ok()
+        .ok_or("a fault")?;
+    let mut room = [0u8; 8];
+    let mut sink = WriterSink::new(room.as_mut_slice());
+    assert_eq!(rt; write_whole(&mut sink, &bytes), Ok(()));
+    assert_eq!(rt; write_whole(&mut sink, b"more"), Err(SinkFailed));
+    Ok(())
+}
+
+#[test]
+fn tells_numbers_and_their_lengths(rt: HostRuntime) {
+    for (number, length) in [
+        (0, 1),
+        (127, 1),
+        (128, 2),
+        (16_383, 2),
+        (16_384, 3),
+        (1 << 63, 10),
+        (u64::MAX, 10),
+    ] {
+        assert_eq!(rt; varint_len(number), length, "at {number}");
+    }
+    assert_eq!(rt; SegmentId::from_u128(u128::MAX).as_u128(), u128::MAX);
+    assert_eq!(rt;
+        DateTime::from_timestamp_nanos(i64::MIN).into_timestamp_nanos(),
+        i64::MIN
+    );
+}

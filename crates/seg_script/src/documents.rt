@@ -1,0 +1,121 @@
+//! Reads the operations of a script.
+ghost use Rattle.std.specs.Prelude.{◌≡◌, ◌≢◌, [], ◌∷◌, length, Some, None, Err, IfOk, MatchOption, string_bytes, option_map};
+ghost use Rattle.serde_json.specs.Find.{as_str};
+ghost use Rattle.serde_json.specs.View.{view};
+ghost use Rattle.seg_values.specs.View.{tree_of};
+ghost use Rattle.seg_script.specs.Reads.{list_of};
+ghost use Rattle.seg_script.specs.View.{operation_of};
+ghost use Rattle.seg_script.specs.Documents.{pair_from, operation_from};
+
+use crate::error::ScriptError;
+use crate::fields::field_at;
+use crate::operation::{Operation, Operations};
+use seg_values::{Field, OwnedValue, Schema, TantivyDocument, Text};
+use serde_json::{Map, Value};
+use std::alloc::Global;
+
+/// The operations that a list is.
+pub(crate) fn operations_from(
+    alloc: Global,
+    schema: &Schema,
+    json: Value,
+) -> Result<Operations, ScriptError>
+    ensures ok { IfOk result (λ os. list_of (operation_from schema.now) (view json) ≡ Some os) }
+    ensures later { result ≡ Err ScriptError.Later → list_of (operation_from schema.now) (view json) ≡ None }
+    ensures never { result ≢ Err ScriptError.NotJson }
+{
+    let Value::Array(items) = json else {
+        return Err(ScriptError::Later);
+    };
+    let mut operations = Operations::new(alloc);
+    for item in items {
+        operations.push(operation_from(alloc, schema, item)?)?;
+    }
+    Ok(operations)
+}
+
+/// `{"add": [pairs]}`
+fn operation_from(alloc: Global, schema: &Schema, json: Value) -> Result<Operation, ScriptError>
+    ensures ok { IfOk result (λ o. operation_from schema.now (view json) ≡ Some (operation_of o)) }
+    ensures later { result ≡ Err ScriptError.Later → operation_from schema.now (view json) ≡ None }
+    ensures never { result ≢ Err ScriptError.NotJson }
+{
+    let Value::Object(members) = json else {
+        return Err(ScriptError::Later);
+    };
+    let (word, pairs) = only_member(members).ok_or(ScriptError::Later)?;
+    if word.as_str() == "add" {
+        Ok(Operation::Add(document_from(alloc, schema, pairs)?))
+    } else {
+        Err(ScriptError::Later)
+    }
+}
+
+/// The pairs of an added document.
+fn document_from(
+    alloc: Global,
+    schema: &Schema,
+    json: Value,
+) -> Result<TantivyDocument, ScriptError>
+    ensures ok { IfOk result (λ d. list_of (pair_from schema.now) (view json) ≡ Some d) }
+    ensures later { result ≡ Err ScriptError.Later → list_of (pair_from schema.now) (view json) ≡ None }
+    ensures never { result ≢ Err ScriptError.NotJson }
+{
+    let Value::Array(items) = json else {
+        return Err(ScriptError::Later);
+    };
+    let mut document = TantivyDocument::new(alloc);
+    for item in items {
+        match pair_from(schema, item) {
+            Some((field, value)) => document.add_field_value(field, value)?,
+            None => return Err(ScriptError::Later),
+        }
+    }
+    Ok(document)
+}
+
+/// `[name, text]`, whose text is moved.
+fn pair_from(schema: &Schema, json: Value) -> Option<(Field, OwnedValue)>
+    ensures { option_map (λ p. (p.0, tree_of p.1)) result ≡ pair_from schema.now (view json) }
+{
+    let Value::Array(items) = json else {
+        return None;
+    };
+    let (name, value) = two(items)?;
+    let name = text_of(name)?;
+    let field = field_at(schema, name.as_str())?;
+    let text = text_of(value)?;
+    Some((field, OwnedValue::Str(Text::from_string(text))))
+}
+
+/// The two values of a list of two.
+fn two(mut items: Vec<Value>) -> Option<(Value, Value)>
+    ensures { MatchOption result (length items.items ≢ 2) (λ p. items.items ≡ p.0 ∷ p.1 ∷ []) }
+{
+    if items.len() != 2 {
+        return None;
+    }
+    let second = items.pop()?;
+    let first = items.pop()?;
+    Some((first, second))
+}
+
+/// The one member of an object of one.
+fn only_member(mut members: Map<String, Value>) -> Option<(String, Value)>
+    ensures { MatchOption result (length members.entries ≢ 1) (λ p. members.entries ≡ p ∷ []) }
+{
+    if members.len() != 1 {
+        return None;
+    }
+    members.pop_first()
+}
+
+/// The text of a value that is one.
+fn text_of(json: Value) -> Option<String>
+    ensures { option_map string_bytes result ≡ as_str (view json) }
+{
+    match json {
+        Value::String(text) => Some(text),
+        _ => None,
+    }
+}

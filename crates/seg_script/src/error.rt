@@ -1,0 +1,24 @@
+//! Why bytes are no script.
+
+use std::alloc::AllocError;
+
+/// Why there is no script.
+#[derive(Clone, Copy, Debug, PartialEq, Eq)]
+pub enum ScriptError {
+    /// The bytes are no JSON text.
+    NotJson,
+    /// The JSON value says something that is not built yet, or is no script at all.
+    Later,
+    OutOfMemory,
+}
+
+impl From<AllocError> for ScriptError {
+    ghost use Rattle.std.specs.Prelude.{◌≡◌};
+    ghost use Rattle.seg_script.specs.declared.error.ScriptError.TheVariants.{OutOfMemory};
+
+    ghost from_gives = { λ _ e. e ≡ OutOfMemory };
+
+    fn from(_e: AllocError) -> ScriptError {
+        ScriptError::OutOfMemory
+    }
+}

@@ -1,0 +1,54 @@
+//! The members of a JSON object.
+ghost use Rattle.std.specs.Prelude.{◌≡◌, map, option_map};
+ghost use Rattle.std.specs.List.{list_any};
+ghost use Rattle.std.specs.Str.{bytes_eq};
+ghost use Rattle.serde_json.specs.Find.{as_bool, as_str, get};
+ghost use Rattle.serde_json.specs.View.{view};
+ghost use Rattle.seg_script.specs.Reads.{required, has_only};
+
+use serde_json::Value;
+
+/// Whether a value is an object with no member but these.
+pub(crate) fn has_only(json: &Value, names: &[&str]) -> bool
+    ensures { result ≡ has_only (map (λ n. n.now) names.now) (view json.now) }
+{
+    let Some(members) = json.as_object() else {
+        return false;
+    };
+    for (name, _) in members.iter() {
+        if !is_among(name.as_str(), names) {
+            return false;
+        }
+    }
+    true
+}
+
+/// The text that a member is.
+pub(crate) fn text_at<'a>(json: &'a Value, name: &str) -> Option<&'a str>
+    ensures { option_map (λ s. s.now) result ≡ required as_str name.now (view json.now) }
+{
+    json.get(name)?.as_str()
+}
+
+/// The truth value that a member is.
+pub(crate) fn flag_at(json: &Value, name: &str) -> Option<bool>
+    ensures { result ≡ required as_bool name.now (view json.now) }
+{
+    json.get(name)?.as_bool()
+}
+
+/// The member with a name, moved out of its object.
+pub(crate) fn take_member(json: Value, name: &str) -> Option<Value>
+    ensures { option_map view result ≡ get name.now (view json) }
+{
+    match json {
+        Value::Object(mut members) => members.remove(name),
+        _ => None,
+    }
+}
+
+fn is_among(name: &str, names: &[&str]) -> bool
+    ensures { result ≡ list_any (λ n. bytes_eq name.now n.now) names.now }
+{
+    names.iter().any(|other| name == *other)
+}

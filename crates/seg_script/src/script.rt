@@ -1,0 +1,55 @@
+//! A script, whole.
+ghost use Rattle.std.specs.Prelude.{◌≡◌, ◌≢◌, Some, None, Err, IfOk, IsSome};
+ghost use Rattle.serde_json.specs.View.{view};
+ghost use Rattle.seg_script.specs.Script.{script_from, json_of, script};
+
+use crate::documents::operations_from;
+use crate::error::ScriptError;
+use crate::fields::schema_from;
+use crate::members::{has_only, take_member};
+use crate::operation::Operations;
+use seg_values::Schema;
+use serde_json::Value;
+use std::alloc::Global;
+
+/// A schema, and operations on its documents.
+#[derive(Drop)]
+pub struct Script {
+    pub schema: Schema,
+    pub operations: Operations,
+}
+
+/// The script that the bytes are. They are let go as soon as their JSON value is there.
+pub fn read_script(alloc: Global, bytes: Vec<u8>) -> Result<Script, ScriptError>
+    ensures ok { IfOk result (λ s. script bytes.items ≡ Some s) }
+    ensures not_json { result ≡ Err ScriptError.NotJson → json_of bytes.items ≡ None }
+    ensures later { result ≡ Err ScriptError.Later → IsSome (json_of bytes.items) × (script bytes.items ≡ None) }
+{
+    let read = Value::from_slice(alloc, &bytes);
+    drop(bytes);
+    match read {
+        Ok(json) => script_from(alloc, json),
+        Err(e) => {
+            if e.is_memory() {
+                Err(ScriptError::OutOfMemory)
+            } else {
+                Err(ScriptError::NotJson)
+            }
+        }
+    }
+}
+
+/// The script that a JSON value is.
+fn script_from(alloc: Global, json: Value) -> Result<Script, ScriptError>
+    ensures ok { IfOk result (λ s. script_from (view json) ≡ Some s) }
+    ensures later { result ≡ Err ScriptError.Later → script_from (view json) ≡ None }
+    ensures never { result ≢ Err ScriptError.NotJson }
+{
+    if !has_only(&json, &["schema", "operations"]) {
+        return Err(ScriptError::Later);
+    }
+    let schema = schema_from(alloc, json.get("schema").ok_or(ScriptError::Later)?)?;
+    let operations = take_member(json, "operations").ok_or(ScriptError::Later)?;
+    let operations = operations_from(alloc, &schema, operations)?;
+    Ok(Script { schema, operations })
+}

@@ -1,0 +1,5 @@
+pub mod AllAlive
+mod HexText
+mod KnownTexts
+mod PlainTerms
+pub mod StoredTexts

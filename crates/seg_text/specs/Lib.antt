@@ -1,0 +1,9 @@
+pub mod AddressText
+pub mod DateText
+pub mod DocumentText
+pub mod FieldText
+pub mod HeaderText
+pub mod Json
+pub mod PostingText
+pub mod SegmentText
+pub mod TermText

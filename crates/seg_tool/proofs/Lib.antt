@@ -1,0 +1,5 @@
+mod Built
+mod CauseText
+mod Parts
+mod Printed
+mod Slices

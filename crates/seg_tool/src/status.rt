@@ -1,0 +1,38 @@
+//! How a run went.
+ghost use Rattle.std.specs.Prelude.{◌≡◌};
+ghost use Rattle.seg_tool.specs.Statuses.{number_of};
+
+use seg_values::TantivyError;
+
+/// How a run went.
+#[derive(Clone, Copy, Debug, PartialEq, Eq)]
+pub enum Status {
+    /// The job is done, and the whole text was written.
+    Done,
+    /// The words are no command.
+    Words,
+    /// The bytes of the source are no script.
+    Script,
+    /// The script is refused.
+    Refused(TantivyError),
+    /// The source or the sink failed.
+    Stream,
+    /// There was not enough memory.
+    Memory,
+}
+
+impl Status {
+    /// The number with which the program ends.
+    pub fn number(&self) -> u8
+        ensures { result ≡ number_of self.now }
+    {
+        match self {
+            Status::Done => 0,
+            Status::Words => 2,
+            Status::Script => 3,
+            Status::Refused(_) => 4,
+            Status::Stream => 8,
+            Status::Memory => 9,
+        }
+    }
+}
