@@ -1,17 +1,15 @@
 -- A document fits exactly where it is one of texts that passes the check.
-use Rattle.std.proofs.Common.{◌≡◌, ℕ, zero, suc, ◌+◌, ◌<◌, ◌≤◌, ◌^◌, Bool, true, false, cond, List, [], ◌∷◌, map, Some, None, Option, length, sym, refl, ap, ◌∙◌, subst, arith}
+use Rattle.std.proofs.Common.{◌≡◌, ℕ, zero, suc, ◌+◌, ◌<◌, ◌^◌, Bool, true, false, cond, List, [], ◌∷◌, map, Some, None, Option, length, sym, refl, ap, ◌∙◌, subst, arith}
 use Rattle.std.specs.Prelude.{filter, nat_lt, nat_le, is_some, is_none, ◌&&◌, ◌||◌}
 use Rattle.std.specs.List.{slice_get, list_all, enumerate_from}
 use Rattle.std.proofs.lemmas.Bool.{false≢true}
 use Rattle.std.proofs.lemmas.List.{length-map}
-use Rattle.seg_values.specs.declared.token.Token.{Token}
 use Rattle.seg_values.specs.declared.schema.FieldEntry.{FieldEntry}
-use Rattle.seg_values.specs.declared.schema.FieldKind.{FieldKind}
 use Rattle.seg_values.specs.declared.schema.FieldKind.TheVariants.{Text}
-use Rattle.seg_values.specs.Tree.{Leaf, null, text, pre_tokenized, unsigned, signed, boolean, date, facet, byte_string, ip, Tree, leaf, array, object, levels, Document}
+use Rattle.seg_values.specs.Tree.{null, text, pre_tokenized, unsigned, signed, boolean, date, facet, byte_string, ip, Tree, leaf, array, object, levels, Document}
 use Rattle.seg_model.specs.Built.{is_built_entry, is_text_tree, is_built_document, is_taken}
 use Rattle.seg_model.specs.Fields.{Schema, Analyzer, is_json, is_indexed, is_field, indexing_tokenizer, values_of, fields}
-use Rattle.seg_model.specs.Checked.{Refusal, wrong_value, past_limit, or_else, unless, is_u32, count_of, value_refusal, is_checked_json, json_refusal, tree_refusal, texts_fit, kind_fits, field_fits, is_within_limits, fields_refusal, leaves_refusal, order_refusal, limit_refusal}
+use Rattle.seg_model.specs.Checked.{Refusal, wrong_value, past_limit, unless, is_u32, count_of, value_refusal, is_checked_json, json_refusal, tree_refusal, texts_fit, kind_fits, field_fits, is_within_limits, fields_refusal, leaves_refusal, order_refusal, limit_refusal}
 use Rattle.seg_model.specs.Takes.{takes, is_own_leaf, is_own_array}
 use Rattle.seg_model.specs.Occurrences.{start_after_all, value_tokens}
 use Rattle.seg_model.specs.Reading.{stored_value, stored_document}
@@ -20,7 +18,7 @@ use Rattle.seg_build.specs.Field.{start_in, count_in}
 use Rattle.seg_build.specs.Steps.{are_texts, is_storable, pairs_fit, document_fits}
 use Rattle.seg_build.specs.declared.field.FieldPostings.{FieldPostings}
 use Rattle.seg_build.proofs.BuiltEntries.{IsTextEntry, both_true, text_entry_at}
-use Rattle.seg_build.proofs.Fitting.{is_less, less_is, and_true, none_unless, both_none, none_else, IsElement, element_at, is_on-text, built_where_fit, order_where_fit, bounded_where_fit, HasBounded, fit_where_bounded}
+use Rattle.seg_build.proofs.Fitting.{is_less, less_is, and_true, none_unless, both_none, none_else, element_at, is_on-text, built_where_fit, order_where_fit, bounded_where_fit, fit_where_bounded}
 use Rattle.seg_build.proofs.Places.{some_same, Bounded, start_after_all-ge, texts_of}
 
 -- ---- texts

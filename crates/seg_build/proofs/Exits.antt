@@ -1,5 +1,5 @@
 -- An error that `?` hands on.
-use Rattle.std.proofs.Common.{◌≡◌, Result, Ok, Err, ap}
+use Rattle.std.proofs.Common.{◌≡◌, Result, Err, ap}
 
 -- what a call says of one error, where that is the error that is returned
 pub handed_on : {A B E P : Type 0} (r : Result A E) (e d l : E) → r ≡ Err e → e ≡ d → ((let x : Result B E = Err d in x ≡ Err l) → P) → r ≡ Err l → P

@@ -1,26 +1,21 @@
 -- The values of a document fit exactly where they are texts of the schema's fields, rise, and are bounded.
-use Rattle.std.proofs.Common.{◌≡◌, ℕ, zero, suc, ◌+◌, ◌<◌, ◌≤◌, ◌^◌, Bool, true, false, cond, List, [], ◌∷◌, Some, None, Option, length, sym, refl, ap, ◌∙◌, subst, arith, inl, inr, eq-eqb}
-use Rattle.std.specs.Prelude.{nat_eq, nat_lt, is_some, ◌&&◌}
+use Rattle.std.proofs.Common.{◌≡◌, ℕ, zero, suc, ◌+◌, ◌<◌, ◌^◌, Bool, true, false, cond, List, [], ◌∷◌, Some, None, Option, length, sym, refl, ap, ◌∙◌, subst, arith, inl, inr, eq-eqb}
+use Rattle.std.specs.Prelude.{nat_lt, is_some, ◌&&◌}
 use Rattle.std.specs.List.{slice_get, list_all}
 use Rattle.std.proofs.lemmas.Bool.{false≢true}
 use Rattle.std.proofs.lemmas.Bool.Decides.{nat_tests}
-use Rattle.std.proofs.lemmas.Option.{slice_get_within}
 use Rattle.seg_values.specs.declared.token.Token.{Token}
 use Rattle.seg_values.specs.declared.schema.FieldEntry.{FieldEntry}
-use Rattle.seg_values.specs.declared.schema.FieldKind.{FieldKind}
-use Rattle.seg_values.specs.declared.schema.FieldKind.TheVariants.{Text}
-use Rattle.seg_values.specs.declared.schema.IndexOption.{IndexOption}
-use Rattle.seg_values.specs.declared.schema.IndexOption.TheVariants.{Positions}
 use Rattle.seg_values.specs.Tree.{Tree, Document}
 use Rattle.seg_model.specs.Built.{is_built_entry, is_text_tree, is_built_document}
 use Rattle.seg_model.specs.Fields.{Schema, Analyzer, is_on, indexing_tokenizer}
-use Rattle.seg_model.specs.Checked.{Refusal, positions_fall, or_else, unless, is_u32, is_rising, count_of, value_texts, positions_refusal, order_refusal}
-use Rattle.seg_model.specs.Occurrences.{counted, start_after, start_after_all, value_tokens}
+use Rattle.seg_model.specs.Checked.{Refusal, positions_fall, or_else, unless, is_u32, is_rising, value_texts, positions_refusal, order_refusal}
+use Rattle.seg_model.specs.Occurrences.{counted, start_after, value_tokens}
 use Rattle.seg_build.specs.Field.{start_in, count_in, positions_fit, text_fits, added}
 use Rattle.seg_build.specs.Steps.{tokens_at, fits_at, pair_fits, with_pair, pairs_fit}
 use Rattle.seg_build.specs.declared.field.FieldPostings.{FieldPostings}
 use Rattle.seg_build.proofs.BuiltEntries.{IsTextEntry, both_true, text_entry_at}
-use Rattle.seg_build.proofs.Places.{some_same, Bounded, bounded_before, bounded_after, start_after_all-ge, start_after-ge, texts_of, texts_of-taken, texts_of-passed, IsOwn, IsOthers, whose}
+use Rattle.seg_build.proofs.Places.{Bounded, bounded_before, bounded_after, start_after_all-ge, texts_of, texts_of-taken, texts_of-passed, whose}
 
 pub is_less : (n m : ℕ) → nat_lt n m ≡ true → n < m
 is_less n m h = grind (arith, nat_tests)

@@ -1,5 +1,5 @@
 -- Adding the occurrences of one more document to the terms of documents gives the terms of all.
-use Rattle.std.proofs.Common.{◌≡◌, ℕ, suc, ◌+◌, ◌<◌, ◌≤◌, Bool, true, false, cond, List, [], ◌∷◌, ◌++◌, map, length, Some, Option, None, sym, refl, ap, ◌∙◌, arith, append_assoc, append-nil, unwrap_or}
+use Rattle.std.proofs.Common.{◌≡◌, ℕ, ◌+◌, ◌<◌, ◌≤◌, Bool, true, false, cond, List, [], ◌∷◌, ◌++◌, map, length, Some, Option, None, sym, refl, ap, ◌∙◌, arith, append_assoc, append-nil, unwrap_or}
 use Rattle.std.specs.Prelude.{filter, ◌&&◌, ◌||◌, nat_eq}
 use Rattle.std.specs.Cmp.Lexicographic.{bytes_decides, nat_list_cmp_total}
 use Rattle.std.specs.Str.{bytes_eq}
@@ -8,8 +8,6 @@ use Rattle.std.proofs.lemmas.Map.Text.{is_eq-slice_cmp}
 use Rattle.std.proofs.lemmas.Bool.Decides.{nat_tests}
 use Rattle.std.proofs.lemmas.List.{length-map}
 use Rattle.seg_values.specs.declared.schema.FieldEntry.{FieldEntry}
-use Rattle.seg_values.specs.declared.schema.FieldKind.{FieldKind}
-use Rattle.seg_values.specs.declared.schema.IndexOption.{IndexOption}
 use Rattle.seg_values.specs.declared.schema.IndexOption.TheVariants.{Basic, Positions}
 use Rattle.seg_model.specs.Fields.{is_text, is_json}
 use Rattle.seg_model.specs.Occurrences.{Occurrence}

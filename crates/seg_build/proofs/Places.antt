@@ -1,9 +1,9 @@
 -- One field of a schema while the values of a document come.
-use Rattle.std.proofs.Common.{◌≡◌, ◌≢◌, ℕ, zero, suc, ◌+◌, ◌<◌, ◌≤◌, ◌^◌, Bool, true, false, cond, List, [], ◌∷◌, ◌++◌, map, Some, None, Option, length, set, sym, refl, ap, ◌∙◌, subst, arith, inl, inr, ◌⊎◌, eq-eqb}
-use Rattle.std.specs.Prelude.{filter, nat_eq, nat_lt, is_some, ◌&&◌}
+use Rattle.std.proofs.Common.{◌≡◌, ◌≢◌, ℕ, zero, suc, ◌+◌, ◌<◌, ◌≤◌, ◌^◌, true, false, cond, List, [], ◌∷◌, map, Some, None, Option, length, set, sym, refl, ap, ◌∙◌, subst, arith, inl, inr, ◌⊎◌, eq-eqb}
+use Rattle.std.specs.Prelude.{filter, nat_eq, is_some}
 use Rattle.std.specs.List.{slice_get}
 use Rattle.std.proofs.lemmas.Bool.{false≢true}
-use Rattle.std.proofs.lemmas.Bool.Decides.{nat_tests, eqb_tells}
+use Rattle.std.proofs.lemmas.Bool.Decides.{eqb_tells}
 use Rattle.seg_values.specs.declared.token.Token.{Token}
 use Rattle.seg_values.specs.declared.schema.FieldEntry.{FieldEntry}
 use Rattle.seg_values.specs.Tree.{Tree, Document}
@@ -11,7 +11,7 @@ use Rattle.seg_model.specs.Fields.{Schema, Analyzer, indexing_tokenizer, values_
 use Rattle.seg_model.specs.Checked.{count_of}
 use Rattle.seg_model.specs.Occurrences.{counted, start_after, start_after_all, value_tokens, placed_from, text_occurrences}
 use Rattle.seg_build.specs.Adding.{with_occurrences}
-use Rattle.seg_build.specs.Field.{start_in, count_in, text_fits, added}
+use Rattle.seg_build.specs.Field.{start_in, count_in, added}
 use Rattle.seg_build.specs.Steps.{tokens_at, added_at, with_pair, with_pairs}
 use Rattle.seg_build.specs.declared.field.FieldPostings.{FieldPostings}
 use Rattle.seg_build.proofs.Growing.{with_occurrences-append}

@@ -1,10 +1,10 @@
 -- The stored form of a document of texts, pair by pair.
-use Rattle.std.proofs.Common.{◌≡◌, ℕ, suc, ◌+◌, ◌<◌, ◌≤◌, ◌^◌, Bool, true, false, List, ◌∷◌, ◌++◌, Some, length, drop, refl, sym, ap, ◌∙◌, arith, length-append}
+use Rattle.std.proofs.Common.{◌≡◌, ℕ, ◌+◌, ◌<◌, ◌≤◌, ◌^◌, Bool, true, false, List, ◌∷◌, ◌++◌, Some, length, drop, refl, sym, ap, ◌∙◌, arith, length-append}
 use Rattle.std.specs.Prelude.{◌&&◌}
 use Rattle.std.specs.List.{slice_get, flat_map}
 use Rattle.std.proofs.lemmas.Bool.Decides.{nat_tests}
 use Rattle.seg_common.specs.Varint.{varint}
-use Rattle.seg_values.specs.Tree.{Tree, leaf, text, Document}
+use Rattle.seg_values.specs.Tree.{leaf, text, Document}
 use Rattle.seg_values.specs.View.{tree_of}
 use Rattle.seg_values.specs.declared.value.OwnedValue.{OwnedValue}
 use Rattle.seg_values.specs.declared.value.OwnedValue.TheVariants.{Null, Str, PreTokStr, U64, I64, Bool as Boolean, Date, Facet, Bytes, Array, Object, IpAddr}

@@ -1,28 +1,25 @@
 -- What all documents give.
-use Rattle.std.proofs.Common.{◌≡◌, ℕ, zero, suc, ◌+◌, ◌<◌, ◌≤◌, Bool, true, false, cond, List, [], ◌∷◌, ◌++◌, map, Some, None, Option, length, set, sym, refl, ap, ◌∙◌, subst, arith, append_assoc, append-nil, length-append}
-use Rattle.std.specs.Prelude.{is_some, ◌&&◌}
+use Rattle.std.proofs.Common.{◌≡◌, ℕ, suc, ◌+◌, ◌≤◌, true, cond, List, [], ◌∷◌, ◌++◌, map, Some, None, Option, length, sym, refl, ap, ◌∙◌, subst, arith, append_assoc, append-nil, length-append}
+use Rattle.std.specs.Prelude.{◌&&◌}
 use Rattle.std.specs.FinMap as fin
 use Rattle.std.specs.List.{slice_get, list_all, enumerate_from}
 use Rattle.std.specs.Option.{option_map}
-use Rattle.std.proofs.lemmas.Bool.{false≢true}
 use Rattle.std.proofs.lemmas.Bool.Decides.{nat_tests}
 use Rattle.std.proofs.lemmas.List.{length-map, map-append}
 use Rattle.std.proofs.lemmas.Option.{slice_get-map}
 use Rattle.std.proofs.Math.ListN.{length-set}
 use Rattle.seg_values.specs.declared.token.Token.{Token}
 use Rattle.seg_values.specs.declared.schema.FieldEntry.{FieldEntry}
-use Rattle.seg_values.specs.declared.schema.FieldKind.{FieldKind}
 use Rattle.seg_values.specs.Tree.{Document}
 use Rattle.seg_model.specs.Built.{is_built_entry, is_built_document, is_taken, are_built}
-use Rattle.seg_model.specs.Fields.{Schema, Analyzer, is_indexed, indexing_tokenizer, values_of}
+use Rattle.seg_model.specs.Fields.{Schema, Analyzer, indexing_tokenizer, values_of}
 use Rattle.seg_model.specs.Occurrences.{Occurrence, text_occurrences, kind_occurrences, occurrences_at, occurrences}
 use Rattle.seg_model.specs.Reading.{Terms, terms_of, field_terms, all_terms}
 use Rattle.seg_build.specs.Adding.{with_occurrences}
-use Rattle.seg_build.specs.Field.{start_in, count_in}
 use Rattle.seg_build.specs.Steps.{fresh, tokens_at, added_at, with_pair, with_pairs, document_fits, with_documents, documents_fit}
 use Rattle.seg_build.specs.declared.field.FieldPostings.{FieldPostings}
 use Rattle.seg_build.proofs.BuiltEntries.{IsTextEntry, text_entry_at}
-use Rattle.seg_build.proofs.Checks.{IsFresh, HasFresh, document_fits-taken}
+use Rattle.seg_build.proofs.Checks.{IsFresh, document_fits-taken}
 use Rattle.seg_build.proofs.Fitting.{is_on-text}
 use Rattle.seg_build.proofs.Growing.{terms_of-push}
 use Rattle.seg_build.proofs.Places.{some_same, texts_of, added_all, terms-added_all, document-added_all, field_after}

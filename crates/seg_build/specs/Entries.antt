@@ -8,5 +8,6 @@ use Rattle.seg_model.specs.Codes.{posting_code}
 abbrev pub TermEntries : Type 0
 TermEntries = List (List ℕ × List Posting)
 
+-- the code by which a proof tells them apart
 abbrev pub entries_code : Coded TermEntries
 entries_code = coded_list (coded× (coded_list coded_ℕ) (coded_list posting_code))

@@ -13,6 +13,7 @@ abbrev pub joined : Hit → List Posting → List Posting
 joined h [] = record { document = h.document; recorded = positions (h.position ∷ []) } ∷ []
 joined h (p ∷ ps) = if h.document == p.document then record { document = h.document; recorded = from_position h.position p.recorded } ∷ ps else record { document = h.document; recorded = positions (h.position ∷ []) } ∷ p ∷ ps
 
+-- the postings that occurrences make, in their order
 abbrev pub grouped : List Hit → List Posting
 grouped [] = []
 grouped (h ∷ hs) = joined h (grouped hs)

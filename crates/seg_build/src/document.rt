@@ -9,48 +9,30 @@ ghost use Rattle.seg_build.specs.Steps.{with_pair, pair_fits, with_pairs, pairs_
 use crate::error::IndexError;
 use crate::field::FieldPostings;
 use crate::stored::is_storable;
-use seg_values::{Analyzers, FieldEntry, IndexOption, OwnedValue, TantivyDocument, Tokens};
+use seg_values::{Analyzers, FieldEntry, OwnedValue, TantivyDocument, Tokens};
 use std::alloc::Global;
 
-/// The name of the analyzer of a text field.
-fn tokenizer_name(entry: &FieldEntry) -> &str
-    requires { is_built_entry entry.now ≡ true }
-    ensures { result.now ≡ indexing_tokenizer entry.now }
-{
-    match &entry.tokenizer {
-        Some(name) => name.as_str(),
-        None => "default",
-    }
-}
-
-/// Adds a field's value. After an error some of its tokens may have been added.
-fn add_pair<Z: Analyzers>(
+/// Adds a document that no other one is past. After an error a part of it may have been added.
+pub(crate) fn add_document<Z: Analyzers>(
     alloc: Global,
     analyzers: &Z,
     schema: &[FieldEntry],
-    document: u32,
-    field: u32,
-    value: &OwnedValue,
+    id: u32,
+    document: &TantivyDocument,
     fields: &mut [FieldPostings],
 ) -> Result<(), IndexError>
     requires known { AllByRecursion (λ e. Z.knows analyzers.now (indexing_tokenizer e)) schema.now }
     requires entries { list_all is_built_entry schema.now ≡ true }
     requires as_many { length fields.old ≡ length schema.now }
-    ensures fits { OnOk result (pair_fits schema.now (Z.tokens_of analyzers.now) document fields.old (field, tree_of value.now) ≡ true) }
-    ensures added { OnOk result (fields.new ≡ with_pair schema.now (Z.tokens_of analyzers.now) document fields.old (field, tree_of value.now)) }
-    ensures later { result ≡ Err IndexError.Later → pair_fits schema.now (Z.tokens_of analyzers.now) document fields.old (field, tree_of value.now) ≡ false }
+    ensures fits { OnOk result (document_fits schema.now (Z.tokens_of analyzers.now) id fields.old document.now ≡ true) }
+    ensures added { OnOk result (fields.new ≡ with_pairs schema.now (Z.tokens_of analyzers.now) id fields.old document.now) }
+    ensures later { result ≡ Err IndexError.Later → document_fits schema.now (Z.tokens_of analyzers.now) id fields.old document.now ≡ false }
 {
-    let at = field as usize;
-    if at >= schema.len() {
+    add_pairs(alloc, analyzers, schema, id, document, fields)?;
+    if !is_storable(document) {
         return Err(IndexError::Later);
     }
-    let OwnedValue::Str(text) = value else {
-        return Err(IndexError::Later);
-    };
-    let mut tokens = Tokens::new(alloc);
-    let name = tokenizer_name(&schema[at]);
-    analyzers.tokens(alloc, name, text.as_str(), &mut tokens)?;
-    fields[at].add_text(alloc, document, tokens.as_slice())
+    Ok(())
 }
 
 /// Adds the values of a document, in its order.
@@ -84,25 +66,43 @@ fn add_pairs<Z: Analyzers>(
     Ok(())
 }
 
-/// Adds a document that no other one is past. After an error a part of it may have been added.
-pub(crate) fn add_document<Z: Analyzers>(
+/// Adds a field's value. After an error some of its tokens may have been added.
+fn add_pair<Z: Analyzers>(
     alloc: Global,
     analyzers: &Z,
     schema: &[FieldEntry],
-    id: u32,
-    document: &TantivyDocument,
+    document: u32,
+    field: u32,
+    value: &OwnedValue,
     fields: &mut [FieldPostings],
 ) -> Result<(), IndexError>
     requires known { AllByRecursion (λ e. Z.knows analyzers.now (indexing_tokenizer e)) schema.now }
     requires entries { list_all is_built_entry schema.now ≡ true }
     requires as_many { length fields.old ≡ length schema.now }
-    ensures fits { OnOk result (document_fits schema.now (Z.tokens_of analyzers.now) id fields.old document.now ≡ true) }
-    ensures added { OnOk result (fields.new ≡ with_pairs schema.now (Z.tokens_of analyzers.now) id fields.old document.now) }
-    ensures later { result ≡ Err IndexError.Later → document_fits schema.now (Z.tokens_of analyzers.now) id fields.old document.now ≡ false }
+    ensures fits { OnOk result (pair_fits schema.now (Z.tokens_of analyzers.now) document fields.old (field, tree_of value.now) ≡ true) }
+    ensures added { OnOk result (fields.new ≡ with_pair schema.now (Z.tokens_of analyzers.now) document fields.old (field, tree_of value.now)) }
+    ensures later { result ≡ Err IndexError.Later → pair_fits schema.now (Z.tokens_of analyzers.now) document fields.old (field, tree_of value.now) ≡ false }
 {
-    add_pairs(alloc, analyzers, schema, id, document, fields)?;
-    if !is_storable(document) {
+    let at = field as usize;
+    if at >= schema.len() {
         return Err(IndexError::Later);
     }
-    Ok(())
+    let OwnedValue::Str(text) = value else {
+        return Err(IndexError::Later);
+    };
+    let mut tokens = Tokens::new(alloc);
+    let name = tokenizer_name(&schema[at]);
+    analyzers.tokens(alloc, name, text.as_str(), &mut tokens)?;
+    fields[at].add_text(alloc, document, tokens.as_slice())
+}
+
+/// The name of the analyzer of a text field.
+fn tokenizer_name(entry: &FieldEntry) -> &str
+    requires { is_built_entry entry.now ≡ true }
+    ensures { result.now ≡ indexing_tokenizer entry.now }
+{
+    match &entry.tokenizer {
+        Some(name) => name.as_str(),
+        None => "default",
+    }
 }

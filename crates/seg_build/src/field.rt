@@ -31,28 +31,6 @@ impl FieldPostings {
         }
     }
 
-    /// Where the next text of a document begins.
-    fn start_in(&self, document: u32) -> u32
-        ensures { result ≡ start_in document self.now }
-    {
-        if self.document == document {
-            self.start
-        } else {
-            0
-        }
-    }
-
-    /// How many tokens of a document gave terms so far.
-    fn count_in(&self, document: u32) -> u32
-        ensures { result ≡ count_in document self.now }
-    {
-        if self.document == document {
-            self.count
-        } else {
-            0
-        }
-    }
-
     /// Adds a text of a document that no other one is past. After an error some of its tokens may have been added.
     pub fn add_text(
         &mut self,
@@ -75,5 +53,27 @@ impl FieldPostings {
         self.start = next;
         self.count = count + more as u32;
         Ok(())
+    }
+
+    /// Where the next text of a document begins.
+    fn start_in(&self, document: u32) -> u32
+        ensures { result ≡ start_in document self.now }
+    {
+        if self.document == document {
+            self.start
+        } else {
+            0
+        }
+    }
+
+    /// How many tokens of a document gave terms so far.
+    fn count_in(&self, document: u32) -> u32
+        ensures { result ≡ count_in document self.now }
+    {
+        if self.document == document {
+            self.count
+        } else {
+            0
+        }
     }
 }

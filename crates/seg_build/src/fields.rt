@@ -1,6 +1,6 @@
 //! All documents.
-ghost use Rattle.std.specs.Prelude.{◌≡◌, ◌+◌, ◌^◌, ◌<◌, true, false, Some, Err, map, length, IfOk, OnOk};
-ghost use Rattle.std.specs.FinMap.{entries, empty};
+ghost use Rattle.std.specs.Prelude.{◌≡◌, ◌^◌, ◌<◌, true, false, Some, Err, map, length, IfOk, OnOk};
+ghost use Rattle.std.specs.FinMap.{entries};
 ghost use Rattle.std.specs.List.{list_all, slice_get, AllByRecursion};
 ghost use Rattle.seg_model.specs.Built.{is_built_entry, are_built};
 ghost use Rattle.seg_model.specs.Fields.{indexing_tokenizer};
@@ -16,9 +16,6 @@ use seg_values::{
 };
 use std::alloc::{AllocError, Global};
 use std::marker::Model;
-
-/// The most documents that are indexed at once.
-const MAX_DOCUMENTS: usize = 0x7fff_ffff;
 
 /// The terms of each field of a schema, in byte order, each with its postings.
 #[derive(Drop)]
@@ -54,16 +51,62 @@ impl IndexedFields {
     }
 }
 
-fn is_built(entry: &FieldEntry) -> bool
-    ensures { result ≡ is_built_entry entry.now }
+/// The most documents that are indexed at once.
+const MAX_DOCUMENTS: usize = 0x7fff_ffff;
+
+/// Indexes documents, in their order. `Later` says that a document is refused, or that the schema or a document asks
+/// for what is not built yet; more than 2^31 - 1 documents are answered as memory that is lacking.
+pub fn index_documents<Z: Analyzers>(
+    alloc: Global,
+    analyzers: &Z,
+    schema: &Schema,
+    documents: &Documents,
+) -> Result<IndexedFields, IndexError>
+    requires known { AllByRecursion (λ e. Z.knows analyzers.now (indexing_tokenizer e)) schema.now }
+    ensures built { OnOk result (are_built schema.now (Z.tokens_of analyzers.now) documents.now ≡ true) }
+    ensures terms { IfOk result (λ fields. fields ≡ map entries (all_terms schema.now (Z.tokens_of analyzers.now) documents.now)) }
+    ensures later { result ≡ Err IndexError.Later → are_built schema.now (Z.tokens_of analyzers.now) documents.now ≡ false }
 {
-    entry.kind == FieldKind::Text && entry.stored && entry.index == IndexOption::Positions
+    match index_slices(alloc, analyzers, schema.fields(), documents.as_slice()) {
+        Ok(fields) => Ok(IndexedFields { fields }),
+        Err(e) => Err(e),
+    }
+}
+
+/// Indexes documents, for the entries of a schema.
+fn index_slices<Z: Analyzers>(
+    alloc: Global,
+    analyzers: &Z,
+    schema: &[FieldEntry],
+    documents: &[TantivyDocument],
+) -> Result<Vec<SortedTerms>, IndexError>
+    requires known { AllByRecursion (λ e. Z.knows analyzers.now (indexing_tokenizer e)) schema.now }
+    ensures built { OnOk result (are_built schema.now (Z.tokens_of analyzers.now) documents.now ≡ true) }
+    ensures terms { IfOk result (λ fields. fields.items ≡ map entries (all_terms schema.now (Z.tokens_of analyzers.now) documents.now)) }
+    ensures later { result ≡ Err IndexError.Later → are_built schema.now (Z.tokens_of analyzers.now) documents.now ≡ false }
+{
+    if !are_all_built(schema) {
+        return Err(IndexError::Later);
+    }
+    if documents.len() > MAX_DOCUMENTS {
+        return Err(IndexError::OutOfMemory);
+    }
+    let mut fields = new_fields(alloc, schema)?;
+    add_documents(alloc, analyzers, schema, documents, &mut fields)?;
+    let sorted = sort_fields(alloc, fields)?;
+    Ok(sorted)
 }
 
 fn are_all_built(schema: &[FieldEntry]) -> bool
     ensures { result ≡ list_all is_built_entry schema.now }
 {
     schema.iter().all(is_built)
+}
+
+fn is_built(entry: &FieldEntry) -> bool
+    ensures { result ≡ is_built_entry entry.now }
+{
+    entry.kind == FieldKind::Text && entry.stored && entry.index == IndexOption::Positions
 }
 
 fn new_fields(alloc: Global, schema: &[FieldEntry]) -> Result<Vec<FieldPostings>, AllocError>
@@ -108,46 +151,4 @@ fn sort_fields(alloc: Global, fields: Vec<FieldPostings>) -> Result<Vec<SortedTe
         sorted.push(sort_terms(alloc, field.terms)?)?;
     }
     Ok(sorted)
-}
-
-/// Indexes documents, for the entries of a schema.
-fn index_slices<Z: Analyzers>(
-    alloc: Global,
-    analyzers: &Z,
-    schema: &[FieldEntry],
-    documents: &[TantivyDocument],
-) -> Result<Vec<SortedTerms>, IndexError>
-    requires known { AllByRecursion (λ e. Z.knows analyzers.now (indexing_tokenizer e)) schema.now }
-    ensures built { OnOk result (are_built schema.now (Z.tokens_of analyzers.now) documents.now ≡ true) }
-    ensures terms { IfOk result (λ fields. fields.items ≡ map entries (all_terms schema.now (Z.tokens_of analyzers.now) documents.now)) }
-    ensures later { result ≡ Err IndexError.Later → are_built schema.now (Z.tokens_of analyzers.now) documents.now ≡ false }
-{
-    if !are_all_built(schema) {
-        return Err(IndexError::Later);
-    }
-    if documents.len() > MAX_DOCUMENTS {
-        return Err(IndexError::OutOfMemory);
-    }
-    let mut fields = new_fields(alloc, schema)?;
-    add_documents(alloc, analyzers, schema, documents, &mut fields)?;
-    let sorted = sort_fields(alloc, fields)?;
-    Ok(sorted)
-}
-
-/// Indexes documents. They are refused as `Later` where `are_built` says that they are not taken yet.
-pub fn index_documents<Z: Analyzers>(
-    alloc: Global,
-    analyzers: &Z,
-    schema: &Schema,
-    documents: &Documents,
-) -> Result<IndexedFields, IndexError>
-    requires known { AllByRecursion (λ e. Z.knows analyzers.now (indexing_tokenizer e)) schema.now }
-    ensures built { OnOk result (are_built schema.now (Z.tokens_of analyzers.now) documents.now ≡ true) }
-    ensures terms { IfOk result (λ fields. fields ≡ map entries (all_terms schema.now (Z.tokens_of analyzers.now) documents.now)) }
-    ensures later { result ≡ Err IndexError.Later → are_built schema.now (Z.tokens_of analyzers.now) documents.now ≡ false }
-{
-    match index_slices(alloc, analyzers, schema.fields(), documents.as_slice()) {
-        Ok(fields) => Ok(IndexedFields { fields }),
-        Err(e) => Err(e),
-    }
 }

@@ -17,7 +17,7 @@ pub struct SortedTerms {
 }
 
 impl Model for SortedTerms {
-    ghost use Rattle.std.specs.Prelude.{List, ℕ, IsTrue};
+    ghost use Rattle.std.specs.Prelude.{IsTrue};
     ghost use Rattle.std.specs.Ordering.{nat_cmp};
     ghost use Rattle.std.specs.Cmp.Lexicographic.{slice_cmp};
     ghost use Rattle.std.specs.FinMap.{is_sorted};

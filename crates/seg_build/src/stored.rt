@@ -5,20 +5,6 @@ ghost use Rattle.seg_build.specs.Steps.{is_storable};
 
 use seg_values::{OwnedValue, TantivyDocument};
 
-/// How many bytes the varint of a number has.
-fn varint_len(n: u64) -> u64
-    ensures len { result ≡ length (varint n) }
-    ensures small { result ≤ 10 }
-{
-    let mut rest = n;
-    let mut len = 1;
-    while rest >= 128 {
-        rest /= 128;
-        len += 1;
-    }
-    len
-}
-
 /// Whether a document is one of texts, and the number of its stored bytes is a u32.
 pub(crate) fn is_storable(document: &TantivyDocument) -> bool
     ensures { result ≡ is_storable document.now }
@@ -38,4 +24,18 @@ pub(crate) fn is_storable(document: &TantivyDocument) -> bool
         total += len;
     }
     true
+}
+
+/// How many bytes the varint of a number has.
+fn varint_len(n: u64) -> u64
+    ensures len { result ≡ length (varint n) }
+    ensures small { result ≤ 10 }
+{
+    let mut rest = n;
+    let mut len = 1;
+    while rest >= 128 {
+        rest /= 128;
+        len += 1;
+    }
+    len
 }

@@ -12,13 +12,6 @@ use std::alloc::Global;
 /// The most bytes of a token that gives a term.
 const MAX_TOKEN: usize = 65530;
 
-/// How many tokens give terms.
-pub(crate) fn counted_len(tokens: &[Token]) -> usize
-    ensures { result ≡ length (counted tokens.now) }
-{
-    tokens.iter().filter(|t| t.text.len() <= MAX_TOKEN).count()
-}
-
 /// Adds the tokens of a text that begins at `start`, and answers where the next text begins.
 pub(crate) fn add_tokens(
     terms: &mut TermIndex,
@@ -56,4 +49,11 @@ pub(crate) fn add_tokens(
         return Err(IndexError::Later);
     }
     Ok((end + 1) as u32)
+}
+
+/// How many tokens give terms.
+pub(crate) fn counted_len(tokens: &[Token]) -> usize
+    ensures { result ≡ length (counted tokens.now) }
+{
+    tokens.iter().filter(|t| t.text.len() <= MAX_TOKEN).count()
 }

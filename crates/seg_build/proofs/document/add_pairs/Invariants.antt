@@ -1,4 +1,4 @@
-use Rattle.std.proofs.Common.{◌≡◌, drop, length}
+use Rattle.std.proofs.Common.{◌≡◌, drop}
 use Rattle.seg_build.specs.Steps.{with_pairs, pairs_fit}
 use Rattle.seg_build.proofs.document.add_pairs.Given as goal
 

@@ -3,7 +3,7 @@ use Rattle.std.specs.List.{slice_get}
 use Rattle.seg_common.specs.Varint.{varint}
 use Rattle.seg_values.specs.Tree.{leaf, text}
 use Rattle.seg_values.specs.View.{tree_of}
-use Rattle.seg_build.proofs.Storing.{stored_more, texts_left, none_here, is_too_long, is_no_text, is_short}
+use Rattle.seg_build.proofs.Storing.{stored_more, texts_left, none_here, is_too_long, is_no_text}
 use Rattle.seg_build.proofs.stored.is_storable.Goals as goal
 use Rattle.seg_build.proofs.stored.is_storable.Goals.{then-total-limit-via-then-total-limit, then-total-limit-via-else-total-limit+then-len-limit}
 

@@ -1,4 +1,4 @@
-use Rattle.std.proofs.Common.{rules, arith}
+use Rattle.std.proofs.Common.{arith}
 use Rattle.seg_build.proofs.Varints.{all_left, less_left, none_left}
 use Rattle.seg_build.proofs.stored.varint_len.Goals as goal
 
