@@ -8,6 +8,8 @@ mod command;
 mod printing;
 mod reporting;
 mod status;
+#[cfg(test)]
+mod tests;
 
 pub use command::run;
 pub use status::Status;
