@@ -41,13 +41,13 @@ fn streams_over(
     })
 }
 
-/// Runs the words over the streams, where `default` may be known.
+/// The number of a run of the words over the streams, where `default` may be known.
 fn run_over(
     alloc: Global,
     words: &[&str],
     streams: &mut Streams,
     knows_default: bool,
-) -> Result<Status, AllocError> {
+) -> Result<u8, AllocError> {
     let mut analyzers = TokenizerManager::new(alloc);
     if knows_default {
         analyzers.register("default", Box::new(alloc, DefaultTokenizer)?)?;
@@ -56,19 +56,22 @@ fn run_over(
     for word in words {
         owned.push(String::from_str(alloc, word)?)?;
     }
-    Ok(run(
+    let status = run(
         alloc,
         &owned,
         &mut streams.source,
         &mut streams.sink,
         &mut streams.faults,
         &analyzers,
-    ))
+    );
+    Ok(status.number())
 }
 
 /// A script of one field `title`.
 fn script_of_titles(alloc: Global, operations: &str) -> Result<String, AllocError> {
-    format!(in alloc; r#"{{"schema": [{{"name": "title", {ENTRY}}}], "operations": [{operations}]}}"#)
+    format!(in alloc;
+        r#"{{"schema": [{{"name": "title", {ENTRY}}}], "operations": [{operations}]}}"#
+    )
 }
 
 /// The text of two segments with so many documents and the same lines.
@@ -109,8 +112,8 @@ fn prints_both_segments(rt: HostRuntime) -> Result<(), Fail> {
         ),
     ] {
         let mut streams = streams_over(alloc, &script, 2000, NEVER, NEVER, NEVER)?;
-        let status = run_over(alloc, &["build"], &mut streams, true)?;
-        assert_eq!(rt; status, Status::Done, "{script}");
+        let number = run_over(alloc, &["build"], &mut streams, true)?;
+        assert_eq!(rt; number, 0, "{script}");
         let text = both_segments(alloc, documents, lines)?;
         assert_eq!(rt; streams.sink.bytes(), text.as_bytes(), "{script}");
         assert!(rt; streams.faults.bytes().is_empty(), "{script}");
@@ -124,22 +127,22 @@ fn refuses_and_says_so(rt: HostRuntime) -> Result<(), Fail> {
     let script = script_of_titles(alloc, "")?;
     let script = script.as_str();
     let unknown = "words: not a known command\n";
-    let table: [(&[&str], bool, &str, Status, &str); 6] = [
-        (&["build"], true, "{}", LATER, "refused: Later\n"),
-        (&["build"], false, script, LATER, "refused: Later\n"),
-        (&["build"], true, "{", Status::Script, "script: not a valid script\n"),
-        (&["show"], true, script, Status::Words, unknown),
-        (&[], true, script, Status::Words, unknown),
-        (&["build", "x"], true, script, Status::Words, unknown),
+    let table: [(&[&str], bool, &str, u8, &str); 6] = [
+        (&["build"], true, "{}", 4, "refused: Later\n"),
+        (&["build"], false, script, 4, "refused: Later\n"),
+        (&["build"], true, "{", 3, "script: not a valid script\n"),
+        (&["show"], true, script, 2, unknown),
+        (&[], true, script, 2, unknown),
+        (&["build", "x"], true, script, 2, unknown),
     ];
     for (words, knows_default, script, expected, line) in table {
         let mut streams = streams_over(alloc, script, 2000, NEVER, NEVER, NEVER)?;
-        let status = run_over(alloc, words, &mut streams, knows_default)?;
-        assert_eq!(rt; status, expected, "{script}");
+        let number = run_over(alloc, words, &mut streams, knows_default)?;
+        assert_eq!(rt; number, expected, "{script}");
         assert!(rt; streams.sink.bytes().is_empty(), "{script}");
         assert_eq!(rt; streams.faults.bytes(), line.as_bytes(), "{script}");
         let left = streams.source.read(&mut [0u8; 2000]);
-        let untouched = if expected == Status::Words { script.len() } else { 0 };
+        let untouched = if expected == 2 { script.len() } else { 0 };
         assert_eq!(rt; left, Ok(untouched), "{script}");
     }
     Ok(())
@@ -160,8 +163,8 @@ fn says_which_stream_failed(rt: HostRuntime) -> Result<(), Fail> {
         (0, NEVER, 0, 2000, 0, ""),
     ] {
         let mut streams = streams_over(alloc, &script, room, at_read, at_write, at_fault)?;
-        let status = run_over(alloc, &["build"], &mut streams, true)?;
-        assert_eq!(rt; status, Status::Stream, "{at_read} {at_write} {room}");
+        let number = run_over(alloc, &["build"], &mut streams, true)?;
+        assert_eq!(rt; number, 8, "{at_read} {at_write} {room}");
         assert!(rt; text.as_bytes().starts_with(streams.sink.bytes()));
         assert_eq!(rt; streams.sink.bytes().len(), written);
         assert_eq!(rt; streams.faults.bytes(), said.as_bytes());
@@ -181,16 +184,56 @@ fn numbers_and_lines(rt: HostRuntime) -> Result<(), Fail> {
         (Status::Stream, 8, "stream: read or write failed\n"),
         (Status::Memory, 9, "memory: not enough\n"),
         (LATER, 4, "refused: Later\n"),
-        (of_schema(SchemaCause::UnknownField { at: 0 }), 4, "refused: UnknownField 0\n"),
-        (of_schema(SchemaCause::WrongValue { at: 3, field }), 4, "refused: WrongValue 3 2\n"),
-        (of_schema(SchemaCause::DeleteField { at: 10 }), 4, "refused: DeleteField 10\n"),
-        (of_schema(SchemaCause::Tokenizer { field: last }), 4, "refused: Tokenizer 4294967295\n"),
-        (of_schema(SchemaCause::DuplicateName), 4, "refused: DuplicateName\n"),
-        (of_argument(ArgumentCause::JsonLeaf { at: 5 }), 4, "refused: JsonLeaf 5\n"),
-        (of_argument(ArgumentCause::JsonKey { at: 6 }), 4, "refused: JsonKey 6\n"),
-        (of_argument(ArgumentCause::Positions { at: 99 }), 4, "refused: Positions 99\n"),
-        (of_argument(ArgumentCause::Limit { at: 7 }), 4, "refused: Limit 7\n"),
-        (of_argument(ArgumentCause::SizeOverflow), 4, "refused: SizeOverflow\n"),
+        (
+            of_schema(SchemaCause::UnknownField { at: 0 }),
+            4,
+            "refused: UnknownField 0\n",
+        ),
+        (
+            of_schema(SchemaCause::WrongValue { at: 3, field }),
+            4,
+            "refused: WrongValue 3 2\n",
+        ),
+        (
+            of_schema(SchemaCause::DeleteField { at: 10 }),
+            4,
+            "refused: DeleteField 10\n",
+        ),
+        (
+            of_schema(SchemaCause::Tokenizer { field: last }),
+            4,
+            "refused: Tokenizer 4294967295\n",
+        ),
+        (
+            of_schema(SchemaCause::DuplicateName),
+            4,
+            "refused: DuplicateName\n",
+        ),
+        (
+            of_argument(ArgumentCause::JsonLeaf { at: 5 }),
+            4,
+            "refused: JsonLeaf 5\n",
+        ),
+        (
+            of_argument(ArgumentCause::JsonKey { at: 6 }),
+            4,
+            "refused: JsonKey 6\n",
+        ),
+        (
+            of_argument(ArgumentCause::Positions { at: 99 }),
+            4,
+            "refused: Positions 99\n",
+        ),
+        (
+            of_argument(ArgumentCause::Limit { at: 7 }),
+            4,
+            "refused: Limit 7\n",
+        ),
+        (
+            of_argument(ArgumentCause::SizeOverflow),
+            4,
+            "refused: SizeOverflow\n",
+        ),
     ] {
         assert_eq!(rt; status.number(), number, "{line}");
         let mut faults = MemorySink::new(alloc, 200, Vec::new(alloc))?;
