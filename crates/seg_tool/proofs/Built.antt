@@ -1,21 +1,19 @@
 -- The documents of a script: when they are taken, and what is printed of them.
-use Rattle.std.proofs.Common.{◌≡◌, ℕ, List, [], ◌∷◌, ◌++◌, map, length, Bool, true, false, ◌&&◌, refl, sym, ap, ◌∙◌, codes}
-use Rattle.std.specs.List.{list_all, AllByRecursion}
+use Rattle.std.proofs.Common.{◌≡◌, ℕ, List, [], ◌∷◌, ◌++◌, map, length, Bool, true, ◌&&◌, refl, sym, ap, ◌∙◌}
+use Rattle.std.specs.List.{list_all}
 use Rattle.std.specs.FinMap.{entries}
 use Rattle.std.proofs.lemmas.Bool.{and_parts}
 use Rattle.std.proofs.lemmas.List.{length-map}
 use Rattle.std.proofs.lemmas.List.FromFn.{length-enumerate_from}
-use Rattle.seg_values.specs.declared.schema.FieldEntry.{FieldEntry}
 use Rattle.seg_values.specs.Tree.{Document}
-use Rattle.seg_model.specs.Built.{is_built_entry, is_built_document, is_taken, are_built}
+use Rattle.seg_model.specs.Built.{is_built_document, is_taken, are_built}
 use Rattle.seg_model.specs.Contents.{reading}
-use Rattle.seg_model.specs.Fields.{Schema, Analyzer, indexing_tokenizer, fields}
+use Rattle.seg_model.specs.Fields.{Schema, Analyzer, fields}
 use Rattle.seg_model.specs.Operations.{additions}
 use Rattle.seg_model.specs.Reading.{Posting, all_terms, field_terms, stored_document}
 use Rattle.seg_script.specs.declared.script.Script.{Script}
 use Rattle.seg_script.specs.Laws.{HoldsTexts}
 use Rattle.seg_text.specs.HeaderText.{header_text}
-use Rattle.seg_text.specs.FieldText.{fields_text}
 use Rattle.seg_text.specs.DocumentText.{documents_text}
 use Rattle.seg_text.specs.SegmentText.{segment_text}
 use Rattle.seg_text.proofs.AllAlive.{segment_text-replicate}

@@ -1,5 +1,5 @@
 -- The text of a cause, by its name and its numbers.
-use Rattle.std.proofs.Common.{◌≡◌, ℕ, List, [], ◌∷◌, ◌++◌, Option, None, Some, append_assoc, ap, sym, refl, ◌∙◌}
+use Rattle.std.proofs.Common.{◌≡◌, ℕ, List, [], ◌∷◌, ◌++◌, Option, append_assoc, ap, sym, refl, ◌∙◌}
 use Rattle.std.specs.Prelude.{option_to_list, decimal}
 use Rattle.seg_tool.specs.Statuses.{CauseWords, numbers_text, cause_text}
 

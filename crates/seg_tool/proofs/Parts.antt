@@ -1,5 +1,5 @@
 -- A text that is written part by part.
-use Rattle.std.proofs.Common.{◌≡◌, ℕ, List, ◌++◌, Option, None, Some, append_assoc, ap, sym, ◌∙◌, arith}
+use Rattle.std.proofs.Common.{ℕ, List, ◌++◌, Option, None, Some, append_assoc, ap, sym, ◌∙◌, arith}
 use Rattle.std.specs.Prelude.{Result, Ok, Err, OnErr}
 use Rattle.std.specs.Io.KnownBytes.{Appends}
 use Rattle.seg_common.specs.Streams.{AppendsPart}

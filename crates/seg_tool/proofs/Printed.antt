@@ -1,12 +1,12 @@
 -- The text of fields and of whole segments.
-use Rattle.std.proofs.Common.{◌≡◌, ℕ, ◌+◌, List, [], ◌∷◌, ◌++◌, map, length, drop, Some, refl, sym, ap, ◌∙◌, append_assoc}
+use Rattle.std.proofs.Common.{◌≡◌, ℕ, ◌+◌, List, [], ◌∷◌, ◌++◌, map, drop, Some, refl, sym, ap, ◌∙◌, append_assoc}
 use Rattle.std.specs.List.{slice_get, flat_map}
 use Rattle.std.specs.Map.{keys_of, values_of}
 use Rattle.std.specs.FinMap.{entries}
 use Rattle.seg_values.specs.declared.schema.FieldEntry.{FieldEntry}
-use Rattle.seg_model.specs.Fields.{Schema, is_indexed}
+use Rattle.seg_model.specs.Fields.{Schema}
 use Rattle.seg_model.specs.Reading.{Posting, Terms}
-use Rattle.seg_text.specs.FieldText.{term_line, field_text, fields_text}
+use Rattle.seg_text.specs.FieldText.{term_line, fields_text}
 use Rattle.seg_tool.specs.Printing.{entry_text, entries_text}
 use Rattle.seg_text.proofs.StoredTexts.{drop-slice_get}
 use Rattle.seg_tool.proofs.Slices.{drop-pair}

@@ -1,4 +1,4 @@
-use Rattle.std.proofs.Common.{◌≡◌, ◌++◌, ◌∙◌, List, ℕ, ap, sym}
+use Rattle.std.proofs.Common.{◌≡◌, ◌++◌, ◌∙◌, ap, sym}
 use Rattle.std.specs.Prelude.{option_to_list}
 use Rattle.seg_tool.specs.Statuses.{cause_words, numbers_text, cause_text}
 use Rattle.seg_tool.proofs.CauseText.{cause_text-parts}
