@@ -21,6 +21,8 @@ mod tokenizer;
 mod tokenizer_manager;
 mod tokenizers;
 mod value;
+#[cfg(test)]
+mod value_tests;
 
 pub use analyzers::Analyzers;
 pub use document::{Documents, TantivyDocument};
@@ -28,7 +30,7 @@ pub use error::{ArgumentCause, SchemaCause, TResult, TantivyError};
 pub use facet::Facet;
 pub use laws::tokens_are_words;
 pub use schema::{Field, FieldEntry, FieldKind, IndexOption, Schema, SchemaBuilder};
-pub use text::{Bytes, Numbers, Text};
+pub use text::{Bytes, Text};
 pub use token::{PreTokenizedString, Token, Tokens};
 pub use tokenizer::Tokenizer;
 pub use tokenizer_manager::TokenizerManager;
