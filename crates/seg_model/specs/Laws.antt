@@ -1,7 +1,11 @@
 -- The laws of the definitions.
-use Rattle.std.specs.Prelude.{Bool, ◌≡◌, List, [], ◌∷◌, ℕ, Some, None, true, false, replicate, map, ◌++◌, length}
+use Rattle.std.specs.Prelude.{Bool, not, ◌≡◌, ◌⊎◌, reverse, List, [], ◌∷◌, ℕ, Some, None, true, false, replicate, map, ◌++◌, length}
 use Rattle.std.specs.List.{flat_map, AllByRecursion}
 use Rattle.std.specs.FinMap.{get}
+use Rattle.std.specs.declared.cmp.Ordering.{Ordering}
+use Rattle.std.specs.declared.cmp.Ordering.TheVariants.{Less}
+use Rattle.std.specs.declared.ops.Bound.{Bound}
+use Rattle.std.specs.declared.ops.Bound.TheVariants.{Included, Excluded}
 use Rattle.seg_values.specs.declared.schema.FieldEntry.{FieldEntry}
 use Rattle.seg_values.specs.Tree.{Document}
 use Rattle.seg_model.specs.Fields.{Schema, Analyzer}
@@ -13,6 +17,8 @@ use Rattle.seg_model.specs.Contents.{Contents, reading_part, reading, full_readi
 use Rattle.seg_model.specs.Join.{Part, join}
 use Rattle.seg_model.specs.Checked.{IsSound}
 use Rattle.seg_model.specs.Shape.{HasFullShape}
+use Rattle.seg_model.specs.SortedTerms.{SortedTerms, TermRange, key_cmp, searched}
+use Rattle.seg_model.specs.Disk.{Files, Disk, IsImage}
 
 -- ---- terms and columns are known by what they answer
 
@@ -122,3 +128,27 @@ JoinsHaveFullShape = (schema : Schema) (ps : List Part) (contents : Contents) �
 -- the full reading of sound documents is of full shape
 abbrev pub ReadingsHaveFullShape : Type 0
 ReadingsHaveFullShape = (schema : Schema) (analyzer : Analyzer) (ds : List Document) (contents : Contents) → AllByRecursion (IsSound schema) ds → full_reading schema analyzer ds ≡ Some contents → HasFullShape schema contents
+
+-- ---- ranges of sorted terms
+
+-- a bound at a key
+abbrev pub IsBoundAt : List ℕ → Bound (List ℕ) → Type 0
+IsBoundAt key bound = (bound ≡ Included key) ⊎ (bound ≡ Excluded key)
+
+-- a range whose upper bound is at a smaller key than its lower one gives nothing
+abbrev pub ReversedBoundsGiveNone : Type 0 → Type 0
+ReversedBoundsGiveNone Info = (terms : SortedTerms Info) (accepts : List ℕ → Bool) (range : TermRange) (low high : List ℕ) → IsBoundAt low range.lower → IsBoundAt high range.upper → key_cmp high low ≡ Less → searched range accepts terms ≡ []
+
+-- backward, a range gives the same terms in reverse
+abbrev pub BackwardIsReverse : Type 0 → Type 0
+BackwardIsReverse Info = (terms : SortedTerms Info) (accepts : List ℕ → Bool) (range : TermRange) → searched (record range { backward = not range.backward }) accepts terms ≡ reverse (searched range accepts terms)
+
+-- ---- images
+
+-- the files that are safe are an image
+abbrev pub StableFilesAreAnImage : {Name : Type 0} → (Name → Name → Ordering) → Type 0
+StableFilesAreAnImage order = (disk : Disk order) → IsImage disk disk.stable
+
+-- with nothing pending each image has at each name what is safe
+abbrev pub SettledDisksHaveOneImage : {Name : Type 0} → (Name → Name → Ordering) → Type 0
+SettledDisksHaveOneImage {Name} order = (disk : Disk order) (files : Files order) → disk.pending ≡ [] → IsImage disk files → (name : Name) → get files name ≡ get disk.stable name

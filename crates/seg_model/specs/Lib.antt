@@ -3,8 +3,11 @@ pub mod Checked
 pub mod Codes
 pub mod Columns
 pub mod Contents
+pub mod Disk
 pub mod Estimate
 pub mod Fields
+pub mod IndexOfFiles
+pub mod Input
 pub mod Join
 pub mod Laws
 pub mod Leaves
@@ -14,6 +17,8 @@ pub mod Operations
 pub mod Reading
 pub mod SelfTold
 pub mod Shape
+pub mod SortedTerms
 pub mod StoredForm
 pub mod Tables
 pub mod Takes
+pub mod Valid

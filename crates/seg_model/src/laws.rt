@@ -1,5 +1,5 @@
 //! Laws of the definitions.
-ghost use Rattle.seg_model.specs.Laws.{TermsAnswer, NoOtherTerms, ColumnsAnswer, NoOtherColumns, MixedNumbersHaveNoColumns, BatchesPlayNoPart, PostingsGrow, ColumnsGrow, AliveSetsMeet, JoiningIsInvisible, JoinsGroupInOrder, JoinsHaveFullShape, ReadingsHaveFullShape, FullReadingsHaveTheReading};
+ghost use Rattle.seg_model.specs.Laws.{TermsAnswer, NoOtherTerms, ColumnsAnswer, NoOtherColumns, MixedNumbersHaveNoColumns, BatchesPlayNoPart, PostingsGrow, ColumnsGrow, AliveSetsMeet, JoiningIsInvisible, JoinsGroupInOrder, JoinsHaveFullShape, ReadingsHaveFullShape, FullReadingsHaveTheReading, ReversedBoundsGiveNone, BackwardIsReverse, StableFilesAreAnImage, SettledDisksHaveOneImage};
 
 /// A term list is known by what it answers at each value bytes.
 pub fn terms_are_known_by_their_answers()
@@ -53,4 +53,16 @@ pub fn contents_grow_by_documents()
 /// What alive sets share does not depend on their order or grouping.
 pub fn alive_sets_meet()
     ensures { AliveSetsMeet }
+{}
+
+/// Reversed bounds give no terms, and a range gives the same terms backward as forward.
+pub fn ranges_of_sorted_terms<Info>()
+    ensures reversed { ReversedBoundsGiveNone Info }
+    ensures backward { BackwardIsReverse Info }
+{}
+
+/// What is safe on a disk is an image of it, and the only one where nothing is pending.
+pub fn images_of_a_disk<Name: Ord>()
+    ensures stable { StableFilesAreAnImage Name.cmp }
+    ensures settled { SettledDisksHaveOneImage Name.cmp }
 {}
