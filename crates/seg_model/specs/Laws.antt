@@ -1,5 +1,5 @@
 -- The laws of the definitions.
-use Rattle.std.specs.Prelude.{Bool, not, ◌≡◌, ◌⊎◌, reverse, List, [], ◌∷◌, ℕ, Some, None, true, false, replicate, map, ◌++◌, length}
+use Rattle.std.specs.Prelude.{Bool, not, ◌≡◌, ◌⊎◌, ◌↔◌, reverse, List, [], ◌∷◌, ℕ, Some, None, true, false, replicate, map, ◌++◌, length}
 use Rattle.std.specs.List.{flat_map, AllByRecursion}
 use Rattle.std.specs.FinMap.{get}
 use Rattle.std.specs.declared.cmp.Ordering.{Ordering}
@@ -17,7 +17,7 @@ use Rattle.seg_model.specs.Contents.{Contents, reading_part, reading, full_readi
 use Rattle.seg_model.specs.Join.{Part, join}
 use Rattle.seg_model.specs.Checked.{IsSound}
 use Rattle.seg_model.specs.Shape.{HasFullShape}
-use Rattle.seg_model.specs.SortedTerms.{SortedTerms, TermRange, key_cmp, searched}
+use Rattle.seg_model.specs.SortedTerms.{SortedTerms, TermRange, key_cmp, term_ord, term_at, searched}
 use Rattle.seg_model.specs.Disk.{Files, Disk, IsImage}
 
 -- ---- terms and columns are known by what they answer
@@ -130,6 +130,10 @@ abbrev pub ReadingsHaveFullShape : Type 0
 ReadingsHaveFullShape = (schema : Schema) (analyzer : Analyzer) (ds : List Document) (contents : Contents) → AllByRecursion (IsSound schema) ds → full_reading schema analyzer ds ≡ Some contents → HasFullShape schema contents
 
 -- ---- ranges of sorted terms
+
+-- a key has an ordinal exactly where it stands there
+abbrev pub OrdinalsArePlaces : Type 0 → Type 0
+OrdinalsArePlaces Info = (terms : SortedTerms Info) (key : List ℕ) (ord : ℕ) → (term_ord terms key ≡ Some ord) ↔ (term_at terms ord ≡ Some key)
 
 -- a bound at a key
 abbrev pub IsBoundAt : List ℕ → Bound (List ℕ) → Type 0

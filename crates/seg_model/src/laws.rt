@@ -1,5 +1,5 @@
 //! Laws of the definitions.
-ghost use Rattle.seg_model.specs.Laws.{TermsAnswer, NoOtherTerms, ColumnsAnswer, NoOtherColumns, MixedNumbersHaveNoColumns, BatchesPlayNoPart, PostingsGrow, ColumnsGrow, AliveSetsMeet, JoiningIsInvisible, JoinsGroupInOrder, JoinsHaveFullShape, ReadingsHaveFullShape, FullReadingsHaveTheReading, ReversedBoundsGiveNone, BackwardIsReverse, StableFilesAreAnImage, SettledDisksHaveOneImage};
+ghost use Rattle.seg_model.specs.Laws.{TermsAnswer, NoOtherTerms, ColumnsAnswer, NoOtherColumns, MixedNumbersHaveNoColumns, BatchesPlayNoPart, PostingsGrow, ColumnsGrow, AliveSetsMeet, JoiningIsInvisible, JoinsGroupInOrder, JoinsHaveFullShape, ReadingsHaveFullShape, FullReadingsHaveTheReading, OrdinalsArePlaces, ReversedBoundsGiveNone, BackwardIsReverse, StableFilesAreAnImage, SettledDisksHaveOneImage};
 
 /// A term list is known by what it answers at each value bytes.
 pub fn terms_are_known_by_their_answers()
@@ -55,8 +55,9 @@ pub fn alive_sets_meet()
     ensures { AliveSetsMeet }
 {}
 
-/// Reversed bounds give no terms, and a range gives the same terms backward as forward.
+/// Ordinals are the places of keys; reversed bounds give no terms; and a range gives the same terms backward as forward.
 pub fn ranges_of_sorted_terms<Info>()
+    ensures ordinals { OrdinalsArePlaces Info }
     ensures reversed { ReversedBoundsGiveNone Info }
     ensures backward { BackwardIsReverse Info }
 {}
