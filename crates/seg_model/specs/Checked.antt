@@ -1,13 +1,14 @@
 -- The check of a document that is to be added: four passes over its pairs, of which the first that finds something answers.
-use Rattle.std.specs.Prelude.{ℕ, ◌+◌, ◌^◌, List, [], ◌∷◌, map, length, Option, Some, None, Bool, true, false, ◌&&◌, ◌||◌, ◌==◌, nat_le, nat_lt, if◌then◌else◌, IsUtf8, ◌≡◌}
+use Rattle.std.specs.Prelude.{ℕ, ◌+◌, ◌^◌, List, [], ◌∷◌, map, filter, length, Option, Some, None, Bool, true, false, ◌&&◌, ◌||◌, ◌==◌, nat_le, nat_lt, if◌then◌else◌, IsUtf8, ◌≡◌}
 use Rattle.std.specs.List.{slice_get, list_all, flat_map, AllByRecursion}
+use Rattle.std.specs.Str.{bytes_eq}
 use Rattle.seg_values.specs.declared.token.Token.{Token}
 use Rattle.seg_values.specs.declared.schema.FieldEntry.{FieldEntry}
 use Rattle.seg_values.specs.declared.schema.FieldKind.{FieldKind}
 use Rattle.seg_values.specs.declared.schema.FieldKind.TheVariants as kinds
 use Rattle.seg_values.specs.Tree.{Leaf, text, pre_tokenized, facet, byte_string, ip, Tree, leaf, array, object, Trees, no_trees, tree, Members, no_members, member, levels, Document}
 use Rattle.seg_model.specs.Fields.{Schema, Analyzer, is_json, is_indexed, indexing_tokenizer, values_of, fields}
-use Rattle.seg_model.specs.Leaves.{leaves, leaves_of, joined_path}
+use Rattle.seg_model.specs.Leaves.{PlacedLeaf, leaves, leaves_of, joined_path}
 use Rattle.seg_model.specs.Takes.{takes}
 use Rattle.seg_model.specs.StoredForm.{stored_form}
 use Rattle.seg_model.specs.Occurrences.{counted, start_after_all, value_tokens, leaf_text, texts_at}
@@ -108,11 +109,19 @@ count_of (tokens ∷ texts) = length (counted tokens) + count_of texts
 abbrev pub texts_fit : List (List Token) → Bool
 texts_fit texts = is_u32 (start_after_all 0 texts) && is_u32 (count_of texts) && is_u32 (length texts)
 
--- the texts of one joined path after another, and those of the field
+-- the leaves of one joined path
+abbrev pub leaves_with_path : Bool → List ℕ → List PlacedLeaf → List PlacedLeaf
+leaves_with_path expand_dots path found = filter (λ p. bytes_eq path (joined_path expand_dots p.keys)) found
+
+-- the texts and the leaves of a joined path
+abbrev pub path_fits : Bool → (List ℕ → List Token) → List PlacedLeaf → List ℕ → Bool
+path_fits expand_dots analyze found path = texts_fit (texts_at expand_dots analyze path found) && is_u32 (length (leaves_with_path expand_dots path found))
+
+-- the texts of a text field; of JSON each joined path, and the tokens of the field
 abbrev pub kind_fits : FieldKind → Bool → (List ℕ → List Token) → List Tree → Bool
 kind_fits kinds.Text expand_dots analyze values = texts_fit (map (value_tokens analyze) values)
 kind_fits kinds.Json expand_dots analyze values =
-    list_all (λ p. texts_fit (texts_at expand_dots analyze (joined_path expand_dots p.keys) (leaves_of values))) (leaves_of values)
+    list_all (λ p. path_fits expand_dots analyze (leaves_of values) (joined_path expand_dots p.keys)) (leaves_of values)
     && is_u32 (count_of (flat_map (value_texts kinds.Json analyze) values))
 kind_fits _ expand_dots analyze values = true
 
