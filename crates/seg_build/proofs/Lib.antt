@@ -12,5 +12,4 @@ pub mod Running
 pub mod Sorting
 pub mod Storing
 pub mod Turns
-pub mod Varints
 pub mod Whole

@@ -36,11 +36,10 @@ impl TokenizerManager {
 
     /// Gives a name a tokenizer, in place of the one that it had.
     pub fn register(&mut self, name: &str, tokenizer: Box<dyn Tokenizer>) -> Result<(), AllocError>
-        ensures ok { OnOk result (Registers (⟦<TokenizerManager as Analyzers>⟧.knows self.old) (⟦<TokenizerManager as Analyzers>⟧.knows self.new)
-            (⟦<TokenizerManager as Analyzers>⟧.tokens_of self.old) (⟦<TokenizerManager as Analyzers>⟧.tokens_of self.new)
-            name.now ((Tokenizer-box tokenizer).tokens_of tokenizer.value)) }
-        ensures err { OnErr result (KeepsRegistered (⟦<TokenizerManager as Analyzers>⟧.knows self.old) (⟦<TokenizerManager as Analyzers>⟧.knows self.new)
-            (⟦<TokenizerManager as Analyzers>⟧.tokens_of self.old) (⟦<TokenizerManager as Analyzers>⟧.tokens_of self.new)) }
+        ensures ok { let analyzers = ⟦<TokenizerManager as Analyzers>⟧ in
+            OnOk result (Registers (analyzers.knows self.old) (analyzers.knows self.new) (analyzers.tokens_of self.old) (analyzers.tokens_of self.new) name.now ((Tokenizer-box tokenizer).tokens_of tokenizer.value)) }
+        ensures err { let analyzers = ⟦<TokenizerManager as Analyzers>⟧ in
+            OnErr result (KeepsRegistered (analyzers.knows self.old) (analyzers.knows self.new) (analyzers.tokens_of self.old) (analyzers.tokens_of self.new)) }
     {
         match place_of(&self.tokenizers, name) {
             Some(place) => self.tokenizers[place].value = tokenizer,
