@@ -32,18 +32,21 @@ abbrev pub first_refusal : {X : Type 0} → (X → Option Refusal) → List X �
 first_refusal f [] = None
 first_refusal f (x ∷ xs) = or_else (f x) (first_refusal f xs)
 
+-- a refusal where a test fails
 abbrev pub unless : Bool → Refusal → Option Refusal
 unless true r = None
 unless false r = Some r
 
 -- ---- the first pass: fields, and the trees that they take
 
+-- the refusal of a value of a field: there is no such field, or the field does not take it
 abbrev pub value_refusal : ℕ → Tree → Option FieldEntry → Option Refusal
 value_refusal field t None = Some unknown_field
 value_refusal field t (Some entry) = unless (takes entry t) (wrong_value field)
 
 -- ---- the second pass: the leaves and keys of JSON fields
 
+-- a leaf that a JSON field may have: none of facets, bytes, addresses and pre-tokenized texts
 abbrev pub is_json_leaf : Leaf → Bool
 is_json_leaf (pre_tokenized p) = false
 is_json_leaf (facet s) = false
@@ -51,6 +54,7 @@ is_json_leaf (byte_string b) = false
 is_json_leaf (ip a) = false
 is_json_leaf _ = true
 
+-- no byte is 0
 abbrev pub has_no_zero : List ℕ → Bool
 has_no_zero [] = true
 has_no_zero (b ∷ bs) = if b == 0 then false else has_no_zero bs
@@ -74,12 +78,14 @@ abbrev mutual
 abbrev pub is_checked_json : FieldEntry → Bool
 is_checked_json entry = is_json entry.kind && (is_indexed entry || entry.fast)
 
+-- the refusal of a value of a field, where that is a JSON field that is indexed or fast
 abbrev pub json_refusal : Tree → Option FieldEntry → Option Refusal
 json_refusal t None = None
 json_refusal t (Some entry) = if is_checked_json entry then tree_refusal t else None
 
 -- ---- the third pass: positions in indexed texts
 
+-- positions never decrease
 abbrev pub is_rising : List Token → Bool
 is_rising [] = true
 is_rising (t ∷ []) = true
@@ -91,6 +97,7 @@ value_texts kinds.Text analyze t = value_tokens analyze t ∷ []
 value_texts kinds.Json analyze t = flat_map (λ p. map analyze (leaf_text p.leaf)) (leaves t)
 value_texts _ analyze t = []
 
+-- the refusal of a value of a field, where that is indexed and the positions in one of its texts decrease
 abbrev pub positions_refusal : Analyzer → Tree → Option FieldEntry → Option Refusal
 positions_refusal analyzer t None = None
 positions_refusal analyzer t (Some entry) =
@@ -98,9 +105,11 @@ positions_refusal analyzer t (Some entry) =
 
 -- ---- the fourth pass: limits
 
+-- a number below 2^32
 abbrev pub is_u32 : ℕ → Bool
 is_u32 n = nat_lt n (2 ^ 32)
 
+-- how many tokens of some texts are counted
 abbrev pub count_of : List (List Token) → ℕ
 count_of [] = 0
 count_of (tokens ∷ texts) = length (counted tokens) + count_of texts
@@ -125,6 +134,7 @@ kind_fits kinds.Json expand_dots analyze values =
     && is_u32 (count_of (flat_map (value_texts kinds.Json analyze) values))
 kind_fits _ expand_dots analyze values = true
 
+-- the values of an indexed field are within the limits
 abbrev pub field_fits : Analyzer → Document → ℕ × FieldEntry → Bool
 field_fits analyzer document f =
     if is_indexed f.1 then is_u32 (length (values_of f.0 document)) && kind_fits f.1.kind f.1.expand_dots (analyzer (indexing_tokenizer f.1)) (values_of f.0 document) else true
@@ -136,15 +146,19 @@ is_within_limits schema analyzer document =
 
 -- ---- all passes
 
+-- the first pass
 abbrev pub fields_refusal : Schema → Document → Option Refusal
 fields_refusal schema document = first_refusal (λ p. value_refusal p.0 p.1 (slice_get schema p.0)) document
 
+-- the second pass
 abbrev pub leaves_refusal : Schema → Document → Option Refusal
 leaves_refusal schema document = first_refusal (λ p. json_refusal p.1 (slice_get schema p.0)) document
 
+-- the third pass
 abbrev pub order_refusal : Schema → Analyzer → Document → Option Refusal
 order_refusal schema analyzer document = first_refusal (λ p. positions_refusal analyzer p.1 (slice_get schema p.0)) document
 
+-- the fourth pass
 abbrev pub limit_refusal : Schema → Analyzer → Document → Option Refusal
 limit_refusal schema analyzer document = unless (is_within_limits schema analyzer document) past_limit
 

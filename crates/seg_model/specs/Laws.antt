@@ -106,6 +106,7 @@ FullReadingsHaveTheReading = (schema : Schema) (analyzer : Analyzer) (ds : List 
 abbrev pub whole : Contents → Part
 whole contents = record { contents = contents; alive = replicate contents.documents true }
 
+-- parts whose contents all have full shape
 abbrev pub AreOfFullShape : Schema → List Part → Type 0
 AreOfFullShape schema [] = Unit {0}
 AreOfFullShape schema (p ∷ ps) = HasFullShape schema p.contents × AreOfFullShape schema ps

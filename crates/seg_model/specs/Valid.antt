@@ -28,6 +28,7 @@ pub data InputRefusal : Type 0 where
 
 -- ---- the list of operations and how it is cut
 
+-- no number is below the one before it
 abbrev pub never_falls : List ℕ → Bool
 never_falls [] = true
 never_falls (n ∷ []) = true
@@ -53,6 +54,7 @@ filters_fit [] (batch ∷ batches) = false
 filters_fit (filter ∷ filters) [] = false
 filters_fit (filter ∷ filters) (batch ∷ batches) = filter_fits filter batch && filters_fit filters batches
 
+-- no number stands twice
 abbrev pub are_distinct : List ℕ → Bool
 are_distinct [] = true
 are_distinct (n ∷ ns) = not (list_any (nat_eq n) ns) && are_distinct ns
@@ -67,6 +69,7 @@ ids_fit cuts ids = (length ids == length cuts + 2) && are_distinct ids
 abbrev pub names_fit : Schema → Bool
 names_fit schema = list_all (λ (e : FieldEntry). list_all (λ b. nat_lt 1 b) e.name) schema
 
+-- the only compression that a store is written with
 abbrev pub is_uncompressed : Compression → Bool
 is_uncompressed uncompressed = true
 is_uncompressed _ = false
@@ -102,6 +105,7 @@ unindexed_delete_of schema operations = position (is_unindexed_delete schema) op
 
 -- ---- all tests, in their order
 
+-- a refusal where a test fails
 abbrev pub refused_unless : Bool → InputRefusal → Option InputRefusal
 refused_unless true refusal = None
 refused_unless false refusal = Some refusal
