@@ -74,7 +74,7 @@ abbrev pub is_uncompressed : Compression → Bool
 is_uncompressed uncompressed = true
 is_uncompressed _ = false
 
--- stored documents are not compressed, and by no thread of its own
+-- stored documents are not compressed, and no thread of its own is asked for
 abbrev pub settings_fit : Settings → Bool
 settings_fit settings = is_uncompressed settings.compression && not settings.dedicated_thread
 
