@@ -15,6 +15,7 @@ pub mod Norms
 pub mod Occurrences
 pub mod Operations
 pub mod Reading
+pub mod Refused
 pub mod SelfTold
 pub mod Shape
 pub mod SortedTerms
