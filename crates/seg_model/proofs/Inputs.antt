@@ -1,18 +1,17 @@
 -- What the tests of inputs answer on literals: a valid input, and one for each refusal.
-use Rattle.std.proofs.Common.{◌≡◌, ℕ, Bool, true, false, List, [], ◌∷◌, Some, None, Option, refl, arith}
+use Rattle.std.proofs.Common.{◌≡◌, ℕ, true, false, List, [], ◌∷◌, Some, None, refl, arith}
 use Rattle.std.specs.Prelude.{codes}
 use Rattle.std.specs.Str.{bytes_eq}
-use Rattle.seg_values.specs.declared.token.Token.{Token}
 use Rattle.seg_values.specs.declared.schema.FieldEntry.{FieldEntry}
 use Rattle.seg_values.specs.declared.schema.FieldKind.TheVariants.{Text}
 use Rattle.seg_values.specs.declared.schema.IndexOption.TheVariants.{No, Positions}
 use Rattle.seg_common.specs.declared.date.DateTimePrecision.TheVariants.{Seconds}
 use Rattle.seg_common.specs.Varint.{varint_within}
-use Rattle.seg_values.specs.Tree.{text, leaf, Document}
+use Rattle.seg_values.specs.Tree.{text, leaf}
 use Rattle.seg_model.specs.Fields.{Analyzer}
 use Rattle.seg_model.specs.Operations.{Operation, add, delete, delete_all, TermKey}
-use Rattle.seg_model.specs.Input.{Input, Settings, uncompressed, lz4}
-use Rattle.seg_model.specs.Valid.{Known, InputRefusal, bad_cuts, bad_filters, bad_segment_ids, bad_field_name, unsupported_settings, unknown_tokenizer, unknown_fast_tokenizer, unindexed_delete, input_refusal, IsValid}
+use Rattle.seg_model.specs.Input.{Input, uncompressed, lz4}
+use Rattle.seg_model.specs.Valid.{Known, bad_cuts, bad_filters, bad_segment_ids, bad_field_name, unsupported_settings, unknown_tokenizer, unknown_fast_tokenizer, unindexed_delete, input_refusal, IsValid}
 
 -- the whole text is one token
 abbrev analyzer : Analyzer

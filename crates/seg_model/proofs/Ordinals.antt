@@ -1,5 +1,5 @@
 -- A key has the ordinal at which it stands, and no other.
-use Rattle.std.proofs.Common.{◌≡◌, ◌↔◌, ℕ, zero, suc, ◌+◌, ◌<◌, Bool, true, false, cond, not, T, nat_lt, List, [], ◌∷◌, map, length, get_or, Some, None, Option, sym, refl, ap, ◌∙◌, subst, arith}
+use Rattle.std.proofs.Common.{◌≡◌, ℕ, zero, suc, ◌+◌, ◌<◌, Bool, true, false, cond, not, T, nat_lt, List, [], ◌∷◌, map, length, get_or, Some, None, sym, refl, ap, ◌∙◌, arith}
 use mathlib.Core.Bool.{true≢false}
 use Rattle.std.specs.Prelude.{is_some, unwrap_or, position, slice_get, ◌&&◌}
 use Rattle.std.specs.List.{position_or_len}
@@ -15,7 +15,7 @@ use Rattle.std.proofs.lemmas.Map.Text.{is_eq-slice_cmp}
 use Rattle.std.proofs.lemmas.Option.{slice_get-get_or, slice_get_within}
 use Rattle.std.proofs.lemmas.List.Quantifiers.{position-Some}
 use Rattle.std.proofs.lemmas.Bool.Decides.{nat_tests}
-use Rattle.seg_model.specs.SortedTerms.{SortedTerms, key_cmp, term_ord, term_at}
+use Rattle.seg_model.specs.SortedTerms.{key_cmp}
 use Rattle.seg_model.specs.Laws.{OrdinalsArePlaces}
 
 stands_there : (ks : List (List ℕ)) (key : List ℕ) (ord : ℕ) → position (bytes_eq key) ks ≡ Some ord → slice_get ks ord ≡ Some key

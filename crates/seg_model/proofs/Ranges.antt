@@ -1,13 +1,12 @@
 -- Between reversed bounds there is no key.
-use Rattle.std.proofs.Common.{◌≡◌, ◌⊎◌, inl, inr, ℕ, Bool, true, false, cond, ◌&&◌, List, [], ◌∷◌, reverse, filter, sym, refl, ap, ◌∙◌, subst}
+use Rattle.std.proofs.Common.{◌≡◌, ◌⊎◌, inl, inr, ℕ, Bool, true, false, cond, ◌&&◌, List, [], ◌∷◌, filter, sym, refl, ap, ◌∙◌}
 use mathlib.Core.Bool.{true≢false}
-use Rattle.std.specs.Ordering.{nat_cmp, is_lt, is_le, ordering_reverse}
+use Rattle.std.specs.Ordering.{is_lt, is_le, ordering_reverse}
 use Rattle.std.specs.declared.cmp.Ordering.{Ordering}
 use Rattle.std.specs.declared.cmp.Ordering.TheVariants.{Less, Equal, Greater}
 use Rattle.std.specs.Cmp.Lexicographic.{nat_list_cmp_total}
 use Rattle.std.specs.declared.ops.Bound.{Bound}
-use Rattle.std.specs.declared.ops.Bound.TheVariants.{Included, Excluded}
-use Rattle.seg_model.specs.SortedTerms.{SortedTerms, TermRange, RankedTerm, key_cmp, is_from, is_up_to, is_within, in_direction, ranked, searched}
+use Rattle.seg_model.specs.SortedTerms.{TermRange, RankedTerm, key_cmp, is_from, is_up_to, is_within, in_direction, ranked}
 use Rattle.seg_model.specs.Laws.{IsBoundAt, ReversedBoundsGiveNone}
 
 le_cases : (o : Ordering) → is_le o ≡ true → (o ≡ Less) ⊎ (o ≡ Equal)

@@ -1,5 +1,5 @@
 -- What is indexed so far: stored texts with their positions. What lies outside of this is refused as not built yet.
-use Rattle.std.specs.Prelude.{ℕ, List, length, Bool, true, false, ◌&&◌, nat_lt, is_none}
+use Rattle.std.specs.Prelude.{List, length, Bool, true, false, ◌&&◌, nat_lt, is_none}
 use Rattle.std.specs.List.{list_all}
 use Rattle.seg_values.specs.declared.schema.FieldEntry.{FieldEntry}
 use Rattle.seg_values.specs.declared.schema.IndexOption.{IndexOption}

@@ -1,5 +1,5 @@
 -- What an index is built from: fields, settings, operations, and how these are cut, filtered and named.
-use Rattle.std.specs.Prelude.{ℕ, List, Option, Bool, map}
+use Rattle.std.specs.Prelude.{ℕ, List, Option, Bool}
 use Rattle.seg_values.specs.Tree.{Document}
 use Rattle.seg_model.specs.Fields.{Schema, Analyzer}
 use Rattle.seg_model.specs.Operations.{Operation, Batch, batches, survivors}

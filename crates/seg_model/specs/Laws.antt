@@ -17,6 +17,9 @@ use Rattle.seg_model.specs.Contents.{Contents, reading_part, reading, full_readi
 use Rattle.seg_model.specs.Join.{Part, join}
 use Rattle.seg_model.specs.Checked.{IsSound}
 use Rattle.seg_model.specs.Shape.{HasFullShape}
+use Rattle.seg_model.specs.Input.{Input}
+use Rattle.seg_model.specs.Valid.{Known, IsValid}
+use Rattle.seg_model.specs.Refused.{build_refusal}
 use Rattle.seg_model.specs.SortedTerms.{SortedTerms, TermRange, key_cmp, term_ord, term_at, searched}
 use Rattle.seg_model.specs.Disk.{Files, Disk, IsImage}
 
@@ -77,6 +80,12 @@ pub record AliveSetsMeet : Type 0 where
 -- what is alive in the end does not depend on how the operations are cut
 abbrev pub BatchesPlayNoPart : Type 0
 BatchesPlayNoPart = (schema : Schema) (analyzer : Analyzer) (cuts : List ℕ) (operations : List Operation) → flat_map live (batches schema analyzer cuts operations) ≡ flat_map live (batches schema analyzer [] operations)
+
+-- ---- valid inputs
+
+-- an input is valid exactly where nothing refuses it
+abbrev pub ValidInputsAreNotRefused : Type 0
+ValidInputsAreNotRefused = (known : Known) (analyzer : Analyzer) (input : Input) → IsValid known analyzer input ↔ (build_refusal known analyzer input ≡ None)
 
 -- ---- joining is invisible
 

@@ -1,5 +1,5 @@
 -- Which inputs an index can be built from, and why others are refused: the tests in their order.
-use Rattle.std.specs.Prelude.{ℕ, ◌+◌, ◌^◌, List, [], ◌∷◌, map, length, zip, position, is_some, Option, Some, None, Bool, true, false, not, ◌&&◌, ◌||◌, ◌==◌, ◌≡◌, ◌<◌, nat_eq, nat_le, nat_lt, unwrap_or, if◌then◌else◌}
+use Rattle.std.specs.Prelude.{ℕ, ◌+◌, ◌^◌, List, [], ◌∷◌, length, position, is_some, Option, Some, None, Bool, true, false, not, ◌&&◌, ◌||◌, ◌==◌, ◌≡◌, ◌<◌, nat_eq, nat_le, nat_lt, unwrap_or}
 use Rattle.std.specs.List.{list_any, list_all, slice_get, AllByRecursion}
 use Rattle.std.specs.Option.{option_or, option_map}
 use Rattle.seg_values.specs.declared.schema.FieldEntry.{FieldEntry}
@@ -8,7 +8,7 @@ use Rattle.seg_model.specs.Fields.{Schema, Analyzer, is_text, is_json, is_indexe
 use Rattle.seg_model.specs.Operations.{TermKey, Operation, add, delete, delete_all, Batch, additions}
 use Rattle.seg_model.specs.Checked.{document_refusal}
 use Rattle.seg_model.specs.Columns.{columns}
-use Rattle.seg_model.specs.Input.{Compression, uncompressed, lz4, zstd, Settings, Filter, Input, input_batches, input_survivors}
+use Rattle.seg_model.specs.Input.{Compression, uncompressed, Settings, Filter, Input, input_batches, input_survivors}
 
 -- the names under which an analyzer is known
 abbrev pub Known : Type 0

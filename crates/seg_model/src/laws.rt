@@ -1,5 +1,5 @@
 //! Laws of the definitions.
-ghost use Rattle.seg_model.specs.Laws.{TermsAnswer, NoOtherTerms, ColumnsAnswer, NoOtherColumns, MixedNumbersHaveNoColumns, BatchesPlayNoPart, PostingsGrow, ColumnsGrow, AliveSetsMeet, JoiningIsInvisible, JoinsGroupInOrder, JoinsHaveFullShape, ReadingsHaveFullShape, FullReadingsHaveTheReading, OrdinalsArePlaces, ReversedBoundsGiveNone, BackwardIsReverse, StableFilesAreAnImage, SettledDisksHaveOneImage};
+ghost use Rattle.seg_model.specs.Laws.{TermsAnswer, NoOtherTerms, ColumnsAnswer, NoOtherColumns, MixedNumbersHaveNoColumns, BatchesPlayNoPart, PostingsGrow, ColumnsGrow, AliveSetsMeet, JoiningIsInvisible, JoinsGroupInOrder, JoinsHaveFullShape, ReadingsHaveFullShape, FullReadingsHaveTheReading, OrdinalsArePlaces, ValidInputsAreNotRefused, ReversedBoundsGiveNone, BackwardIsReverse, StableFilesAreAnImage, SettledDisksHaveOneImage};
 
 /// A term list is known by what it answers at each value bytes.
 pub fn terms_are_known_by_their_answers()
@@ -27,6 +27,11 @@ pub fn joins_group_in_order()
 /// What survives does not depend on how the operations are cut in batches.
 pub fn batches_play_no_part()
     ensures { BatchesPlayNoPart }
+{}
+
+/// An index is built of an input exactly where none of the causes of a refusal holds.
+pub fn valid_inputs_are_not_refused()
+    ensures { ValidInputsAreNotRefused }
 {}
 
 /// Parts of full shape join to contents of full shape.
