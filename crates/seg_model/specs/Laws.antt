@@ -20,7 +20,8 @@ use Rattle.seg_model.specs.Shape.{HasFullShape}
 use Rattle.seg_model.specs.Input.{Input}
 use Rattle.seg_model.specs.Valid.{Known, IsValid}
 use Rattle.seg_model.specs.Refused.{build_refusal}
-use Rattle.seg_model.specs.SortedTerms.{SortedTerms, TermRange, key_cmp, term_ord, term_at, searched}
+use Rattle.seg_model.specs.SortedTerms.{SortedTerms, TermRange, RankedTerm, key_cmp, term_ord, term_at, searched}
+use Rattle.seg_model.specs.MergedTerms.{merged_terms, standings_from, if_stands}
 use Rattle.seg_model.specs.Disk.{Files, Disk, IsImage}
 
 -- ---- terms and columns are known by what they answer
@@ -156,6 +157,10 @@ ReversedBoundsGiveNone Info = (terms : SortedTerms Info) (accepts : List ℕ →
 -- backward, a range gives the same terms in reverse
 abbrev pub BackwardIsReverse : Type 0 → Type 0
 BackwardIsReverse Info = (terms : SortedTerms Info) (accepts : List ℕ → Bool) (range : TermRange) → searched (record range { backward = not range.backward }) accepts terms ≡ reverse (searched range accepts terms)
+
+-- merged terms have at each key the segments that have it, in order, and nothing where none has it
+abbrev pub MergedTermsAnswer : Type 0 → Type 0
+MergedTermsAnswer Info = (segments : List (List (RankedTerm Info))) (key : List ℕ) → get (merged_terms segments) key ≡ if_stands (standings_from 0 key segments)
 
 -- ---- images
 

@@ -11,6 +11,7 @@ pub mod Input
 pub mod Join
 pub mod Laws
 pub mod Leaves
+pub mod MergedTerms
 pub mod Norms
 pub mod Occurrences
 pub mod Operations

@@ -1,5 +1,5 @@
 //! Laws of the definitions.
-ghost use Rattle.seg_model.specs.Laws.{TermsAnswer, NoOtherTerms, ColumnsAnswer, NoOtherColumns, MixedNumbersHaveNoColumns, BatchesPlayNoPart, PostingsGrow, ColumnsGrow, AliveSetsMeet, JoiningIsInvisible, JoinsGroupInOrder, JoinsHaveFullShape, ReadingsHaveFullShape, FullReadingsHaveTheReading, OrdinalsArePlaces, ValidInputsAreNotRefused, ReversedBoundsGiveNone, BackwardIsReverse, StableFilesAreAnImage, SettledDisksHaveOneImage};
+ghost use Rattle.seg_model.specs.Laws.{TermsAnswer, NoOtherTerms, ColumnsAnswer, NoOtherColumns, MixedNumbersHaveNoColumns, BatchesPlayNoPart, PostingsGrow, ColumnsGrow, AliveSetsMeet, JoiningIsInvisible, JoinsGroupInOrder, JoinsHaveFullShape, ReadingsHaveFullShape, FullReadingsHaveTheReading, OrdinalsArePlaces, MergedTermsAnswer, ValidInputsAreNotRefused, ReversedBoundsGiveNone, BackwardIsReverse, StableFilesAreAnImage, SettledDisksHaveOneImage};
 
 /// A term list is known by what it answers at each value bytes.
 pub fn terms_are_known_by_their_answers()
@@ -65,6 +65,11 @@ pub fn ranges_of_sorted_terms<Info>()
     ensures ordinals { OrdinalsArePlaces Info }
     ensures reversed { ReversedBoundsGiveNone Info }
     ensures backward { BackwardIsReverse Info }
+{}
+
+/// Merged terms have each key once, with the segments that have it.
+pub fn merged_terms_are_known_by_their_answers<Info>()
+    ensures { MergedTermsAnswer Info }
 {}
 
 /// What is safe on a disk is an image of it, and the only one where nothing is pending.
