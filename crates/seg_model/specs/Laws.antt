@@ -1,7 +1,8 @@
 -- The laws of the definitions.
-use Rattle.std.specs.Prelude.{Bool, not, ◌≡◌, ◌⊎◌, ◌↔◌, reverse, List, [], ◌∷◌, ℕ, Some, None, true, false, replicate, map, ◌++◌, length}
+use Rattle.std.specs.Prelude.{Bool, not, ◌&&◌, ◌||◌, ◌≡◌, ◌⊎◌, ◌↔◌, reverse, Option, List, [], ◌∷◌, ℕ, Some, None, true, false, replicate, map, ◌++◌, length}
 use Rattle.std.specs.List.{flat_map, AllByRecursion}
 use Rattle.std.specs.FinMap.{get}
+use Rattle.std.specs.Ordering.{eq_by_cmp}
 use Rattle.std.specs.declared.cmp.Ordering.{Ordering}
 use Rattle.std.specs.declared.cmp.Ordering.TheVariants.{Less}
 use Rattle.std.specs.declared.ops.Bound.{Bound}
@@ -22,7 +23,7 @@ use Rattle.seg_model.specs.Valid.{Known, IsValid}
 use Rattle.seg_model.specs.Refused.{build_refusal}
 use Rattle.seg_model.specs.SortedTerms.{SortedTerms, TermRange, RankedTerm, key_cmp, term_ord, term_at, searched}
 use Rattle.seg_model.specs.MergedTerms.{merged_terms, standings_from, if_stands}
-use Rattle.seg_model.specs.Disk.{Files, Disk, IsImage}
+use Rattle.seg_model.specs.Disk.{Written, Files, Disk, IsImage, may_leave, may_hold, with_change, is_pending}
 
 -- ---- terms and columns are known by what they answer
 
@@ -168,6 +169,10 @@ MergedTermsAnswer Info = (segments : List (List (RankedTerm Info))) (key : List 
 abbrev pub StableFilesAreAnImage : {Name : Type 0} → (Name → Name → Ordering) → Type 0
 StableFilesAreAnImage order = (disk : Disk order) → IsImage disk disk.stable
 
--- with nothing pending each image has at each name what is safe
-abbrev pub SettledDisksHaveOneImage : {Name : Type 0} → (Name → Name → Ordering) → Type 0
-SettledDisksHaveOneImage {Name} order = (disk : Disk order) (files : Files order) → disk.pending ≡ [] → IsImage disk files → (name : Name) → get files name ≡ get disk.stable name
+-- a name of which no change is pending has in each image what is safe
+abbrev pub UntouchedNamesStay : {Name : Type 0} → (Name → Name → Ordering) → Type 0
+UntouchedNamesStay {Name} order = (disk : Disk order) (files : Files order) (name : Name) → IsImage disk files → is_pending disk name ≡ false → get files name ≡ get disk.stable name
+
+-- one more change lets its own name, and no other, be as the change leaves it
+abbrev pub ChangesLeaveTheirName : {Name : Type 0} → (Name → Name → Ordering) → Type 0
+ChangesLeaveTheirName {Name} order = (disk : Disk order) (changed : Name) (written : Written) (name : Name) (state : Option (List ℕ)) → may_hold (with_change disk changed written) name state ≡ (may_hold disk name state || (eq_by_cmp order changed name && may_leave written state))

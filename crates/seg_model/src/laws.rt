@@ -1,5 +1,5 @@
 //! Laws of the definitions.
-ghost use Rattle.seg_model.specs.Laws.{TermsAnswer, NoOtherTerms, ColumnsAnswer, NoOtherColumns, MixedNumbersHaveNoColumns, BatchesPlayNoPart, PostingsGrow, ColumnsGrow, AliveSetsMeet, JoiningIsInvisible, JoinsGroupInOrder, JoinsHaveFullShape, ReadingsHaveFullShape, FullReadingsHaveTheReading, OrdinalsArePlaces, MergedTermsAnswer, ValidInputsAreNotRefused, ReversedBoundsGiveNone, BackwardIsReverse, StableFilesAreAnImage, SettledDisksHaveOneImage};
+ghost use Rattle.seg_model.specs.Laws.{TermsAnswer, NoOtherTerms, ColumnsAnswer, NoOtherColumns, MixedNumbersHaveNoColumns, BatchesPlayNoPart, PostingsGrow, ColumnsGrow, AliveSetsMeet, JoiningIsInvisible, JoinsGroupInOrder, JoinsHaveFullShape, ReadingsHaveFullShape, FullReadingsHaveTheReading, OrdinalsArePlaces, MergedTermsAnswer, ValidInputsAreNotRefused, ReversedBoundsGiveNone, BackwardIsReverse, StableFilesAreAnImage, UntouchedNamesStay, ChangesLeaveTheirName};
 
 /// A term list is known by what it answers at each value bytes.
 pub fn terms_are_known_by_their_answers()
@@ -72,8 +72,9 @@ pub fn merged_terms_are_known_by_their_answers<Info>()
     ensures { MergedTermsAnswer Info }
 {}
 
-/// What is safe on a disk is an image of it, and the only one where nothing is pending.
+/// What is safe on a disk is an image of it; in each image a name without a pending change is as it is safe, so with nothing pending there is one image; and a change may show at its own name alone.
 pub fn images_of_a_disk<Name: Ord>()
     ensures stable { StableFilesAreAnImage Name.cmp }
-    ensures settled { SettledDisksHaveOneImage Name.cmp }
+    ensures untouched { UntouchedNamesStay Name.cmp }
+    ensures changed { ChangesLeaveTheirName Name.cmp }
 {}
