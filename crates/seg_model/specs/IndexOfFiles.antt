@@ -1,5 +1,5 @@
 -- What the files of a directory read as, for any form of the meta and of the segments' files.
-use Rattle.std.specs.Prelude.{ℕ, ◌≡◌, ◌⊎◌, List, [], ◌∷◌, length, Option, Some, None, Bool, not}
+use Rattle.std.specs.Prelude.{ℕ, ◌≡◌, ◌⊎◌, List, [], ◌∷◌, length, true, Option, Some, None, Bool, not}
 use Rattle.std.specs.List.{count_by, AllByRecursion}
 use Rattle.std.specs.Option.{option_and_then}
 use Rattle.std.specs.declared.cmp.Ordering.{Ordering}
@@ -53,6 +53,14 @@ module _ {Name : Type 0} {order : Name → Name → Ordering} (forms : Forms ord
     pub held : forms.Holds files segment.id schema contents
     pub number : contents.documents ≡ segment.documents
     pub deletes_agree : DeletesAgree segment segment.deletes
+
+  -- the files read so far agree with what the meta lists: with other files beside them they hold contents of so many documents
+  pub record CanBeCompleted (read : Name → Bool) (schema : Schema) (segment : ListedSegment) : Type 0 where
+    pub completed : Files order
+    pub as_read : (name : Name) → read name ≡ true → get completed name ≡ get files name
+    pub contents : Contents
+    pub held : forms.Holds completed segment.id schema contents
+    pub number : contents.documents ≡ segment.documents
 
   -- each segment of an index is whole
   abbrev pub AreWhole : Meta → Type 0
