@@ -8,7 +8,8 @@ use Rattle.seg_model.specs.Fields.{Schema, is_indexed}
 use Rattle.seg_model.specs.Reading.{Posting, Terms}
 use Rattle.seg_text.specs.FieldText.{term_line, field_text, fields_text}
 use Rattle.seg_tool.specs.Printing.{entry_text, entries_text}
-use Rattle.seg_tool.proofs.Slices.{drop-slice_get, drop-pair}
+use Rattle.seg_text.proofs.StoredTexts.{drop-slice_get}
+use Rattle.seg_tool.proofs.Slices.{drop-pair}
 
 -- one term more
 pub terms_more : (before : List ℕ) (terms : List (List ℕ × List Posting)) (i : ℕ) (bytes : List ℕ) (postings : List Posting) → slice_get (keys_of terms) i ≡ Some bytes → slice_get (values_of terms) i ≡ Some postings

@@ -8,18 +8,12 @@ use mathlib.Core.Bool.{true≢false}
 some_is : {X : Type 0} (x y : X) → Some x ≡ Some y → x ≡ y
 some_is x y e = cc
 
--- one item, and those behind it
-pub drop-slice_get : {X : Type 0} (xs : List X) (i : ℕ) (x : X) → slice_get xs i ≡ Some x → drop i xs ≡ x ∷ drop (i + 1) xs
-drop-slice_get [] i x e = absurd (true≢false (sym (ap is_some e)))
-drop-slice_get (y ∷ xs) zero x e = ap (λ z. z ∷ xs) (some_is y x e)
-drop-slice_get (y ∷ xs) (suc i) x e = drop-slice_get xs i x e ∙ ap (λ j. x ∷ drop j xs) (add-one i) ∙ ap (λ j. x ∷ drop j (y ∷ xs)) (sym (add-one (suc i)))
-
--- the same of pairs, whose parts are known one by one
+-- one pair, whose parts are known one by one, and those behind it
 pub drop-pair : {X Y : Type 0} (ps : List (X × Y)) (i : ℕ) (x : X) (y : Y) → slice_get (keys_of ps) i ≡ Some x → slice_get (values_of ps) i ≡ Some y → drop i ps ≡ (x, y) ∷ drop (i + 1) ps
 drop-pair [] i x y e f = absurd (true≢false (sym (ap is_some e)))
 drop-pair (p ∷ ps) zero x y e f = let k : p.0 ≡ x = some_is _ _ e in let v : p.1 ≡ y = some_is _ _ f in λ j. (k j, v j) ∷ ps
 drop-pair (p ∷ ps) (suc i) x y e f = drop-pair ps i x y e f ∙ ap (λ j. (x, y) ∷ drop j ps) (add-one i) ∙ ap (λ j. (x, y) ∷ drop j (p ∷ ps)) (sym (add-one (suc i)))
 
--- the same of an item that is read by its place
+-- one item, read by its place, and those behind it
 pub drop-item : {X : Type 0} (xs : List X) (i : ℕ) (x : X) → i < length xs → x ≡ get_or xs i x → drop i xs ≡ x ∷ drop (i + 1) xs
 drop-item xs i x lt is = drop-cons xs i x lt ∙ ap (λ y. y ∷ drop (suc i) xs) (sym is) ∙ ap (λ j. x ∷ drop j xs) (sym (add-one i))

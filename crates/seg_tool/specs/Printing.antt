@@ -9,7 +9,7 @@ use Rattle.seg_text.specs.FieldText.{field_text}
 abbrev pub entry_text : FieldEntry → List (List ℕ × List Posting) → List ℕ
 entry_text entry terms = if is_indexed entry then field_text entry.name terms else []
 
--- each field of the schema
+-- the indexed fields of a schema, in order
 abbrev pub entries_text : Schema → List (List (List ℕ × List Posting)) → List ℕ
 entries_text [] fields = []
 entries_text (entry ∷ schema) [] = []

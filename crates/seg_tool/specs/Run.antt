@@ -1,5 +1,5 @@
 -- What a run of `build` prints.
-use Rattle.std.specs.Prelude.{ℕ, ◌≡◌, List, [], ◌∷◌, ◌++◌, length, replicate, Bool, true, false, Option, Some, codes, String, string_bytes}
+use Rattle.std.specs.Prelude.{ℕ, ◌≡◌, ◌<◌, ◌≤◌, ◌⊎◌, List, [], ◌∷◌, ◌++◌, length, replicate, Bool, true, false, Option, Some, None, IsSome, codes, String, string_bytes}
 use Rattle.std.specs.declared.alloc.Global.{Global}
 use Rattle.std.specs.Io.KnownBytes.{Appends}
 use Rattle.std.specs.List.{list_all}
@@ -10,7 +10,7 @@ use Rattle.seg_model.specs.Built.{is_taken}
 use Rattle.seg_model.specs.Contents.{reading}
 use Rattle.seg_model.specs.Fields.{Schema, Analyzer}
 use Rattle.seg_model.specs.Operations.{additions}
-use Rattle.seg_script.specs.Script.{script}
+use Rattle.seg_script.specs.Script.{json_of, script}
 use Rattle.seg_script.specs.declared.script.Script.{Script}
 use Rattle.seg_text.specs.SegmentText.{PrintedSegment, segment_text}
 
@@ -23,7 +23,12 @@ is_build (word ∷ other ∷ words) = false
 -- a segment that reads as documents, of which each is alive
 abbrev pub segment : Schema → Analyzer → List ℕ → ℕ → List Document → PrintedSegment
 segment schema analyzer label id documents =
-    record { label = label; id = id; alive = replicate (length documents) true; reading = reading schema analyzer documents }
+    record {
+      label = label;
+      id = id;
+      alive = replicate (length documents) true;
+      reading = reading schema analyzer documents;
+    }
 
 -- the documents of a script as work segment 1, and then as output segment 2
 abbrev pub build_text : Analyzer → Script → List ℕ
@@ -31,15 +36,27 @@ build_text analyzer s =
     segment_text s.schema (segment s.schema analyzer (codes "work") 1 (additions s.operations))
     ++ segment_text s.schema (segment s.schema analyzer (codes "output") 2 (additions s.operations))
 
--- the bytes are a script whose documents pass the check, for analyzers that know `default`
-pub record IsNarrow (knows : Type 0) (analyzer : Analyzer) (bytes : List ℕ) : Type 0 where
+-- the most bytes of a script
+abbrev pub max_script : ℕ
+max_script = 67108864
+
+-- the bytes are a JSON text, and not too many
+abbrev pub IsJson : List ℕ → Type 0
+IsJson bytes = IsSome (json_of bytes) × (length bytes ≤ max_script)
+
+-- the bytes are no JSON text, or too many
+abbrev pub IsNoScript : List ℕ → Type 0
+IsNoScript bytes = (json_of bytes ≡ None) ⊎ (max_script < length bytes)
+
+-- the bytes are a script whose documents pass the check, and `default` is known
+pub record IsNarrow (knows : List ℕ → Type 0) (analyzer : Analyzer) (bytes : List ℕ) : Type 0 where
   pub meant : Script
   pub is_script : script bytes ≡ Some meant
-  pub known : knows
+  pub known : knows (codes "default")
   pub taken : list_all (is_taken meant.schema analyzer) (additions meant.operations) ≡ true
 
--- and this is the text of that script
-pub record IsTextOf (knows : Type 0) (analyzer : Analyzer) (bytes text : List ℕ) : Type 0 where
+-- the bytes are such a script, and this is its text
+pub record IsTextOf (knows : List ℕ → Type 0) (analyzer : Analyzer) (bytes text : List ℕ) : Type 0 where
   pub narrow : IsNarrow knows analyzer bytes
   pub printed : text ≡ build_text analyzer narrow.meant
 

@@ -9,6 +9,7 @@ use Rattle.seg_values.specs.declared.error.ArgumentCause.TheVariants as argument
 use Rattle.seg_tool.specs.declared.status.Status.{Status}
 use Rattle.seg_tool.specs.declared.status.Status.TheVariants.{Done, Words, Script, Refused, Stream, Memory}
 
+-- the number with which the program ends
 abbrev pub number_of : Status → ℕ
 number_of Done = 0
 number_of Words = 2
@@ -27,6 +28,7 @@ pub record CauseWords : Type 0 where
   pub name : List ℕ
   pub numbers : List ℕ
 
+-- a cause of the schema, and its numbers
 abbrev pub schema_cause_words : SchemaCause → CauseWords
 schema_cause_words (UnknownField at) = record { name = codes "UnknownField"; numbers = at ∷ [] }
 schema_cause_words (WrongValue at field) = record { name = codes "WrongValue"; numbers = at ∷ field ∷ [] }
@@ -37,6 +39,7 @@ schema_cause_words NotFacet = record { name = codes "NotFacet"; numbers = [] }
 schema_cause_words NoNorms = record { name = codes "NoNorms"; numbers = [] }
 schema_cause_words NoColumn = record { name = codes "NoColumn"; numbers = [] }
 
+-- a cause of an argument, and its number if it has one
 abbrev pub argument_cause_words : ArgumentCause → CauseWords
 argument_cause_words arguments.Cuts = record { name = codes "Cuts"; numbers = [] }
 argument_cause_words arguments.Batches = record { name = codes "Batches"; numbers = [] }

@@ -19,10 +19,12 @@ pub(crate) fn text<Z: Analyzers>(
     analyzers: &Z,
     bytes: Vec<u8>,
 ) -> Result<Vec<u8>, ScriptError>
-    ensures ok { IfOk result (λ t. IsTextOf (Z.knows analyzers.now (codes "default")) (Z.tokens_of analyzers.now) bytes.items t.items) }
+    ensures ok { IfOk result
+        (λ t. IsTextOf (Z.knows analyzers.now) (Z.tokens_of analyzers.now) bytes.items t.items) }
     ensures not_json { result ≡ Err ScriptError.NotJson → json_of bytes.items ≡ None }
     ensures json { result ≡ Err ScriptError.Later → IsSome (json_of bytes.items) }
-    ensures later { result ≡ Err ScriptError.Later → ¬ (IsNarrow (Z.knows analyzers.now (codes "default")) (Z.tokens_of analyzers.now) bytes.items) }
+    ensures later { result ≡ Err ScriptError.Later
+        → ¬ (IsNarrow (Z.knows analyzers.now) (Z.tokens_of analyzers.now) bytes.items) }
 {
     let script = match read_script(alloc, bytes) {
         Ok(script) => script,
@@ -46,9 +48,11 @@ fn segments_text<Z: Analyzers>(
 ) -> Result<Vec<u8>, IndexError>
     requires known { Z.knows analyzers.now (codes "default") }
     requires texts { HoldsTexts script }
-    ensures taken { OnOk result (list_all (is_taken script.schema (Z.tokens_of analyzers.now)) (additions script.operations) ≡ true) }
+    ensures taken { OnOk result
+        (list_all (is_taken script.schema (Z.tokens_of analyzers.now)) (additions script.operations) ≡ true) }
     ensures text { IfOk result (λ t. t.items ≡ build_text (Z.tokens_of analyzers.now) script) }
-    ensures later { result ≡ Err IndexError.Later → list_all (is_taken script.schema (Z.tokens_of analyzers.now)) (additions script.operations) ≡ false }
+    ensures later { result ≡ Err IndexError.Later
+        → list_all (is_taken script.schema (Z.tokens_of analyzers.now)) (additions script.operations) ≡ false }
 {
     let Script { schema, operations } = script;
     let documents = operations.into_documents(alloc)?;

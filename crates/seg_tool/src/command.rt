@@ -1,10 +1,9 @@
 //! The whole of a run: the words, the source, the sink, and the line on what went wrong.
-ghost use Rattle.std.specs.Prelude.{◌≡◌, ◌≢◌, ◌≤◌, ◌<◌, ◌⊎◌, ◌↔◌, None, false, length, codes, IfOk, IfErr, IfSome, IsErrOf, IsSome, OnOk};
+ghost use Rattle.std.specs.Prelude.{◌≡◌, ◌≢◌, ◌≤◌, ◌+◌, ◌⊎◌, ◌↔◌, false, length, IfOk, IfErr, IfSome, IsErrOf, OnOk};
 ghost use Rattle.std.specs.Io.KnownBytes.{Appends, IsAtEnd};
 ghost use Rattle.seg_common.specs.Causes.{Rose};
 ghost use Rattle.seg_common.specs.Streams.{AppendsPart, TakesAtMost};
-ghost use Rattle.seg_script.specs.Script.{json_of};
-ghost use Rattle.seg_tool.specs.Run.{is_build, IsNarrow, IsTextOf, Gains, GainsPart};
+ghost use Rattle.seg_tool.specs.Run.{is_build, max_script, IsJson, IsNoScript, IsNarrow, IsTextOf, Gains, GainsPart};
 ghost use Rattle.seg_tool.specs.Statuses.{IfRefused, status_line};
 
 use crate::building::text;
@@ -36,24 +35,36 @@ pub fn run<S: Source, K: Sink, F: Sink, Z: Analyzers>(
     ensures words { result ≡ Status.Words ↔ (is_build words.now ≡ false) }
 
     // What each status says of the bytes that the source had left.
-    ensures script { result ≡ Status.Script → IfSome (S.left source.old) (λ bytes. (json_of bytes ≡ None) ⊎ (67108864 < length bytes)) }
+    ensures script { result ≡ Status.Script → IfSome (S.left source.old) IsNoScript }
     ensures refused { IfRefused result (λ e. e ≡ TantivyError.InvalidArgument ArgumentCause.Later) }
-    ensures json { IfRefused result (λ _. IfSome (S.left source.old) (λ bytes. IsSome (json_of bytes) × (length bytes ≤ 67108864))) }
-    ensures later { IfRefused result (λ _. IfSome (S.left source.old) (λ bytes. ¬ (IsNarrow (Z.knows analyzers.now (codes "default")) (Z.tokens_of analyzers.now) bytes))) }
+    ensures json { IfRefused result (λ _. IfSome (S.left source.old) IsJson) }
+    ensures later { IfRefused result (λ _. IfSome (S.left source.old)
+        (λ bytes. ¬ (IsNarrow (Z.knows analyzers.now) (Z.tokens_of analyzers.now) bytes))) }
 
     // What goes to the sink.
-    ensures done { result ≡ Status.Done → IfSome (S.left source.old) (λ bytes. (length bytes ≤ 67108864) × Gains (IsTextOf (Z.knows analyzers.now (codes "default")) (Z.tokens_of analyzers.now) bytes) (K.written sink.old) (K.written sink.new)) }
+    ensures done { result ≡ Status.Done → IfSome (S.left source.old)
+        (λ bytes. (length bytes ≤ max_script)
+        × Gains (IsTextOf (Z.knows analyzers.now) (Z.tokens_of analyzers.now) bytes)
+        (K.written sink.old) (K.written sink.new)) }
     ensures untouched { result ≢ Status.Done → result ≢ Status.Stream → sink.new ≡ sink.old }
-    ensures stream { result ≡ Status.Stream → (Rose (S.faults source.old) (S.faults source.new) × (sink.new ≡ sink.old)) ⊎ (Rose (K.faults sink.old) (K.faults sink.new) × IfSome (S.left source.old) (λ bytes. GainsPart (IsTextOf (Z.knows analyzers.now (codes "default")) (Z.tokens_of analyzers.now) bytes) (K.written sink.old) (K.written sink.new))) }
+    ensures stream { result ≡ Status.Stream →
+        (Rose (S.faults source.old) (S.faults source.new) × (sink.new ≡ sink.old))
+        ⊎ (Rose (K.faults sink.old) (K.faults sink.new) × IfSome (S.left source.old)
+        (λ bytes. GainsPart (IsTextOf (Z.knows analyzers.now) (Z.tokens_of analyzers.now) bytes)
+        (K.written sink.old) (K.written sink.new))) }
 
     // What is taken of the source.
     ensures end { result ≡ Status.Done → IsAtEnd (S.left source.new) }
-    ensures taken { TakesAtMost 67108865 (S.left source.old) (S.left source.new) }
+    ensures end_refused { IfRefused result (λ _. IsAtEnd (S.left source.new)) }
+    ensures taken { TakesAtMost (max_script + 1) (S.left source.old) (S.left source.new) }
     ensures unread { result ≡ Status.Words → source.new ≡ source.old }
 
     // What is said of the status.
     ensures quiet { result ≡ Status.Done → faults.new ≡ faults.old }
-    ensures said { result ≢ Status.Done → Appends (F.written faults.old) (F.written faults.new) (status_line result) ⊎ (Rose (F.faults faults.old) (F.faults faults.new) × AppendsPart (F.written faults.old) (F.written faults.new) (status_line result)) }
+    ensures said { result ≢ Status.Done →
+        Appends (F.written faults.old) (F.written faults.new) (status_line result)
+        ⊎ (Rose (F.faults faults.old) (F.faults faults.new)
+        × AppendsPart (F.written faults.old) (F.written faults.new) (status_line result)) }
 
     ensures count { S.faults source.old ≤ S.faults source.new }
     ensures count_sink { K.faults sink.old ≤ K.faults sink.new }
@@ -75,15 +86,24 @@ fn execute<S: Source, K: Sink, Z: Analyzers>(
     analyzers: &Z,
 ) -> Status
     ensures words { result ≡ Status.Words ↔ (is_build words.now ≡ false) }
-    ensures script { result ≡ Status.Script → IfSome (S.left source.old) (λ bytes. (json_of bytes ≡ None) ⊎ (67108864 < length bytes)) }
+    ensures script { result ≡ Status.Script → IfSome (S.left source.old) IsNoScript }
     ensures refused { IfRefused result (λ e. e ≡ TantivyError.InvalidArgument ArgumentCause.Later) }
-    ensures json { IfRefused result (λ _. IfSome (S.left source.old) (λ bytes. IsSome (json_of bytes) × (length bytes ≤ 67108864))) }
-    ensures later { IfRefused result (λ _. IfSome (S.left source.old) (λ bytes. ¬ (IsNarrow (Z.knows analyzers.now (codes "default")) (Z.tokens_of analyzers.now) bytes))) }
-    ensures done { result ≡ Status.Done → IfSome (S.left source.old) (λ bytes. (length bytes ≤ 67108864) × Gains (IsTextOf (Z.knows analyzers.now (codes "default")) (Z.tokens_of analyzers.now) bytes) (K.written sink.old) (K.written sink.new)) }
+    ensures json { IfRefused result (λ _. IfSome (S.left source.old) IsJson) }
+    ensures later { IfRefused result (λ _. IfSome (S.left source.old)
+        (λ bytes. ¬ (IsNarrow (Z.knows analyzers.now) (Z.tokens_of analyzers.now) bytes))) }
+    ensures done { result ≡ Status.Done → IfSome (S.left source.old)
+        (λ bytes. (length bytes ≤ max_script)
+        × Gains (IsTextOf (Z.knows analyzers.now) (Z.tokens_of analyzers.now) bytes)
+        (K.written sink.old) (K.written sink.new)) }
     ensures untouched { result ≢ Status.Done → result ≢ Status.Stream → sink.new ≡ sink.old }
-    ensures stream { result ≡ Status.Stream → (Rose (S.faults source.old) (S.faults source.new) × (sink.new ≡ sink.old)) ⊎ (Rose (K.faults sink.old) (K.faults sink.new) × IfSome (S.left source.old) (λ bytes. GainsPart (IsTextOf (Z.knows analyzers.now (codes "default")) (Z.tokens_of analyzers.now) bytes) (K.written sink.old) (K.written sink.new))) }
+    ensures stream { result ≡ Status.Stream →
+        (Rose (S.faults source.old) (S.faults source.new) × (sink.new ≡ sink.old))
+        ⊎ (Rose (K.faults sink.old) (K.faults sink.new) × IfSome (S.left source.old)
+        (λ bytes. GainsPart (IsTextOf (Z.knows analyzers.now) (Z.tokens_of analyzers.now) bytes)
+        (K.written sink.old) (K.written sink.new))) }
     ensures end { result ≡ Status.Done → IsAtEnd (S.left source.new) }
-    ensures taken { TakesAtMost 67108865 (S.left source.old) (S.left source.new) }
+    ensures end_refused { IfRefused result (λ _. IsAtEnd (S.left source.new)) }
+    ensures taken { TakesAtMost (max_script + 1) (S.left source.old) (S.left source.new) }
     ensures unread { result ≡ Status.Words → source.new ≡ source.old }
     ensures count { S.faults source.old ≤ S.faults source.new }
     ensures count_sink { K.faults sink.old ≤ K.faults sink.new }
@@ -106,16 +126,23 @@ fn read_and_build<S: Source, Z: Analyzers>(
     source: &mut S,
     analyzers: &Z,
 ) -> Result<Vec<u8>, Status>
-    ensures ok { IfOk result (λ t. IfSome (S.left source.old) (λ bytes. (length bytes ≤ 67108864) × IsTextOf (Z.knows analyzers.now (codes "default")) (Z.tokens_of analyzers.now) bytes t.items)) }
+    ensures ok { IfOk result (λ t. IfSome (S.left source.old)
+        (λ bytes. (length bytes ≤ max_script)
+        × IsTextOf (Z.knows analyzers.now) (Z.tokens_of analyzers.now) bytes t.items)) }
     ensures end { OnOk result (IsAtEnd (S.left source.new)) }
-    ensures script { IsErrOf result Status.Script → IfSome (S.left source.old) (λ bytes. (json_of bytes ≡ None) ⊎ (67108864 < length bytes)) }
-    ensures refused { IfErr result (λ status. IfRefused status (λ e. e ≡ TantivyError.InvalidArgument ArgumentCause.Later)) }
-    ensures json { IfErr result (λ status. IfRefused status (λ _. IfSome (S.left source.old) (λ bytes. IsSome (json_of bytes) × (length bytes ≤ 67108864)))) }
-    ensures later { IfErr result (λ status. IfRefused status (λ _. IfSome (S.left source.old) (λ bytes. ¬ (IsNarrow (Z.knows analyzers.now (codes "default")) (Z.tokens_of analyzers.now) bytes)))) }
+    ensures end_refused { IfErr result (λ status. IfRefused status
+        (λ _. IsAtEnd (S.left source.new))) }
+    ensures script { IsErrOf result Status.Script → IfSome (S.left source.old) IsNoScript }
+    ensures refused { IfErr result (λ status. IfRefused status
+        (λ e. e ≡ TantivyError.InvalidArgument ArgumentCause.Later)) }
+    ensures json { IfErr result (λ status. IfRefused status
+        (λ _. IfSome (S.left source.old) IsJson)) }
+    ensures later { IfErr result (λ status. IfRefused status (λ _. IfSome (S.left source.old)
+        (λ bytes. ¬ (IsNarrow (Z.knows analyzers.now) (Z.tokens_of analyzers.now) bytes)))) }
     ensures stream { IsErrOf result Status.Stream → Rose (S.faults source.old) (S.faults source.new) }
     ensures never { IsErrOf result Status.Done → ⊥ }
     ensures never_words { IsErrOf result Status.Words → ⊥ }
-    ensures taken { TakesAtMost 67108865 (S.left source.old) (S.left source.new) }
+    ensures taken { TakesAtMost (max_script + 1) (S.left source.old) (S.left source.new) }
     ensures count { S.faults source.old ≤ S.faults source.new }
 {
     let bytes = match read_to_end(alloc, source, MAX_SCRIPT) {

@@ -29,7 +29,10 @@ pub(crate) fn push_segment(
     requires fields { length fields.now ≡ length schema.now }
     requires entries { list_all is_built_entry schema.now ≡ true }
     requires documents { list_all (is_built_document schema.now) documents.now ≡ true }
-    ensures { OnOk result (out.new.items ≡ out.old.items ++ (header_text label.now id (length documents.now) (length documents.now) ++ (entries_text schema.now fields.now ++ documents_text schema.now (map (stored_document schema.now) documents.now)))) }
+    ensures { OnOk result (out.new.items ≡ out.old.items
+        ++ (header_text label.now id (length documents.now) (length documents.now)
+        ++ (entries_text schema.now fields.now
+        ++ documents_text schema.now (map (stored_document schema.now) documents.now)))) }
 {
     push_header(out, label, id, documents.as_slice().len())?;
     push_fields(out, alloc, schema, fields)?;

@@ -10,7 +10,7 @@ use seg_common::{Sink, SinkFailed, write_whole};
 use seg_values::{ArgumentCause, SchemaCause, TantivyError};
 
 /// Says what came of a run in one line. It takes no memory.
-pub fn report<F: Sink>(faults: &mut F, status: &Status) -> Result<(), SinkFailed>
+pub(crate) fn report<F: Sink>(faults: &mut F, status: &Status) -> Result<(), SinkFailed>
     ensures ok { OnOk result (Appends (F.written faults.old) (F.written faults.new) (status_line status.now)) }
     ensures err { OnErr result (AppendsPart (F.written faults.old) (F.written faults.new) (status_line status.now)) }
     ensures told { StaysTold (F.written faults.old) (F.written faults.new) }
@@ -27,8 +27,10 @@ pub fn report<F: Sink>(faults: &mut F, status: &Status) -> Result<(), SinkFailed
 }
 
 fn write_refusal<F: Sink>(faults: &mut F, error: &TantivyError) -> Result<(), SinkFailed>
-    ensures ok { OnOk result (Appends (F.written faults.old) (F.written faults.new) (codes "refused: " ++ (cause_text (cause_words error.now) ++ 10 ∷ []))) }
-    ensures err { OnErr result (AppendsPart (F.written faults.old) (F.written faults.new) (codes "refused: " ++ (cause_text (cause_words error.now) ++ 10 ∷ []))) }
+    ensures ok { OnOk result (Appends (F.written faults.old) (F.written faults.new)
+        (codes "refused: " ++ (cause_text (cause_words error.now) ++ 10 ∷ []))) }
+    ensures err { OnErr result (AppendsPart (F.written faults.old) (F.written faults.new)
+        (codes "refused: " ++ (cause_text (cause_words error.now) ++ 10 ∷ []))) }
     ensures told { StaysTold (F.written faults.old) (F.written faults.new) }
     ensures cause { HasCause (F.faults faults.old) (F.faults faults.new) result }
 {
@@ -51,8 +53,10 @@ fn write_cause<F: Sink>(faults: &mut F, error: &TantivyError) -> Result<(), Sink
 
 /// A number after a space, where there is one.
 fn write_number<F: Sink>(faults: &mut F, number: Option<u64>) -> Result<(), SinkFailed>
-    ensures ok { OnOk result (Appends (F.written faults.old) (F.written faults.new) (numbers_text (option_to_list number))) }
-    ensures err { OnErr result (AppendsPart (F.written faults.old) (F.written faults.new) (numbers_text (option_to_list number))) }
+    ensures ok { OnOk result (Appends (F.written faults.old) (F.written faults.new)
+        (numbers_text (option_to_list number))) }
+    ensures err { OnErr result (AppendsPart (F.written faults.old) (F.written faults.new)
+        (numbers_text (option_to_list number))) }
     ensures told { StaysTold (F.written faults.old) (F.written faults.new) }
     ensures cause { HasCause (F.faults faults.old) (F.faults faults.new) result }
 {

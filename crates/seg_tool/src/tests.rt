@@ -1,0 +1,252 @@
+//! Whole runs over memory, against texts that were worked out by hand.
+
+use crate::reporting::report;
+use crate::{Status, run};
+use seg_common::{MemorySink, MemorySource, Source};
+use seg_values::{
+    ArgumentCause, DefaultTokenizer, Field, SchemaCause, TantivyError, TokenizerManager,
+};
+use std::alloc::{AllocError, Global};
+use std::test::Fail;
+
+const ENTRY: &str =
+    r#""kind": "text", "stored": true, "index": "positions", "tokenizer": "default""#;
+
+const LATER: Status = Status::Refused(TantivyError::InvalidArgument(ArgumentCause::Later));
+
+/// A call that no run comes to.
+const NEVER: u64 = u64::MAX;
+
+/// What is read, and where the text and the line on its status go.
+#[derive(Drop)]
+struct Streams {
+    source: MemorySource,
+    sink: MemorySink,
+    faults: MemorySink,
+}
+
+/// Streams of which each fails at one call; the sink has room for so many bytes.
+fn streams_over(
+    alloc: Global,
+    script: &str,
+    room: usize,
+    at_read: u64,
+    at_write: u64,
+    at_fault: u64,
+) -> Result<Streams, AllocError> {
+    Ok(Streams {
+        source: MemorySource::new(alloc, script.as_bytes(), vec![in alloc; at_read]?)?,
+        sink: MemorySink::new(alloc, room, vec![in alloc; at_write]?)?,
+        faults: MemorySink::new(alloc, 200, vec![in alloc; at_fault]?)?,
+    })
+}
+
+/// The number of a run of the words over the streams, where `default` may be known.
+fn run_over(
+    alloc: Global,
+    words: &[&str],
+    streams: &mut Streams,
+    knows_default: bool,
+) -> Result<u8, AllocError> {
+    let mut analyzers = TokenizerManager::new(alloc);
+    if knows_default {
+        analyzers.register("default", Box::new(alloc, DefaultTokenizer)?)?;
+    }
+    let mut owned = Vec::new(alloc);
+    for word in words {
+        owned.push(String::from_str(alloc, word)?)?;
+    }
+    let status = run(
+        alloc,
+        &owned,
+        &mut streams.source,
+        &mut streams.sink,
+        &mut streams.faults,
+        &analyzers,
+    );
+    Ok(status.number())
+}
+
+/// A script of one field `title`.
+fn script_of_titles(alloc: Global, operations: &str) -> Result<String, AllocError> {
+    format!(in alloc;
+        r#"{{"schema": [{{"name": "title", {ENTRY}}}], "operations": [{operations}]}}"#
+    )
+}
+
+/// The text of two segments with so many documents and the same lines.
+fn both_segments(alloc: Global, documents: usize, lines: &str) -> Result<String, AllocError> {
+    format!(in alloc;
+        "work 00000000000000000000000000000001 docs {documents} alive {documents}\n{lines}\
+         output 00000000000000000000000000000002 docs {documents} alive {documents}\n{lines}"
+    )
+}
+
+#[test]
+fn prints_both_segments(rt: HostRuntime) -> Result<(), Fail> {
+    let alloc = rt.alloc();
+    let two_fields = format!(in alloc;
+        r#"{{"schema": [{{"name": "a \"b\"\n", {ENTRY}}}, {{"name": "title", {ENTRY}}}], "operations": [
+            {{"add": [["title", "ÄÖ日本 Zz9"], ["title", " .,\\"], ["title", ""], ["title", "x"]]}},
+            {{"add": []}},
+            {{"add": [["a \"b\"\n", "x\ty"]]}}
+        ]}}"#
+    )?;
+    for (script, documents, lines) in [
+        (script_of_titles(alloc, "")?, 0, "field \"title\" terms 0\n"),
+        (
+            script_of_titles(alloc, r#"{"add": [["title", "a b"], ["title", "c"]]}"#)?,
+            1,
+            "field \"title\" terms 3\na 0x1@0\nb 0x1@1\nc 0x1@3\n\
+             doc 0 [[\"title\",\"a b\"],[\"title\",\"c\"]]\n",
+        ),
+        (
+            two_fields,
+            3,
+            "field \"a \\\"b\\\"\\n\" terms 2\nx 2x1@0\ny 2x1@1\n\
+             field \"title\" terms 3\nx 0x1@5\nzz9 0x1@1\n\
+             \\c3\\84\\c3\\96\\e6\\97\\a5\\e6\\9c\\ac 0x1@0\n\
+             doc 0 [[\"title\",\"ÄÖ日本 Zz9\"],[\"title\",\" .,\\\\\"],[\"title\",\"\"],[\"title\",\"x\"]]\n\
+             doc 1 []\n\
+             doc 2 [[\"a \\\"b\\\"\\n\",\"x\\ty\"]]\n",
+        ),
+    ] {
+        let mut streams = streams_over(alloc, &script, 2000, NEVER, NEVER, NEVER)?;
+        let number = run_over(alloc, &["build"], &mut streams, true)?;
+        assert_eq!(rt; number, 0, "{script}");
+        let text = both_segments(alloc, documents, lines)?;
+        assert_eq!(rt; streams.sink.bytes(), text.as_bytes(), "{script}");
+        assert!(rt; streams.faults.bytes().is_empty(), "{script}");
+    }
+    Ok(())
+}
+
+#[test]
+fn refuses_and_says_so(rt: HostRuntime) -> Result<(), Fail> {
+    let alloc = rt.alloc();
+    let script = script_of_titles(alloc, "")?;
+    let script = script.as_str();
+    let unknown = "words: not a known command\n";
+    let table: [(&[&str], bool, &str, u8, &str); 6] = [
+        (&["build"], true, "{}", 4, "refused: Later\n"),
+        (&["build"], false, script, 4, "refused: Later\n"),
+        (&["build"], true, "{", 3, "script: not a valid script\n"),
+        (&["show"], true, script, 2, unknown),
+        (&[], true, script, 2, unknown),
+        (&["build", "x"], true, script, 2, unknown),
+    ];
+    for (words, knows_default, script, expected, line) in table {
+        let mut streams = streams_over(alloc, script, 2000, NEVER, NEVER, NEVER)?;
+        let number = run_over(alloc, words, &mut streams, knows_default)?;
+        assert_eq!(rt; number, expected, "{script}");
+        assert!(rt; streams.sink.bytes().is_empty(), "{script}");
+        assert_eq!(rt; streams.faults.bytes(), line.as_bytes(), "{script}");
+        let left = streams.source.read(&mut [0u8; 2000]);
+        let untouched = if expected == 2 { script.len() } else { 0 };
+        assert_eq!(rt; left, Ok(untouched), "{script}");
+    }
+    Ok(())
+}
+
+#[test]
+fn says_which_stream_failed(rt: HostRuntime) -> Result<(), Fail> {
+    let alloc = rt.alloc();
+    let script = script_of_titles(alloc, "")?;
+    let text = both_segments(alloc, 0, "field \"title\" terms 0\n")?;
+    let line = "stream: read or write failed\n";
+    for (at_read, at_write, at_fault, room, written, said) in [
+        (0, NEVER, NEVER, 2000, 0, line),
+        (1, NEVER, NEVER, 2000, 0, line),
+        (NEVER, 0, NEVER, 2000, 0, line),
+        (NEVER, NEVER, NEVER, 10, 10, line),
+        (NEVER, 1, NEVER, 50, 50, line),
+        (0, NEVER, 0, 2000, 0, ""),
+    ] {
+        let mut streams = streams_over(alloc, &script, room, at_read, at_write, at_fault)?;
+        let number = run_over(alloc, &["build"], &mut streams, true)?;
+        assert_eq!(rt; number, 8, "{at_read} {at_write} {room}");
+        assert!(rt; text.as_bytes().starts_with(streams.sink.bytes()));
+        assert_eq!(rt; streams.sink.bytes().len(), written);
+        assert_eq!(rt; streams.faults.bytes(), said.as_bytes());
+    }
+    Ok(())
+}
+
+#[test]
+fn numbers_and_lines(rt: HostRuntime) -> Result<(), Fail> {
+    let alloc = rt.alloc();
+    let field = Field::from_field_id(2);
+    let last = Field::from_field_id(u32::MAX);
+    for (status, number, line) in [
+        (Status::Done, 0, ""),
+        (Status::Words, 2, "words: not a known command\n"),
+        (Status::Script, 3, "script: not a valid script\n"),
+        (Status::Stream, 8, "stream: read or write failed\n"),
+        (Status::Memory, 9, "memory: not enough\n"),
+        (LATER, 4, "refused: Later\n"),
+        (
+            of_schema(SchemaCause::UnknownField { at: 0 }),
+            4,
+            "refused: UnknownField 0\n",
+        ),
+        (
+            of_schema(SchemaCause::WrongValue { at: 3, field }),
+            4,
+            "refused: WrongValue 3 2\n",
+        ),
+        (
+            of_schema(SchemaCause::DeleteField { at: 10 }),
+            4,
+            "refused: DeleteField 10\n",
+        ),
+        (
+            of_schema(SchemaCause::Tokenizer { field: last }),
+            4,
+            "refused: Tokenizer 4294967295\n",
+        ),
+        (
+            of_schema(SchemaCause::DuplicateName),
+            4,
+            "refused: DuplicateName\n",
+        ),
+        (
+            of_argument(ArgumentCause::JsonLeaf { at: 5 }),
+            4,
+            "refused: JsonLeaf 5\n",
+        ),
+        (
+            of_argument(ArgumentCause::JsonKey { at: 6 }),
+            4,
+            "refused: JsonKey 6\n",
+        ),
+        (
+            of_argument(ArgumentCause::Positions { at: 99 }),
+            4,
+            "refused: Positions 99\n",
+        ),
+        (
+            of_argument(ArgumentCause::Limit { at: 7 }),
+            4,
+            "refused: Limit 7\n",
+        ),
+        (
+            of_argument(ArgumentCause::SizeOverflow),
+            4,
+            "refused: SizeOverflow\n",
+        ),
+    ] {
+        assert_eq!(rt; status.number(), number, "{line}");
+        let mut faults = MemorySink::new(alloc, 200, Vec::new(alloc))?;
+        assert_eq!(rt; report(&mut faults, &status), Ok(()), "{line}");
+        assert_eq!(rt; faults.bytes(), line.as_bytes());
+    }
+    Ok(())
+}
+
+fn of_schema(cause: SchemaCause) -> Status {
+    Status::Refused(TantivyError::SchemaError(cause))
+}
+
+fn of_argument(cause: ArgumentCause) -> Status {
+    Status::Refused(TantivyError::InvalidArgument(cause))
+}
