@@ -10,7 +10,7 @@ use Rattle.seg_model.specs.Contents.{Contents, full_reading}
 use Rattle.seg_model.specs.Input.{Settings}
 use Rattle.seg_model.specs.Disk.{Files}
 
--- the deletes of a segment: the stamp up to which they count, and how many documents they removed
+-- the deletes of a segment: how many documents they removed, and the stamp up to which they count
 pub record Deletes : Type 0 where
   pub number : ℕ
   pub stamp : ℕ
