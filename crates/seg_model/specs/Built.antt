@@ -1,5 +1,5 @@
 -- What is indexed so far: stored texts with their positions. What lies outside of this is refused as not built yet.
-use Rattle.std.specs.Prelude.{ℕ, List, length, Bool, true, false, ◌&&◌, nat_lt, is_none}
+use Rattle.std.specs.Prelude.{List, length, Bool, true, false, ◌&&◌, nat_lt, is_none}
 use Rattle.std.specs.List.{list_all}
 use Rattle.seg_values.specs.declared.schema.FieldEntry.{FieldEntry}
 use Rattle.seg_values.specs.declared.schema.IndexOption.{IndexOption}
@@ -8,6 +8,7 @@ use Rattle.seg_values.specs.Tree.{Leaf, text, Tree, leaf, array, object, Documen
 use Rattle.seg_model.specs.Fields.{Schema, Analyzer, is_text}
 use Rattle.seg_model.specs.Checked.{document_refusal}
 
+-- whether terms record positions
 abbrev pub has_positions : IndexOption → Bool
 has_positions Positions = true
 has_positions _ = false
@@ -16,10 +17,12 @@ has_positions _ = false
 abbrev pub is_built_entry : FieldEntry → Bool
 is_built_entry entry = is_text entry.kind && entry.stored && has_positions entry.index
 
+-- a text that is not cut yet
 abbrev pub is_text_leaf : Leaf → Bool
 is_text_leaf (text s) = true
 is_text_leaf _ = false
 
+-- a tree that is one text
 abbrev pub is_text_tree : Tree → Bool
 is_text_tree (leaf l) = is_text_leaf l
 is_text_tree (array ts) = false

@@ -1,13 +1,14 @@
 -- The check of a document that is to be added: four passes over its pairs, of which the first that finds something answers.
-use Rattle.std.specs.Prelude.{ℕ, ◌+◌, ◌^◌, List, [], ◌∷◌, map, length, Option, Some, None, Bool, true, false, ◌&&◌, ◌||◌, ◌==◌, nat_le, nat_lt, if◌then◌else◌, IsUtf8, ◌≡◌}
+use Rattle.std.specs.Prelude.{ℕ, ◌+◌, ◌^◌, List, [], ◌∷◌, map, filter, length, Option, Some, None, Bool, true, false, ◌&&◌, ◌||◌, ◌==◌, nat_le, nat_lt, if◌then◌else◌, IsUtf8, ◌≡◌}
 use Rattle.std.specs.List.{slice_get, list_all, flat_map, AllByRecursion}
+use Rattle.std.specs.Str.{bytes_eq}
 use Rattle.seg_values.specs.declared.token.Token.{Token}
 use Rattle.seg_values.specs.declared.schema.FieldEntry.{FieldEntry}
 use Rattle.seg_values.specs.declared.schema.FieldKind.{FieldKind}
 use Rattle.seg_values.specs.declared.schema.FieldKind.TheVariants as kinds
 use Rattle.seg_values.specs.Tree.{Leaf, text, pre_tokenized, facet, byte_string, ip, Tree, leaf, array, object, Trees, no_trees, tree, Members, no_members, member, levels, Document}
 use Rattle.seg_model.specs.Fields.{Schema, Analyzer, is_json, is_indexed, indexing_tokenizer, values_of, fields}
-use Rattle.seg_model.specs.Leaves.{leaves, leaves_of, joined_path}
+use Rattle.seg_model.specs.Leaves.{PlacedLeaf, leaves, leaves_of, joined_path}
 use Rattle.seg_model.specs.Takes.{takes}
 use Rattle.seg_model.specs.StoredForm.{stored_form}
 use Rattle.seg_model.specs.Occurrences.{counted, start_after_all, value_tokens, leaf_text, texts_at}
@@ -31,18 +32,21 @@ abbrev pub first_refusal : {X : Type 0} → (X → Option Refusal) → List X �
 first_refusal f [] = None
 first_refusal f (x ∷ xs) = or_else (f x) (first_refusal f xs)
 
+-- a refusal where a test fails
 abbrev pub unless : Bool → Refusal → Option Refusal
 unless true r = None
 unless false r = Some r
 
 -- ---- the first pass: fields, and the trees that they take
 
+-- the refusal of a value of a field: there is no such field, or the field does not take it
 abbrev pub value_refusal : ℕ → Tree → Option FieldEntry → Option Refusal
 value_refusal field t None = Some unknown_field
 value_refusal field t (Some entry) = unless (takes entry t) (wrong_value field)
 
 -- ---- the second pass: the leaves and keys of JSON fields
 
+-- a leaf that a JSON field may have: none of facets, bytes, addresses and pre-tokenized texts
 abbrev pub is_json_leaf : Leaf → Bool
 is_json_leaf (pre_tokenized p) = false
 is_json_leaf (facet s) = false
@@ -50,6 +54,7 @@ is_json_leaf (byte_string b) = false
 is_json_leaf (ip a) = false
 is_json_leaf _ = true
 
+-- no byte is 0
 abbrev pub has_no_zero : List ℕ → Bool
 has_no_zero [] = true
 has_no_zero (b ∷ bs) = if b == 0 then false else has_no_zero bs
@@ -73,12 +78,14 @@ abbrev mutual
 abbrev pub is_checked_json : FieldEntry → Bool
 is_checked_json entry = is_json entry.kind && (is_indexed entry || entry.fast)
 
+-- the refusal of a value of a field, where that is a JSON field that is indexed or fast
 abbrev pub json_refusal : Tree → Option FieldEntry → Option Refusal
 json_refusal t None = None
 json_refusal t (Some entry) = if is_checked_json entry then tree_refusal t else None
 
 -- ---- the third pass: positions in indexed texts
 
+-- positions never decrease
 abbrev pub is_rising : List Token → Bool
 is_rising [] = true
 is_rising (t ∷ []) = true
@@ -90,6 +97,7 @@ value_texts kinds.Text analyze t = value_tokens analyze t ∷ []
 value_texts kinds.Json analyze t = flat_map (λ p. map analyze (leaf_text p.leaf)) (leaves t)
 value_texts _ analyze t = []
 
+-- the refusal of a value of a field, where that is indexed and the positions in one of its texts decrease
 abbrev pub positions_refusal : Analyzer → Tree → Option FieldEntry → Option Refusal
 positions_refusal analyzer t None = None
 positions_refusal analyzer t (Some entry) =
@@ -97,9 +105,11 @@ positions_refusal analyzer t (Some entry) =
 
 -- ---- the fourth pass: limits
 
+-- a number below 2^32
 abbrev pub is_u32 : ℕ → Bool
 is_u32 n = nat_lt n (2 ^ 32)
 
+-- how many tokens of some texts are counted
 abbrev pub count_of : List (List Token) → ℕ
 count_of [] = 0
 count_of (tokens ∷ texts) = length (counted tokens) + count_of texts
@@ -108,14 +118,23 @@ count_of (tokens ∷ texts) = length (counted tokens) + count_of texts
 abbrev pub texts_fit : List (List Token) → Bool
 texts_fit texts = is_u32 (start_after_all 0 texts) && is_u32 (count_of texts) && is_u32 (length texts)
 
--- the texts of one joined path after another, and those of the field
+-- the leaves of one joined path
+abbrev pub leaves_with_path : Bool → List ℕ → List PlacedLeaf → List PlacedLeaf
+leaves_with_path expand_dots path found = filter (λ p. bytes_eq path (joined_path expand_dots p.keys)) found
+
+-- the texts and the leaves of a joined path
+abbrev pub path_fits : Bool → (List ℕ → List Token) → List PlacedLeaf → List ℕ → Bool
+path_fits expand_dots analyze found path = texts_fit (texts_at expand_dots analyze path found) && is_u32 (length (leaves_with_path expand_dots path found))
+
+-- the texts of a text field; of JSON each joined path, and the tokens of the field
 abbrev pub kind_fits : FieldKind → Bool → (List ℕ → List Token) → List Tree → Bool
 kind_fits kinds.Text expand_dots analyze values = texts_fit (map (value_tokens analyze) values)
 kind_fits kinds.Json expand_dots analyze values =
-    list_all (λ p. texts_fit (texts_at expand_dots analyze (joined_path expand_dots p.keys) (leaves_of values))) (leaves_of values)
+    list_all (λ p. path_fits expand_dots analyze (leaves_of values) (joined_path expand_dots p.keys)) (leaves_of values)
     && is_u32 (count_of (flat_map (value_texts kinds.Json analyze) values))
 kind_fits _ expand_dots analyze values = true
 
+-- the values of an indexed field are within the limits
 abbrev pub field_fits : Analyzer → Document → ℕ × FieldEntry → Bool
 field_fits analyzer document f =
     if is_indexed f.1 then is_u32 (length (values_of f.0 document)) && kind_fits f.1.kind f.1.expand_dots (analyzer (indexing_tokenizer f.1)) (values_of f.0 document) else true
@@ -127,15 +146,19 @@ is_within_limits schema analyzer document =
 
 -- ---- all passes
 
+-- the first pass
 abbrev pub fields_refusal : Schema → Document → Option Refusal
 fields_refusal schema document = first_refusal (λ p. value_refusal p.0 p.1 (slice_get schema p.0)) document
 
+-- the second pass
 abbrev pub leaves_refusal : Schema → Document → Option Refusal
 leaves_refusal schema document = first_refusal (λ p. json_refusal p.1 (slice_get schema p.0)) document
 
+-- the third pass
 abbrev pub order_refusal : Schema → Analyzer → Document → Option Refusal
 order_refusal schema analyzer document = first_refusal (λ p. positions_refusal analyzer p.1 (slice_get schema p.0)) document
 
+-- the fourth pass
 abbrev pub limit_refusal : Schema → Analyzer → Document → Option Refusal
 limit_refusal schema analyzer document = unless (is_within_limits schema analyzer document) past_limit
 

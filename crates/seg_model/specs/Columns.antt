@@ -58,6 +58,7 @@ pub record FastValue : Type 0 where
   pub path : List ℕ
   pub value : ColumnValue
 
+-- the text of each token
 abbrev pub token_texts : List Token → List ColumnValue
 token_texts tokens = map (λ t. text_value t.text) tokens
 
@@ -91,6 +92,7 @@ abbrev pub declared_values : Analyzer → FieldEntry → List Tree → List Colu
 declared_values analyzer entry values =
     flat_map (λ p. leaf_values analyzer entry.fast_tokenizer (cut_to (precision_unit entry.precision)) p.leaf) (leaves_of values)
 
+-- the text of a value
 abbrev pub value_text : ColumnValue → List ℕ
 value_text (text_value s) = s
 value_text _ = []
@@ -122,6 +124,7 @@ json_leaf_values analyzer entry p =
     then map (λ v. record { path = json_column_path entry p.keys; value = v }) (leaf_values analyzer entry.fast_tokenizer (json_cut p.keys) p.leaf)
     else []
 
+-- values under the name of their field
 abbrev pub under_name : FieldEntry → List ColumnValue → List FastValue
 under_name entry values = map (λ v. record { path = entry.name; value = v }) values
 
@@ -131,6 +134,7 @@ kind_fast_values kinds.Json analyzer entry values = flat_map (json_leaf_values a
 kind_fast_values kinds.Facet analyzer entry values = under_name entry (sorted (declared_values analyzer entry values))
 kind_fast_values _ analyzer entry values = under_name entry (declared_values analyzer entry values)
 
+-- what the values of a fast field record
 abbrev pub field_fast_values : Analyzer → Document → ℕ × FieldEntry → List FastValue
 field_fast_values analyzer document f =
     if f.1.fast then kind_fast_values f.1.kind analyzer f.1 (values_of f.0 document) else []
@@ -153,6 +157,7 @@ declared_type kinds.Bytes = Some Bytes
 declared_type kinds.IpAddr = Some IpAddr
 declared_type kinds.Json = None
 
+-- the key of a column under a name, where it has a type
 abbrev pub column_named : List ℕ → Option ColumnType → List ColumnKey
 column_named name None = []
 column_named name (Some type) = record { path = name; type = type } ∷ []
@@ -163,6 +168,7 @@ declared_columns schema = flat_map (λ e. if e.fast then column_named e.name (de
 
 -- ---- which columns there are
 
+-- whether a schema declares a column
 abbrev pub is_declared : List ColumnKey → ColumnKey → Bool
 is_declared declared key = is_among column_cmp declared key
 
@@ -183,11 +189,13 @@ value_keys v = map (λ type. record { path = v.path; type = type }) (value_types
 abbrev pub values_at : ColumnKey → List FastValue → List ColumnValue
 values_at key values = map (λ v. v.value) (filter (λ v. is_among column_cmp (value_keys v) key) values)
 
+-- a number from -2^63 to 2^63 - 1, or no number
 abbrev pub fits_i64 : ColumnValue → Bool
 fits_i64 (number (pos n)) = nat_lt n (2 ^ 63)
 fits_i64 (number (negsuc n)) = nat_lt n (2 ^ 63)
 fits_i64 _ = true
 
+-- a number from 0 on, or no number
 abbrev pub is_not_negative : ColumnValue → Bool
 is_not_negative (number (negsuc n)) = false
 is_not_negative _ = true
@@ -206,11 +214,13 @@ number_type declared path rows =
     else (if is_declared declared (record { path = path; type = U64 }) then Some U64
     else free_number_type rows)
 
+-- a type of numbers
 abbrev pub is_number : ColumnType → Bool
 is_number I64 = true
 is_number U64 = true
 is_number _ = false
 
+-- whether this type is the one that there is
 abbrev pub is_type : ColumnType → Option ColumnType → Bool
 is_type type None = false
 is_type type (Some other) = nat_eq (type_place type) (type_place other)
@@ -224,6 +234,7 @@ abbrev pub rows_of : List ColumnKey → ColumnKey → List (List ColumnValue) �
 rows_of declared key rows =
     if not (is_number key.type) || is_type key.type (number_type declared key.path rows) then rows else without_values rows
 
+-- a row with a value
 abbrev pub is_filled : List ColumnValue → Bool
 is_filled [] = false
 is_filled (v ∷ vs) = true

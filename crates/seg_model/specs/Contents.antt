@@ -23,6 +23,7 @@ pub record Reading : Type 0 where
   pub terms : List Terms
   pub stored : List Document
 
+-- the reading that contents have
 abbrev pub reading_part : Contents → Reading
 reading_part contents = record { documents = contents.documents; terms = contents.terms; stored = contents.stored }
 

@@ -8,6 +8,7 @@ use Rattle.seg_model.specs.Operations.{kept}
 use Rattle.seg_model.specs.Contents.{norms_at}
 use Rattle.seg_model.specs.Join.{Part}
 
+-- how many documents are alive
 abbrev pub live_count : List Bool → ℕ
 live_count alive = count_by (λ b. b) alive
 

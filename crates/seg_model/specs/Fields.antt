@@ -17,22 +17,27 @@ Schema = List FieldEntry
 abbrev pub Analyzer : Type 0
 Analyzer = List ℕ → List ℕ → List Token
 
+-- a kind of field: texts
 abbrev pub is_text : FieldKind → Bool
 is_text Text = true
 is_text _ = false
 
+-- a kind of field: JSON
 abbrev pub is_json : FieldKind → Bool
 is_json Json = true
 is_json _ = false
 
+-- a kind of field: facets
 abbrev pub is_facet : FieldKind → Bool
 is_facet Facet = true
 is_facet _ = false
 
+-- an option under which a field is indexed
 abbrev pub is_on : IndexOption → Bool
 is_on No = false
 is_on _ = true
 
+-- an indexed field
 abbrev pub is_indexed : FieldEntry → Bool
 is_indexed entry = is_on entry.index
 

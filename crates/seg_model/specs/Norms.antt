@@ -19,6 +19,7 @@ kind_length Text analyze values = token_count analyze values
 kind_length Json analyze values = 0
 kind_length _ analyze values = length values
 
+-- the length of a field in a document that has these values of it
 abbrev pub field_length : Analyzer → FieldEntry → List Tree → ℕ
 field_length analyzer entry values = kind_length entry.kind (analyzer (indexing_tokenizer entry)) values
 

@@ -101,6 +101,7 @@ abbrev pub leaf_terms : Leaf → List (List ℕ)
 leaf_terms (facet encoded) = facet_prefixes encoded
 leaf_terms l = value_bytes l ∷ []
 
+-- the terms of a value of a field that is neither text nor JSON
 abbrev pub value_terms : Tree → List (List ℕ)
 value_terms (leaf l) = leaf_terms l
 value_terms (array ts) = []
@@ -153,6 +154,7 @@ abbrev pub occurrences_at : Analyzer → Document → ℕ → Option FieldEntry 
 occurrences_at analyzer document field None = []
 occurrences_at analyzer document field (Some entry) = field_occurrences analyzer entry (values_of field document)
 
+-- the occurrences of a document in a field
 abbrev pub occurrences : Schema → Analyzer → Document → ℕ → List Occurrence
 occurrences schema analyzer document field = occurrences_at analyzer document field (slice_get schema field)
 

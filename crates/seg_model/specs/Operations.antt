@@ -31,6 +31,7 @@ kept (b ∷ bs) (x ∷ xs) = cond b (x ∷ kept bs xs) (kept bs xs)
 abbrev pub live : Batch → List Document
 live batch = kept batch.alive batch.documents
 
+-- a list without members
 abbrev pub is_empty : {X : Type 0} → List X → Bool
 is_empty [] = true
 is_empty (x ∷ xs) = false

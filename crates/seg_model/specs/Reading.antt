@@ -89,6 +89,7 @@ field_terms schema analyzer documents f = terms_of f.1 (map (λ d. occurrences s
 abbrev pub all_terms : Schema → Analyzer → List Document → List Terms
 all_terms schema analyzer documents = map (field_terms schema analyzer documents) (fields schema)
 
+-- a leaf as it is stored: a pre-tokenized text stands as its text
 abbrev pub stored_leaf : Leaf → Leaf
 stored_leaf (pre_tokenized p) = text p.text
 stored_leaf l = l

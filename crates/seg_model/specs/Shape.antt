@@ -58,6 +58,7 @@ pub record IsJsonPath (schema : Schema) (path : List ℕ) : Type 0 where
   pub fast : entry.fast ≡ true
   pub named : IsPathOf entry path
 
+-- the types of column that values of a JSON field have
 abbrev pub is_json_type : ColumnType → Bool
 is_json_type I64 = true
 is_json_type U64 = true

@@ -30,10 +30,12 @@ leaf_form (facet encoded) = 8 ∷ sized encoded
 leaf_form (byte_string b) = 9 ∷ sized b
 leaf_form (ip octets) = 12 ∷ octets
 
+-- how many trees an array has
 abbrev pub tree_count : Trees → ℕ
 tree_count no_trees = 0
 tree_count (tree t ts) = suc (tree_count ts)
 
+-- how many members an object has
 abbrev pub member_count : Members → ℕ
 member_count no_members = 0
 member_count (member key t ms) = suc (member_count ms)

@@ -19,6 +19,7 @@ is_of_kind Bytes (byte_string b) = true
 is_of_kind IpAddr (ip a) = true
 is_of_kind _ _ = false
 
+-- the leaf without a value
 abbrev pub is_null : Leaf → Bool
 is_null null = true
 is_null _ = false

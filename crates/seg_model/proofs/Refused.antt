@@ -1,0 +1,214 @@
+-- An input is valid exactly where nothing refuses it.
+use Rattle.std.proofs.Common.{◌≡◌, ℕ, ◌+◌, ◌-◌, ◌^◌, ◌<◌, Bool, true, false, cond, nat_lt, List, [], ◌∷◌, ◌++◌, map, length, take, drop, Some, None, Option, option_map, sym, refl, ap, ◌∙◌, subst}
+use mathlib.Core.Bool.{true≢false}
+use Rattle.std.specs.Prelude.{is_some}
+use Rattle.std.specs.List.{enumerate_from, AllByRecursion, take-map, drop-map}
+use Rattle.std.specs.Option.{option_or}
+use Rattle.std.proofs.lemmas.List.{take-append-drop}
+use Rattle.std.proofs.lemmas.Bool.Decides.{Decides-ltb}
+use Rattle.seg_values.specs.Tree.{Document}
+use Rattle.seg_model.specs.Fields.{Schema, Analyzer}
+use Rattle.seg_model.specs.Operations.{Operation, add, delete, delete_all, additions, Batch, batches_from}
+use Rattle.seg_model.specs.Checked.{document_refusal}
+use Rattle.seg_model.specs.Columns.{columns}
+use Rattle.seg_model.specs.Input.{Input, input_survivors}
+use Rattle.seg_model.specs.Valid.{Known, input_refusal, FitsSegment, IsValid}
+use Rattle.seg_model.specs.Refused.{BuildRefusal, document_refused, input_refused, first_of, cut_from, operation_refusal, count_refusal, numbers_refusal, added_by, batch_refusal, build_refusal}
+use Rattle.seg_model.specs.Laws.{ValidInputsAreNotRefused}
+
+-- ---- no answer
+
+module _ {X : Type 0} where
+  some-none : (x : X) → Some x ≡ None → ⊥
+  some-none x e = true≢false (ap is_some e)
+
+  or_first : (a b : Option X) → option_or a b ≡ None → a ≡ None
+  or_first None b e = refl
+  or_first (Some x) b e = e
+
+  or_second : (a b : Option X) → option_or a b ≡ None → b ≡ None
+  or_second None b e = e
+  or_second (Some x) b e = absurd (some-none x e)
+
+  or_none : (a b : Option X) → a ≡ None → b ≡ None → option_or a b ≡ None
+  or_none a b e h = ap (λ o. option_or o b) e ∙ h
+
+map_none : {X Y : Type 0} (f : X → Y) (a : Option X) → a ≡ None → option_map f a ≡ None
+map_none f a e = ap (option_map f) e
+
+none_map : {X Y : Type 0} (f : X → Y) (a : Option X) → option_map f a ≡ None → a ≡ None
+none_map f None e = refl
+none_map f (Some x) e = absurd (some-none (f x) e)
+
+module _ {X R : Type 0} (f : X → Option R) where
+  first_none : (xs : List X) → AllByRecursion (λ x. f x ≡ None) xs → first_of f xs ≡ None
+  first_none [] h = refl
+  first_none (x ∷ xs) h = or_none (f x) (first_of f xs) h.0 (first_none xs h.1)
+
+  none_first : (xs : List X) → first_of f xs ≡ None → AllByRecursion (λ x. f x ≡ None) xs
+  none_first [] e = tt
+  none_first (x ∷ xs) e = (or_first (f x) (first_of f xs) e, none_first xs (or_second (f x) (first_of f xs) e))
+
+module _ {X : Type 0} (P : X → Type 0) where
+  all_front : (xs ys : List X) → AllByRecursion P (xs ++ ys) → AllByRecursion P xs
+  all_front [] ys h = tt
+  all_front (x ∷ xs) ys h = (h.0, all_front xs ys h.1)
+
+  all_back : (xs ys : List X) → AllByRecursion P (xs ++ ys) → AllByRecursion P ys
+  all_back [] ys h = h
+  all_back (x ∷ xs) ys h = all_back xs ys h.1
+
+  all_both : (xs ys : List X) → AllByRecursion P xs → AllByRecursion P ys → AllByRecursion P (xs ++ ys)
+  all_both [] ys h k = k
+  all_both (x ∷ xs) ys h k = (h.0, all_both xs ys h.1 k)
+
+  all_taken : (n : ℕ) (xs : List X) → AllByRecursion P xs → AllByRecursion P (take n xs)
+  all_taken n xs h = all_front (take n xs) (drop n xs) (subst (AllByRecursion P) (sym (take-append-drop n xs)) h)
+
+  all_left : (n : ℕ) (xs : List X) → AllByRecursion P xs → AllByRecursion P (drop n xs)
+  all_left n xs h = all_back (take n xs) (drop n xs) (subst (AllByRecursion P) (sym (take-append-drop n xs)) h)
+
+  all_again : (n : ℕ) (xs : List X) → AllByRecursion P (take n xs) → AllByRecursion P (drop n xs) → AllByRecursion P xs
+  all_again n xs h k = subst (AllByRecursion P) (take-append-drop n xs) (all_both (take n xs) (drop n xs) h k)
+
+unnumbered : {X : Type 0} (first : ℕ) (xs : List X) → map (λ p. p.1) (enumerate_from first xs) ≡ xs
+unnumbered first [] = refl
+unnumbered first (x ∷ xs) = ap (λ l. x ∷ l) (unnumbered (first + 1) xs)
+
+module _ (schema : Schema) (analyzer : Analyzer) where
+  -- ---- documents that one segment can hold
+
+  count_none : (ds : List Document) → length ds < 2 ^ 31 → count_refusal ds ≡ None
+  count_none ds h = ap (λ b. cond b None (Some BuildRefusal.too_many_documents)) ((Decides-ltb (length ds) (2 ^ 31)).1 h)
+
+  none_count : (ds : List Document) (b : Bool) → nat_lt (length ds) (2 ^ 31) ≡ b → count_refusal ds ≡ None → length ds < 2 ^ 31
+  none_count ds true t e = (Decides-ltb (length ds) (2 ^ 31)).0 t
+  none_count ds false t e = absurd (some-none BuildRefusal.too_many_documents (sym (ap (λ b. cond b None (Some BuildRefusal.too_many_documents)) t) ∙ e))
+
+  numbers_none : (ds : List Document) → is_some (columns schema analyzer ds) ≡ true → numbers_refusal schema analyzer ds ≡ None
+  numbers_none ds h = ap (λ b. cond b None (Some BuildRefusal.mixed_numbers)) h
+
+  none_numbers : (ds : List Document) (b : Bool) → is_some (columns schema analyzer ds) ≡ b → numbers_refusal schema analyzer ds ≡ None → is_some (columns schema analyzer ds) ≡ true
+  none_numbers ds true t e = t
+  none_numbers ds false t e = absurd (some-none BuildRefusal.mixed_numbers (sym (ap (λ b. cond b None (Some BuildRefusal.mixed_numbers)) t) ∙ e))
+
+  fits : (ds : List Document) → count_refusal ds ≡ None → numbers_refusal schema analyzer ds ≡ None → FitsSegment schema analyzer ds
+  fits ds c n = record { few = none_count ds (nat_lt (length ds) (2 ^ 31)) refl c; columns = none_numbers ds (is_some (columns schema analyzer ds)) refl n }
+
+  -- ---- documents that pass the check
+
+  abbrev Passes : ℕ × Operation → Type 0
+  Passes p = operation_refusal schema analyzer p.0 p.1 ≡ None
+
+  abbrev Taken : Document → Type 0
+  Taken d = document_refusal schema analyzer d ≡ None
+
+  taken_step : (at : ℕ) (o : Operation) (os : List Operation) → AllByRecursion Taken (additions (o ∷ os)) → (operation_refusal schema analyzer at o ≡ None) × AllByRecursion Taken (additions os)
+  taken_step at (add d) os h = (map_none (document_refused at) (document_refusal schema analyzer d) h.0, h.1)
+  taken_step at (delete t) os h = (refl, h)
+  taken_step at (delete_all ts) os h = (refl, h)
+
+  pass_step : (at : ℕ) (o : Operation) (os : List Operation) → operation_refusal schema analyzer at o ≡ None → AllByRecursion Taken (additions os) → AllByRecursion Taken (additions (o ∷ os))
+  pass_step at (add d) os e h = (none_map (document_refused at) (document_refusal schema analyzer d) e, h)
+  pass_step at (delete t) os e h = h
+  pass_step at (delete_all ts) os e h = h
+
+  taken_pass : (ps : List (ℕ × Operation)) → AllByRecursion Taken (added_by ps) → AllByRecursion Passes ps
+  taken_pass [] h = tt
+  taken_pass (p ∷ ps) h =
+      let step = taken_step p.0 p.1 (map (λ q. q.1) ps) h in
+      (step.0, taken_pass ps step.1)
+
+  pass_taken : (ps : List (ℕ × Operation)) → AllByRecursion Passes ps → AllByRecursion Taken (added_by ps)
+  pass_taken [] h = tt
+  pass_taken (p ∷ ps) h = pass_step p.0 p.1 (map (λ q. q.1) ps) h.0 (pass_taken ps h.1)
+
+  -- ---- batch by batch
+
+  abbrev Fits : Batch → Type 0
+  Fits b = FitsSegment schema analyzer b.documents
+
+  part_none : (part : List (ℕ × Operation)) → AllByRecursion Passes part → FitsSegment schema analyzer (added_by part) → batch_refusal schema analyzer part ≡ None
+  part_none part h f =
+      or_none (count_refusal (added_by part)) _ (count_none (added_by part) f.few)
+      (or_none (first_of (λ p. operation_refusal schema analyzer p.0 p.1) part) _ (first_none (λ p. operation_refusal schema analyzer p.0 p.1) part h) (numbers_none (added_by part) f.columns))
+
+  -- what is behind the first test of a batch
+  abbrev later : List (ℕ × Operation) → Option BuildRefusal
+  later part = option_or (first_of (λ p. operation_refusal schema analyzer p.0 p.1) part) (numbers_refusal schema analyzer (added_by part))
+
+  none_part : (part : List (ℕ × Operation)) → batch_refusal schema analyzer part ≡ None → AllByRecursion Passes part × FitsSegment schema analyzer (added_by part)
+  none_part part e =
+      let rest : later part ≡ None = or_second (count_refusal (added_by part)) (later part) e in (
+        none_first (λ p. operation_refusal schema analyzer p.0 p.1) part (or_first (first_of (λ p. operation_refusal schema analyzer p.0 p.1) part) (numbers_refusal schema analyzer (added_by part)) rest),
+        fits (added_by part) (or_first (count_refusal (added_by part)) (later part) e) (or_second (first_of (λ p. operation_refusal schema analyzer p.0 p.1) part) (numbers_refusal schema analyzer (added_by part)) rest),
+      )
+
+  abbrev Unrefused : List (ℕ × Operation) → Type 0
+  Unrefused part = batch_refusal schema analyzer part ≡ None
+
+  abbrev operations_of : List (ℕ × Operation) → List Operation
+  operations_of ps = map (λ p. p.1) ps
+
+  parts_none : (from : ℕ) (cuts : List ℕ) (ps : List (ℕ × Operation)) → AllByRecursion Passes ps → AllByRecursion Fits (batches_from schema analyzer from cuts (operations_of ps)) → AllByRecursion Unrefused (cut_from from cuts ps)
+  parts_none from [] ps h f = (part_none ps h f.0, tt)
+  parts_none from (cut ∷ cuts) ps h f = (
+    part_none (take (cut - from) ps) (all_taken Passes (cut - from) ps h) (subst (λ os. FitsSegment schema analyzer (additions os)) (take-map (λ p. p.1) (cut - from) ps) f.0),
+    parts_none cut cuts (drop (cut - from) ps) (all_left Passes (cut - from) ps h) (subst (λ os. AllByRecursion Fits (batches_from schema analyzer cut cuts os)) (drop-map (λ p. p.1) (cut - from) ps) f.1),
+  )
+
+  none_parts : (from : ℕ) (cuts : List ℕ) (ps : List (ℕ × Operation)) → AllByRecursion Unrefused (cut_from from cuts ps) → AllByRecursion Passes ps × AllByRecursion Fits (batches_from schema analyzer from cuts (operations_of ps))
+  none_parts from [] ps e =
+      let here = none_part ps e.0 in
+      (here.0, (here.1, tt))
+  none_parts from (cut ∷ cuts) ps e =
+      let here = none_part (take (cut - from) ps) e.0 in
+      let rest = none_parts cut cuts (drop (cut - from) ps) e.1 in (
+        all_again Passes (cut - from) ps here.0 rest.0,
+        (
+          subst (λ os. FitsSegment schema analyzer (additions os)) (sym (take-map (λ p. p.1) (cut - from) ps)) here.1,
+          subst (λ os. AllByRecursion Fits (batches_from schema analyzer cut cuts os)) (sym (drop-map (λ p. p.1) (cut - from) ps)) rest.1,
+        ),
+      )
+
+module _ (known : Known) (analyzer : Analyzer) (input : Input) where
+  abbrev numbered : List (ℕ × Operation)
+  numbered = enumerate_from 0 input.operations
+
+  abbrev by_input : Option BuildRefusal
+  by_input = option_map input_refused (input_refusal known analyzer input)
+
+  abbrev by_batches : Option BuildRefusal
+  by_batches = first_of (batch_refusal input.schema analyzer) (cut_from 0 input.cuts numbered)
+
+  abbrev by_count : Option BuildRefusal
+  by_count = count_refusal (input_survivors analyzer input)
+
+  abbrev by_numbers : Option BuildRefusal
+  by_numbers = numbers_refusal input.schema analyzer (input_survivors analyzer input)
+
+  same : map (λ p. p.1) numbered ≡ input.operations
+  same = unnumbered 0 input.operations
+
+  valid_none : IsValid known analyzer input → build_refusal known analyzer input ≡ None
+  valid_none v =
+      or_none by_input (option_or by_batches (option_or by_count by_numbers)) (map_none input_refused (input_refusal known analyzer input) v.accepted)
+      (or_none by_batches (option_or by_count by_numbers) (first_none (batch_refusal input.schema analyzer) (cut_from 0 input.cuts numbered) (parts_none input.schema analyzer 0 input.cuts numbered
+      (taken_pass input.schema analyzer numbered (subst (λ os. AllByRecursion (Taken input.schema analyzer) (additions os)) (sym same) v.taken))
+      (subst (λ os. AllByRecursion (Fits input.schema analyzer) (batches_from input.schema analyzer 0 input.cuts os)) (sym same) v.batches)))
+      (or_none by_count by_numbers (count_none input.schema analyzer (input_survivors analyzer input) v.survivors.few) (numbers_none input.schema analyzer (input_survivors analyzer input) v.survivors.columns)))
+
+  none_valid : build_refusal known analyzer input ≡ None → IsValid known analyzer input
+  none_valid e =
+      let behind_input : option_or by_batches (option_or by_count by_numbers) ≡ None = or_second by_input (option_or by_batches (option_or by_count by_numbers)) e in
+      let behind_batches : option_or by_count by_numbers ≡ None = or_second by_batches (option_or by_count by_numbers) behind_input in
+      let parts = none_parts input.schema analyzer 0 input.cuts numbered (none_first (batch_refusal input.schema analyzer) (cut_from 0 input.cuts numbered) (or_first by_batches (option_or by_count by_numbers) behind_input)) in
+      record {
+        accepted = none_map input_refused (input_refusal known analyzer input) (or_first by_input (option_or by_batches (option_or by_count by_numbers)) e);
+        taken = subst (λ os. AllByRecursion (Taken input.schema analyzer) (additions os)) same (pass_taken input.schema analyzer numbered parts.0);
+        batches = subst (λ os. AllByRecursion (Fits input.schema analyzer) (batches_from input.schema analyzer 0 input.cuts os)) same parts.1;
+        survivors = fits input.schema analyzer (input_survivors analyzer input) (or_first by_count by_numbers behind_batches) (or_second by_count by_numbers behind_batches);
+      }
+
+pub valid_inputs_are_not_refused : ValidInputsAreNotRefused
+valid_inputs_are_not_refused known analyzer input = (valid_none known analyzer input, none_valid known analyzer input)
