@@ -6,5 +6,6 @@ pub mod Names
 pub mod Registered
 pub mod Tokenizers
 pub mod Tree
+pub mod ValueBytes
 pub mod View
 pub mod Words

@@ -4,7 +4,7 @@
 //! and a schema as the list of its entries.
 //!
 //! Read `text`, `token` and `tokenizer` first, then `tokenizers`, `analyzers` and `tokenizer_manager` with the law in
-//! `laws`; then `value`, `facet` and `document`; last `schema` and `error`.
+//! `laws`; then `value_error`, `value`, `facet` and `document`; last `schema`, `term` and `error`.
 #![tactic(auto)]
 
 mod analyzers;
@@ -13,6 +13,7 @@ mod error;
 mod facet;
 mod laws;
 mod schema;
+mod term;
 #[cfg(test)]
 mod tests;
 mod text;
@@ -21,6 +22,7 @@ mod tokenizer;
 mod tokenizer_manager;
 mod tokenizers;
 mod value;
+mod value_error;
 
 pub use analyzers::Analyzers;
 pub use document::{Documents, TantivyDocument};
@@ -28,9 +30,11 @@ pub use error::{ArgumentCause, SchemaCause, TResult, TantivyError};
 pub use facet::Facet;
 pub use laws::tokens_are_words;
 pub use schema::{Field, FieldEntry, FieldKind, IndexOption, Schema, SchemaBuilder};
+pub use term::Term;
 pub use text::{Bytes, Numbers, Text};
 pub use token::{PreTokenizedString, Token, Tokens};
 pub use tokenizer::Tokenizer;
 pub use tokenizer_manager::TokenizerManager;
 pub use tokenizers::{DefaultTokenizer, RawTokenizer, WhitespaceTokenizer};
 pub use value::{Member, Members, OwnedValue, Values};
+pub use value_error::ValueError;
