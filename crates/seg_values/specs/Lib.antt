@@ -1,7 +1,10 @@
 pub mod Code
+pub mod Facets
 pub mod Falls
+pub mod FieldTypes
 pub mod Grows
 pub mod InWords
+pub mod NameSearch
 pub mod Names
 pub mod Registered
 pub mod Tokenizers

@@ -4,14 +4,16 @@
 //! and a schema as the list of its entries.
 //!
 //! Read `text`, `token` and `tokenizer` first, then `tokenizers`, `analyzers` and `tokenizer_manager` with the law in
-//! `laws`; then `value_error`, `value`, `facet` and `document`; last `schema`, `term` and `error`.
+//! `laws`; then `value_error`, `value`, `facet` and `document`; last `schema` with `field_type` and `name_search`, `term` and `error`.
 #![tactic(auto)]
 
 mod analyzers;
 mod document;
 mod error;
 mod facet;
+mod field_type;
 mod laws;
+mod name_search;
 mod schema;
 mod term;
 #[cfg(test)]
@@ -28,6 +30,7 @@ pub use analyzers::Analyzers;
 pub use document::{Documents, TantivyDocument};
 pub use error::{ArgumentCause, SchemaCause, TResult, TantivyError};
 pub use facet::Facet;
+pub use field_type::FieldType;
 pub use laws::tokens_are_words;
 pub use schema::{Field, FieldEntry, FieldKind, IndexOption, Schema, SchemaBuilder};
 pub use term::Term;
