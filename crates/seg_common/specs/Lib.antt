@@ -1,4 +1,5 @@
 pub mod Causes
+pub mod Dates
 pub mod Memory
 pub mod Streams
 pub mod Varint

@@ -5,11 +5,12 @@
 //! with a count of its faults: a call fails only where that count rose.
 //!
 //! To be read in this order: `date`, `column_type`, `name`, `varint`; `source`, `sink`; `memory_source`, `memory_sink`;
-//! `reader_source`, `writer_sink`.
+//! `reader_source`, `writer_sink`; `error`.
 #![tactic(auto)]
 
 mod column_type;
 mod date;
+mod error;
 mod memory_sink;
 mod memory_source;
 mod name;
@@ -23,6 +24,7 @@ mod writer_sink;
 
 pub use column_type::ColumnType;
 pub use date::{DateTime, DateTimePrecision};
+pub use error::CommonError;
 pub use memory_sink::MemorySink;
 pub use memory_source::MemorySource;
 pub use name::{FileName, SegmentComponent, SegmentId};

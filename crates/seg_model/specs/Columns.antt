@@ -8,15 +8,13 @@ use Rattle.std.specs.FinMap.{FinMap}
 use Rattle.seg_values.specs.declared.token.Token.{Token}
 use Rattle.seg_common.specs.declared.column_type.ColumnType.{ColumnType}
 use Rattle.seg_common.specs.declared.column_type.ColumnType.TheVariants.{I64, U64, Bytes, Str, Bool as Boolean, IpAddr, DateTime}
-use Rattle.seg_common.specs.declared.date.DateTimePrecision.{DateTimePrecision}
-use Rattle.seg_common.specs.declared.date.DateTimePrecision.TheVariants.{Seconds, Milliseconds, Microseconds, Nanoseconds}
+use Rattle.seg_common.specs.Dates.{cut_to, nanos_in_second, precision_unit}
 use Rattle.seg_values.specs.declared.schema.FieldEntry.{FieldEntry}
 use Rattle.seg_values.specs.declared.schema.FieldKind.{FieldKind}
 use Rattle.seg_values.specs.declared.schema.FieldKind.TheVariants as kinds
 use Rattle.seg_values.specs.Tree.{Leaf, null, text, pre_tokenized, unsigned, signed, boolean, date, facet, byte_string, ip, Tree, Document}
 use Rattle.seg_model.specs.Fields.{Schema, Analyzer, fields, values_of}
 use Rattle.seg_model.specs.Leaves.{PlacedLeaf, leaves_of, joined_path}
-use Rattle.seg_model.specs.Occurrences.{cut_to, nanos_in_second}
 use Rattle.seg_model.specs.Tables.{tabulated, is_among}
 
 -- a value in a column; the columns I64 and U64 both have numbers
@@ -79,13 +77,6 @@ leaf_values analyzer tokenizer cut (date nanos) = date_value (cut nanos) ∷ []
 leaf_values analyzer tokenizer cut (facet encoded) = text_value encoded ∷ []
 leaf_values analyzer tokenizer cut (byte_string b) = bytes_value b ∷ []
 leaf_values analyzer tokenizer cut (ip octets) = ip_value octets ∷ []
-
--- the nanoseconds in a unit of a precision
-abbrev pub precision_unit : DateTimePrecision → ℕ
-precision_unit Seconds = nanos_in_second
-precision_unit Milliseconds = 1000000
-precision_unit Microseconds = 1000
-precision_unit Nanoseconds = 1
 
 -- the values of a field with a declared column: its arrays are walked
 abbrev pub declared_values : Analyzer → FieldEntry → List Tree → List ColumnValue

@@ -1,5 +1,5 @@
 -- Where the terms of a field occur in a document.
-use Rattle.std.specs.Prelude.{ℕ, zero, suc, ◌+◌, ◌-◌, ◌^◌, List, [], ◌∷◌, ◌++◌, map, filter, length, max, nat_le, nat_lt, Bool, true, false, ℤ, pos, negsuc, ◌*ℤ◌, int_div, if◌then◌else◌, Option, Some, None}
+use Rattle.std.specs.Prelude.{ℕ, zero, suc, ◌+◌, ◌^◌, List, [], ◌∷◌, ◌++◌, map, filter, length, max, nat_le, nat_lt, Bool, pos, if◌then◌else◌, Option, Some, None}
 use Rattle.std.specs.List.{flat_map, list_any, slice_get}
 use Rattle.std.specs.Int.{w64, to_be_bytes}
 use Rattle.std.specs.Str.{bytes_eq}
@@ -8,6 +8,7 @@ use Rattle.seg_values.specs.declared.schema.FieldEntry.{FieldEntry}
 use Rattle.seg_values.specs.declared.schema.FieldKind.TheVariants.{Text, Json}
 use Rattle.seg_values.specs.declared.schema.FieldKind.{FieldKind}
 use Rattle.seg_values.specs.Tree.{Leaf, text, pre_tokenized, unsigned, signed, boolean, date, facet, byte_string, ip, Tree, leaf, array, object, Document}
+use Rattle.seg_values.specs.ValueBytes.{raised, value_bytes}
 use Rattle.seg_model.specs.Fields.{Schema, Analyzer, is_indexed, indexing_tokenizer, values_of}
 use Rattle.seg_model.specs.Leaves.{PlacedLeaf, leaves_of, joined_path}
 
@@ -42,32 +43,6 @@ placed_from start prefix tokens = map (λ t. record { bytes = prefix ++ t.text; 
 abbrev pub text_occurrences : ℕ → List (List Token) → List Occurrence
 text_occurrences start [] = []
 text_occurrences start (tokens ∷ values) = placed_from start [] tokens ++ text_occurrences (start_after start tokens) values
-
--- a value plus 2^63
-abbrev pub raised : ℤ → ℕ
-raised (pos n) = 2 ^ 63 + n
-raised (negsuc n) = 2 ^ 63 - suc n
-
--- nanoseconds cut to a multiple of a unit, toward zero
-abbrev pub cut_to : ℕ → ℤ → ℤ
-cut_to unit nanos = int_div nanos (pos unit) *ℤ pos unit
-
-abbrev pub nanos_in_second : ℕ
-nanos_in_second = 1000000000
-
-abbrev pub bit : Bool → ℕ
-bit true = 1
-bit false = 0
-
--- the value bytes of a leaf that gives one term
-abbrev pub value_bytes : Leaf → List ℕ
-value_bytes (unsigned n) = to_be_bytes w64 n
-value_bytes (signed z) = to_be_bytes w64 (raised z)
-value_bytes (boolean b) = to_be_bytes w64 (bit b)
-value_bytes (date nanos) = to_be_bytes w64 (raised (cut_to nanos_in_second nanos))
-value_bytes (byte_string b) = b
-value_bytes (ip octets) = octets
-value_bytes _ = []
 
 -- the encoded texts of a facet's prefixes, of which `before` came first: one ends before each byte 0, and one at the end
 abbrev pub prefixes_from : List ℕ → List ℕ → List (List ℕ)

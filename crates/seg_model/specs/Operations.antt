@@ -2,13 +2,9 @@
 use Rattle.std.specs.Prelude.{ℕ, ◌-◌, List, [], ◌∷◌, ◌++◌, Bool, true, false, cond, not, ◌&&◌, Option, Some, None, take, drop}
 use Rattle.std.specs.List.{flat_map, list_any, list_all}
 use Rattle.seg_values.specs.Tree.{Document}
+pub use Rattle.seg_values.specs.ValueBytes.{TermKey}
 use Rattle.seg_model.specs.Fields.{Schema, Analyzer}
 use Rattle.seg_model.specs.Occurrences.{has_term}
-
--- a term: a field, and value bytes
-pub record TermKey : Type 0 where
-  pub field : ℕ
-  pub bytes : List ℕ
 
 -- an operation; its stamp is its place
 pub data Operation : Type 0 where

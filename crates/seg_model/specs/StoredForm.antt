@@ -6,7 +6,7 @@ use Rattle.seg_common.specs.Varint.{varint}
 use Rattle.seg_values.specs.declared.token.Token.{Token}
 use Rattle.seg_values.specs.Tree.{Leaf, null, text, pre_tokenized, unsigned, signed, boolean, date, facet, byte_string, ip, Tree, leaf, array, object, Trees, no_trees, tree, Members, no_members, member, Document}
 use Rattle.seg_model.specs.Fields.{Schema}
-use Rattle.seg_model.specs.Occurrences.{bit}
+use Rattle.seg_values.specs.ValueBytes.{bit}
 use Rattle.seg_model.specs.Reading.{stored_document}
 
 -- bytes behind their number

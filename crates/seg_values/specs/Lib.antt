@@ -1,10 +1,14 @@
 pub mod Code
+pub mod Facets
 pub mod Falls
+pub mod FieldTypes
 pub mod Grows
 pub mod InWords
+pub mod NameSearch
 pub mod Names
 pub mod Registered
 pub mod Tokenizers
 pub mod Tree
+pub mod ValueBytes
 pub mod View
 pub mod Words

@@ -1,8 +1,10 @@
 //! A document: fields with values, in order.
 ghost use Rattle.std.specs.Prelude.{◌≡◌, ℕ, ◌<◌, [], ◌∷◌, ◌++◌, length, slice_get, Some, OnOk, OnErr};
+ghost use Rattle.seg_values.specs.Tree as trees;
 ghost use Rattle.seg_values.specs.View.{tree_of};
 
 use crate::schema::Field;
+use crate::text::Text;
 use crate::value::OwnedValue;
 use std::alloc::{AllocError, Global};
 use std::marker::Model;
@@ -56,6 +58,15 @@ impl TantivyDocument {
     {
         self.pairs.push(FieldValue { field, value })?;
         Ok(())
+    }
+
+    pub fn add_text(&mut self, field: Field, text: &str) -> Result<(), AllocError>
+        ensures ok { OnOk result
+            (self.new ≡ self.old ++ (field, trees.leaf (trees.text text.now)) ∷ []) }
+        ensures err { OnErr result (self.new ≡ self.old) }
+    {
+        let text = Text::copy_of(*self.pairs.allocator(), text)?;
+        self.add_field_value(field, OwnedValue::Str(text))
     }
 
     pub fn pair(&self, at: usize) -> (Field, &OwnedValue)

@@ -4,15 +4,18 @@
 //! and a schema as the list of its entries.
 //!
 //! Read `text`, `token` and `tokenizer` first, then `tokenizers`, `analyzers` and `tokenizer_manager` with the law in
-//! `laws`; then `value`, `facet` and `document`; last `schema` and `error`.
+//! `laws`; then `value_error`, `value`, `facet` and `document`; last `schema` with `field_type` and `name_search`, `term` and `error`.
 #![tactic(auto)]
 
 mod analyzers;
 mod document;
 mod error;
 mod facet;
+mod field_type;
 mod laws;
+mod name_search;
 mod schema;
+mod term;
 #[cfg(test)]
 mod tests;
 mod text;
@@ -21,6 +24,7 @@ mod tokenizer;
 mod tokenizer_manager;
 mod tokenizers;
 mod value;
+mod value_error;
 #[cfg(test)]
 mod value_tests;
 
@@ -28,11 +32,14 @@ pub use analyzers::Analyzers;
 pub use document::{Documents, TantivyDocument};
 pub use error::{ArgumentCause, SchemaCause, TResult, TantivyError};
 pub use facet::Facet;
+pub use field_type::FieldType;
 pub use laws::tokens_are_words;
 pub use schema::{Field, FieldEntry, FieldKind, IndexOption, Schema, SchemaBuilder};
+pub use term::Term;
 pub use text::{Bytes, Text};
 pub use token::{PreTokenizedString, Token, Tokens};
 pub use tokenizer::Tokenizer;
 pub use tokenizer_manager::TokenizerManager;
 pub use tokenizers::{DefaultTokenizer, RawTokenizer, WhitespaceTokenizer};
 pub use value::{Member, Members, OwnedValue, Values};
+pub use value_error::ValueError;
