@@ -4,6 +4,7 @@ pub mod Grows
 pub mod InWords
 pub mod Names
 pub mod Registered
+pub mod Same
 pub mod Tokenizers
 pub mod Tree
 pub mod View

@@ -9,6 +9,7 @@
 
 mod analyzers;
 mod document;
+mod equality;
 mod error;
 mod facet;
 mod laws;
