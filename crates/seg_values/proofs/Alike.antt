@@ -1,39 +1,50 @@
--- Lists whose items look alike place by place, and what a tree and an address are known by.
-use Rattle.std.proofs.Common.{◌≡◌, ℕ, zero, suc, ◌+◌, ◌<◌, ◌*◌, ◌/◌, ◌%◌, List, [], ◌∷◌, length, take, get_or, map, refl, sym, ap, subst, ◌∙◌, arith}
+-- Lists that are the same up to a place, and what trees, pairs and addresses are known by.
+use Rattle.std.proofs.Common.{◌≡◌, ℕ, zero, suc, ◌+◌, ◌<◌, ◌*◌, ◌/◌, ◌%◌, List, [], ◌∷◌, length, Some, take, get_or, map, refl, sym, ap, subst, ◌∙◌, arith}
+use Rattle.std.specs.Prelude.{is_some, not, nat_eq, ◌&&◌, Bool, true, false}
+use mathlib.Core.Bool.{true≢false}
+use Rattle.std.specs.Bool.{Decides}
+use Rattle.std.specs.List.{slice_get}
 use Rattle.std.proofs.lemmas.List.{length-map}
+use Rattle.std.proofs.lemmas.Bool.Decides.{Decides-eqb, Decides-and, Decides-like, Decides-at}
 use Rattle.std.specs.Net.Addr.{octets_of}
+use Rattle.seg_values.specs.Code.{tree_code}
+use Rattle.seg_values.specs.Same.{same_by, same_by-decides}
 use Rattle.seg_values.specs.Tree.{Tree, array, object, trees_from, members_from}
 
-module _ {X Y : Type 0} (f : X → Y) where
-  -- one more item looks alike
-  alike_more : (xs ys : List X) (i : ℕ) (x y : X) → i < length xs → i < length ys → x ≡ get_or xs i x → y ≡ get_or ys i y → f x ≡ f y → take i (map f xs) ≡ take i (map f ys) → take (i + 1) (map f xs) ≡ take (i + 1) (map f ys)
-  alike_more [] ys i x y h k p q e s = absurd (omega arith)
-  alike_more (a ∷ xs) [] i x y h k p q e s = absurd (omega arith)
-  alike_more (a ∷ xs) (b ∷ ys) zero x y h k p q e s = ap (λ z. z ∷ []) (ap f (sym p) ∙ e ∙ ap f q)
-  alike_more (a ∷ xs) (b ∷ ys) (suc i) x y h k p q e s =
-      let same : f a ≡ f b = cc in
-      let before : take i (map f xs) ≡ take i (map f ys) = cc in
-      let more : take (i + 1) (map f xs) ≡ take (i + 1) (map f ys) = alike_more xs ys i x y (omega arith) (omega arith) p q e before in
+module _ {Y : Type 0} where
+  -- one more item is the same
+  pub more_same : (us vs : List Y) (i : ℕ) (u v : Y) → slice_get us i ≡ Some u → slice_get vs i ≡ Some v → u ≡ v → take i us ≡ take i vs → take (i + 1) us ≡ take (i + 1) vs
+  more_same [] vs i u v p q e before = absurd (true≢false (sym (ap is_some p)))
+  more_same (x ∷ us) [] i u v p q e before = absurd (true≢false (sym (ap is_some q)))
+  more_same (x ∷ us) (y ∷ vs) zero u v p q e before = let same : x ≡ y = cc in ap (λ z. z ∷ []) same
+  more_same (x ∷ us) (y ∷ vs) (suc i) u v p q e before =
+      let same : x ≡ y = cc in
+      let rest : take i us ≡ take i vs = cc in
       let next : suc (i + 1) ≡ suc i + 1 = omega arith in
-      subst (λ n. take n (map f (a ∷ xs)) ≡ take n (map f (b ∷ ys))) next (λ j. same j ∷ more j)
+      subst (λ n. take n (x ∷ us) ≡ take n (y ∷ vs)) next (λ j. same j ∷ more_same us vs i u v p q e rest j)
 
-  -- items of lists that look alike
-  alike_at : (xs ys : List X) (i : ℕ) (x y : X) → i < length xs → i < length ys → x ≡ get_or xs i x → y ≡ get_or ys i y → map f xs ≡ map f ys → f x ≡ f y
-  alike_at [] ys i x y h k p q s = absurd (omega arith)
-  alike_at (a ∷ xs) [] i x y h k p q s = absurd (omega arith)
-  alike_at (a ∷ xs) (b ∷ ys) zero x y h k p q s = let same : f a ≡ f b = cc in ap f p ∙ same ∙ ap f (sym q)
-  alike_at (a ∷ xs) (b ∷ ys) (suc i) x y h k p q s = let rest : map f xs ≡ map f ys = cc in alike_at xs ys i x y (omega arith) (omega arith) p q rest
+  -- items at one place of two lists that are the same
+  pub same_at : (us vs : List Y) (i : ℕ) (u v : Y) → slice_get us i ≡ Some u → slice_get vs i ≡ Some v → us ≡ vs → u ≡ v
+  same_at us vs i u v p q e = let found : Some u ≡ Some v = sym p ∙ ap (λ l. slice_get l i) e ∙ q in cc
 
-  module _ (xs ys : List X) (us vs : List Y) (seen : map f xs ≡ us) (seen' : map f ys ≡ vs) (same_length : length us ≡ length vs) where
-    within : (i : ℕ) → i < length xs → i < length ys
-    within i h = omega (arith, length-map xs f, length-map ys f, ap length seen, ap length seen')
+module _ {X Y : Type 0} (f : X → Y) where
+  got : (xs : List X) (i : ℕ) (x : X) → i < length xs → x ≡ get_or xs i x → slice_get (map f xs) i ≡ Some (f x)
+  got [] i x h p = absurd (omega arith)
+  got (a ∷ xs) zero x h p = ap (λ z. Some (f z)) (sym p)
+  got (a ∷ xs) (suc i) x h p = got xs i x (omega arith) p
 
-    pub more_seen : (i : ℕ) (x y : X) → i < length xs → x ≡ get_or xs i x → y ≡ get_or ys i y → f x ≡ f y → take i us ≡ take i vs → take (i + 1) us ≡ take (i + 1) vs
-    more_seen i x y h p q e before =
-        rw (← seen, ← seen') (alike_more xs ys i x y h (within i h) p q e (ap (take i) seen ∙ before ∙ ap (take i) (sym seen')))
+  module _ (xs ys : List X) (us vs : List Y) (seen : map f xs ≡ us) (seen' : map f ys ≡ vs) (same_length : length us ≡ length vs) (i : ℕ) (x y : X) (within : i < length xs) (p : x ≡ get_or xs i x) (q : y ≡ get_or ys i y) where
+    first : slice_get us i ≡ Some (f x)
+    first = ap (λ l. slice_get l i) (sym seen) ∙ got xs i x within p
 
-    pub seen_at : (i : ℕ) (x y : X) → i < length xs → x ≡ get_or xs i x → y ≡ get_or ys i y → us ≡ vs → f x ≡ f y
-    seen_at i x y h p q e = alike_at xs ys i x y h (within i h) p q (seen ∙ e ∙ sym seen')
+    second : slice_get vs i ≡ Some (f y)
+    second = ap (λ l. slice_get l i) (sym seen') ∙ got ys i y (omega (arith, length-map xs f, length-map ys f, ap length seen, ap length seen')) q
+
+    pub more_seen : f x ≡ f y → take i us ≡ take i vs → take (i + 1) us ≡ take (i + 1) vs
+    more_seen = more_same us vs i (f x) (f y) first second
+
+    pub seen_at : us ≡ vs → f x ≡ f y
+    seen_at = same_at us vs i (f x) (f y) first second
 
 -- the same octets are those of the same segments
 pub octets_of-inj : (xs ys : List ℕ) → octets_of xs ≡ octets_of ys → xs ≡ ys
@@ -71,3 +82,22 @@ array-inj ts us e = trees_from-inj ts us cc
 
 pub object-inj : (ms ns : List (List ℕ × Tree)) → object (members_from ms) ≡ object (members_from ns) → ms ≡ ns
 object-inj ms ns e = members_from-inj ms ns cc
+
+is_so : (b : Bool) → not b ≡ false → b ≡ true
+is_so true e = refl
+is_so false e = sym e
+
+is_not : (b : Bool) → not b ≡ true → b ≡ false
+is_not true e = sym e
+is_not false e = refl
+
+-- what the test of two pairs tells
+module _ (differ : Bool) (p q : ℕ × Tree) (is : differ ≡ not (nat_eq p.0 q.0 && same_by tree_code p.1 q.1)) where
+  pairs : Decides (nat_eq p.0 q.0 && same_by tree_code p.1 q.1) (p ≡ q)
+  pairs = Decides-like (nat_eq p.0 q.0 && same_by tree_code p.1 q.1) (λ e i. (e.0 i, e.1 i)) (λ e. (ap (λ (p : ℕ × Tree). p.0) e, ap (λ (p : ℕ × Tree). p.1) e)) (Decides-and (nat_eq p.0 q.0) (same_by tree_code p.1 q.1) (Decides-eqb p.0 q.0) (same_by-decides tree_code p.1 q.1))
+
+  pub same_pair : differ ≡ false → p ≡ q
+  same_pair e = pairs.0 (is_so (nat_eq p.0 q.0 && same_by tree_code p.1 q.1) (sym is ∙ e))
+
+  pub other_pair : differ ≡ true → p ≡ q → ⊥
+  other_pair e same = true≢false (sym (pairs.1 same) ∙ is_not (nat_eq p.0 q.0 && same_by tree_code p.1 q.1) (sym is ∙ e))

@@ -1,10 +1,11 @@
 //! Equality of texts, documents and values: where what contracts see of them is equal.
 ghost use Rattle.std.specs.Prelude.{◌≡◌, ◌↔◌, IsTrue};
-ghost use Rattle.std.specs.Coded.{coded_list, coded×};
+ghost use Rattle.std.specs.Coded.{coded_list, coded×, coded_ℕ};
 ghost use Rattle.seg_values.specs.Code.{key_code, token_code, pre_tokenized_code, tree_code};
-ghost use Rattle.seg_values.specs.Same.{same_by, same_partial_equivalence, same_partial_equivalence_on};
+ghost use Rattle.seg_values.specs.Same.{same_by, same_partial_equivalence, same_partial_equivalence_on, same_equivalence, same_equivalence_on};
 ghost use Rattle.seg_values.specs.View.{tree_of, member_of};
 
+use crate::document::TantivyDocument;
 use crate::facet::Facet;
 use crate::text::{Bytes, Text};
 use crate::token::{PreTokenizedString, Token, Tokens};
@@ -16,11 +17,15 @@ impl PartialEq for Text {
     ghost laws = { same_partial_equivalence key_code };
 
     fn eq(&self, other: &Text) -> bool
-        ensures value { result ≡ same_by key_code self.now other.now }
         ensures same { IsTrue result ↔ (self.now ≡ other.now) }
+        ensures value { result ≡ same_by key_code self.now other.now }
     {
         self.as_str() == other.as_str()
     }
+}
+
+impl Eq for Text {
+    ghost laws = { same_equivalence key_code };
 }
 
 impl PartialEq for Bytes {
@@ -29,11 +34,15 @@ impl PartialEq for Bytes {
     ghost laws = { same_partial_equivalence key_code };
 
     fn eq(&self, other: &Bytes) -> bool
-        ensures value { result ≡ same_by key_code self.now other.now }
         ensures same { IsTrue result ↔ (self.now ≡ other.now) }
+        ensures value { result ≡ same_by key_code self.now other.now }
     {
         self.as_slice() == other.as_slice()
     }
+}
+
+impl Eq for Bytes {
+    ghost laws = { same_equivalence key_code };
 }
 
 impl PartialEq for Facet {
@@ -42,11 +51,15 @@ impl PartialEq for Facet {
     ghost laws = { same_partial_equivalence key_code };
 
     fn eq(&self, other: &Facet) -> bool
-        ensures value { result ≡ same_by key_code self.now other.now }
         ensures same { IsTrue result ↔ (self.now ≡ other.now) }
+        ensures value { result ≡ same_by key_code self.now other.now }
     {
         self.encoded_str() == other.encoded_str()
     }
+}
+
+impl Eq for Facet {
+    ghost laws = { same_equivalence key_code };
 }
 
 impl PartialEq for Token {
@@ -55,8 +68,8 @@ impl PartialEq for Token {
     ghost laws = { same_partial_equivalence token_code };
 
     fn eq(&self, other: &Token) -> bool
-        ensures value { result ≡ same_by token_code self.now other.now }
         ensures same { IsTrue result ↔ (self.now ≡ other.now) }
+        ensures value { result ≡ same_by token_code self.now other.now }
     {
         self.offset_from == other.offset_from
             && self.offset_to == other.offset_to
@@ -66,17 +79,25 @@ impl PartialEq for Token {
     }
 }
 
+impl Eq for Token {
+    ghost laws = { same_equivalence token_code };
+}
+
 impl PartialEq for Tokens {
     ghost eq = { same_by (coded_list token_code) };
 
     ghost laws = { same_partial_equivalence (coded_list token_code) };
 
     fn eq(&self, other: &Tokens) -> bool
-        ensures value { result ≡ same_by (coded_list token_code) self.now other.now }
         ensures same { IsTrue result ↔ (self.now ≡ other.now) }
+        ensures value { result ≡ same_by (coded_list token_code) self.now other.now }
     {
         self.as_slice() == other.as_slice()
     }
+}
+
+impl Eq for Tokens {
+    ghost laws = { same_equivalence (coded_list token_code) };
 }
 
 impl PartialEq for PreTokenizedString {
@@ -85,11 +106,15 @@ impl PartialEq for PreTokenizedString {
     ghost laws = { same_partial_equivalence pre_tokenized_code };
 
     fn eq(&self, other: &PreTokenizedString) -> bool
-        ensures value { result ≡ same_by pre_tokenized_code self.now other.now }
         ensures same { IsTrue result ↔ (self.now ≡ other.now) }
+        ensures value { result ≡ same_by pre_tokenized_code self.now other.now }
     {
         self.text == other.text && self.tokens == other.tokens
     }
+}
+
+impl Eq for PreTokenizedString {
+    ghost laws = { same_equivalence pre_tokenized_code };
 }
 
 impl PartialEq for OwnedValue {
@@ -98,11 +123,15 @@ impl PartialEq for OwnedValue {
     ghost laws = { same_partial_equivalence_on tree_code tree_of };
 
     fn eq(&self, other: &OwnedValue) -> bool
-        ensures value { result ≡ same_by tree_code (tree_of self.now) (tree_of other.now) }
         ensures same { IsTrue result ↔ (tree_of self.now ≡ tree_of other.now) }
+        ensures value { result ≡ same_by tree_code (tree_of self.now) (tree_of other.now) }
     {
         is_same(self, other)
     }
+}
+
+impl Eq for OwnedValue {
+    ghost laws = { same_equivalence_on tree_code tree_of };
 }
 
 impl PartialEq for Values {
@@ -111,11 +140,15 @@ impl PartialEq for Values {
     ghost laws = { same_partial_equivalence (coded_list tree_code) };
 
     fn eq(&self, other: &Values) -> bool
-        ensures value { result ≡ same_by (coded_list tree_code) self.now other.now }
         ensures same { IsTrue result ↔ (self.now ≡ other.now) }
+        ensures value { result ≡ same_by (coded_list tree_code) self.now other.now }
     {
         are_same(self, other)
     }
+}
+
+impl Eq for Values {
+    ghost laws = { same_equivalence (coded_list tree_code) };
 }
 
 impl PartialEq for Members {
@@ -124,11 +157,46 @@ impl PartialEq for Members {
     ghost laws = { same_partial_equivalence (coded_list (coded× key_code tree_code)) };
 
     fn eq(&self, other: &Members) -> bool
-        ensures value { result ≡ same_by (coded_list (coded× key_code tree_code)) self.now other.now }
         ensures same { IsTrue result ↔ (self.now ≡ other.now) }
+        ensures value { result ≡ same_by (coded_list (coded× key_code tree_code)) self.now other.now }
     {
         are_same_members(self, other)
     }
+}
+
+impl Eq for Members {
+    ghost laws = { same_equivalence (coded_list (coded× key_code tree_code)) };
+}
+
+impl PartialEq for TantivyDocument {
+    ghost eq = { same_by (coded_list (coded× coded_ℕ tree_code)) };
+
+    ghost laws = { same_partial_equivalence (coded_list (coded× coded_ℕ tree_code)) };
+
+    fn eq(&self, other: &TantivyDocument) -> bool
+        ensures same { IsTrue result ↔ (self.now ≡ other.now) }
+        ensures value { result ≡ same_by (coded_list (coded× coded_ℕ tree_code)) self.now other.now }
+    {
+        are_same_pairs(self, other)
+    }
+}
+
+impl Eq for TantivyDocument {
+    ghost laws = { same_equivalence (coded_list (coded× coded_ℕ tree_code)) };
+}
+
+fn are_same_pairs(a: &TantivyDocument, b: &TantivyDocument) -> bool
+    ensures { IsTrue result ↔ (a.now ≡ b.now) }
+{
+    if a.len() != b.len() {
+        return false;
+    }
+    for at in 0..a.len() {
+        if a.pair(at) != b.pair(at) {
+            return false;
+        }
+    }
+    true
 }
 
 #[cycle(equality)]
