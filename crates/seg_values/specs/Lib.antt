@@ -7,5 +7,6 @@ pub mod Registered
 pub mod Same
 pub mod Tokenizers
 pub mod Tree
+pub mod Utf8
 pub mod View
 pub mod Words

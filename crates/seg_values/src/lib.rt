@@ -21,6 +21,7 @@ mod token;
 mod tokenizer;
 mod tokenizer_manager;
 mod tokenizers;
+mod utf8;
 mod value;
 
 pub use analyzers::Analyzers;
