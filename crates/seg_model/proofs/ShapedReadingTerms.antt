@@ -17,6 +17,7 @@ use Rattle.seg_values.specs.declared.schema.FieldKind.TheVariants as kinds
 use Rattle.seg_values.specs.declared.schema.IndexOption.{IndexOption}
 use Rattle.seg_values.specs.declared.schema.IndexOption.TheVariants.{No, Basic, Freqs, Positions}
 use Rattle.seg_values.specs.Tree.{Leaf, null, text, pre_tokenized, unsigned, signed, boolean, date, facet, byte_string, ip, Tree, leaf, array, object, Trees, no_trees, tree, Members, no_members, member, Document}
+use Rattle.seg_values.specs.Utf8.{IsUtf8Tree, AreUtf8Trees, AreUtf8Members, IsUtf8Document}
 use Rattle.seg_model.specs.Fields.{Schema, Analyzer, is_json, is_facet, is_indexed, indexing_tokenizer, values_of}
 use Rattle.seg_model.specs.Leaves.{PlacedLeaf, level_in_array, leaves_at, leaves_of_trees, leaves_of_members, leaves, leaves_of, joined_path}
 use Rattle.seg_model.specs.Takes.{is_own_leaf, is_own_array, is_of_kind, takes}
@@ -24,7 +25,7 @@ use Rattle.seg_model.specs.Tables.{is_among}
 use Rattle.seg_values.specs.ValueBytes.{raised}
 use Rattle.seg_model.specs.Occurrences.{Occurrence, counted, facet_prefixes, at_zero, value_terms, leaf_occurrences, json_occurrences, kind_occurrences, occurrences_at, occurrences}
 use Rattle.seg_model.specs.Reading.{Posting, positions_of, if_occurs, term_option, recorded_in, postings_of, terms_of}
-use Rattle.seg_model.specs.Checked.{Refusal, or_else, first_refusal, unless, value_refusal, is_json_leaf, has_no_zero, tree_refusal, trees_refusal, members_refusal, is_checked_json, json_refusal, wrong_value, json_leaf, json_key, IsUtf8Tree, AreUtf8Trees, AreUtf8Members, IsUtf8Document, IsSound}
+use Rattle.seg_model.specs.Checked.{Refusal, or_else, first_refusal, unless, value_refusal, is_json_leaf, has_no_zero, tree_refusal, trees_refusal, members_refusal, is_checked_json, json_refusal, wrong_value, json_leaf, json_key, IsSound}
 use Rattle.seg_model.specs.Shape.{IsTermOf, IsTermWith, ArePostings, is_type_code}
 use Rattle.seg_model.proofs.Tables.{same_key}
 use Rattle.seg_model.proofs.Terms.{texts_apart, get-terms_of, complete_terms}

@@ -1,12 +1,13 @@
 -- The check of a document that is to be added: four passes over its pairs, of which the first that finds something answers.
-use Rattle.std.specs.Prelude.{ℕ, ◌+◌, ◌^◌, List, [], ◌∷◌, map, filter, length, Option, Some, None, Bool, true, false, ◌&&◌, ◌||◌, ◌==◌, nat_le, nat_lt, if◌then◌else◌, IsUtf8, ◌≡◌}
-use Rattle.std.specs.List.{slice_get, list_all, flat_map, AllByRecursion}
+use Rattle.std.specs.Prelude.{ℕ, ◌+◌, ◌^◌, List, [], ◌∷◌, map, filter, length, Option, Some, None, Bool, true, false, ◌&&◌, ◌||◌, ◌==◌, nat_le, nat_lt, if◌then◌else◌, ◌≡◌}
+use Rattle.std.specs.List.{slice_get, list_all, flat_map}
 use Rattle.std.specs.Str.{bytes_eq}
 use Rattle.seg_values.specs.declared.token.Token.{Token}
 use Rattle.seg_values.specs.declared.schema.FieldEntry.{FieldEntry}
 use Rattle.seg_values.specs.declared.schema.FieldKind.{FieldKind}
 use Rattle.seg_values.specs.declared.schema.FieldKind.TheVariants as kinds
-use Rattle.seg_values.specs.Tree.{Leaf, text, pre_tokenized, facet, byte_string, ip, Tree, leaf, array, object, Trees, no_trees, tree, Members, no_members, member, levels, Document}
+use Rattle.seg_values.specs.Tree.{Leaf, pre_tokenized, facet, byte_string, ip, Tree, leaf, array, object, Trees, no_trees, tree, Members, no_members, member, levels, Document}
+use Rattle.seg_values.specs.Utf8.{IsUtf8Document}
 use Rattle.seg_model.specs.Fields.{Schema, Analyzer, is_json, is_indexed, indexing_tokenizer, values_of, fields}
 use Rattle.seg_model.specs.Leaves.{PlacedLeaf, leaves, leaves_of, joined_path}
 use Rattle.seg_model.specs.Takes.{takes}
@@ -169,35 +170,6 @@ document_refusal schema analyzer document =
     (or_else (leaves_refusal schema document)
     (or_else (order_refusal schema analyzer document)
     (limit_refusal schema analyzer document)))
-
--- ---- texts
-
-abbrev pub AreUtf8Tokens : List Token → Type 0
-AreUtf8Tokens tokens = AllByRecursion (λ t. IsUtf8 t.text) tokens
-
-abbrev pub IsUtf8Leaf : Leaf → Type 0
-IsUtf8Leaf (text s) = IsUtf8 s
-IsUtf8Leaf (pre_tokenized p) = IsUtf8 p.text × AreUtf8Tokens p.tokens
-IsUtf8Leaf (facet s) = IsUtf8 s
-IsUtf8Leaf _ = Unit {0}
-
--- each text and each key is UTF-8
-abbrev mutual
-  pub IsUtf8Tree : Tree → Type 0
-  IsUtf8Tree (leaf l) = IsUtf8Leaf l
-  IsUtf8Tree (array ts) = AreUtf8Trees ts
-  IsUtf8Tree (object ms) = AreUtf8Members ms
-
-  pub AreUtf8Trees : Trees → Type 0
-  AreUtf8Trees no_trees = Unit {0}
-  AreUtf8Trees (tree t ts) = IsUtf8Tree t × AreUtf8Trees ts
-
-  pub AreUtf8Members : Members → Type 0
-  AreUtf8Members no_members = Unit {0}
-  AreUtf8Members (member key t ms) = IsUtf8 key × IsUtf8Tree t × AreUtf8Members ms
-
-abbrev pub IsUtf8Document : Document → Type 0
-IsUtf8Document document = AllByRecursion (λ p. IsUtf8Tree p.1) document
 
 -- a document that passes the first two passes, with texts
 pub record IsSound (schema : Schema) (document : Document) : Type 0 where

@@ -7,8 +7,10 @@ pub mod InWords
 pub mod NameSearch
 pub mod Names
 pub mod Registered
+pub mod Same
 pub mod Tokenizers
 pub mod Tree
+pub mod Utf8
 pub mod ValueBytes
 pub mod View
 pub mod Words

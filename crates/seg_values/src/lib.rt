@@ -9,6 +9,7 @@
 
 mod analyzers;
 mod document;
+mod equality;
 mod error;
 mod facet;
 mod field_type;
@@ -23,6 +24,7 @@ mod token;
 mod tokenizer;
 mod tokenizer_manager;
 mod tokenizers;
+mod utf8;
 mod value;
 mod value_error;
 #[cfg(test)]

@@ -33,7 +33,7 @@ pub enum IndexOption {
 }
 
 /// A field of a schema.
-#[derive(Debug, Drop)]
+#[derive(Debug, PartialEq, Eq, Drop)]
 pub struct FieldEntry {
     pub name: Text,
     pub kind: FieldKind,

@@ -1,0 +1,8 @@
+use Rattle.std.proofs.Common.{◌≡◌, ◌<◌, ℕ, get_or}
+use Rattle.seg_values.specs.Tree.{Tree}
+use Rattle.seg_values.specs.Utf8.{IsUtf8Tree}
+use Rattle.seg_values.proofs.document.TantivyDocument.texts_are_utf8.Given as goal
+
+-- the texts that were passed
+abbrev pub invariant-loop-at : goal.invariant-loop-at
+invariant-loop-at l = (k : ℕ) (d : ℕ × Tree) → k < l.at → IsUtf8Tree (get_or l.self k d).1

@@ -1,0 +1,258 @@
+//! Equality of texts, documents and values: where what contracts see of them is equal.
+ghost use Rattle.std.specs.Prelude.{◌≡◌, ◌↔◌, IsTrue};
+ghost use Rattle.std.specs.Coded.{coded_list, coded×, coded_ℕ};
+ghost use Rattle.seg_values.specs.Code.{key_code, token_code, pre_tokenized_code, tree_code};
+ghost use Rattle.seg_values.specs.Same.{same_by, same_partial_equivalence, same_partial_equivalence_on, same_equivalence, same_equivalence_on};
+ghost use Rattle.seg_values.specs.View.{tree_of, member_of};
+
+use crate::document::TantivyDocument;
+use crate::facet::Facet;
+use crate::text::{Bytes, Text};
+use crate::token::{PreTokenizedString, Token, Tokens};
+use crate::value::{Member, Members, OwnedValue, Values};
+
+impl PartialEq for Text {
+    ghost eq = { same_by key_code };
+
+    ghost laws = { same_partial_equivalence key_code };
+
+    fn eq(&self, other: &Text) -> bool
+        ensures same { IsTrue result ↔ (self.now ≡ other.now) }
+        ensures value { result ≡ same_by key_code self.now other.now }
+    {
+        self.as_str() == other.as_str()
+    }
+}
+
+impl Eq for Text {
+    ghost laws = { same_equivalence key_code };
+}
+
+impl PartialEq for Bytes {
+    ghost eq = { same_by key_code };
+
+    ghost laws = { same_partial_equivalence key_code };
+
+    fn eq(&self, other: &Bytes) -> bool
+        ensures same { IsTrue result ↔ (self.now ≡ other.now) }
+        ensures value { result ≡ same_by key_code self.now other.now }
+    {
+        self.as_slice() == other.as_slice()
+    }
+}
+
+impl Eq for Bytes {
+    ghost laws = { same_equivalence key_code };
+}
+
+impl PartialEq for Facet {
+    ghost eq = { same_by key_code };
+
+    ghost laws = { same_partial_equivalence key_code };
+
+    fn eq(&self, other: &Facet) -> bool
+        ensures same { IsTrue result ↔ (self.now ≡ other.now) }
+        ensures value { result ≡ same_by key_code self.now other.now }
+    {
+        self.encoded_str() == other.encoded_str()
+    }
+}
+
+impl Eq for Facet {
+    ghost laws = { same_equivalence key_code };
+}
+
+impl PartialEq for Token {
+    ghost eq = { same_by token_code };
+
+    ghost laws = { same_partial_equivalence token_code };
+
+    fn eq(&self, other: &Token) -> bool
+        ensures same { IsTrue result ↔ (self.now ≡ other.now) }
+        ensures value { result ≡ same_by token_code self.now other.now }
+    {
+        self.offset_from == other.offset_from
+            && self.offset_to == other.offset_to
+            && self.position == other.position
+            && self.position_length == other.position_length
+            && self.text == other.text
+    }
+}
+
+impl Eq for Token {
+    ghost laws = { same_equivalence token_code };
+}
+
+impl PartialEq for Tokens {
+    ghost eq = { same_by (coded_list token_code) };
+
+    ghost laws = { same_partial_equivalence (coded_list token_code) };
+
+    fn eq(&self, other: &Tokens) -> bool
+        ensures same { IsTrue result ↔ (self.now ≡ other.now) }
+        ensures value { result ≡ same_by (coded_list token_code) self.now other.now }
+    {
+        self.as_slice() == other.as_slice()
+    }
+}
+
+impl Eq for Tokens {
+    ghost laws = { same_equivalence (coded_list token_code) };
+}
+
+impl PartialEq for PreTokenizedString {
+    ghost eq = { same_by pre_tokenized_code };
+
+    ghost laws = { same_partial_equivalence pre_tokenized_code };
+
+    fn eq(&self, other: &PreTokenizedString) -> bool
+        ensures same { IsTrue result ↔ (self.now ≡ other.now) }
+        ensures value { result ≡ same_by pre_tokenized_code self.now other.now }
+    {
+        self.text == other.text && self.tokens == other.tokens
+    }
+}
+
+impl Eq for PreTokenizedString {
+    ghost laws = { same_equivalence pre_tokenized_code };
+}
+
+impl PartialEq for OwnedValue {
+    ghost eq = { λ a b. same_by tree_code (tree_of a) (tree_of b) };
+
+    ghost laws = { same_partial_equivalence_on tree_code tree_of };
+
+    fn eq(&self, other: &OwnedValue) -> bool
+        ensures same { IsTrue result ↔ (tree_of self.now ≡ tree_of other.now) }
+        ensures value { result ≡ same_by tree_code (tree_of self.now) (tree_of other.now) }
+    {
+        is_same(self, other)
+    }
+}
+
+impl Eq for OwnedValue {
+    ghost laws = { same_equivalence_on tree_code tree_of };
+}
+
+impl PartialEq for Values {
+    ghost eq = { same_by (coded_list tree_code) };
+
+    ghost laws = { same_partial_equivalence (coded_list tree_code) };
+
+    fn eq(&self, other: &Values) -> bool
+        ensures same { IsTrue result ↔ (self.now ≡ other.now) }
+        ensures value { result ≡ same_by (coded_list tree_code) self.now other.now }
+    {
+        are_same(self, other)
+    }
+}
+
+impl Eq for Values {
+    ghost laws = { same_equivalence (coded_list tree_code) };
+}
+
+impl PartialEq for Members {
+    ghost eq = { same_by (coded_list (coded× key_code tree_code)) };
+
+    ghost laws = { same_partial_equivalence (coded_list (coded× key_code tree_code)) };
+
+    fn eq(&self, other: &Members) -> bool
+        ensures same { IsTrue result ↔ (self.now ≡ other.now) }
+        ensures value { result ≡ same_by (coded_list (coded× key_code tree_code)) self.now other.now }
+    {
+        are_same_members(self, other)
+    }
+}
+
+impl Eq for Members {
+    ghost laws = { same_equivalence (coded_list (coded× key_code tree_code)) };
+}
+
+impl PartialEq for TantivyDocument {
+    ghost eq = { same_by (coded_list (coded× coded_ℕ tree_code)) };
+
+    ghost laws = { same_partial_equivalence (coded_list (coded× coded_ℕ tree_code)) };
+
+    fn eq(&self, other: &TantivyDocument) -> bool
+        ensures same { IsTrue result ↔ (self.now ≡ other.now) }
+        ensures value { result ≡ same_by (coded_list (coded× coded_ℕ tree_code)) self.now other.now }
+    {
+        are_same_pairs(self, other)
+    }
+}
+
+impl Eq for TantivyDocument {
+    ghost laws = { same_equivalence (coded_list (coded× coded_ℕ tree_code)) };
+}
+
+fn are_same_pairs(a: &TantivyDocument, b: &TantivyDocument) -> bool
+    ensures { IsTrue result ↔ (a.now ≡ b.now) }
+{
+    if a.len() != b.len() {
+        return false;
+    }
+    for at in 0..a.len() {
+        if a.pair(at) != b.pair(at) {
+            return false;
+        }
+    }
+    true
+}
+
+#[cycle(equality)]
+fn is_same(a: &OwnedValue, b: &OwnedValue) -> bool
+    ensures { IsTrue result ↔ (tree_of a.now ≡ tree_of b.now) }
+{
+    match (a, b) {
+        (OwnedValue::Null, OwnedValue::Null) => true,
+        (OwnedValue::Str(x), OwnedValue::Str(y)) => x == y,
+        (OwnedValue::PreTokStr(x), OwnedValue::PreTokStr(y)) => x == y,
+        (OwnedValue::U64(x), OwnedValue::U64(y)) => x == y,
+        (OwnedValue::I64(x), OwnedValue::I64(y)) => x == y,
+        (OwnedValue::Bool(x), OwnedValue::Bool(y)) => x == y,
+        (OwnedValue::Date(x), OwnedValue::Date(y)) => x == y,
+        (OwnedValue::Facet(x), OwnedValue::Facet(y)) => x == y,
+        (OwnedValue::Bytes(x), OwnedValue::Bytes(y)) => x == y,
+        (OwnedValue::IpAddr(x), OwnedValue::IpAddr(y)) => x == y,
+        (OwnedValue::Array(x), OwnedValue::Array(y)) => are_same(x, y),
+        (OwnedValue::Object(x), OwnedValue::Object(y)) => are_same_members(x, y),
+        _ => false,
+    }
+}
+
+#[cycle(equality)]
+fn are_same(a: &Values, b: &Values) -> bool
+    ensures { IsTrue result ↔ (a.now ≡ b.now) }
+{
+    if a.len() != b.len() {
+        return false;
+    }
+    for (at, x) in a.values.iter().enumerate() {
+        if !is_same(x, &b.values[at]) {
+            return false;
+        }
+    }
+    true
+}
+
+#[cycle(equality)]
+fn are_same_members(a: &Members, b: &Members) -> bool
+    ensures { IsTrue result ↔ (a.now ≡ b.now) }
+{
+    if a.len() != b.len() {
+        return false;
+    }
+    for (at, x) in a.members.iter().enumerate() {
+        if !is_same_member(x, &b.members[at]) {
+            return false;
+        }
+    }
+    true
+}
+
+#[cycle(equality)]
+fn is_same_member(a: &Member, b: &Member) -> bool
+    ensures { IsTrue result ↔ (member_of a.now ≡ member_of b.now) }
+{
+    a.key == b.key && is_same(&a.value, &b.value)
+}
