@@ -139,7 +139,8 @@ fn read_and_build<S: Source, Z: Analyzers>(
         (λ _. IfSome (S.left source.old) IsJson)) }
     ensures later { IfErr result (λ status. IfRefused status (λ _. IfSome (S.left source.old)
         (λ bytes. ¬ (IsNarrow (Z.knows analyzers.now) (Z.tokens_of analyzers.now) bytes)))) }
-    ensures stream { IsErrOf result Status.Stream → Rose (S.faults source.old) (S.faults source.new) }
+    ensures stream { IsErrOf result Status.Stream
+        → Rose (S.faults source.old) (S.faults source.new) }
     ensures never { IsErrOf result Status.Done → ⊥ }
     ensures never_words { IsErrOf result Status.Words → ⊥ }
     ensures taken { TakesAtMost (max_script + 1) (S.left source.old) (S.left source.new) }

@@ -100,7 +100,8 @@ fn push_term_line(
     bytes: &[u8],
     hits: &[Hit],
 ) -> Result<(), AllocError>
-    ensures { OnOk result (out.new.items ≡ out.old.items ++ term_line (bytes.now, grouped hits.now)) }
+    ensures { OnOk result (out.new.items ≡ out.old.items
+        ++ term_line (bytes.now, grouped hits.now)) }
 {
     push_term(out, bytes)?;
     push_postings(out, positions, hits)?;
@@ -114,7 +115,8 @@ fn push_postings(
     positions: &mut Vec<u32>,
     hits: &[Hit],
 ) -> Result<(), AllocError>
-    ensures { OnOk result (out.new.items ≡ out.old.items ++ flat_map posting_text (grouped hits.now)) }
+    ensures { OnOk result (out.new.items ≡ out.old.items
+        ++ flat_map posting_text (grouped hits.now)) }
 {
     let mut rest = hits;
     while !rest.is_empty() {

@@ -11,8 +11,10 @@ use seg_values::{ArgumentCause, SchemaCause, TantivyError};
 
 /// Says what came of a run in one line. It takes no memory.
 pub(crate) fn report<F: Sink>(faults: &mut F, status: &Status) -> Result<(), SinkFailed>
-    ensures ok { OnOk result (Appends (F.written faults.old) (F.written faults.new) (status_line status.now)) }
-    ensures err { OnErr result (AppendsPart (F.written faults.old) (F.written faults.new) (status_line status.now)) }
+    ensures ok { OnOk result (Appends (F.written faults.old) (F.written faults.new)
+        (status_line status.now)) }
+    ensures err { OnErr result (AppendsPart (F.written faults.old) (F.written faults.new)
+        (status_line status.now)) }
     ensures told { StaysTold (F.written faults.old) (F.written faults.new) }
     ensures cause { HasCause (F.faults faults.old) (F.faults faults.new) result }
 {
@@ -40,8 +42,10 @@ fn write_refusal<F: Sink>(faults: &mut F, error: &TantivyError) -> Result<(), Si
 }
 
 fn write_cause<F: Sink>(faults: &mut F, error: &TantivyError) -> Result<(), SinkFailed>
-    ensures ok { OnOk result (Appends (F.written faults.old) (F.written faults.new) (cause_text (cause_words error.now))) }
-    ensures err { OnErr result (AppendsPart (F.written faults.old) (F.written faults.new) (cause_text (cause_words error.now))) }
+    ensures ok { OnOk result (Appends (F.written faults.old) (F.written faults.new)
+        (cause_text (cause_words error.now))) }
+    ensures err { OnErr result (AppendsPart (F.written faults.old) (F.written faults.new)
+        (cause_text (cause_words error.now))) }
     ensures told { StaysTold (F.written faults.old) (F.written faults.new) }
     ensures cause { HasCause (F.faults faults.old) (F.faults faults.new) result }
 {
@@ -82,7 +86,8 @@ fn numbers_of(error: &TantivyError) -> (Option<u64>, Option<u64>)
 }
 
 fn schema_numbers(cause: &SchemaCause) -> (Option<u64>, Option<u64>)
-    ensures { option_to_list result.0 ++ option_to_list result.1 ≡ (schema_cause_words cause.now).numbers }
+    ensures { option_to_list result.0 ++ option_to_list result.1
+        ≡ (schema_cause_words cause.now).numbers }
 {
     match cause {
         SchemaCause::UnknownField { at } => (Some(*at as u64), None),
