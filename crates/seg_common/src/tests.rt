@@ -1,9 +1,10 @@
 //! Runs of each public call, with ample memory.
 
 use crate::{
-    DateTime, MemorySink, MemorySource, ReadError, ReaderSource, SegmentId, Sink, SinkFailed,
-    WriterSink, read_to_end, varint_len, write_whole,
+    ColumnType, CommonError, DateTime, DateTimePrecision, MemorySink, MemorySource, ReadError,
+    ReaderSource, SegmentId, Sink, SinkFailed, WriterSink, read_to_end, varint_len, write_whole,
 };
+use std::alloc::AllocError;
 use std::test::Fail;
 
 const LONG: usize = 40_000;
@@ -92,4 +93,49 @@ fn tells_numbers_and_their_lengths(rt: HostRuntime) {
         DateTime::from_timestamp_nanos(i64::MIN).into_timestamp_nanos(),
         i64::MIN
     );
+}
+
+#[test]
+fn cuts_moments_toward_1970(rt: HostRuntime) {
+    for (nanos, precision, expected) in [
+        (1_999_999_999, DateTimePrecision::Seconds, 1_000_000_000),
+        (-1, DateTimePrecision::Seconds, 0),
+        (-1_999_999_999, DateTimePrecision::Seconds, -1_000_000_000),
+        (
+            i64::MIN,
+            DateTimePrecision::Seconds,
+            -9_223_372_036_000_000_000,
+        ),
+        (
+            i64::MAX,
+            DateTimePrecision::Seconds,
+            9_223_372_036_000_000_000,
+        ),
+        (
+            1_234_567_891,
+            DateTimePrecision::Milliseconds,
+            1_234_000_000,
+        ),
+        (
+            -1_234_567_891,
+            DateTimePrecision::Microseconds,
+            -1_234_567_000,
+        ),
+        (
+            -1_234_567_891,
+            DateTimePrecision::Nanoseconds,
+            -1_234_567_891,
+        ),
+    ] {
+        let cut = DateTime::from_timestamp_nanos(nanos).truncate(precision);
+        assert_eq!(rt; cut.into_timestamp_nanos(), expected, "at {nanos}");
+    }
+}
+
+#[test]
+fn orders_and_errors(rt: HostRuntime) {
+    assert!(rt; DateTime::from_timestamp_nanos(-1) < DateTime::from_timestamp_nanos(0));
+    assert!(rt; SegmentId::from_u128(9) < SegmentId::from_u128(10));
+    assert!(rt; ColumnType::Bytes < ColumnType::Str);
+    assert_eq!(rt; CommonError::from(AllocError), CommonError::OutOfMemory);
 }

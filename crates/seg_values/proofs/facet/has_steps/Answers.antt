@@ -10,7 +10,7 @@ returns-then-not-contains c =
     let text = c.args.path.now in
     tells_from_passes text _ (passed_two (length text == 0) (list_any (λ byte. byte == 0) text) _ _ (cc) (cc)
     (all_from_yields_List (λ step. not (eqb (length step) 0)) _ _ _ c.all.ensures.ran
-        (YieldsList-from_str_split 47 text (lit< tt) c.split.ensures.text c.split.ensures.has_more c.split.ensures.pattern) (λ x b q k. search (rules, tests))))
+    (YieldsList-from_str_split 47 text (lit< tt) c.split.ensures.text c.split.ensures.has_more c.split.ensures.pattern) (λ x b q k. search (rules, tests))))
 
 pub returns-else-not-contains : goal.returns-else-not-contains
 returns-else-not-contains c =

@@ -21,7 +21,7 @@ returns-in-Ok-get_field c =
     let part : c.range.result.now ≡ take at c.args.name.now = grind (arith, common_steps, c.range.ensures.value) in
     let path : c.range_from.result.now ≡ drop (at + 1) c.args.name.now = grind (arith, common_steps, c.range_from.ensures.value) in
     finds_part c.args.self.now c.args.name.now c.args.default c.in_default.ensures.err.1 at c.in-Ok-get_field.field _ _ separator c.in-Ok-get_field.ensures.ok part path
-        (subst (λ n. NoPartFrom c.args.self.now c.args.name.now n) next c.loop-at.invariant)
+    (subst (λ n. NoPartFrom c.args.self.now c.args.name.now n) next c.loop-at.invariant)
 
 pub returns-in_err-default : goal.returns-in_err-default
 returns-in_err-default c =
