@@ -27,8 +27,6 @@ mod tokenizers;
 mod utf8;
 mod value;
 mod value_error;
-#[cfg(test)]
-mod value_tests;
 
 pub use analyzers::Analyzers;
 pub use document::{Documents, TantivyDocument};

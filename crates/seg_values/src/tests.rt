@@ -1,6 +1,9 @@
 //! Each public function once, with ample memory.
 ghost use Rattle.std.specs.Prelude.{◌≡◌, IfOk};
 
+mod equality;
+mod trees;
+
 use crate::{
     Analyzers, DefaultTokenizer, Facet, Field, FieldEntry, FieldKind, FieldType, IndexOption,
     OwnedValue, RawTokenizer, Schema, SchemaBuilder, SchemaCause, TantivyDocument, TantivyError,

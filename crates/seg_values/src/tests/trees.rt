@@ -1,6 +1,7 @@
 //! Values and documents: each public function once, with ample memory.
 use crate::{
     Bytes, Documents, Facet, Field, Member, Members, OwnedValue, TantivyDocument, Text, Values,
+    tokens_are_words,
 };
 use std::test::Fail;
 
@@ -15,7 +16,7 @@ fn leaves(rt: HostRuntime) -> Result<(), Fail> {
     assert_eq!(rt; moved.as_str(), "pan");
     let bytes = Bytes::from_vec(vec![in alloc; 1, 2]?);
     assert_eq!(rt; bytes.as_slice(), [1, 2].as_slice());
-    let facet = Facet::from_encoded(Text::copy_of(alloc, "kitchen\0mug")?);
+    let facet = Facet::from_encoded_string(String::from_str(alloc, "kitchen\0mug")?);
     assert_eq!(rt; facet.encoded_str(), "kitchen\0mug");
     assert_eq!(rt; Field::from_field_id(7).field_id(), 7);
     Ok(())
@@ -55,4 +56,9 @@ fn documents(rt: HostRuntime) -> Result<(), Fail> {
     documents.push(document)?;
     assert_eq!(rt; documents.as_slice().len(), 1);
     Ok(())
+}
+
+#[test]
+fn laws() {
+    tokens_are_words();
 }
