@@ -1,0 +1,22 @@
+//! What the definitions say, computed plainly: a slow reference that faster bodies are compared with in tests.
+//!
+//! Each public function returns what a definition of `seg_model` says of its arguments; contracts see occurrences as
+//! the list of the definition's own.
+//!
+//! To be read in this order: `occurrence`; `tokens` and `text` (text fields), `numbers`, `leaf` and `plain` (fields of
+//! other kinds), `field` (each field of a document).
+#![tactic(auto)]
+
+mod entry;
+mod field;
+mod json;
+mod leaf;
+mod numbers;
+mod occurrence;
+mod path;
+mod plain;
+mod text;
+mod tokens;
+
+pub use field::occurrences;
+pub use occurrence::Occurrences;
