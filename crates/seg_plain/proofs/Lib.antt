@@ -1,3 +1,5 @@
+pub mod Lengths
 pub mod Paths
 pub mod Places
+pub mod Positions
 pub mod Turns

@@ -11,12 +11,16 @@ mod entry;
 mod field;
 mod json;
 mod leaf;
+mod length;
 mod numbers;
 mod occurrence;
 mod path;
 mod plain;
+mod posting;
 mod text;
 mod tokens;
 
 pub use field::occurrences;
+pub use length::{field_norms, length_id, length_of_id};
 pub use occurrence::Occurrences;
+pub use posting::{Posting, Postings, Recorded};

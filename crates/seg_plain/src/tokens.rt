@@ -1,5 +1,5 @@
 //! The tokens of one text.
-ghost use Rattle.std.specs.Prelude.{◌≡◌, ◌++◌, IfOk, OnOk};
+ghost use Rattle.std.specs.Prelude.{◌≡◌, ◌++◌, length, IfOk, OnOk};
 ghost use Rattle.seg_model.specs.Occurrences as occurrences;
 
 use crate::occurrence::Occurrences;
@@ -45,4 +45,11 @@ pub(crate) fn start_after(start: u64, tokens: &[Token]) -> Result<u64, AllocErro
         }
     }
     end.checked_add(1).ok_or(AllocError)
+}
+
+/// How many tokens give terms.
+pub(crate) fn counted_len(tokens: &[Token]) -> usize
+    ensures { result ≡ length (occurrences.counted tokens.now) }
+{
+    tokens.iter().filter(|t| t.text.len() <= MAX_TOKEN).count()
 }
