@@ -2,4 +2,5 @@ pub mod Lengths
 pub mod Paths
 pub mod Places
 pub mod Positions
+pub mod Tables
 pub mod Turns

@@ -1,5 +1,5 @@
 -- What is at a place of a list and of a document, and what is left from there.
-use Rattle.std.proofs.Common.{◌≡◌, ◌≢◌, ℕ, zero, suc, ◌+◌, Bool, true, false, List, [], ◌∷◌, Some, drop, map, filter, add-one, refl, sym, ap, ◌∙◌, arith}
+use Rattle.std.proofs.Common.{◌≡◌, ◌≢◌, ℕ, zero, suc, ◌+◌, Bool, true, false, List, [], ◌∷◌, Some, length, get_or, ◌<◌, drop, drop-cons, map, filter, add-one, refl, sym, ap, ◌∙◌, arith}
 use Rattle.std.specs.Prelude.{is_some, nat_eq, cond}
 use Rattle.std.specs.List.{slice_get}
 use Rattle.std.proofs.lemmas.Bool.{false≢true}
@@ -17,6 +17,9 @@ drop-found (y ∷ ys) (suc i) x e = drop-found ys i x e
 
 pub drop-at : {X : Type 0} (xs : List X) (i : ℕ) (x : X) → slice_get xs i ≡ Some x → drop i xs ≡ x ∷ drop (i + 1) xs
 drop-at xs i x e = drop-found xs i x e ∙ ap (λ j. x ∷ drop j xs) (sym (add-one i))
+
+pub drop-item : {X : Type 0} (xs : List X) (i : ℕ) (x : X) → i < length xs → x ≡ get_or xs i x → drop i xs ≡ x ∷ drop (i + 1) xs
+drop-item xs i x lt is = drop-cons xs i x lt ∙ ap (λ y. y ∷ drop (suc i) xs) (sym is) ∙ ap (λ j. x ∷ drop j xs) (sym (add-one i))
 
 -- the values of a field with one pair before
 by_field : (field : ℕ) (p : ℕ × Tree) (ps : Document) (b : Bool) → nat_eq field p.0 ≡ b → values_of field (p ∷ ps) ≡ cond b (p.1 ∷ values_of field ps) (values_of field ps)

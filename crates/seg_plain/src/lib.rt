@@ -17,6 +17,7 @@ mod occurrence;
 mod path;
 mod plain;
 mod posting;
+mod terms;
 mod text;
 mod tokens;
 
@@ -24,3 +25,4 @@ pub use field::occurrences;
 pub use length::{field_norms, length_id, length_of_id};
 pub use occurrence::Occurrences;
 pub use posting::{Posting, Postings, Recorded};
+pub use terms::{Terms, field_terms};

@@ -116,11 +116,7 @@ fn recorded_in(
 }
 
 /// The positions at which a term occurs in a document, in its order.
-fn positions_of(
-    alloc: Global,
-    bytes: &[u8],
-    occurred: &Occurrences,
-) -> Result<Vec<u64>, AllocError>
+fn positions_of(alloc: Global, bytes: &[u8], occurred: &Occurrences) -> Result<Vec<u64>, AllocError>
     ensures { IfOk result (λ positions. positions.items ≡ reading.positions_of bytes.now occurred.now) }
 {
     let mut positions = Vec::new(alloc);
@@ -142,7 +138,11 @@ fn term_option(entry: &FieldEntry, bytes: &[u8]) -> IndexOption
         FieldKind::Json => type_code(bytes) == b's',
         _ => false,
     };
-    if is_text { entry.index } else { IndexOption::Basic }
+    if is_text {
+        entry.index
+    } else {
+        IndexOption::Basic
+    }
 }
 
 /// The byte behind the first byte 0; 0 if there is none.
@@ -151,7 +151,11 @@ fn type_code(bytes: &[u8]) -> u8
 {
     for at in 0..bytes.len() {
         if bytes[at] == 0 {
-            return if at + 1 < bytes.len() { bytes[at + 1] } else { 0 };
+            return if at + 1 < bytes.len() {
+                bytes[at + 1]
+            } else {
+                0
+            };
         }
     }
     0
