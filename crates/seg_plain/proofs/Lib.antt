@@ -1,3 +1,4 @@
+pub mod Known
 pub mod Lengths
 pub mod Paths
 pub mod Places

@@ -1,7 +1,7 @@
 -- What is at a place of a list and of a document, and what is left from there.
 use Rattle.std.proofs.Common.{◌≡◌, ◌≢◌, ℕ, zero, suc, ◌+◌, Bool, true, false, List, [], ◌∷◌, Some, length, get_or, ◌<◌, drop, drop-cons, map, filter, add-one, refl, sym, ap, ◌∙◌, arith}
-use Rattle.std.specs.Prelude.{is_some, nat_eq, cond}
-use Rattle.std.specs.List.{slice_get}
+use Rattle.std.specs.Prelude.{◌||◌, is_some, nat_eq, cond}
+use Rattle.std.specs.List.{slice_get, list_any}
 use Rattle.std.proofs.lemmas.Bool.{false≢true}
 use Rattle.std.proofs.lemmas.Bool.Decides.{nat_tests}
 use Rattle.seg_values.specs.Tree.{Tree, Document}
@@ -20,6 +20,10 @@ drop-at xs i x e = drop-found xs i x e ∙ ap (λ j. x ∷ drop j xs) (sym (add-
 
 pub drop-item : {X : Type 0} (xs : List X) (i : ℕ) (x : X) → i < length xs → x ≡ get_or xs i x → drop i xs ≡ x ∷ drop (i + 1) xs
 drop-item xs i x lt is = drop-cons xs i x lt ∙ ap (λ y. y ∷ drop (suc i) xs) (sym is) ∙ ap (λ j. x ∷ drop j xs) (sym (add-one i))
+
+-- whether something from a place on passes a test
+pub any_at : {X : Type 0} (test : X → Bool) (xs : List X) (i : ℕ) (x : X) → slice_get xs i ≡ Some x → list_any test (drop i xs) ≡ (test x || list_any test (drop (i + 1) xs))
+any_at test xs i x at = ap (list_any test) (drop-at xs i x at)
 
 -- the values of a field with one pair before
 by_field : (field : ℕ) (p : ℕ × Tree) (ps : Document) (b : Bool) → nat_eq field p.0 ≡ b → values_of field (p ∷ ps) ≡ cond b (p.1 ∷ values_of field ps) (values_of field ps)
