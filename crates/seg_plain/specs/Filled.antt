@@ -6,9 +6,13 @@ use Rattle.std.specs.FinMap.{insert, from_entries}
 use Rattle.std.specs.declared.alloc.Global.{Global}
 use Rattle.seg_model.specs.Reading.{Posting, Terms}
 
--- the terms that entries with byte vectors as keys stand for
+-- entries with byte vectors as keys, by their bytes
+abbrev pub seen : List (Vec ℕ Global × List Posting) → List (List ℕ × List Posting)
+seen entries = map (λ e. (e.0.items, e.1)) entries
+
+-- the terms that such entries stand for
 abbrev pub terms_in : List (Vec ℕ Global × List Posting) → Terms
-terms_in entries = from_entries (map (λ e. (e.0.items, e.1)) entries)
+terms_in entries = from_entries (seen entries)
 
 -- the terms with the postings of one more, where there are any
 abbrev pub with_any : Terms → List ℕ → Option (List Posting) → Terms

@@ -25,6 +25,6 @@ mod tokens;
 pub use field::occurrences;
 pub use length::{field_norms, length_id, length_of_id};
 pub use occurrence::Occurrences;
-pub use operation::{Operation, TermKey, alive_after};
+pub use operation::{Operation, TermKey, alive_after, survivors};
 pub use posting::{Posting, Postings, Recorded};
 pub use terms::{Terms, field_terms};

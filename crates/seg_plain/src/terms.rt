@@ -4,7 +4,7 @@ ghost use Rattle.std.specs.FinMap as fin;
 ghost use Rattle.std.specs.Option.{option_copied};
 ghost use Rattle.seg_model.specs.Occurrences.{Occurrence};
 ghost use Rattle.seg_model.specs.Reading as reading;
-ghost use Rattle.seg_plain.specs.Filled.{filled, with_any};
+ghost use Rattle.seg_plain.specs.Filled.{filled, seen, with_any};
 
 use crate::occurrence::Occurrences;
 use crate::posting::{Postings, postings_of};
@@ -46,6 +46,17 @@ impl Terms {
         ensures { option_copied result ≡ fin.get self.now bytes.now }
     {
         self.terms.get(bytes)
+    }
+
+    /// The terms with their postings, in byte order.
+    pub fn into_entries(self, alloc: Global) -> Result<Vec<(Vec<u8>, Postings)>, AllocError>
+        ensures { IfOk result (λ entries. seen entries.items ≡ fin.entries self) }
+    {
+        let mut entries = Vec::new(alloc);
+        for entry in self.terms {
+            entries.push(entry)?;
+        }
+        Ok(entries)
     }
 
     fn insert(&mut self, bytes: Vec<u8>, postings: Postings) -> Result<(), AllocError>
