@@ -1,10 +1,12 @@
 //! What the definitions say, computed plainly: a slow reference that faster bodies are compared with in tests.
 //!
-//! Each public function returns what a definition of `seg_model` says of its arguments; contracts see occurrences as
-//! the list of the definition's own.
+//! Each public function returns what a definition of `seg_model` says of its arguments, and contracts see its results
+//! as that definition's own values. It may take quadratic time; positions and counts are `u64`, and one that passes
+//! `u64` is answered as memory that is lacking.
 //!
-//! To be read in this order: `occurrence`; `tokens` and `text` (text fields), `numbers`, `leaf` and `plain` (fields of
-//! other kinds), `field` (each field of a document).
+//! To be read in this order: `occurrence`, `entry`; `tokens` and `text` (text fields), `numbers`, `leaf` and `plain`
+//! (fields of other kinds), `path` and `json` (JSON fields), `field` (each field); then `posting` and `terms`, `length`,
+//! `operation`.
 #![tactic(auto)]
 
 mod entry;
@@ -19,6 +21,8 @@ mod path;
 mod plain;
 mod posting;
 mod terms;
+#[cfg(test)]
+mod tests;
 mod text;
 mod tokens;
 
