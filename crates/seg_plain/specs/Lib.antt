@@ -1,0 +1,4 @@
+pub mod Filled
+pub mod Leaf
+pub mod Operations
+pub mod Postings

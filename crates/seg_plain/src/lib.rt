@@ -1,0 +1,34 @@
+//! What the definitions say, computed plainly: a slow reference that faster bodies are compared with in tests.
+//!
+//! Each public function returns what a definition of `seg_model` says of its arguments, and contracts see its results
+//! as that definition's own values. It may take quadratic time; positions and counts are `u64`, and one that passes
+//! `u64` is answered as memory that is lacking.
+//!
+//! To be read in this order: `occurrence`, `entry`; `tokens` and `text` (text fields), `numbers`, `leaf` and `plain`
+//! (fields of other kinds), `path` and `json` (JSON fields), `field` (each field); then `posting` and `terms`, `length`,
+//! `operation`.
+#![tactic(auto)]
+
+mod entry;
+mod field;
+mod json;
+mod leaf;
+mod length;
+mod numbers;
+mod occurrence;
+mod operation;
+mod path;
+mod plain;
+mod posting;
+mod terms;
+#[cfg(test)]
+mod tests;
+mod text;
+mod tokens;
+
+pub use field::occurrences;
+pub use length::{field_norms, length_id, length_of_id};
+pub use occurrence::Occurrences;
+pub use operation::{Operation, TermKey, alive_after, survivors};
+pub use posting::{Posting, Postings, Recorded};
+pub use terms::{Terms, field_terms};
