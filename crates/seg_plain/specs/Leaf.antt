@@ -4,7 +4,7 @@ use Rattle.seg_values.specs.Tree.{Leaf, null, Tree, leaf, array, object}
 use Rattle.seg_values.specs.View.{tree_of}
 use Rattle.seg_model.specs.Leaves.{PlacedLeaf as Placed}
 use Rattle.seg_plain.specs.declared.path.PlacedLeaf.{PlacedLeaf}
-use Rattle.seg_model.specs.Occurrences.{value_bytes}
+use Rattle.seg_values.specs.ValueBytes.{value_bytes}
 
 -- the value bytes of a leaf
 abbrev pub bytes_in : Tree → List ℕ

@@ -7,10 +7,11 @@ ghost use Rattle.seg_model.specs.Occurrences as occurrences;
 ghost use Rattle.seg_plain.specs.Leaf.{leaf_in, placed_leaf};
 ghost use Rattle.seg_values.specs.View.{tree_of};
 
-use crate::numbers::{cut_to_second, raised};
+use crate::numbers::raised;
 use crate::occurrence::Occurrences;
 use crate::path::{PlacedLeaf, joined_path, push_leaves};
 use crate::tokens::{push_placed, start_after};
+use seg_common::DateTimePrecision;
 use seg_values::{Analyzers, OwnedValue, TantivyDocument, Tokens};
 use std::alloc::{AllocError, Global};
 
@@ -137,8 +138,8 @@ fn push_leaf<Z: Analyzers>(
         OwnedValue::I64(z) => push_coded(out, alloc, path, b'i', raised(*z)),
         OwnedValue::Bool(b) => push_coded(out, alloc, path, b'o', u64::from(*b)),
         OwnedValue::Date(date) => {
-            let nanos = cut_to_second(date.into_timestamp_nanos());
-            push_coded(out, alloc, path, b'd', raised(nanos))
+            let cut = date.truncate(DateTimePrecision::Seconds);
+            push_coded(out, alloc, path, b'd', raised(cut.into_timestamp_nanos()))
         }
         _ => Ok(()),
     }

@@ -5,8 +5,9 @@ ghost use Rattle.seg_model.specs.Occurrences as occurrences;
 ghost use Rattle.seg_plain.specs.Leaf.{bytes_in};
 ghost use Rattle.seg_values.specs.View.{tree_of};
 
-use crate::numbers::{cut_to_second, raised};
+use crate::numbers::raised;
 use crate::occurrence::Occurrences;
+use seg_common::DateTimePrecision;
 use seg_values::OwnedValue;
 use std::alloc::{AllocError, Global};
 
@@ -47,11 +48,14 @@ fn value_bytes(alloc: Global, value: &OwnedValue) -> Result<Vec<u8>, AllocError>
     ensures { IfOk result (λ bytes. bytes.items ≡ bytes_in (tree_of value.now)) }
 {
     match value {
+        OwnedValue::Str(text) => Vec::from_slice(alloc, text.as_bytes()),
+        OwnedValue::Facet(facet) => Vec::from_slice(alloc, facet.encoded_str().as_bytes()),
         OwnedValue::U64(n) => number_bytes(alloc, *n),
         OwnedValue::I64(z) => number_bytes(alloc, raised(*z)),
         OwnedValue::Bool(b) => number_bytes(alloc, u64::from(*b)),
         OwnedValue::Date(date) => {
-            number_bytes(alloc, raised(cut_to_second(date.into_timestamp_nanos())))
+            let cut = date.truncate(DateTimePrecision::Seconds);
+            number_bytes(alloc, raised(cut.into_timestamp_nanos()))
         }
         OwnedValue::Bytes(bytes) => Vec::from_slice(alloc, bytes.as_slice()),
         OwnedValue::IpAddr(address) => Vec::from_slice(alloc, &address.octets()),
