@@ -1,2 +1,4 @@
+pub mod Coding
+pub mod ColumnValues
 pub mod Leaf
 pub mod Postings

@@ -7,10 +7,12 @@
 //! other kinds), `field` (each field of a document).
 #![tactic(auto)]
 
+mod column_value;
 mod entry;
 mod field;
 mod json;
 mod leaf;
+mod leaf_value;
 mod length;
 mod numbers;
 mod occurrence;
@@ -20,6 +22,7 @@ mod posting;
 mod text;
 mod tokens;
 
+pub use column_value::{ColumnValue, ColumnValues, FastValue, FastValues};
 pub use field::occurrences;
 pub use length::{field_norms, length_id, length_of_id};
 pub use occurrence::Occurrences;

@@ -1,0 +1,29 @@
+-- Values of columns as the definition has them.
+use Rattle.std.specs.Prelude.{ℕ, List, Option, Some, None}
+use Rattle.std.specs.Net.Addr.{ipv6_octets}
+use Rattle.seg_model.specs.Columns as columns
+use Rattle.seg_plain.specs.declared.column_value.ColumnValue.{ColumnValue}
+use Rattle.seg_plain.specs.declared.column_value.ColumnValue.TheVariants.{Number, Bytes, Text, Bool, IpAddr, Date}
+use Rattle.seg_plain.specs.declared.column_value.FastValue.{FastValue}
+
+-- a value of a column
+abbrev pub column_value : ColumnValue → columns.ColumnValue
+column_value (Number z) = columns.number z
+column_value (Bytes b) = columns.bytes_value b
+column_value (Text s) = columns.text_value s
+column_value (Bool b) = columns.boolean_value b
+column_value (IpAddr a) = columns.ip_value (ipv6_octets a)
+column_value (Date z) = columns.date_value z
+
+-- a value under a path
+abbrev pub under_path : List ℕ → columns.ColumnValue → columns.FastValue
+under_path path value = record { path = path; value = value }
+
+-- a recorded value
+abbrev pub fast_value : FastValue → columns.FastValue
+fast_value v = under_path v.path (column_value v.value)
+
+-- whether a name is known, if there is one
+abbrev pub KnowsAny : (List ℕ → Type 0) → Option (List ℕ) → Type 0
+KnowsAny knows None = Unit {0}
+KnowsAny knows (Some name) = knows name
