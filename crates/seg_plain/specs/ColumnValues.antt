@@ -1,7 +1,12 @@
 -- Values of columns as the definition has them.
 use Rattle.std.specs.Prelude.{ℕ, List, Option, Some, None}
 use Rattle.std.specs.Net.Addr.{ipv6_octets}
+use Rattle.std.specs.List.{All}
+use Rattle.seg_values.specs.declared.schema.FieldEntry.{FieldEntry}
 use Rattle.seg_model.specs.Columns as columns
+use Rattle.seg_model.specs.Fields.{Schema, Analyzer}
+use Rattle.seg_model.specs.Leaves.{PlacedLeaf}
+use Rattle.seg_model.specs.Occurrences.{cut_to}
 use Rattle.seg_plain.specs.declared.column_value.ColumnValue.{ColumnValue}
 use Rattle.seg_plain.specs.declared.column_value.ColumnValue.TheVariants.{Number, Bytes, Text, Bool, IpAddr, Date}
 use Rattle.seg_plain.specs.declared.column_value.FastValue.{FastValue}
@@ -27,3 +32,11 @@ fast_value v = under_path v.path (column_value v.value)
 abbrev pub KnowsAny : (List ℕ → Type 0) → Option (List ℕ) → Type 0
 KnowsAny knows None = Unit {0}
 KnowsAny knows (Some name) = knows name
+
+-- whether each fast tokenizer that a schema names is known
+abbrev pub KnowsEach : (List ℕ → Type 0) → Schema → Type 0
+KnowsEach knows schema = All (λ e. KnowsAny knows e.fast_tokenizer) schema
+
+-- the values of a leaf of a field with a declared column
+abbrev pub declared_leaf : Analyzer → FieldEntry → PlacedLeaf → List columns.ColumnValue
+declared_leaf analyzer entry p = columns.leaf_values analyzer entry.fast_tokenizer (cut_to (columns.precision_unit entry.precision)) p.leaf

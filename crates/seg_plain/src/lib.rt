@@ -9,7 +9,9 @@
 
 mod column_value;
 mod entry;
+mod fast_value;
 mod field;
+mod field_leaf;
 mod json;
 mod leaf;
 mod leaf_value;
@@ -19,10 +21,12 @@ mod occurrence;
 mod path;
 mod plain;
 mod posting;
+mod sorted;
 mod text;
 mod tokens;
 
 pub use column_value::{ColumnValue, ColumnValues, FastValue, FastValues};
+pub use fast_value::fast_values;
 pub use field::occurrences;
 pub use length::{field_norms, length_id, length_of_id};
 pub use occurrence::Occurrences;
