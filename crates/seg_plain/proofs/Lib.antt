@@ -4,4 +4,5 @@ pub mod Paths
 pub mod Places
 pub mod PlainFields
 pub mod Positions
+pub mod Puts
 pub mod Turns

@@ -10,6 +10,8 @@ use Rattle.seg_model.specs.Occurrences.{cut_to}
 use Rattle.seg_plain.specs.declared.column_value.ColumnValue.{ColumnValue}
 use Rattle.seg_plain.specs.declared.column_value.ColumnValue.TheVariants.{Number, Bytes, Text, Bool, IpAddr, Date}
 use Rattle.seg_plain.specs.declared.column_value.FastValue.{FastValue}
+use Rattle.seg_plain.specs.declared.column_key.ColumnKey.{ColumnKey}
+use Rattle.seg_common.specs.declared.column_type.ColumnType.{ColumnType}
 
 -- a value of a column
 abbrev pub column_value : ColumnValue → columns.ColumnValue
@@ -40,3 +42,11 @@ KnowsEach knows schema = All (λ e. KnowsAny knows e.fast_tokenizer) schema
 -- the values of a leaf of a field with a declared column
 abbrev pub declared_leaf : Analyzer → FieldEntry → PlacedLeaf → List columns.ColumnValue
 declared_leaf analyzer entry p = columns.leaf_values analyzer entry.fast_tokenizer (cut_to (columns.precision_unit entry.precision)) p.leaf
+
+-- the key of a path and a type
+abbrev pub at_path : List ℕ → ColumnType → columns.ColumnKey
+at_path path type = record { path = path; type = type }
+
+-- a key
+abbrev pub column_key : ColumnKey → columns.ColumnKey
+column_key k = at_path k.path k.column_type

@@ -1,4 +1,5 @@
 pub mod Coding
+pub mod ColumnEntries
 pub mod ColumnValues
 pub mod Leaf
 pub mod Postings

@@ -7,6 +7,9 @@
 //! other kinds), `field` (each field of a document).
 #![tactic(auto)]
 
+mod column;
+mod column_key;
+mod column_rows;
 mod column_value;
 mod entry;
 mod fast_value;
@@ -25,6 +28,8 @@ mod sorted;
 mod text;
 mod tokens;
 
+pub use column::{Column, columns};
+pub use column_key::ColumnKey;
 pub use column_value::{ColumnValue, ColumnValues, FastValue, FastValues};
 pub use fast_value::fast_values;
 pub use field::occurrences;
