@@ -4,12 +4,15 @@
 //! the list of the definition's own.
 //!
 //! To be read in this order: `occurrence`; `tokens` and `text` (text fields), `numbers`, `leaf` and `plain` (fields of
-//! other kinds), `field` (each field of a document).
+//! other kinds), `field` (each field of a document). For columns: `column_value`; `leaf_value`, `sorted` and `fast_value`
+//! (what a document records); `column_key`, `column_rows` and `column` (the columns of documents).
 #![tactic(auto)]
 
 mod column;
 mod column_key;
 mod column_rows;
+#[cfg(test)]
+mod column_tests;
 mod column_value;
 mod entry;
 mod fast_value;
