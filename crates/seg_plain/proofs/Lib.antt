@@ -1,8 +1,11 @@
+pub mod Inserted
 pub mod Known
 pub mod Lengths
 pub mod Paths
 pub mod Places
+pub mod PlainFields
 pub mod Positions
-pub mod Sorted
+pub mod Puts
+pub mod TermOrder
 pub mod Tables
 pub mod Turns

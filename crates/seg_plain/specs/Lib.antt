@@ -1,3 +1,6 @@
+pub mod Coding
+pub mod ColumnEntries
+pub mod ColumnValues
 pub mod Filled
 pub mod Leaf
 pub mod Operations

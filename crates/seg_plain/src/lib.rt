@@ -6,13 +6,23 @@
 //!
 //! To be read in this order: `occurrence`, `entry`; `tokens` and `text` (text fields), `numbers`, `leaf` and `plain`
 //! (fields of other kinds), `path` and `json` (JSON fields), `field` (each field); then `posting` and `terms`, `length`,
-//! `operation`.
+//! `operation`. For columns: `column_value`; `leaf_value`, `sorted` and `fast_value` (what a document records);
+//! `column_key`, `column_rows` and `column` (the columns of documents).
 #![tactic(auto)]
 
+mod column;
+mod column_key;
+mod column_rows;
+#[cfg(test)]
+mod column_tests;
+mod column_value;
 mod entry;
+mod fast_value;
 mod field;
+mod field_leaf;
 mod json;
 mod leaf;
+mod leaf_value;
 mod length;
 mod numbers;
 mod occurrence;
@@ -20,12 +30,17 @@ mod operation;
 mod path;
 mod plain;
 mod posting;
+mod sorted;
 mod terms;
 #[cfg(test)]
 mod tests;
 mod text;
 mod tokens;
 
+pub use column::{Column, columns};
+pub use column_key::ColumnKey;
+pub use column_value::{ColumnValue, ColumnValues, FastValue, FastValues};
+pub use fast_value::fast_values;
 pub use field::occurrences;
 pub use length::{field_norms, length_id, length_of_id};
 pub use occurrence::Occurrences;

@@ -1,7 +1,7 @@
 use Rattle.std.proofs.Common.{◌≡◌, ◌++◌, ap, sym, ◌∙◌, append-nil}
 use Rattle.std.specs.FinMap.{entries}
 use Rattle.seg_plain.specs.Filled.{seen}
-use Rattle.seg_plain.proofs.Sorted.{entries-terms_in}
+use Rattle.seg_plain.proofs.TermOrder.{entries-terms_in}
 use Rattle.seg_plain.proofs.terms.Terms.into_entries.Goals as goal
 
 pub returns : goal.returns

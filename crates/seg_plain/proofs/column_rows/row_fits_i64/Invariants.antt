@@ -1,0 +1,9 @@
+use Rattle.std.proofs.Common.{◌≡◌, ◌++◌, map, drop}
+use Rattle.std.specs.List.{list_all, list_any}
+use Rattle.seg_model.specs.Columns as columns
+use Rattle.seg_plain.specs.ColumnValues.{at_path, column_value, fast_value}
+use Rattle.seg_plain.proofs.column_rows.row_fits_i64.Given as goal
+
+-- what is left decides
+abbrev pub invariant-loop-value : goal.invariant-loop-value
+invariant-loop-value l = list_all columns.fits_i64 (map column_value (drop l.value-index l.row)) ≡ list_all columns.fits_i64 (map column_value l.row)
