@@ -1,5 +1,5 @@
 -- Ids of lengths, and counts over the values of a field.
-use Rattle.std.proofs.Common.{◌≡◌, ℕ, suc, ◌+◌, List, ◌∷◌, length, sym, ap, ◌∙◌, arith}
+use Rattle.std.proofs.Common.{◌≡◌, ℕ, suc, ◌+◌, List, ◌∷◌, length, ap, ◌∙◌, arith}
 use Rattle.seg_values.specs.declared.token.Token.{Token}
 use Rattle.seg_values.specs.Tree.{Tree}
 use Rattle.seg_model.specs.Norms.{greatest_id, length_id, token_count}

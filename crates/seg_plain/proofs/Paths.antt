@@ -1,5 +1,5 @@
 -- Keys joined, and the leaves of a list of trees from a place on.
-use Rattle.std.proofs.Common.{◌≡◌, ℕ, zero, suc, ◌+◌, ◌-◌, ◌<◌, List, [], ◌∷◌, ◌++◌, Some, length, get_or, take, drop, map, append-nil, append_assoc, refl, sym, ap, ◌∙◌, arith}
+use Rattle.std.proofs.Common.{◌≡◌, ℕ, suc, ◌+◌, ◌-◌, ◌<◌, List, [], ◌∷◌, ◌++◌, Some, length, get_or, take, drop, append-nil, append_assoc, refl, ap, ◌∙◌, arith}
 use Rattle.std.specs.List.{slice_get, flat_map, join_with_byte}
 use Rattle.seg_values.specs.Tree.{Tree, trees_from, members_from}
 use Rattle.seg_model.specs.Leaves.{PlacedLeaf, leaves_at, leaves_of_trees, leaves_of_members}

@@ -1,7 +1,7 @@
 -- A map with byte vectors as keys, read by their bytes, and a table that is filled key by key.
 use Rattle.std.proofs.Common.{◌≡◌, ℕ, ◌+◌, ◌<◌, ◌≤◌, zero, suc, arith, length, get_or, drop, Bool, true, false, cond, List, [], ◌∷◌, ◌++◌, map, Some, None, Option, Ordering, sym, refl, ap, ◌∙◌, Vec, BTreeMap}
 use Rattle.std.specs.Prelude.{◌||◌}
-use Rattle.std.specs.List.{flat_map, list_any, slice_get}
+use Rattle.std.specs.List.{flat_map, slice_get}
 use Rattle.std.specs.Ordering.{nat_cmp, is_eq, eq_by_cmp}
 use Rattle.std.specs.Cmp.{eq_by_cmp_equiv}
 use Rattle.std.specs.Cmp.Lexicographic.{slice_cmp, bytes_decides, nat_list_cmp_total, nat_list_eq_equiv}

@@ -1,11 +1,11 @@
 -- One turn of the loops over the values of a field.
-use Rattle.std.proofs.Common.{◌≡◌, ℕ, ◌+◌, ◌≤◌, List, [], ◌∷◌, ◌++◌, map, append_assoc, refl, sym, ap, ◌∙◌, arith}
+use Rattle.std.proofs.Common.{◌≡◌, ℕ, ◌≤◌, List, [], ◌∷◌, ◌++◌, map, append_assoc, arith}
 use Rattle.seg_values.specs.declared.token.Token.{Token}
 use Rattle.seg_values.specs.Tree.{Tree}
 use Rattle.std.specs.List.{flat_map}
 use Rattle.std.proofs.lemmas.List.{map-append}
 use Rattle.seg_model.specs.Leaves.{PlacedLeaf, leaves, leaves_of}
-use Rattle.seg_model.specs.Occurrences.{Occurrence, reach, counted, placed_from, start_after, text_occurrences, at_zero, value_terms}
+use Rattle.seg_model.specs.Occurrences.{Occurrence, reach, placed_from, start_after, text_occurrences, at_zero, value_terms}
 
 pub reach-ge : (start : ℕ) (tokens : List Token) → start ≤ reach start tokens
 reach-ge start [] = omega arith

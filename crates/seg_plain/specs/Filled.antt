@@ -1,7 +1,5 @@
 -- Tables that are filled key by key.
 use Rattle.std.specs.Prelude.{ℕ, List, [], ◌∷◌, map, Option, Some, None, Vec}
-use Rattle.std.specs.Ordering.{nat_cmp}
-use Rattle.std.specs.Cmp.Lexicographic.{slice_cmp}
 use Rattle.std.specs.FinMap.{insert, from_entries}
 use Rattle.std.specs.declared.alloc.Global.{Global}
 use Rattle.seg_model.specs.Reading.{Posting, Terms}

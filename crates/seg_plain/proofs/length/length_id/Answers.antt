@@ -1,4 +1,4 @@
-use Rattle.std.proofs.Common.{◌≡◌, ℕ, arith, ap, ◌∙◌}
+use Rattle.std.proofs.Common.{arith}
 use Rattle.seg_plain.proofs.Lengths.{id_at}
 use Rattle.seg_plain.proofs.length.length_id.Goals as goal
 

@@ -1,4 +1,4 @@
-use Rattle.std.proofs.Common.{◌≡◌, Some, ◌+◌, rules, sym, ap, ◌∙◌, arith}
+use Rattle.std.proofs.Common.{◌≡◌, Some, ◌+◌, rules, sym, ap, ◌∙◌}
 use Rattle.std.specs.List.{slice_get}
 use Rattle.seg_values.specs.View.{tree_of}
 use Rattle.seg_model.specs.Norms.{token_count}

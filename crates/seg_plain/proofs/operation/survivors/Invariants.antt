@@ -1,5 +1,4 @@
 use Rattle.std.proofs.Common.{◌≡◌, ◌++◌, [], map, drop}
-use Rattle.seg_values.specs.Tree.{Document}
 use Rattle.seg_model.specs.Operations as operations
 use Rattle.seg_plain.specs.Operations.{operation_of}
 use Rattle.seg_plain.proofs.operation.survivors.Given as goal

@@ -1,4 +1,4 @@
-use Rattle.std.proofs.Common.{◌≡◌, ◌<◌, ◌++◌, ◌∷◌, [], map, ap, ◌∙◌, arith}
+use Rattle.std.proofs.Common.{◌<◌, ◌++◌, map, ap, ◌∙◌, arith}
 use Rattle.seg_values.specs.Tree.{levels, array, object, trees_from, members_from}
 use Rattle.seg_values.specs.View.{tree_of}
 use Rattle.seg_values.proofs.Levels.{levels-at, member_levels-at}

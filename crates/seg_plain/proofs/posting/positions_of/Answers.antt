@@ -1,5 +1,4 @@
-use Rattle.std.proofs.Common.{◌≡◌, ◌++◌, ◌∷◌, [], drop, append_assoc, ◌+◌, ap, sym, ◌∙◌}
-use Rattle.seg_model.specs.Reading as reading
+use Rattle.std.proofs.Common.{◌++◌, append_assoc, ap, sym, ◌∙◌}
 use Rattle.seg_plain.proofs.Positions.{a_position, no_position}
 use Rattle.seg_plain.proofs.posting.positions_of.Goals as goal
 use Rattle.seg_plain.proofs.posting.positions_of.Goals.{then-eq+in_ok-push, else-eq}

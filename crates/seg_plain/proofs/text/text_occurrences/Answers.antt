@@ -1,7 +1,6 @@
-use Rattle.std.proofs.Common.{◌≡◌, Some, ◌++◌, map, drop, ◌+◌, sym, ap, ◌∙◌, nat_eq, true, false}
+use Rattle.std.proofs.Common.{◌≡◌, Some, ◌++◌, map, sym, ap, ◌∙◌}
 use Rattle.std.specs.List.{slice_get}
 use Rattle.seg_values.specs.View.{tree_of}
-use Rattle.seg_model.specs.Fields.{values_of}
 use Rattle.seg_model.specs.Occurrences as occurrences
 use Rattle.seg_plain.proofs.Places.{a_value, no_value}
 use Rattle.seg_plain.proofs.Turns.{one_text}

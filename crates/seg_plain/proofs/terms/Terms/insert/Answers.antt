@@ -1,4 +1,4 @@
-use Rattle.std.proofs.Common.{sym, ap, ◌∙◌}
+use Rattle.std.proofs.Common.{ap, ◌∙◌}
 use Rattle.std.specs.FinMap.{insert}
 use Rattle.seg_plain.proofs.Tables.{view_updates}
 use Rattle.seg_plain.proofs.terms.Terms.insert.Goals as goal
