@@ -6,7 +6,7 @@ use Rattle.seg_values.specs.declared.schema.FieldEntry.{FieldEntry}
 use Rattle.seg_model.specs.Columns as columns
 use Rattle.seg_model.specs.Fields.{Schema, Analyzer}
 use Rattle.seg_model.specs.Leaves.{PlacedLeaf}
-use Rattle.seg_model.specs.Occurrences.{cut_to}
+use Rattle.seg_common.specs.Dates.{cut_to, precision_unit}
 use Rattle.seg_plain.specs.declared.column_value.ColumnValue.{ColumnValue}
 use Rattle.seg_plain.specs.declared.column_value.ColumnValue.TheVariants.{Number, Bytes, Text, Bool, IpAddr, Date}
 use Rattle.seg_plain.specs.declared.column_value.FastValue.{FastValue}
@@ -41,7 +41,7 @@ KnowsEach knows schema = All (λ e. KnowsAny knows e.fast_tokenizer) schema
 
 -- the values of a leaf of a field with a declared column
 abbrev pub declared_leaf : Analyzer → FieldEntry → PlacedLeaf → List columns.ColumnValue
-declared_leaf analyzer entry p = columns.leaf_values analyzer entry.fast_tokenizer (cut_to (columns.precision_unit entry.precision)) p.leaf
+declared_leaf analyzer entry p = columns.leaf_values analyzer entry.fast_tokenizer (cut_to (precision_unit entry.precision)) p.leaf
 
 -- the key of a path and a type
 abbrev pub at_path : List ℕ → ColumnType → columns.ColumnKey

@@ -3,7 +3,7 @@ ghost use Rattle.std.specs.Prelude.{◌≡◌, ℤ, ◌++◌, map, IfOk, OnOk};
 ghost use Rattle.std.specs.List.{flat_map};
 ghost use Rattle.seg_model.specs.Columns as columns;
 ghost use Rattle.seg_model.specs.Fields as fields;
-ghost use Rattle.seg_model.specs.Occurrences.{cut_to};
+ghost use Rattle.seg_common.specs.Dates.{cut_to, precision_unit};
 ghost use Rattle.seg_plain.specs.ColumnValues.{KnowsAny, KnowsEach, declared_leaf};
 ghost use Rattle.seg_plain.specs.Leaf.{placed_leaf};
 
@@ -137,7 +137,7 @@ fn push_json_leaf<Z: Analyzers>(
 
 /// The precision of a moment below some keys: seconds outside any object.
 fn json_precision(keys: &[Text]) -> DateTimePrecision
-    ensures { (nanos : ℤ) → cut_to (columns.precision_unit result) nanos ≡ columns.json_cut keys.now nanos }
+    ensures { (nanos : ℤ) → cut_to (precision_unit result) nanos ≡ columns.json_cut keys.now nanos }
 {
     if keys.is_empty() {
         return DateTimePrecision::Seconds;

@@ -1,14 +1,13 @@
 //! The values that a leaf gives a column.
 ghost use Rattle.std.specs.Prelude.{◌≡◌, ◌++◌, OnOk};
 ghost use Rattle.seg_model.specs.Columns as columns;
-ghost use Rattle.seg_model.specs.Occurrences.{cut_to};
+ghost use Rattle.seg_common.specs.Dates.{cut_to, precision_unit};
 ghost use Rattle.seg_plain.specs.Leaf.{leaf_in};
 ghost use Rattle.seg_plain.specs.ColumnValues.{KnowsAny};
 ghost use Rattle.seg_values.specs.View.{tree_of};
 
 use crate::column_value::{ColumnValue, ColumnValues};
-use crate::numbers::cut_to_second;
-use seg_common::{DateTime, DateTimePrecision};
+use seg_common::DateTimePrecision;
 use seg_values::{Analyzers, Bytes, OwnedValue, Text, Token, Tokens};
 use std::alloc::{AllocError, Global};
 
@@ -22,7 +21,7 @@ pub(crate) fn push_leaf_values<Z: Analyzers>(
     leaf: &OwnedValue,
 ) -> Result<(), AllocError>
     requires { KnowsAny (Z.knows analyzers.now) tokenizer.now }
-    ensures { OnOk result (out.new ≡ out.old ++ columns.leaf_values (Z.tokens_of analyzers.now) tokenizer.now (cut_to (columns.precision_unit precision)) (leaf_in (tree_of leaf.now))) }
+    ensures { OnOk result (out.new ≡ out.old ++ columns.leaf_values (Z.tokens_of analyzers.now) tokenizer.now (cut_to (precision_unit precision)) (leaf_in (tree_of leaf.now))) }
 {
     match leaf {
         OwnedValue::Str(text) => push_texts(out, alloc, analyzers, tokenizer, text.as_str()),
@@ -30,10 +29,7 @@ pub(crate) fn push_leaf_values<Z: Analyzers>(
         OwnedValue::U64(n) => out.push(ColumnValue::Number(i128::from(*n))),
         OwnedValue::I64(z) => out.push(ColumnValue::Number(i128::from(*z))),
         OwnedValue::Bool(b) => out.push(ColumnValue::Bool(*b)),
-        OwnedValue::Date(date) => {
-            let nanos = cut(date.into_timestamp_nanos(), precision);
-            out.push(ColumnValue::Date(DateTime::from_timestamp_nanos(nanos)))
-        }
+        OwnedValue::Date(date) => out.push(ColumnValue::Date(date.truncate(precision))),
         OwnedValue::Facet(facet) => {
             let text = Text::copy_of(alloc, facet.encoded_str())?;
             out.push(ColumnValue::Text(text))
@@ -77,16 +73,4 @@ fn push_tokens(out: &mut ColumnValues, alloc: Global, tokens: &[Token]) -> Resul
         out.push(ColumnValue::Text(text))?;
     }
     Ok(())
-}
-
-/// A moment cut to a precision, toward 1970.
-fn cut(nanos: i64, precision: DateTimePrecision) -> i64
-    ensures { result ≡ cut_to (columns.precision_unit precision) nanos }
-{
-    match precision {
-        DateTimePrecision::Seconds => cut_to_second(nanos),
-        DateTimePrecision::Milliseconds => nanos / 1_000_000 * 1_000_000,
-        DateTimePrecision::Microseconds => nanos / 1000 * 1000,
-        DateTimePrecision::Nanoseconds => nanos,
-    }
 }
