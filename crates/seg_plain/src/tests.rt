@@ -194,7 +194,7 @@ fn other_kinds(rt: HostRuntime) -> Result<(), Fail> {
     let found = occurrences_of(alloc, FieldKind::Date, vec![in alloc; before, after]?)?;
     let epoch = b"\x80\0\0\0\0\0\0\0";
     assert!(rt; are(&found, &[(epoch, 0), (epoch, 0)]));
-    let facet = OwnedValue::Facet(Facet::from_encoded(Text::copy_of(alloc, "a\0b")?));
+    let facet = OwnedValue::Facet(Facet::from_encoded_string(String::from_str(alloc, "a\0b")?));
     let found = occurrences_of(alloc, FieldKind::Facet, vec![in alloc; facet]?)?;
     assert!(rt; are(&found, &[(b"", 0), (b"a", 0), (b"a\0b", 0)]));
     let bytes = OwnedValue::Bytes(Bytes::from_vec(Vec::from_slice(alloc, b"xy")?));
