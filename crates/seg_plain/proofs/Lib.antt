@@ -1,4 +1,5 @@
 pub mod Inserted
+pub mod JoinedTerms
 pub mod Known
 pub mod Lengths
 pub mod Paths

@@ -83,7 +83,7 @@ module _ (f : List ℕ → Option (List Posting)) (q : List ℕ) where
       by false true e h = sym (ap f (same_key texts_apart q k e) ∙ is)
       by false false e h = h
 
-  get-filled : (ks : List (List ℕ)) (m : Terms) (a : Bool) → get m q ≡ cond a (f q) None → get (filled f m ks) q ≡ cond (a || is_among (slice_cmp nat_cmp) ks q) (f q) None
+  pub get-filled : (ks : List (List ℕ)) (m : Terms) (a : Bool) → get m q ≡ cond a (f q) None → get (filled f m ks) q ≡ cond (a || is_among (slice_cmp nat_cmp) ks q) (f q) None
   get-filled [] m a h = h ∙ ap (λ b. cond b (f q) None) (last a)
     where
       last : (a : Bool) → a ≡ (a || false)

@@ -5,9 +5,9 @@
 //! `u64` is answered as memory that is lacking.
 //!
 //! To be read in this order: `occurrence`, `entry`; `tokens` and `text` (text fields), `numbers`, `leaf` and `plain`
-//! (fields of other kinds), `path` and `json` (JSON fields), `field` (each field); then `posting` and `terms`, `length`,
-//! `operation`. For columns: `column_value`; `leaf_value`, `sorted` and `fast_value` (what a document records);
-//! `column_key`, `column_rows` and `column` (the columns of documents).
+//! (fields of other kinds), `path` and `json` (JSON fields), `field` (each field); then `posting` and `terms`, `join`
+//! (the terms of joined segments), `length`, `operation`. For columns: `column_value`; `leaf_value`, `sorted` and
+//! `fast_value` (what a document records); `column_key`, `column_rows` and `column` (the columns of documents).
 #![tactic(auto)]
 
 mod column;
@@ -20,6 +20,9 @@ mod entry;
 mod fast_value;
 mod field;
 mod field_leaf;
+mod join;
+#[cfg(test)]
+mod join_tests;
 mod json;
 mod leaf;
 mod leaf_value;
@@ -42,6 +45,7 @@ pub use column_key::ColumnKey;
 pub use column_value::{ColumnValue, ColumnValues, FastValue, FastValues};
 pub use fast_value::fast_values;
 pub use field::occurrences;
+pub use join::{JoinedPart, joined_terms};
 pub use length::{field_norms, length_id, length_of_id};
 pub use occurrence::Occurrences;
 pub use operation::{Operation, TermKey, alive_after, survivors};

@@ -47,7 +47,7 @@ impl Model for Postings {
 }
 
 impl Postings {
-    fn new(alloc: Global) -> Postings
+    pub(crate) fn new(alloc: Global) -> Postings
         ensures { result ≡ [] }
     {
         Postings {
@@ -67,7 +67,7 @@ impl Postings {
         &self.postings
     }
 
-    fn push(&mut self, document: u64, recorded: Recorded) -> Result<(), AllocError>
+    pub(crate) fn push(&mut self, document: u64, recorded: Recorded) -> Result<(), AllocError>
         ensures { OnOk result (self.new ≡ self.old ++ record { document = document; recorded = recorded_of recorded } ∷ []) }
     {
         self.postings.push(Posting { document, recorded })?;

@@ -33,7 +33,7 @@ impl Model for Terms {
 }
 
 impl Terms {
-    fn new(alloc: Global) -> Terms
+    pub(crate) fn new(alloc: Global) -> Terms
         ensures { result ≡ fin.empty }
     {
         Terms {
@@ -48,6 +48,17 @@ impl Terms {
         self.terms.get(bytes)
     }
 
+    /// The terms, in byte order.
+    pub(crate) fn keys(&self, alloc: Global) -> Result<Vec<Vec<u8>>, AllocError>
+        ensures { IfOk result (λ keys. map (λ key. key.items) keys.items ≡ fin.keys self.now) }
+    {
+        let mut keys = Vec::new(alloc);
+        for (bytes, _) in &self.terms {
+            keys.push(Vec::from_slice(alloc, bytes.as_slice())?)?;
+        }
+        Ok(keys)
+    }
+
     /// The terms with their postings, in byte order.
     pub fn into_entries(self, alloc: Global) -> Result<Vec<(Vec<u8>, Postings)>, AllocError>
         ensures { IfOk result (λ entries. seen entries.items ≡ fin.entries self) }
@@ -59,7 +70,7 @@ impl Terms {
         Ok(entries)
     }
 
-    fn insert(&mut self, bytes: Vec<u8>, postings: Postings) -> Result<(), AllocError>
+    pub(crate) fn insert(&mut self, bytes: Vec<u8>, postings: Postings) -> Result<(), AllocError>
         ensures { OnOk result (self.new ≡ fin.insert self.old bytes.items postings) }
     {
         self.terms.insert(bytes, postings)?;
