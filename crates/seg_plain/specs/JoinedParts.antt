@@ -1,5 +1,5 @@
 -- Segments as the definition has them, as far as one field goes.
-use Rattle.std.specs.Prelude.{List, [], ◌∷◌, Option}
+use Rattle.std.specs.Prelude.{[], ◌∷◌, Option}
 use Rattle.std.specs.Option.{option_map}
 use Rattle.std.specs.FinMap.{empty}
 use Rattle.seg_model.specs.Join.{Part}

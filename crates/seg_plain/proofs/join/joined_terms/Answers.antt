@@ -1,4 +1,4 @@
-use Rattle.std.proofs.Common.{ℕ, List, Option, ap, map, sym, ◌∙◌}
+use Rattle.std.proofs.Common.{ℕ, List, Option, ap, map, ◌∙◌}
 use Rattle.std.specs.FinMap.{empty}
 use Rattle.std.specs.List.{flat_map}
 use Rattle.seg_model.specs.Join as join

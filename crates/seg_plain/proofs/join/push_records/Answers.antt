@@ -1,4 +1,4 @@
-use Rattle.std.proofs.Common.{◌+◌, ◌++◌, map, sym, ap, ◌∙◌}
+use Rattle.std.proofs.Common.{◌++◌, map, sym, ap, ◌∙◌}
 use Rattle.seg_plain.specs.JoinedParts.{told}
 use Rattle.seg_plain.specs.Postings.{posting_of}
 use Rattle.seg_plain.proofs.JoinedTerms.{live_turn, dead_turn, past_turn, one_record}

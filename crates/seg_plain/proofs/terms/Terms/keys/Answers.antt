@@ -1,5 +1,5 @@
-use Rattle.std.proofs.Common.{◌≡◌, ◌++◌, ap, map, sym, ◌∙◌, append-nil}
-use Rattle.std.specs.FinMap.{entries, keys}
+use Rattle.std.proofs.Common.{◌++◌, ap, map, sym, ◌∙◌, append-nil}
+use Rattle.std.specs.FinMap.{keys}
 use Rattle.seg_plain.specs.Filled.{seen}
 use Rattle.seg_plain.proofs.Tables.{Key}
 use Rattle.seg_plain.proofs.TermOrder.{entries-terms_in}

@@ -1,4 +1,4 @@
-use Rattle.std.proofs.Common.{◌≡◌, ◌++◌, map, Vec}
+use Rattle.std.proofs.Common.{◌≡◌, ◌++◌, map}
 use Rattle.seg_plain.proofs.Tables.{Key}
 use Rattle.seg_plain.specs.Filled.{seen}
 use Rattle.seg_plain.proofs.terms.Terms.keys.Given as goal
