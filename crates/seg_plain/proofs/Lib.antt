@@ -7,6 +7,7 @@ pub mod Places
 pub mod PlainFields
 pub mod Positions
 pub mod Puts
-pub mod TermOrder
+pub mod StoringPairs
 pub mod Tables
+pub mod TermOrder
 pub mod Turns

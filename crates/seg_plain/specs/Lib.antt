@@ -6,3 +6,4 @@ pub mod JoinedParts
 pub mod Leaf
 pub mod Operations
 pub mod Postings
+pub mod StoredPairs

@@ -34,6 +34,9 @@ mod path;
 mod plain;
 mod posting;
 mod sorted;
+mod stored;
+#[cfg(test)]
+mod stored_tests;
 mod terms;
 #[cfg(test)]
 mod tests;
@@ -50,4 +53,5 @@ pub use length::{field_norms, length_id, length_of_id};
 pub use occurrence::Occurrences;
 pub use operation::{Operation, TermKey, alive_after, survivors};
 pub use posting::{Posting, Postings, Recorded};
+pub use stored::{StoredPair, StoredValue, stored_document};
 pub use terms::{Terms, field_terms};
