@@ -11,6 +11,7 @@
 mod column_type;
 mod date;
 mod error;
+mod idle;
 mod memory_sink;
 mod memory_source;
 mod name;

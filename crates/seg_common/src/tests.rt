@@ -2,7 +2,8 @@
 
 use crate::{
     ColumnType, CommonError, DateTime, DateTimePrecision, MemorySink, MemorySource, ReadError,
-    ReaderSource, SegmentId, Sink, SinkFailed, WriterSink, read_to_end, varint_len, write_whole,
+    ReaderSource, SegmentId, Sink, SinkFailed, Source, SourceFailed, WriterSink, read_to_end,
+    varint_len, write_whole,
 };
 use std::alloc::AllocError;
 use std::test::Fail;
@@ -42,6 +43,48 @@ fn leaves_what_is_past_the_limit(rt: HostRuntime) -> Result<(), Fail> {
         .ok()
         .ok_or("a fault")?;
     assert_eq!(rt; rest.as_slice(), b"456789".as_slice());
+    Ok(())
+}
+
+/// A source that gives one byte in a turn, and counts the turns.
+#[derive(Drop)]
+struct Trickle {
+    inner: MemorySource,
+    turns: u64,
+}
+
+impl Source for Trickle {
+    ghost use Rattle.std.specs.Prelude.{None};
+
+    ghost left = { λ _. None };
+
+    ghost faults = { λ s. s.inner.faults };
+
+    ghost idle = { λ s. s.inner.idle };
+
+    fn read(&mut self, buffer: &mut [u8]) -> Result<usize, SourceFailed> {
+        self.turns = self.turns.saturating_add(1);
+        let room = buffer.len().min(1);
+        self.inner.read(&mut buffer[..room])
+    }
+}
+
+#[test]
+fn takes_a_byte_in_each_turn_but_the_last(rt: HostRuntime) -> Result<(), Fail> {
+    for (limit, fail, is_read, turns) in [
+        (8, 9, true, 6),
+        (5, 9, true, 6),
+        (4, 9, false, 5),
+        (0, 9, false, 1),
+        (8, 3, false, 4),
+        (8, 0, false, 1),
+    ] {
+        let inner = MemorySource::new(rt.alloc(), b"bytes", vec![in rt.alloc(); fail]?)?;
+        let mut source = Trickle { inner, turns: 0 };
+        let answer = read_to_end(rt.alloc(), &mut source, limit);
+        assert_eq!(rt; answer.is_ok(), is_read, "{limit} {fail}");
+        assert_eq!(rt; source.turns, turns, "{limit} {fail}");
+    }
     Ok(())
 }
 

@@ -2,6 +2,7 @@
 ghost use Rattle.std.specs.Prelude.{◌≡◌, ◌≢◌, ◌≤◌, ◌+◌, ◌⊎◌, ◌↔◌, false, length, IfOk, IfErr, IfSome, IsErrOf, OnOk};
 ghost use Rattle.std.specs.Io.KnownBytes.{Appends, IsAtEnd};
 ghost use Rattle.seg_common.specs.Causes.{Rose};
+ghost use Rattle.seg_common.specs.Idle.{OnlyLastIsIdle};
 ghost use Rattle.seg_common.specs.Streams.{AppendsPart, TakesAtMost};
 ghost use Rattle.seg_tool.specs.Run.{is_build, max_script, IsJson, IsNoScript, IsNarrow, IsTextOf, Gains, GainsPart};
 ghost use Rattle.seg_tool.specs.Statuses.{IfRefused, status_line};
@@ -57,6 +58,7 @@ pub fn run<S: Source, K: Sink, F: Sink, Z: Analyzers>(
     ensures end { result ≡ Status.Done → IsAtEnd (S.left source.new) }
     ensures end_refused { IfRefused result (λ _. IsAtEnd (S.left source.new)) }
     ensures taken { TakesAtMost (max_script + 1) (S.left source.old) (S.left source.new) }
+    ensures turns { OnlyLastIsIdle (S.idle source.old) (S.idle source.new) }
     ensures unread { result ≡ Status.Words → source.new ≡ source.old }
 
     // What is said of the status.
@@ -104,6 +106,7 @@ fn execute<S: Source, K: Sink, Z: Analyzers>(
     ensures end { result ≡ Status.Done → IsAtEnd (S.left source.new) }
     ensures end_refused { IfRefused result (λ _. IsAtEnd (S.left source.new)) }
     ensures taken { TakesAtMost (max_script + 1) (S.left source.old) (S.left source.new) }
+    ensures turns { OnlyLastIsIdle (S.idle source.old) (S.idle source.new) }
     ensures unread { result ≡ Status.Words → source.new ≡ source.old }
     ensures count { S.faults source.old ≤ S.faults source.new }
     ensures count_sink { K.faults sink.old ≤ K.faults sink.new }
@@ -144,6 +147,7 @@ fn read_and_build<S: Source, Z: Analyzers>(
     ensures never { IsErrOf result Status.Done → ⊥ }
     ensures never_words { IsErrOf result Status.Words → ⊥ }
     ensures taken { TakesAtMost (max_script + 1) (S.left source.old) (S.left source.new) }
+    ensures turns { OnlyLastIsIdle (S.idle source.old) (S.idle source.new) }
     ensures count { S.faults source.old ≤ S.faults source.new }
 {
     let bytes = match read_to_end(alloc, source, MAX_SCRIPT) {
