@@ -1,11 +1,18 @@
-//! A value that many owners share. It is freed with the last, unless there were ever about 2 ^ 64 at once: then it stays for
-//! good, and further owners are not counted.
+//! A value that many owners share. It is freed with the last one, unless there were ever about 2 ^ 64 at once: then it
+//! stays for good, and further owners are not counted.
 ghost use Rattle.std.specs.Prelude.{◌≡◌, MatchResult};
-ghost use Rattle.seg_shared.specs.Shared.{held_value, shared_value};
+ghost use Rattle.seg_shared.specs.Held.{held_value};
 
 use crate::counted::Counted;
 use std::alloc::{AllocFailed, Global};
+use std::marker::Model;
 use std_alloc::room::Vacant;
+
+/// One of the owners of a value.
+#[derive(Drop)]
+pub struct Shared<T: Drop + 'static> {
+    held: Held<T>,
+}
 
 #[derive(Drop)]
 enum Held<T: Drop + 'static> {
@@ -13,15 +20,16 @@ enum Held<T: Drop + 'static> {
     Kept(&'static T),
 }
 
-/// One of the owners of a value, which is freed with the last.
-#[derive(Drop)]
-pub struct Shared<T: Drop + 'static> {
-    held: Held<T>,
+impl<T: Drop + 'static> Model for Shared<T> {
+    ghost Value = { T };
+
+    ghost view = { λ s. held_value s.held };
 }
 
 impl<T: Drop + 'static> Shared<T> {
+    /// The first owner. The value comes back where there is no memory.
     pub fn new(alloc: Global, value: T) -> Result<Shared<T>, AllocFailed<T>>
-        ensures { MatchResult result (λ s. shared_value s ≡ value) (λ e. e.value ≡ value) }
+        ensures { MatchResult result (λ shared. shared ≡ value) (λ refused. refused.value ≡ value) }
     {
         match Vacant::take(alloc) {
             Ok(block) => Ok(Shared {
@@ -32,17 +40,14 @@ impl<T: Drop + 'static> Shared<T> {
     }
 
     pub fn get(&self) -> &T
-        ensures { result.now ≡ shared_value self.now }
+        ensures { result.now ≡ self.now }
     {
-        match &self.held {
-            Held::Owned(owner) => owner.value(),
-            Held::Kept(value) => value,
-        }
+        self.held.get()
     }
 
     /// Another owner of the same value.
     pub fn share(&self) -> Shared<T>
-        ensures { shared_value result ≡ shared_value self.now }
+        ensures { result ≡ self.now }
     {
         Shared {
             held: self.held.share(),
@@ -51,6 +56,15 @@ impl<T: Drop + 'static> Shared<T> {
 }
 
 impl<T: Drop + 'static> Held<T> {
+    fn get(&self) -> &T
+        ensures { result.now ≡ held_value self.now }
+    {
+        match self {
+            Held::Owned(owner) => owner.value(),
+            Held::Kept(value) => value,
+        }
+    }
+
     fn share(&self) -> Held<T>
         ensures { held_value result ≡ held_value self.now }
     {
