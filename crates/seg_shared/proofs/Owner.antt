@@ -4,17 +4,16 @@
 --     tells, tells_for_good      of a `&` to an owner, and of an owner that is never let go: the value can be read
 use mathlib.Core.Bool.{Bool}
 use mathlib.Core.List.{[], ◌∷◌}
-use mathlib.Core.Path.{◌≡◌, refl}
-use Prim.Native.Nat.{ℕ, ◌^◌}
-use native.Mathlib.Omega.{arith}
+use mathlib.Core.Path.{refl}
+use Prim.Native.Nat.{ℕ}
 use seplogic.Ra.Ura.{Ura}
 use lib.Dec.{lit<}
 use base.Fraction.{full_share}
-use base.Logic.{ent, sep, emp, id⊢}
+use base.Logic.{ent, emp, id⊢}
 use base.Fml.{Fml, Key, Lft, Incl, Incl-refl, Incl-trans, ftrue, fsep, fex, fbor, flft}
 use contract.BorrowLft.{meet_⊑_left, meet_⊑_right}
 use types.Logic.{Logic, sem, lfts}
-use types.Kit.{‵, raw, some, later, ◌⊛◌, ◌$◌, ◌∵◌, !, qed, move, drop, use0, use1, use2, pick, await, group, split, split3, join, fsplit, fjoin, fjoin3, fpick, fpack, feq_i, updating, now, done}
+use types.Kit.{‵, raw, some, later, ◌⊛◌, ◌$◌, ◌∵◌, !, qed, move, drop, use0, use1, use2, pick, await, group, split, split3, join, fsplit, fjoin3, fpick, fpack, feq_i, updating, now, done}
 use types.RcWeak as rc
 use types.Tokens.{bor_new}
 use denote.Model.Laws.{Lends-some}
@@ -23,15 +22,14 @@ use denote.RawPtr.{Ptr, block_of, count_of, lies_at, ◌+ₚ◌}
 use denote.RcWeak as handles
 use denote.Shares.{Shares-less}
 use denote.Sharing.{ShrLaws, some as for_some}
-use denote.Steps.{nothing}
 use denote.Struct.Lending.{Lends, lent_at, Lends-lies, Lends-first, Lends-both}
 use Rattle.std.proofs.alloc.Calls.{token}
-use Rattle.std_alloc.specs.Rc.Ownership.{counter_at, rc_box_type, allocator_offset, value_offset, fields_rejoin, dealloc_by, rc_box_dealloc, value_and_block, fields_shared}
+use Rattle.std_alloc.specs.Rc.Ownership.{rc_box_type, allocator_offset, value_offset, fields_rejoin, dealloc_by, rc_box_dealloc, value_and_block, fields_shared}
 use Rattle.std_alloc.proofs.ArcSteps.{Settles}
 use Rattle.std_alloc.proofs.BoxSteps.Form.{Bx, X, R, P}
 use Rattle.std_alloc.proofs.RcSteps.{Id, sole}
 use Rattle.std_alloc.proofs.SharedLaws.{rc_fields_laws}
-use Rattle.seg_shared.specs.Ownership.{is_one, spare_word, stands_for, count_word}
+use Rattle.seg_shared.specs.Ownership.{is_one, spare_word, count_word}
 use Rattle.seg_shared.proofs.Count.{one_stands}
 
 -- the words of `types.RcWeak` at the block p with the value x

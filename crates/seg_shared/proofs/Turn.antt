@@ -9,7 +9,7 @@ use Prim.Native.Nat.{ℕ, ◌+◌, ◌-◌, ◌<◌, ◌^◌}
 use native.Mathlib.Omega.{arith}
 use seplogic.Ra.Ura.{Ura}
 use lib.Dec.{T, eqb, eqb→eq}
-use base.Fml.{Fml, Lft, Share, fat, fsep, fex, fhide, flft, fobor, ftok, ftrue}
+use base.Fml.{Fml, Lft, Share, fat, fsep, fhide, flft, fobor, ftok, ftrue}
 use base.Logic.{ent, sep, wand, apply∗, never, id⊢}
 use base.Mask.{every}
 use base.Share
@@ -31,7 +31,7 @@ use Rattle.std_alloc.proofs.BoxSteps.Form.{Bx, X, R, P}
 use Rattle.std_alloc.proofs.RcSteps.{Id, Word, word, word_ty, cell, is_not, reads, read}
 use Rattle.seg_shared.specs.Ownership.{full_count, is_one, spare_word, stands_for}
 use Rattle.seg_shared.proofs.Count.{number, read_for_good}
-use Rattle.seg_shared.proofs.Owner.{key, whole, seen, counts, guarded, holds, together, owner, owner_lent, tells_for_good}
+use Rattle.seg_shared.proofs.Owner.{key, whole, seen, counts, guarded, holds, together, owner_lent, tells_for_good}
 
 by_cases : {Z : Type 1} (y : Bool) → (T y → Z) → (T (not y) → Z) → Z
 by_cases true holds _ = holds tt

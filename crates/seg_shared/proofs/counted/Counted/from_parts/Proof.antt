@@ -1,7 +1,6 @@
 -- `from_parts` makes the first owner. Assumes `Logic`.
 use mathlib.Core.List.{List, [], ◌∷◌, ◌++◌}
 use mathlib.Core.Path.{refl}
-use Prim.Native.Nat.{ℕ}
 use lib.Dec.{lit<}
 use base.Logic.{SProp}
 use base.Fml.{Lft, Share, Incl-trans, ftrue, fex, flft}

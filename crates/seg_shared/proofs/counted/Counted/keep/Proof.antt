@@ -1,5 +1,4 @@
 -- `keep` fills the count, which shows that the value can be read for good. Assumes `Logic`.
-use mathlib.Core.Bool.{true}
 use mathlib.Core.List.{List, [], ◌∷◌, ◌++◌}
 use mathlib.Core.Path.{refl, ap}
 use Prim.Native.Nat.{◌+◌}

@@ -37,7 +37,7 @@ use Rattle.seg_shared.specs.contracts.counted.Counted.try_share.{ended, clauses}
 use Rattle.seg_shared.specs.contracts.counted.Counted.try_share.Key.{name as #self}
 use Rattle.seg_shared.proofs.Count.{stands, number}
 use Rattle.seg_shared.proofs.InThread.{in_turn, proved_in_turn}
-use Rattle.seg_shared.proofs.Owner.{guarded, holds, owner, owner_lent}
+use Rattle.seg_shared.proofs.Owner.{holds, owner, owner_lent}
 use Rattle.seg_shared.proofs.Turn.{stands_here, enters, leaves, word_read, word_written, gains}
 use Rattle.seg_shared.proofs.counted.Counted.try_share.Statement.{statement}
 use Rattle.seg_shared.proofs.counted.Counted.try_share.Code as compiled
