@@ -1,11 +1,11 @@
 //! What every crate stands on: moments, the types of columns, the ids of segments and the names of files, numbers in
-//! bytes, and the outside of a program, its sources and sinks of bytes.
+//! bytes, shared bytes, and the outside of a program, its sources and sinks of bytes.
 //!
 //! A source is seen as the bytes that it has left, and a sink as the bytes that it took, each where it tells them,
 //! with a count of its faults: a call fails only where that count rose. A source also counts the reads that took nothing.
 //!
 //! To be read in this order: `error`; `date`, `column_type`, `segment_id`, `name`, `byte_count`; `little_endian`,
-//! `varint`; `source`, `sink`; `idle`, `memory_source`, `memory_sink`; `reader_source`, `writer_sink`.
+//! `varint`; `owned_bytes`; `source`, `sink`; `idle`, `memory_source`, `memory_sink`; `reader_source`, `writer_sink`.
 #![tactic(auto)]
 
 mod byte_count;
@@ -17,6 +17,7 @@ mod little_endian;
 mod memory_sink;
 mod memory_source;
 mod name;
+mod owned_bytes;
 mod reader_source;
 mod segment_id;
 mod sink;
@@ -34,6 +35,7 @@ pub use little_endian::{put_u32, put_u64, u32_at, u64_at};
 pub use memory_sink::MemorySink;
 pub use memory_source::MemorySource;
 pub use name::{FileName, SegmentComponent};
+pub use owned_bytes::OwnedBytes;
 pub use reader_source::ReaderSource;
 pub use segment_id::SegmentId;
 pub use sink::{Sink, SinkFailed, write_whole};
