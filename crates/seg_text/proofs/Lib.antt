@@ -1,5 +1,4 @@
 pub mod AllAlive
-mod HexText
 mod KnownTexts
 mod PlainTerms
 pub mod StoredTexts

@@ -1,17 +1,12 @@
 -- The first lines of a segment.
-use Rattle.std.specs.Prelude.{ℕ, zero, suc, ◌+◌, ◌/◌, ◌%◌, List, [], ◌∷◌, ◌++◌, Bool, true, false, codes, decimal}
+use Rattle.std.specs.Prelude.{ℕ, ◌+◌, List, [], ◌∷◌, ◌++◌, Bool, true, false, codes, decimal}
 use Rattle.std.specs.List.{flat_map}
-use Rattle.std.specs.Char.{digit_char}
-
--- the last hexadecimal digits of a number, so many of them
-unfoldable pub hex_text : ℕ → ℕ → List ℕ
-hex_text zero n = []
-hex_text (suc k) n = hex_text k (n / 16) ++ digit_char (n % 16) ∷ []
+use Rattle.seg_common.specs.SegmentIds.{id_text}
 
 -- `LABEL ID docs N alive A`
 abbrev pub header_text : List ℕ → ℕ → ℕ → ℕ → List ℕ
 header_text label id documents alive_count =
-    label ++ 32 ∷ (hex_text 32 id ++ (codes " docs " ++ (decimal documents ++ (codes " alive " ++ (decimal alive_count ++ 10 ∷ [])))))
+    label ++ 32 ∷ (id_text id ++ (codes " docs " ++ (decimal documents ++ (codes " alive " ++ (decimal alive_count ++ 10 ∷ [])))))
 
 -- the ids of deleted documents, where the first document has the id `first`
 abbrev pub dead_from : ℕ → List Bool → List ℕ

@@ -7,7 +7,7 @@ ghost use Rattle.seg_model.specs.Built.{is_built_entry};
 use crate::{
     RecordedRef, push_document, push_documents, push_field, push_header, push_posting, push_term,
 };
-use seg_common::DateTimePrecision;
+use seg_common::{DateTimePrecision, SegmentId};
 use seg_values::{
     Documents, Field, FieldEntry, FieldKind, IndexOption, OwnedValue, Schema, SchemaBuilder,
     TantivyDocument, Text,
@@ -17,9 +17,10 @@ use std::test::Fail;
 
 #[test]
 fn headers(rt: HostRuntime) -> Result<(), Fail> {
-    let mut out = Vec::new(rt.alloc());
-    push_header(&mut out, "work", 1, 3)?;
-    push_header(&mut out, "output", u128::MAX, 0)?;
+    let alloc = rt.alloc();
+    let mut out = Vec::new(alloc);
+    push_header(&mut out, alloc, "work", SegmentId::from_u128(1), 3)?;
+    push_header(&mut out, alloc, "output", SegmentId::from_u128(u128::MAX), 0)?;
     let text = "work 00000000000000000000000000000001 docs 3 alive 3\n\
                 output ffffffffffffffffffffffffffffffff docs 0 alive 0\n";
     assert_eq!(rt; out.as_slice(), text.as_bytes());

@@ -9,6 +9,7 @@ ghost use Rattle.seg_tool.specs.Run.{build_text, IsNarrow, IsTextOf};
 
 use crate::printing::push_segment;
 use seg_build::{IndexError, index_documents};
+use seg_common::SegmentId;
 use seg_script::{Script, ScriptError, read_script};
 use seg_values::Analyzers;
 use std::alloc::Global;
@@ -61,7 +62,9 @@ fn segments_text<Z: Analyzers>(
         Err(e) => return Err(e),
     };
     let mut out = Vec::new(alloc);
-    push_segment(&mut out, alloc, "work", 1, &schema, &fields, &documents)?;
-    push_segment(&mut out, alloc, "output", 2, &schema, &fields, &documents)?;
+    let work = SegmentId::from_u128(1);
+    push_segment(&mut out, alloc, "work", work, &schema, &fields, &documents)?;
+    let output = SegmentId::from_u128(2);
+    push_segment(&mut out, alloc, "output", output, &schema, &fields, &documents)?;
     Ok(out)
 }

@@ -12,6 +12,7 @@ ghost use Rattle.seg_text.specs.HeaderText.{header_text};
 ghost use Rattle.seg_tool.specs.Printing.{entry_text, entries_text};
 
 use seg_build::{Hit, IndexedFields, SortedTerms, first_run};
+use seg_common::SegmentId;
 use seg_text::{RecordedRef, push_documents, push_field, push_header, push_posting, push_term};
 use seg_values::{Documents, FieldEntry, IndexOption, Schema};
 use std::alloc::{AllocError, Global};
@@ -21,7 +22,7 @@ pub(crate) fn push_segment(
     out: &mut Vec<u8>,
     alloc: Global,
     label: &str,
-    id: u128,
+    id: SegmentId,
     schema: &Schema,
     fields: &IndexedFields,
     documents: &Documents,
@@ -34,7 +35,7 @@ pub(crate) fn push_segment(
         ++ (entries_text schema.now fields.now
         ++ documents_text schema.now (map (stored_document schema.now) documents.now)))) }
 {
-    push_header(out, label, id, documents.as_slice().len())?;
+    push_header(out, alloc, label, id, documents.as_slice().len())?;
     push_fields(out, alloc, schema, fields)?;
     push_documents(out, alloc, schema, documents)
 }
