@@ -37,15 +37,15 @@ pub fn schema(alloc: Global, fields: &[Shape]) -> Result<Schema> {
 }
 
 /// Texts and signed numbers have lengths, dates and JSON have columns.
-fn entry(alloc: Global, shape: &Shape) -> Result<FieldEntry, AllocError> {
+fn entry(alloc: Global, Shape(name, kind, index): &Shape) -> Result<FieldEntry, AllocError> {
     Ok(FieldEntry {
-        name: Text::copy_of(alloc, shape.0)?,
-        kind: shape.1,
+        name: Text::copy_of(alloc, name)?,
+        kind: *kind,
         stored: true,
-        index: shape.2,
+        index: *index,
         tokenizer: None,
-        norms: matches!(shape.1, FieldKind::Text | FieldKind::I64),
-        fast: matches!(shape.1, FieldKind::Date | FieldKind::Json),
+        norms: matches!(kind, FieldKind::Text | FieldKind::I64),
+        fast: matches!(kind, FieldKind::Date | FieldKind::Json),
         fast_tokenizer: None,
         precision: DateTimePrecision::Seconds,
         expand_dots: false,

@@ -11,7 +11,6 @@ mod history;
 mod json;
 mod kinds;
 mod lines;
-mod numbers;
 mod plain;
 mod shop;
 mod table;
@@ -22,10 +21,18 @@ use anyhow::Result;
 use history::{push_batches, push_history};
 use table::Table;
 
+/// How the lines are to be read.
+const LEGEND: &str = "\
+Terms: the bytes, then each document with the term, as DOCUMENTxCOUNT@POSITION,POSITION.
+Columns: the path and the type, then each document with a value, as DOCUMENT:VALUE,VALUE.
+Length ids: one for each document, with the length that it stands for, as ID=LENGTH.
+A byte that does not print is a backslash and two digits; no byte at all is \\e.
+";
+
 fn main(rt: HostRuntime) -> Result<()> {
     let mut table = Table::new(rt.alloc());
-    table.push_legend()?;
-    for cases in [texts::CASES, json::CASES, kinds::CASES, numbers::CASES] {
+    table.text.push_str(LEGEND)?;
+    for cases in [texts::CASES, json::CASES, kinds::CASES] {
         for case in cases {
             push_batches(&mut table, case)?;
         }

@@ -1,18 +1,11 @@
 //! The printed table, and how bytes and values are printed.
 
 use seg_plain::ColumnValue;
-use std::alloc::{AllocError, Global};
+use std::alloc::Global;
 use std::fmt;
 
 /// Bytes longer than this are told by their number.
 const LONG: usize = 100;
-
-const LEGEND: &str = "\
-Terms: the bytes, then each document with the term, as DOCUMENTxCOUNT@POSITION,POSITION.
-Columns: the path and the type, then each document with a value, as DOCUMENT:VALUE,VALUE.
-Length ids: one for each document, with the length that it stands for, as ID=LENGTH.
-A byte that does not print is a backslash and two digits; no byte at all is \\e.
-";
 
 /// A text that grows line by line.
 #[derive(Drop)]
@@ -25,11 +18,6 @@ impl Table {
     pub fn new(alloc: Global) -> Table {
         let text = String::new(alloc);
         Table { alloc, text }
-    }
-
-    /// How the lines are to be read.
-    pub fn push_legend(&mut self) -> Result<(), AllocError> {
-        self.text.push_str(LEGEND)
     }
 }
 
@@ -47,7 +35,7 @@ impl fmt::Display for Shown<'_> {
         }
         for byte in self.0 {
             match byte {
-                0x21..=0x5b | 0x5d..=0x7e => f.write_char(char::from(*byte))?,
+                b'!'..=b'[' | b']'..=b'~' => f.write_char(char::from(*byte))?,
                 _ => write!(f, "\\{byte:02x}")?,
             }
         }
