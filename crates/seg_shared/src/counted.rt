@@ -102,10 +102,10 @@ impl<T, A: Allocator> Counted<T, A> {
 
 impl<T: Drop, A: Allocator> Drop for Counted<T, A> {
     fn drop(self) {
-        if let Some((value, block)) = self.release() {
-            let alloc = block.free();
-            drop(value);
-            drop(alloc);
-        }
+        let Some((value, block)) = self.release() else {
+            return;
+        };
+        drop(value);
+        drop(block.free());
     }
 }

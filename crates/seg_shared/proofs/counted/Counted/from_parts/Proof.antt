@@ -62,14 +62,14 @@ from_parts_spec 𝓤 𝓛 𝓜 𝓡 wired Y Z L LZ g d dd met md =
     move ! (1 ∷ []) $ heard ! _ (λ in_R. move ! (1 ∷ []) $ heard ! _ (λ in_P. split ! $ split ! $ move ! (2 ∷ []) $ fsplit3 ! $ move ! (1 ∷ []) $ el_tells S ! x y.0.4.1.0 (λ v is_v good.
     move ! (1 ∷ []) $ Vacant-had S.al Block ! y.0.3.0 y.0.4.0 (λ b o u _ is_room fits. keep ! (0 ∷ 1 ∷ 2 ∷ 3 ∷ 5 ∷ 6 ∷ []) $
     let p : Ptr = block_ptr b o in
-    let typed = as_fields (ty_int w64 ∷ ty_int w64 ∷ α S.al ∷ τ S ∷ []) (vint w64 1 ∷ vint w64 1 ∷ u ∷ v ∷ []) ((tt, record { fits = lit< tt }), ((tt, record { fits = lit< tt }), (fits, (good, tt)))) in
+    let block_good = as_fields (ty_int w64 ∷ ty_int w64 ∷ α S.al ∷ τ S ∷ []) (vint w64 1 ∷ vint w64 1 ∷ u ∷ v ∷ []) ((tt, record { fits = lit< tt }), ((tt, record { fits = lit< tt }), (fits, (good, tt)))) in
     regoal ! (λ (us : List Val). prop (WpFn 𝓤 H 𝓣.C 𝓣.Λ fn us Post)) (λ i. is_room i ++ (is_v i ++ [])) refl $ as_written ! (lone Block.mir) b o $
     enter ! 𝓣.C 𝓣.Λ fn (vacant_val u b o ∷ v ∷ []) Post $ alloc_all ! (λ l. pass_all ! refl (vacant_typed S.al Block u b o fits, (good, tt)) $ let En : Env 𝓤 H = env fn.locals l in
     -- [the room; the right to free it; what the allocator owns; what the value owns; the tokens]
     sets ! (of_opd ! (get_in ! (fld ! refl (stop !)) (sub ! 0 refl (whole !)))) refl (tt, tt) $ sets ! (of_opd ! (get_in ! (fld ! refl (stop !)) (sub ! 1 refl (whole !)))) refl fits $ first ! $ blocks ! $
     sets ! (of_opd ! (get ! refl)) refl fits $ sets ! (of_opd ! (get ! refl)) refl good $
-    sets ! (agg ! (and_then ! (lit ! tt) (and_then ! (lit ! tt) (and_then ! (get ! refl) (and_then ! (get ! refl) (no_more !)))))) refl typed $
-    assigns_last ! (of_opd ! (get ! refl)) (through ! refl (stop !)) (init ! 0 refl typed) $ exec ! 𝓣.C 𝓣.Λ En (after 3 fn.body) (at_ret En Post) $
+    sets ! (agg ! (and_then ! (lit ! tt) (and_then ! (lit ! tt) (and_then ! (get ! refl) (and_then ! (get ! refl) (no_more !)))))) refl block_good $
+    assigns_last ! (of_opd ! (get ! refl)) (through ! refl (stop !)) (init ! 0 refl block_good) $ exec ! 𝓣.C 𝓣.Λ En (after 3 fn.body) (at_ret En Post) $
     sets ! (agg ! (and_then ! (get ! refl) (no_more !))) refl (word-Good ν p) $ group ! 4 $
     use1 𝓛 (‵ (sole S p x)) (block_made S 𝓛 (B.the_type (R S) (P S)).name b o h x u v) $ move ! (2 ∷ []) $ split ! $ move ! (2 ∷ 3 ∷ 0 ∷ []) $
     use3 𝓛 (later (‵ (fex Id (owner S p x)) ⊛ ‵ (flft κ q) ⊛ ‵ (flft μ r)))
