@@ -5,9 +5,11 @@
 //! `u64` is answered as memory that is lacking.
 //!
 //! To be read in this order: `occurrence`, `entry`; `tokens` and `text` (text fields), `numbers`, `leaf` and `plain`
-//! (fields of other kinds), `path` and `json` (JSON fields), `field` (each field); then `posting` and `terms`, `join`
-//! (the terms of joined segments), `length`, `operation`. For columns: `column_value`; `leaf_value`, `sorted` and
-//! `fast_value` (what a document records); `column_key`, `column_rows` and `column` (the columns of documents).
+//! (fields of other kinds), `path` and `json` (JSON fields), `field` (each field); then `posting` and `terms`, `length`,
+//! `stored`. What operations leave: `operation`, `batch`, `kept` and `survivor` (filters). For columns: `column_value`;
+//! `leaf_value`, `sorted` and `fast_value` (what a document records); `column_key`, `column_rows`, `column_table` and
+//! `column` (the columns of documents). The live documents of segments: `join` (terms), `join_norms` (lengths),
+//! `part_column` and `join_columns`.
 #![tactic(auto)]
 
 mod batch;
