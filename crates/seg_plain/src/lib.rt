@@ -21,6 +21,8 @@ mod column_table;
 mod column_tests;
 mod column_value;
 mod entry;
+#[cfg(test)]
+mod fast_tests;
 mod fast_value;
 mod field;
 mod field_leaf;
@@ -46,6 +48,8 @@ mod stored;
 #[cfg(test)]
 mod stored_tests;
 mod survivor;
+#[cfg(test)]
+mod survivor_tests;
 mod terms;
 #[cfg(test)]
 mod tests;
