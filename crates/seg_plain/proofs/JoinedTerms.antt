@@ -13,6 +13,7 @@ use Rattle.seg_model.specs.Contents.{terms_at}
 use Rattle.seg_model.specs.Join.{Part, recorded_at, all_recorded, joined_postings, joined_terms}
 use Rattle.seg_model.proofs.Tables.{IsComplete, table_from_gets}
 use Rattle.seg_model.proofs.Terms.{texts_apart, complete_joined}
+use Rattle.seg_plain.proofs.Marked.{kept-none}
 use Rattle.seg_plain.proofs.Places.{drop-item}
 use Rattle.seg_plain.proofs.Tables.{Key, filled-append, get-filled}
 use Rattle.seg_plain.specs.Filled.{filled, with_any}
@@ -62,10 +63,6 @@ no_part_left f m [] zero h = refl
 no_part_left f m [] (suc i) h = refl
 no_part_left f m (p ∷ ps) zero h = absurd (omega arith)
 no_part_left f m (p ∷ ps) (suc i) h = no_part_left f m ps i (omega arith)
-
-kept-none : {X : Type 0} (bs : List Bool) → let none : List X = [] in kept bs none ≡ none
-kept-none [] = refl
-kept-none (b ∷ bs) = refl
 
 -- one more document of a part
 module _ (ps : List Posting) (n i : ℕ) (bs : List Bool) where

@@ -1,12 +1,17 @@
+pub mod Cuts
+pub mod Found
 pub mod Inserted
+pub mod JoinedColumns
 pub mod JoinedTerms
 pub mod Known
 pub mod Lengths
+pub mod Marked
 pub mod Paths
 pub mod Places
 pub mod PlainFields
 pub mod Positions
 pub mod Puts
+pub mod Sides
 pub mod StoringPairs
 pub mod Tables
 pub mod TermOrder

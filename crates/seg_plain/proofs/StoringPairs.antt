@@ -1,5 +1,5 @@
 -- Stored pairs, one after another.
-use Rattle.std.proofs.Common.{◌≡◌, ℕ, ◌+◌, Bool, true, false, List, [], ◌∷◌, ◌++◌, map, filter, cond, drop, Some, refl, sym, ap, ◌∙◌, append_assoc, slice_get}
+use Rattle.std.proofs.Common.{◌≡◌, ℕ, ◌+◌, Bool, true, false, [], ◌∷◌, ◌++◌, map, filter, cond, drop, refl, sym, ap, ◌∙◌, append_assoc, slice_get}
 use Rattle.seg_values.specs.Tree.{Tree, Document}
 use Rattle.seg_model.specs.Fields.{Schema, is_field}
 use Rattle.seg_model.specs.Reading.{stored_value, stored_document}

@@ -1,20 +1,19 @@
 //! The columns of documents.
 ghost use Rattle.std.specs.Prelude.{◌≡◌, ◌++◌, map, IfOk, OnOk};
 ghost use Rattle.std.specs.FinMap.{entries};
-ghost use Rattle.std.specs.FinMap.Entries.{put};
-ghost use Rattle.std.specs.List.{flat_map, list_any};
+ghost use Rattle.std.specs.List.{flat_map};
 ghost use Rattle.std.specs.Option.{option_map};
 ghost use Rattle.seg_model.specs.Columns as columns;
-ghost use Rattle.seg_plain.specs.ColumnEntries.{column_entry, column_there, declared_of, is_mixed_there, put_there, table_at};
+ghost use Rattle.seg_plain.specs.ColumnEntries.{column_entry, declared_of, entry_at, recorded_at};
 ghost use Rattle.seg_plain.specs.ColumnValues.{column_key, fast_value};
 
-use crate::column_key::{ColumnKey, key_cmp, value_keys};
-use crate::column_rows::{column_at, is_mixed, rows_at};
+use crate::column_key::{ColumnKey, value_keys};
+use crate::column_rows::rows_at;
+use crate::column_table::columns_in;
 use crate::column_value::{ColumnValues, FastValue, FastValues};
 use seg_common::ColumnType;
 use seg_values::{Bytes, FieldEntry, FieldKind, Schema};
 use std::alloc::{AllocError, Global};
-use std::cmp::Ordering;
 
 /// A column, with a row of values for each document.
 #[derive(Debug, Drop)]
@@ -34,117 +33,25 @@ pub fn columns(
 {
     let declared = declared_columns(alloc, schema)?;
     let keys = all_keys(alloc, schema, documents)?;
-    if is_any_mixed(alloc, &declared, documents, &keys)? {
-        return Ok(None);
-    }
-    let table = table(alloc, &declared, documents, &keys)?;
-    Ok(Some(table))
+    let found = found_at(alloc, documents, keys)?;
+    let table = columns_in(alloc, &declared, found)?;
+    Ok(table)
 }
 
-/// The columns at some keys.
-fn table(
+/// What the documents record at each of some keys.
+fn found_at(
     alloc: Global,
-    declared: &[ColumnKey],
     documents: &[FastValues],
-    keys: &[ColumnKey],
+    keys: Vec<ColumnKey>,
 ) -> Result<Vec<Column>, AllocError>
-    ensures { IfOk result (λ table. map column_entry table.items ≡ entries (table_at (map column_key declared.now) documents.now (map column_key keys.now))) }
+    ensures { IfOk result (λ found. map column_entry found.items ≡ map (entry_at (recorded_at documents.now)) (map column_key keys.items)) }
 {
-    let [key, rest @ ..] = keys else {
-        return Ok(Vec::new(alloc));
-    };
-    let mut found = table(alloc, declared, documents, rest)?;
-    let column = column_there(alloc, declared, documents, key)?;
-    put_if_there(&mut found, alloc, key, column)?;
-    Ok(found)
-}
-
-/// The column at a key.
-fn column_there(
-    alloc: Global,
-    declared: &[ColumnKey],
-    documents: &[FastValues],
-    key: &ColumnKey,
-) -> Result<Option<Vec<ColumnValues>>, AllocError>
-    ensures { IfOk result (λ column. option_map (λ rows. rows.items) column ≡ column_there (map column_key declared.now) documents.now (column_key key.now)) }
-{
-    let path = key.path.as_slice();
-    let rows = rows_at(alloc, path, key.column_type, documents)?;
-    column_at(alloc, declared, path, key.column_type, rows)
-}
-
-/// Puts a column in its place, if there is one.
-fn put_if_there(
-    table: &mut Vec<Column>,
-    alloc: Global,
-    key: &ColumnKey,
-    column: Option<Vec<ColumnValues>>,
-) -> Result<(), AllocError>
-    ensures { OnOk result (map column_entry table.new.items ≡ put_there (column_key key.now) (option_map (λ rows. rows.items) column) (map column_entry table.old.items)) }
-{
-    match column {
-        Some(rows) => put_column(table, alloc, key, rows),
-        None => Ok(()),
-    }
-}
-
-/// Puts a column in its place; one that stands at its key gives way.
-fn put_column(
-    table: &mut Vec<Column>,
-    alloc: Global,
-    key: &ColumnKey,
-    rows: Vec<ColumnValues>,
-) -> Result<(), AllocError>
-    ensures { OnOk result (map column_entry table.new.items ≡ put columns.column_cmp (column_key key.now) rows.items (map column_entry table.old.items)) }
-{
-    let path = Bytes::from_vec(Vec::from_slice(alloc, key.path.as_slice())?);
-    let column_type = key.column_type;
-    let key = ColumnKey { path, column_type };
-    put(table, Column { key, rows })
-}
-
-fn put(table: &mut Vec<Column>, column: Column) -> Result<(), AllocError>
-    ensures { OnOk result (map column_entry table.new.items ≡ put columns.column_cmp (column_key column.key) column.rows.items (map column_entry table.old.items)) }
-{
-    for place in 0..table.len() {
-        let there = &table[place];
-        match key_cmp(
-            column.key.path.as_slice(),
-            column.key.column_type,
-            &there.key,
-        ) {
-            Ordering::Less => {
-                table.insert(place, column)?;
-                return Ok(());
-            }
-            Ordering::Equal => {
-                table[place] = column;
-                return Ok(());
-            }
-            Ordering::Greater => {}
-        }
-    }
-    table.push(column)?;
-    Ok(())
-}
-
-/// Whether the numbers of a path of these keys have no type.
-fn is_any_mixed(
-    alloc: Global,
-    declared: &[ColumnKey],
-    documents: &[FastValues],
-    keys: &[ColumnKey],
-) -> Result<bool, AllocError>
-    ensures { IfOk result (λ mixed. mixed ≡ list_any (is_mixed_there (map column_key declared.now) documents.now) (map column_key keys.now)) }
-{
+    let mut found = Vec::new(alloc);
     for key in keys {
-        let path = key.path.as_slice();
-        let rows = rows_at(alloc, path, key.column_type, documents)?;
-        if is_mixed(declared, path, key.column_type, &rows) {
-            return Ok(true);
-        }
+        let rows = rows_at(alloc, key.path.as_slice(), key.column_type, documents)?;
+        found.push(Column { key, rows })?;
     }
-    Ok(false)
+    Ok(found)
 }
 
 /// The declared keys, and those of each value that is recorded.
@@ -178,7 +85,7 @@ fn push_keys(
 }
 
 /// The columns that a schema declares: they are there without any value.
-fn declared_columns(alloc: Global, schema: &Schema) -> Result<Vec<ColumnKey>, AllocError>
+pub(crate) fn declared_columns(alloc: Global, schema: &Schema) -> Result<Vec<ColumnKey>, AllocError>
     ensures { IfOk result (λ keys. map column_key keys.items ≡ columns.declared_columns schema.now) }
 {
     let mut keys = Vec::new(alloc);

@@ -193,7 +193,7 @@ fn is_not_negative(value: &ColumnValue) -> bool
     }
 }
 
-fn is_number(column_type: ColumnType) -> bool
+pub(crate) fn is_number(column_type: ColumnType) -> bool
     ensures { result ≡ columns.is_number column_type }
 {
     match column_type {

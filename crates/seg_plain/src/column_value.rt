@@ -61,6 +61,20 @@ impl ColumnValues {
         self.values.push(value)?;
         Ok(())
     }
+
+    /// Adds copies of values.
+    pub(crate) fn push_all(
+        &mut self,
+        alloc: Global,
+        values: &[ColumnValue],
+    ) -> Result<(), AllocError>
+        ensures { OnOk result (self.new ≡ self.old ++ map column_value values.now) }
+    {
+        for value in values {
+            self.push(copy_of(alloc, value)?)?;
+        }
+        Ok(())
+    }
 }
 
 /// A value that is recorded under a path.

@@ -1,5 +1,8 @@
-//! A join that was worked out by hand.
+//! Joins that were worked out by hand.
 use super::*;
+use crate::tests::entry_of;
+use seg_common::ColumnType;
+use seg_values::{Bytes, FieldKind, SchemaBuilder};
 use std::alloc::{AllocError, Global};
 use std::test::Fail;
 
@@ -41,5 +44,110 @@ fn dead_documents_leave_no_terms(rt: HostRuntime) -> Result<(), Fail> {
         assert_eq!(rt; positions.as_slice(), [3].as_slice());
     }
     assert_eq!(rt; terms.into_entries(alloc)?.len(), 1);
+    Ok(())
+}
+
+/// The joined ids of two segments, with the third and the fourth of their five documents dead.
+fn ids_without_dead(alloc: Global, norms: bool) -> Result<Vec<u8>, AllocError> {
+    let mut entry = entry_of(alloc, FieldKind::Text)?;
+    entry.norms = norms;
+    let mut parts = Vec::new(alloc);
+    parts.push(part_of_ids(alloc, &[true, true, false], &[1, 2, 3])?)?;
+    parts.push(part_of_ids(alloc, &[false, true], &[4, 5])?)?;
+    joined_norms(alloc, &entry, &parts)
+}
+
+fn part_of_ids(alloc: Global, alive: &[bool], ids: &[u8]) -> Result<NormsPart, AllocError> {
+    Ok(NormsPart {
+        alive: Vec::from_slice(alloc, alive)?,
+        ids: Vec::from_slice(alloc, ids)?,
+    })
+}
+
+#[test]
+fn dead_documents_leave_no_lengths(rt: HostRuntime) -> Result<(), Fail> {
+    let alloc = rt.alloc();
+    assert_eq!(rt;
+        ids_without_dead(alloc, true)?.as_slice(),
+        [1, 2, 5].as_slice()
+    );
+    assert!(rt; ids_without_dead(alloc, false)?.is_empty());
+    Ok(())
+}
+
+/// Rows of one number each.
+fn rows_of(alloc: Global, numbers: &[i128]) -> Result<Vec<ColumnValues>, AllocError> {
+    let mut rows = Vec::new(alloc);
+    for number in numbers {
+        let mut row = ColumnValues::new(alloc);
+        row.push(ColumnValue::Number(*number))?;
+        rows.push(row)?;
+    }
+    Ok(rows)
+}
+
+/// A part with a column of numbers at the path `n`, one number for each document.
+fn part_of_numbers(
+    alloc: Global,
+    alive: &[bool],
+    column_type: ColumnType,
+    numbers: &[i128],
+) -> Result<ColumnsPart, AllocError> {
+    let path = Bytes::from_vec(Vec::from_slice(alloc, b"n")?);
+    let key = ColumnKey { path, column_type };
+    let rows = rows_of(alloc, numbers)?;
+    let mut columns = Vec::new(alloc);
+    columns.push(Column { key, rows })?;
+    Ok(ColumnsPart {
+        documents: numbers.len() as u64,
+        alive: Vec::from_slice(alloc, alive)?,
+        columns,
+    })
+}
+
+/// The joined columns of 5 and -1, in a column I64, and of 2^63 and 7, in a column U64.
+fn joined_numbers(
+    alloc: Global,
+    first: &[bool],
+    second: &[bool],
+) -> Result<Option<Vec<Column>>, AllocError> {
+    let schema = SchemaBuilder::new(alloc).build();
+    let mut parts = Vec::new(alloc);
+    parts.push(part_of_numbers(alloc, first, ColumnType::I64, &[5, -1])?)?;
+    parts.push(part_of_numbers(alloc, second, ColumnType::U64, &[1 << 63, 7])?)?;
+    joined_columns(alloc, &schema, &parts)
+}
+
+/// Whether there is one column of this type, with one number in each row, and these are they.
+fn are_numbers(table: &[Column], column_type: ColumnType, numbers: &[i128]) -> bool {
+    let [column] = table else {
+        return false;
+    };
+    if column.key.column_type != column_type || column.rows.len() != numbers.len() {
+        return false;
+    }
+    for (row, number) in column.rows.iter().zip(numbers) {
+        if !matches!(row.as_slice(), [ColumnValue::Number(found)] if *found == *number) {
+            return false;
+        }
+    }
+    true
+}
+
+#[test]
+fn joined_numbers_may_change_their_type(rt: HostRuntime) -> Result<(), Fail> {
+    let alloc = rt.alloc();
+    let table = joined_numbers(alloc, &[true, false], &[true, true])?.ok_or("no columns")?;
+    assert!(rt; are_numbers(&table, ColumnType::U64, &[5, 1 << 63, 7]));
+    let mixed = joined_numbers(alloc, &[true, true], &[true, true])?;
+    assert!(rt; mixed.is_none());
+    Ok(())
+}
+
+#[test]
+fn dead_documents_leave_no_values(rt: HostRuntime) -> Result<(), Fail> {
+    let alloc = rt.alloc();
+    let table = joined_numbers(alloc, &[true, false], &[false, true])?.ok_or("no columns")?;
+    assert!(rt; are_numbers(&table, ColumnType::I64, &[5, 7]));
     Ok(())
 }

@@ -68,7 +68,7 @@ fn power_of_two(exponent: u64) -> u64
     1 << exponent
 }
 
-fn has_lengths(entry: &FieldEntry) -> bool
+pub(crate) fn has_lengths(entry: &FieldEntry) -> bool
     ensures { result ≡ fields.has_lengths entry.now }
 {
     is_indexed(entry) && entry.norms

@@ -5,31 +5,41 @@
 //! `u64` is answered as memory that is lacking.
 //!
 //! To be read in this order: `occurrence`, `entry`; `tokens` and `text` (text fields), `numbers`, `leaf` and `plain`
-//! (fields of other kinds), `path` and `json` (JSON fields), `field` (each field); then `posting` and `terms`, `join`
-//! (the terms of joined segments), `length`, `operation`. For columns: `column_value`; `leaf_value`, `sorted` and
-//! `fast_value` (what a document records); `column_key`, `column_rows` and `column` (the columns of documents).
+//! (fields of other kinds), `path` and `json` (JSON fields), `field` (each field); then `posting` and `terms`, `length`,
+//! `stored`. What operations leave: `operation`, `batch`, `kept` and `survivor` (filters). For columns: `column_value`;
+//! `leaf_value`, `sorted` and `fast_value` (what a document records); `column_key`, `column_rows`, `column_table` and
+//! `column` (the columns of documents). The live documents of segments: `join` (terms), `join_norms` (lengths),
+//! `part_column` and `join_columns`.
 #![tactic(auto)]
 
+mod batch;
 mod column;
 mod column_key;
 mod column_rows;
+mod column_table;
 #[cfg(test)]
 mod column_tests;
 mod column_value;
 mod entry;
+#[cfg(test)]
+mod fast_tests;
 mod fast_value;
 mod field;
 mod field_leaf;
 mod join;
+mod join_columns;
+mod join_norms;
 #[cfg(test)]
 mod join_tests;
 mod json;
+mod kept;
 mod leaf;
 mod leaf_value;
 mod length;
 mod numbers;
 mod occurrence;
 mod operation;
+mod part_column;
 mod path;
 mod plain;
 mod posting;
@@ -37,21 +47,29 @@ mod sorted;
 mod stored;
 #[cfg(test)]
 mod stored_tests;
+mod survivor;
+#[cfg(test)]
+mod survivor_tests;
 mod terms;
 #[cfg(test)]
 mod tests;
 mod text;
 mod tokens;
 
+pub use batch::{Batch, batches};
 pub use column::{Column, columns};
 pub use column_key::ColumnKey;
 pub use column_value::{ColumnValue, ColumnValues, FastValue, FastValues};
 pub use fast_value::fast_values;
 pub use field::occurrences;
 pub use join::{JoinedPart, joined_terms};
+pub use join_columns::joined_columns;
+pub use join_norms::{NormsPart, joined_norms};
 pub use length::{field_norms, length_id, length_of_id};
 pub use occurrence::Occurrences;
-pub use operation::{Operation, TermKey, alive_after, survivors};
+pub use operation::{Operation, TermKey, alive_after};
+pub use part_column::ColumnsPart;
 pub use posting::{Posting, Postings, Recorded};
 pub use stored::{StoredPair, StoredValue, stored_document};
+pub use survivor::survivors;
 pub use terms::{Terms, field_terms};

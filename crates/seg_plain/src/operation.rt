@@ -1,5 +1,5 @@
 //! Additions and deletes, in the order of their stamps.
-ghost use Rattle.std.specs.Prelude.{◌≡◌, [], map, IfOk};
+ghost use Rattle.std.specs.Prelude.{◌≡◌, map, IfOk};
 ghost use Rattle.std.specs.List.{list_any, list_all, AllByRecursion};
 ghost use Rattle.std.specs.Str.{bytes_eq};
 ghost use Rattle.seg_model.specs.Fields.{indexing_tokenizer};
@@ -48,28 +48,6 @@ pub fn alive_after<Z: Analyzers>(
         }
     }
     Ok(alive)
-}
-
-/// The added documents, in order, that no later operation removes.
-pub fn survivors<'a, Z: Analyzers>(
-    alloc: Global,
-    analyzers: &Z,
-    schema: &Schema,
-    history: &'a [Operation],
-) -> Result<Vec<&'a TantivyDocument>, AllocError>
-    requires { AllByRecursion (λ entry. Z.knows analyzers.now (indexing_tokenizer entry)) schema.now }
-    ensures { IfOk result (λ documents. map (λ d. d.now) documents.items ≡ operations.survivors schema.now (Z.tokens_of analyzers.now) [] [] (map operation_of history.now)) }
-{
-    let mut documents = Vec::new(alloc);
-    for at in 0..history.len() {
-        let later = &history[at + 1..];
-        if let Operation::Add(document) = &history[at] {
-            if !is_removed(alloc, analyzers, schema, document, later)? {
-                documents.push(document)?;
-            }
-        }
-    }
-    Ok(documents)
 }
 
 /// Whether an operation that comes later removes a document.

@@ -12,7 +12,7 @@ use std::alloc::{AllocError, Global};
 use std::test::Fail;
 
 /// An analyzer that has the words of a text under every name.
-struct Words;
+pub(crate) struct Words;
 
 impl Analyzers for Words {
     ghost use Rattle.seg_values.specs.Tokenizers.{default_tokens};
@@ -36,7 +36,7 @@ impl Analyzers for Words {
     }
 }
 
-fn entry_of(alloc: Global, kind: FieldKind) -> Result<FieldEntry, AllocError>
+pub(crate) fn entry_of(alloc: Global, kind: FieldKind) -> Result<FieldEntry, AllocError>
     ensures { IfOk result (λ e. is_allowed e.kind e.index ≡ true) }
 {
     let index = match kind {
@@ -58,14 +58,17 @@ fn entry_of(alloc: Global, kind: FieldKind) -> Result<FieldEntry, AllocError>
     })
 }
 
-fn schema_of(alloc: Global, kind: FieldKind) -> Result<Schema, AllocError> {
+pub(crate) fn schema_of(alloc: Global, kind: FieldKind) -> Result<Schema, AllocError> {
     let entry = entry_of(alloc, kind)?;
     let mut builder = SchemaBuilder::new(alloc);
     let _ = builder.add_field(entry).is_ok();
     Ok(builder.build())
 }
 
-fn document_of(alloc: Global, values: Vec<OwnedValue>) -> Result<TantivyDocument, AllocError> {
+pub(crate) fn document_of(
+    alloc: Global,
+    values: Vec<OwnedValue>,
+) -> Result<TantivyDocument, AllocError> {
     let mut document = TantivyDocument::new(alloc);
     for value in values {
         document.add_field_value(Field::from_field_id(0), value)?;
@@ -73,7 +76,7 @@ fn document_of(alloc: Global, values: Vec<OwnedValue>) -> Result<TantivyDocument
     Ok(document)
 }
 
-fn text_of(alloc: Global, text: &str) -> Result<OwnedValue, AllocError> {
+pub(crate) fn text_of(alloc: Global, text: &str) -> Result<OwnedValue, AllocError> {
     Ok(OwnedValue::Str(Text::copy_of(alloc, text)?))
 }
 
@@ -269,12 +272,12 @@ fn lengths(rt: HostRuntime) -> Result<(), Fail> {
     Ok(())
 }
 
-fn adds(alloc: Global, text: &str) -> Result<Operation, AllocError> {
+pub(crate) fn adds(alloc: Global, text: &str) -> Result<Operation, AllocError> {
     let values = vec![in alloc; text_of(alloc, text)?]?;
     Ok(Operation::Add(document_of(alloc, values)?))
 }
 
-fn key(alloc: Global, bytes: &[u8]) -> Result<TermKey, AllocError> {
+pub(crate) fn key(alloc: Global, bytes: &[u8]) -> Result<TermKey, AllocError> {
     Ok(TermKey {
         field: Field::from_field_id(0),
         bytes: Bytes::from_vec(Vec::from_slice(alloc, bytes)?),
@@ -296,7 +299,10 @@ fn deletes(rt: HostRuntime) -> Result<(), Fail> {
     let after = vec![in alloc; both, none]?;
     let alive = alive_after(alloc, &Words, &schema, &batch, &[])?;
     assert_eq!(rt; alive.as_slice(), [false, true, true].as_slice());
-    assert_eq!(rt; survivors(alloc, &Words, &schema, &batch)?.len(), 2);
+    assert_eq!(rt;
+        survivors(alloc, &Words, &schema, &[], &[], &batch)?.len(),
+        2
+    );
     let alive = alive_after(alloc, &Words, &schema, &batch, &after)?;
     assert_eq!(rt; alive.as_slice(), [false, true, false].as_slice());
     Ok(())

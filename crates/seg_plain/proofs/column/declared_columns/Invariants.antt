@@ -1,9 +1,7 @@
-use Rattle.std.proofs.Common.{◌≡◌, ◌++◌, map, take, drop}
-use Rattle.std.specs.FinMap.Entries.{put}
-use Rattle.std.specs.List.{flat_map, list_any}
-use Rattle.seg_model.specs.Columns as columns
-use Rattle.seg_plain.specs.ColumnEntries.{column_entry, declared_of, is_mixed_there}
-use Rattle.seg_plain.specs.ColumnValues.{column_key, fast_value}
+use Rattle.std.proofs.Common.{◌≡◌, ◌++◌, map, drop}
+use Rattle.std.specs.List.{flat_map}
+use Rattle.seg_plain.specs.ColumnEntries.{declared_of}
+use Rattle.seg_plain.specs.ColumnValues.{column_key}
 use Rattle.seg_plain.proofs.column.declared_columns.Given as goal
 
 -- what is so far, with what is left, is all

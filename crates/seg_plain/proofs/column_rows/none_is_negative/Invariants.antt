@@ -1,7 +1,6 @@
-use Rattle.std.proofs.Common.{◌≡◌, ◌++◌, map, drop}
-use Rattle.std.specs.List.{list_all, list_any}
+use Rattle.std.proofs.Common.{◌≡◌, drop}
+use Rattle.std.specs.List.{list_all}
 use Rattle.seg_model.specs.Columns as columns
-use Rattle.seg_plain.specs.ColumnValues.{at_path, column_value, fast_value}
 use Rattle.seg_plain.proofs.column_rows.none_is_negative.Given as goal
 
 -- what is left decides

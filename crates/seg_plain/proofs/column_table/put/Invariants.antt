@@ -3,7 +3,7 @@ use Rattle.std.specs.FinMap.Entries.{put}
 use Rattle.seg_model.specs.Columns as columns
 use Rattle.seg_plain.specs.ColumnEntries.{column_entry}
 use Rattle.seg_plain.specs.ColumnValues.{column_key}
-use Rattle.seg_plain.proofs.column.put.Given as goal
+use Rattle.seg_plain.proofs.column_table.put.Given as goal
 
 -- the column stands behind all that came before
 abbrev pub invariant-loop-place : goal.invariant-loop-place

@@ -1,10 +1,10 @@
-use Rattle.std.proofs.Common.{◌≡◌, ◌≤◌, length, map, sym, ap, ◌∙◌, arith}
+use Rattle.std.proofs.Common.{length, map, sym, ap, ◌∙◌, arith}
 use Rattle.std.specs.FinMap.Entries.{put}
 use Rattle.seg_model.specs.Columns as columns
 use Rattle.seg_plain.specs.ColumnEntries.{column_entry}
 use Rattle.seg_plain.specs.ColumnValues.{at_path, column_key}
 use Rattle.seg_plain.proofs.Puts.{put_before, put_there_again, put_last}
-use Rattle.seg_plain.proofs.column.put.Goals as goal
+use Rattle.seg_plain.proofs.column_table.put.Goals as goal
 
 pub returns-in-Less : goal.returns-in-Less
 returns-in-Less c =
