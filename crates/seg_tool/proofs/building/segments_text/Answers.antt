@@ -1,5 +1,6 @@
 use Rattle.std.proofs.Common.{◌≡◌, Err, ◌∙◌, ap, sym, length, List, ℕ, codes}
 use Rattle.seg_model.specs.Built.{are_built}
+use Rattle.seg_model.specs.Operations.{additions}
 use Rattle.seg_text.specs.SegmentText.{segment_text}
 use Rattle.seg_tool.specs.Run.{segment}
 use Rattle.seg_build.specs.declared.error.IndexError.TheVariants.{Later}
@@ -30,5 +31,9 @@ returns-clause-text g c =
     let schema = c.args.script.schema in
     let analyzer = g.Z.Analyzers.tokens_of c.args.analyzers.now in
     let documents = c.in_ok-documents.documents in
-    let text = λ (label : List ℕ) (id : ℕ). segment_text-sorted schema analyzer label id documents c.in-Ok.fields c.in-Ok.ensures.terms ∙ ap (λ ds. segment_text schema (segment schema analyzer label id ds)) c.in_ok-documents.ensures in
-    both_texts c.new-out.result.items c.push_segment.new.out.items c.push_segment-2.new.out.items _ _ _ _ c.new-out.ensures.items c.in_ok-push_segment.ensures c.in_ok-push_segment-2.ensures (text (codes "work") 1) (text (codes "output") 2)
+    let text = λ (label : List ℕ) (given id : ℕ) (is : given ≡ id).
+    segment_text-sorted schema analyzer label given documents c.in-Ok.fields c.in-Ok.ensures.terms
+    ∙ ap (λ ds. segment_text schema (segment schema analyzer label given ds)) c.in_ok-documents.ensures
+    ∙ ap (λ n. segment_text schema (segment schema analyzer label n (additions c.args.script.operations))) is in
+    both_texts c.new-out.result.items c.push_segment.new.out.items c.push_segment-2.new.out.items _ _ _ _ c.new-out.ensures.items c.in_ok-push_segment.ensures c.in_ok-push_segment-2.ensures
+    (text (codes "work") c.from_u128-work.result 1 c.from_u128-work.ensures) (text (codes "output") c.from_u128-output.result 2 c.from_u128-output.ensures)
