@@ -1,0 +1,30 @@
+//! Where the files of an index lie: a directory as a trait, one in memory, and one over a folder of the system.
+//!
+//! A directory is seen as its files, where it tells them, a count of its faults, and the answers that it gave so far.
+//! A call fails only where that count rose, and each answer that says something of a file or a fault is kept.
+//!
+//! To be read in this order: `error`, `answer`, `directory`; `answer_log`; `failing_call`, `call_counts`, `call_record`,
+//! `stored_files`, `memory_directory`; `folder`, `file_directory`.
+#![tactic(auto)]
+
+mod answer;
+mod answer_log;
+mod call_counts;
+mod call_record;
+mod directory;
+mod error;
+mod failing_call;
+mod file_directory;
+mod folder;
+mod memory_directory;
+mod sharing;
+mod stored_files;
+#[cfg(test)]
+mod tests;
+
+pub use answer::{Answer, CallKind};
+pub use directory::Directory;
+pub use error::DirectoryError;
+pub use failing_call::FailingCall;
+pub use file_directory::FileDirectory;
+pub use memory_directory::MemoryDirectory;
