@@ -31,6 +31,6 @@ WritesNew name bytes (Err Fault) old new = MayBeTorn name old new
 WritesNew name bytes (Err OutOfMemory) old new = MayBeTorn name old new
 
 -- the file is the new one; where the replacing fails it is the old one or the new one
-abbrev pub Replaces : FileName → List ℕ → Result Unit DirectoryError → NamedFiles → NamedFiles → Type 0
+abbrev pub Replaces : {E : Type 0} → FileName → List ℕ → Result Unit E → NamedFiles → NamedFiles → Type 0
 Replaces name bytes (Ok _) old new = new ≡ insert old name bytes
 Replaces name bytes (Err _) old new = (new ≡ old) ⊎ (new ≡ insert old name bytes)

@@ -1,6 +1,7 @@
 pub mod Answers
+pub mod CallAnswers
 pub mod CallCounts
-pub mod Calls
+pub mod CallRecord
 pub mod Changes
 pub mod Faults
 pub mod Files

@@ -1,7 +1,7 @@
 -- What is seen of a directory in memory, and what a call makes of it.
 use Rattle.std.specs.Prelude.{List, Result, Ok, Err, ⊤}
 use Rattle.std.specs.FinMap.{empty}
-use Rattle.seg_directory.specs.Calls.{Calls, none_yet, IsToFail, with_answers, with_failure}
+use Rattle.seg_directory.specs.CallRecord.{Calls, none_yet, IsToFail, with_answers, with_failure}
 use Rattle.seg_directory.specs.Files.{NamedFiles}
 use Rattle.seg_directory.specs.declared.answer.Answer.{Answer}
 use Rattle.seg_directory.specs.declared.answer.CallKind.{CallKind}

@@ -31,7 +31,7 @@ pub trait Directory {
         ensures files { files self.new ≡ files self.old }
         ensures tells { tells self.new ≡ tells self.old }
         ensures seen { seen self.new ≡ seen self.old ++ listed result }
-        ensures cause { FaultHasCause (faults self.old) (faults self.new) result }
+        ensures cause { FaultHasCause DirectoryError.Fault (faults self.old) (faults self.new) result }
         ensures never_missing { IsErrOf result DirectoryError.Missing → ⊥ }
         ensures never_exists { IsErrOf result DirectoryError.Exists → ⊥ };
 
@@ -41,7 +41,7 @@ pub trait Directory {
         ensures files { files self.new ≡ files self.old }
         ensures tells { tells self.new ≡ tells self.old }
         ensures seen { seen self.new ≡ seen self.old ++ opened name.now result }
-        ensures cause { FaultHasCause (faults self.old) (faults self.new) result }
+        ensures cause { FaultHasCause DirectoryError.Fault (faults self.old) (faults self.new) result }
         ensures never_exists { IsErrOf result DirectoryError.Exists → ⊥ };
 
     /// Makes a file with these bytes, and has them reach the disk.
@@ -56,7 +56,7 @@ pub trait Directory {
         ensures others { KeepsOthers name.now (files self.old) (files self.new) }
         ensures tells { tells self.new ≡ tells self.old }
         ensures seen { seen self.new ≡ seen self.old ++ wrote_new name.now result }
-        ensures cause { FaultHasCause (faults self.old) (faults self.new) result }
+        ensures cause { FaultHasCause DirectoryError.Fault (faults self.old) (faults self.new) result }
         ensures never_missing { IsErrOf result DirectoryError.Missing → ⊥ };
 
     /// Gives a file these bytes, whether it is there or not: at each moment it has its old content or the new one.
@@ -71,7 +71,7 @@ pub trait Directory {
         ensures others { KeepsOthers name.now (files self.old) (files self.new) }
         ensures tells { tells self.new ≡ tells self.old }
         ensures seen { seen self.new ≡ seen self.old ++ replaced name.now result }
-        ensures cause { FaultHasCause (faults self.old) (faults self.new) result }
+        ensures cause { FaultHasCause DirectoryError.Fault (faults self.old) (faults self.new) result }
         ensures never_missing { IsErrOf result DirectoryError.Missing → ⊥ }
         ensures never_exists { IsErrOf result DirectoryError.Exists → ⊥ };
 
@@ -80,7 +80,7 @@ pub trait Directory {
         ensures files { files self.new ≡ files self.old }
         ensures tells { tells self.new ≡ tells self.old }
         ensures seen { seen self.new ≡ seen self.old ++ synced result }
-        ensures cause { FaultHasCause (faults self.old) (faults self.new) result }
+        ensures cause { FaultHasCause DirectoryError.Fault (faults self.old) (faults self.new) result }
         ensures never_missing { IsErrOf result DirectoryError.Missing → ⊥ }
         ensures never_exists { IsErrOf result DirectoryError.Exists → ⊥ };
 }

@@ -4,13 +4,15 @@
 //! A call fails only where that count rose, and each answer that says something of a file or a fault is kept.
 //!
 //! To be read in this order: `error`, `answer`, `directory`; `answer_log`; `failing_call`, `call_counts`, `call_record`,
-//! `stored_files`, `memory_directory`; `folder`, `file_directory`.
+//! `stored_files`, `memory_directory`; `folder`, `file_directory`; last `calls`, by which all that stands above calls a
+//! directory.
 #![tactic(auto)]
 
 mod answer;
 mod answer_log;
 mod call_counts;
 mod call_record;
+mod calls;
 mod directory;
 mod error;
 mod failing_call;
@@ -23,6 +25,7 @@ mod stored_files;
 mod tests;
 
 pub use answer::{Answer, CallKind};
+pub use calls::{list_files, read_file, rewrite_file, sync_files, write_file};
 pub use directory::Directory;
 pub use error::DirectoryError;
 pub use failing_call::FailingCall;

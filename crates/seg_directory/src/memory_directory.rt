@@ -70,7 +70,7 @@ impl Directory for MemoryDirectory {
         ensures number { IfOk result (λ n. n ≡ len self.old.files) }
         ensures files { self.new.files ≡ self.old.files }
         ensures seen { self.new.calls.answers ≡ self.old.calls.answers ++ listed result }
-        ensures cause { FaultHasCause self.old.calls.faults self.new.calls.faults result }
+        ensures cause { FaultHasCause DirectoryError.Fault self.old.calls.faults self.new.calls.faults result }
         ensures never_missing { IsErrOf result DirectoryError.Missing → ⊥ }
         ensures never_exists { IsErrOf result DirectoryError.Exists → ⊥ }
         ensures fails { FailsAsListed self.old CallKind.List result }
@@ -89,11 +89,12 @@ impl Directory for MemoryDirectory {
         ensures file { Opens (get self.old.files name.now) result }
         ensures files { self.new.files ≡ self.old.files }
         ensures seen { self.new.calls.answers ≡ self.old.calls.answers ++ opened name.now result }
-        ensures cause { FaultHasCause self.old.calls.faults self.new.calls.faults result }
+        ensures cause { FaultHasCause DirectoryError.Fault self.old.calls.faults self.new.calls.faults result }
         ensures never_exists { IsErrOf result DirectoryError.Exists → ⊥ }
         ensures fails { FailsAsListed self.old CallKind.OpenRead result }
         ensures after { self.new
-            ≡ memory_after self.old CallKind.OpenRead result (opened name.now result) self.old.files }
+            ≡ memory_after self.old CallKind.OpenRead result
+            (opened name.now result) self.old.files }
     {
         if self.calls.begin(CallKind::OpenRead)? {
             return Err(DirectoryError::Fault);
@@ -123,11 +124,12 @@ impl Directory for MemoryDirectory {
         ensures file { WritesNew name.now bytes.now result self.old.files self.new.files }
         ensures others { KeepsOthers name.now self.old.files self.new.files }
         ensures seen { self.new.calls.answers ≡ self.old.calls.answers ++ wrote_new name.now result }
-        ensures cause { FaultHasCause self.old.calls.faults self.new.calls.faults result }
+        ensures cause { FaultHasCause DirectoryError.Fault self.old.calls.faults self.new.calls.faults result }
         ensures never_missing { IsErrOf result DirectoryError.Missing → ⊥ }
         ensures fails { FailsAsListed self.old CallKind.WriteNew result }
         ensures after { self.new
-            ≡ memory_after self.old CallKind.WriteNew result (wrote_new name.now result) (insert self.old.files name.now bytes.now) }
+            ≡ memory_after self.old CallKind.WriteNew result
+            (wrote_new name.now result) (insert self.old.files name.now bytes.now) }
     {
         if self.calls.begin(CallKind::WriteNew)? {
             return Err(DirectoryError::Fault);
@@ -151,12 +153,13 @@ impl Directory for MemoryDirectory {
         ensures file { Replaces name.now bytes.now result self.old.files self.new.files }
         ensures others { KeepsOthers name.now self.old.files self.new.files }
         ensures seen { self.new.calls.answers ≡ self.old.calls.answers ++ replaced name.now result }
-        ensures cause { FaultHasCause self.old.calls.faults self.new.calls.faults result }
+        ensures cause { FaultHasCause DirectoryError.Fault self.old.calls.faults self.new.calls.faults result }
         ensures never_missing { IsErrOf result DirectoryError.Missing → ⊥ }
         ensures never_exists { IsErrOf result DirectoryError.Exists → ⊥ }
         ensures fails { FailsAsListed self.old CallKind.AtomicWrite result }
         ensures after { self.new
-            ≡ memory_after self.old CallKind.AtomicWrite result (replaced name.now result) (insert self.old.files name.now bytes.now) }
+            ≡ memory_after self.old CallKind.AtomicWrite result
+            (replaced name.now result) (insert self.old.files name.now bytes.now) }
     {
         if self.calls.begin(CallKind::AtomicWrite)? {
             return Err(DirectoryError::Fault);
@@ -169,7 +172,7 @@ impl Directory for MemoryDirectory {
     fn sync_directory(&mut self, _alloc: Global) -> Result<(), DirectoryError>
         ensures files { self.new.files ≡ self.old.files }
         ensures seen { self.new.calls.answers ≡ self.old.calls.answers ++ synced result }
-        ensures cause { FaultHasCause self.old.calls.faults self.new.calls.faults result }
+        ensures cause { FaultHasCause DirectoryError.Fault self.old.calls.faults self.new.calls.faults result }
         ensures never_missing { IsErrOf result DirectoryError.Missing → ⊥ }
         ensures never_exists { IsErrOf result DirectoryError.Exists → ⊥ }
         ensures fails { FailsAsListed self.old CallKind.SyncDirectory result }
