@@ -1,6 +1,10 @@
 pub mod Causes
 pub mod Dates
+pub mod FileNames
 pub mod Idle
+pub mod LittleEndian
 pub mod Memory
+pub mod Names
+pub mod SegmentIds
 pub mod Streams
 pub mod Varint

@@ -1,21 +1,25 @@
-//! What every crate stands on: moments, the types of columns, the names of files, the length of a varint, and the
-//! outside of a program, its sources and sinks of bytes.
+//! What every crate stands on: moments, the types of columns, the ids of segments and the names of files, numbers in
+//! bytes, shared bytes, and the outside of a program, its sources and sinks of bytes.
 //!
 //! A source is seen as the bytes that it has left, and a sink as the bytes that it took, each where it tells them,
-//! with a count of its faults: a call fails only where that count rose.
+//! with a count of its faults: a call fails only where that count rose. A source also counts the reads that took nothing.
 //!
-//! To be read in this order: `date`, `column_type`, `name`, `varint`; `source`, `sink`; `memory_source`, `memory_sink`;
-//! `reader_source`, `writer_sink`; `error`.
+//! To be read in this order: `error`; `date`, `column_type`, `segment_id`, `name`, `byte_count`; `little_endian`,
+//! `varint`; `owned_bytes`; `source`, `sink`; `idle`, `memory_source`, `memory_sink`; `reader_source`, `writer_sink`.
 #![tactic(auto)]
 
+mod byte_count;
 mod column_type;
 mod date;
 mod error;
 mod idle;
+mod little_endian;
 mod memory_sink;
 mod memory_source;
 mod name;
+mod owned_bytes;
 mod reader_source;
+mod segment_id;
 mod sink;
 mod source;
 #[cfg(test)]
@@ -23,14 +27,18 @@ mod tests;
 mod varint;
 mod writer_sink;
 
+pub use byte_count::ByteCount;
 pub use column_type::ColumnType;
 pub use date::{DateTime, DateTimePrecision};
 pub use error::CommonError;
+pub use little_endian::{put_u32, put_u64, u32_at, u64_at};
 pub use memory_sink::MemorySink;
 pub use memory_source::MemorySource;
-pub use name::{FileName, SegmentComponent, SegmentId};
+pub use name::{FileName, SegmentComponent};
+pub use owned_bytes::OwnedBytes;
 pub use reader_source::ReaderSource;
+pub use segment_id::SegmentId;
 pub use sink::{Sink, SinkFailed, write_whole};
 pub use source::{ReadError, Source, SourceFailed, read_to_end};
-pub use varint::varint_len;
+pub use varint::{VInt, read_varint, varint_len};
 pub use writer_sink::WriterSink;

@@ -1,9 +1,10 @@
 //! Runs of each public call, with ample memory.
 
 use crate::{
-    ColumnType, CommonError, DateTime, DateTimePrecision, MemorySink, MemorySource, ReadError,
-    ReaderSource, SegmentId, Sink, SinkFailed, Source, SourceFailed, WriterSink, read_to_end,
-    varint_len, write_whole,
+    ByteCount, ColumnType, CommonError, DateTime, DateTimePrecision, FileName, MemorySink,
+    MemorySource, ReadError, ReaderSource, SegmentComponent, SegmentId, Sink, SinkFailed, Source,
+    SourceFailed, VInt, WriterSink, put_u32, put_u64, read_to_end, u32_at, u64_at, varint_len,
+    write_whole,
 };
 use std::alloc::AllocError;
 use std::test::Fail;
@@ -119,7 +120,7 @@ fn takes_any_reader_and_writer(rt: HostRuntime) -> Result<(), Fail> {
 }
 
 #[test]
-fn tells_numbers_and_their_lengths(rt: HostRuntime) {
+fn numbers_of_one_to_ten_bytes(rt: HostRuntime) -> Result<(), Fail> {
     for (number, length) in [
         (0, 1),
         (127, 1),
@@ -130,12 +131,76 @@ fn tells_numbers_and_their_lengths(rt: HostRuntime) {
         (u64::MAX, 10),
     ] {
         assert_eq!(rt; varint_len(number), length, "at {number}");
+        let mut bytes = Vec::new(rt.alloc());
+        VInt(number).serialize_into_vec(&mut bytes)?;
+        assert_eq!(rt; bytes.len(), length, "at {number}");
+        bytes.push(7)?;
+        let mut rest = bytes.as_slice();
+        assert_eq!(rt; VInt::deserialize_u64(&mut rest), Ok(number));
+        assert_eq!(rt; rest, [7].as_slice());
     }
-    assert_eq!(rt; SegmentId::from_u128(u128::MAX).as_u128(), u128::MAX);
+    let past = [255, 255, 255, 255, 255, 255, 255, 255, 255, 2];
+    for bytes in [[].as_slice(), &[128], &[128, 0], &past] {
+        let mut rest = bytes;
+        assert_eq!(rt;
+            VInt::deserialize_u64(&mut rest),
+            Err(CommonError::Malformed)
+        );
+        assert_eq!(rt; rest, bytes);
+    }
+    Ok(())
+}
+
+#[test]
+fn numbers_of_fixed_width(rt: HostRuntime) -> Result<(), Fail> {
+    let mut bytes = Vec::new(rt.alloc());
+    put_u32(&mut bytes, 0x0403_0201)?;
+    put_u64(&mut bytes, u64::MAX - 1)?;
     assert_eq!(rt;
-        DateTime::from_timestamp_nanos(i64::MIN).into_timestamp_nanos(),
-        i64::MIN
+        bytes.as_slice(),
+        [1, 2, 3, 4, 254, 255, 255, 255, 255, 255, 255, 255].as_slice()
     );
+    assert_eq!(rt; u32_at(&bytes, 0), 0x0403_0201);
+    assert_eq!(rt; u64_at(&bytes, 4), u64::MAX - 1);
+    assert!(rt; ByteCount(9) < ByteCount(10));
+    Ok(())
+}
+
+#[test]
+fn names_of_files(rt: HostRuntime) -> Result<(), Fail> {
+    let id = SegmentId::from_u128((0x2a << 64) + 0xff);
+    let digits = "000000000000002a00000000000000ff";
+    for (name, text) in [
+        (FileName::Meta, "meta.json"),
+        (
+            FileName::Part(id, SegmentComponent::Terms),
+            "000000000000002a00000000000000ff.term",
+        ),
+        (
+            FileName::Part(id, SegmentComponent::FieldNorms),
+            "000000000000002a00000000000000ff.fieldnorm",
+        ),
+        (
+            FileName::Alive(id, 17),
+            "000000000000002a00000000000000ff.17.del",
+        ),
+    ] {
+        assert_eq!(rt; name.text(rt.alloc())?.as_str(), text);
+    }
+    assert_eq!(rt; id.uuid_string(rt.alloc())?.as_str(), digits);
+    assert_eq!(rt; SegmentId::from_uuid_string(digits), Some(id));
+    let last = SegmentId::from_uuid_string("ffffffffffffffffffffffffffffffff");
+    assert_eq!(rt; last, Some(SegmentId::from_u128(u128::MAX)));
+    for text in [
+        "",
+        "000000000000002A00000000000000ff",
+        "00000000-0000-002a-0000-0000000000ff",
+        "000000000000002a00000000000000f",
+        "000000000000002a00000000000000fg",
+    ] {
+        assert_eq!(rt; SegmentId::from_uuid_string(text), None, "{text}");
+    }
+    Ok(())
 }
 
 #[test]
@@ -179,6 +244,9 @@ fn cuts_moments_toward_1970(rt: HostRuntime) {
 fn orders_and_errors(rt: HostRuntime) {
     assert!(rt; DateTime::from_timestamp_nanos(-1) < DateTime::from_timestamp_nanos(0));
     assert!(rt; SegmentId::from_u128(9) < SegmentId::from_u128(10));
+    assert_eq!(rt; SegmentId::from_u128(u128::MAX).as_u128(), u128::MAX);
+    let first = DateTime::from_timestamp_nanos(i64::MIN);
+    assert_eq!(rt; first.into_timestamp_nanos(), i64::MIN);
     assert!(rt; ColumnType::Bytes < ColumnType::Str);
     assert_eq!(rt; CommonError::from(AllocError), CommonError::OutOfMemory);
 }

@@ -1,0 +1,5 @@
+mod Count
+mod InThread
+mod LastOwner
+mod Owner
+mod Turn
