@@ -6,7 +6,6 @@ ghost use Rattle.seg_directory.specs.Answers.{failed};
 
 use crate::answer_log::AnswerLog;
 use crate::folder::{count_files, make_file, path_in, replace_file, sync_folder};
-use crate::sharing::shared;
 use crate::{Answer, CallKind, Directory, DirectoryError};
 use seg_common::{FileName, OwnedBytes};
 use std::alloc::{AllocError, Global};
@@ -69,10 +68,9 @@ impl<R: Files + AllocGlobal + Clone + Drop> Directory for FileDirectory<R> {
         let path = path_of(alloc, self.folder.as_str(), name)?;
         match fs::read(&self.rt, path.as_str()) {
             Ok(bytes) => {
-                let given = owned(alloc, bytes)?;
-                let kept = shared(&given)?;
-                self.log.keep(Answer::Read(*name, kept));
-                Ok(given)
+                let bytes = owned(alloc, bytes)?;
+                self.log.keep(Answer::Read(*name, bytes.share()));
+                Ok(bytes)
             }
             Err(e) if e.kind() == ErrorKind::NotFound => {
                 self.log.keep(Answer::Missing(*name));
@@ -132,17 +130,16 @@ impl<R: Files + AllocGlobal + Clone + Drop> Directory for FileDirectory<R> {
 
 /// The path of a file.
 fn path_of(alloc: Global, folder: &str, name: &FileName) -> Result<String, AllocError> {
-    match name.file_name(alloc) {
+    match name.text(alloc) {
         Ok(text) => path_in(alloc, folder, text.as_str()),
         Err(_) => Err(AllocError),
     }
 }
 
-/// Takes the bytes over.
 fn owned(alloc: Global, bytes: Vec<u8>) -> Result<OwnedBytes, AllocError>
     ensures { IfOk result (λ b. b ≡ bytes.items) }
 {
-    match OwnedBytes::new(alloc, &bytes) {
+    match OwnedBytes::from_vec(alloc, bytes) {
         Ok(bytes) => Ok(bytes),
         Err(_) => Err(AllocError),
     }

@@ -19,7 +19,6 @@ mod failing_call;
 mod file_directory;
 mod folder;
 mod memory_directory;
-mod sharing;
 mod stored_files;
 #[cfg(test)]
 mod tests;

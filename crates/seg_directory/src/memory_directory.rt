@@ -7,7 +7,6 @@ ghost use Rattle.seg_directory.specs.Faults.{FaultHasCause};
 ghost use Rattle.seg_directory.specs.Memory.{new_memory, FailsAsListed, memory_after};
 
 use crate::call_record::CallRecord;
-use crate::sharing::shared;
 use crate::stored_files::StoredFiles;
 use crate::{Answer, CallKind, Directory, DirectoryError, FailingCall};
 use seg_common::{FileName, OwnedBytes};
@@ -101,11 +100,10 @@ impl Directory for MemoryDirectory {
         }
         match self.files.get(name) {
             Some(bytes) => {
-                let kept = shared(bytes)?;
-                let given = shared(bytes)?;
-                let answer = Answer::Read(*name, kept);
+                let bytes = bytes.share();
+                let answer = Answer::Read(*name, bytes.share());
                 self.calls.end(CallKind::OpenRead, answer);
-                Ok(given)
+                Ok(bytes)
             }
             None => {
                 self.calls.end(CallKind::OpenRead, Answer::Missing(*name));
