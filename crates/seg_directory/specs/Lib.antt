@@ -3,6 +3,9 @@ pub mod CallAnswers
 pub mod CallCounts
 pub mod CallRecord
 pub mod Changes
+pub mod Composite
+pub mod CompositeSpelling
+pub mod CompositeWriting
 pub mod Faults
 pub mod Files
 pub mod Log
