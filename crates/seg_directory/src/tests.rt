@@ -1,11 +1,7 @@
 //! Runs of each call, with ample memory.
 
-use crate::{
-    CallKind, Directory, DirectoryError, FailingCall, FileDirectory, MemoryDirectory, list_files,
-    read_file, rewrite_file, sync_files, write_file,
-};
+use crate::{CallKind, Directory, DirectoryError, FailingCall, FileDirectory, MemoryDirectory};
 use seg_common::{FileName, SegmentComponent, SegmentId};
-use seg_values::TantivyError;
 use std::alloc::Global;
 use std::fs;
 use std::test::Fail;
@@ -123,60 +119,6 @@ fn keeps_files_in_memory(rt: HostRuntime) -> Result<(), Fail> {
         b"".as_slice()
     );
     assert_eq!(rt; directory.list(alloc)?, 2);
-    Ok(())
-}
-
-#[test]
-fn answers_with_the_errors_of_an_index(rt: HostRuntime) -> Result<(), Fail> {
-    let alloc = rt.alloc();
-    let fails = vec![in alloc;
-        FailingCall {
-            kind: CallKind::List,
-            number: 0
-        },
-        FailingCall {
-            kind: CallKind::OpenRead,
-            number: 0
-        },
-        FailingCall {
-            kind: CallKind::WriteNew,
-            number: 0
-        },
-        FailingCall {
-            kind: CallKind::AtomicWrite,
-            number: 0
-        },
-        FailingCall {
-            kind: CallKind::SyncDirectory,
-            number: 0
-        },
-    ]?;
-    let mut directory = MemoryDirectory::new(alloc, fails)?;
-    let name = part(SegmentComponent::Postings);
-    for (read, wrote, io, number) in [
-        (
-            Some(TantivyError::OpenReadError),
-            Err(TantivyError::OpenWriteError),
-            Err(TantivyError::IoError),
-            Err(TantivyError::OpenReadError),
-        ),
-        (
-            Some(TantivyError::DataCorruption { name }),
-            Ok(()),
-            Ok(()),
-            Ok(2),
-        ),
-        (None, Err(TantivyError::IndexAlreadyExists), Ok(()), Ok(2)),
-    ] {
-        assert_eq!(rt; read_file(alloc, &mut directory, name).err(), read);
-        assert_eq!(rt; write_file(alloc, &mut directory, name, b"new"), wrote);
-        assert_eq!(rt;
-            rewrite_file(alloc, &mut directory, FileName::Meta, b"meta"),
-            io
-        );
-        assert_eq!(rt; sync_files(alloc, &mut directory), io);
-        assert_eq!(rt; list_files(alloc, &mut directory), number);
-    }
     Ok(())
 }
 
