@@ -7,5 +7,4 @@ ghost use Rattle.seg_directory.specs.CompositeSpelling.{IsSpelled};
 /// it ends, then their number.
 pub fn composite_files_are_spelled(bytes: &[u8])
     ensures { (parts : List Part) → composite bytes.now ≡ Some parts ↔ IsSpelled bytes.now parts }
-{
-}
+{}

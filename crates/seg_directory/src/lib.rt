@@ -15,6 +15,8 @@ mod answer_log;
 mod call_counts;
 mod call_record;
 mod calls;
+#[cfg(test)]
+mod calls_tests;
 mod composite_file;
 mod composite_law;
 #[cfg(test)]
