@@ -1,0 +1,5 @@
+mod CompositeGrowing
+mod CompositeSpelled
+mod CompositeTables
+pub mod Entries
+pub mod OtherFiles

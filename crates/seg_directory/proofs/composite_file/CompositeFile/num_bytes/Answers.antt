@@ -1,0 +1,7 @@
+use Rattle.std.proofs.Common.{ap, sym, ◌∙◌, length}
+use Rattle.seg_directory.specs.CompositeSpelling.{spelling}
+use Rattle.seg_directory.proofs.CompositeSpelled.{length-spelling}
+use Rattle.seg_directory.proofs.composite_file.CompositeFile.num_bytes.Goals as goal
+
+pub returns : goal.returns
+returns c = c.len.ensures ∙ sym (length-spelling c.self.inside.bytes c.self.invariant.0) ∙ ap (λ ps. length (spelling ps)) c.self.view_is

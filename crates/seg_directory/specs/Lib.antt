@@ -1,0 +1,12 @@
+pub mod Answers
+pub mod CallAnswers
+pub mod CallCounts
+pub mod CallRecord
+pub mod Changes
+pub mod Composite
+pub mod CompositeSpelling
+pub mod CompositeWriting
+pub mod Faults
+pub mod Files
+pub mod Log
+pub mod Memory

@@ -1,0 +1,162 @@
+//! A directory over a folder of the system.
+ghost use Rattle.std.specs.Prelude.{◌≡◌, ◌≢◌, ◌++◌, ◌<◌, ◌≤◌, [], false, IfOk};
+ghost use Rattle.std.specs.FinMap.{empty};
+ghost use Rattle.seg_common.specs.Causes.{Rose};
+ghost use Rattle.seg_directory.specs.Answers.{failed};
+
+use crate::answer_log::AnswerLog;
+use crate::folder::{count_files, make_file, path_in, replace_file, sync_folder};
+use crate::{Answer, CallKind, Directory, DirectoryError};
+use seg_common::{FileName, OwnedBytes};
+use std::alloc::{AllocError, Global};
+use std::fs;
+use std::io::ErrorKind;
+use std::marker::Model;
+use std::rt::Files;
+
+/// A directory over one folder of the system. It tells nothing of the files, which are the system's.
+#[derive(Drop)]
+pub struct FileDirectory<R: Files> {
+    rt: R,
+    folder: String,
+    log: AnswerLog,
+}
+
+impl<R: Files> Model for FileDirectory<R> {
+    ghost use Rattle.seg_directory.specs.Log.{Kept};
+
+    ghost Value = { Kept };
+
+    ghost view = { λ d. d.log.kept };
+}
+
+impl<R: Files + AllocGlobal + Clone + Drop> FileDirectory<R> {
+    /// The directory over the folder at this path.
+    pub fn new(rt: R, alloc: Global, folder: &str) -> Result<FileDirectory<R>, DirectoryError>
+        ensures { IfOk result (λ d. d ≡ record { answers = []; faults = 0 }) }
+    {
+        Ok(FileDirectory {
+            rt,
+            folder: String::from_str(alloc, folder)?,
+            log: AnswerLog::new(alloc),
+        })
+    }
+}
+
+impl<R: Files + AllocGlobal + Clone + Drop> Directory for FileDirectory<R> {
+    ghost tells = { λ _. false };
+
+    ghost files = { λ _. empty };
+
+    ghost faults = { λ d. d.faults };
+
+    ghost seen = { λ d. d.answers };
+
+    fn list(&mut self, _alloc: Global) -> Result<u64, DirectoryError> {
+        self.log.make_room()?;
+        match count_files(&self.rt, self.folder.as_str()) {
+            Ok(number) => {
+                self.log.keep(Answer::Listed(number));
+                Ok(number)
+            }
+            Err(e) => Err(failure(&mut self.log, CallKind::List, e.kind())),
+        }
+    }
+
+    fn open_read(&mut self, alloc: Global, name: &FileName) -> Result<OwnedBytes, DirectoryError> {
+        self.log.make_room()?;
+        let path = path_of(alloc, self.folder.as_str(), name)?;
+        match fs::read(&self.rt, path.as_str()) {
+            Ok(bytes) => {
+                let bytes = owned(alloc, bytes)?;
+                self.log.keep(Answer::Read(*name, bytes.share()));
+                Ok(bytes)
+            }
+            Err(e) if e.kind() == ErrorKind::NotFound => {
+                self.log.keep(Answer::Missing(*name));
+                Err(DirectoryError::Missing)
+            }
+            Err(e) => Err(failure(&mut self.log, CallKind::OpenRead, e.kind())),
+        }
+    }
+
+    fn write_new(
+        &mut self,
+        alloc: Global,
+        name: &FileName,
+        bytes: &[u8],
+    ) -> Result<(), DirectoryError> {
+        self.log.make_room()?;
+        let path = path_of(alloc, self.folder.as_str(), name)?;
+        match make_file(&self.rt, path.as_str(), bytes) {
+            Ok(()) => {
+                self.log.keep(Answer::Wrote(*name));
+                Ok(())
+            }
+            Err(e) if e.kind() == ErrorKind::AlreadyExists => {
+                self.log.keep(Answer::There(*name));
+                Err(DirectoryError::Exists)
+            }
+            Err(e) => Err(failure(&mut self.log, CallKind::WriteNew, e.kind())),
+        }
+    }
+
+    fn atomic_write(
+        &mut self,
+        alloc: Global,
+        name: &FileName,
+        bytes: &[u8],
+    ) -> Result<(), DirectoryError> {
+        self.log.make_room()?;
+        let folder = self.folder.as_str();
+        let path = path_of(alloc, folder, name)?;
+        match replace_file(&self.rt, alloc, folder, path.as_str(), bytes) {
+            Ok(()) => {
+                self.log.keep(Answer::Wrote(*name));
+                Ok(())
+            }
+            Err(e) => Err(failure(&mut self.log, CallKind::AtomicWrite, e.kind())),
+        }
+    }
+
+    fn sync_directory(&mut self, _alloc: Global) -> Result<(), DirectoryError> {
+        self.log.make_room()?;
+        match sync_folder(&self.rt, self.folder.as_str()) {
+            Ok(()) => Ok(()),
+            Err(e) => Err(failure(&mut self.log, CallKind::SyncDirectory, e.kind())),
+        }
+    }
+}
+
+/// The path of a file.
+fn path_of(alloc: Global, folder: &str, name: &FileName) -> Result<String, AllocError> {
+    match name.text(alloc) {
+        Ok(text) => path_in(alloc, folder, text.as_str()),
+        Err(_) => Err(AllocError),
+    }
+}
+
+fn owned(alloc: Global, bytes: Vec<u8>) -> Result<OwnedBytes, AllocError>
+    ensures { IfOk result (λ b. b ≡ bytes.items) }
+{
+    match OwnedBytes::from_vec(alloc, bytes) {
+        Ok(bytes) => Ok(bytes),
+        Err(_) => Err(AllocError),
+    }
+}
+
+/// Notes an error of the system: a fault, unless it is want of memory.
+fn failure(log: &mut AnswerLog, kind: CallKind, error: ErrorKind) -> DirectoryError
+    requires { 0 < log.old.room }
+    ensures seen { log.new.kept.answers ≡ log.old.kept.answers ++ failed kind result }
+    ensures later { log.old.kept.faults ≤ log.new.kept.faults }
+    ensures fault { result ≡ DirectoryError.Fault → Rose log.old.kept.faults log.new.kept.faults }
+    ensures not_missing { result ≢ DirectoryError.Missing }
+    ensures not_exists { result ≢ DirectoryError.Exists }
+{
+    if error == ErrorKind::OutOfMemory {
+        return DirectoryError::OutOfMemory;
+    }
+    log.fail(kind);
+    DirectoryError::Fault
+}

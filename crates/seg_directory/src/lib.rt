@@ -1,0 +1,45 @@
+//! Where the files of an index lie: a directory as a trait, one in memory, and one over a folder of the system; and
+//! composite files, which have a part for each of several fields.
+//!
+//! A directory is seen as its files, where it tells them, a count of its faults, and the answers that it gave so far.
+//! A call fails only where that count rose, and each answer that says something of a file or a fault is kept. A
+//! composite file is seen as its parts, each a field and bytes.
+//!
+//! To be read in this order: `error`, `answer`, `directory`; `answer_log`; `failing_call`, `call_counts`, `call_record`,
+//! `stored_files`, `memory_directory`; `folder`, `file_directory`; `calls`, by which all that stands above calls a
+//! directory; `composite_file`, `composite_law`, `written_parts`, `composite_writer`.
+#![tactic(auto)]
+
+mod answer;
+mod answer_log;
+mod call_counts;
+mod call_record;
+mod calls;
+#[cfg(test)]
+mod calls_tests;
+mod composite_file;
+mod composite_law;
+#[cfg(test)]
+mod composite_tests;
+mod composite_writer;
+mod directory;
+mod error;
+mod failing_call;
+mod file_directory;
+mod folder;
+mod memory_directory;
+mod stored_files;
+#[cfg(test)]
+mod tests;
+mod written_parts;
+
+pub use answer::{Answer, CallKind};
+pub use calls::{list_files, read_file, rewrite_file, sync_files, write_file};
+pub use composite_file::CompositeFile;
+pub use composite_law::composite_files_are_spelled;
+pub use composite_writer::CompositeWriter;
+pub use directory::Directory;
+pub use error::DirectoryError;
+pub use failing_call::FailingCall;
+pub use file_directory::FileDirectory;
+pub use memory_directory::MemoryDirectory;
