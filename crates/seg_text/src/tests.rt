@@ -20,7 +20,13 @@ fn headers(rt: HostRuntime) -> Result<(), Fail> {
     let alloc = rt.alloc();
     let mut out = Vec::new(alloc);
     push_header(&mut out, alloc, "work", SegmentId::from_u128(1), 3)?;
-    push_header(&mut out, alloc, "output", SegmentId::from_u128(u128::MAX), 0)?;
+    push_header(
+        &mut out,
+        alloc,
+        "output",
+        SegmentId::from_u128(u128::MAX),
+        0,
+    )?;
     let text = "work 00000000000000000000000000000001 docs 3 alive 3\n\
                 output ffffffffffffffffffffffffffffffff docs 0 alive 0\n";
     assert_eq!(rt; out.as_slice(), text.as_bytes());

@@ -65,6 +65,8 @@ fn segments_text<Z: Analyzers>(
     let work = SegmentId::from_u128(1);
     push_segment(&mut out, alloc, "work", work, &schema, &fields, &documents)?;
     let output = SegmentId::from_u128(2);
-    push_segment(&mut out, alloc, "output", output, &schema, &fields, &documents)?;
+    push_segment(
+        &mut out, alloc, "output", output, &schema, &fields, &documents,
+    )?;
     Ok(out)
 }
