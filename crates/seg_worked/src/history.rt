@@ -106,7 +106,7 @@ fn push_survivors(table: &mut Table, schema: &Schema, history: Vec<Operation>) -
 }
 
 fn push_stored_pairs(table: &mut Table, schema: &Schema, history: &[Operation]) -> Result<()> {
-    let survivors = survivors(table.alloc, &Words, schema, history)?;
+    let survivors = survivors(table.alloc, &Words, schema, &[], &[], history)?;
     writeln!(table.text, "  survivors: {}", survivors.len())?;
     for document in survivors {
         let pairs = stored_document(table.alloc, schema, document)?;
