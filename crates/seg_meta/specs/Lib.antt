@@ -1,0 +1,5 @@
+pub mod MetaJson
+pub mod MetaText
+pub mod Metas
+pub mod View
+pub mod Words
