@@ -29,6 +29,7 @@ count_of bytes = u32_at bytes (length bytes - 4)
 abbrev pub body_len : List ℕ → ℕ
 body_len bytes = length bytes - (4 + 12 * count_of bytes)
 
+-- its entries
 abbrev pub table_of : List ℕ → List (ℕ × ℕ)
 table_of bytes = entries_of (count_of bytes) (drop (body_len bytes) bytes)
 

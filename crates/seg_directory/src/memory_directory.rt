@@ -1,5 +1,5 @@
 //! A directory in memory.
-ghost use Rattle.std.specs.Prelude.{◌≡◌, ◌++◌, true, IfOk, IsErrOf, OnOk, OnErr};
+ghost use Rattle.std.specs.Prelude.{◌≡◌, ◌++◌, true, IfOk, IfErr, IsErrOf, OnOk};
 ghost use Rattle.std.specs.FinMap.{get, insert, len};
 ghost use Rattle.seg_directory.specs.Answers.{listed, opened, wrote_new, replaced, synced};
 ghost use Rattle.seg_directory.specs.Changes.{KeepsOthers, Opens, WritesNew, Replaces};
@@ -37,7 +37,8 @@ impl Model for MemoryDirectory {
 impl MemoryDirectory {
     /// A directory without files. The calls that are listed fail.
     pub fn new(alloc: Global, fails: Vec<FailingCall>) -> Result<MemoryDirectory, DirectoryError>
-        ensures { IfOk result (λ d. d ≡ new_memory fails.items) }
+        ensures ok { IfOk result (λ d. d ≡ new_memory fails.items) }
+        ensures err { IfErr result (λ e. e ≡ DirectoryError.OutOfMemory) }
     {
         Ok(MemoryDirectory {
             alloc,
@@ -50,7 +51,8 @@ impl MemoryDirectory {
     pub fn put(&mut self, name: FileName, bytes: &[u8]) -> Result<(), DirectoryError>
         ensures ok { OnOk result
             (self.new ≡ record self.old { files = insert self.old.files name bytes.now }) }
-        ensures err { OnErr result (self.new ≡ self.old) }
+        ensures err { IfErr result
+            (λ e. (e ≡ DirectoryError.OutOfMemory) × (self.new ≡ self.old)) }
     {
         Ok(self.files.set(self.alloc, name, bytes)?)
     }

@@ -12,6 +12,7 @@ use Rattle.seg_plain.specs.Postings.{recorded_of}
 use Rattle.seg_plain.specs.declared.column.Column.{Column}
 use Rattle.seg_plain.specs.declared.join.JoinedPart.{JoinedPart}
 use Rattle.seg_plain.specs.declared.join_norms.NormsPart.{NormsPart}
+use Rattle.seg_plain.specs.declared.join_stored.StoredPart.{StoredPart}
 use Rattle.seg_plain.specs.declared.part_column.ColumnsPart.{ColumnsPart}
 use Rattle.seg_plain.specs.declared.posting.Recorded.{Recorded}
 
@@ -26,6 +27,10 @@ norms_part p = record { contents = record { documents = length p.ids.items; term
 -- a segment with nothing but its columns
 abbrev pub columns_part : ColumnsPart → Part
 columns_part p = record { contents = record { documents = p.documents; terms = []; stored = []; norms = []; columns = table_of p.columns.items }; alive = p.alive.items }
+
+-- a segment with nothing but its stored documents
+abbrev pub stored_part : StoredPart → Part
+stored_part p = record { contents = record { documents = length p.stored.items; terms = []; stored = p.stored.items; norms = []; columns = empty }; alive = p.alive.items }
 
 -- what a document records of a term, if anything
 abbrev pub told : Option Recorded → Option reading.Recorded

@@ -9,7 +9,7 @@
 //! `stored`. What operations leave: `operation`, `batch`, `kept` and `survivor` (filters). For columns: `column_value`;
 //! `leaf_value`, `sorted` and `fast_value` (what a document records); `column_key`, `column_rows`, `column_table` and
 //! `column` (the columns of documents). The live documents of segments: `join` (terms), `join_norms` (lengths),
-//! `part_column` and `join_columns`.
+//! `join_stored` (stored documents), `part_column` and `join_columns`.
 #![tactic(auto)]
 
 mod batch;
@@ -29,6 +29,7 @@ mod field_leaf;
 mod join;
 mod join_columns;
 mod join_norms;
+mod join_stored;
 #[cfg(test)]
 mod join_tests;
 mod json;
@@ -65,6 +66,7 @@ pub use field::occurrences;
 pub use join::{JoinedPart, joined_terms};
 pub use join_columns::joined_columns;
 pub use join_norms::{NormsPart, joined_norms};
+pub use join_stored::{StoredPart, joined_stored};
 pub use length::{field_norms, length_id, length_of_id};
 pub use occurrence::Occurrences;
 pub use operation::{Operation, TermKey, alive_after};

@@ -1,7 +1,7 @@
 //! The stored pairs of a document.
 ghost use Rattle.std.specs.Prelude.{◌≡◌, IfOk};
 
-use crate::{StoredValue, stored_document};
+use crate::{StoredPart, StoredValue, joined_stored, stored_document};
 use seg_common::DateTimePrecision;
 use seg_values::{
     Field, FieldEntry, FieldKind, IndexOption, OwnedValue, PreTokenizedString, Schema,
@@ -64,5 +64,23 @@ fn stored_pairs(rt: HostRuntime) -> Result<(), Fail> {
     assert_eq!(rt; pairs.len(), 2);
     assert!(rt; matches!(pairs[0].value, StoredValue::Text("said")));
     assert!(rt; matches!(pairs[1].value, StoredValue::Value(OwnedValue::Str(_))));
+    Ok(())
+}
+
+#[test]
+fn dead_documents_are_not_stored(rt: HostRuntime) -> Result<(), Fail> {
+    let alloc = rt.alloc();
+    let first = StoredPart {
+        alive: vec![in alloc; false, true]?,
+        stored: vec![in alloc; document_of(alloc)?, TantivyDocument::new(alloc)]?,
+    };
+    let second = StoredPart {
+        alive: vec![in alloc; true]?,
+        stored: vec![in alloc; document_of(alloc)?]?,
+    };
+    let joined = joined_stored(alloc, vec![in alloc; first, second]?)?;
+    assert_eq!(rt; joined.len(), 2);
+    assert_eq!(rt; joined[0].len(), 0);
+    assert_eq!(rt; joined[1].len(), 3);
     Ok(())
 }

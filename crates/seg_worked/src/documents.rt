@@ -4,7 +4,7 @@ use crate::lines::{push_columns, push_length_ids, push_terms};
 use crate::table::Table;
 use crate::words::Words;
 use anyhow::Result;
-use seg_plain::{Terms, columns, fast_values, field_norms, field_terms, occurrences};
+use seg_plain::{Column, Terms, columns, fast_values, field_norms, field_terms, occurrences};
 use seg_values::{Documents, Field, FieldEntry, Schema};
 use std::alloc::{AllocError, Global};
 
@@ -14,10 +14,10 @@ pub fn push_documents(table: &mut Table, schema: &Schema, documents: &Documents)
         let terms = terms_of(table.alloc, schema, id, entry, documents)?;
         push_terms(table, entry.name.as_str(), terms)?;
     }
-    push_all_columns(table, schema, documents)?;
+    let columns = columns_of(table.alloc, schema, documents)?;
+    push_columns(table, &columns)?;
     for (id, entry) in (0..u32::MAX).zip(schema.fields()) {
-        let field = Field::from_field_id(id);
-        let ids = field_norms(table.alloc, &Words, field, entry, documents.as_slice())?;
+        let ids = length_ids_of(table.alloc, id, entry, documents)?;
         push_length_ids(table, entry.name.as_str(), &ids)?;
     }
     Ok(())
@@ -39,12 +39,26 @@ pub fn terms_of(
     field_terms(alloc, entry, &occurred)
 }
 
-fn push_all_columns(table: &mut Table, schema: &Schema, documents: &Documents) -> Result<()> {
-    let mut recorded = Vec::new(table.alloc);
+/// The columns; none where the numbers of a path have no type.
+pub fn columns_of(
+    alloc: Global,
+    schema: &Schema,
+    documents: &Documents,
+) -> Result<Option<Vec<Column>>, AllocError> {
+    let mut recorded = Vec::new(alloc);
     for document in documents.as_slice() {
-        recorded.push(fast_values(table.alloc, &Words, schema, document)?)?;
+        recorded.push(fast_values(alloc, &Words, schema, document)?)?;
     }
-    let columns = columns(table.alloc, schema, &recorded)?;
-    push_columns(table, &columns)?;
-    Ok(())
+    columns(alloc, schema, &recorded)
+}
+
+/// The length ids of a field.
+pub fn length_ids_of(
+    alloc: Global,
+    id: u32,
+    entry: &FieldEntry,
+    documents: &Documents,
+) -> Result<Vec<u8>, AllocError> {
+    let field = Field::from_field_id(id);
+    field_norms(alloc, &Words, field, entry, documents.as_slice())
 }

@@ -1,12 +1,15 @@
 //! The batches of a case, and what survives them.
 
 use crate::case::{Case, Step, operations, schema};
-use crate::documents::{push_documents, terms_of};
-use crate::lines::{push_alive, push_stored, push_terms};
+use crate::documents::{columns_of, length_ids_of, push_documents, terms_of};
+use crate::lines::{push_alive, push_columns, push_length_ids, push_stored, push_terms};
 use crate::table::Table;
 use crate::words::Words;
-use anyhow::Result;
-use seg_plain::{JoinedPart, Operation, alive_after, joined_terms, stored_document, survivors};
+use anyhow::{Result, bail};
+use seg_plain::{
+    ColumnsPart, JoinedPart, NormsPart, Operation, alive_after, joined_columns, joined_norms,
+    joined_terms, stored_document, survivors,
+};
 use seg_values::{Documents, FieldEntry, Schema};
 use std::alloc::{AllocError, Global};
 
@@ -67,19 +70,65 @@ fn added(alloc: Global, history: Vec<Operation>, alive: &[bool]) -> Result<Docum
     Ok(documents)
 }
 
-/// The terms of the join of segments.
+/// The terms, the columns and the length ids of the join of segments.
 fn push_join(table: &mut Table, schema: &Schema, segments: &[Segment]) -> Result<()> {
     writeln!(table.text, "  joined")?;
+    push_joined_terms(table, schema, segments)?;
+    let parts = columns_parts(table.alloc, schema, segments)?;
+    let columns = joined_columns(table.alloc, schema, &parts)?;
+    push_columns(table, &columns)?;
     for (id, entry) in (0..u32::MAX).zip(schema.fields()) {
-        let parts = parts(table.alloc, schema, id, entry, segments)?;
+        let parts = norms_parts(table.alloc, id, entry, segments)?;
+        let ids = joined_norms(table.alloc, entry, &parts)?;
+        push_length_ids(table, entry.name.as_str(), &ids)?;
+    }
+    Ok(())
+}
+
+fn push_joined_terms(table: &mut Table, schema: &Schema, segments: &[Segment]) -> Result<()> {
+    for (id, entry) in (0..u32::MAX).zip(schema.fields()) {
+        let parts = terms_parts(table.alloc, schema, id, entry, segments)?;
         let terms = joined_terms(table.alloc, &parts)?;
         push_terms(table, entry.name.as_str(), terms)?;
     }
     Ok(())
 }
 
-/// Segments as far as one field goes.
-fn parts(
+/// Segments as far as their columns go.
+fn columns_parts(alloc: Global, schema: &Schema, segments: &[Segment]) -> Result<Vec<ColumnsPart>> {
+    let mut parts = Vec::new(alloc);
+    for segment in segments {
+        let Some(columns) = columns_of(alloc, schema, &segment.documents)? else {
+            bail!("numbers of a path have no type");
+        };
+        parts.push(ColumnsPart {
+            documents: segment.documents.as_slice().len() as u64,
+            alive: Vec::from_slice(alloc, &segment.alive)?,
+            columns,
+        })?;
+    }
+    Ok(parts)
+}
+
+/// Segments as far as the lengths of one field go.
+fn norms_parts(
+    alloc: Global,
+    id: u32,
+    entry: &FieldEntry,
+    segments: &[Segment],
+) -> Result<Vec<NormsPart>, AllocError> {
+    let mut parts = Vec::new(alloc);
+    for segment in segments {
+        parts.push(NormsPart {
+            alive: Vec::from_slice(alloc, &segment.alive)?,
+            ids: length_ids_of(alloc, id, entry, &segment.documents)?,
+        })?;
+    }
+    Ok(parts)
+}
+
+/// Segments as far as the terms of one field go.
+fn terms_parts(
     alloc: Global,
     schema: &Schema,
     id: u32,
@@ -106,7 +155,7 @@ fn push_survivors(table: &mut Table, schema: &Schema, history: Vec<Operation>) -
 }
 
 fn push_stored_pairs(table: &mut Table, schema: &Schema, history: &[Operation]) -> Result<()> {
-    let survivors = survivors(table.alloc, &Words, schema, history)?;
+    let survivors = survivors(table.alloc, &Words, schema, &[], &[], history)?;
     writeln!(table.text, "  survivors: {}", survivors.len())?;
     for document in survivors {
         let pairs = stored_document(table.alloc, schema, document)?;
