@@ -1,0 +1,100 @@
+//! An index.
+ghost use Rattle.std.specs.Prelude.{◌≡◌, ◌⊎◌, IsTrue, IfOk, IfErr};
+ghost use Rattle.std.specs.FinMap.{len};
+ghost use Rattle.seg_directory.specs.Changes.{KeepsOthers};
+ghost use Rattle.seg_directory.specs.Faults.{FaultHasCause};
+ghost use Rattle.seg_meta.specs.MetaText.{meta_text};
+ghost use Rattle.seg_meta.specs.Saving.{CreatingCounts, CreatingFiles, CreatingSeen, IsMetaList, empty_meta};
+ghost use Rattle.seg_meta.specs.View.{settings_of, meta_of};
+
+use crate::{IndexMeta, IndexSettings, SegmentMetas, save_metas};
+use seg_common::FileName;
+use seg_directory::{Directory, list_files};
+use seg_values::{Schema, TResult, TantivyError};
+use std::alloc::Global;
+use std::marker::Model;
+
+/// An index, by the meta that was written, read or handed in.
+#[derive(Debug, Drop)]
+pub struct Index {
+    metas: IndexMeta,
+}
+
+impl Model for Index {
+    ghost use Rattle.seg_meta.specs.declared.index_meta.IndexMeta.{IndexMeta};
+    ghost use Rattle.seg_meta.specs.Saving.{IsMetaList};
+
+    ghost Value = { IndexMeta };
+
+    ghost view = { λ a. a.metas };
+
+    ghost invariant = { λ a. IsMetaList a.metas.segments };
+}
+
+impl Index {
+    /// Begins an index in a directory without files: saves a meta without segments there.
+    pub fn create<O: Directory>(
+        alloc: Global,
+        schema: Schema,
+        settings: IndexSettings,
+        directory: &mut O,
+    ) -> TResult<Index>
+        ensures ok { IfOk result (λ index. meta_of index ≡ empty_meta (settings_of settings) schema) }
+        ensures number { IsTrue (O.tells directory.old) → CreatingCounts (len (O.files directory.old)) result }
+        ensures file { IsTrue (O.tells directory.old) → CreatingFiles (meta_text (empty_meta (settings_of settings) schema))
+            result (O.files directory.old) (O.files directory.new) }
+        ensures others { KeepsOthers FileName.Meta (O.files directory.old) (O.files directory.new) }
+        ensures tells { O.tells directory.new ≡ O.tells directory.old }
+        ensures seen { CreatingSeen (O.seen directory.old) result (O.seen directory.new) }
+        ensures listing { FaultHasCause
+            TantivyError.OpenReadError (O.faults directory.old) (O.faults directory.new) result }
+        ensures saving { FaultHasCause
+            TantivyError.IoError (O.faults directory.old) (O.faults directory.new) result }
+        ensures errors { IfErr result
+            (λ e. (e ≡ TantivyError.IndexAlreadyExists) ⊎ (e ≡ TantivyError.OpenReadError)
+            ⊎ (e ≡ TantivyError.IoError) ⊎ (e ≡ TantivyError.OutOfMemory)) }
+    {
+        match list_files(alloc, directory) {
+            Ok(0) => {}
+            Ok(_) => return Err(TantivyError::IndexAlreadyExists),
+            Err(e) => return Err(e),
+        }
+        let metas = IndexMeta {
+            index_settings: settings,
+            segments: SegmentMetas::new(alloc),
+            schema,
+            opstamp: 0,
+            payload: None,
+        };
+        match save_metas(alloc, &metas, directory) {
+            Ok(()) => Ok(Index { metas }),
+            Err(e) => Err(e),
+        }
+    }
+
+    pub fn from_metas(metas: IndexMeta) -> Index
+        requires { IsMetaList metas.segments }
+        ensures { result ≡ metas }
+    {
+        Index { metas }
+    }
+
+    pub fn schema(&self) -> &Schema
+        ensures { result.now ≡ self.now.schema }
+    {
+        &self.metas.schema
+    }
+
+    pub fn settings(&self) -> &IndexSettings
+        ensures { result.now ≡ self.now.index_settings }
+    {
+        &self.metas.index_settings
+    }
+
+    /// The meta that was written, read or handed in.
+    pub fn metas(&self) -> &IndexMeta
+        ensures { result.now ≡ self.now }
+    {
+        &self.metas
+    }
+}

@@ -1,0 +1,16 @@
+//! The meta of an index.
+
+use crate::{IndexSettings, SegmentMetas};
+use seg_values::{Schema, Text};
+
+/// What an index says of itself.
+#[derive(Debug, Drop)]
+pub struct IndexMeta {
+    pub index_settings: IndexSettings,
+    pub segments: SegmentMetas,
+    pub schema: Schema,
+    /// The stamp of the last operation that the segments hold.
+    pub opstamp: u64,
+    /// A text that whoever wrote the index left there.
+    pub payload: Option<Text>,
+}

@@ -1,0 +1,13 @@
+//! The settings of an index.
+
+use crate::Compressor;
+
+/// The settings of an index, which are those of its store of documents.
+#[derive(Clone, Copy, Debug, PartialEq, Eq)]
+pub struct IndexSettings {
+    pub docstore_compression: Compressor,
+    /// A block is closed once it has so many bytes.
+    pub docstore_blocksize: u32,
+    /// Whether a thread of its own compresses.
+    pub docstore_compress_dedicated_thread: bool,
+}

@@ -1,0 +1,37 @@
+//! The meta of an index: what `meta.json` says of its settings, its schema and its segments.
+//!
+//! A meta is seen in the words of `seg_model`. Its text is the pretty JSON text of the value that `meta_json` defines,
+//! and one line feed.
+//!
+//! To be read in this order: `compressor`, `index_settings`; `delete_meta`, `segment_meta`, `segment_metas`;
+//! `index_meta`, `segment`; `words`, `meta_json`, `content`;
+//! `save`, `index`.
+#![tactic(auto)]
+
+mod compressor;
+mod content;
+mod delete_meta;
+mod index;
+mod index_meta;
+mod index_settings;
+mod meta_json;
+mod save;
+#[cfg(test)]
+mod save_tests;
+mod segment;
+mod segment_meta;
+mod segment_metas;
+#[cfg(test)]
+mod tests;
+mod words;
+
+pub use compressor::Compressor;
+pub use content::meta_text;
+pub use delete_meta::DeleteMeta;
+pub use index::Index;
+pub use index_meta::IndexMeta;
+pub use index_settings::IndexSettings;
+pub use save::save_metas;
+pub use segment::Segment;
+pub use segment_meta::SegmentMeta;
+pub use segment_metas::SegmentMetas;
