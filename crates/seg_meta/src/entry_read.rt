@@ -28,6 +28,7 @@ const MEMBERS: [&str; 10] = [
 /// The field that an object with all of its members says.
 pub fn entry_from(alloc: Global, json: &Value) -> Result<FieldEntry, ReadError>
     ensures ok { IfOk result (λ e. entry_from (view json.now) ≡ Some e) }
+    ensures entry { IfOk result (λ e. is_entry e ≡ true) }
     ensures none { result ≡ Err ReadError.NoMeta → entry_from (view json.now) ≡ None }
 {
     if !has_only(json, &MEMBERS) {
