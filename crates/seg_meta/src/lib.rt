@@ -4,23 +4,30 @@
 //! and one line feed.
 //!
 //! To be read in this order: `compressor`, `index_settings`; `delete_meta`, `segment_meta`, `segment_metas`;
-//! `index_meta`, `segment`; `words`, `meta_json`, `content`;
-//! `save`, `index`.
+//! `index_meta`, `segment`; `words`, `meta_json`, `content`; `save`, `index`; `read_error`, `members`, `settings_read`,
+//! `entry_read`, `segment_read`.
 #![tactic(auto)]
 
 mod compressor;
 mod content;
 mod delete_meta;
+mod entry_read;
 mod index;
 mod index_meta;
 mod index_settings;
+mod members;
 mod meta_json;
+mod read_error;
+#[cfg(test)]
+mod read_tests;
 mod save;
 #[cfg(test)]
 mod save_tests;
 mod segment;
 mod segment_meta;
 mod segment_metas;
+mod segment_read;
+mod settings_read;
 #[cfg(test)]
 mod tests;
 mod words;
@@ -28,10 +35,14 @@ mod words;
 pub use compressor::Compressor;
 pub use content::meta_text;
 pub use delete_meta::DeleteMeta;
+pub use entry_read::entry_from;
 pub use index::Index;
 pub use index_meta::IndexMeta;
 pub use index_settings::IndexSettings;
+pub use read_error::ReadError;
 pub use save::save_metas;
 pub use segment::Segment;
 pub use segment_meta::SegmentMeta;
 pub use segment_metas::SegmentMetas;
+pub use segment_read::segment_from;
+pub use settings_read::settings_from;
