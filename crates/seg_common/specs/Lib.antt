@@ -1,6 +1,7 @@
 pub mod Causes
 pub mod Dates
 pub mod FileNames
+pub mod Growing
 pub mod Idle
 pub mod LittleEndian
 pub mod Memory

@@ -4,7 +4,7 @@
 //! A source is seen as the bytes that it has left, and a sink as the bytes that it took, each where it tells them,
 //! with a count of its faults: a call fails only where that count rose. A source also counts the reads that took nothing.
 //!
-//! To be read in this order: `error`; `date`, `column_type`, `segment_id`, `name`, `byte_count`; `little_endian`,
+//! To be read in this order: `error`; `date`, `column_type`, `segment_id`, `name`, `byte_count`, `term_info`; `little_endian`,
 //! `varint`; `owned_bytes`; `source`, `sink`; `idle`, `memory_source`, `memory_sink`; `reader_source`, `writer_sink`.
 #![tactic(auto)]
 
@@ -22,6 +22,7 @@ mod reader_source;
 mod segment_id;
 mod sink;
 mod source;
+mod term_info;
 #[cfg(test)]
 mod tests;
 mod varint;
@@ -40,5 +41,6 @@ pub use reader_source::ReaderSource;
 pub use segment_id::SegmentId;
 pub use sink::{Sink, SinkFailed, write_whole};
 pub use source::{ReadError, Source, SourceFailed, read_to_end};
+pub use term_info::TermInfo;
 pub use varint::{VInt, read_varint, varint_len};
 pub use writer_sink::WriterSink;

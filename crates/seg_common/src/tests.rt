@@ -3,8 +3,8 @@
 use crate::{
     ByteCount, ColumnType, CommonError, DateTime, DateTimePrecision, FileName, MemorySink,
     MemorySource, ReadError, ReaderSource, SegmentComponent, SegmentId, Sink, SinkFailed, Source,
-    SourceFailed, VInt, WriterSink, put_u32, put_u64, read_to_end, u32_at, u64_at, varint_len,
-    write_whole,
+    SourceFailed, TermInfo, VInt, WriterSink, put_u32, put_u64, read_to_end, u32_at, u64_at,
+    varint_len, write_whole,
 };
 use std::alloc::AllocError;
 use std::test::Fail;
@@ -163,6 +163,7 @@ fn numbers_of_fixed_width(rt: HostRuntime) -> Result<(), Fail> {
     assert_eq!(rt; u32_at(&bytes, 0), 0x0403_0201);
     assert_eq!(rt; u64_at(&bytes, 4), u64::MAX - 1);
     assert!(rt; ByteCount(9) < ByteCount(10));
+    assert_eq!(rt; TermInfo::default().positions_end, 0);
     Ok(())
 }
 

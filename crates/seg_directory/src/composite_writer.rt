@@ -1,5 +1,6 @@
 //! The writer of composite files.
 ghost use Rattle.std.specs.Prelude.{◌≡◌, ◌≢◌, ◌≤◌, ◌<◌, ◌-◌, ◌^◌, ◌++◌, ◌∷◌, [], List, Option, Some, None, IfOk, IfErr, IfSome, OnOk};
+ghost use Rattle.seg_common.specs.Growing.{HasGrown};
 ghost use Rattle.seg_directory.specs.Composite.{Part, composite, low_after};
 
 use crate::written_parts::WrittenParts;
@@ -33,8 +34,7 @@ impl CompositeWriter {
     pub fn write(&mut self, field: Field, bytes: &[u8]) -> Result<(), CommonError>
         requires ascends { IfSome self.old (λ ps. low_after 0 ps ≤ field) }
         requires limit { field < 2 ^ 32 - 1 }
-        ensures ok { OnOk result ((ps : List Part) × (self.old ≡ Some ps)
-            × (self.new ≡ Some (ps ++ (field, bytes.now) ∷ []))) }
+        ensures ok { OnOk result (HasGrown self.old self.new (λ ps. ps ++ (field, bytes.now) ∷ [])) }
         ensures err { IfErr result (λ e. (e ≡ CommonError.OutOfMemory) × (self.new ≡ None)) }
     {
         let Some(parts) = &mut self.parts else {
