@@ -1,5 +1,5 @@
 -- The keys of a dictionary, and one key more.
-use Rattle.std.proofs.Common.{◌≡◌, ℕ, zero, suc, ◌+◌, ◌*◌, ◌-◌, ◌^◌, ◌<◌, ◌≤◌, List, ◌++◌, length, drop, refl, sym, ap, ◌∙◌, arith, inl, inr, add-one}
+use Rattle.std.proofs.Common.{◌≡◌, ℕ, zero, suc, ◌+◌, ◌*◌, ◌-◌, ◌^◌, ◌<◌, ◌≤◌, List, ◌++◌, length, drop, refl, sym, ap, ◌∙◌, arith, inl, inr, add-one, slice_range}
 use Rattle.std.specs.Int.{w64, to_le_bytes}
 use Rattle.std.specs.Ordering.{nat_cmp}
 use Rattle.std.specs.Cmp.Lexicographic.{slice_cmp}
@@ -83,3 +83,15 @@ module _ (ends keys key : List ℕ) (count end : ℕ) (are : AreKeys ends keys c
               rw (e, key_after, key_of-front ends more keys key count i are len (omega arith), f) (above (omega arith))
         ];
       }
+
+-- ---- what the code reads
+
+pub key_start-later : (ends : List ℕ) (i : ℕ) → 0 < i → key_start ends i ≡ u64_at ends (8 * (i - 1))
+key_start-later ends i h = let e : i ≡ i - 1 + 1 = omega arith in ap (key_start ends) e ∙ key_start-next ends (i - 1)
+
+pub key_of-by : (ends keys : List ℕ) (i s e : ℕ) → s ≡ key_start ends i → e ≡ key_start ends (i + 1) → slice_range keys s e ≡ key_of ends keys i
+unfolding key_of
+key_of-by ends keys i s e p q = rw (p, q) refl
+
+pub same_key : (ends keys ends' keys' : List ℕ) → ends ≡ ends' → keys ≡ keys' → (i : ℕ) → key_of ends keys i ≡ key_of ends' keys' i
+same_key ends keys ends' keys' e k i = rw (e, k) refl

@@ -1,3 +1,4 @@
 pub mod Building
 pub mod Dictionary
+pub mod LookUps
 pub mod Writing

@@ -9,5 +9,20 @@ pub(crate) const VERSION: u32 = 1;
 /// The type of a dictionary that is a list, its last number.
 pub(crate) const LIST_TYPE: u32 = 3;
 
-/// The bytes of the number of infos, with which the info store begins.
-pub(crate) const INFO_COUNT: u64 = 8;
+/// The bytes of a number of keys or of infos.
+pub(crate) const COUNT: usize = 8;
+
+/// The bytes of the end of a key.
+pub(crate) const KEY_END: usize = 8;
+
+/// The bytes of where the first postings and the first positions start.
+pub(crate) const FIRST_STARTS: usize = 16;
+
+/// The bytes of an info: a number of documents, and where its postings and its positions end.
+pub(crate) const INFO: usize = 20;
+
+/// The bytes behind the info store: its length, the version and the type.
+pub(crate) const FOOTER: usize = 16;
+
+/// The bytes of a dictionary without a key.
+pub(crate) const EMPTY: usize = COUNT + COUNT + FIRST_STARTS + FOOTER;

@@ -5,7 +5,7 @@ ghost use Rattle.seg_termdict.specs.Dictionary.{IsDictionary, terms_of};
 ghost use Rattle.seg_termdict.specs.Building.{Building, complete, with_key, with_info, MayFollow, Continues};
 ghost use Rattle.seg_termdict.specs.Writing.{AreWritten, HasWidths, info_bytes, written};
 
-use crate::format::{INFO_COUNT, LIST_TYPE, VERSION};
+use crate::format::{COUNT, LIST_TYPE, VERSION};
 use seg_common::{TermInfo, put_u32, put_u64};
 use std::alloc::{AllocError, Global};
 use std::cmp::Ordering;
@@ -103,7 +103,7 @@ impl WrittenTerms {
         bytes.extend_from_slice(&self.keys)?;
         put_u64(&mut bytes, self.info_count)?;
         bytes.extend_from_slice(&self.infos)?;
-        put_u64(&mut bytes, INFO_COUNT + self.infos.len() as u64)?;
+        put_u64(&mut bytes, (COUNT + self.infos.len()) as u64)?;
         put_u32(&mut bytes, VERSION)?;
         put_u32(&mut bytes, LIST_TYPE)?;
         Ok(bytes)

@@ -1,0 +1,109 @@
+//! Term dictionaries that are read from their bytes.
+ghost use Rattle.std.specs.Prelude.{◌≡◌, ◌≤◌, ◌<◌, [], length, slice_get, Contains, IfOk, IfErr, IsSomeAnd, MatchBool, MatchOption, MatchResult};
+ghost use Rattle.seg_termdict.specs.Dictionary.{Term, IsDictionary, terms_of};
+ghost use Rattle.seg_termdict.specs.LookUps.{Refuses, Lacks, HasKeyAt};
+
+use crate::check::checked_count;
+use crate::error::TermDictError;
+use crate::format::TermOrdinal;
+use crate::infos::info_at;
+use crate::keys::{find_key, key_at};
+use crate::tables::{ends_table, info_table, key_bytes};
+use seg_common::{OwnedBytes, TermInfo};
+use std::marker::Model;
+
+/// The terms of a field in the order of their keys, in the bytes that they were written to.
+#[derive(Drop)]
+pub struct TermDictionary {
+    bytes: OwnedBytes,
+    count: usize,
+}
+
+impl Model for TermDictionary {
+    ghost use Rattle.std.specs.Prelude.{◌≡◌, List};
+    ghost use Rattle.seg_termdict.specs.Dictionary.{Term, IsDictionary, terms_of, count_of};
+
+    ghost Value = { List Term };
+
+    ghost view = { λ d. terms_of d.bytes };
+
+    ghost invariant = { λ d. (d.count ≡ count_of d.bytes) × IsDictionary d.bytes };
+}
+
+impl TermDictionary {
+    /// Checks the bytes whole, in time linear in them, and takes no memory.
+    pub fn open(bytes: OwnedBytes) -> Result<TermDictionary, TermDictError>
+        ensures { MatchResult result (λ d. IsDictionary bytes × (d ≡ terms_of bytes)) (Refuses bytes) }
+    {
+        match checked_count(bytes.as_slice()) {
+            Ok(count) => Ok(TermDictionary { bytes, count }),
+            Err(error) => Err(error),
+        }
+    }
+
+    /// How many terms there are.
+    pub fn num_terms(&self) -> usize
+        ensures { result ≡ length self.now }
+    {
+        self.count
+    }
+
+    /// The place of a key.
+    pub fn term_ord(&self, key: &[u8]) -> Option<TermOrdinal>
+        ensures { MatchOption result (Lacks self.now key.now) (λ ord. HasKeyAt self.now ord key.now) }
+    {
+        match self.find(key) {
+            Some(i) => Some(i as u64),
+            None => None,
+        }
+    }
+
+    /// What is known of a key.
+    pub fn get(&self, key: &[u8]) -> Option<TermInfo>
+        ensures { MatchOption result (Lacks self.now key.now) (λ info. Contains self.now (key.now, info)) }
+    {
+        match self.find(key) {
+            Some(i) => Some(self.term_info_from_ord(i as u64)),
+            None => None,
+        }
+    }
+
+    /// What is known of the term at a place.
+    pub fn term_info_from_ord(&self, ord: TermOrdinal) -> TermInfo
+        requires { ord < length self.now }
+        ensures { IsSomeAnd (slice_get self.now ord) (λ t. t.1 ≡ result) }
+    {
+        info_at(info_table(self.bytes.as_slice(), self.count), ord as usize)
+    }
+
+    /// Copies the key at a place into `out`, in place of what it held; nothing and `false` where there is no such place.
+    pub fn ord_to_term(&self, ord: TermOrdinal, out: &mut Vec<u8>) -> Result<bool, TermDictError>
+        ensures ok { IfOk result (λ found. MatchBool found (HasKeyAt self.now ord out.new.items) ((length self.now ≤ ord) × (out.new.items ≡ []))) }
+        ensures err { IfErr result (λ e. e ≡ TermDictError.OutOfMemory) }
+    {
+        out.clear();
+        if ord >= self.count as u64 {
+            return Ok(false);
+        }
+        let bytes = self.bytes.as_slice();
+        let key = key_at(
+            ends_table(bytes, self.count),
+            key_bytes(bytes, self.count),
+            ord as usize,
+        );
+        out.extend_from_slice(key)?;
+        Ok(true)
+    }
+
+    fn find(&self, key: &[u8]) -> Option<usize>
+        ensures { MatchOption result (Lacks self.now key.now) (λ i. (i < length self.now) × HasKeyAt self.now i key.now) }
+    {
+        let bytes = self.bytes.as_slice();
+        find_key(
+            ends_table(bytes, self.count),
+            key_bytes(bytes, self.count),
+            self.count,
+            key,
+        )
+    }
+}

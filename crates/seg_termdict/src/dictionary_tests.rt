@@ -1,0 +1,81 @@
+//! Dictionaries that are read, from bytes that were written by hand.
+
+use crate::{TermDictError, TermDictionary};
+use seg_common::{OwnedBytes, TermInfo};
+use std::alloc::Global;
+use std::test::Fail;
+
+/// The terms `a`, of one document, and `b`, of two, with the postings 0 to 3 and 3 to 3, and the positions 0 to 1 and 1 to 4.
+const TWO: &[u8] = &[
+    2, 0, 0, 0, 0, 0, 0, 0, // two keys
+    1, 0, 0, 0, 0, 0, 0, 0, // their ends
+    2, 0, 0, 0, 0, 0, 0, 0, b'a', b'b', // their bytes
+    2, 0, 0, 0, 0, 0, 0, 0, // two infos
+    0, 0, 0, 0, 0, 0, 0, 0, // the first postings
+    0, 0, 0, 0, 0, 0, 0, 0, // the first positions
+    1, 0, 0, 0, // the first info
+    3, 0, 0, 0, 0, 0, 0, 0, 1, 0, 0, 0, 0, 0, 0, 0, 2, 0, 0, 0, // the second
+    3, 0, 0, 0, 0, 0, 0, 0, 4, 0, 0, 0, 0, 0, 0, 0, 64, 0, 0, 0, 0, 0, 0, 0, // the length of the info store
+    1, 0, 0, 0, 3, 0, 0, 0, // version and type
+];
+
+const SECOND: TermInfo = TermInfo {
+    doc_freq: 2,
+    postings_start: 3,
+    postings_end: 3,
+    positions_start: 1,
+    positions_end: 4,
+};
+
+fn open(alloc: Global, bytes: &[u8]) -> Result<TermDictionary, TermDictError> {
+    let Ok(bytes) = OwnedBytes::new(alloc, bytes) else {
+        return Err(TermDictError::OutOfMemory);
+    };
+    TermDictionary::open(bytes)
+}
+
+/// What a dictionary with one byte turned over is refused for, if it is.
+fn refusal(alloc: Global, at: usize) -> Result<Option<TermDictError>, Fail> {
+    let mut flipped = Vec::from_slice(alloc, TWO)?;
+    if at < flipped.len() {
+        flipped[at] = 255 - flipped[at];
+    }
+    Ok(open(alloc, &flipped).err())
+}
+
+#[test]
+fn terms_are_found(rt: HostRuntime) -> Result<(), Fail> {
+    let dictionary = open(rt.alloc(), TWO)?;
+    assert_eq!(rt; dictionary.num_terms(), 2);
+    assert_eq!(rt; dictionary.term_ord(b"b"), Some(1));
+    assert_eq!(rt; dictionary.term_ord(b"ab"), None);
+    assert_eq!(rt; dictionary.get(b"b"), Some(SECOND));
+    assert_eq!(rt; dictionary.get(b""), None);
+    if dictionary.num_terms() > 1 {
+        assert_eq!(rt; dictionary.term_info_from_ord(1), SECOND);
+    }
+    let mut key = Vec::new(rt.alloc());
+    assert!(rt; dictionary.ord_to_term(0, &mut key)?);
+    assert_eq!(rt; key.as_slice(), b"a".as_slice());
+    assert!(rt; !dictionary.ord_to_term(2, &mut key)?);
+    Ok(())
+}
+
+#[test]
+fn cut_and_flipped_bytes_are_seen(rt: HostRuntime) -> Result<(), Fail> {
+    let alloc = rt.alloc();
+    for end in 0..TWO.len() {
+        assert!(rt; open(alloc, &TWO[..end]).is_err(), "{end}");
+    }
+    let mut read = 0usize;
+    for at in 0..TWO.len() {
+        if refusal(alloc, at)?.is_none() {
+            read = read.saturating_add(1);
+        }
+    }
+    // The key `b`, both numbers of documents, and where the last postings and positions end.
+    assert_eq!(rt; read, 1 + 2 * 4 + 2 * 8);
+    assert_eq!(rt; refusal(alloc, 98)?, Some(TermDictError::WrongVersion));
+    assert_eq!(rt; refusal(alloc, 102)?, Some(TermDictError::WrongType));
+    Ok(())
+}
