@@ -27,6 +27,7 @@ impl Model for TermDictionaryBuilder {
 }
 
 impl TermDictionaryBuilder {
+    /// A builder without a term.
     pub fn create(alloc: Global) -> Result<TermDictionaryBuilder, TermDictError>
         ensures ok { IfOk result (λ builder. builder ≡ Some (complete [])) }
         ensures err { IfErr result (λ e. e ≡ TermDictError.OutOfMemory) }

@@ -5,17 +5,22 @@ use seg_common::{OwnedBytes, TermInfo};
 use std::alloc::Global;
 use std::test::Fail;
 
-/// The terms `a`, of one document, and `b`, of two, with the postings 0 to 3 and 3 to 3, and the positions 0 to 1 and 1 to 4.
+/// The terms `a`, of one document, and `b`, of two.
 const TWO: &[u8] = &[
     2, 0, 0, 0, 0, 0, 0, 0, // two keys
-    1, 0, 0, 0, 0, 0, 0, 0, // their ends
-    2, 0, 0, 0, 0, 0, 0, 0, b'a', b'b', // their bytes
+    1, 0, 0, 0, 0, 0, 0, 0, // the end of the first
+    2, 0, 0, 0, 0, 0, 0, 0, // the end of the second
+    b'a', b'b', // their bytes
     2, 0, 0, 0, 0, 0, 0, 0, // two infos
     0, 0, 0, 0, 0, 0, 0, 0, // the first postings
     0, 0, 0, 0, 0, 0, 0, 0, // the first positions
-    1, 0, 0, 0, // the first info
-    3, 0, 0, 0, 0, 0, 0, 0, 1, 0, 0, 0, 0, 0, 0, 0, 2, 0, 0, 0, // the second
-    3, 0, 0, 0, 0, 0, 0, 0, 4, 0, 0, 0, 0, 0, 0, 0, 64, 0, 0, 0, 0, 0, 0, 0, // the length of the info store
+    1, 0, 0, 0, // the first in one document
+    3, 0, 0, 0, 0, 0, 0, 0, // the end of its postings
+    1, 0, 0, 0, 0, 0, 0, 0, // the end of its positions
+    2, 0, 0, 0, // the second in two documents
+    3, 0, 0, 0, 0, 0, 0, 0, // the end of its postings
+    4, 0, 0, 0, 0, 0, 0, 0, // the end of its positions
+    64, 0, 0, 0, 0, 0, 0, 0, // the length of the info store
     1, 0, 0, 0, 3, 0, 0, 0, // version and type
 ];
 

@@ -1,4 +1,11 @@
 //! The numbers of the format.
+//!
+//! ```text
+//! keys     their number (u64), where each ends (u64, counted from the first byte of the keys), their bytes
+//! infos    their number (u64), where the first postings and the first positions start (u64 each), and of each term
+//!          the number of documents (u32), where its postings end and where its positions end (u64 each)
+//! footer   the length of the infos in bytes (u64), the version (u32), the type (u32)
+//! ```
 
 /// The place of a term among those of its field, which are in the order of their keys.
 pub type TermOrdinal = u64;
@@ -21,7 +28,7 @@ pub(crate) const FIRST_STARTS: usize = 16;
 /// The bytes of an info: a number of documents, and where its postings and its positions end.
 pub(crate) const INFO: usize = 20;
 
-/// The bytes behind the info store: its length, the version and the type.
+/// The bytes of the footer.
 pub(crate) const FOOTER: usize = 16;
 
 /// The bytes of a dictionary without a key.
