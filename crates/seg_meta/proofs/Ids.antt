@@ -26,7 +26,7 @@ digits_value-hex (suc k) n h =
     digits_value-push 0 (hex_text k (n / 16)) (digit_char (n % 16)) ∙ rw (digits_value-hex k (n / 16) small, digit-back (n % 16) (omega arith)) whole
 
 -- the id of a text of digits
-id_from-id_text : (id : ℕ) → id < 2 ^ 128 → id_from (id_text id) ≡ Some id
+pub id_from-id_text : (id : ℕ) → id < 2 ^ 128 → id_from (id_text id) ≡ Some id
 id_from-id_text id h =
     let small : nat_lt id (2 ^ 128) ≡ true = grind (arith, nat_tests) in
     rw (digits_value-hex 32 id h, small, (bytes_eq-Decides (id_text id) (id_text id)).1 refl)

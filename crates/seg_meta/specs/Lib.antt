@@ -1,4 +1,8 @@
+pub mod Distinct
+pub mod Fits
+pub mod Loading
 pub mod MetaJson
+pub mod MetaRead
 pub mod MetaText
 pub mod Metas
 pub mod PartsRead

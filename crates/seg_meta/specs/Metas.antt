@@ -35,3 +35,7 @@ deleted (Some deletes) = deletes.number
 pub record SegmentParts : Type 0 where
   pub schema : Schema
   pub meta : ListedSegment
+
+-- a listed segment with a schema
+abbrev pub segment_of : Schema → ListedSegment → SegmentParts
+segment_of schema meta = record { schema = schema; meta = meta }

@@ -1,10 +1,10 @@
 -- Words by which a JSON value is read, part by part.
-use Rattle.std.specs.Prelude.{ℕ, List, Bool, true, false, ◌&&◌, if◌then◌else◌, Option, Some, None, option_map, option_and_then, nat_lt}
+use Rattle.std.specs.Prelude.{ℕ, List, [], ◌∷◌, Bool, true, false, ◌&&◌, if◌then◌else◌, Option, Some, None, option_map, option_and_then, nat_lt}
 use Rattle.std.specs.List.{list_any}
 use Rattle.std.specs.Map.{lookup}
 use Rattle.std.specs.Str.{bytes_eq}
-use Rattle.serde_json.specs.Data.{Data, null, boolean, number, string, array, object, Members, no_members, member}
-use Rattle.serde_json.specs.Find.{get, as_str, as_number, as_u64}
+use Rattle.serde_json.specs.Data.{Data, null, boolean, number, string, array, object, Items, no_items, item, Members, no_members, member}
+use Rattle.serde_json.specs.Find.{get, as_array, as_str, as_number, as_u64}
 
 -- goes on with what was read
 abbrev pub given : {A B : Type 0} → Option A → (A → Option B) → Option B
@@ -39,6 +39,15 @@ nullable read (object ms) = option_map Some (read (object ms))
 -- one of the words of a table
 abbrev pub word_of : {A : Type 0} → List (List ℕ × A) → Data → Option A
 word_of table d = given (as_str d) (λ w. lookup (bytes_eq w) table)
+
+-- what is read of each item, where every one can be read
+abbrev pub each : {A : Type 0} → (Data → Option A) → Items → Option (List A)
+each read no_items = Some []
+each read (item d ds) = given (read d) (λ x. option_map (λ xs. x ∷ xs) (each read ds))
+
+-- the same of a list
+abbrev pub list_of : {A : Type 0} → (Data → Option A) → Data → Option (List A)
+list_of read d = given (as_array d) (each read)
 
 -- no member has another name
 abbrev pub names_among : List (List ℕ) → Members → Bool

@@ -1,7 +1,6 @@
 -- What saving the meta of an index does to a directory.
-use Rattle.std.specs.Prelude.{ℕ, ◌≡◌, ◌<◌, ◌^◌, ◌⊎◌, List, [], ◌∷◌, ◌++◌, length, Bool, true, not, ◌&&◌, nat_eq, Result, Ok, Err, None}
+use Rattle.std.specs.Prelude.{ℕ, ◌≡◌, ◌<◌, ◌^◌, ◌⊎◌, List, [], ◌∷◌, ◌++◌, length, Bool, true, nat_eq, Result, Ok, Err, None}
 use Rattle.std.specs.FinMap.{insert}
-use Rattle.std.specs.List.{list_any}
 use Rattle.seg_common.specs.declared.name.FileName.TheVariants as name
 use Rattle.seg_values.specs.declared.error.TantivyError.{TantivyError}
 use Rattle.seg_values.specs.declared.error.TantivyError.TheVariants.{IndexAlreadyExists, OpenReadError, IoError}
@@ -12,15 +11,15 @@ use Rattle.seg_directory.specs.Files.{NamedFiles}
 use Rattle.seg_model.specs.Fields.{Schema}
 use Rattle.seg_model.specs.Input.{Settings}
 use Rattle.seg_model.specs.IndexOfFiles.{ListedSegment, Meta}
+use Rattle.seg_meta.specs.Distinct.{all_distinct}
 
--- a segment has this id
-abbrev pub has_id : ℕ → List ListedSegment → Bool
-has_id id segments = list_any (λ s. nat_eq s.id id) segments
+-- two segments have one id
+abbrev pub same_id : ListedSegment → ListedSegment → Bool
+same_id s t = nat_eq s.id t.id
 
 -- the ids are distinct
 abbrev pub are_distinct : List ListedSegment → Bool
-are_distinct [] = true
-are_distinct (s ∷ ss) = not (has_id s.id ss) && are_distinct ss
+are_distinct segments = all_distinct same_id segments
 
 -- fewer than 2^32 segments, with distinct ids
 abbrev pub IsMetaList : List ListedSegment → Type 0

@@ -64,7 +64,7 @@ pub fn entry_from(alloc: Global, json: &Value) -> Result<FieldEntry, ReadError>
 }
 
 /// Whether the options of a field go with its kind.
-fn is_entry(entry: &FieldEntry) -> bool
+pub(crate) fn is_entry(entry: &FieldEntry) -> bool
     ensures { result ≡ is_entry entry.now }
 {
     match entry.kind {

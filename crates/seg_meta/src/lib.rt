@@ -3,9 +3,13 @@
 //! A meta is seen in the words of `seg_model`. Its text is the pretty JSON text of the value that `meta_json` defines,
 //! and one line feed.
 //!
+//! Bytes are read as a meta where they are a JSON text with exactly the members of one (`MetaRead`), and each meta is what
+//! its own text reads as (`meta_law`).
+//!
 //! To be read in this order: `compressor`, `index_settings`; `delete_meta`, `segment_meta`, `segment_metas`;
-//! `index_meta`, `segment`; `words`, `meta_json`, `content`; `save`, `index`; `read_error`, `members`, `settings_read`,
-//! `entry_read`, `segment_read`.
+//! `index_meta`, `segment`; `words`, `meta_json`, `content`; `read_error`, `members`, `settings_read`, `entry_read`,
+//! `segment_read`, `schema_read`, `segments_read`, `meta_read`; `ranges`, `meta_law`; `save`, `load`, `schema_copy`,
+//! `index`.
 #![tactic(auto)]
 
 mod compressor;
@@ -15,18 +19,29 @@ mod entry_read;
 mod index;
 mod index_meta;
 mod index_settings;
+mod load;
+#[cfg(test)]
+mod load_tests;
 mod members;
 mod meta_json;
+mod meta_law;
+mod meta_read;
+#[cfg(test)]
+mod meta_read_tests;
+mod ranges;
 mod read_error;
 #[cfg(test)]
 mod read_tests;
 mod save;
 #[cfg(test)]
 mod save_tests;
+mod schema_copy;
+mod schema_read;
 mod segment;
 mod segment_meta;
 mod segment_metas;
 mod segment_read;
+mod segments_read;
 mod settings_read;
 #[cfg(test)]
 mod tests;
@@ -39,8 +54,12 @@ pub use entry_read::entry_from;
 pub use index::Index;
 pub use index_meta::IndexMeta;
 pub use index_settings::IndexSettings;
+pub use load::load_metas;
+pub use meta_law::{meta_texts_read_back, metas_read_back};
+pub use meta_read::read_meta;
 pub use read_error::ReadError;
 pub use save::save_metas;
+pub use schema_copy::copy_schema;
 pub use segment::Segment;
 pub use segment_meta::SegmentMeta;
 pub use segment_metas::SegmentMetas;

@@ -1,8 +1,10 @@
 //! A segment as a meta lists it.
 ghost use Rattle.std.specs.Prelude.{◌≡◌, ◌<◌, ◌-◌, ◌^◌, Some, option_map, is_some};
+ghost use Rattle.seg_meta.specs.Fits.{SegmentFits};
 ghost use Rattle.seg_meta.specs.Metas.{deletes_of, AreDeletes, deleted};
 
 use crate::DeleteMeta;
+use crate::ranges::has_64_bits;
 use seg_common::SegmentId;
 use std::marker::Model;
 
@@ -106,5 +108,15 @@ impl SegmentMeta {
         ensures { result ≡ option_map (λ d. d.stamp) self.now.deletes }
     {
         self.deletes.map(|deletes| deletes.opstamp)
+    }
+
+    /// Its numbers are what their types hold.
+    pub(crate) fn fits(&self)
+        ensures { SegmentFits self.now }
+    {
+        let _id = self.id.as_u128();
+        if let Some(deletes) = self.deletes {
+            has_64_bits(deletes.opstamp);
+        }
     }
 }

@@ -1,0 +1,6 @@
+use Rattle.seg_meta.specs.View.{meta_of}
+use Rattle.seg_meta.proofs.MetaBack.{meta_read-meta_text}
+use Rattle.seg_meta.proofs.meta_law.metas_read_back.Goals as goal
+
+pub returns : goal.returns
+returns c list schema = meta_read-meta_text (meta_of c.args.metas.now) c.meta_fits.ensures list schema

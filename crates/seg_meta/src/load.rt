@@ -1,0 +1,40 @@
+//! Loading the meta of an index.
+ghost use Rattle.std.specs.Prelude.{◌≡◌, ◌⊎◌, true, IsTrue, IfOk, IfErr};
+ghost use Rattle.std.specs.FinMap.{get};
+ghost use Rattle.seg_directory.specs.Faults.{FaultHasCause};
+ghost use Rattle.seg_meta.specs.Loading.{LoadingSeen, LoadsMeta};
+ghost use Rattle.seg_meta.specs.MetaRead.{is_schema};
+ghost use Rattle.seg_meta.specs.Saving.{IsMetaList};
+
+use crate::{IndexMeta, ReadError, read_meta};
+use seg_common::FileName;
+use seg_directory::{Directory, read_file};
+use seg_values::{TResult, TantivyError};
+use std::alloc::Global;
+
+/// Loads the meta that the directory has, in one reading. Where it is missing or can't be read, the index is damaged.
+pub fn load_metas<W: Directory>(alloc: Global, directory: &mut W) -> TResult<IndexMeta>
+    ensures file { IsTrue (W.tells directory.old) → LoadsMeta (get (W.files directory.old) FileName.Meta) result }
+    ensures list { IfOk result (λ m. IsMetaList m.segments) }
+    ensures schema { IfOk result (λ m. is_schema m.schema ≡ true) }
+    ensures files { W.files directory.new ≡ W.files directory.old }
+    ensures tells { W.tells directory.new ≡ W.tells directory.old }
+    ensures seen { LoadingSeen (W.seen directory.old) result (W.seen directory.new) }
+    ensures cause { FaultHasCause
+        TantivyError.OpenReadError (W.faults directory.old) (W.faults directory.new) result }
+    ensures errors { IfErr result
+        (λ e. (e ≡ TantivyError.DataCorruption FileName.Meta)
+        ⊎ (e ≡ TantivyError.OpenReadError) ⊎ (e ≡ TantivyError.OutOfMemory)) }
+{
+    let bytes = match read_file(alloc, directory, FileName::Meta) {
+        Ok(bytes) => bytes,
+        Err(e) => return Err(e),
+    };
+    match read_meta(alloc, bytes.as_slice()) {
+        Ok(metas) => Ok(metas),
+        Err(ReadError::NoMeta) => Err(TantivyError::DataCorruption {
+            name: FileName::Meta,
+        }),
+        Err(ReadError::OutOfMemory) => Err(TantivyError::OutOfMemory),
+    }
+}

@@ -1,0 +1,71 @@
+//! A meta reads back from its own text.
+ghost use Rattle.std.specs.Prelude.{◌≡◌, Some, true};
+ghost use Rattle.std.specs.List.{AllByRecursion};
+ghost use Rattle.seg_model.specs.IndexOfFiles.{Meta};
+ghost use Rattle.seg_meta.specs.Fits.{IsText, HasTexts, SegmentFits, MetaFits};
+ghost use Rattle.seg_meta.specs.MetaRead.{meta_read, is_schema};
+ghost use Rattle.seg_meta.specs.MetaText.{meta_text};
+ghost use Rattle.seg_meta.specs.Saving.{IsMetaList};
+ghost use Rattle.seg_meta.specs.View.{meta_of};
+
+use crate::ranges::{has_32_bits, has_64_bits};
+use crate::{IndexMeta, SegmentMeta};
+use seg_values::{FieldEntry, Text};
+
+/// The text of a meta reads as it, where its numbers and texts are such as their types hold, its segments such as can be
+/// saved, and its fields such as a builder of schemas lets in.
+pub fn meta_texts_read_back()
+    ensures { (meta : Meta) → MetaFits meta → IsMetaList meta.segments → is_schema meta.schema ≡ true
+        → meta_read (meta_text meta) ≡ Some meta }
+{}
+
+/// The same of the metas that there are: what their types hold is known. So each word that is written is read as what it
+/// was written for.
+pub fn metas_read_back(metas: &IndexMeta)
+    ensures { IsMetaList metas.now.segments → is_schema metas.now.schema ≡ true
+        → meta_read (meta_text (meta_of metas.now)) ≡ Some (meta_of metas.now) }
+{
+    meta_fits(metas);
+}
+
+fn meta_fits(metas: &IndexMeta)
+    ensures { MetaFits (meta_of metas.now) }
+{
+    has_32_bits(metas.index_settings.docstore_blocksize);
+    has_64_bits(metas.opstamp);
+    is_text(&metas.payload);
+    have_texts(metas.schema.fields());
+    segments_fit(metas.segments.as_slice());
+}
+
+fn is_text(text: &Option<Text>)
+    ensures { IsText text.now }
+{
+    if let Some(text) = text {
+        text.text_is_utf8();
+    }
+}
+
+fn has_texts(entry: &FieldEntry)
+    ensures { HasTexts entry.now }
+{
+    entry.name.text_is_utf8();
+    is_text(&entry.tokenizer);
+    is_text(&entry.fast_tokenizer);
+}
+
+fn have_texts(entries: &[FieldEntry])
+    ensures { AllByRecursion HasTexts entries.now }
+{
+    for entry in entries {
+        has_texts(entry);
+    }
+}
+
+fn segments_fit(segments: &[SegmentMeta])
+    ensures { AllByRecursion SegmentFits segments.now }
+{
+    for segment in segments {
+        segment.fits();
+    }
+}
