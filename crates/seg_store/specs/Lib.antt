@@ -1,0 +1,5 @@
+pub mod Reader
+pub mod Storable
+pub mod StoredDocument
+pub mod StoredLaw
+pub mod StoredTree
