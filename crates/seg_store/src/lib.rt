@@ -1,14 +1,18 @@
-//! The store: the bytes that an index keeps of its stored documents.
+//! The store: the bytes that an index keeps of its stored documents, in blocks.
 //!
-//! A stored document is seen as its bytes, which read as fields with trees.
+//! A writer is seen as its closed blocks and its open one, each the list of its documents' bytes, or as nothing once
+//! memory was lacking. The bytes of a document read as fields with trees.
 //!
-//! To be read in this order: `error`; `tree_writer`, `document_writer`; `document_law`.
+//! To be read in this order: `error`; `tree_writer`, `document_writer`, `document_law`; `written_blocks`, `store_writer`.
 #![tactic(auto)]
 
 mod document_law;
 mod document_writer;
 mod error;
+mod store_writer;
 mod tree_writer;
+mod written_blocks;
 
 pub use document_law::stored_documents_are_read;
 pub use error::StoreError;
+pub use store_writer::StoreWriter;
