@@ -37,8 +37,8 @@ fn count_stored(document: &TantivyDocument, schema: &Schema) -> u64
     ensures { result ≡ length (reading.stored_document schema.now document.now) }
 {
     let mut count = 0u64;
-    for at in 0..document.len() {
-        count += u64::from(is_stored(schema, document.pair(at).0));
+    for index in 0..document.len() {
+        count += u64::from(is_stored(schema, document.pair(index).0));
     }
     count
 }

@@ -10,6 +10,8 @@ mod document_law;
 mod document_writer;
 mod error;
 mod store_writer;
+#[cfg(test)]
+mod tests;
 mod tree_writer;
 mod written_blocks;
 

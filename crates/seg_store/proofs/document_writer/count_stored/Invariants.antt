@@ -3,8 +3,8 @@ use Rattle.seg_model.specs.Reading.{stored_document}
 use Rattle.seg_store.proofs.document_writer.count_stored.Given as goal
 
 -- what is so far, with what is left, is all
-abbrev pub invariant-loop-at : goal.invariant-loop-at
-invariant-loop-at l = record {
-  counted : l.count + length (stored_document l.schema (drop l.at l.document)) ≡ length (stored_document l.schema l.document);
-  few : l.count ≤ l.at;
+abbrev pub invariant-loop-index : goal.invariant-loop-index
+invariant-loop-index l = record {
+  counted : l.count + length (stored_document l.schema (drop l.index l.document)) ≡ length (stored_document l.schema l.document);
+  few : l.count ≤ l.index;
 }
