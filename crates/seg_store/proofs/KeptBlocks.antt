@@ -27,7 +27,7 @@ block_bytes-push : (bs : List Block) (b : Block) → block_bytes (bs ++ b ∷ []
 block_bytes-push [] b = omega arith
 block_bytes-push (x ∷ bs) b = omega (arith, block_bytes-push bs b)
 
-document_count-push : (bs : List Block) (b : Block) → document_count (bs ++ b ∷ []) ≡ document_count bs + length b
+pub document_count-push : (bs : List Block) (b : Block) → document_count (bs ++ b ∷ []) ≡ document_count bs + length b
 document_count-push [] b = omega arith
 document_count-push (x ∷ bs) b = omega (arith, document_count-push bs b)
 

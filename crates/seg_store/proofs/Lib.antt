@@ -8,3 +8,4 @@ pub mod ReadDocuments
 pub mod ReadTrees
 pub mod StoredPairs
 pub mod Stores
+pub mod TakenLast

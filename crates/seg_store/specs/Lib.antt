@@ -1,4 +1,5 @@
 pub mod Block
+pub mod BlockLaw
 pub mod Buffers
 pub mod Ends
 pub mod Reader

@@ -13,6 +13,10 @@ abbrev pub then_read : {A B : Type 0} → Option (A × List ℕ) → (A → Read
 then_read None next = None
 then_read (Some x) next = next x.0 x.1
 
+-- what was read, made into another thing
+abbrev pub made_of : {A B : Type 0} → (A → B) → Option (A × List ℕ) → Option (B × List ℕ)
+made_of make read = then_read read (λ x rest. Some (make x, rest))
+
 -- so many, one after another
 abbrev pub times_at : {A : Type 0} → Reader A → ℕ → Reader (List A)
 times_at read zero bytes = Some ([], bytes)

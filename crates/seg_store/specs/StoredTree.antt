@@ -1,10 +1,10 @@
 -- Trees as they are stored: a tag, and what it is the tag of.
-use Rattle.std.specs.Prelude.{ℕ, zero, suc, ◌==◌, if◌then◌else◌, Bool, true, false, List, [], ◌∷◌, Option, Some, None}
+use Rattle.std.specs.Prelude.{ℕ, zero, suc, ◌==◌, if◌then◌else◌, Bool, true, false, List, [], ◌∷◌, Some, None}
 use Rattle.std.specs.Int.{w64, cast_signed}
 use Rattle.seg_common.specs.Varint.{varint_at}
 use Rattle.seg_values.specs.declared.token.Token.{Token}
 use Rattle.seg_values.specs.Tree.{Leaf, null, text, pre_tokenized, unsigned, signed, boolean, date, facet, byte_string, ip, Tree, leaf, array, object, trees_from, members_from}
-use Rattle.seg_store.specs.Reader.{Reader, then_read, counted_at, front, sized_at, text_at, small_at, number_at}
+use Rattle.seg_store.specs.Reader.{Reader, then_read, made_of, counted_at, front, sized_at, text_at, small_at, number_at}
 
 -- a token: its byte range, its position, how many positions it spans, and its text
 abbrev pub token_at : Reader Token
@@ -20,10 +20,6 @@ pre_tokenized_at bytes = then_read (text_at bytes) (λ text rest. then_read (cou
 abbrev pub bit_at : Reader Bool
 bit_at [] = None
 bit_at (b ∷ rest) = if b == 0 then Some (false, rest) else if b == 1 then Some (true, rest) else None
-
--- what was read, made into another thing
-abbrev pub made_of : {A B : Type 0} → (A → B) → Option (A × List ℕ) → Option (B × List ℕ)
-made_of make read = then_read read (λ x rest. Some (make x, rest))
 
 -- a leaf behind its tag
 abbrev pub leaf_at : ℕ → Reader Leaf
