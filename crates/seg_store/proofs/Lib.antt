@@ -1,4 +1,5 @@
 pub mod Blocks
+pub mod Cases
 pub mod Cutting
 pub mod KeptBlocks
 pub mod Places

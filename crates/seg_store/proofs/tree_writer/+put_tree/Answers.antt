@@ -1,8 +1,8 @@
-use Rattle.std.proofs.Common.{◌<◌, ◌++◌, ap, ◌∙◌, arith}
+use Rattle.std.proofs.Common.{◌≡◌, ◌<◌, ◌++◌, ap, ◌∙◌, arith}
 use Rattle.seg_values.specs.Tree.{levels, array, object, trees_from, members_from}
 use Rattle.seg_values.specs.View.{tree_of}
 use Rattle.seg_values.proofs.Levels.{levels-at, member_levels-at}
-use Rattle.seg_model.specs.StoredForm.{tree_form}
+use Rattle.seg_model.specs.StoredForm.{sized, tree_form}
 use Rattle.seg_store.proofs.PuttingTrees.{one_tree, one_member, one_storable, one_storable_member, array_form, object_form, array_storable, object_storable}
 use Rattle.seg_store.proofs.tree_writer.+put_tree.Goals as goal
 
@@ -34,7 +34,7 @@ loop-index-preserved t c =
     let child = tree_of c.get-in-loop-index.result.1.now in
     let members = c.in-Object.members in
     let text = c.in_ok-put_text-in-Object.ensures.form in
-    let both = c.in_ok-put_tree-in-Object.ensures.form ∙ ap (λ xs. xs ++ tree_form child) text in
+    let both : c.put_tree-in-loop-index.new.out.items ≡ (c.loop-index.out.items ++ sized key) ++ tree_form child = c.in_ok-put_tree-in-Object.ensures.form ∙ ap (λ xs. xs ++ tree_form child) text in
     record {
       form = one_member c.loop-index.out.items c.put_tree-in-loop-index.new.out.items members c.loop-index.index key child c.get-in-loop-index.ensures both ∙ c.loop-index.invariant.form;
       storable = λ others. c.loop-index.invariant.storable (one_storable_member members c.loop-index.index key child c.get-in-loop-index.ensures c.in_ok-put_text-in-Object.ensures.storable c.in_ok-put_tree-in-Object.ensures.storable others);
