@@ -1,0 +1,12 @@
+pub mod Blocks
+pub mod Cases
+pub mod Cutting
+pub mod KeptBlocks
+pub mod Places
+pub mod PuttingTrees
+pub mod ReadBack
+pub mod ReadDocuments
+pub mod ReadTrees
+pub mod StoredPairs
+pub mod Stores
+pub mod TakenLast

@@ -1,0 +1,11 @@
+pub mod Block
+pub mod BlockLaw
+pub mod Buffers
+pub mod Ends
+pub mod Reader
+pub mod Storable
+pub mod Store
+pub mod StoredDocument
+pub mod StoredLaw
+pub mod StoredTree
+pub mod Writing

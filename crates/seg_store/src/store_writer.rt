@@ -1,0 +1,115 @@
+//! The writer of stores.
+ghost use Rattle.std.specs.Prelude.{◌≡◌, ◌≢◌, ◌<◌, ◌-◌, ◌^◌, ◌⊎◌, ◌↔◌, [], true, Option, Some, None, Err, option_map, IfOk, IfErr, IfSome, OnOk};
+ghost use Rattle.seg_common.specs.Growing.{HasGrown};
+ghost use Rattle.seg_model.specs.Reading.{stored_document};
+ghost use Rattle.seg_model.specs.StoredForm.{stored_form};
+ghost use Rattle.seg_store.specs.StoredDocument.{stored_document_of, is_stored_document};
+ghost use Rattle.seg_store.specs.StoredLaw.{AreShallow};
+ghost use Rattle.seg_store.specs.Store.{store_of};
+ghost use Rattle.seg_store.specs.Writing.{Taken, with_document, all_blocks, taken_count, taken_bytes};
+
+use crate::error::StoreError;
+use crate::written_blocks::WrittenBlocks;
+use seg_meta::Compressor;
+use seg_values::{Schema, TantivyDocument};
+use std::alloc::Global;
+use std::marker::Model;
+
+/// Writes a store document by document. Once memory was lacking it answers so for good, and it is seen as nothing.
+#[derive(Drop)]
+pub struct StoreWriter {
+    blocks: Option<WrittenBlocks>,
+}
+
+impl Model for StoreWriter {
+    ghost use Rattle.std.specs.Prelude.{Option, option_map, IfSome};
+    ghost use Rattle.seg_store.specs.Writing.{Taken};
+    ghost use Rattle.seg_store.specs.Buffers.{taken_of, IsKept};
+
+    ghost Value = { Option Taken };
+
+    ghost view = { λ w. option_map taken_of w.blocks };
+
+    ghost invariant = { λ w. IfSome w.blocks IsKept };
+}
+
+impl StoreWriter {
+    /// A writer whose blocks are closed once their documents have so many bytes; of size 0, each document is a block.
+    pub fn new(
+        alloc: Global,
+        compressor: Compressor,
+        block_size: u32,
+        dedicated_thread: bool,
+    ) -> Result<StoreWriter, StoreError>
+        ensures ok { IfOk result (λ w. w ≡ Some (record { block_size = block_size; closed = []; open_block = [] })) }
+        ensures compressed { result ≡ Err StoreError.Compressed ↔ ((compressor ≢ Compressor.None) ⊎ (dedicated_thread ≡ true)) }
+        ensures causes { IfErr result (λ e. e ≡ StoreError.Compressed) }
+    {
+        match compressor {
+            Compressor::None if !dedicated_thread => Ok(StoreWriter {
+                blocks: Some(WrittenBlocks::new(alloc, block_size)),
+            }),
+            _ => Err(StoreError::Compressed),
+        }
+    }
+
+    /// Adds a document: the pairs of its stored fields. No tree has more than 200 levels.
+    pub fn store(&mut self, document: &TantivyDocument, schema: &Schema) -> Result<(), StoreError>
+        requires shallow { AreShallow document.now }
+        requires limit { IfSome self.old (λ w. taken_count w < 2 ^ 31 - 1) }
+        ensures ok { OnOk result (HasGrown self.old self.new (with_document (stored_form schema.now document.now))) }
+        ensures reads { OnOk result (stored_document_of (stored_form schema.now document.now) ≡ Some (stored_document schema.now document.now)) }
+        ensures err { IfErr result (λ e. (e ≡ StoreError.OutOfMemory) × (self.new ≡ None)) }
+    {
+        let Some(blocks) = self.blocks.take() else {
+            return Err(StoreError::OutOfMemory);
+        };
+        match blocks.with_document(document, schema) {
+            Ok(blocks) => {
+                self.blocks = Some(blocks);
+                Ok(())
+            }
+            Err(_) => Err(StoreError::OutOfMemory),
+        }
+    }
+
+    /// Adds the bytes of a stored document.
+    pub fn store_bytes(&mut self, bytes: &[u8]) -> Result<(), StoreError>
+        requires stored { is_stored_document bytes.now ≡ true }
+        requires limit { IfSome self.old (λ w. taken_count w < 2 ^ 31 - 1) }
+        ensures ok { OnOk result (HasGrown self.old self.new (with_document bytes.now)) }
+        ensures err { IfErr result (λ e. (e ≡ StoreError.OutOfMemory) × (self.new ≡ None)) }
+    {
+        let Some(blocks) = self.blocks.take() else {
+            return Err(StoreError::OutOfMemory);
+        };
+        match blocks.with_bytes(bytes) {
+            Ok(blocks) => {
+                self.blocks = Some(blocks);
+                Ok(())
+            }
+            Err(_) => Err(StoreError::OutOfMemory),
+        }
+    }
+
+    /// How many bytes the documents have that were taken.
+    pub fn mem_usage(&self) -> usize
+        ensures { result ≡ taken_bytes self.now }
+    {
+        match &self.blocks {
+            Some(blocks) => blocks.stored(),
+            None => 0,
+        }
+    }
+
+    /// The bytes of the file.
+    pub fn close(self) -> Result<Vec<u8>, StoreError>
+        ensures ok { IfOk result (λ file. (store_of file.items ≡ option_map all_blocks self) × (self ≢ None)) }
+        ensures err { IfErr result (λ e. e ≡ StoreError.OutOfMemory) }
+    {
+        match self.blocks {
+            Some(blocks) => Ok(blocks.close()?),
+            None => Err(StoreError::OutOfMemory),
+        }
+    }
+}
