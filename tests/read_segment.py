@@ -1,0 +1,258 @@
+#!/usr/bin/env python3
+"""Reads the segments of a folder by docs/FORMATS.md, checks each rule of it, and prints them as the program does.
+
+It was written from that document and not from the code, so the one can judge the other (tests/README.md).
+"""
+import argparse
+import json
+import sys
+from contextlib import contextmanager
+from pathlib import Path
+
+import formats
+from formats import COUNTS, POSITIONS, Malformed, check
+
+
+@contextmanager
+def reading(name):
+    """Puts the name of a file before what is wrong in it."""
+    try:
+        yield
+    except Malformed as wrong:
+        raise Malformed(f'{name}: {wrong}') from None
+
+
+def bytes_of(read, name):
+    try:
+        return read(name)
+    except (OSError, KeyError):
+        raise Malformed('it is missing or cannot be read') from None
+
+
+# ---- the meta
+
+def is_text(v):
+    return type(v) is str and not any('\ud800' <= c <= '\udfff' for c in v)
+
+
+def is_id(v):
+    return is_text(v) and len(v) == 32 and set(v) <= set('0123456789abcdef')
+
+
+def is_flag(v):
+    return type(v) is bool
+
+
+def is_list(v):
+    return type(v) is list
+
+
+def below(limit):
+    return lambda v: type(v) is int and 0 <= v < limit
+
+
+def one_of(*words):
+    return lambda v: v in words
+
+
+def nullable(test):
+    return lambda v: v is None or test(v)
+
+
+def is_object(members):
+    """A test for objects with exactly these members, each of which passes its test."""
+    return lambda v: type(v) is dict and v.keys() == members.keys() and all(test(v[name]) for name, test in members.items())
+
+
+is_settings = is_object({
+    'docstore_blocksize': below(2 ** 32),
+    'docstore_compress_dedicated_thread': is_flag,
+    'docstore_compression': one_of('none', 'lz4', 'zstd'),
+})
+is_entry = is_object({
+    'expand_dots': is_flag,
+    'fast': is_flag,
+    'fast_tokenizer': nullable(is_text),
+    'index': one_of('no', 'basic', 'freqs', 'positions'),
+    'kind': one_of('text', 'u64', 'i64', 'bool', 'date', 'facet', 'bytes', 'ip', 'json'),
+    'name': is_text,
+    'norms': is_flag,
+    'precision': one_of('seconds', 'milliseconds', 'microseconds', 'nanoseconds'),
+    'stored': is_flag,
+    'tokenizer': nullable(is_text),
+})
+is_deletes = is_object({'num_deleted_docs': below(2 ** 31), 'opstamp': below(2 ** 64)})
+is_segment = is_object({'deletes': nullable(is_deletes), 'max_doc': below(2 ** 31), 'segment_id': is_id})
+is_meta = is_object({
+    'index_settings': is_settings,
+    'opstamp': below(2 ** 64),
+    'payload': nullable(is_text),
+    'schema': is_list,
+    'segments': is_list,
+})
+
+
+def goes_with_kind(entry):
+    """Whether the kind of a field allows what else is said of it."""
+    if entry['kind'] == 'facet':
+        return entry['index'] == 'basic' and entry['fast'] and not entry['norms']
+    return entry['kind'] in ('text', 'json') or entry['index'] in ('no', 'basic')
+
+
+def refuse(number):
+    raise Malformed(f'{number} is no number of a meta')
+
+
+def meta_of(data):
+    try:
+        meta = json.loads(formats.utf8(data), parse_float=refuse, parse_constant=refuse)
+    except (ValueError, RecursionError):
+        raise Malformed('it is no JSON text') from None
+    check(is_meta(meta), 'a member is missing, too many, or of another kind')
+    check(all(map(is_entry, meta['schema'])), 'a field has a member that is missing, too many, or of another kind')
+    check(all(map(goes_with_kind, meta['schema'])), 'a field has an option that its kind does not allow')
+    check(all(map(is_segment, meta['segments'])), 'a segment has a member that is missing, too many, or of another kind')
+    for items, name in (meta['schema'], 'name'), (meta['segments'], 'segment_id'):
+        check(len({item[name] for item in items}) == len(items), f'a {name} stands twice')
+    for segment in meta['segments']:
+        deletes = segment['deletes']
+        check(not deletes or 1 <= deletes['num_deleted_docs'] <= segment['max_doc'], 'the number of deletes is not one of documents')
+    return meta
+
+
+# ---- a whole segment
+
+class Segment:
+    """What the six files of a segment hold, all of it checked."""
+
+    def __init__(self, read, schema, listed):
+        self.read, self.schema, self.id, self.max_doc = read, schema, listed['segment_id'], listed['max_doc']
+        check(listed['deletes'] is None, f'{self.id}: deletes are not read yet')
+        check(not any(e['fast'] and e['kind'] != 'json' for e in schema), f'{self.id}: columns are not read yet')
+        indexed = [at for at, entry in enumerate(schema) if entry['index'] != 'no']
+        self.norms = self.parts('fieldnorm', [at for at in indexed if schema[at]['norms']])
+        self.check_norms()
+        self.check_rows()
+        self.terms = self.read_terms(self.parts('term', indexed))
+        self.totals = self.read_postings(self.parts('idx', indexed))
+        self.read_positions(self.parts('pos', indexed))
+        self.stored = self.read_store()
+
+    def name(self, extension):
+        return f'{self.id}.{extension}'
+
+    def bytes_of(self, extension):
+        return bytes_of(self.read, self.name(extension))
+
+    def parts(self, extension, fields):
+        with reading(self.name(extension)):
+            parts = formats.composite(self.bytes_of(extension))
+            check(list(parts) == fields, 'the parts are of other fields than those of the schema')
+            return parts
+
+    def check_norms(self):
+        with reading(self.name('fieldnorm')):
+            for part in self.norms.values():
+                check(len(part) == self.max_doc, 'a part has more or fewer length ids than documents')
+
+    def check_rows(self):
+        with reading(self.name('fast')):
+            check(formats.number_of_rows(self.bytes_of('fast')) == self.max_doc, 'the number of rows is not max_doc')
+
+    def read_terms(self, parts):
+        with reading(self.name('term')):
+            terms = {at: formats.dictionary(part) for at, part in parts.items()}
+            for at, of_field in terms.items():
+                for term in of_field:
+                    term.kind = formats.term_kind(self.schema[at], term.key)
+            return terms
+
+    def read_postings(self, parts):
+        with reading(self.name('idx')):
+            return {at: formats.read_postings(self.terms[at], part, self.max_doc) for at, part in parts.items()}
+
+    def read_positions(self, parts):
+        with reading(self.name('pos')):
+            for at, part in parts.items():
+                pieces = formats.cut(part, [term.positions_end for term in self.terms[at]])
+                for term, piece in zip(self.terms[at], pieces):
+                    formats.read_positions(term, piece)
+
+    def read_store(self):
+        with reading(self.name('store')):
+            stored = formats.store(self.bytes_of('store'))
+            check(len(stored) == self.max_doc, 'the number of documents is not max_doc')
+            return [formats.stored_document(data, self.schema) for data in stored]
+
+    def check_from_documents(self):
+        """What holds besides where the segment was written from documents: the token totals and the lengths."""
+        for at, terms in self.terms.items():
+            with reading(self.name('idx')):
+                total = sum(count for term in terms for _, count in term.counts)
+                check(self.totals[at] == min(total, 2 ** 64 - 1), f'the token total of field {at} is not the sum of the counts')
+            if at in self.norms:
+                with reading(self.name('fieldnorm')):
+                    formats.check_lengths(self.schema[at], terms, self.norms[at])
+
+
+def read_index(read):
+    """The segments of an index, whose files `read` answers by their names."""
+    with reading('meta.json'):
+        meta = meta_of(bytes_of(read, 'meta.json'))
+    return [Segment(read, meta['schema'], listed) for listed in meta['segments']]
+
+
+# ---- the printed text
+
+def json_text(v):
+    return json.dumps(v, ensure_ascii=False, separators=(',', ':'))
+
+
+def term_text(key):
+    return ''.join(chr(b) if 0x21 <= b <= 0x7e and b != 0x5c else f'\\{b:02x}' for b in key) or '\\e'
+
+
+def posting_text(term, place):
+    document, count = term.counts[place]
+    text = f' {document}'
+    if term.kind >= COUNTS:
+        text += f'x{count}'
+    if term.kind == POSITIONS:
+        text += '@' + ','.join(map(str, term.positions[place]))
+    return text
+
+
+def segment_text(segment, label):
+    lines = [f'{label} {segment.id} docs {segment.max_doc} alive {segment.max_doc}']
+    for at, terms in segment.terms.items():
+        lines.append(f'field {json_text(segment.schema[at]["name"])} terms {len(terms)}')
+        for term in terms:
+            lines.append(term_text(term.key) + ''.join(posting_text(term, place) for place in range(len(term.counts))))
+    lines += [f'doc {document} {json_text(pairs)}' for document, pairs in enumerate(segment.stored)]
+    return ''.join(line + '\n' for line in lines)
+
+
+def main():
+    parser = argparse.ArgumentParser(description='Reads the segments of a folder by docs/FORMATS.md and prints them.')
+    parser.add_argument('folder', nargs='?', type=Path, help='the folder with meta.json')
+    parser.add_argument('label', nargs='?', default='work', help='the word before the id of a segment (work)')
+    parser.add_argument('--from-documents', action='store_true', help='check token totals and lengths too, which a merge may estimate')
+    parser.add_argument('--self-test', action='store_true', help='read the segment that docs/FORMATS.md gives in bytes, and damaged ones')
+    words = parser.parse_args()
+    if words.self_test:
+        import self_test
+        return self_test.run()
+    if words.folder is None:
+        parser.error('a folder is wanted')
+    try:
+        segments = read_index(lambda name: (words.folder / name).read_bytes())
+        for segment in segments if words.from_documents else []:
+            segment.check_from_documents()
+    except Malformed as wrong:
+        sys.exit(str(wrong))
+    for segment in segments:
+        sys.stdout.buffer.write(segment_text(segment, words.label).encode())
+
+
+if __name__ == '__main__':
+    main()
