@@ -1,0 +1,26 @@
+//! What the definitions say of checks, refusals and stored bytes, computed plainly: a slow reference beside `seg_plain`.
+//!
+//! Each public function returns what a definition of `seg_model` says of its arguments, and contracts see its results
+//! as that definition's own values. Counts are `u64`, and one that passes `u64` is answered as memory that is lacking.
+//!
+//! To be read in this order: `pair`, `entry`, `path` (the leaves of a value); `stored_bytes` (the stored form). The
+//! check of a document: `refusal`; `takes` (the first pass), `json_check` (the second), `counted`, `texts` and
+//! `position_check` (the third), `limits` (the fourth), and `document`.
+#![tactic(auto)]
+
+mod counted;
+mod document;
+mod entry;
+mod json_check;
+mod limits;
+mod pair;
+mod path;
+mod position_check;
+mod refusal;
+mod stored_bytes;
+mod takes;
+mod texts;
+
+pub use document::document_refusal;
+pub use refusal::Refusal;
+pub use stored_bytes::stored_form;
