@@ -1,6 +1,10 @@
+pub mod Cutting
 pub mod Deep
+pub mod Falling
+pub mod InOrder
 pub mod JsonTrees
 pub mod Places
 pub mod Rising
+pub mod Shares
 pub mod StoredTrees
 pub mod TextValues

@@ -1,3 +1,6 @@
+pub mod EstimateParts
+pub mod Inputs
 pub mod Leaf
 pub mod Pairs
+pub mod Parts
 pub mod Refusals

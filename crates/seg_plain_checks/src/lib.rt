@@ -5,22 +5,30 @@
 //!
 //! To be read in this order: `pair`, `entry`, `path` (the leaves of a value); `stored_bytes` (the stored form). The
 //! check of a document: `refusal`; `takes` (the first pass), `json_check` (the second), `counted`, `texts` and
-//! `position_check` (the third), `limits` (the fourth), and `document`.
+//! `position_check` (the third), `limits` (the fourth), and `document`. The check of an input: `index_input`, `part` and
+//! `input_check`. The estimate of tokens after a merge: `token_estimate`.
 #![tactic(auto)]
 
 mod counted;
 mod document;
 mod entry;
+mod index_input;
+mod input_check;
 mod json_check;
 mod limits;
 mod pair;
+mod part;
 mod path;
 mod position_check;
 mod refusal;
 mod stored_bytes;
 mod takes;
 mod texts;
+mod token_estimate;
 
 pub use document::document_refusal;
+pub use index_input::{Compression, Input, Settings};
+pub use input_check::{InputRefusal, input_refusal};
 pub use refusal::Refusal;
 pub use stored_bytes::stored_form;
+pub use token_estimate::{EstimatePart, estimate, joined_estimate};
