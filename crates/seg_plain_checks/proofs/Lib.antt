@@ -4,6 +4,7 @@ pub mod Falling
 pub mod InOrder
 pub mod JsonTrees
 pub mod Places
+pub mod Reversed
 pub mod Rising
 pub mod Shares
 pub mod StoredTrees

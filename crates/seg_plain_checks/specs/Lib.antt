@@ -4,3 +4,4 @@ pub mod Leaf
 pub mod Pairs
 pub mod Parts
 pub mod Refusals
+pub mod TermEntries

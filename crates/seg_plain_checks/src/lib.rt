@@ -6,7 +6,7 @@
 //! To be read in this order: `pair`, `entry`, `path` (the leaves of a value); `stored_bytes` (the stored form). The
 //! check of a document: `refusal`; `takes` (the first pass), `json_check` (the second), `counted`, `texts` and
 //! `position_check` (the third), `limits` (the fourth), and `document`. The check of an input: `index_input`, `part` and
-//! `input_check`. The estimate of tokens after a merge: `token_estimate`.
+//! `input_check`. The estimate of tokens after a merge: `token_estimate`. Ordinals and ranges of terms: `term_list`.
 #![tactic(auto)]
 
 mod counted;
@@ -23,6 +23,7 @@ mod position_check;
 mod refusal;
 mod stored_bytes;
 mod takes;
+mod term_list;
 mod texts;
 mod token_estimate;
 
@@ -31,4 +32,5 @@ pub use index_input::{Compression, Input, Settings};
 pub use input_check::{InputRefusal, input_refusal};
 pub use refusal::Refusal;
 pub use stored_bytes::stored_form;
+pub use term_list::{RankedTerm, TermEntry, TermRange, streamed, term_ord};
 pub use token_estimate::{EstimatePart, estimate, joined_estimate};
