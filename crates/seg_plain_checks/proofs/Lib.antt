@@ -1,8 +1,10 @@
 pub mod Cutting
 pub mod Deep
 pub mod Falling
+pub mod FirstRefusals
 pub mod InOrder
 pub mod JsonTrees
+pub mod KnownEach
 pub mod Places
 pub mod Reversed
 pub mod Rising

@@ -1,6 +1,9 @@
 -- Inputs and their refusals as the definition has them.
-use Rattle.std.specs.Prelude.{ℕ, List, map, ◌↔◌, IsTrue, Option, not}
-use Rattle.std.specs.List.{list_any}
+use Rattle.std.specs.Prelude.{ℕ, List, map, ◌↔◌, ◌≡◌, ◌&&◌, ◌||◌, Bool, true, false, IsTrue, Option, not}
+use Rattle.std.specs.List.{list_any, AllByRecursion}
+use Rattle.seg_values.specs.declared.schema.FieldEntry.{FieldEntry}
+use Rattle.seg_model.specs.Fields.{Schema, is_text, is_json, indexing_tokenizer}
+use Rattle.seg_plain.specs.ColumnValues.{KnowsAny}
 use Rattle.std.specs.Option.{option_map, option_or}
 use Rattle.seg_model.specs.Input as inputs
 use Rattle.seg_model.specs.Valid as valid
@@ -55,3 +58,20 @@ named_refusal known input =
     option_or (option_map valid.unknown_tokenizer (valid.unknown_tokenizer_of known input.schema))
     (option_or (valid.refused_unless (not (list_any (valid.has_unknown_fast_tokenizer known) input.schema)) valid.unknown_fast_tokenizer)
     (option_map valid.unindexed_delete (valid.unindexed_delete_of input.schema input.operations)))
+
+-- a fast text or JSON field: its fast tokenizer is looked up
+abbrev pub looks_up : FieldEntry → Bool
+looks_up e = e.fast && (is_text e.kind || is_json e.kind)
+
+-- the fast tokenizer of a field is known, where it is looked up
+abbrev pub KnowsLooked : (List ℕ → Type 0) → FieldEntry → Type 0
+KnowsLooked knows e = looks_up e ≡ true → KnowsAny knows e.fast_tokenizer
+
+-- the fast tokenizer of a field is known, where it is not looked up
+abbrev pub KnowsOther : (List ℕ → Type 0) → FieldEntry → Type 0
+KnowsOther knows e = looks_up e ≡ false → KnowsAny knows e.fast_tokenizer
+
+-- the tokenizers that are looked up are known
+pub record KnowsNames (knows : List ℕ → Type 0) (schema : Schema) : Type 0 where
+  pub indexing : AllByRecursion (λ e. knows (indexing_tokenizer e)) schema
+  pub fast : AllByRecursion (KnowsLooked knows) schema

@@ -1,3 +1,4 @@
+pub mod Builds
 pub mod EstimateParts
 pub mod Inputs
 pub mod Leaf

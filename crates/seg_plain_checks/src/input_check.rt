@@ -1,5 +1,5 @@
 //! Why an input is refused before anything is read or written: the tests in their order.
-ghost use Rattle.std.specs.Prelude.{◌≡◌, ◌||◌, nat_eq, nat_le, nat_lt, map, None, IfOk};
+ghost use Rattle.std.specs.Prelude.{◌≡◌, ◌||◌, nat_eq, nat_le, nat_lt, map, false, None, IfOk};
 ghost use Rattle.std.specs.List.{list_all, list_any, enumerate_from, AllByRecursion};
 ghost use Rattle.std.specs.Option.{option_map};
 ghost use Rattle.seg_model.specs.Fields as fields;
@@ -7,7 +7,7 @@ ghost use Rattle.seg_model.specs.Valid as valid;
 ghost use Rattle.seg_plain.specs.Operations.{filter_of, key_of, operation_of};
 ghost use Rattle.seg_plain_checks.specs.Parts.{parts_fit};
 ghost use Rattle.seg_model.specs.Refused.{cut_from};
-ghost use Rattle.seg_plain_checks.specs.Inputs.{input_of, input_refusal_of, named_refusal, settings_of, Tests};
+ghost use Rattle.seg_plain_checks.specs.Inputs.{input_of, input_refusal_of, named_refusal, settings_of, KnowsLooked, KnowsNames, Tests};
 
 use crate::entry::{indexing_tokenizer, is_indexed};
 use crate::index_input::{Compression, Input, Settings};
@@ -46,7 +46,8 @@ pub fn input_refusal<Z: Analyzers>(
     analyzers: &Z,
     input: &Input,
 ) -> Result<Option<InputRefusal>, AllocError>
-    ensures { (known : valid.Known) → Tests known (Z.knows analyzers.now) → IfOk result (λ found. option_map input_refusal_of found ≡ valid.input_refusal known (Z.tokens_of analyzers.now) (input_of input.now)) }
+    ensures why { (known : valid.Known) → Tests known (Z.knows analyzers.now) → IfOk result (λ found. option_map input_refusal_of found ≡ valid.input_refusal known (Z.tokens_of analyzers.now) (input_of input.now)) }
+    ensures names { IfOk result (λ found. found ≡ None → KnowsNames (Z.knows analyzers.now) input.now.schema) }
 {
     if !cuts_fit(input) {
         return Ok(Some(InputRefusal::BadCuts));
@@ -71,7 +72,8 @@ pub fn input_refusal<Z: Analyzers>(
 
 /// The tests of tokenizers and of deletes.
 fn name_refusal<Z: Analyzers>(analyzers: &Z, input: &Input) -> Option<InputRefusal>
-    ensures { (known : valid.Known) → Tests known (Z.knows analyzers.now) → option_map input_refusal_of result ≡ named_refusal known (input_of input.now) }
+    ensures why { (known : valid.Known) → Tests known (Z.knows analyzers.now) → option_map input_refusal_of result ≡ named_refusal known (input_of input.now) }
+    ensures names { result ≡ None → KnowsNames (Z.knows analyzers.now) input.now.schema }
 {
     if let Some(place) = unknown_tokenizer(analyzers, &input.schema) {
         return Some(InputRefusal::UnknownTokenizer(place));
@@ -209,7 +211,8 @@ fn unknown_tokenizer<Z: Analyzers>(analyzers: &Z, schema: &Schema) -> Option<usi
 
 /// Whether a fast text or JSON field names a fast tokenizer that is unknown.
 fn has_unknown_fast_tokenizer<Z: Analyzers>(analyzers: &Z, schema: &Schema) -> bool
-    ensures { (known : valid.Known) → Tests known (Z.knows analyzers.now) → result ≡ list_any (valid.has_unknown_fast_tokenizer known) schema.now }
+    ensures any { (known : valid.Known) → Tests known (Z.knows analyzers.now) → result ≡ list_any (valid.has_unknown_fast_tokenizer known) schema.now }
+    ensures known { result ≡ false → AllByRecursion (KnowsLooked (Z.knows analyzers.now)) schema.now }
 {
     for entry in schema.fields() {
         if is_fast_tokenizer_unknown(analyzers, entry) {
@@ -220,7 +223,8 @@ fn has_unknown_fast_tokenizer<Z: Analyzers>(analyzers: &Z, schema: &Schema) -> b
 }
 
 fn is_fast_tokenizer_unknown<Z: Analyzers>(analyzers: &Z, entry: &FieldEntry) -> bool
-    ensures { (known : valid.Known) → Tests known (Z.knows analyzers.now) → result ≡ valid.has_unknown_fast_tokenizer known entry.now }
+    ensures unknown { (known : valid.Known) → Tests known (Z.knows analyzers.now) → result ≡ valid.has_unknown_fast_tokenizer known entry.now }
+    ensures known { result ≡ false → KnowsLooked (Z.knows analyzers.now) entry.now }
 {
     if !entry.fast || !has_texts(entry.kind) {
         return false;
