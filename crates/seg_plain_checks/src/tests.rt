@@ -3,7 +3,8 @@ ghost use Rattle.std.specs.Prelude.{◌≡◌, true, IfOk};
 ghost use Rattle.seg_values.specs.Names.{is_allowed};
 
 use super::*;
-use seg_common::{DateTimePrecision, TermInfo};
+use seg_common::{DateTimePrecision, SegmentId, TermInfo};
+use seg_plain::Operation;
 use seg_values::{
     Analyzers, Bytes, DefaultTokenizer, Field, FieldEntry, FieldKind, IndexOption, Members,
     OwnedValue, PreTokenizedString, Schema, SchemaBuilder, TantivyDocument, Text, Token, Tokenizer,
@@ -167,7 +168,9 @@ fn estimates(rt: HostRuntime) -> Result<(), Fail> {
         norms: false,
         ..entry
     };
-    assert_eq!(rt; estimate(&without, &part(alloc, false)?), 66);
+    let last_dead = part(alloc, false)?;
+    assert_eq!(rt; estimate(&without, &last_dead), 66);
+    assert_eq!(rt; joined_estimate(&without, &[last_dead]), 66);
     Ok(())
 }
 
@@ -192,5 +195,42 @@ fn ranges(rt: HostRuntime) -> Result<(), Fail> {
     assert_eq!(rt; found.len(), 2);
     assert_eq!(rt; found[0].ord, 2);
     assert_eq!(rt; found[1].ord, 1);
+    Ok(())
+}
+
+/// An input that adds a document with a value of a field.
+fn input_of(alloc: Global, field: u32) -> Result<Input, AllocError> {
+    let mut document = TantivyDocument::new(alloc);
+    document.add_text(Field::from_field_id(field), "a")?;
+    let mut operations = Vec::new(alloc);
+    operations.push(Operation::Add(document))?;
+    let mut filters = Vec::new(alloc);
+    filters.push(None)?;
+    let mut ids = Vec::new(alloc);
+    ids.push(SegmentId::from_u128(5))?;
+    ids.push(SegmentId::from_u128(6))?;
+    Ok(Input {
+        schema: schema_of(alloc, FieldKind::Text)?,
+        settings: Settings {
+            compression: Compression::Uncompressed,
+            block_size: 16384,
+            dedicated_thread: false,
+        },
+        operations,
+        cuts: Vec::new(alloc),
+        filters,
+        ids,
+    })
+}
+
+#[test]
+fn builds(rt: HostRuntime) -> Result<(), Fail> {
+    let alloc = rt.alloc();
+    let sound = input_of(alloc, 0)?;
+    assert!(rt; input_refusal(alloc, &Words, &sound)? == None);
+    assert!(rt; build_refusal(alloc, &Words, &sound)? == None);
+    let unknown = input_of(alloc, 1)?;
+    let refusal = build_refusal(alloc, &Words, &unknown)?;
+    assert!(rt; refusal == Some(BuildRefusal::DocumentRefused(0, Refusal::UnknownField)));
     Ok(())
 }
