@@ -6,7 +6,8 @@
 //! To be read in this order: `pair`, `entry`, `path` (the leaves of a value); `stored_bytes` (the stored form). The
 //! check of a document: `refusal`; `takes` (the first pass), `json_check` (the second), `counted`, `texts` and
 //! `position_check` (the third), `limits` (the fourth), and `document`. The check of an input: `index_input`, `part` and
-//! `input_check`; with its documents and columns: `build_check`. The estimate of tokens after a merge: `token_estimate`. Ordinals and ranges of terms: `term_list`.
+//! `input_check`; with its documents and columns: `build_check`. The estimate of tokens after a merge: `token_estimate`.
+//! Ordinals and ranges of terms: `term_list`.
 #![tactic(auto)]
 
 mod build_check;
