@@ -1,0 +1,13 @@
+pub mod Cutting
+pub mod Deep
+pub mod Falling
+pub mod FirstRefusals
+pub mod InOrder
+pub mod JsonTrees
+pub mod KnownEach
+pub mod Places
+pub mod Reversed
+pub mod Rising
+pub mod Shares
+pub mod StoredTrees
+pub mod TextValues
