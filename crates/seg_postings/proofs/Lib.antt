@@ -1,0 +1,2 @@
+mod LengthTable
+mod NormsLists

@@ -1,0 +1,4 @@
+pub mod FieldNorms
+pub mod Kinds
+pub mod Postings
+pub mod PostingsForm
