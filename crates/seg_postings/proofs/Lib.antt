@@ -1,2 +1,3 @@
 mod LengthTable
 mod NormsLists
+mod PostingsBack

@@ -2,3 +2,4 @@ pub mod FieldNorms
 pub mod Kinds
 pub mod Postings
 pub mod PostingsForm
+pub mod Written
