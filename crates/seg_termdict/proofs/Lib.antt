@@ -1,0 +1,6 @@
+mod Appended
+mod Assembled
+mod Growth
+mod InfoLemmas
+mod KeyLemmas
+pub mod LastTerm

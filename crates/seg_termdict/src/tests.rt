@@ -1,0 +1,82 @@
+//! Dictionaries that are built, against bytes that were written by hand.
+
+use crate::{TermDictError, TermDictionaryBuilder};
+use seg_common::TermInfo;
+use std::test::Fail;
+
+const EMPTY: &[u8] = &[
+    0, 0, 0, 0, 0, 0, 0, 0, // no key
+    0, 0, 0, 0, 0, 0, 0, 0, // no info
+    0, 0, 0, 0, 0, 0, 0, 0, // the first postings
+    0, 0, 0, 0, 0, 0, 0, 0, // the first positions
+    24, 0, 0, 0, 0, 0, 0, 0, // the length of the info store
+    1, 0, 0, 0, 3, 0, 0, 0, // version and type
+];
+
+const ONE: &[u8] = &[
+    1, 0, 0, 0, 0, 0, 0, 0, // one key
+    1, 0, 0, 0, 0, 0, 0, 0, // its end
+    b'a', // its bytes
+    1, 0, 0, 0, 0, 0, 0, 0, // one info
+    0, 0, 0, 0, 0, 0, 0, 0, // the first postings
+    0, 0, 0, 0, 0, 0, 0, 0, // the first positions
+    1, 0, 0, 0, // in one document
+    3, 0, 0, 0, 0, 0, 0, 0, // the end of its postings
+    1, 0, 0, 0, 0, 0, 0, 0, // the end of its positions
+    44, 0, 0, 0, 0, 0, 0, 0, // the length of the info store
+    1, 0, 0, 0, 3, 0, 0, 0, // version and type
+];
+
+/// The ends and the bytes of the keys `b` and `ba`.
+const TWO_KEYS: &[u8] = &[
+    1, 0, 0, 0, 0, 0, 0, 0, 3, 0, 0, 0, 0, 0, 0, 0, b'b', b'b', b'a',
+];
+
+const FIRST: TermInfo = TermInfo {
+    doc_freq: 1,
+    postings_start: 0,
+    postings_end: 3,
+    positions_start: 0,
+    positions_end: 1,
+};
+
+const SECOND: TermInfo = TermInfo {
+    doc_freq: 2,
+    postings_start: 3,
+    postings_end: 3,
+    positions_start: 1,
+    positions_end: 4,
+};
+
+#[test]
+fn an_empty_dictionary(rt: HostRuntime) -> Result<(), Fail> {
+    let bytes = TermDictionaryBuilder::create(rt.alloc())?.finish()?;
+    assert_eq!(rt; bytes.as_slice(), EMPTY);
+    Ok(())
+}
+
+#[test]
+fn one_term(rt: HostRuntime) -> Result<(), Fail> {
+    let mut builder = TermDictionaryBuilder::create(rt.alloc())?;
+    builder.insert_key(b"a")?;
+    builder.insert_value(&FIRST)?;
+    let bytes = builder.finish()?;
+    assert_eq!(rt; bytes.len(), 77);
+    assert_eq!(rt; bytes.as_slice(), ONE);
+    Ok(())
+}
+
+#[test]
+fn keys_out_of_order(rt: HostRuntime) -> Result<(), Fail> {
+    let mut builder = TermDictionaryBuilder::create(rt.alloc())?;
+    builder.insert(b"b", &FIRST)?;
+    let equal = builder.insert(b"b", &SECOND).err();
+    assert_eq!(rt; equal, Some(TermDictError::OutOfOrder));
+    let smaller = builder.insert_key(b"ab").err();
+    assert_eq!(rt; smaller, Some(TermDictError::OutOfOrder));
+    builder.insert(b"ba", &SECOND)?;
+    let bytes = builder.finish()?;
+    assert_eq!(rt; bytes.len(), 107);
+    assert_eq!(rt; &bytes[8..27], TWO_KEYS);
+    Ok(())
+}
