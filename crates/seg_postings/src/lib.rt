@@ -5,7 +5,10 @@ mod error;
 mod field_norm_id;
 mod field_norms_serializer;
 mod field_norms_writer;
+mod field_parts;
 mod length_ids;
+mod occurrence;
+mod open_term;
 mod record_kind;
 
 pub use error::PostingsError;
