@@ -1,5 +1,5 @@
 -- What each step of a field makes of its parts, and of what they are seen as.
-use Rattle.std.proofs.Common.{◌≡◌, ℕ, ◌+◌, ◌-◌, ◌<◌, ◌≤◌, ◌^◌, List, [], ◌∷◌, ◌++◌, length, drop, Option, Some, None, refl, ap, sym, ◌∙◌, arith}
+use Rattle.std.proofs.Common.{◌≡◌, ℕ, ◌+◌, ◌-◌, ◌<◌, ◌≤◌, ◌^◌, List, [], ◌∷◌, ◌++◌, length, drop, Option, Some, None, ap, sym, ◌∙◌}
 use Rattle.std.specs.Prelude.{IsSomeAnd, unwrap_or}
 use Rattle.std.specs.List.{flat_map}
 use Rattle.std.proofs.lemmas.Option.{none-some}
@@ -67,12 +67,13 @@ module _ (field total : ℕ) (dictionary : Option Building) (postings positions 
       view = occurred_view field total dictionary postings positions o parts document count ds m small ∙ ap (with_document document count ds) (sym seen);
     })
 
-  pub close_step : (grown : Option Building) (end positions_end : ℕ) → HasGrown dictionary grown (with_info (record { doc_freq = o.doc_freq; postings_start = o.postings_start; postings_end = end; positions_start = o.positions_start; positions_end = positions_end })) → end ≡ length postings - 8 → positions_end ≡ length positions → Step field total grown postings positions None (closed self)
-  close_step grown end positions_end grows f g =
+  pub close_step : (grown : Option Building) (end positions_end : ℕ) → HasGrown dictionary grown (with_info (record { doc_freq = o.doc_freq; postings_start = o.postings_start; postings_end = end; positions_start = o.positions_start; positions_end = positions_end })) → end ≡ length postings - 8 → positions_end ≡ length positions → IsSomeAnd self.current (λ t. 0 < length t.postings) → Step field total grown postings positions None (closed self)
+  close_step grown end positions_end grows f g occurs =
+      let some : 0 < length parts.is_open.1.0 = given (λ (t : TermWritten). 0 < length t.postings) self.current _ shown occurs in
       let info : TermInfo = record { doc_freq = o.doc_freq; postings_start = o.postings_start; postings_end = length postings - 8; positions_start = o.positions_start; positions_end = length positions } in
       let same : HasGrown dictionary grown (with_info info) = rw (sym f, sym g) grows in
       let to : grown ≡ Some (with_info info parts.built) = grown_to dictionary grown (with_info info) parts.built parts.is_built same in
       record {
-        parts = closed_parts field total dictionary postings positions o parts grown to;
-        view = term_closed_view field total dictionary postings positions o parts grown to ∙ ap closed (sym seen);
+        parts = closed_parts field total dictionary postings positions o parts grown to some;
+        view = term_closed_view field total dictionary postings positions o parts grown to some ∙ ap closed (sym seen);
       }

@@ -1,14 +1,14 @@
 -- The parts of a field, and what they are seen as, step by step.
-use Rattle.std.proofs.Common.{◌≡◌, ℕ, zero, suc, ◌+◌, ◌-◌, ◌<◌, ◌≤◌, ◌^◌, List, [], ◌∷◌, ◌++◌, length, drop, Option, Some, None, option_map, refl, ap, sym, ◌∙◌, arith, slice_range}
-use Rattle.std.specs.Prelude.{unwrap_or, IsSomeAnd}
+use Rattle.std.proofs.Common.{◌≡◌, ℕ, ◌+◌, ◌-◌, ◌<◌, ◌≤◌, ◌^◌, List, [], ◌∷◌, ◌++◌, length, drop, Option, Some, None, option_map, refl, ap, sym, ◌∙◌, arith, slice_range}
+use Rattle.std.specs.Prelude.{unwrap_or}
 use Rattle.std.specs.Int.{w64, to_le_bytes}
-use Rattle.std.specs.List.{flat_map, AllByRecursion}
-use Rattle.std.proofs.lemmas.List.{append_assoc, append-nil, length-append, length-drop, drop-append-le, drop_at, take_all}
+use Rattle.std.specs.List.{flat_map}
+use Rattle.std.proofs.lemmas.List.{append-nil, length-append, length-drop, drop-append-le, drop_at, take_all}
 use Rattle.seg_common.specs.LittleEndian.{u64_at}
 use Rattle.seg_common.specs.Varint.{varint}
 use Rattle.seg_common.specs.declared.term_info.TermInfo.{TermInfo}
 use Rattle.seg_termdict.specs.Dictionary.{Term}
-use Rattle.seg_termdict.specs.Building.{Building, complete, with_key, with_info, last_term, postings_end, positions_end}
+use Rattle.seg_termdict.specs.Building.{Building, complete, with_key, with_info, postings_end, positions_end}
 use Rattle.seg_termdict.proofs.Appended.{u64_at-front, u64_at-end}
 use Rattle.seg_termdict.proofs.LastTerm.{last_term-push}
 use Rattle.seg_model.specs.Reading.{Posting}
@@ -17,11 +17,11 @@ use Rattle.seg_postings.specs.declared.open_term.OpenTerm.{OpenTerm}
 use Rattle.seg_postings.specs.Kinds.{kind_byte}
 use Rattle.seg_postings.specs.PostingsForm.{postings_form, positions_form, document_form, documents_form}
 use Rattle.seg_postings.specs.Postings.{TermPostings, term_postings}
-use Rattle.seg_postings.specs.Written.{recorded_as, AreWritable}
+use Rattle.seg_postings.specs.Written.{recorded_as}
 use Rattle.seg_postings.specs.Field.{term_at, terms_at}
-use Rattle.seg_postings.specs.FieldWriting.{TermWritten, FieldWriting, fresh, with_term, in_document, with_document, with_open, closed, next_document, MayOccur}
-use Rattle.seg_postings.specs.FieldParts.{last_document, occurrence_form, open_term, writing, IsOpenTerm, IsOpen, LiesWithin, AreParts}
-use Rattle.seg_postings.proofs.FieldTerms.{term_in, terms_at-front, within-more, within-push, terms_at-push}
+use Rattle.seg_postings.specs.FieldWriting.{TermWritten, fresh, with_term, with_document, closed, next_document, MayOccur}
+use Rattle.seg_postings.specs.FieldParts.{last_document, occurrence_form, open_term, writing, IsOpenTerm, AreParts}
+use Rattle.seg_postings.proofs.FieldTerms.{term_in, terms_at-front, within-more, within-push, terms_at-push, occurs-push}
 use Rattle.seg_postings.proofs.OpenSteps.{count_form_is, position_form_is, is_of_kind, documents_form-push, positions_form-push, last_document-push, next_document-push, writable-push, last_before_next}
 use Rattle.seg_postings.proofs.PostingsBack.{term_back}
 
@@ -64,6 +64,7 @@ fresh_parts total dictionary postings small empty is =
       counted = ap (λ bs. u64_at bs 0) is ∙ u64_at-end [] total 0 small refl;
       terms = [];
       read = read_none (drop 8 postings) [];
+      occur = tt;
       within = tt;
       is_open = (refl, (let rest : length (drop 8 postings) ≡ length postings - 8 = length-drop 8 postings in omega (arith, rest, size)), refl);
     }
@@ -98,19 +99,26 @@ module _ (field total : ℕ) (dictionary grown : Option Building) (postings posi
         ∙ ap (λ qs. terms_at (drop 8 postings ++ kind_byte kind ∷ []) qs i.built.terms) (sym (append-nil positions))
         ∙ terms_at-front (drop 8 postings) (kind_byte kind ∷ []) positions [] i.built.terms i.within
         ∙ i.read;
+    occur = i.occur;
     within = within-more (length (drop 8 postings)) (length positions) (length (drop 8 (postings ++ kind_byte kind ∷ []))) (length positions) i.built.terms (omega (arith, opened_size)) (omega arith) i.within;
-    is_open = ((bytes, refl), ([], record {
-      starts = i.is_open.1 ∙ body_size;
-      positions_starts = i.is_open.2;
-      room = omega (arith, opened_size, body_size);
-      positions_room = omega arith;
-      form = ap (drop (length postings - 8)) opened_body ∙ drop_at (drop 8 postings) (kind_byte kind ∷ []) (length postings - 8) body_size;
-      positions_are = ap (drop (length positions)) (sym (append-nil positions)) ∙ drop_at positions [] (length positions) refl;
-      writable = tt;
-      number = refl;
-      few = omega arith;
-      last = refl;
-    }));
+    is_open = (
+      (bytes, refl),
+      (
+        [],
+        record {
+          starts = i.is_open.1 ∙ body_size;
+          positions_starts = i.is_open.2;
+          room = omega (arith, opened_size, body_size);
+          positions_room = omega arith;
+          form = ap (drop (length postings - 8)) opened_body ∙ drop_at (drop 8 postings) (kind_byte kind ∷ []) (length postings - 8) body_size;
+          positions_are = ap (drop (length positions)) (sym (append-nil positions)) ∙ drop_at positions [] (length positions) refl;
+          writable = tt;
+          number = refl;
+          few = omega arith;
+          last = refl;
+        },
+      ),
+    );
   }
 
   pub opened_view : writing field total grown (drop 8 (postings ++ kind_byte kind ∷ [])) positions (Some (record { kind = kind; doc_freq = 0; last = 0; postings_start = length postings - 8; positions_start = length positions })) ≡ with_term bytes kind (writing field total dictionary (drop 8 postings) positions None)
@@ -181,19 +189,26 @@ module _ (field total : ℕ) (dictionary : Option Building) (postings positions 
       counted = u64_at-front postings more 0 i.room ∙ i.counted;
       terms = i.terms;
       read = ap (λ bs. terms_at bs (positions ++ flat_map varint ds) i.built.terms) body ∙ terms_at-front (drop 8 postings) more positions (flat_map varint ds) i.built.terms i.within ∙ i.read;
+      occur = i.occur;
       within = within-more (length (drop 8 postings)) (length positions) (length (drop 8 (postings ++ more))) (length (positions ++ flat_map varint ds)) i.built.terms body_grows positions_grow i.within;
-      is_open = (i.is_open.0, (ps ++ p ∷ [], record {
-        starts = i.is_open.1.1.starts;
-        positions_starts = i.is_open.1.1.positions_starts;
-        room = (let room = i.is_open.1.1.room in omega (arith, room, body_grows));
-        positions_room = (let room = i.is_open.1.1.positions_room in omega (arith, room, positions_grow));
-        form = form_now;
-        positions_are = positions_now;
-        writable = writable-push p o.kind 0 0 ps (is_of_kind o.kind count ds m.counted m.some small m.low) m.limit m.ascends i.is_open.1.1.writable;
-        number = (let number = i.is_open.1.1.number in let size : length (ps ++ p ∷ []) ≡ length ps + 1 = length-append ps (p ∷ []) in omega (arith, number, size));
-        few = (let few = i.is_open.1.1.few in let next : next_document 0 (ps ++ p ∷ []) ≡ document + 1 = next_document-push p 0 ps in let ascends = m.ascends in omega (arith, few, next, ascends));
-        last = sym (last_document-push p 0 ps);
-      }));
+      is_open = (
+        i.is_open.0,
+        (
+          ps ++ p ∷ [],
+          record {
+            starts = i.is_open.1.1.starts;
+            positions_starts = i.is_open.1.1.positions_starts;
+            room = (let room = i.is_open.1.1.room in omega (arith, room, body_grows));
+            positions_room = (let room = i.is_open.1.1.positions_room in omega (arith, room, positions_grow));
+            form = form_now;
+            positions_are = positions_now;
+            writable = writable-push p o.kind 0 0 ps (is_of_kind o.kind count ds m.counted m.some small m.low) m.limit m.ascends i.is_open.1.1.writable;
+            number = (let number = i.is_open.1.1.number in let size : length (ps ++ p ∷ []) ≡ length ps + 1 = length-append ps (p ∷ []) in omega (arith, number, size));
+            few = (let few = i.is_open.1.1.few in let next : next_document 0 (ps ++ p ∷ []) ≡ document + 1 = next_document-push p 0 ps in let ascends = m.ascends in omega (arith, few, next, ascends));
+            last = sym (last_document-push p 0 ps);
+          },
+        ),
+      );
     }
 
     pub occurred_view : writing field total dictionary (drop 8 (postings ++ occurrence_form o.kind (document - o.last) count)) (positions ++ flat_map varint ds) (Some (record { kind = o.kind; doc_freq = o.doc_freq + 1; last = document; postings_start = o.postings_start; positions_start = o.positions_start })) ≡ with_document document count ds (writing field total dictionary (drop 8 postings) positions (Some o))
@@ -202,7 +217,7 @@ module _ (field total : ℕ) (dictionary : Option Building) (postings positions 
 
   -- ---- the term is closed
 
-  module _ (grown : Option Building) (is : grown ≡ Some (with_info (record { doc_freq = o.doc_freq; postings_start = o.postings_start; postings_end = length postings - 8; positions_start = o.positions_start; positions_end = length positions }) i.built)) where
+  module _ (grown : Option Building) (is : grown ≡ Some (with_info (record { doc_freq = o.doc_freq; postings_start = o.postings_start; postings_end = length postings - 8; positions_start = o.positions_start; positions_end = length positions }) i.built)) (some : 0 < length i.is_open.1.0) where
     abbrev info : TermInfo
     info = record { doc_freq = o.doc_freq; postings_start = o.postings_start; postings_end = length postings - 8; positions_start = o.positions_start; positions_end = length positions }
 
@@ -235,6 +250,7 @@ module _ (field total : ℕ) (dictionary : Option Building) (postings positions 
       room = i.room;
       counted = i.counted;
       terms = i.terms ++ t ∷ [];
+      occur = occurs-push i.terms t i.occur some;
       read = terms_at-push (drop 8 postings) positions i.built.terms (key, info) i.terms t i.read one;
       within = within-push (length (drop 8 postings)) (length positions) i.built.terms (key, info) i.within (let room = i.is_open.1.1.room in let positions_room = i.is_open.1.1.positions_room in (omega (arith, room, size), omega (arith, size), positions_room, omega arith));
       is_open = (refl, ap postings_end (last_term-push None i.built.terms (key, info)) ∙ sym size, ap positions_end (last_term-push None i.built.terms (key, info)));

@@ -1,5 +1,5 @@
 -- The terms of a field as its parts grow.
-use Rattle.std.proofs.Common.{◌≡◌, ℕ, ◌≤◌, List, [], ◌∷◌, ◌++◌, length, Option, Some, None, option_map, refl, ap, sym, ◌∙◌, arith, slice_range}
+use Rattle.std.proofs.Common.{◌≡◌, ℕ, ◌<◌, ◌≤◌, List, [], ◌∷◌, ◌++◌, length, Option, Some, None, option_map, refl, ap, ◌∙◌, arith, slice_range}
 use Rattle.std.specs.Prelude.{option_and_then}
 use Rattle.std.specs.List.{AllByRecursion}
 use Rattle.std.proofs.lemmas.Option.{none-some}
@@ -40,6 +40,10 @@ within-more m n k l (t ∷ ts) mk nl within =
 pub within-push : (m n : ℕ) (ts : List Term) (t : Term) → AllByRecursion (LiesWithin m n) ts → LiesWithin m n t → AllByRecursion (LiesWithin m n) (ts ++ t ∷ [])
 within-push m n [] t within one = (one, within)
 within-push m n (x ∷ ts) t within one = (within.0, within-push m n ts t within.1 one)
+
+pub occurs-push : (ws : List TermWritten) (w : TermWritten) → AllByRecursion (λ (t : TermWritten). 0 < length t.postings) ws → 0 < length w.postings → AllByRecursion (λ (t : TermWritten). 0 < length t.postings) (ws ++ w ∷ [])
+occurs-push [] w all one = (one, all)
+occurs-push (v ∷ ws) w all one = (all.0, occurs-push ws w all.1 one)
 
 some_is : {A : Type 0} {x y : A} → Some x ≡ Some y → x ≡ y
 some_is h = cc

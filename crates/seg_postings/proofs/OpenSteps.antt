@@ -1,15 +1,15 @@
 -- The postings of a term as a document is added.
-use Rattle.std.proofs.Common.{◌≡◌, ℕ, zero, suc, ◌+◌, ◌-◌, ◌<◌, ◌≤◌, ◌^◌, List, [], ◌∷◌, ◌++◌, length, refl, ap, sym, ◌∙◌, arith}
+use Rattle.std.proofs.Common.{◌≡◌, ℕ, suc, ◌+◌, ◌-◌, ◌<◌, ◌≤◌, ◌^◌, List, [], ◌∷◌, ◌++◌, length, refl, ap, sym, ◌∙◌, arith}
 use Rattle.std.specs.List.{flat_map, sum, fold}
-use Rattle.std.proofs.lemmas.List.{append_assoc, append-nil, length-append}
+use Rattle.std.proofs.lemmas.List.{append_assoc, append-nil}
 use Rattle.seg_common.specs.Varint.{varint}
-use Rattle.seg_model.specs.Reading.{Recorded, presence, frequency, positions, Posting}
+use Rattle.seg_model.specs.Reading.{Posting}
 use Rattle.seg_postings.specs.declared.record_kind.RecordKind.{RecordKind}
 use Rattle.seg_postings.specs.declared.record_kind.RecordKind.TheVariants.{Documents, Counts, Positions}
-use Rattle.seg_postings.specs.PostingsForm.{differences, from_differences, count_form, position_form, document_form, documents_form, postings_form, positions_form}
+use Rattle.seg_postings.specs.PostingsForm.{differences, from_differences, count_form, position_form, document_form, documents_form, positions_form}
 use Rattle.seg_postings.specs.Written.{recorded_as, Rise, IsOfKind, AreWritable}
 use Rattle.seg_postings.specs.FieldWriting.{next_document, HasPositions}
-use Rattle.seg_postings.specs.FieldParts.{last_document, kept_count, occurrence_form}
+use Rattle.seg_postings.specs.FieldParts.{last_document, kept_count}
 
 -- differences of what was made from differences
 differences_of : (before : ℕ) (ds : List ℕ) → differences before (from_differences before ds) ≡ ds

@@ -1,17 +1,17 @@
 -- The bytes that postings are written as are read as these postings.
-use Rattle.std.proofs.Common.{◌≡◌, ℕ, zero, suc, ◌+◌, ◌-◌, ◌<◌, ◌≤◌, ◌^◌, List, [], ◌∷◌, ◌++◌, length, map, Option, Some, None, option_map, refl, ap, sym, ◌∙◌, arith}
+use Rattle.std.proofs.Common.{◌≡◌, ℕ, ◌+◌, ◌-◌, ◌<◌, ◌≤◌, ◌^◌, List, [], ◌∷◌, ◌++◌, length, map, Some, refl, ap, sym, ◌∙◌, arith}
 use Rattle.std.specs.Prelude.{option_and_then}
 use Rattle.std.specs.List.{flat_map}
 use Rattle.std.proofs.lemmas.List.{append_assoc}
 use Rattle.std.proofs.lemmas.Bool.{lt-ltb, le-leb}
-use Rattle.seg_common.specs.Varint.{varint, varint_at}
+use Rattle.seg_common.specs.Varint.{varint}
 use Rattle.seg_common.proofs.VarintSteps.{reads_back, u64_has_ten}
 use Rattle.seg_model.specs.Reading.{Recorded, presence, frequency, positions, Posting}
 use Rattle.seg_postings.specs.declared.record_kind.RecordKind.{RecordKind}
 use Rattle.seg_postings.specs.declared.record_kind.RecordKind.TheVariants.{Documents, Counts, Positions}
 use Rattle.seg_postings.specs.Kinds.{kind_byte, kind_of_byte}
-use Rattle.seg_postings.specs.PostingsForm.{differences, count_form, position_form, document_form, documents_form, postings_form, positions_form}
-use Rattle.seg_postings.specs.Postings.{Counted, in_bounds, number_at, count_at, counts_at, positions_at, with_positions, postings_by, TermPostings, postings_of_kind, term_postings}
+use Rattle.seg_postings.specs.PostingsForm.{differences, count_form, position_form, documents_form, postings_form, positions_form}
+use Rattle.seg_postings.specs.Postings.{Counted, in_bounds, number_at, count_at, counts_at, positions_at, with_positions, postings_by, postings_of_kind, term_postings}
 use Rattle.seg_postings.specs.Written.{Rise, IsOfKind, AreWritable}
 
 -- a number in its bounds is read back

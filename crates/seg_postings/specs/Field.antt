@@ -1,5 +1,6 @@
 -- A field in three parts: a dictionary, postings behind the total of the field's tokens, and positions.
-use Rattle.std.specs.Prelude.{◌≡◌, ℕ, ◌≤◌, List, [], ◌∷◌, length, drop, slice_range, Option, Some, None, option_map, option_and_then}
+use Rattle.std.specs.Prelude.{◌≡◌, ℕ, ◌<◌, ◌≤◌, List, [], ◌∷◌, length, drop, slice_range, Option, Some, None, option_map, option_and_then}
+use Rattle.std.specs.List.{AllByRecursion}
 use Rattle.seg_common.specs.LittleEndian.{u64_at}
 use Rattle.seg_termdict.specs.Dictionary.{Term, IsDictionary, terms_of}
 use Rattle.seg_termdict.specs.Building.{last_term, postings_end, positions_end}
@@ -16,11 +17,12 @@ unfoldable pub terms_at : List ℕ → List ℕ → List Term → Option (List T
 terms_at postings positions [] = Some []
 terms_at postings positions (t ∷ ts) = option_and_then (λ w. option_map (λ ws. w ∷ ws) (terms_at postings positions ts)) (term_at postings positions t)
 
--- the parts are those of a field with this total of tokens and these terms; each byte belongs to one
+-- the parts are those of a field with this total of tokens and these terms; each term occurs, and each byte belongs to one
 pub record IsField (dictionary postings positions : List ℕ) (total : ℕ) (terms : List TermWritten) : Type 0 where
   pub is_dictionary : IsDictionary dictionary
   pub room : 8 ≤ length postings
   pub counted : u64_at postings 0 ≡ total
   pub read : terms_at (drop 8 postings) positions (terms_of dictionary) ≡ Some terms
+  pub occur : AllByRecursion (λ t. 0 < length t.postings) terms
   pub postings_fill : postings_end (last_term None (terms_of dictionary)) ≡ length (drop 8 postings)
   pub positions_fill : positions_end (last_term None (terms_of dictionary)) ≡ length positions

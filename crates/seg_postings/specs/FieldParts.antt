@@ -1,5 +1,5 @@
 -- What is kept of a field whose postings are being written.
-use Rattle.std.specs.Prelude.{◌≡◌, ◌≢◌, ℕ, zero, suc, ◌+◌, ◌-◌, ◌<◌, ◌≤◌, ◌^◌, List, [], ◌∷◌, ◌++◌, length, drop, Option, Some, None, option_map, unwrap_or}
+use Rattle.std.specs.Prelude.{◌≡◌, ℕ, ◌<◌, ◌≤◌, List, [], ◌∷◌, ◌++◌, length, drop, Option, Some, None, option_map, unwrap_or}
 use Rattle.std.specs.List.{AllByRecursion}
 use Rattle.seg_common.specs.LittleEndian.{u64_at}
 use Rattle.seg_common.specs.Varint.{varint}
@@ -80,5 +80,6 @@ pub record AreParts (total : ℕ) (dictionary : Option Building) (postings posit
   pub counted : u64_at postings 0 ≡ total
   pub terms : List TermWritten
   pub read : terms_at (drop 8 postings) positions built.terms ≡ Some terms
+  pub occur : AllByRecursion (λ t. 0 < length t.postings) terms
   pub within : AllByRecursion (LiesWithin (length (drop 8 postings)) (length positions)) built.terms
   pub is_open : IsOpen built (drop 8 postings) positions current

@@ -6,7 +6,7 @@ use Rattle.std.specs.Cmp.Lexicographic.{slice_cmp}
 use Rattle.std.specs.declared.cmp.Ordering.TheVariants.{Less}
 use Rattle.seg_model.specs.Reading.{Posting}
 use Rattle.seg_postings.specs.declared.record_kind.RecordKind.{RecordKind}
-use Rattle.seg_postings.specs.declared.record_kind.RecordKind.TheVariants.{Documents, Counts, Positions}
+use Rattle.seg_postings.specs.declared.record_kind.RecordKind.TheVariants.{Positions}
 use Rattle.seg_postings.specs.Written.{recorded_as}
 
 -- a term with its postings, and what these keep

@@ -2,6 +2,7 @@ pub mod Field
 pub mod FieldNorms
 pub mod FieldParts
 pub mod FieldWriting
+pub mod Files
 pub mod Kinds
 pub mod Postings
 pub mod PostingsForm

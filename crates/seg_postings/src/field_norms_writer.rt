@@ -83,7 +83,11 @@ impl FieldNormsWriter {
     pub fn ids(&self, field: Field) -> Option<&[u8]>
         ensures { option_map (λ ids. ids.now) result ≡ option_and_then (λ fs. option_and_then (λ f. f) (slice_get fs field)) self.now }
     {
-        let ids = self.fields.as_ref()?.get(field.field_id() as usize)?.as_ref()?;
+        let ids = self
+            .fields
+            .as_ref()?
+            .get(field.field_id() as usize)?
+            .as_ref()?;
         Some(ids.as_slice())
     }
 }
@@ -151,11 +155,7 @@ fn record_at(
     record_in(&mut fields[field], document, length)
 }
 
-fn record_in(
-    field: &mut Option<LengthIds>,
-    document: u32,
-    length: u32,
-) -> Result<(), AllocError>
+fn record_in(field: &mut Option<LengthIds>, document: u32, length: u32) -> Result<(), AllocError>
     ensures { OnOk result (field.new ≡ option_map (with_length document length) field.old) }
 {
     match field {

@@ -14,7 +14,7 @@ use std::marker::Model;
 /// The bytes of the total, with which the postings of a field begin.
 const TOTAL_BYTES: u64 = 8;
 
-/// A dictionary, the postings behind the total of the field's tokens, and the positions, with the term that is term.
+/// A dictionary, the postings behind the total of the field's tokens, and the positions, with the term that is open.
 #[derive(Drop)]
 pub(crate) struct FieldParts {
     field: u32,
@@ -64,7 +64,17 @@ impl FieldParts {
         })
     }
 
-    pub(crate) fn new_term(mut self, bytes: &[u8], kind: RecordKind) -> Result<FieldParts, AllocError>
+    pub(crate) fn field(&self) -> u32
+        ensures { result ≡ self.now.field }
+    {
+        self.field
+    }
+
+    pub(crate) fn new_term(
+        mut self,
+        bytes: &[u8],
+        kind: RecordKind,
+    ) -> Result<FieldParts, AllocError>
         requires { MayOpen self bytes.now }
         ensures { IfOk result (λ parts. parts ≡ with_term bytes.now kind self) }
     {

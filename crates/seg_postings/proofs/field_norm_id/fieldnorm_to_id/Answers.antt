@@ -1,4 +1,4 @@
-use Rattle.std.proofs.Common.{◌≡◌, Ok, Err}
+use Rattle.std.proofs.Common.{Ok, Err}
 use Rattle.std.proofs.lemmas.List.Sorted.{searched}
 use Rattle.seg_postings.specs.declared.field_norm_id.TheConstants.{LENGTHS}
 use Rattle.seg_postings.proofs.LengthTable.{table_ascends, id_of_listed, not_first, id_below}

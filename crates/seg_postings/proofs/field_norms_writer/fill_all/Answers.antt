@@ -1,4 +1,4 @@
-use Rattle.std.proofs.Common.{◌≡◌, ◌+◌, ◌<◌, suc, length, ◌++◌, map, option_map, take, drop, slice_set, ap, sym, ◌∙◌, rules, arith}
+use Rattle.std.proofs.Common.{◌≡◌, ◌+◌, ◌<◌, suc, length, ◌++◌, map, option_map, take, drop, slice_set, ap, ◌∙◌, rules, arith}
 use Rattle.seg_postings.specs.FieldNorms.{filled}
 use Rattle.seg_postings.proofs.NormsLists.{one_more}
 use Rattle.seg_postings.proofs.field_norms_writer.fill_all.Goals as goal

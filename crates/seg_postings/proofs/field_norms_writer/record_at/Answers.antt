@@ -1,5 +1,4 @@
-use Rattle.std.proofs.Common.{rules, ◌≡◌, Option, option_map, slice_index_or}
-use Rattle.seg_postings.specs.FieldNorms.{with_length}
+use Rattle.std.proofs.Common.{rules}
 use Rattle.seg_postings.proofs.NormsLists.{set_is_at_field}
 use Rattle.seg_postings.proofs.field_norms_writer.record_at.Goals as goal
 

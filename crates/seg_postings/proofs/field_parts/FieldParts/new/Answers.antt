@@ -1,4 +1,4 @@
-use Rattle.std.proofs.Common.{◌≡◌, ◌++◌, ap, ◌∙◌, arith}
+use Rattle.std.proofs.Common.{◌++◌, ap, ◌∙◌, arith}
 use Rattle.std.specs.Int.{w64, to_le_bytes}
 use Rattle.seg_postings.proofs.FieldSteps.{fresh_parts, fresh_view}
 use Rattle.seg_postings.proofs.field_parts.FieldParts.new.Goals as goal
