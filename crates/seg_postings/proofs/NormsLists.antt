@@ -14,16 +14,3 @@ pub one_more : {A : Type 0} (change : A → A) (xs : List A) (place : ℕ) (d ch
 one_more change [] place d changed within is = absurd (omega (arith, within))
 one_more change (x ∷ xs) zero d changed within is = ap (λ y. y ∷ map change xs) is
 one_more change (x ∷ xs) (suc place) d changed within is = ap (λ ys. x ∷ ys) (one_more change xs place d changed (omega (arith, within)) is)
-
--- a field has lengths where it has ids
-pub has_ids : (self : Option (List (Option (List ℕ)))) (field doc : ℕ) (ids : List ℕ) → Some ids ≡ option_and_then (λ fs. option_and_then (λ f. f) (slice_get fs field)) self → length ids ≤ doc → IfSome self (λ fs. (ids : List ℕ) × (slice_get fs field ≡ Some (Some ids)) × (length ids ≤ doc))
-has_ids None field doc ids is few = tt
-has_ids (Some fs) field doc ids is few = at (slice_get fs field) refl is
-  where
-    some_is : {x y : List ℕ} → Some x ≡ Some y → x ≡ y
-    some_is h = cc
-
-    at : (f : Option (Option (List ℕ))) → slice_get fs field ≡ f → Some ids ≡ option_and_then (λ f. f) f → (ids : List ℕ) × (slice_get fs field ≡ Some (Some ids)) × (length ids ≤ doc)
-    at None here is = absurd (none-some ids (sym is))
-    at (Some None) here is = absurd (none-some ids (sym is))
-    at (Some (Some more)) here is = (more, here, rw (sym (some_is is)) few)

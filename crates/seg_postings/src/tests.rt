@@ -3,8 +3,7 @@ ghost use Rattle.std.specs.Prelude.{◌≡◌, true, IfOk};
 ghost use Rattle.seg_values.specs.Names.{is_allowed};
 
 use crate::{
-    FieldNormsSerializer, FieldNormsWriter, InvertedIndexSerializer, PostingsError, PostingsFiles,
-    RecordKind, fieldnorm_to_id, id_to_fieldnorm,
+    FieldNormsSerializer, FieldNormsWriter, PostingsError, fieldnorm_to_id, id_to_fieldnorm,
 };
 use seg_common::{DateTimePrecision, OwnedBytes};
 use seg_directory::CompositeFile;
@@ -108,38 +107,5 @@ fn lengths_of_fields(rt: HostRuntime) -> Result<(), Fail> {
     let ids = part(rt.alloc(), &file, 1).ok_or("a part")?;
     assert_eq!(rt; ids.as_slice(), [2, 0, 40, 0].as_slice());
     assert!(rt; part(rt.alloc(), &file, 0).is_none());
-    Ok(())
-}
-
-/// A term with positions in documents 0 and 3, one with documents alone, and one with counts.
-fn three_terms(alloc: Global) -> Result<PostingsFiles, PostingsError> {
-    let mut files = InvertedIndexSerializer::new(alloc);
-    let mut field = files.new_field(Field::from_field_id(7), 8)?;
-    field.new_term(b"a", RecordKind::Positions)?;
-    field.write_doc(0, 2, &[0, 2])?;
-    field.write_doc(3, 1, &[1])?;
-    field.close_term()?;
-    field.new_term(b"b", RecordKind::Documents)?;
-    field.write_doc(300, 1, &[])?;
-    field.close_term()?;
-    field.new_term(b"c", RecordKind::Counts)?;
-    field.write_doc(1, 4, &[])?;
-    field.close_term()?;
-    field.close(&mut files)?;
-    files.close()
-}
-
-#[test]
-fn postings_of_three_terms(rt: HostRuntime) -> Result<(), Fail> {
-    let files = three_terms(rt.alloc()).ok().ok_or("the files")?;
-    let postings = part(rt.alloc(), &files.postings, 7).ok_or("the postings")?;
-    assert_eq!(rt;
-        postings.as_slice(),
-        [8, 0, 0, 0, 0, 0, 0, 0, 2, 0, 2, 3, 1, 0, 0xac, 2, 1, 1, 4].as_slice()
-    );
-    let positions = part(rt.alloc(), &files.positions, 7).ok_or("the positions")?;
-    assert_eq!(rt; positions.as_slice(), [0, 2, 1].as_slice());
-    let terms = part(rt.alloc(), &files.terms, 7).ok_or("the terms")?;
-    assert_eq!(rt; terms.len(), 48 + 3 * 29);
     Ok(())
 }
