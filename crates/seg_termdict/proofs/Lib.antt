@@ -1,4 +1,4 @@
-mod Appended
+pub mod Appended
 mod Assembled
 mod Growth
 mod InfoLemmas

@@ -1,0 +1,7 @@
+mod FieldGoals
+mod FieldSteps
+mod FieldTerms
+mod LengthTable
+mod NormsLists
+mod OpenSteps
+mod PostingsBack

@@ -1,0 +1,111 @@
+//! Runs of each public call, with ample memory, and vectors of bytes.
+ghost use Rattle.std.specs.Prelude.{◌≡◌, true, IfOk};
+ghost use Rattle.seg_values.specs.Names.{is_allowed};
+
+use crate::{
+    FieldNormsSerializer, FieldNormsWriter, PostingsError, fieldnorm_to_id, id_to_fieldnorm,
+};
+use seg_common::{DateTimePrecision, OwnedBytes};
+use seg_directory::CompositeFile;
+use seg_values::{Field, FieldEntry, FieldKind, IndexOption, Schema, SchemaBuilder, TResult, Text};
+use std::alloc::{AllocError, Global};
+use std::test::Fail;
+
+/// Lengths, with the id of each and what that stands for.
+const LENGTHS: &[(u32, u8, u32)] = &[
+    (0, 0, 0),
+    (23, 23, 23),
+    (39, 39, 39),
+    (40, 40, 40),
+    (41, 40, 40),
+    (42, 41, 42),
+    (43, 41, 42),
+    (2_013_265_943, 254, 1_879_048_216),
+    (u32::MAX, 255, 2_013_265_944),
+];
+
+#[test]
+fn lengths_in_one_byte(rt: HostRuntime) -> Result<(), Fail> {
+    for (length, id, shorter) in LENGTHS {
+        assert_eq!(rt; fieldnorm_to_id(*length), *id);
+        assert_eq!(rt; id_to_fieldnorm(*id), *shorter);
+    }
+    Ok(())
+}
+
+fn entry(alloc: Global, name: &str, norms: bool) -> Result<FieldEntry, AllocError>
+    ensures { IfOk result (λ e. is_allowed e.kind e.index ≡ true) }
+{
+    Ok(FieldEntry {
+        name: Text::copy_of(alloc, name)?,
+        kind: FieldKind::Text,
+        stored: false,
+        index: IndexOption::Basic,
+        tokenizer: None,
+        norms,
+        fast: false,
+        fast_tokenizer: None,
+        precision: DateTimePrecision::Seconds,
+        expand_dots: false,
+    })
+}
+
+/// A field without lengths, and one with.
+fn two_fields(alloc: Global) -> TResult<Schema> {
+    let tag = entry(alloc, "tag", false)?;
+    let body = entry(alloc, "body", true)?;
+    let mut fields = SchemaBuilder::new(alloc);
+    fields.add_field(tag)?;
+    fields.add_field(body)?;
+    Ok(fields.build())
+}
+
+/// Records a length where the field has lengths, and the document has none yet.
+fn record(
+    lengths: &mut FieldNormsWriter,
+    doc: u32,
+    field: Field,
+    length: u32,
+) -> Result<(), PostingsError> {
+    let Some(ids) = lengths.ids(field) else {
+        return Ok(());
+    };
+    if ids.len() > doc as usize {
+        return Ok(());
+    }
+    lengths.record(doc, field, length)
+}
+
+/// The file of the lengths 2 of document 0 and 41 of document 2, of four documents.
+fn file_of_lengths(alloc: Global, schema: &Schema) -> Result<Vec<u8>, PostingsError> {
+    let body = Field::from_field_id(1);
+    let mut lengths = FieldNormsWriter::for_schema(alloc, schema)?;
+    record(&mut lengths, 0, body, 2)?;
+    record(&mut lengths, 2, body, 41)?;
+    lengths.fill_up_to_max_doc(4)?;
+    let mut file = FieldNormsSerializer::new(alloc);
+    if let Some(ids) = lengths.ids(body) {
+        file.serialize_field(body, ids)?;
+    }
+    file.close()
+}
+
+fn part(alloc: Global, file: &[u8], field: u32) -> Option<OwnedBytes> {
+    let bytes = OwnedBytes::new(alloc, file).ok()?;
+    let file = CompositeFile::open(bytes).ok()?;
+    file.open_read(Field::from_field_id(field))
+}
+
+#[test]
+fn lengths_of_fields(rt: HostRuntime) -> Result<(), Fail> {
+    let schema = two_fields(rt.alloc()).ok().ok_or("a schema")?;
+    let fields = FieldNormsWriter::fields_with_fieldnorm(rt.alloc(), &schema)
+        .ok()
+        .ok_or("its fields")?;
+    assert_eq!(rt; fields.as_slice(), [Field::from_field_id(1)].as_slice());
+    let file = file_of_lengths(rt.alloc(), &schema).ok().ok_or("a file")?;
+    let ids = part(rt.alloc(), &file, 1).ok_or("a part")?;
+    assert_eq!(rt; ids.as_slice(), [2, 0, 40, 0].as_slice());
+    assert!(rt; part(rt.alloc(), &file, 0).is_none());
+    Ok(())
+}
