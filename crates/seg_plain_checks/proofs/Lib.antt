@@ -2,9 +2,11 @@ pub mod Cutting
 pub mod Deep
 pub mod Falling
 pub mod FirstRefusals
+pub mod Images
 pub mod InOrder
 pub mod JsonTrees
 pub mod KnownEach
+pub mod MergedTables
 pub mod Places
 pub mod Reversed
 pub mod Rising

@@ -7,17 +7,20 @@
 //! check of a document: `refusal`; `takes` (the first pass), `json_check` (the second), `counted`, `texts` and
 //! `position_check` (the third), `limits` (the fourth), and `document`. The check of an input: `index_input`, `part` and
 //! `input_check`; with its documents and columns: `build_check`. The estimate of tokens after a merge: `token_estimate`.
-//! Ordinals and ranges of terms: `term_list`.
+//! Ordinals and ranges of terms: `term_list`; the terms of segments merged: `merged`. What a crash may leave of a disk:
+//! `image`.
 #![tactic(auto)]
 
 mod build_check;
 mod counted;
 mod document;
 mod entry;
+mod image;
 mod index_input;
 mod input_check;
 mod json_check;
 mod limits;
+mod merged;
 mod pair;
 mod part;
 mod path;
@@ -33,8 +36,10 @@ mod token_estimate;
 
 pub use build_check::{BuildRefusal, build_refusal};
 pub use document::document_refusal;
+pub use image::{Disk, PendingChange, StoredFile, Written, is_image};
 pub use index_input::{Compression, Input, Settings};
 pub use input_check::{InputRefusal, input_refusal};
+pub use merged::{MergedTerm, Standing, merged_terms};
 pub use refusal::Refusal;
 pub use stored_bytes::stored_form;
 pub use term_list::{RankedTerm, TermEntry, TermRange, streamed, term_ord};

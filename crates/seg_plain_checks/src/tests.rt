@@ -3,7 +3,7 @@ ghost use Rattle.std.specs.Prelude.{◌≡◌, true, IfOk};
 ghost use Rattle.seg_values.specs.Names.{is_allowed};
 
 use super::*;
-use seg_common::{DateTimePrecision, SegmentId, TermInfo};
+use seg_common::{DateTimePrecision, FileName, SegmentId, TermInfo};
 use seg_plain::Operation;
 use seg_values::{
     Analyzers, Bytes, DefaultTokenizer, Field, FieldEntry, FieldKind, IndexOption, Members,
@@ -195,6 +195,49 @@ fn ranges(rt: HostRuntime) -> Result<(), Fail> {
     assert_eq!(rt; found.len(), 2);
     assert_eq!(rt; found[0].ord, 2);
     assert_eq!(rt; found[1].ord, 1);
+    Ok(())
+}
+
+#[test]
+fn merging(rt: HostRuntime) -> Result<(), Fail> {
+    let alloc = rt.alloc();
+    let first = vec![in alloc; term(alloc, b"b")?]?;
+    let second = vec![in alloc; term(alloc, b"a")?, term(alloc, b"b")?]?;
+    let mut segments = Vec::new(alloc);
+    segments.push(first)?;
+    segments.push(second)?;
+    let found = merged_terms(alloc, &segments)?;
+    assert_eq!(rt; found.len(), 2);
+    assert!(rt; found[0].key.as_slice() == b"a".as_slice());
+    assert_eq!(rt; found[1].standings.len(), 2);
+    let last = found[1].standings[1];
+    assert_eq!(rt; last.segment, 1);
+    assert_eq!(rt; last.ord, 1);
+    Ok(())
+}
+
+/// The meta of an index with one byte.
+fn meta(alloc: Global, byte: u8) -> Result<Vec<StoredFile>, AllocError> {
+    let bytes = Bytes::from_vec(Vec::from_slice(alloc, &[byte])?);
+    let name = FileName::Meta;
+    let mut files = Vec::new(alloc);
+    files.push(StoredFile { name, bytes })?;
+    Ok(files)
+}
+
+#[test]
+fn images(rt: HostRuntime) -> Result<(), Fail> {
+    let alloc = rt.alloc();
+    let written = Written::Exactly(Bytes::from_vec(Vec::from_slice(alloc, b"2")?));
+    let name = FileName::Meta;
+    let mut pending = Vec::new(alloc);
+    pending.push(PendingChange { name, written })?;
+    let stable = meta(alloc, b'1')?;
+    let disk = Disk { stable, pending };
+    assert!(rt; is_image(&disk, &meta(alloc, b'1')?));
+    assert!(rt; is_image(&disk, &meta(alloc, b'2')?));
+    assert!(rt; !is_image(&disk, &meta(alloc, b'3')?));
+    assert!(rt; !is_image(&disk, &[]));
     Ok(())
 }
 
