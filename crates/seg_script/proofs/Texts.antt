@@ -1,5 +1,5 @@
 -- Every script holds stored texts, analyzed by `default`.
-use Rattle.std.proofs.Common.{◌≡◌, ℕ, ◌-◌, ◌^◌, List, [], ◌∷◌, length, Bool, true, false, ◌&&◌, cond, None, Some, option_map, nat_lt, refl, sym, ap, subst}
+use Rattle.std.proofs.Common.{◌≡◌, ℕ, ◌-◌, ◌^◌, List, [], ◌∷◌, length, Bool, true, false, not, ◌&&◌, cond, None, Some, option_map, nat_lt, refl, sym, ap, subst}
 use Rattle.std.specs.Prelude.{codes}
 use Rattle.std.specs.List.{list_all, AllByRecursion}
 use Rattle.std.specs.Str.{bytes_eq}
@@ -48,6 +48,7 @@ record IsTextEntry (e : FieldEntry) : Type 0 where
   stored : e.stored ≡ true
   index : e.index ≡ index.Positions
   tokenizer : e.tokenizer ≡ Some (codes "default")
+  no_column : e.fast ≡ false
 
 entry-text : (d : Data) (e : FieldEntry) → entry_from d ≡ Some e → IsTextEntry e
 entry-text d e h =
@@ -66,6 +67,7 @@ entry-text d e h =
       stored = is_stored;
       index = sym (required-one (codes "positions") index.Positions (codes "index") d index_read.0 index_read.1.0);
       tokenizer = ap Some is_default;
+      no_column = refl;
     })
 
 is_built-text : (e : FieldEntry) → IsTextEntry e → is_built_entry e ≡ true
@@ -73,6 +75,9 @@ is_built-text e h = rw (h.kind, h.stored, h.index)
 
 tokenizer-text : (e : FieldEntry) → IsTextEntry e → indexing_tokenizer e ≡ codes "default"
 tokenizer-text e h = rw (h.kind, h.index, h.tokenizer)
+
+no_column-text : (e : FieldEntry) → IsTextEntry e → not e.fast ≡ true
+no_column-text e h = rw (h.no_column)
 
 -- ---- the operations
 
@@ -138,19 +143,30 @@ additions-text schema (delete_all terms ∷ os) h = absurd h.0
 
 -- ---- the script
 
-schema-text : (d : Data) (schema : List FieldEntry) → schema_from d ≡ Some schema → AllByRecursion IsTextEntry schema
+-- text fields with distinct names, fewer than a meta can say
+record IsTextSchema (schema : List FieldEntry) : Type 0 where
+  texts : AllByRecursion IsTextEntry schema
+  names : are_distinct schema ≡ true
+  few : nat_lt (length schema) (2 ^ 32 - 1) ≡ true
+
+schema-text : (d : Data) (schema : List FieldEntry) → schema_from d ≡ Some schema → IsTextSchema schema
 schema-text d schema h =
     let entries = given-some (list_of entry_from d) _ schema h in
     let distinct = provided-some (are_distinct entries.0 && nat_lt (length entries.0) (2 ^ 32 - 1)) _ schema entries.1.1 in
-    subst (AllByRecursion IsTextEntry) (some_same entries.0 schema distinct.1) (all-list_of entry_from IsTextEntry entry-text d entries.0 entries.1.0)
+    let parts = both_true (are_distinct entries.0) (nat_lt (length entries.0) (2 ^ 32 - 1)) distinct.0 in
+    subst IsTextSchema (some_same entries.0 schema distinct.1) (record { texts = all-list_of entry_from IsTextEntry entry-text d entries.0 entries.1.0; names = parts.0; few = parts.1 })
 
 texts-held : (d : Data) (schema : List FieldEntry) (operations : List Operation) → required schema_from (codes "schema") d ≡ Some schema
     → required (list_of (operation_from schema)) (codes "operations") d ≡ Some operations → HoldsTexts (record { schema = schema; operations = operations })
 texts-held d schema operations h k =
     let fields = given-some (get (codes "schema") d) schema_from schema h in
     let items = given-some (get (codes "operations") d) (list_of (operation_from schema)) operations k in
-    let texts : AllByRecursion IsTextEntry schema = schema-text fields.0 schema fields.1.1 in
+    let is : IsTextSchema schema = schema-text fields.0 schema fields.1.1 in
+    let texts = is.texts in
     record {
+      no_columns = list_all-true (λ (e : FieldEntry). not e.fast) schema (all-weaker IsTextEntry (λ e. not e.fast ≡ true) no_column-text schema texts);
+      names = is.names;
+      few = is.few;
       entries = list_all-true is_built_entry schema (all-weaker IsTextEntry (λ e. is_built_entry e ≡ true) is_built-text schema texts);
       documents = additions-text schema operations (all-list_of (operation_from schema) (AddsTexts schema) (operation-text schema) items.0 operations items.1.1);
       tokenizers = all-weaker IsTextEntry (λ e. indexing_tokenizer e ≡ codes "default") tokenizer-text schema texts;
