@@ -51,7 +51,7 @@ pub is_on-text : (e : FieldEntry) → IsTextEntry e → is_on e.index ≡ true
 is_on-text e built = ap is_on built.index
 
 -- the positions of a text
-positions_refusal-text : (analyzer : Analyzer) (t : Tree) (e : FieldEntry) → IsTextEntry e → positions_refusal analyzer t (Some e) ≡ unless (is_rising (counted (value_tokens (analyzer (indexing_tokenizer e)) t)) && true) positions_fall
+pub positions_refusal-text : (analyzer : Analyzer) (t : Tree) (e : FieldEntry) → IsTextEntry e → positions_refusal analyzer t (Some e) ≡ unless (is_rising (counted (value_tokens (analyzer (indexing_tokenizer e)) t)) && true) positions_fall
 positions_refusal-text analyzer t e built =
     ap (λ b. cond b (unless (list_all (λ tokens. is_rising (counted tokens)) (value_texts e.kind (analyzer (indexing_tokenizer e)) t)) positions_fall) None) (is_on-text e built)
     ∙ ap (λ k. unless (list_all (λ tokens. is_rising (counted tokens)) (value_texts k (analyzer (indexing_tokenizer e)) t)) positions_fall) built.kind

@@ -76,7 +76,7 @@ if_any-append [] n p (x ∷ ps) = refl
 
 module _ (e : FieldEntry) (built : IsTextEntry e) where
   -- a text term records its positions
-  term_option-text : (q : List ℕ) → term_option e q ≡ Positions
+  pub term_option-text : (q : List ℕ) → term_option e q ≡ Positions
   term_option-text q = ap (λ k. cond (is_text k || (is_json k && nat_eq (type_code q) 115)) e.index Basic) built.kind ∙ built.index
 
   postings_of-push : (q : List ℕ) (ds : List (List Occurrence)) (os : List Occurrence) → postings_of e q (ds ++ os ∷ []) ≡ postings_of e q ds ++ told (length ds) (positions_of q os)

@@ -40,7 +40,7 @@ module _ (schema : Schema) (analyzer : Analyzer) where
   length-with_documents first fields (d ∷ ds) = length-with_documents (first + 1) (with_pairs schema analyzer first fields d) ds ∙ length-with_pairs first fields d
 
 module _ (schema : Schema) (analyzer : Analyzer) (entries : list_all is_built_entry schema ≡ true) where
-  occurrences-text : (k : ℕ) (e : FieldEntry) (ps : Document) → slice_get schema k ≡ Some e → IsTextEntry e → occurrences schema analyzer ps k ≡ text_occurrences 0 (texts_of analyzer e k ps)
+  pub occurrences-text : (k : ℕ) (e : FieldEntry) (ps : Document) → slice_get schema k ≡ Some e → IsTextEntry e → occurrences schema analyzer ps k ≡ text_occurrences 0 (texts_of analyzer e k ps)
   occurrences-text k e ps at built =
       ap (occurrences_at analyzer ps k) at
       ∙ ap (λ b. cond b (kind_occurrences e.kind e.expand_dots (analyzer (indexing_tokenizer e)) (values_of k ps)) []) (is_on-text e built)
@@ -50,14 +50,14 @@ module _ (schema : Schema) (analyzer : Analyzer) (entries : list_all is_built_en
   fresh_next id field le = record { start = grind (arith, nat_tests); count = grind (arith, nat_tests) }
 
   -- a field of the schema has the terms of some documents, and is at the beginning of the next
-  record HasTerms (before : List Document) (fields : List FieldPostings) (k : ℕ) (e : FieldEntry) : Type 0 where
-    field : FieldPostings
-    at : slice_get fields k ≡ Some field
-    terms : field.terms ≡ terms_of e (map (λ d. occurrences schema analyzer d k) before)
-    new : IsFresh schema analyzer entries (length before) field
-    past : field.document ≤ length before
+  pub record HasTerms (before : List Document) (fields : List FieldPostings) (k : ℕ) (e : FieldEntry) : Type 0 where
+    pub field : FieldPostings
+    pub at : slice_get fields k ≡ Some field
+    pub terms : field.terms ≡ terms_of e (map (λ d. occurrences schema analyzer d k) before)
+    pub new : IsFresh schema analyzer entries (length before) field
+    pub past : field.document ≤ length before
 
-  abbrev AllHaveTerms : List Document → List FieldPostings → Type 0
+  abbrev pub AllHaveTerms : List Document → List FieldPostings → Type 0
   AllHaveTerms before fields = (k : ℕ) (e : FieldEntry) → slice_get schema k ≡ Some e → HasTerms before fields k e
 
   -- one more document
@@ -86,7 +86,7 @@ module _ (schema : Schema) (analyzer : Analyzer) (entries : list_all is_built_en
         past = omega (arith, past, next);
       }
 
-  all_more : (before : List Document) (fields : List FieldPostings) (ds : List Document) → AllHaveTerms before fields → AllHaveTerms (before ++ ds) (with_documents schema analyzer (length before) fields ds)
+  pub all_more : (before : List Document) (fields : List FieldPostings) (ds : List Document) → AllHaveTerms before fields → AllHaveTerms (before ++ ds) (with_documents schema analyzer (length before) fields ds)
   all_more before fields [] all = subst (λ l. AllHaveTerms l fields) (sym (append-nil before)) all
   all_more before fields (d ∷ ds) all =
       let next : length (before ++ d ∷ []) ≡ length before + 1 = length-append before (d ∷ []) in
@@ -104,7 +104,7 @@ module _ (schema : Schema) (analyzer : Analyzer) (entries : list_all is_built_en
       ∙ ap (λ b. document_fits schema analyzer (length before) fields d && b) (all_fit (before ++ d ∷ []) fields' ds (one_more before fields d all))
       ∙ ap (λ b. b && list_all (λ d. is_built_document schema d && is_taken schema analyzer d) ds) (document_fits-taken schema analyzer (length before) entries fields (λ k e at_e. let has = all k e at_e in record { field = has.field; at = has.at; new = has.new }) d)
 
-  all_fresh : AllHaveTerms [] (map (λ _. fresh) schema)
+  pub all_fresh : AllHaveTerms [] (map (λ _. fresh) schema)
   all_fresh k e at_e = record {
     field = fresh;
     at = slice_get-map (λ (x : FieldEntry). fresh) schema k ∙ ap (option_map (λ (x : FieldEntry). fresh)) at_e;

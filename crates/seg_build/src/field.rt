@@ -67,7 +67,7 @@ impl FieldPostings {
     }
 
     /// How many tokens of a document gave terms so far.
-    fn count_in(&self, document: u32) -> u32
+    pub fn count_in(&self, document: u32) -> u32
         ensures { result ≡ count_in document self.now }
     {
         if self.document == document {

@@ -5,12 +5,17 @@ ghost use Rattle.std.specs.List.{list_all, slice_get, AllByRecursion};
 ghost use Rattle.seg_model.specs.Built.{is_built_entry, are_built};
 ghost use Rattle.seg_model.specs.Fields.{indexing_tokenizer};
 ghost use Rattle.seg_model.specs.Reading.{all_terms};
+ghost use Rattle.seg_postings.specs.FieldNorms.{no_norms};
+ghost use Rattle.seg_build.specs.Batch.{IsBatchOf, kept_norms};
 ghost use Rattle.seg_build.specs.Steps.{fresh, with_documents, documents_fit};
+ghost use Rattle.seg_build.specs.Writable.{CanBeWritten};
 
 use crate::document::add_document;
 use crate::error::IndexError;
 use crate::field::FieldPostings;
+use crate::lengths::record_lengths;
 use crate::sorted::{SortedTerms, sort_terms};
+use seg_postings::FieldNormsWriter;
 use seg_values::{
     Analyzers, Documents, FieldEntry, FieldKind, IndexOption, Schema, TantivyDocument,
 };
@@ -33,6 +38,11 @@ impl Model for IndexedFields {
     ghost coded = { coded_list entries_code };
 
     ghost view = { λ a. a.fields.items };
+
+    ghost use Rattle.std.specs.List.{AllByRecursion};
+    ghost use Rattle.seg_build.specs.Writable.{CanBeWritten};
+
+    ghost invariant = { λ a. AllByRecursion CanBeWritten a.fields.items };
 }
 
 impl IndexedFields {
@@ -49,6 +59,22 @@ impl IndexedFields {
     {
         &self.fields[field]
     }
+
+    /// The terms of a field, as they can be written.
+    pub(crate) fn writable_terms(&self, field: usize) -> &SortedTerms
+        requires { field < length self.now }
+        ensures at { slice_get self.now field ≡ Some result.now }
+        ensures writable { CanBeWritten result.now }
+    {
+        &self.fields[field]
+    }
+}
+
+/// Documents as they are indexed: the terms of each field, and the lengths of those fields that have lengths.
+#[derive(Drop)]
+pub struct IndexedBatch {
+    pub fields: IndexedFields,
+    pub norms: FieldNormsWriter,
 }
 
 /// The most documents that are indexed at once.
@@ -61,28 +87,40 @@ pub fn index_documents<Z: Analyzers>(
     analyzers: &Z,
     schema: &Schema,
     documents: &Documents,
-) -> Result<IndexedFields, IndexError>
+) -> Result<IndexedBatch, IndexError>
     requires known { AllByRecursion (λ e. Z.knows analyzers.now (indexing_tokenizer e)) schema.now }
+    ensures few { OnOk result (length documents.now < 2 ^ 31) }
     ensures built { OnOk result (are_built schema.now (Z.tokens_of analyzers.now) documents.now ≡ true) }
-    ensures terms { IfOk result (λ fields. fields ≡ map entries (all_terms schema.now (Z.tokens_of analyzers.now) documents.now)) }
+    ensures batch { IfOk result (λ batch. IsBatchOf schema.now (Z.tokens_of analyzers.now) documents.now batch) }
     ensures later { result ≡ Err IndexError.Later → are_built schema.now (Z.tokens_of analyzers.now) documents.now ≡ false }
 {
-    match index_slices(alloc, analyzers, schema.fields(), documents.as_slice()) {
-        Ok(fields) => Ok(IndexedFields { fields }),
+    let Ok(mut norms) = FieldNormsWriter::for_schema(alloc, schema) else {
+        return Err(IndexError::OutOfMemory);
+    };
+    let entries = schema.fields();
+    match index_slices(alloc, analyzers, entries, documents.as_slice(), &mut norms) {
+        Ok(fields) => Ok(IndexedBatch {
+            fields: IndexedFields { fields },
+            norms,
+        }),
         Err(e) => Err(e),
     }
 }
 
-/// Indexes documents, for the entries of a schema.
+/// Indexes documents, for the entries of a schema, and records the lengths of their fields.
 fn index_slices<Z: Analyzers>(
     alloc: Global,
     analyzers: &Z,
     schema: &[FieldEntry],
     documents: &[TantivyDocument],
+    norms: &mut FieldNormsWriter,
 ) -> Result<Vec<SortedTerms>, IndexError>
     requires known { AllByRecursion (λ e. Z.knows analyzers.now (indexing_tokenizer e)) schema.now }
+    requires unused { norms.old ≡ Some (no_norms schema.now) }
+    ensures few { OnOk result (length documents.now < 2 ^ 31) }
     ensures built { OnOk result (are_built schema.now (Z.tokens_of analyzers.now) documents.now ≡ true) }
     ensures terms { IfOk result (λ fields. fields.items ≡ map entries (all_terms schema.now (Z.tokens_of analyzers.now) documents.now)) }
+    ensures lengths { OnOk result (norms.new ≡ Some (kept_norms schema.now (Z.tokens_of analyzers.now) documents.now)) }
     ensures later { result ≡ Err IndexError.Later → are_built schema.now (Z.tokens_of analyzers.now) documents.now ≡ false }
 {
     if !are_all_built(schema) {
@@ -92,7 +130,7 @@ fn index_slices<Z: Analyzers>(
         return Err(IndexError::OutOfMemory);
     }
     let mut fields = new_fields(alloc, schema)?;
-    add_documents(alloc, analyzers, schema, documents, &mut fields)?;
+    add_documents(alloc, analyzers, schema, documents, &mut fields, norms)?;
     let sorted = sort_fields(alloc, fields)?;
     Ok(sorted)
 }
@@ -118,25 +156,29 @@ fn new_fields(alloc: Global, schema: &[FieldEntry]) -> Result<Vec<FieldPostings>
         .collect(alloc)
 }
 
-/// Adds documents, of which the first has the id 0.
+/// Adds documents to fields that have none yet, and records the lengths of their fields. The first has the id 0.
 fn add_documents<Z: Analyzers>(
     alloc: Global,
     analyzers: &Z,
     schema: &[FieldEntry],
     documents: &[TantivyDocument],
     fields: &mut [FieldPostings],
+    norms: &mut FieldNormsWriter,
 ) -> Result<(), IndexError>
     requires known { AllByRecursion (λ e. Z.knows analyzers.now (indexing_tokenizer e)) schema.now }
     requires entries { list_all is_built_entry schema.now ≡ true }
     requires few { length documents.now < 2 ^ 31 }
-    requires as_many { length fields.old ≡ length schema.now }
+    requires fresh { fields.old ≡ map (λ _. fresh) schema.now }
+    requires unused { norms.old ≡ Some (no_norms schema.now) }
     ensures fits { OnOk result (documents_fit schema.now (Z.tokens_of analyzers.now) 0 fields.old documents.now ≡ true) }
     ensures added { OnOk result (fields.new ≡ with_documents schema.now (Z.tokens_of analyzers.now) 0 fields.old documents.now) }
+    ensures lengths { OnOk result (norms.new ≡ Some (kept_norms schema.now (Z.tokens_of analyzers.now) documents.now)) }
     ensures later { result ≡ Err IndexError.Later → documents_fit schema.now (Z.tokens_of analyzers.now) 0 fields.old documents.now ≡ false }
 {
     let mut id = 0;
     for document in documents {
         add_document(alloc, analyzers, schema, id, document, fields)?;
+        record_lengths(id, fields, norms)?;
         id += 1;
     }
     Ok(())

@@ -1,4 +1,4 @@
-//! Indexes documents of texts in memory.
+//! Indexes documents of texts in memory, and writes them as the six files of a segment.
 //!
 //! A schema of text fields and documents of texts become the terms of each field, in byte order, each with its
 //! postings; contracts see them as a list for each field, of value bytes with postings. While documents come, a field
@@ -6,7 +6,10 @@
 //!
 //! To be read in this order: `hits` and `runs` (the occurrences of a term, which make its postings), `terms` (a field's
 //! hash table), `sorted` (its terms in byte order), `tokens`, `field`, `stored` and `document` (what one more text, and one
-//! more document, adds, and when it is refused), `fields` (all documents).
+//! more document, adds, and when it is refused), `lengths` (the field norms of a document), `fields` (all documents);
+//! `writing` (the terms of a field, into a `FieldSerializer`), `terms_files`, `norms_file` and `store_file` (the bytes of
+//! each file), `segment_bytes` (of all six), `new_files` and `segment_files` (files are made), `utf8`, `segment` (the whole
+//! segment); `laws` (terms that were indexed can be written, and files hold one contents at most).
 #![tactic(auto)]
 
 mod document;
@@ -14,16 +17,32 @@ mod error;
 mod field;
 mod fields;
 mod hits;
+mod laws;
+mod lengths;
+mod new_files;
+mod norms_file;
 mod runs;
+mod segment;
+mod segment_bytes;
+mod segment_files;
+#[cfg(test)]
+mod segment_files_tests;
 mod sorted;
+mod store_file;
 mod stored;
 mod terms;
+mod terms_files;
 #[cfg(test)]
 mod tests;
 mod tokens;
+mod utf8;
+mod writing;
 
 pub use error::IndexError;
-pub use fields::{IndexedFields, index_documents};
+pub use fields::{IndexedBatch, IndexedFields, index_documents};
 pub use hits::Hit;
+pub use laws::{built_terms_can_be_written, files_hold_one_contents};
 pub use runs::first_run;
+pub use segment::write_segment;
 pub use sorted::SortedTerms;
+pub use writing::{write_field, write_terms};

@@ -1,9 +1,10 @@
 //! Terms in byte order.
-ghost use Rattle.std.specs.Prelude.{◌≡◌, ◌<◌, length, Some, IfOk};
+ghost use Rattle.std.specs.Prelude.{◌≡◌, ◌<◌, ◌≤◌, ◌^◌, length, Some, None, IfOk, IfSome};
 ghost use Rattle.std.specs.FinMap.{entries};
 ghost use Rattle.std.specs.List.{slice_get};
 ghost use Rattle.std.specs.Map.{keys_of, values_of};
 ghost use Rattle.seg_build.specs.Grouped.{grouped};
+ghost use Rattle.seg_build.specs.TokenTotal.{token_total};
 
 use crate::hits::{Hit, Hits};
 use crate::terms::TermIndex;
@@ -58,6 +59,18 @@ impl SortedTerms {
     {
         let pair = &self.terms[index];
         pair.1.as_slice()
+    }
+
+    /// How many tokens gave these terms: how often they occur in all. None where that is no u64.
+    pub fn total_num_tokens(&self) -> Option<u64>
+        ensures total { IfSome result (λ n. n ≡ token_total self.now) }
+        ensures none { result ≡ None → 2 ^ 64 ≤ token_total self.now }
+    {
+        let mut total: u64 = 0;
+        for at in 0..self.len() {
+            total = total.checked_add(self.hits_at(at).len() as u64)?;
+        }
+        Some(total)
     }
 }
 

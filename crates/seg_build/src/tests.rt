@@ -3,7 +3,9 @@ ghost use Rattle.std.specs.Prelude.{◌≡◌, true, IfOk};
 ghost use Rattle.seg_values.specs.Names.{is_allowed};
 
 use super::*;
-use seg_common::DateTimePrecision;
+use seg_common::{DateTimePrecision, OwnedBytes};
+use seg_directory::CompositeFile;
+use seg_postings::{InvertedIndexSerializer, PostingsError, PostingsFiles};
 use seg_values::{
     Analyzers, Documents, Field, FieldEntry, FieldKind, IndexOption, OwnedValue, Schema,
     SchemaBuilder, TantivyDocument, Text, Token, Tokens,
@@ -48,7 +50,7 @@ impl Analyzers for Repeats<'_> {
     }
 }
 
-fn text_entry(alloc: Global, name: &str) -> Result<FieldEntry, AllocError>
+fn text_entry(alloc: Global, name: &str, norms: bool) -> Result<FieldEntry, AllocError>
     ensures { IfOk result (λ e. is_allowed e.kind e.index ≡ true) }
 {
     Ok(FieldEntry {
@@ -57,7 +59,7 @@ fn text_entry(alloc: Global, name: &str) -> Result<FieldEntry, AllocError>
         stored: true,
         index: IndexOption::Positions,
         tokenizer: None,
-        norms: false,
+        norms,
         fast: false,
         fast_tokenizer: None,
         precision: DateTimePrecision::Seconds,
@@ -65,9 +67,10 @@ fn text_entry(alloc: Global, name: &str) -> Result<FieldEntry, AllocError>
     })
 }
 
+/// A field that has lengths, and one that has none.
 fn title_and_body(alloc: Global) -> Result<Schema, AllocError> {
-    let title = text_entry(alloc, "title")?;
-    let body = text_entry(alloc, "body")?;
+    let title = text_entry(alloc, "title", true)?;
+    let body = text_entry(alloc, "body", false)?;
     let mut builder = SchemaBuilder::new(alloc);
     if builder.add_field(title).is_ok() {
         let _ = builder.add_field(body).is_ok();
@@ -94,7 +97,7 @@ fn index(
     schema: &Schema,
     positions: &[u32],
     documents: &Documents,
-) -> Result<IndexedFields, IndexError> {
+) -> Result<IndexedBatch, IndexError> {
     index_documents(alloc, &Repeats { positions }, schema, documents)
 }
 
@@ -130,15 +133,18 @@ fn terms_have_their_postings(rt: HostRuntime) -> Result<(), Fail> {
     let alloc = rt.alloc();
     let schema = title_and_body(alloc)?;
     let titles = documents_of(alloc, &[&[(0, "a"), (0, "c")]])?;
-    let fields = index(alloc, &schema, &[0, 1], &titles)?;
-    assert_eq!(rt; shown(alloc, &fields)?.as_str(), "[a2 0@0 0@1c2 0@3 0@4][]");
+    let batch = index(alloc, &schema, &[0, 1], &titles)?;
+    assert_eq!(rt;
+        shown(alloc, &batch.fields)?.as_str(),
+        "[a2 0@0 0@1c2 0@3 0@4][]"
+    );
     let mixed = documents_of(
         alloc,
         &[&[(1, "b"), (0, "a")], &[(0, "a"), (1, "a"), (0, "a")]],
     )?;
-    let fields = index(alloc, &schema, &[0], &mixed)?;
+    let batch = index(alloc, &schema, &[0], &mixed)?;
     assert_eq!(rt;
-        shown(alloc, &fields)?.as_str(),
+        shown(alloc, &batch.fields)?.as_str(),
         "[a1 0@0 1@0 1@2][a1 1@0b1 0@0]"
     );
     Ok(())
@@ -154,13 +160,13 @@ fn long_tokens_give_no_terms(rt: HostRuntime) -> Result<(), Fail> {
     }
     let kept = documents_of(alloc, &[&[(0, longest.as_str())]])?;
     assert_eq!(rt;
-        shown(alloc, &index(alloc, &schema, &[0], &kept)?)?.as_str(),
+        shown(alloc, &index(alloc, &schema, &[0], &kept)?.fields)?.as_str(),
         "[a1 0@0][]"
     );
     longest.push('a')?;
     let left_out = documents_of(alloc, &[&[(0, longest.as_str()), (0, "b")]])?;
     assert_eq!(rt;
-        shown(alloc, &index(alloc, &schema, &[0], &left_out)?)?.as_str(),
+        shown(alloc, &index(alloc, &schema, &[0], &left_out)?.fields)?.as_str(),
         "[b1 0@1][]"
     );
     Ok(())
@@ -190,5 +196,53 @@ fn other_documents_are_refused(rt: HostRuntime) -> Result<(), Fail> {
         index(alloc, &schema, &[0], &unknown).err(),
         Some(IndexError::Later)
     );
+    Ok(())
+}
+
+/// The files of the first field alone.
+fn first_field(alloc: Global, fields: &IndexedFields) -> Result<PostingsFiles, PostingsError> {
+    let mut files = InvertedIndexSerializer::new(alloc);
+    if fields.len() > 0 {
+        write_field(alloc, fields, Field::from_field_id(0), &mut files)?;
+    }
+    files.close()
+}
+
+fn part(alloc: Global, file: &[u8]) -> Option<OwnedBytes> {
+    let bytes = OwnedBytes::new(alloc, file).ok()?;
+    let file = CompositeFile::open(bytes).ok()?;
+    file.open_read(Field::from_field_id(0))
+}
+
+#[test]
+fn terms_are_written(rt: HostRuntime) -> Result<(), Fail> {
+    let alloc = rt.alloc();
+    let schema = title_and_body(alloc)?;
+    let titles = documents_of(alloc, &[&[(0, "a")], &[(0, "b"), (0, "a")]])?;
+    let batch = index(alloc, &schema, &[0, 1], &titles)?;
+    let files = first_field(alloc, &batch.fields).ok().ok_or("files")?;
+    let postings = part(alloc, &files.postings).ok_or("postings")?;
+    assert_eq!(rt;
+        postings.as_slice(),
+        [6, 0, 0, 0, 0, 0, 0, 0, 2, 0, 2, 1, 2, 2, 1, 2].as_slice()
+    );
+    let positions = part(alloc, &files.positions).ok_or("positions")?;
+    assert_eq!(rt; positions.as_slice(), [0, 1, 3, 1, 0, 1].as_slice());
+    Ok(())
+}
+
+#[test]
+fn lengths_are_written(rt: HostRuntime) -> Result<(), Fail> {
+    let alloc = rt.alloc();
+    let schema = title_and_body(alloc)?;
+    let documents = documents_of(
+        alloc,
+        &[&[(0, "a"), (1, "b"), (0, "c")], &[(1, "a")], &[(0, "b")]],
+    )?;
+    let batch = index(alloc, &schema, &[0, 1], &documents)?;
+    let file = norms_file::norms_file(alloc, &schema, &batch.norms);
+    let file = file.ok().ok_or("file")?;
+    let ids = part(alloc, &file).ok_or("ids")?;
+    assert_eq!(rt; ids.as_slice(), [4, 0, 2].as_slice());
     Ok(())
 }

@@ -1,0 +1,243 @@
+-- The terms of documents that are built can be written.
+use Rattle.std.proofs.Common.{◌≡◌, ℕ, suc, ◌+◌, ◌<◌, ◌≤◌, ◌^◌, true, false, cond, List, [], ◌∷◌, ◌++◌, map, length, Some, None, Option, Less, Equal, Greater, sym, refl, ap, ◌∙◌, subst, arith, inl, inr, length-append}
+use Rattle.std.specs.Prelude.{filter, nat_le, is_some, is_none, ◌&&◌}
+use Rattle.std.specs.FinMap.{entries, empty, from_entries, entries_sorted, entries-insert, len-empty, len-entries}
+use Rattle.std.specs.FinMap.Entries.{put, by_order}
+use Rattle.std.specs.List.{AllByRecursion, slice_get, list_all, flat_map, enumerate_from}
+use Rattle.std.specs.Ordering.{nat_cmp}
+use Rattle.std.specs.Cmp.Lexicographic.{slice_cmp, nat_list_cmp_total}
+use Rattle.std.specs.Str.{bytes_eq}
+use Rattle.std.proofs.lemmas.Bool.{false≢true}
+use Rattle.std.proofs.lemmas.Bool.Decides.{nat_tests, eqb_tells}
+use Rattle.std.proofs.lemmas.List.{length-map}
+use lib.Dec.{T}
+use Rattle.seg_values.specs.declared.token.Token.{Token}
+use Rattle.seg_values.specs.declared.schema.FieldEntry.{FieldEntry}
+use Rattle.seg_values.specs.declared.schema.IndexOption.TheVariants as options
+use Rattle.seg_values.specs.Tree.{levels, Document}
+use Rattle.seg_model.specs.Built.{is_built_entry, is_built_document, is_taken}
+use Rattle.seg_model.specs.Checked.{positions_fall, past_limit, unless, is_u32, is_rising, count_of, positions_refusal, field_fits, fields_refusal, leaves_refusal, order_refusal, limit_refusal, document_refusal, is_within_limits}
+use Rattle.seg_model.specs.Fields.{Schema, Analyzer, indexing_tokenizer, fields}
+use Rattle.seg_model.specs.Occurrences.{Occurrence, counted, reach, start_after, start_after_all, value_tokens, placed_from, text_occurrences, occurrences}
+use Rattle.seg_model.specs.Reading.{Recorded, Posting, Terms, positions_of, if_occurs, recorded_in, postings_from, postings_of, if_any, terms_of, field_terms}
+use Rattle.seg_model.specs.StoredForm.{stored_form}
+use Rattle.seg_model.specs.Tables.{entry_of}
+use Rattle.seg_postings.specs.declared.record_kind.RecordKind.TheVariants.{Positions}
+use Rattle.seg_postings.specs.Written.{Rise, IsOfKind, AreWritable}
+use Rattle.seg_build.specs.Entries.{TermEntries}
+use Rattle.seg_build.specs.Steps.{fresh}
+use Rattle.seg_build.specs.Writable.{CanBeWritten, BuiltTermsCanBeWritten}
+use Rattle.seg_build.proofs.BuiltEntries.{IsTextEntry, both_true, text_entry_at}
+use Rattle.seg_build.proofs.Checks.{bounded_from, for_one_field}
+use Rattle.seg_build.proofs.Fitting.{both_none, none_unless, positions_refusal-text}
+use Rattle.seg_build.proofs.Growing.{term_option-text}
+use Rattle.seg_build.proofs.Places.{some_same, start_after_all-ge, texts_of, texts_of-taken, texts_of-passed}
+use Rattle.seg_build.proofs.Rising.{rises, rises-first, reach-ge}
+use Rattle.seg_build.proofs.Whole.{occurrences-text}
+
+-- ---- positions that rise
+
+abbrev placed_at : List Occurrence → List ℕ
+placed_at os = map (λ (o : Occurrence). o.position) os
+
+rise_lower : (low before : ℕ) (ps : List ℕ) → low ≤ before → Rise before ps → Rise low ps
+rise_lower low before [] le h = tt
+rise_lower low before (p ∷ ps) le (behind, small, rest) = (omega (arith, le, behind), small, rest)
+
+-- those of one term rise too
+rise_some : (q : List ℕ) (before : ℕ) (os : List Occurrence) → Rise before (placed_at os) → Rise before (positions_of q os)
+rise_some q before [] h = tt
+rise_some q before (o ∷ os) (behind, small, rest) =
+    elim (bytes_eq q o.bytes) as (λ b. Rise before (map (λ (y : Occurrence). y.position) (cond b (o ∷ filter (λ y. bytes_eq q y.bytes) os) (filter (λ y. bytes_eq q y.bytes) os)))) [
+      | true ↦ (behind, small, rise_some q o.position os rest)
+      | false ↦ rise_lower before o.position (positions_of q os) behind (rise_some q o.position os rest)
+    ]
+
+-- and are no more
+fewer : (q : List ℕ) (os : List Occurrence) → length (positions_of q os) ≤ length os
+fewer q [] = omega arith
+fewer q (o ∷ os) =
+    let rest : length (positions_of q os) ≤ length os = fewer q os in
+    elim (bytes_eq q o.bytes) as (λ b. length (map (λ (y : Occurrence). y.position) (cond b (o ∷ filter (λ y. bytes_eq q y.bytes) os) (filter (λ y. bytes_eq q y.bytes) os))) ≤ suc (length os)) [
+      | true ↦ omega (arith, rest)
+      | false ↦ omega (arith, rest)
+    ]
+
+no_more : (a b : ℕ) → nat_le a b ≡ true → a ≤ b
+no_more a b h = grind (arith, nat_tests)
+
+abbrev placed : ℕ → Token → Occurrence
+placed start t = record { bytes = t.text; position = start + t.position }
+
+-- the tokens of a value, and behind them what begins no lower than they reach
+rise_placed : (start top : ℕ) → top < 2 ^ 32 → (before low : ℕ) (ts : List Token) (more : List Occurrence) → rises low ts ≡ true → before ≤ start + low → before ≤ top → reach start ts ≤ top → Rise top (placed_at more) → Rise before (placed_at (map (placed start) ts ++ more))
+rise_placed start top small before low [] more up from le reaches rest = rise_lower before top (placed_at more) le rest
+rise_placed start top small before low (t ∷ ts) more up from le reaches rest =
+    let two = both_true (nat_le low t.position) (rises t.position ts) up in
+    let higher = no_more low t.position two.0 in
+    let here : start + t.position ≤ top = omega (arith, reaches) in
+    let others : reach start ts ≤ top = omega (arith, reaches) in
+    (omega (arith, higher, from), omega (arith, here, small), rise_placed start top small (start + t.position) t.position ts more two.1 (omega arith) here others rest)
+
+abbrev AllRising : List (List Token) → Type 0
+AllRising vs = AllByRecursion (λ v. is_rising (counted v) ≡ true) vs
+
+-- the texts of a field
+rise_texts : (start before : ℕ) (vs : List (List Token)) → AllRising vs → before ≤ start → start_after_all start vs < 2 ^ 32 → Rise before (placed_at (text_occurrences start vs))
+rise_texts start before [] up le low = tt
+rise_texts start before (v ∷ vs) up le low =
+    let top = reach start (counted v) in
+    let next : start_after start v ≡ 1 + top = refl in
+    let ge = start_after_all-ge (start_after start v) vs in
+    let reaches = reach-ge start (counted v) in
+    rise_placed start top (omega (arith, low, ge, next)) before 0 (counted v) (text_occurrences (start_after start v) vs) (rises-first (counted v) ∙ up.0) (omega (arith, le)) (omega (arith, le, reaches)) (omega arith)
+    (rise_texts (start_after start v) top vs up.1 (omega (arith, next)) low)
+
+many_occur : (start : ℕ) (vs : List (List Token)) → length (text_occurrences start vs) ≡ count_of vs
+many_occur start [] = refl
+many_occur start (v ∷ vs) =
+    let all = length-append (placed_from start [] v) (text_occurrences (start_after start v) vs) in
+    let here : length (placed_from start [] v) ≡ length (counted v) = length-map (counted v) (placed start) in
+    let rest = many_occur (start_after start v) vs in
+    omega (arith, all, here, rest)
+
+-- the occurrences of a document in a field rise, and are few
+record Fit (os : List Occurrence) : Type 0 where
+  rising : Rise 0 (placed_at os)
+  few : length os < 2 ^ 32
+
+-- ---- a document that is taken
+
+none_from : {X : Type 0} (o : Option X) → is_none o ≡ true → o ≡ None
+none_from None h = refl
+none_from (Some x) h = absurd (false≢true h)
+
+module _ (schema : Schema) (analyzer : Analyzer) (built : list_all is_built_entry schema ≡ true) (k : ℕ) (e : FieldEntry) (at_e : slice_get schema k ≡ Some e) where
+  is_text : IsTextEntry e
+  is_text = text_entry_at schema k e built at_e
+
+  rising_texts : (ps : Document) → order_refusal schema analyzer ps ≡ None → AllRising (texts_of analyzer e k ps)
+  rising_texts [] none = tt
+  rising_texts (p ∷ ps) none =
+      let two = both_none (positions_refusal analyzer p.1 (slice_get schema p.0)) (order_refusal schema analyzer ps) none in
+      let v = value_tokens (analyzer (indexing_tokenizer e)) p.1 in
+      let rest = rising_texts ps two.1 in
+      elim (eqb_tells k p.0) [
+        | inl h ↦
+            let refusal : unless (is_rising (counted v) && true) positions_fall ≡ None = sym (positions_refusal-text analyzer p.1 e is_text) ∙ ap (positions_refusal analyzer p.1) (sym (ap (slice_get schema) (sym h.1) ∙ at_e)) ∙ two.0 in
+            let rising = (both_true (is_rising (counted v)) true (none_unless _ positions_fall refusal)).0 in
+            subst AllRising (sym (texts_of-taken analyzer e k p ps h.0)) (rising, rest)
+        | inr h ↦ subst AllRising (sym (texts_of-passed analyzer e k p ps h.0)) rest
+      ]
+
+  taken_fits : (ps : Document) → is_taken schema analyzer ps ≡ true → Fit (occurrences schema analyzer ps k)
+  taken_fits ps taken =
+      let vs = texts_of analyzer e k ps in
+      let leaves_on = both_none (fields_refusal schema ps) _ (none_from (document_refusal schema analyzer ps) taken) in
+      let order_on = both_none (leaves_refusal schema ps) _ leaves_on.1 in
+      let order = both_none (order_refusal schema analyzer ps) (limit_refusal schema analyzer ps) order_on.1 in
+      let limits = none_unless (is_within_limits schema analyzer ps) past_limit order.1 in
+      let parts = both_true (list_all (field_fits analyzer ps) (fields schema)) (is_u32 (length (stored_form schema ps))) (both_true (list_all (field_fits analyzer ps) (fields schema) && is_u32 (length (stored_form schema ps))) (list_all (λ p. nat_le (levels p.1) 200) ps) limits).0 in
+      let bounded = bounded_from schema analyzer built 0 k e fresh ps is_text (record { start = refl; count = refl }) (for_one_field (field_fits analyzer ps) schema parts.0 k e at_e) in
+      let low : start_after_all 0 vs < 2 ^ 32 = bounded.start in
+      let few : count_of vs < 2 ^ 32 = omega (arith, bounded.count) in
+      let many : length (text_occurrences 0 vs) ≡ count_of vs = many_occur 0 vs in
+      subst Fit (sym (occurrences-text schema analyzer built k e ps at_e is_text)) (record { rising = rise_texts 0 0 vs (rising_texts ps order.0) (omega arith) low; few = omega (arith, few, many) })
+
+  all_fit : (ds : List Document) → list_all (λ d. is_built_document schema d && is_taken schema analyzer d) ds ≡ true → AllByRecursion Fit (map (λ d. occurrences schema analyzer d k) ds)
+  all_fit [] h = tt
+  all_fit (d ∷ ds) h =
+      let two = both_true (is_built_document schema d && is_taken schema analyzer d) (list_all (λ d. is_built_document schema d && is_taken schema analyzer d) ds) h in
+      (taken_fits d (both_true (is_built_document schema d) (is_taken schema analyzer d) two.0).1, all_fit ds two.1)
+
+-- ---- the postings of a term
+
+abbrev IsKept : Option Recorded → Type 0
+IsKept None = Unit {0}
+IsKept (Some r) = IsOfKind Positions r
+
+writable_from : (before least n : ℕ) (rs : List (Option Recorded)) → before + least ≤ n → n + length rs < 2 ^ 32 → AllByRecursion IsKept rs → AreWritable Positions before least (postings_from n rs)
+writable_from before least n [] le few all = tt
+writable_from before least n (None ∷ rs) le few all = writable_from before least (n + 1) rs (omega arith) (omega (arith, few)) all.1
+writable_from before least n (Some r ∷ rs) le few all = (le, omega (arith, few), all.0, writable_from n 1 (n + 1) rs (omega arith) (omega (arith, few)) all.1)
+
+kept : (ps : List ℕ) → Rise 0 ps → length ps < 2 ^ 32 → IsKept (if_occurs options.Positions ps)
+kept [] rise few = tt
+kept (p ∷ ps) rise few = (p ∷ ps, omega arith, few, rise, refl)
+
+module _ (e : FieldEntry) (text : IsTextEntry e) where
+  all_kept : (q : List ℕ) (ds : List (List Occurrence)) → AllByRecursion Fit ds → AllByRecursion IsKept (map (recorded_in e q) ds)
+  all_kept q [] h = tt
+  all_kept q (os ∷ ds) h =
+      (subst (λ option. IsKept (if_occurs option (positions_of q os))) (sym (term_option-text e text q)) (kept (positions_of q os) (rise_some q 0 os h.0.rising) (let few = h.0.few in omega (arith, fewer q os, few))), all_kept q ds h.1)
+
+  postings_writable : (q : List ℕ) (ds : List (List Occurrence)) → AllByRecursion Fit ds → length ds < 2 ^ 31 → AreWritable Positions 0 0 (postings_of e q ds)
+  postings_writable q ds h few = writable_from 0 0 0 (map (recorded_in e q) ds) (omega arith) (omega (arith, few, length-map ds (recorded_in e q))) (all_kept q ds h)
+
+-- ---- the entries of a table
+
+module _ {Y : Type 0} (P : Y → Type 0) where
+  abbrev AllHave : List (List ℕ × Y) → Type 0
+  AllHave es = AllByRecursion (λ e. P e.1) es
+
+  put_all : (k : List ℕ) (v : Y) (es : List (List ℕ × Y)) → P v → AllHave es → AllHave (put (slice_cmp nat_cmp) k v es)
+  put_all k v [] h all = (h, tt)
+  put_all k v (e ∷ es) h all =
+      elim (slice_cmp nat_cmp k e.0) as (λ o. AllHave (by_order o ((k, v) ∷ e ∷ es) ((e.0, v) ∷ es) (e ∷ put (slice_cmp nat_cmp) k v es))) [
+        | Less ↦ (h, all)
+        | Equal ↦ (h, all.1)
+        | Greater ↦ (all.0, put_all k v es h all.1)
+      ]
+
+  none_have : (es : List (List ℕ × Y)) → length es ≡ 0 → AllHave es
+  none_have [] h = tt
+  none_have (e ∷ es) h = absurd (omega arith)
+
+  from_all : (es : List (List ℕ × Y)) → AllHave es → AllHave (entries (from_entries {R = slice_cmp nat_cmp} es))
+  from_all [] h = none_have (entries (empty {X = Y} {R = slice_cmp nat_cmp})) (sym (len-entries (empty {X = Y} {R = slice_cmp nat_cmp})) ∙ len-empty (slice_cmp nat_cmp) Y)
+  from_all (e ∷ es) h = subst AllHave (sym (entries-insert nat_list_cmp_total (from_entries es) e.0 e.1)) (put_all e.0 e.1 (entries (from_entries es)) h.0 (from_all es h.1))
+
+  one : (k : List ℕ) (o : Option Y) (es : List (List ℕ × Y)) → ((v : Y) → o ≡ Some v → P v) → AllHave es → AllHave (entry_of k o ++ es)
+  one k None es h all = all
+  one k (Some v) es h all = (h v refl, all)
+
+  entry_all : (f : List ℕ → Option Y) (ks : List (List ℕ)) → ((k : List ℕ) (v : Y) → f k ≡ Some v → P v) → AllHave (flat_map (λ k. entry_of k (f k)) ks)
+  entry_all f [] h = tt
+  entry_all f (k ∷ ks) h = one k (f k) (flat_map (λ k. entry_of k (f k)) ks) (h k) (entry_all f ks h)
+
+any_occurs : (ps v : List Posting) → if_any ps ≡ Some v → 0 < length v
+any_occurs [] v e = absurd (false≢true (ap is_some e))
+any_occurs (p ∷ ps) v e = subst (λ x. 0 < length x) (some_same (p ∷ ps) v e) (omega arith)
+
+any_writable : (ps v : List Posting) → AreWritable Positions 0 0 ps → if_any ps ≡ Some v → AreWritable Positions 0 0 v
+any_writable [] v w e = absurd (false≢true (ap is_some e))
+any_writable (p ∷ ps) v w e = subst (AreWritable Positions 0 0) (some_same (p ∷ ps) v e) w
+
+truth : (b : _) → T b → b ≡ true
+truth true h = refl
+truth false h = absurd h
+
+can_be_written : (e : FieldEntry) → IsTextEntry e → (ds : List (List Occurrence)) → AllByRecursion Fit ds → length ds < 2 ^ 31 → CanBeWritten (entries (terms_of e ds))
+can_be_written e text ds h few =
+    let keys = flat_map (map (λ (o : Occurrence). o.bytes)) ds in
+    let f : List ℕ → Option (List Posting) = λ q. if_any (postings_of e q ds) in
+    record {
+      ascend = truth _ (entries_sorted (terms_of e ds));
+      occur = from_all (λ ps. 0 < length ps) _ (entry_all (λ ps. 0 < length ps) f keys (λ q v is. any_occurs (postings_of e q ds) v is));
+      writable = from_all (AreWritable Positions 0 0) _ (entry_all (AreWritable Positions 0 0) f keys (λ q v is. any_writable (postings_of e q ds) v (postings_writable e text q ds h few) is));
+    }
+
+-- ---- all fields
+
+all_fields : (Q : TermEntries → Type 0) (F : ℕ × FieldEntry → Terms) (n : ℕ) (xs : List FieldEntry) → ((i : ℕ) (e : FieldEntry) → slice_get xs i ≡ Some e → Q (entries (F (n + i, e)))) → AllByRecursion Q (map entries (map F (enumerate_from n xs)))
+all_fields Q F n [] h = tt
+all_fields Q F n (x ∷ xs) h =
+    (subst (λ m. Q (entries (F (m, x)))) (let z : n + 0 ≡ n = omega arith in z) (h 0 x refl), all_fields Q F (n + 1) xs (λ i e at. subst (λ m. Q (entries (F (m, e)))) (let z : n + suc i ≡ n + 1 + i = omega arith in z) (h (suc i) e at)))
+
+pub built_terms_can_be_written : BuiltTermsCanBeWritten
+built_terms_can_be_written schema analyzer ds built few =
+    let two = both_true (list_all is_built_entry schema) (list_all (λ d. is_built_document schema d && is_taken schema analyzer d) ds) built in
+    all_fields CanBeWritten (field_terms schema analyzer ds) 0 schema (λ i e at.
+    let occurred : Document → List Occurrence = λ d. occurrences schema analyzer d i in
+    subst (λ n. CanBeWritten (entries (field_terms schema analyzer ds (n, e)))) (let z : i ≡ 0 + i = omega arith in z)
+    (can_be_written e (text_entry_at schema i e two.0 at) (map occurred ds) (all_fit schema analyzer two.0 i e at ds two.1) (omega (arith, few, length-map ds occurred))))

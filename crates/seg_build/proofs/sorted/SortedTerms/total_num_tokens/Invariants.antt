@@ -1,0 +1,10 @@
+use Rattle.std.proofs.Common.{◌≡◌, drop}
+use Rattle.std.specs.List.{fold}
+use Rattle.std.specs.Map.{values_of}
+use Rattle.seg_build.specs.TokenTotal.{token_total}
+use Rattle.seg_build.proofs.Totals.{and_total}
+use Rattle.seg_build.proofs.sorted.SortedTerms.total_num_tokens.Given as goal
+
+-- what is so far, with what is left, is all
+abbrev pub invariant-loop-at : goal.invariant-loop-at
+invariant-loop-at l = fold and_total l.total (drop l.at (values_of l.self)) ≡ token_total l.self

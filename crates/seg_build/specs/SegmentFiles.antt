@@ -1,0 +1,55 @@
+-- The six files of a segment while they are made, in the order in which they are.
+use Rattle.std.specs.Prelude.{ℕ, ◌≡◌, ◌≢◌, List, [], ◌∷◌, ◌++◌, map, Some, Result, Ok, Err}
+use Rattle.std.specs.FinMap.{get, insert}
+use Rattle.std.specs.List.{AllByRecursion}
+use Rattle.seg_common.specs.declared.name.FileName.{FileName}
+use Rattle.seg_common.specs.declared.name.FileName.TheVariants.{Part}
+use Rattle.seg_common.specs.declared.name.SegmentComponent.TheVariants.{Terms, Postings, Positions, Store, FastFields, FieldNorms}
+use Rattle.seg_values.specs.declared.error.TantivyError.{TantivyError}
+use Rattle.seg_values.specs.declared.error.TantivyError.TheVariants.{IndexAlreadyExists, OpenWriteError}
+use Rattle.seg_directory.specs.declared.answer.Answer.{Answer}
+use Rattle.seg_directory.specs.declared.answer.Answer.TheVariants as answer
+use Rattle.seg_directory.specs.declared.answer.CallKind.TheVariants as kind
+use Rattle.seg_directory.specs.Files.{NamedFiles}
+use Rattle.seg_build.specs.declared.segment_files.SegmentBytes.{SegmentBytes}
+
+-- the names of the files of an id, in the order in which they are made
+abbrev pub segment_names : ℕ → List FileName
+segment_names id = Part id FieldNorms ∷ Part id FastFields ∷ Part id Terms ∷ Part id Postings ∷ Part id Positions ∷ Part id Store ∷ []
+
+-- the files of an id are there with these bytes
+pub record HasFiles (id : ℕ) (bytes : SegmentBytes) (files : NamedFiles) : Type 0 where
+  pub norm_file : get files (Part id FieldNorms) ≡ Some bytes.norms.items
+  pub fast_file : get files (Part id FastFields) ≡ Some bytes.fast.items
+  pub term_file : get files (Part id Terms) ≡ Some bytes.terms.items
+  pub posting_file : get files (Part id Postings) ≡ Some bytes.postings.items
+  pub position_file : get files (Part id Positions) ≡ Some bytes.positions.items
+  pub store_file : get files (Part id Store) ≡ Some bytes.store.items
+
+-- the files of all other names stay
+abbrev pub KeepsAllBut : List FileName → NamedFiles → NamedFiles → Type 0
+KeepsAllBut names old new = (other : FileName) → AllByRecursion (λ name. other ≢ name) names → get new other ≡ get old other
+
+-- each name was written
+abbrev pub wrote : List FileName → List Answer
+wrote names = map answer.Wrote names
+
+-- what the making of some files in turn adds to the answers of a directory: it ends at the first that is not made
+pub record EndsAt (names : List FileName) (end : FileName → List Answer) (old new : List Answer) : Type 0 where
+  pub made : List FileName
+  pub name : FileName
+  pub rest : List FileName
+  pub cut : names ≡ made ++ name ∷ rest
+  pub seen : new ≡ old ++ (wrote made ++ end name)
+
+-- each of some files was made, or it ended at one that is there, that failed, or for which there was no memory
+abbrev pub MakingSeen : List FileName → List Answer → Result Unit TantivyError → List Answer → Type 0
+MakingSeen names old (Ok _) new = new ≡ old ++ wrote names
+MakingSeen names old (Err IndexAlreadyExists) new = EndsAt names (λ name. answer.There name ∷ []) old new
+MakingSeen names old (Err OpenWriteError) new = EndsAt names (λ name. answer.Failed kind.WriteNew ∷ []) old new
+MakingSeen names old (Err _) new = EndsAt names (λ name. []) old new
+
+-- the files with more, one made after the other
+abbrev pub with_files : List (FileName × List ℕ) → NamedFiles → NamedFiles
+with_files [] files = files
+with_files (f ∷ fs) files = with_files fs (insert files f.0 f.1)

@@ -1,0 +1,123 @@
+//! The terms of a field, written with their positions.
+ghost use Rattle.std.specs.Prelude.{◌≡◌, ◌<◌, ◌≤◌, ◌-◌, ◌^◌, ◌⊎◌, length, map, Some, None, IfErr, IfSome, IsSomeAnd, OnOk, OnErr};
+ghost use Rattle.std.specs.List.{slice_get};
+ghost use Rattle.seg_common.specs.Growing.{HasGrown};
+ghost use Rattle.seg_directory.specs.Composite.{low_after};
+ghost use Rattle.seg_postings.specs.declared.record_kind.RecordKind.TheVariants.{Positions};
+ghost use Rattle.seg_postings.specs.FieldWriting.{MayOpen, fresh};
+ghost use Rattle.seg_postings.specs.Files.{AddsField};
+ghost use Rattle.seg_postings.specs.PostingsForm as form;
+ghost use Rattle.seg_postings.specs.Written.{AreWritable, Rise};
+ghost use Rattle.seg_build.specs.Entries.{TermEntries};
+ghost use Rattle.seg_build.specs.Grouped.{grouped};
+ghost use Rattle.seg_build.specs.TermsWritten.{IsUnused, IsUnwritten, with_postings, with_terms, with_whole_term};
+ghost use Rattle.seg_build.specs.TokenTotal.{token_total};
+ghost use Rattle.seg_build.specs.Writable.{CanBeWritten};
+
+use crate::fields::IndexedFields;
+use crate::hits::Hit;
+use crate::runs::first_run;
+use crate::sorted::SortedTerms;
+use seg_postings::{FieldSerializer, InvertedIndexSerializer, PostingsError, RecordKind};
+use seg_values::Field;
+use std::alloc::{AllocError, Global};
+
+/// Adds a field, which is above those added before, to the files: its terms as they were indexed, and the total of their
+/// tokens.
+pub fn write_field(
+    alloc: Global,
+    fields: &IndexedFields,
+    field: Field,
+    files: &mut InvertedIndexSerializer,
+) -> Result<(), PostingsError>
+    requires indexed { field < length fields.now }
+    requires ascends { IfSome files.old (λ f. (low_after 0 f.terms ≤ field) × (low_after 0 f.postings ≤ field) × (low_after 0 f.positions ≤ field)) }
+    requires limit { field < 2 ^ 32 - 1 }
+    ensures ok { OnOk result ((terms : TermEntries) × (slice_get fields.now field ≡ Some terms) × AddsField files.old files.new (with_terms terms (fresh field (token_total terms)))) }
+    ensures err { IfErr result (λ e. e ≡ PostingsError.OutOfMemory) }
+    ensures files { OnErr result ((files.new ≡ files.old) ⊎ (files.new ≡ None)) }
+{
+    let terms = fields.writable_terms(field.field_id() as usize);
+    let Some(total) = terms.total_num_tokens() else {
+        return Err(PostingsError::OutOfMemory);
+    };
+    let mut writer = files.new_field(field, total)?;
+    write_terms(alloc, terms, &mut writer)?;
+    writer.close(files)
+}
+
+/// Writes all terms of a field, of which nothing was written. After an error the field is given up.
+pub fn write_terms(
+    alloc: Global,
+    terms: &SortedTerms,
+    field: &mut FieldSerializer,
+) -> Result<(), PostingsError>
+    requires writable { CanBeWritten terms.now }
+    requires unwritten { IsSomeAnd field.old IsUnwritten }
+    ensures ok { OnOk result (HasGrown field.old field.new (with_terms terms.now)) }
+    ensures err { IfErr result (λ e. e ≡ PostingsError.OutOfMemory) }
+{
+    let mut differences = Vec::new(alloc);
+    for at in 0..terms.len() {
+        write_term(
+            terms.bytes_at(at),
+            terms.hits_at(at),
+            &mut differences,
+            field,
+        )?;
+    }
+    Ok(())
+}
+
+/// Writes a term, which is greater than those before it. `differences` is room for the positions of a document.
+fn write_term(
+    bytes: &[u8],
+    hits: &[Hit],
+    differences: &mut Vec<u32>,
+    field: &mut FieldSerializer,
+) -> Result<(), PostingsError>
+    requires ascends { IfSome field.old (λ w. MayOpen w bytes.now) }
+    requires occurs { 0 < length (grouped hits.now) }
+    requires writable { AreWritable Positions 0 0 (grouped hits.now) }
+    ensures ok { OnOk result (HasGrown field.old field.new (with_whole_term bytes.now (grouped hits.now))) }
+    ensures err { IfErr result (λ e. e ≡ PostingsError.OutOfMemory) }
+{
+    field.new_term(bytes, RecordKind::Positions)?;
+    write_hits(hits, differences, field)?;
+    field.close_term()
+}
+
+/// Gives the open term its documents, one for each run of hits.
+fn write_hits(
+    hits: &[Hit],
+    differences: &mut Vec<u32>,
+    field: &mut FieldSerializer,
+) -> Result<(), PostingsError>
+    requires unused { IsSomeAnd field.old (λ w. IsSomeAnd w.current IsUnused) }
+    requires writable { AreWritable Positions 0 0 (grouped hits.now) }
+    ensures ok { OnOk result (HasGrown field.old field.new (with_postings (grouped hits.now))) }
+    ensures err { IfErr result (λ e. e ≡ PostingsError.OutOfMemory) }
+{
+    let mut rest = hits;
+    while !rest.is_empty() {
+        let (run, others) = rest.split_at(first_run(rest));
+        set_differences(differences, run)?;
+        field.write_doc(rest[0].document, run.len() as u32, differences)?;
+        rest = others;
+    }
+    Ok(())
+}
+
+/// Replaces the differences by those of the hits: each position as its difference from the one before, the first from 0.
+fn set_differences(differences: &mut Vec<u32>, hits: &[Hit]) -> Result<(), AllocError>
+    requires { Rise 0 (map (λ h. h.position) hits.now) }
+    ensures { OnOk result (differences.new.items ≡ form.differences 0 (map (λ h. h.position) hits.now)) }
+{
+    differences.clear();
+    let mut before = 0;
+    for hit in hits {
+        differences.push(hit.position - before)?;
+        before = hit.position;
+    }
+    Ok(())
+}
