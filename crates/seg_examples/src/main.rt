@@ -3,6 +3,7 @@
 
 use anyhow::{Result, ensure};
 use seg_common::{MemorySink, MemorySource};
+use seg_directory::MemoryDirectory;
 use seg_tool::{Status, run};
 use seg_values::{DefaultTokenizer, TokenizerManager};
 use std::fs;
@@ -27,6 +28,7 @@ fn compare<R: Files + AllocGlobal>(rt: &R, name: &str) -> Result<()> {
     let mut source = MemorySource::new(alloc, &script, Vec::new(alloc))?;
     let mut sink = MemorySink::new(alloc, text.len(), Vec::new(alloc))?;
     let mut faults = MemorySink::new(alloc, 100, Vec::new(alloc))?;
+    let mut work = MemoryDirectory::new(alloc, Vec::new(alloc))?;
     let status = run(
         alloc,
         &words,
@@ -34,6 +36,7 @@ fn compare<R: Files + AllocGlobal>(rt: &R, name: &str) -> Result<()> {
         &mut sink,
         &mut faults,
         &analyzers,
+        &mut work,
     );
     ensure!(status == Status::Done, "{name} ends with another status");
     ensure!(sink.bytes() == text.as_slice(), "{name} has another text");

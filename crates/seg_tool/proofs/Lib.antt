@@ -1,5 +1,11 @@
 mod Built
+mod Calls
 mod CauseText
+mod Faults
 mod Parts
 mod Printed
+mod Saved
+mod ScriptFacts
 mod Slices
+mod Steps
+mod WorkSteps

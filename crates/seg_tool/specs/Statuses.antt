@@ -1,13 +1,13 @@
 -- The numbers of statuses, and the line that is said of each.
 use Rattle.std.specs.Prelude.{ℕ, List, [], ◌∷◌, ◌++◌, codes, decimal}
 use Rattle.seg_values.specs.declared.error.TantivyError.{TantivyError}
-use Rattle.seg_values.specs.declared.error.TantivyError.TheVariants.{SchemaError, InvalidArgument}
+use Rattle.seg_values.specs.declared.error.TantivyError.TheVariants.{SchemaError, InvalidArgument, IndexAlreadyExists, OpenReadError, OpenWriteError, IoError}
 use Rattle.seg_values.specs.declared.error.SchemaCause.{SchemaCause}
 use Rattle.seg_values.specs.declared.error.SchemaCause.TheVariants.{UnknownField, WrongValue, DeleteField, Tokenizer, DuplicateName, NotFacet, NoNorms, NoColumn}
 use Rattle.seg_values.specs.declared.error.ArgumentCause.{ArgumentCause}
 use Rattle.seg_values.specs.declared.error.ArgumentCause.TheVariants as arguments
 use Rattle.seg_tool.specs.declared.status.Status.{Status}
-use Rattle.seg_tool.specs.declared.status.Status.TheVariants.{Done, Words, Script, Refused, Stream, Memory}
+use Rattle.seg_tool.specs.declared.status.Status.TheVariants.{Done, Words, Script, Refused, Exists, Directory, Stream, Memory}
 
 -- the number with which the program ends
 abbrev pub number_of : Status → ℕ
@@ -15,6 +15,8 @@ number_of Done = 0
 number_of Words = 2
 number_of Script = 3
 number_of (Refused e) = 4
+number_of (Exists e) = 5
+number_of (Directory e) = 6
 number_of Stream = 8
 number_of Memory = 9
 
@@ -22,6 +24,20 @@ number_of Memory = 9
 abbrev pub IfRefused : Status → (TantivyError → Type 0) → Type 0
 IfRefused (Refused e) P = P e
 IfRefused _ P = Unit {0}
+
+-- a fact of the error, where a directory was not empty or failed
+abbrev pub IfWritten : Status → (TantivyError → Type 0) → Type 0
+IfWritten (Exists e) P = P e
+IfWritten (Directory e) P = P e
+IfWritten _ P = Unit {0}
+
+-- the status of an error of an index that is written
+abbrev pub status_of : TantivyError → Status
+status_of IndexAlreadyExists = Exists IndexAlreadyExists
+status_of OpenReadError = Directory OpenReadError
+status_of OpenWriteError = Directory OpenWriteError
+status_of IoError = Directory IoError
+status_of _ = Memory
 
 -- the name of a cause, and its numbers
 pub record CauseWords : Type 0 where
@@ -78,11 +94,19 @@ numbers_text (n ∷ ns) = 32 ∷ (decimal n ++ numbers_text ns)
 abbrev pub cause_text : CauseWords → List ℕ
 cause_text words = words.name ++ numbers_text words.numbers
 
+-- which call of a directory failed
+abbrev pub fault_text : TantivyError → List ℕ
+fault_text OpenReadError = codes "directory: list or read failed"
+fault_text OpenWriteError = codes "directory: write failed"
+fault_text _ = codes "directory: meta or sync failed"
+
 -- the line that is said of a status; of Done nothing
 abbrev pub status_line : Status → List ℕ
 status_line Done = []
 status_line Words = codes "words: not a known command" ++ 10 ∷ []
 status_line Script = codes "script: not a valid script" ++ 10 ∷ []
 status_line (Refused e) = codes "refused: " ++ (cause_text (cause_words e) ++ 10 ∷ [])
+status_line (Exists e) = codes "exists: a directory is not empty" ++ 10 ∷ []
+status_line (Directory e) = fault_text e ++ 10 ∷ []
 status_line Stream = codes "stream: read or write failed" ++ 10 ∷ []
 status_line Memory = codes "memory: not enough" ++ 10 ∷ []

@@ -1,37 +1,40 @@
 //! The whole of a run: the words, the source, the sink, and the line on what went wrong.
-ghost use Rattle.std.specs.Prelude.{◌≡◌, ◌≢◌, ◌≤◌, ◌+◌, ◌⊎◌, ◌↔◌, false, length, IfOk, IfErr, IfSome, IsErrOf, OnOk};
+ghost use Rattle.std.specs.Prelude.{◌≡◌, ◌≢◌, ◌≤◌, ◌+◌, ◌⊎◌, ◌↔◌, false, length, IfOk, IfErr, IfSome, IsErrOf, IsTrue, OnOk};
 ghost use Rattle.std.specs.Io.KnownBytes.{Appends, IsAtEnd};
 ghost use Rattle.seg_common.specs.Causes.{Rose};
 ghost use Rattle.seg_common.specs.Idle.{OnlyLastIsIdle};
 ghost use Rattle.seg_common.specs.Streams.{AppendsPart, TakesAtMost};
 ghost use Rattle.seg_tool.specs.Run.{is_build, max_script, IsJson, IsNoScript, IsNarrow, IsTextOf, Gains, GainsPart};
-ghost use Rattle.seg_tool.specs.Statuses.{IfRefused, status_line};
+ghost use Rattle.seg_tool.specs.Statuses.{IfRefused, IfWritten, status_line};
+ghost use Rattle.seg_tool.specs.Calls.{DirectoryState};
+ghost use Rattle.seg_tool.specs.WorkCalls.{WorkDoes};
+ghost use Rattle.seg_tool.specs.WorkIndex.{HasWorkIndex};
+ghost use Rattle.std.specs.FinMap.{len};
 
-use crate::building::text;
+use crate::building::build;
 use crate::reporting::report;
 use crate::status::Status;
 use seg_common::{ReadError, Sink, SinkFailed, Source, read_to_end, write_whole};
-use seg_script::ScriptError;
+use seg_directory::Directory;
 use seg_values::{Analyzers, ArgumentCause, TantivyError};
 use std::alloc::Global;
 
 /// The most bytes of a script.
 const MAX_SCRIPT: usize = 67_108_864;
 
-/// What is asked for is not built yet.
-const LATER: TantivyError = TantivyError::InvalidArgument(ArgumentCause::Later);
-
 /// Does what the words say, and answers how it went.
 ///
-/// `build` reads the source to its end as a script, and writes the text of its segments to the sink. On any status but
-/// `Done` one line is written to `faults`; a failing write there changes nothing.
-pub fn run<S: Source, K: Sink, F: Sink, Z: Analyzers>(
+/// `build` reads the source to its end as a script, writes an index of its documents into the directory `work`, and writes
+/// the text of its segments to the sink. On any status but `Done` one line is written to `faults`; a failing write there
+/// changes nothing. What is written to a directory before it fails stays there.
+pub fn run<S: Source, K: Sink, F: Sink, Z: Analyzers, W: Directory>(
     alloc: Global,
     words: &[String],
     source: &mut S,
     sink: &mut K,
     faults: &mut F,
     analyzers: &Z,
+    work: &mut W,
 ) -> Status
     ensures words { result ≡ Status.Words ↔ (is_build words.now ≡ false) }
 
@@ -54,9 +57,23 @@ pub fn run<S: Source, K: Sink, F: Sink, Z: Analyzers>(
         (λ bytes. GainsPart (IsTextOf (Z.knows analyzers.now) (Z.tokens_of analyzers.now) bytes)
         (K.written sink.old) (K.written sink.new))) }
 
+    // What becomes of the work directory.
+    ensures index { result ≡ Status.Done → IsTrue (W.tells work.old) → IfSome (S.left source.old)
+        (λ bytes. HasWorkIndex (Z.knows analyzers.now) (Z.tokens_of analyzers.now) bytes (W.files work.new)) }
+    ensures was_empty { result ≡ Status.Done → IsTrue (W.tells work.old) → len (W.files work.old) ≡ 0 }
+    ensures written { IfWritten result (λ _. IfSome (S.left source.old)
+        (IsNarrow (Z.knows analyzers.now) (Z.tokens_of analyzers.now))) }
+    ensures calls { WorkDoes result
+        (record { tells = W.tells work.old; files = W.files work.old; seen = W.seen work.old; faults = W.faults work.old })
+        (record { tells = W.tells work.new; files = W.files work.new; seen = W.seen work.new; faults = W.faults work.new }) }
+    ensures unwritten { IfRefused result (λ _. work.new ≡ work.old) }
+    ensures unwritten_script { result ≡ Status.Script → work.new ≡ work.old }
+    ensures unwritten_words { result ≡ Status.Words → work.new ≡ work.old }
+
     // What is taken of the source.
     ensures end { result ≡ Status.Done → IsAtEnd (S.left source.new) }
     ensures end_refused { IfRefused result (λ _. IsAtEnd (S.left source.new)) }
+    ensures end_written { IfWritten result (λ _. IsAtEnd (S.left source.new)) }
     ensures taken { TakesAtMost (max_script + 1) (S.left source.old) (S.left source.new) }
     ensures turns { OnlyLastIsIdle (S.idle source.old) (S.idle source.new) }
     ensures unread { result ≡ Status.Words → source.new ≡ source.old }
@@ -72,7 +89,7 @@ pub fn run<S: Source, K: Sink, F: Sink, Z: Analyzers>(
     ensures count_sink { K.faults sink.old ≤ K.faults sink.new }
     ensures count_faults { F.faults faults.old ≤ F.faults faults.new }
 {
-    let status = execute(alloc, words, source, sink, analyzers);
+    let status = execute(alloc, words, source, sink, analyzers, work);
     if status != Status::Done {
         let _ = report(faults, &status);
     }
@@ -80,12 +97,13 @@ pub fn run<S: Source, K: Sink, F: Sink, Z: Analyzers>(
 }
 
 /// Does what the words say, and answers how it went; nothing is said of it yet.
-fn execute<S: Source, K: Sink, Z: Analyzers>(
+fn execute<S: Source, K: Sink, Z: Analyzers, W: Directory>(
     alloc: Global,
     words: &[String],
     source: &mut S,
     sink: &mut K,
     analyzers: &Z,
+    work: &mut W,
 ) -> Status
     ensures words { result ≡ Status.Words ↔ (is_build words.now ≡ false) }
     ensures script { result ≡ Status.Script → IfSome (S.left source.old) IsNoScript }
@@ -103,7 +121,19 @@ fn execute<S: Source, K: Sink, Z: Analyzers>(
         ⊎ (Rose (K.faults sink.old) (K.faults sink.new) × IfSome (S.left source.old)
         (λ bytes. GainsPart (IsTextOf (Z.knows analyzers.now) (Z.tokens_of analyzers.now) bytes)
         (K.written sink.old) (K.written sink.new))) }
+    ensures index { result ≡ Status.Done → IsTrue (W.tells work.old) → IfSome (S.left source.old)
+        (λ bytes. HasWorkIndex (Z.knows analyzers.now) (Z.tokens_of analyzers.now) bytes (W.files work.new)) }
+    ensures was_empty { result ≡ Status.Done → IsTrue (W.tells work.old) → len (W.files work.old) ≡ 0 }
+    ensures written { IfWritten result (λ _. IfSome (S.left source.old)
+        (IsNarrow (Z.knows analyzers.now) (Z.tokens_of analyzers.now))) }
+    ensures calls { WorkDoes result
+        (record { tells = W.tells work.old; files = W.files work.old; seen = W.seen work.old; faults = W.faults work.old })
+        (record { tells = W.tells work.new; files = W.files work.new; seen = W.seen work.new; faults = W.faults work.new }) }
+    ensures unwritten { IfRefused result (λ _. work.new ≡ work.old) }
+    ensures unwritten_script { result ≡ Status.Script → work.new ≡ work.old }
+    ensures unwritten_words { result ≡ Status.Words → work.new ≡ work.old }
     ensures end { result ≡ Status.Done → IsAtEnd (S.left source.new) }
+    ensures end_written { IfWritten result (λ _. IsAtEnd (S.left source.new)) }
     ensures end_refused { IfRefused result (λ _. IsAtEnd (S.left source.new)) }
     ensures taken { TakesAtMost (max_script + 1) (S.left source.old) (S.left source.new) }
     ensures turns { OnlyLastIsIdle (S.idle source.old) (S.idle source.new) }
@@ -114,7 +144,7 @@ fn execute<S: Source, K: Sink, Z: Analyzers>(
     if !is_build(words) {
         return Status::Words;
     }
-    match read_and_build(alloc, source, analyzers) {
+    match read_and_build(alloc, source, analyzers, work) {
         Ok(text) => match write_whole(sink, &text) {
             Ok(()) => Status::Done,
             Err(SinkFailed) => Status::Stream,
@@ -123,11 +153,12 @@ fn execute<S: Source, K: Sink, Z: Analyzers>(
     }
 }
 
-/// The text that the script in the source gives.
-fn read_and_build<S: Source, Z: Analyzers>(
+/// Writes the index of the script in the source, and answers its text.
+fn read_and_build<S: Source, Z: Analyzers, W: Directory>(
     alloc: Global,
     source: &mut S,
     analyzers: &Z,
+    work: &mut W,
 ) -> Result<Vec<u8>, Status>
     ensures ok { IfOk result (λ t. IfSome (S.left source.old)
         (λ bytes. (length bytes ≤ max_script)
@@ -143,7 +174,21 @@ fn read_and_build<S: Source, Z: Analyzers>(
     ensures later { IfErr result (λ status. IfRefused status (λ _. IfSome (S.left source.old)
         (λ bytes. ¬ (IsNarrow (Z.knows analyzers.now) (Z.tokens_of analyzers.now) bytes)))) }
     ensures stream { IsErrOf result Status.Stream
-        → Rose (S.faults source.old) (S.faults source.new) }
+        → Rose (S.faults source.old) (S.faults source.new) × (work.new ≡ work.old) }
+    ensures index { IsTrue (W.tells work.old) → OnOk result (IfSome (S.left source.old)
+        (λ bytes. HasWorkIndex (Z.knows analyzers.now) (Z.tokens_of analyzers.now) bytes (W.files work.new))) }
+    ensures was_empty { IsTrue (W.tells work.old) → OnOk result (len (W.files work.old) ≡ 0) }
+    ensures written { IfErr result (λ status. IfWritten status (λ _. IfSome (S.left source.old)
+        (IsNarrow (Z.knows analyzers.now) (Z.tokens_of analyzers.now)))) }
+    ensures end_written { IfErr result (λ status. IfWritten status (λ _. IsAtEnd (S.left source.new))) }
+    ensures calls { OnOk result (WorkDoes Status.Done
+        (record { tells = W.tells work.old; files = W.files work.old; seen = W.seen work.old; faults = W.faults work.old })
+        (record { tells = W.tells work.new; files = W.files work.new; seen = W.seen work.new; faults = W.faults work.new })) }
+    ensures calls_ended { IfErr result (λ status. WorkDoes status
+        (record { tells = W.tells work.old; files = W.files work.old; seen = W.seen work.old; faults = W.faults work.old })
+        (record { tells = W.tells work.new; files = W.files work.new; seen = W.seen work.new; faults = W.faults work.new })) }
+    ensures unwritten { IfErr result (λ status. IfRefused status (λ _. work.new ≡ work.old)) }
+    ensures unwritten_script { IsErrOf result Status.Script → work.new ≡ work.old }
     ensures never { IsErrOf result Status.Done → ⊥ }
     ensures never_words { IsErrOf result Status.Words → ⊥ }
     ensures taken { TakesAtMost (max_script + 1) (S.left source.old) (S.left source.new) }
@@ -156,12 +201,7 @@ fn read_and_build<S: Source, Z: Analyzers>(
         Err(ReadError::TooLong) => return Err(Status::Script),
         Err(ReadError::OutOfMemory) => return Err(Status::Memory),
     };
-    match text(alloc, analyzers, bytes) {
-        Ok(text) => Ok(text),
-        Err(ScriptError::NotJson) => Err(Status::Script),
-        Err(ScriptError::Later) => Err(Status::Refused(LATER)),
-        Err(ScriptError::OutOfMemory) => Err(Status::Memory),
-    }
+    build(alloc, analyzers, bytes, work)
 }
 
 fn is_build(words: &[String]) -> bool

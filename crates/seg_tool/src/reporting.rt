@@ -3,7 +3,7 @@ ghost use Rattle.std.specs.Prelude.{◌≡◌, ◌≤◌, ◌∷◌, ◌++◌, [
 ghost use Rattle.std.specs.Io.KnownBytes.{Appends};
 ghost use Rattle.seg_common.specs.Causes.{HasCause};
 ghost use Rattle.seg_common.specs.Streams.{StaysTold, AppendsPart};
-ghost use Rattle.seg_tool.specs.Statuses.{cause_words, schema_cause_words, argument_cause_words, numbers_text, cause_text, status_line};
+ghost use Rattle.seg_tool.specs.Statuses.{cause_words, fault_text, schema_cause_words, argument_cause_words, numbers_text, cause_text, status_line};
 
 use crate::status::Status;
 use seg_common::{Sink, SinkFailed, write_whole};
@@ -23,8 +23,26 @@ pub(crate) fn report<F: Sink>(faults: &mut F, status: &Status) -> Result<(), Sin
         Status::Words => write_whole(faults, b"words: not a known command\n"),
         Status::Script => write_whole(faults, b"script: not a valid script\n"),
         Status::Refused(error) => write_refusal(faults, error),
+        Status::Exists(_) => write_whole(faults, b"exists: a directory is not empty\n"),
+        Status::Directory(error) => write_fault(faults, error),
         Status::Stream => write_whole(faults, b"stream: read or write failed\n"),
         Status::Memory => write_whole(faults, b"memory: not enough\n"),
+    }
+}
+
+/// Which call of a directory failed.
+fn write_fault<F: Sink>(faults: &mut F, error: &TantivyError) -> Result<(), SinkFailed>
+    ensures ok { OnOk result (Appends (F.written faults.old) (F.written faults.new)
+        (fault_text error.now ++ 10 ∷ [])) }
+    ensures err { OnErr result (AppendsPart (F.written faults.old) (F.written faults.new)
+        (fault_text error.now ++ 10 ∷ [])) }
+    ensures told { StaysTold (F.written faults.old) (F.written faults.new) }
+    ensures cause { HasCause (F.faults faults.old) (F.faults faults.new) result }
+{
+    match error {
+        TantivyError::OpenReadError => write_whole(faults, b"directory: list or read failed\n"),
+        TantivyError::OpenWriteError => write_whole(faults, b"directory: write failed\n"),
+        _ => write_whole(faults, b"directory: meta or sync failed\n"),
     }
 }
 

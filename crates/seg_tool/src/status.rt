@@ -15,6 +15,10 @@ pub enum Status {
     Script,
     /// The script is refused.
     Refused(TantivyError),
+    /// A directory has files already.
+    Exists(TantivyError),
+    /// A directory failed.
+    Directory(TantivyError),
     /// The source or the sink failed.
     Stream,
     /// There was not enough memory.
@@ -31,6 +35,8 @@ impl Status {
             Status::Words => 2,
             Status::Script => 3,
             Status::Refused(_) => 4,
+            Status::Exists(_) => 5,
+            Status::Directory(_) => 6,
             Status::Stream => 8,
             Status::Memory => 9,
         }

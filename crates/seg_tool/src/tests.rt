@@ -2,7 +2,8 @@
 
 use crate::reporting::report;
 use crate::{Status, run};
-use seg_common::{MemorySink, MemorySource, Source};
+use seg_common::{FileName, MemorySink, MemorySource, SegmentComponent, SegmentId, Source};
+use seg_directory::{CallKind, Directory, FailingCall, MemoryDirectory};
 use seg_values::{
     ArgumentCause, DefaultTokenizer, Field, SchemaCause, TantivyError, TokenizerManager,
 };
@@ -17,12 +18,13 @@ const LATER: Status = Status::Refused(TantivyError::InvalidArgument(ArgumentCaus
 /// A call that no run comes to.
 const NEVER: u64 = u64::MAX;
 
-/// What is read, and where the text and the line on its status go.
+/// What is read, where the text and the line on its status go, and the directory of the index.
 #[derive(Drop)]
 struct Streams {
     source: MemorySource,
     sink: MemorySink,
     faults: MemorySink,
+    work: MemoryDirectory,
 }
 
 /// Streams of which each fails at one call; the sink has room for so many bytes.
@@ -34,10 +36,14 @@ fn streams_over(
     at_write: u64,
     at_fault: u64,
 ) -> Result<Streams, AllocError> {
+    let Ok(work) = MemoryDirectory::new(alloc, Vec::new(alloc)) else {
+        return Err(AllocError);
+    };
     Ok(Streams {
         source: MemorySource::new(alloc, script.as_bytes(), vec![in alloc; at_read]?)?,
         sink: MemorySink::new(alloc, room, vec![in alloc; at_write]?)?,
         faults: MemorySink::new(alloc, 200, vec![in alloc; at_fault]?)?,
+        work,
     })
 }
 
@@ -63,6 +69,7 @@ fn run_over(
         &mut streams.sink,
         &mut streams.faults,
         &analyzers,
+        &mut streams.work,
     );
     Ok(status.number())
 }
@@ -172,6 +179,71 @@ fn says_which_stream_failed(rt: HostRuntime) -> Result<(), Fail> {
     Ok(())
 }
 
+/// A run of a script of one document over a directory of which one call fails, or that has a file: its number.
+fn run_in(
+    alloc: Global,
+    streams: &mut Streams,
+    fails: Vec<FailingCall>,
+    has_file: bool,
+) -> Result<u8, AllocError> {
+    let Ok(mut work) = MemoryDirectory::new(alloc, fails) else {
+        return Err(AllocError);
+    };
+    if has_file {
+        let name = FileName::Part(SegmentId::from_u128(7), SegmentComponent::Store);
+        if work.put(name, b"old").is_err() {
+            return Err(AllocError);
+        }
+    }
+    streams.work = work;
+    run_over(alloc, &["build"], streams, true)
+}
+
+#[test]
+fn says_which_call_of_a_directory_failed(rt: HostRuntime) -> Result<(), Fail> {
+    let alloc = rt.alloc();
+    let script = script_of_titles(alloc, r#"{"add": [["title", "a"]]}"#)?;
+    for (kind, calls, line) in [
+        (CallKind::List, 2u64, "directory: list or read failed\n"),
+        (CallKind::WriteNew, 6, "directory: write failed\n"),
+        (
+            CallKind::SyncDirectory,
+            2,
+            "directory: meta or sync failed\n",
+        ),
+        (CallKind::AtomicWrite, 2, "directory: meta or sync failed\n"),
+    ] {
+        for number in 0..=calls {
+            let mut streams = streams_over(alloc, &script, 2000, NEVER, NEVER, NEVER)?;
+            let fails = vec![in alloc; FailingCall { kind, number }]?;
+            let ended = run_in(alloc, &mut streams, fails, false)?;
+            let (expected, said) = if number < calls { (6, line) } else { (0, "") };
+            assert_eq!(rt; ended, expected, "{line} {number}");
+            assert_eq!(rt; streams.faults.bytes(), said.as_bytes(), "{line} {number}");
+        }
+    }
+    Ok(())
+}
+
+#[test]
+fn refuses_a_directory_with_files(rt: HostRuntime) -> Result<(), Fail> {
+    let alloc = rt.alloc();
+    let script = script_of_titles(alloc, r#"{"add": [["title", "a"]]}"#)?;
+    let mut streams = streams_over(alloc, &script, 2000, NEVER, NEVER, NEVER)?;
+    let ended = run_in(alloc, &mut streams, Vec::new(alloc), true)?;
+    assert_eq!(rt; ended, 5);
+    assert!(rt; streams.sink.bytes().is_empty());
+    assert_eq!(rt;
+        streams.faults.bytes(),
+        "exists: a directory is not empty\n".as_bytes()
+    );
+    let mut streams = streams_over(alloc, &script, 2000, NEVER, NEVER, NEVER)?;
+    let ended = run_in(alloc, &mut streams, Vec::new(alloc), false)?;
+    assert_eq!(rt; ended, 0);
+    assert_eq!(rt; streams.work.list(alloc).ok(), Some(7));
+    Ok(())
+}
+
 #[test]
 fn numbers_and_lines(rt: HostRuntime) -> Result<(), Fail> {
     let alloc = rt.alloc();
@@ -181,6 +253,26 @@ fn numbers_and_lines(rt: HostRuntime) -> Result<(), Fail> {
         (Status::Done, 0, ""),
         (Status::Words, 2, "words: not a known command\n"),
         (Status::Script, 3, "script: not a valid script\n"),
+        (
+            Status::Exists(TantivyError::IndexAlreadyExists),
+            5,
+            "exists: a directory is not empty\n",
+        ),
+        (
+            Status::Directory(TantivyError::OpenReadError),
+            6,
+            "directory: list or read failed\n",
+        ),
+        (
+            Status::Directory(TantivyError::OpenWriteError),
+            6,
+            "directory: write failed\n",
+        ),
+        (
+            Status::Directory(TantivyError::IoError),
+            6,
+            "directory: meta or sync failed\n",
+        ),
         (Status::Stream, 8, "stream: read or write failed\n"),
         (Status::Memory, 9, "memory: not enough\n"),
         (LATER, 4, "refused: Later\n"),

@@ -1,13 +1,15 @@
-//! The program: runs the words of its command line over standard input and output.
+//! The program: runs the words of its command line over standard input and output, and the folders `work` and `out`.
 #![tactic(auto)]
 
 use seg_common::{ReaderSource, WriterSink};
+use seg_directory::FileDirectory;
 use seg_tool::{Status, run};
-use seg_values::{DefaultTokenizer, TokenizerManager};
+use seg_values::{DefaultTokenizer, TantivyError, TokenizerManager};
 use std::env::Env;
 use std::io::ErrorKind;
 use std::process::ExitCode;
-use std::{env, io};
+use std::rt::Files;
+use std::{env, fs, io};
 
 fn main(rt: HostRuntime) -> ExitCode {
     let alloc = rt.alloc();
@@ -26,6 +28,13 @@ fn main(rt: HostRuntime) -> ExitCode {
         // A word that is no text is no command either.
         Err(_) => Vec::new(alloc),
     };
+    let mut work = match folder(&rt, "work") {
+        Ok(work) => work,
+        Err(status) => return ExitCode::from(status.number()),
+    };
+    if let Err(status) = folder(&rt, "out") {
+        return ExitCode::from(status.number());
+    }
     let mut source = ReaderSource::new(rt.reader());
     let mut sink = WriterSink::new(io::writer(&rt));
     let mut faults = WriterSink::new(rt.stderr());
@@ -36,8 +45,29 @@ fn main(rt: HostRuntime) -> ExitCode {
         &mut sink,
         &mut faults,
         &analyzers,
+        &mut work,
     );
     ExitCode::from(status.number())
+}
+
+/// The directory over a folder, which is made where it is missing; where it can't be, the status to end with.
+fn folder<R: Files + AllocGlobal + Clone + Drop>(
+    rt: &R,
+    name: &str,
+) -> Result<FileDirectory<R>, Status> {
+    match fs::create_dir(rt, name) {
+        Ok(()) => {}
+        Err(e) if e.kind() == ErrorKind::AlreadyExists => {}
+        Err(e) if e.kind() == ErrorKind::OutOfMemory => return Err(Status::Memory),
+        Err(_) => return Err(Status::Directory(TantivyError::IoError)),
+    }
+    let Ok(files) = rt.clone() else {
+        return Err(Status::Memory);
+    };
+    match FileDirectory::new(files, rt.alloc(), name) {
+        Ok(directory) => Ok(directory),
+        Err(_) => Err(Status::Memory),
+    }
 }
 
 /// The words behind the program's name.
