@@ -7,12 +7,15 @@ pub mod Fitting
 pub mod Grouping
 pub mod Growing
 pub mod Hashed
+pub mod Keeping
+pub mod KeptBatch
 pub mod KeptLengths
 pub mod MakingFiles
 pub mod NoColumns
 pub mod NoneMade
 pub mod NormParts
 pub mod OneContents
+pub mod Passing
 pub mod Places
 pub mod Rising
 pub mod Running

@@ -70,7 +70,7 @@ module _ (files : List NewFile) (i : ℕ) (f : NewFile) (lt : i < length files) 
     seen = wrote-more old mid new (names_of (take i files)) (end f.name) before now;
   }
 
-  pub seen_end : (e : TantivyError) (old mid new : List Answer) → mid ≡ old ++ wrote (names_of (take i files)) → new ≡ mid ++ seen_writing f.name (Err e) → MakingSeen (names_of files) old (Err e) new
+  pub seen_end : (e : TantivyError) (old mid new : List Answer) → mid ≡ old ++ wrote (names_of (take i files)) → new ≡ mid ++ seen_writing f.name (Err e) → MakingSeen {A = Unit {0}} (names_of files) old (Err e) new
   seen_end IndexAlreadyExists old mid new before now = ends (λ name. answer.There name ∷ []) old mid new before now
   seen_end OpenWriteError old mid new before now = ends (λ name. answer.Failed kind.WriteNew ∷ []) old mid new before now
   seen_end _ old mid new before now = ends (λ name. []) old mid new before now

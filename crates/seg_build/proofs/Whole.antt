@@ -35,7 +35,7 @@ module _ (schema : Schema) (analyzer : Analyzer) where
   length-with_pairs id fields [] = refl
   length-with_pairs id fields (p ∷ ps) = length-with_pairs id (with_pair schema analyzer id fields p) ps ∙ length-added_at id p.0 fields (tokens_at analyzer p.1 (slice_get schema p.0)) (slice_get fields p.0)
 
-  length-with_documents : (first : ℕ) (fields : List FieldPostings) (ds : List Document) → length (with_documents schema analyzer first fields ds) ≡ length fields
+  pub length-with_documents : (first : ℕ) (fields : List FieldPostings) (ds : List Document) → length (with_documents schema analyzer first fields ds) ≡ length fields
   length-with_documents first fields [] = refl
   length-with_documents first fields (d ∷ ds) = length-with_documents (first + 1) (with_pairs schema analyzer first fields d) ds ∙ length-with_pairs first fields d
 

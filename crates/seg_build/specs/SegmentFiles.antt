@@ -43,7 +43,7 @@ pub record EndsAt (names : List FileName) (end : FileName → List Answer) (old 
   pub seen : new ≡ old ++ (wrote made ++ end name)
 
 -- each of some files was made, or it ended at one that is there, that failed, or for which there was no memory
-abbrev pub MakingSeen : List FileName → List Answer → Result Unit TantivyError → List Answer → Type 0
+abbrev pub MakingSeen : {A : Type 0} → List FileName → List Answer → Result A TantivyError → List Answer → Type 0
 MakingSeen names old (Ok _) new = new ≡ old ++ wrote names
 MakingSeen names old (Err IndexAlreadyExists) new = EndsAt names (λ name. answer.There name ∷ []) old new
 MakingSeen names old (Err OpenWriteError) new = EndsAt names (λ name. answer.Failed kind.WriteNew ∷ []) old new

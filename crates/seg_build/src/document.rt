@@ -1,10 +1,10 @@
 //! One more document.
-ghost use Rattle.std.specs.Prelude.{◌≡◌, true, false, Err, length, OnOk};
-ghost use Rattle.std.specs.List.{list_all, AllByRecursion};
+ghost use Rattle.std.specs.Prelude.{◌≡◌, ◌<◌, true, false, Err, length, nat_lt, ◌&&◌, IfOk, OnOk};
+ghost use Rattle.std.specs.List.{list_all, slice_get, AllByRecursion};
 ghost use Rattle.seg_values.specs.View.{tree_of};
-ghost use Rattle.seg_model.specs.Built.{is_built_entry};
+ghost use Rattle.seg_model.specs.Built.{is_built_entry, is_text_tree};
 ghost use Rattle.seg_model.specs.Fields.{indexing_tokenizer};
-ghost use Rattle.seg_build.specs.Steps.{with_pair, pair_fits, with_pairs, pairs_fit, document_fits};
+ghost use Rattle.seg_build.specs.Steps.{tokens_at, with_pair, pair_fits, with_pairs, pairs_fit, document_fits};
 
 use crate::error::IndexError;
 use crate::field::FieldPostings;
@@ -83,6 +83,24 @@ fn add_pair<Z: Analyzers>(
     ensures added { OnOk result (fields.new ≡ with_pair schema.now (Z.tokens_of analyzers.now) document fields.old (field, tree_of value.now)) }
     ensures later { result ≡ Err IndexError.Later → pair_fits schema.now (Z.tokens_of analyzers.now) document fields.old (field, tree_of value.now) ≡ false }
 {
+    let tokens = pair_tokens(alloc, analyzers, schema, field, value)?;
+    fields[field as usize].add_text(alloc, document, tokens.as_slice())
+}
+
+/// The tokens of a field's value, where it is a text of a field of the schema.
+pub(crate) fn pair_tokens<Z: Analyzers>(
+    alloc: Global,
+    analyzers: &Z,
+    schema: &[FieldEntry],
+    field: u32,
+    value: &OwnedValue,
+) -> Result<Tokens, IndexError>
+    requires known { AllByRecursion (λ e. Z.knows analyzers.now (indexing_tokenizer e)) schema.now }
+    requires entries { list_all is_built_entry schema.now ≡ true }
+    ensures tokens { IfOk result (λ tokens. tokens ≡ tokens_at (Z.tokens_of analyzers.now) (tree_of value.now) (slice_get schema.now field)) }
+    ensures is_text { OnOk result ((nat_lt field (length schema.now) && is_text_tree (tree_of value.now)) ≡ true) }
+    ensures later { result ≡ Err IndexError.Later → (nat_lt field (length schema.now) && is_text_tree (tree_of value.now)) ≡ false }
+{
     let at = field as usize;
     if at >= schema.len() {
         return Err(IndexError::Later);
@@ -93,11 +111,11 @@ fn add_pair<Z: Analyzers>(
     let mut tokens = Tokens::new(alloc);
     let name = tokenizer_name(&schema[at]);
     analyzers.tokens(alloc, name, text.as_str(), &mut tokens)?;
-    fields[at].add_text(alloc, document, tokens.as_slice())
+    Ok(tokens)
 }
 
 /// The name of the analyzer of a text field.
-fn tokenizer_name(entry: &FieldEntry) -> &str
+pub(crate) fn tokenizer_name(entry: &FieldEntry) -> &str
     requires { is_built_entry entry.now ≡ true }
     ensures { result.now ≡ indexing_tokenizer entry.now }
 {

@@ -5,7 +5,7 @@ ghost use Rattle.seg_build.specs.Field.{start_in, count_in, text_fits, added};
 
 use crate::error::IndexError;
 use crate::terms::TermIndex;
-use crate::tokens::{add_tokens, counted_len};
+use crate::tokens::{add_tokens, counted_len, next_start};
 use seg_values::Token;
 use std::alloc::Global;
 
@@ -48,7 +48,10 @@ impl FieldPostings {
         if more > (u32::MAX - count) as usize {
             return Err(IndexError::Later);
         }
-        let next = add_tokens(&mut self.terms, alloc, document, start, tokens)?;
+        let Some(next) = next_start(start, tokens) else {
+            return Err(IndexError::Later);
+        };
+        add_tokens(&mut self.terms, alloc, document, start, tokens)?;
         self.document = document;
         self.start = next;
         self.count = count + more as u32;

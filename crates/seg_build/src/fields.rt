@@ -46,6 +46,18 @@ impl Model for IndexedFields {
 }
 
 impl IndexedFields {
+    /// The terms of fields, where they can be written.
+    pub(crate) fn sorted(
+        alloc: Global,
+        fields: Vec<FieldPostings>,
+    ) -> Result<IndexedFields, AllocError>
+        requires writable { AllByRecursion CanBeWritten (map (λ f. entries f.terms) fields.items) }
+        ensures { IfOk result (λ sorted. sorted ≡ map (λ f. entries f.terms) fields.items) }
+    {
+        let fields = sort_fields(alloc, fields)?;
+        Ok(IndexedFields { fields })
+    }
+
     pub fn len(&self) -> usize
         ensures { result ≡ length self.now }
     {
@@ -135,7 +147,7 @@ fn index_slices<Z: Analyzers>(
     Ok(sorted)
 }
 
-fn are_all_built(schema: &[FieldEntry]) -> bool
+pub(crate) fn are_all_built(schema: &[FieldEntry]) -> bool
     ensures { result ≡ list_all is_built_entry schema.now }
 {
     schema.iter().all(is_built)
@@ -147,7 +159,10 @@ fn is_built(entry: &FieldEntry) -> bool
     entry.kind == FieldKind::Text && entry.stored && entry.index == IndexOption::Positions
 }
 
-fn new_fields(alloc: Global, schema: &[FieldEntry]) -> Result<Vec<FieldPostings>, AllocError>
+pub(crate) fn new_fields(
+    alloc: Global,
+    schema: &[FieldEntry],
+) -> Result<Vec<FieldPostings>, AllocError>
     ensures { IfOk result (λ fields. fields.items ≡ map (λ _. fresh) schema.now) }
 {
     schema

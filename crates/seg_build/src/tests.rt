@@ -15,8 +15,8 @@ use std::test::Fail;
 
 /// An analyzer that makes of each text one token at each of some positions.
 #[derive(Drop)]
-struct Repeats<'a> {
-    positions: &'a [u32],
+pub(crate) struct Repeats<'a> {
+    pub positions: &'a [u32],
 }
 
 impl Analyzers for Repeats<'_> {
@@ -68,7 +68,7 @@ fn text_entry(alloc: Global, name: &str, norms: bool) -> Result<FieldEntry, Allo
 }
 
 /// A field that has lengths, and one that has none.
-fn title_and_body(alloc: Global) -> Result<Schema, AllocError> {
+pub(crate) fn title_and_body(alloc: Global) -> Result<Schema, AllocError> {
     let title = text_entry(alloc, "title", true)?;
     let body = text_entry(alloc, "body", false)?;
     let mut builder = SchemaBuilder::new(alloc);
@@ -78,7 +78,10 @@ fn title_and_body(alloc: Global) -> Result<Schema, AllocError> {
     Ok(builder.build())
 }
 
-fn documents_of(alloc: Global, documents: &[&[(u32, &str)]]) -> Result<Documents, AllocError> {
+pub(crate) fn documents_of(
+    alloc: Global,
+    documents: &[&[(u32, &str)]],
+) -> Result<Documents, AllocError> {
     let mut out = Documents::new(alloc);
     for pairs in documents {
         let mut document = TantivyDocument::new(alloc);

@@ -114,15 +114,15 @@ ended names e end old new is s = record {
   seen = s.seen;
 }
 
-making-failed : (names : List FileName) (e : TantivyError) (old new : List Answer) → MakingErrors e → MakingSeen names old (Err e) new → Stops (wrote names) e old new
+making-failed : (names : List FileName) (e : TantivyError) (old new : List Answer) → MakingErrors e → MakingSeen {A = Unit {0}} names old (Err e) new → Stops (wrote names) e old new
 making-failed names e old new (inl is) seen =
-    subst (λ (x : TantivyError). MakingSeen names old (Err x) new → Stops (wrote names) x old new) (sym is)
+    subst (λ (x : TantivyError). MakingSeen {A = Unit {0}} names old (Err x) new → Stops (wrote names) x old new) (sym is)
     (λ s. ended names IndexAlreadyExists (λ name. answer.There name ∷ []) old new (λ name. inr (name, refl)) s) seen
 making-failed names e old new (inr (inl is)) seen =
-    subst (λ (x : TantivyError). MakingSeen names old (Err x) new → Stops (wrote names) x old new) (sym is)
+    subst (λ (x : TantivyError). MakingSeen {A = Unit {0}} names old (Err x) new → Stops (wrote names) x old new) (sym is)
     (λ s. ended names OpenWriteError (λ name. answer.Failed kind.WriteNew ∷ []) old new (λ name. refl) s) seen
 making-failed names e old new (inr (inr is)) seen =
-    subst (λ (x : TantivyError). MakingSeen names old (Err x) new → Stops (wrote names) x old new) (sym is)
+    subst (λ (x : TantivyError). MakingSeen {A = Unit {0}} names old (Err x) new → Stops (wrote names) x old new) (sym is)
     (λ s. ended names OutOfMemory (λ name. []) old new (λ name. refl) s) seen
 
 -- ---- faults

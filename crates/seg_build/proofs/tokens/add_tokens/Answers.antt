@@ -1,9 +1,11 @@
-use Rattle.std.proofs.Common.{refl, arith}
-use Rattle.seg_model.specs.Occurrences.{counted}
-use Rattle.seg_build.proofs.Rising.{reach-ge, rises-first}
+use Rattle.std.proofs.Common.{◌<◌, ◌^◌, refl, arith}
+use Rattle.seg_model.specs.Checked.{is_rising, is_u32}
+use Rattle.seg_model.specs.Occurrences.{counted, start_after}
+use Rattle.seg_build.proofs.BuiltEntries.{both_true}
+use Rattle.seg_build.proofs.Fitting.{is_less}
 use Rattle.seg_build.proofs.tokens.add_tokens.Goals as goal
 
 pub loop-token-init : goal.loop-token-init
 loop-token-init c =
-    let from = reach-ge c.args.start (counted c.args.tokens.now) in
-    record { terms = refl; reached = grind (arith, from); rising = rises-first (counted c.args.tokens.now); begun = grind arith; small = grind arith }
+    let next : start_after c.args.start c.args.tokens.now < 2 ^ 32 = is_less _ _ (both_true (is_rising (counted c.args.tokens.now)) (is_u32 (start_after c.args.start c.args.tokens.now)) c.requires.fits).1 in
+    record { terms = refl; small = omega (arith, next) }

@@ -1,18 +1,13 @@
-use Rattle.std.proofs.Common.{◌≡◌, ◌≤◌, ◌<◌, ◌^◌, max, drop, []}
+use Rattle.std.proofs.Common.{◌≡◌, ◌<◌, ◌^◌, drop, []}
 use Rattle.seg_model.specs.Occurrences.{counted, reach, placed_from}
-use Rattle.seg_model.specs.Checked.{is_rising}
 use Rattle.seg_build.specs.Adding.{with_occurrences}
-use Rattle.seg_build.proofs.Rising.{rises}
 use Rattle.seg_build.proofs.tokens.add_tokens.Given as goal
 
--- what is so far, with what is left, is what all the tokens give
+-- what is so far, with what is left, is what all the tokens give, and what is left reaches no further than all
 abbrev pub invariant-loop-token : goal.invariant-loop-token
 invariant-loop-token l =
     let left = drop l.token-index l.tokens in
     record {
       terms : with_occurrences l.terms l.document (placed_from l.start [] left) ≡ with_occurrences l.initial.terms l.document (placed_from l.start [] l.tokens);
-      reached : max l.end (reach l.start (counted left)) ≡ reach l.start (counted l.tokens);
-      rising : rises l.last (counted left) ≡ is_rising (counted l.tokens);
-      begun : l.start ≤ l.end;
-      small : l.end < 2 ^ 32;
+      small : reach l.start (counted left) < 2 ^ 32;
     }

@@ -1,0 +1,155 @@
+-- What a writer keeps behind one more document.
+use Rattle.std.proofs.Common.{◌≡◌, ℕ, suc, ◌+◌, ◌<◌, ◌≤◌, ◌^◌, ◌-◌, Bool, true, List, [], ◌∷◌, ◌++◌, map, length, take, drop, get_or, Some, None, Option, option_map, refl, sym, ap, ◌∙◌, subst, arith, length-append}
+use Rattle.std.specs.Prelude.{IsSomeAnd, IfSome}
+use Rattle.std.specs.List.{list_all, AllByRecursion}
+use Rattle.seg_common.specs.Growing.{HasGrown}
+use Rattle.seg_values.specs.Tree.{Document}
+use Rattle.seg_values.specs.Utf8.{IsUtf8Document}
+use Rattle.seg_model.specs.Built.{is_built_entry, is_built_document, is_taken}
+use Rattle.seg_model.specs.Fields.{Schema, Analyzer}
+use Rattle.seg_model.specs.Reading.{stored_document}
+use Rattle.seg_model.specs.StoredForm.{stored_form}
+use Rattle.seg_store.specs.Writing.{taken_count}
+use Rattle.seg_build.specs.Batch.{kept_norms}
+use Rattle.seg_build.specs.Checking.{with_texts, document_texts}
+use Rattle.seg_build.specs.Kept.{Kept}
+use Rattle.seg_build.specs.Lengths.{AreUpTo, with_counts}
+use Rattle.seg_build.specs.SegmentWriting.{kept_of, is_addable, Stores, IsKeptOf, IsUnderWay, HasPlace, Adds, HasRoom, HasTaken}
+use Rattle.seg_build.specs.Steps.{fresh, with_documents, with_pairs}
+use Rattle.seg_build.specs.declared.field_text.FieldText.{FieldText}
+use Rattle.seg_build.specs.declared.writer_parts.WriterParts.{WriterParts}
+use Rattle.seg_build.proofs.BuiltEntries.{both_true}
+use Rattle.seg_build.proofs.Fitting.{and_true}
+use Rattle.seg_build.proofs.KeptLengths.{room_for, fields_turn, lengths_turn}
+use Rattle.seg_build.proofs.Passing.{with_texts-pairs}
+use Rattle.seg_build.proofs.StoringTexts.{HasStored, shallow_at, stored_turn}
+use Rattle.seg_build.proofs.Turns.{take-front}
+
+-- ---- lists with one more behind
+
+drop-front : {X : Type 0} (xs : List X) (x : X) → drop (length xs) (xs ++ x ∷ []) ≡ x ∷ drop (length xs + 1) (xs ++ x ∷ [])
+drop-front [] x = refl
+drop-front (y ∷ ys) x = drop-front ys x ∙ ap (λ n. x ∷ drop n (y ∷ (ys ++ x ∷ []))) (let z : suc (length ys + 1) ≡ suc (length ys) + 1 = omega arith in z)
+
+get_or-last : {X : Type 0} (xs : List X) (x : X) → x ≡ get_or (xs ++ x ∷ []) (length xs) x
+get_or-last [] x = refl
+get_or-last (y ∷ ys) x = get_or-last ys x
+
+take-all : {X : Type 0} (xs : List X) → take (length xs) xs ≡ xs
+take-all [] = refl
+take-all (x ∷ xs) = ap (λ l. x ∷ l) (take-all xs)
+
+all-last : {X : Type 0} (test : X → Bool) (xs : List X) (x : X) → list_all test xs ≡ true → test x ≡ true → list_all test (xs ++ x ∷ []) ≡ true
+all-last test [] x h t = and_true (test x) true t refl
+all-last test (y ∷ ys) x h t =
+    let two = both_true (test y) (list_all test ys) h in
+    and_true (test y) (list_all test (ys ++ x ∷ [])) two.0 (all-last test ys x two.1 t)
+
+every-last : {X : Type 0} (P : X → Type 0) (xs : List X) (x : X) → AllByRecursion P xs → P x → AllByRecursion P (xs ++ x ∷ [])
+every-last P [] x h p = (p, tt)
+every-last P (y ∷ ys) x h p = (h.0, every-last P ys x h.1 p)
+
+weaker : {X : Type 0} (P Q : X → Type 0) (o : Option X) → ((x : X) → P x → Q x) → IsSomeAnd o P → IsSomeAnd o Q
+weaker P Q (Some x) f h = f x h
+weaker P Q None f h = absurd h
+
+if_some : {X : Type 0} (P : X → Type 0) (o : Option X) → IsSomeAnd o P → IfSome o P
+if_some P (Some x) h = h
+if_some P None h = absurd h
+
+module _ (schema : Schema) (analyzer : Analyzer) (entries : list_all is_built_entry schema ≡ true) (documents : List Document) (d : Document) (addable : is_addable schema analyzer d ≡ true) (utf8 : IsUtf8Document d) (stamps : List ℕ) (stamp : ℕ) (old : Kept) (are : IsKeptOf schema analyzer documents stamps old) (place : HasPlace old) where
+  abbrev all : List Document
+  all = documents ++ d ∷ []
+
+  abbrev many : ℕ
+  many = length documents
+
+  built : is_built_document schema d ≡ true
+  built = (both_true (is_built_document schema d) (is_taken schema analyzer d) addable).0
+
+  more : length all ≡ many + 1
+  more = length-append documents (d ∷ [])
+
+  within : many ≤ length all
+  within = omega (arith, more)
+
+  before : take many all ≡ documents
+  before = take-front documents (d ∷ []) many refl
+
+  whole : take (many + 1) all ≡ all
+  whole = ap (λ n. take n all) (sym more) ∙ take-all all
+
+  count : length old.stamps ≡ many
+  count = ap length are.stamped ∙ are.each
+
+  few : many < 2 ^ 31 - 1
+  few = omega (arith, count, place)
+
+  pub has_room : HasRoom d old
+  has_room = record {
+    place = place;
+    shallow = shallow_at schema (d ∷ []) 0 d (omega arith) refl (and_true (is_built_document schema d) true built refl);
+    norms = subst (λ n. IsSomeAnd old.norms (AreUpTo n)) (sym count) (room_for schema analyzer all many within old.norms (are.norms ∙ ap (λ ds. Some (kept_norms schema analyzer ds)) (sym before)));
+    store = if_some _ old.store (weaker (Stores schema documents) (λ w. taken_count w < 2 ^ 31 - 1) old.store (λ w s. omega (arith, s.count, few)) are.store);
+  }
+
+  module _ (texts : List FieldText) (texts_are : texts ≡ document_texts schema analyzer d) (new : Kept) (took : HasTaken schema d texts stamp old new) where
+    now : old.fields ≡ with_documents schema analyzer 0 (map (λ _. fresh) schema) (take many all)
+    now = are.fields ∙ ap (with_documents schema analyzer 0 (map (λ _. fresh) schema)) (sym before)
+
+    after : new.fields ≡ with_pairs schema analyzer many old.fields d
+    after = took.fields ∙ ap (λ n. with_texts n old.fields texts) count ∙ ap (with_texts many old.fields) texts_are ∙ with_texts-pairs schema analyzer many old.fields d
+
+    here : drop many all ≡ d ∷ drop (many + 1) all
+    here = drop-front documents d
+
+    stored : IsSomeAnd new.store (HasStored schema all (many + 1))
+    stored = stored_turn schema all many d (omega (arith, more)) (get_or-last documents d) (stored_form schema d) old.store new.store took.store took.reads
+        (weaker (Stores schema documents) (HasStored schema all many) old.store (λ w s. record { read = s.read ∙ ap (map (stored_document schema)) (sym before); taken = s.count }) are.store)
+
+    pub one_more : IsKeptOf schema analyzer (documents ++ d ∷ []) (stamps ++ stamp ∷ []) new
+    one_more = record {
+      addable = all-last (is_addable schema analyzer) documents d are.addable addable;
+      few = omega (arith, few, more);
+      utf8 = every-last IsUtf8Document documents d are.utf8 utf8;
+      fields = fields_turn schema analyzer all many within entries d here (map (λ _. fresh) schema) old.fields new.fields now after ∙ ap (with_documents schema analyzer 0 (map (λ _. fresh) schema)) whole;
+      norms = lengths_turn schema analyzer all many within entries d here (map (λ _. fresh) schema) old.fields new.fields refl now after old.norms new.norms (are.norms ∙ ap (λ ds. Some (kept_norms schema analyzer ds)) (sym before)) (subst (λ n. HasGrown old.norms new.norms (with_counts n new.fields)) count took.norms) ∙ ap (λ ds. Some (kept_norms schema analyzer ds)) whole;
+      store = weaker (HasStored schema all (many + 1)) (Stores schema all) new.store (λ w s. record { read = s.read ∙ ap (map (stored_document schema)) whole; count = s.taken ∙ sym more }) stored;
+      stamped = took.stamps ∙ ap (λ l. l ++ stamp ∷ []) are.stamped;
+      each = omega (arith, length-append stamps (stamp ∷ []), more, are.each);
+    }
+
+-- ---- the parts of a writer
+
+pub of_parts : (P : Kept → Type 0) (o : Option WriterParts) (p : WriterParts) → o ≡ Some p → IsSomeAnd (option_map kept_of o) P → P (kept_of p)
+of_parts P o p is h = subst (λ x. IsSomeAnd (option_map kept_of x) P) is h
+
+pub to_parts : (P : Kept → Type 0) (o : Option WriterParts) (p : WriterParts) → o ≡ Some p → P (kept_of p) → IsSomeAnd (option_map kept_of o) P
+to_parts P o p is h = subst (λ x. IsSomeAnd (option_map kept_of x) P) (sym is) h
+
+module _ (schema : Schema) (analyzer : Analyzer) (entries : list_all is_built_entry schema ≡ true) (d : Document) (addable : is_addable schema analyzer d ≡ true) (utf8 : IsUtf8Document d) (stamp : ℕ) (parts : Option WriterParts) (p : WriterParts) (is : parts ≡ Some p) (place : HasPlace (kept_of p)) where
+  under : IfSome parts (λ p. IsUnderWay schema analyzer (kept_of p)) → IsUnderWay schema analyzer (kept_of p)
+  under h = subst (λ x. IfSome x (λ p. IsUnderWay schema analyzer (kept_of p))) is h
+
+  -- a writer under way can take one more document
+  pub room_of : IfSome parts (λ p. IsUnderWay schema analyzer (kept_of p)) → HasRoom d (kept_of p)
+  room_of h = let u = under h in has_room schema analyzer entries u.documents d addable utf8 u.stamps stamp (kept_of p) u.are place
+
+  module _ (texts : List FieldText) (texts_are : texts ≡ document_texts schema analyzer d) (new : WriterParts) (took : HasTaken schema d texts stamp (kept_of p) (kept_of new)) where
+    -- is under way behind it
+    pub still_under_way : IfSome parts (λ p. IsUnderWay schema analyzer (kept_of p)) → IsUnderWay schema analyzer (kept_of new)
+    still_under_way h =
+        let u = under h in
+        record {
+          documents = u.documents ++ d ∷ [];
+          stamps = u.stamps ++ stamp ∷ [];
+          are = one_more schema analyzer entries u.documents d addable utf8 u.stamps stamp (kept_of p) u.are place texts texts_are (kept_of new) took;
+        }
+
+    -- and has added it
+    pub adds : (id : ℕ) → Adds analyzer d stamp (record { schema = schema; id = id; kept = option_map kept_of parts }) (record { schema = schema; id = id; kept = Some (kept_of new) })
+    adds id = record {
+      place = to_parts HasPlace parts p is place;
+      addable = addable;
+      behind = λ documents stamps h. one_more schema analyzer entries documents d addable utf8 stamps stamp (kept_of p) (of_parts (IsKeptOf schema analyzer documents stamps) parts p is h) place texts texts_are (kept_of new) took;
+    }

@@ -1,0 +1,67 @@
+-- A document while it is checked, value by value: what the steps between say, of which no public clause speaks.
+use Rattle.std.specs.Prelude.{ℕ, ◌+◌, List, [], ◌∷◌, map, length, Bool, true, false, ◌&&◌, nat_lt, Option, Some, None, slice_set}
+use Rattle.std.specs.List.{slice_get}
+use Rattle.seg_values.specs.declared.token.Token.{Token}
+use Rattle.seg_values.specs.Tree.{Tree, Document}
+use Rattle.seg_model.specs.Built.{is_text_tree}
+use Rattle.seg_model.specs.Checked.{is_u32}
+use Rattle.seg_model.specs.Fields.{Schema, Analyzer}
+use Rattle.seg_model.specs.Occurrences.{counted, start_after}
+use Rattle.seg_build.specs.Field.{start_in, count_in, positions_fit}
+use Rattle.seg_build.specs.Steps.{tokens_at, added_at}
+use Rattle.seg_build.specs.declared.checking.Progress.{Progress}
+use Rattle.seg_build.specs.declared.field.FieldPostings.{FieldPostings}
+use Rattle.seg_build.specs.declared.field_text.FieldText.{FieldText}
+
+-- how far a document has come in a field
+abbrev pub progress_in : ℕ → FieldPostings → Progress
+progress_in id field = record { start = start_in id field; count = count_in id field }
+
+-- before any text of a document
+abbrev pub at_start : Progress
+at_start = record { start = 0; count = 0 }
+
+-- whether one more text fits
+abbrev pub text_passes : Progress → List Token → Bool
+text_passes p tokens = is_u32 (p.count + length (counted tokens)) && positions_fit p.start tokens
+
+-- behind one more text
+abbrev pub advanced : Progress → List Token → Progress
+advanced p tokens = record { start = start_after p.start tokens; count = p.count + length (counted tokens) }
+
+-- whether one more text of a field fits, if the field is there
+abbrev pub passes_at : List Token → Option Progress → Bool
+passes_at tokens None = false
+passes_at tokens (Some p) = text_passes p tokens
+
+-- the fields where the one at a place has one more text
+abbrev pub advanced_at : ℕ → List Progress → List Token → Option Progress → List Progress
+advanced_at place reached tokens None = reached
+advanced_at place reached tokens (Some p) = slice_set reached place (advanced p tokens)
+
+-- the fields with some more texts of a document
+abbrev pub with_texts : ℕ → List FieldPostings → List FieldText → List FieldPostings
+with_texts id fields [] = fields
+with_texts id fields (t ∷ ts) = with_texts id (added_at id t.field fields t.tokens (slice_get fields t.field)) ts
+
+module _ (schema : Schema) (analyzer : Analyzer) where
+  -- a value of a document as its tokens
+  abbrev pub text_of : ℕ × Tree → FieldText
+  text_of p = record { field = p.0; tokens = tokens_at analyzer p.1 (slice_get schema p.0) }
+
+  -- and each
+  abbrev pub document_texts : Document → List FieldText
+  document_texts document = map text_of document
+
+  -- whether one more value of a document fits
+  abbrev pub pair_passes : List Progress → ℕ × Tree → Bool
+  pair_passes reached p = nat_lt p.0 (length schema) && is_text_tree p.1 && passes_at (tokens_at analyzer p.1 (slice_get schema p.0)) (slice_get reached p.0)
+
+  -- behind one more value
+  abbrev pub behind_pair : List Progress → ℕ × Tree → List Progress
+  behind_pair reached p = advanced_at p.0 reached (tokens_at analyzer p.1 (slice_get schema p.0)) (slice_get reached p.0)
+
+  -- whether some values fit, one after another
+  abbrev pub pairs_pass : List Progress → Document → Bool
+  pairs_pass reached [] = true
+  pairs_pass reached (p ∷ ps) = pair_passes reached p && pairs_pass (behind_pair reached p) ps

@@ -1,0 +1,12 @@
+//! A document that is added.
+
+use seg_values::TantivyDocument;
+
+pub type Opstamp = u64;
+
+/// A document that is added, with its stamp.
+#[derive(Drop)]
+pub struct AddOperation {
+    pub opstamp: Opstamp,
+    pub document: TantivyDocument,
+}

@@ -1,0 +1,196 @@
+//! The writer of a segment.
+ghost use Rattle.std.specs.Prelude.{◌≡◌, ◌<◌, ◌^◌, ◌⊎◌, [], List, ℕ, length, map, Some, None, Err, IsTrue, IfOk, IfErr, IfSome, OnOk};
+ghost use Rattle.std.specs.FinMap.{entries, get};
+ghost use Rattle.seg_directory.specs.Faults.{FaultHasCause};
+ghost use Rattle.seg_values.specs.Tree.{Document};
+ghost use Rattle.seg_model.specs.IndexOfFiles as index;
+ghost use Rattle.seg_model.specs.Reading.{all_terms};
+ghost use Rattle.seg_model.specs.Valid.{Known};
+ghost use Rattle.seg_build.specs.Forms.{segment_forms};
+ghost use Rattle.seg_build.specs.SegmentFiles.{KeepsAllBut, MakingSeen, segment_names};
+ghost use Rattle.seg_build.specs.Totals.{TotalsAreCounts};
+ghost use Rattle.seg_build.specs.WriterStart.{Tests, start_refusal};
+
+use crate::add_operation::{AddOperation, Opstamp};
+use crate::checking::{Progress, checked_texts};
+use crate::error::IndexError;
+use crate::finishing::finish;
+use crate::writer_parts::WriterParts;
+use crate::writer_start::start_refusal;
+use seg_common::{FileName, SegmentComponent};
+use seg_directory::Directory;
+use seg_meta::{IndexSettings, Segment};
+use seg_values::{Analyzers, ArgumentCause, TResult, TantivyError};
+use std::alloc::Global;
+use std::marker::Model;
+
+/// The most documents of a segment.
+const MAX_DOCUMENTS: usize = 0x7fff_ffff;
+
+/// Takes documents one by one, and makes the six files of their segment. Once memory was lacking it has nothing any more.
+#[derive(Drop)]
+pub struct SegmentWriter<'a, Z: Analyzers> {
+    alloc: Global,
+    analyzers: &'a Z,
+    segment: Segment,
+    /// Room for how far a document has come in each field.
+    reached: Vec<Progress>,
+    parts: Option<WriterParts>,
+}
+
+impl<'a, Z: Analyzers> Model for SegmentWriter<'a, Z> {
+    ghost use Rattle.std.specs.Prelude.{◌≡◌, true, not, option_map, IfSome};
+    ghost use Rattle.std.specs.List.{list_all, AllByRecursion};
+    ghost use Rattle.seg_model.specs.Built.{is_built_entry};
+    ghost use Rattle.seg_model.specs.Fields.{indexing_tokenizer};
+    ghost use Rattle.std.specs.Coded.{codes};
+    ghost use Rattle.seg_build.specs.Kept.{kept_code};
+    ghost use Rattle.seg_build.specs.SegmentWriting.{SegmentWriting, kept_of, IsUnderWay};
+
+    ghost Value = { Z × SegmentWriting };
+
+    ghost coded = { Prim.hlevel (codes, kept_code) };
+
+    ghost view = { λ w. (
+      w.analyzers.now,
+      record {
+        schema = w.segment.schema;
+        id = w.segment.meta.id;
+        kept = option_map kept_of w.parts;
+      },
+    ) };
+
+    ghost invariant = { λ w. (list_all is_built_entry w.segment.schema ≡ true)
+        × (list_all (λ e. not e.fast) w.segment.schema ≡ true)
+        × AllByRecursion (λ e. Z.knows w.analyzers.now (indexing_tokenizer e)) w.segment.schema
+        × IfSome w.parts (λ parts. IsUnderWay w.segment.schema (Z.tokens_of w.analyzers.now) (kept_of parts)) };
+}
+
+impl<'a, Z: Analyzers> SegmentWriter<'a, Z> {
+    ghost use Rattle.seg_build.specs.SegmentWriting.{document_count, IsOfSame, Adds, AddsNone, Writes};
+
+    /// A writer of no documents.
+    pub fn for_segment(
+        alloc: Global,
+        memory_budget_in_bytes: usize,
+        segment: Segment,
+        settings: &IndexSettings,
+        analyzers: &'a Z,
+    ) -> TResult<SegmentWriter<'a, Z>>
+        ensures ok { IfOk result (λ w. Writes (Z.tokens_of analyzers.now) [] [] w.1) }
+        ensures of { IfOk result (λ w. (w.0 ≡ analyzers.now) × (w.1.schema ≡ segment.schema) × (w.1.id ≡ segment.meta.id)) }
+        ensures refused { (known : Known) → Tests known (Z.knows analyzers.now) → length segment.schema < 2 ^ 32
+            → IfSome (start_refusal known memory_budget_in_bytes segment.schema settings.now) (λ e. result ≡ Err e) }
+        ensures causes { (known : Known) → Tests known (Z.knows analyzers.now)
+            → IfErr result (λ e. (start_refusal known memory_budget_in_bytes segment.schema settings.now ≡ Some e) ⊎ (e ≡ TantivyError.OutOfMemory)) }
+    {
+        let schema = segment.schema();
+        if let Some(e) = start_refusal(
+            analyzers,
+            memory_budget_in_bytes,
+            schema.fields(),
+            settings,
+        ) {
+            return Err(e);
+        }
+        let Ok(parts) = WriterParts::new(alloc, schema, settings.docstore_blocksize) else {
+            return Err(TantivyError::OutOfMemory);
+        };
+        Ok(SegmentWriter {
+            alloc,
+            analyzers,
+            segment,
+            reached: Vec::new(alloc),
+            parts: Some(parts),
+        })
+    }
+
+    /// How many documents it has; none any more, once memory was lacking.
+    pub fn max_doc(&self) -> u32
+        ensures { result ≡ document_count self.now.1.kept }
+    {
+        match &self.parts {
+            Some(parts) => parts.stamps.len() as u32,
+            None => 0,
+        }
+    }
+
+    /// How many documents it has: none is deleted yet.
+    pub fn num_docs(&self) -> u32
+        ensures { result ≡ document_count self.now.1.kept }
+    {
+        self.max_doc()
+    }
+
+    /// Adds a document behind the others.
+    pub fn add_document(&mut self, operation: AddOperation) -> TResult<()>
+        ensures ok { OnOk result (Adds (Z.tokens_of self.old.0) operation.document operation.opstamp self.old.1 self.new.1) }
+        ensures err { IfErr result (AddsNone (Z.tokens_of self.old.0) operation.document self.old.1 self.new.1) }
+        ensures analyzers { self.new.0 ≡ self.old.0 }
+        ensures same { IsOfSame self.old.1 self.new.1 }
+    {
+        let Some(parts) = self.parts.take() else {
+            return Err(TantivyError::SystemError);
+        };
+        if parts.stamps.len() >= MAX_DOCUMENTS {
+            self.parts = Some(parts);
+            return Err(TantivyError::InvalidArgument(ArgumentCause::Documents));
+        }
+        let AddOperation { opstamp, document } = operation;
+        document.texts_are_utf8();
+        let schema = self.segment.schema();
+        match checked_texts(
+            self.alloc,
+            self.analyzers,
+            schema.fields(),
+            &document,
+            &mut self.reached,
+        ) {
+            Ok(texts) => match parts.with_document(self.alloc, schema, &document, &texts, opstamp) {
+                Ok(parts) => {
+                    self.parts = Some(parts);
+                    Ok(())
+                }
+                Err(_) => Err(TantivyError::OutOfMemory),
+            },
+            Err(IndexError::Later) => {
+                self.parts = Some(parts);
+                Err(TantivyError::InvalidArgument(ArgumentCause::Later))
+            }
+            Err(IndexError::OutOfMemory) => Err(TantivyError::OutOfMemory),
+        }
+    }
+
+    /// Makes the six files of the segment, which then stands for the documents that were added, and answers their stamps.
+    pub fn finalize<W: Directory>(self, directory: &mut W) -> TResult<Vec<Opstamp>>
+        ensures stands { IsTrue (W.tells directory.old) → OnOk result ((documents : List Document) (stamps : List ℕ)
+            → Writes (Z.tokens_of self.entry.0) documents stamps self.entry.1
+            → index.StandsFor segment_forms (W.files directory.new) self.entry.1.schema (Z.tokens_of self.entry.0) self.entry.1.id documents) }
+        ensures totals { IsTrue (W.tells directory.old) → OnOk result ((documents : List Document) (stamps : List ℕ)
+            → Writes (Z.tokens_of self.entry.0) documents stamps self.entry.1
+            → (postings : List ℕ) → get (W.files directory.new) (FileName.Part self.entry.1.id SegmentComponent.Postings) ≡ Some postings
+            → TotalsAreCounts postings (map entries (all_terms self.entry.1.schema (Z.tokens_of self.entry.0) documents))) }
+        ensures stamps { IfOk result (λ answer. (documents : List Document) (stamps : List ℕ) → Writes (Z.tokens_of self.entry.0) documents stamps self.entry.1 → answer.items ≡ stamps) }
+        ensures lacking { self.entry.1.kept ≡ None → result ≡ Err TantivyError.SystemError }
+        ensures others { KeepsAllBut (segment_names self.entry.1.id) (W.files directory.old) (W.files directory.new) }
+        ensures tells { W.tells directory.new ≡ W.tells directory.old }
+        ensures seen { MakingSeen (segment_names self.entry.1.id) (W.seen directory.old) result (W.seen directory.new) }
+        ensures cause { FaultHasCause
+            TantivyError.OpenWriteError (W.faults directory.old) (W.faults directory.new) result }
+        ensures errors { IfErr result
+            (λ e. ((e ≡ TantivyError.SystemError) × (self.entry.1.kept ≡ None)) ⊎ (e ≡ TantivyError.IndexAlreadyExists)
+            ⊎ (e ≡ TantivyError.OpenWriteError) ⊎ (e ≡ TantivyError.OutOfMemory)) }
+    {
+        let SegmentWriter {
+            alloc,
+            analyzers: _,
+            segment,
+            reached: _,
+            parts,
+        } = self;
+        match parts {
+            Some(parts) => finish(alloc, segment.schema(), segment.id(), parts, directory),
+            None => Err(TantivyError::SystemError),
+        }
+    }
+}
