@@ -1,11 +1,8 @@
 pub mod Any
-pub mod Distinct
-pub mod Fields
 pub mod Ids
 pub mod Json
 pub mod ListRead
 pub mod MetaBack
-pub mod Names
 pub mod NoFloats
 pub mod PartsBack
 pub mod Plain

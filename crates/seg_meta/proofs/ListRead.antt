@@ -6,10 +6,10 @@ use Rattle.serde_json.specs.Data.{Data, Items, item}
 use Rattle.serde_json.specs.Find.{as_array}
 use Rattle.serde_json.specs.View.{view, items_view}
 use Rattle.serde_json.specs.declared.value.Value.{Value}
-use Rattle.seg_meta.specs.Distinct.{all_distinct}
+use Rattle.seg_values.specs.Distinct.{all_distinct}
+use Rattle.seg_values.proofs.Distinct.{all_distinct-push, all_distinct-again}
 use Rattle.seg_meta.specs.MetaRead.{distinct_list}
 use Rattle.seg_meta.specs.Reads.{given, provided, each, list_of}
-use Rattle.seg_meta.proofs.Distinct.{all_distinct-push, all_distinct-again}
 
 -- what was read so far, and then what is left
 abbrev pub so_far : {A : Type 0} → (Data → Option A) → List A → Items → Option (List A)

@@ -3,16 +3,17 @@ use Rattle.std.proofs.Common.{◌≡◌, ℕ, ◌-◌, ◌^◌, ◌<◌, List, [
 use Rattle.std.specs.List.{AllByRecursion, list_all}
 use Rattle.std.proofs.lemmas.Bool.{and_parts}
 use Rattle.std.proofs.lemmas.Bool.Decides.{nat_tests}
+use Rattle.seg_values.specs.Distinct.{all_distinct}
+use Rattle.seg_values.specs.SchemaRules.{is_entry, is_schema, same_name}
 use Rattle.seg_values.specs.declared.schema.FieldEntry.{FieldEntry}
 use Rattle.seg_model.specs.IndexOfFiles.{ListedSegment, Meta}
 use Rattle.serde_json.specs.Data.{Data, array}
 use Rattle.serde_json.specs.View.{items_of}
-use Rattle.seg_meta.specs.Distinct.{all_distinct}
 use Rattle.seg_meta.specs.Fits.{MetaFits, SegmentFits}
 use Rattle.seg_meta.specs.MetaJson.{entry_json, segment_json, meta_json}
-use Rattle.seg_meta.specs.MetaRead.{distinct_list, same_name, schema_from, segments_from, meta_from, meta_read, is_schema}
+use Rattle.seg_meta.specs.MetaRead.{distinct_list, schema_from, segments_from, meta_from, meta_read}
 use Rattle.seg_meta.specs.MetaText.{meta_text}
-use Rattle.seg_meta.specs.PartsRead.{is_entry, entry_from, segment_from}
+use Rattle.seg_meta.specs.PartsRead.{entry_from, segment_from}
 use Rattle.seg_meta.specs.Reads.{each}
 use Rattle.seg_meta.specs.Saving.{IsMetaList, same_id}
 use Rattle.seg_meta.proofs.Json.{json_of-read}

@@ -5,6 +5,7 @@ use Rattle.serde_json.specs.Data.{string}
 use Rattle.serde_json.specs.Find.{as_str}
 use Rattle.seg_common.specs.declared.date.DateTimePrecision.{DateTimePrecision}
 use Rattle.seg_common.specs.declared.date.DateTimePrecision.TheVariants as precision
+use Rattle.seg_values.specs.SchemaRules.{is_entry}
 use Rattle.seg_values.specs.declared.schema.FieldEntry.{FieldEntry}
 use Rattle.seg_values.specs.declared.schema.FieldKind.{FieldKind}
 use Rattle.seg_values.specs.declared.schema.FieldKind.TheVariants as kind
@@ -14,7 +15,7 @@ use Rattle.seg_model.specs.Input.{Compression, Settings, uncompressed, lz4, zstd
 use Rattle.seg_model.specs.IndexOfFiles.{Deletes, ListedSegment}
 use Rattle.seg_meta.specs.MetaJson.{text_json, settings_json, entry_json, deletes_json, segment_json}
 use Rattle.seg_meta.specs.Metas.{AreDeletes}
-use Rattle.seg_meta.specs.PartsRead.{compressions, kinds, index_options, precisions, settings_from, is_entry, entry_from, deletes_from, segment_from}
+use Rattle.seg_meta.specs.PartsRead.{compressions, kinds, index_options, precisions, settings_from, entry_from, deletes_from, segment_from}
 use Rattle.seg_meta.specs.Reads.{nullable, word_of}
 use Rattle.seg_meta.specs.Words.{compression_word, kind_word, index_word, precision_word}
 use Rattle.seg_meta.proofs.Ids.{id_from-id_text}

@@ -1,4 +1,3 @@
-pub mod Distinct
 pub mod Fits
 pub mod Loading
 pub mod MetaJson

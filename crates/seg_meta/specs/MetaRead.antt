@@ -1,14 +1,14 @@
 -- The meta that bytes are.
 use Rattle.std.specs.Prelude.{ℕ, ◌^◌, ◌-◌, List, [], ◌∷◌, length, Bool, ◌&&◌, if◌then◌else◌, Option, Some, None, nat_lt, codes}
-use Rattle.std.specs.Str.{bytes_eq, is_utf8}
-use Rattle.std.specs.List.{list_all}
+use Rattle.std.specs.Str.{is_utf8}
 use Rattle.serde_json.specs.Data.{Data}
 use Rattle.serde_json.specs.Find.{as_str}
 use Rattle.serde_json.specs.Read.{read}
+use Rattle.seg_values.specs.Distinct.{all_distinct}
+use Rattle.seg_values.specs.SchemaRules.{same_name}
 use Rattle.seg_values.specs.declared.schema.FieldEntry.{FieldEntry}
 use Rattle.seg_model.specs.IndexOfFiles.{ListedSegment, Meta}
-use Rattle.seg_meta.specs.Distinct.{all_distinct}
-use Rattle.seg_meta.specs.PartsRead.{settings_from, is_entry, entry_from, segment_from}
+use Rattle.seg_meta.specs.PartsRead.{settings_from, entry_from, segment_from}
 use Rattle.seg_meta.specs.Reads.{given, provided, required, natural, nullable, list_of, has_only}
 use Rattle.seg_meta.specs.Saving.{same_id}
 
@@ -16,17 +16,9 @@ use Rattle.seg_meta.specs.Saving.{same_id}
 abbrev pub distinct_list : {A : Type 0} → (Data → Option A) → (A → A → Bool) → ℕ → Data → Option (List A)
 distinct_list read alike limit d = given (list_of read d) (λ xs. provided (all_distinct alike xs && nat_lt (length xs) limit) (Some xs))
 
--- two fields have one name
-abbrev pub same_name : FieldEntry → FieldEntry → Bool
-same_name a b = bytes_eq a.name b.name
-
 -- fields with distinct names, whose number is below the largest of 32 bits
 abbrev pub schema_from : Data → Option (List FieldEntry)
 schema_from = distinct_list entry_from same_name (2 ^ 32 - 1)
-
--- whether a meta can say these fields: options that go with their kinds, distinct names, and no more than so many
-abbrev pub is_schema : List FieldEntry → Bool
-is_schema entries = list_all is_entry entries && (all_distinct same_name entries && nat_lt (length entries) (2 ^ 32 - 1))
 
 -- fewer than 2^32 segments, with distinct ids
 abbrev pub segments_from : Data → Option (List ListedSegment)

@@ -1,18 +1,17 @@
 -- The parts of a meta that a JSON value says: settings, fields and segments.
-use Rattle.std.specs.Prelude.{ℕ, ◌^◌, ◌+◌, ◌-◌, ◌*◌, List, [], ◌∷◌, Bool, true, false, not, ◌&&◌, ◌||◌, if◌then◌else◌, Option, Some, None, nat_lt, nat_le, codes}
+use Rattle.std.specs.Prelude.{ℕ, ◌^◌, ◌+◌, ◌-◌, ◌*◌, List, [], ◌∷◌, ◌&&◌, if◌then◌else◌, Option, Some, None, nat_lt, nat_le, codes}
 use Rattle.std.specs.Str.{bytes_eq}
 use Rattle.serde_json.specs.Data.{Data}
 use Rattle.serde_json.specs.Find.{as_bool, as_str}
 use Rattle.seg_common.specs.SegmentIds.{id_text}
 use Rattle.seg_common.specs.declared.date.DateTimePrecision.{DateTimePrecision}
 use Rattle.seg_common.specs.declared.date.DateTimePrecision.TheVariants as precision
-use Rattle.seg_values.specs.Names.{is_allowed}
+use Rattle.seg_values.specs.SchemaRules.{is_entry}
 use Rattle.seg_values.specs.declared.schema.FieldEntry.{FieldEntry}
 use Rattle.seg_values.specs.declared.schema.FieldKind.{FieldKind}
 use Rattle.seg_values.specs.declared.schema.FieldKind.TheVariants as kind
 use Rattle.seg_values.specs.declared.schema.IndexOption.{IndexOption}
 use Rattle.seg_values.specs.declared.schema.IndexOption.TheVariants as index
-use Rattle.seg_model.specs.Fields.{is_facet}
 use Rattle.seg_model.specs.Input.{Compression, uncompressed, lz4, zstd, Settings}
 use Rattle.seg_model.specs.IndexOfFiles.{Deletes, ListedSegment}
 use Rattle.seg_meta.specs.Reads.{given, provided, required, natural, below, nullable, word_of, has_only}
@@ -52,17 +51,6 @@ settings_from d =
 abbrev pub entry_members : List (List ℕ)
 entry_members =
     codes "expand_dots" ∷ codes "fast" ∷ codes "fast_tokenizer" ∷ codes "index" ∷ codes "kind" ∷ codes "name" ∷ codes "norms" ∷ codes "precision" ∷ codes "stored" ∷ codes "tokenizer" ∷ []
-
--- an option: documents alone
-abbrev pub is_basic : IndexOption → Bool
-is_basic index.No = false
-is_basic index.Basic = true
-is_basic index.Freqs = false
-is_basic index.Positions = false
-
--- the option goes with the kind; a facet is indexed by its documents alone, fast, and has no lengths
-abbrev pub is_entry : FieldEntry → Bool
-is_entry e = is_allowed e.kind e.index && (not (is_facet e.kind) || (is_basic e.index && (e.fast && not e.norms)))
 
 -- a field: each member must be there
 abbrev pub entry_from : Data → Option FieldEntry

@@ -2,6 +2,7 @@
 use Rattle.std.specs.Prelude.{ℕ, ◌≡◌, ◌<◌, ◌^◌, ◌⊎◌, List, [], ◌∷◌, ◌++◌, length, Bool, true, nat_eq, Result, Ok, Err, None}
 use Rattle.std.specs.FinMap.{insert}
 use Rattle.seg_common.specs.declared.name.FileName.TheVariants as name
+use Rattle.seg_values.specs.Distinct.{all_distinct}
 use Rattle.seg_values.specs.declared.error.TantivyError.{TantivyError}
 use Rattle.seg_values.specs.declared.error.TantivyError.TheVariants.{IndexAlreadyExists, OpenReadError, IoError}
 use Rattle.seg_directory.specs.declared.answer.Answer.{Answer}
@@ -11,7 +12,6 @@ use Rattle.seg_directory.specs.Files.{NamedFiles}
 use Rattle.seg_model.specs.Fields.{Schema}
 use Rattle.seg_model.specs.Input.{Settings}
 use Rattle.seg_model.specs.IndexOfFiles.{ListedSegment, Meta}
-use Rattle.seg_meta.specs.Distinct.{all_distinct}
 
 -- two segments have one id
 abbrev pub same_id : ListedSegment → ListedSegment → Bool

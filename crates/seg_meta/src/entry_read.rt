@@ -1,7 +1,8 @@
 //! Reads the fields of a schema from JSON.
 ghost use Rattle.std.specs.Prelude.{◌≡◌, Some, None, Err, true, codes, IfOk};
 ghost use Rattle.serde_json.specs.View.{view};
-ghost use Rattle.seg_meta.specs.PartsRead.{entry_from, is_entry, kinds, index_options, precisions};
+ghost use Rattle.seg_values.specs.SchemaRules.{is_entry};
+ghost use Rattle.seg_meta.specs.PartsRead.{entry_from, kinds, index_options, precisions};
 ghost use Rattle.seg_meta.specs.Reads.{required, word_of};
 
 use crate::ReadError;
@@ -64,7 +65,7 @@ pub fn entry_from(alloc: Global, json: &Value) -> Result<FieldEntry, ReadError>
 }
 
 /// Whether the options of a field go with its kind.
-pub(crate) fn is_entry(entry: &FieldEntry) -> bool
+fn is_entry(entry: &FieldEntry) -> bool
     ensures { result ≡ is_entry entry.now }
 {
     match entry.kind {

@@ -1,19 +1,18 @@
 //! An index.
-ghost use Rattle.std.specs.Prelude.{◌≡◌, ◌⊎◌, true, false, map, IsTrue, IfOk, IfErr};
+ghost use Rattle.std.specs.Prelude.{◌≡◌, ◌⊎◌, map, IsTrue, IfOk, IfErr};
 ghost use Rattle.std.specs.FinMap.{get, len};
 ghost use Rattle.seg_directory.specs.Changes.{KeepsOthers};
 ghost use Rattle.seg_directory.specs.Faults.{FaultHasCause};
 ghost use Rattle.seg_meta.specs.Loading.{LoadingSeen, LoadsMeta};
-ghost use Rattle.seg_meta.specs.MetaRead.{is_schema};
 ghost use Rattle.seg_meta.specs.MetaText.{meta_text};
 ghost use Rattle.seg_meta.specs.Saving.{CreatingCounts, CreatingFiles, CreatingSeen, IsMetaList, empty_meta};
 ghost use Rattle.seg_meta.specs.Metas.{segment_of};
 ghost use Rattle.seg_meta.specs.View.{settings_of, meta_of};
 
-use crate::{IndexMeta, IndexSettings, Segment, SegmentMetas, copy_schema, load_metas, save_metas};
+use crate::{IndexMeta, IndexSettings, Segment, SegmentMetas, load_metas, save_metas};
 use seg_common::FileName;
 use seg_directory::{Directory, list_files};
-use seg_values::{Schema, SchemaCause, TResult, TantivyError};
+use seg_values::{Schema, TResult, TantivyError};
 use std::alloc::Global;
 use std::marker::Model;
 
@@ -78,7 +77,6 @@ impl Index {
     /// Opens the index that a directory has.
     pub fn open<W: Directory>(alloc: Global, directory: &mut W) -> TResult<Index>
         ensures file { IsTrue (W.tells directory.old) → LoadsMeta (get (W.files directory.old) FileName.Meta) result }
-        ensures schema { IfOk result (λ index. is_schema index.schema ≡ true) }
         ensures files { W.files directory.new ≡ W.files directory.old }
         ensures tells { W.tells directory.new ≡ W.tells directory.old }
         ensures seen { LoadingSeen (W.seen directory.old) result (W.seen directory.new) }
@@ -123,12 +121,11 @@ impl Index {
     /// The segments that the meta lists, in order, each with a schema of its own.
     pub fn searchable_segments(&self, alloc: Global) -> TResult<Vec<Segment>>
         ensures ok { IfOk result (λ segments. segments.items ≡ map (segment_of self.now.schema) self.now.segments) }
-        ensures errors { IfErr result (λ e. (e ≡ TantivyError.OutOfMemory)
-            ⊎ (e ≡ TantivyError.SchemaError SchemaCause.DuplicateName) × (is_schema self.now.schema ≡ false)) }
+        ensures errors { IfErr result (λ e. e ≡ TantivyError.OutOfMemory) }
     {
         let mut segments = Vec::new(alloc);
         for meta in self.metas.segments.as_slice() {
-            let schema = copy_schema(alloc, &self.metas.schema)?;
+            let schema = self.metas.schema.copy(alloc)?;
             if segments.push(Segment::new(schema, *meta)).is_err() {
                 return Err(TantivyError::OutOfMemory);
             }

@@ -8,8 +8,7 @@
 //!
 //! To be read in this order: `compressor`, `index_settings`; `delete_meta`, `segment_meta`, `segment_metas`;
 //! `index_meta`, `segment`; `words`, `meta_json`, `content`; `read_error`, `members`, `settings_read`, `entry_read`,
-//! `segment_read`, `schema_read`, `segments_read`, `meta_read`; `ranges`, `meta_law`; `save`, `load`, `schema_copy`,
-//! `index`.
+//! `segment_read`, `schema_read`, `segments_read`, `meta_read`; `ranges`, `meta_law`; `save`, `load`, `index`.
 #![tactic(auto)]
 
 mod compressor;
@@ -35,7 +34,6 @@ mod read_tests;
 mod save;
 #[cfg(test)]
 mod save_tests;
-mod schema_copy;
 mod schema_read;
 mod segment;
 mod segment_meta;
@@ -59,7 +57,6 @@ pub use meta_law::{meta_texts_read_back, metas_read_back};
 pub use meta_read::read_meta;
 pub use read_error::ReadError;
 pub use save::save_metas;
-pub use schema_copy::copy_schema;
 pub use segment::Segment;
 pub use segment_meta::SegmentMeta;
 pub use segment_metas::SegmentMetas;

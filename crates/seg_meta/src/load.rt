@@ -1,9 +1,8 @@
 //! Loading the meta of an index.
-ghost use Rattle.std.specs.Prelude.{◌≡◌, ◌⊎◌, true, IsTrue, IfOk, IfErr};
+ghost use Rattle.std.specs.Prelude.{◌≡◌, ◌⊎◌, IsTrue, IfOk, IfErr};
 ghost use Rattle.std.specs.FinMap.{get};
 ghost use Rattle.seg_directory.specs.Faults.{FaultHasCause};
 ghost use Rattle.seg_meta.specs.Loading.{LoadingSeen, LoadsMeta};
-ghost use Rattle.seg_meta.specs.MetaRead.{is_schema};
 ghost use Rattle.seg_meta.specs.Saving.{IsMetaList};
 
 use crate::{IndexMeta, ReadError, read_meta};
@@ -16,7 +15,6 @@ use std::alloc::Global;
 pub fn load_metas<W: Directory>(alloc: Global, directory: &mut W) -> TResult<IndexMeta>
     ensures file { IsTrue (W.tells directory.old) → LoadsMeta (get (W.files directory.old) FileName.Meta) result }
     ensures list { IfOk result (λ m. IsMetaList m.segments) }
-    ensures schema { IfOk result (λ m. is_schema m.schema ≡ true) }
     ensures files { W.files directory.new ≡ W.files directory.old }
     ensures tells { W.tells directory.new ≡ W.tells directory.old }
     ensures seen { LoadingSeen (W.seen directory.old) result (W.seen directory.new) }

@@ -1,9 +1,10 @@
 //! A meta reads back from its own text.
 ghost use Rattle.std.specs.Prelude.{◌≡◌, Some, true};
 ghost use Rattle.std.specs.List.{AllByRecursion};
+ghost use Rattle.seg_values.specs.SchemaRules.{is_schema};
 ghost use Rattle.seg_model.specs.IndexOfFiles.{Meta};
 ghost use Rattle.seg_meta.specs.Fits.{IsText, HasTexts, SegmentFits, MetaFits};
-ghost use Rattle.seg_meta.specs.MetaRead.{meta_read, is_schema};
+ghost use Rattle.seg_meta.specs.MetaRead.{meta_read};
 ghost use Rattle.seg_meta.specs.MetaText.{meta_text};
 ghost use Rattle.seg_meta.specs.Saving.{IsMetaList};
 ghost use Rattle.seg_meta.specs.View.{meta_of};
@@ -22,10 +23,10 @@ pub fn meta_texts_read_back()
 /// The same of the metas that there are: what their types hold is known. So each word that is written is read as what it
 /// was written for.
 pub fn metas_read_back(metas: &IndexMeta)
-    ensures { IsMetaList metas.now.segments → is_schema metas.now.schema ≡ true
-        → meta_read (meta_text (meta_of metas.now)) ≡ Some (meta_of metas.now) }
+    ensures { IsMetaList metas.now.segments → meta_read (meta_text (meta_of metas.now)) ≡ Some (meta_of metas.now) }
 {
     meta_fits(metas);
+    metas.schema.fields_are_valid();
 }
 
 fn meta_fits(metas: &IndexMeta)

@@ -1,7 +1,7 @@
 //! Reads the meta of an index from its text.
-ghost use Rattle.std.specs.Prelude.{◌≡◌, true, Some, None, Err, IfOk};
+ghost use Rattle.std.specs.Prelude.{◌≡◌, Some, None, Err, IfOk};
 ghost use Rattle.serde_json.specs.View.{view};
-ghost use Rattle.seg_meta.specs.MetaRead.{meta_read, meta_from, is_schema};
+ghost use Rattle.seg_meta.specs.MetaRead.{meta_read, meta_from};
 ghost use Rattle.seg_meta.specs.Saving.{IsMetaList};
 ghost use Rattle.seg_meta.specs.View.{meta_of};
 
@@ -17,7 +17,6 @@ use std::alloc::Global;
 pub fn read_meta(alloc: Global, bytes: &[u8]) -> Result<IndexMeta, ReadError>
     ensures ok { IfOk result (λ m. meta_read bytes.now ≡ Some (meta_of m)) }
     ensures list { IfOk result (λ m. IsMetaList m.segments) }
-    ensures schema { IfOk result (λ m. is_schema m.schema ≡ true) }
     ensures none { result ≡ Err ReadError.NoMeta → meta_read bytes.now ≡ None }
 {
     match Value::from_slice(alloc, bytes) {
@@ -36,7 +35,6 @@ pub fn read_meta(alloc: Global, bytes: &[u8]) -> Result<IndexMeta, ReadError>
 fn meta_from(alloc: Global, json: &Value) -> Result<IndexMeta, ReadError>
     ensures ok { IfOk result (λ m. meta_from (view json.now) ≡ Some (meta_of m)) }
     ensures list { IfOk result (λ m. IsMetaList m.segments) }
-    ensures schema { IfOk result (λ m. is_schema m.schema ≡ true) }
     ensures none { result ≡ Err ReadError.NoMeta → meta_from (view json.now) ≡ None }
 {
     if !has_only(

@@ -2,8 +2,8 @@
 ghost use Rattle.std.specs.Prelude.{◌≡◌, ◌+◌, ◌-◌, ◌<◌, ◌^◌, [], ◌∷◌, ◌++◌, length, true, false, Some, None, Ok, Err, IfOk, IsSome};
 ghost use Rattle.serde_json.specs.View.{view};
 ghost use Rattle.seg_values.specs.Names.{field_named};
-ghost use Rattle.seg_meta.specs.MetaRead.{schema_from, is_schema};
-ghost use Rattle.seg_meta.specs.PartsRead.{is_entry};
+ghost use Rattle.seg_values.specs.SchemaRules.{is_entry};
+ghost use Rattle.seg_meta.specs.MetaRead.{schema_from};
 
 use crate::{ReadError, entry_from};
 use seg_values::{FieldEntry, Schema, SchemaBuilder, SchemaCause, TantivyError};
@@ -13,7 +13,6 @@ use std::alloc::{AllocError, Global};
 /// The schema that a list of fields with distinct names says.
 pub(crate) fn schema_from(alloc: Global, json: &Value) -> Result<Schema, ReadError>
     ensures ok { IfOk result (λ s. schema_from (view json.now) ≡ Some s) }
-    ensures schema { IfOk result (λ s. is_schema s ≡ true) }
     ensures none { result ≡ Err ReadError.NoMeta → schema_from (view json.now) ≡ None }
 {
     let Some(items) = json.as_array() else {
@@ -33,7 +32,7 @@ pub(crate) fn schema_from(alloc: Global, json: &Value) -> Result<Schema, ReadErr
 }
 
 /// Adds a field, unless one with its name is there. Whether it was added.
-pub(crate) fn add_entry(builder: &mut SchemaBuilder, entry: FieldEntry) -> Result<bool, AllocError>
+fn add_entry(builder: &mut SchemaBuilder, entry: FieldEntry) -> Result<bool, AllocError>
     requires few { length builder.old + 1 < 2 ^ 32 - 1 }
     requires entry { is_entry entry ≡ true }
     ensures added { result ≡ Ok true → builder.new ≡ builder.old ++ entry ∷ [] }

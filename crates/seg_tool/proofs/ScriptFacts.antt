@@ -3,7 +3,6 @@ use Rattle.std.proofs.Common.{◌≡◌, ℕ, List, [], ◌∷◌, ◌++◌, map
 use Rattle.std.specs.List.{list_all}
 use Rattle.std.proofs.lemmas.Bool.{and_parts}
 use Rattle.seg_directory.specs.Files.{NamedFiles}
-use Rattle.seg_meta.specs.MetaRead.{is_schema}
 use Rattle.seg_values.specs.Tree.{Document}
 use Rattle.seg_model.specs.Built.{is_built_entry, is_built_document, is_taken, are_built}
 use Rattle.seg_model.specs.Fields.{Schema, Analyzer}
@@ -35,7 +34,6 @@ pub record Facts (n : NarrowScript) : Type 0 where
   pub fields : length n.batch.fields ≡ length n.schema
   pub entries : list_all is_built_entry n.schema ≡ true
   pub documents : list_all (is_built_document n.schema) n.documents ≡ true
-  pub saved : is_schema n.schema ≡ true
   pub no_columns : list_all (λ e. not e.fast) n.schema ≡ true
 
 pub facts : (knows : List ℕ → Type 0) (analyzer : Analyzer) (bytes : List ℕ) (n : NarrowScript) → IsReadAs knows analyzer bytes n → Facts n
@@ -46,7 +44,6 @@ facts knows analyzer bytes n r =
       fields = ap length r.indexed.batch.fields ∙ length-all_terms n.schema analyzer n.documents;
       entries = parts.0;
       documents = list_all-front (is_built_document n.schema) (is_taken n.schema analyzer) n.documents parts.1;
-      saved = saved.is_schema;
       no_columns = saved.no_columns;
     }
 

@@ -1,14 +1,12 @@
 -- What every script's schema is.
 use Rattle.std.specs.Prelude.{ℕ, ◌≡◌, List, Some, true, not}
 use Rattle.std.specs.List.{list_all}
-use Rattle.seg_meta.specs.MetaRead.{is_schema}
 use Rattle.seg_model.specs.Fields.{Schema}
 use Rattle.seg_script.specs.Script.{script}
 use Rattle.seg_script.specs.declared.script.Script.{Script}
 
--- a meta can say it, and no field has a column
+-- no field has a column
 pub record CanBeSaved (schema : Schema) : Type 0 where
-  pub is_schema : is_schema schema ≡ true
   pub no_columns : list_all (λ e. not e.fast) schema ≡ true
 
 -- the schema of every script can be saved

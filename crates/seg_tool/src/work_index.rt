@@ -3,7 +3,6 @@ ghost use Rattle.std.specs.Prelude.{◌≡◌, ◌<◌, ◌^◌, ◌∷◌, [], 
 ghost use Rattle.std.specs.FinMap.{get, len};
 ghost use Rattle.std.specs.List.{list_all};
 ghost use Rattle.seg_directory.specs.declared.answer.Answer.TheVariants as answer;
-ghost use Rattle.seg_meta.specs.MetaRead.{is_schema};
 ghost use Rattle.seg_meta.specs.Saving.{IsMetaList};
 ghost use Rattle.seg_meta.specs.View.{settings_of, meta_of};
 ghost use Rattle.seg_model.specs.Built.{are_built, is_built_entry, is_built_document};
@@ -19,8 +18,8 @@ use seg_build::{IndexedBatch, write_segment};
 use seg_common::{FileName, SegmentId};
 use seg_directory::{Directory, list_files};
 use seg_meta::{
-    Compressor, Index, IndexMeta, IndexSettings, SegmentMeta, SegmentMetas, copy_schema,
-    metas_read_back, save_metas,
+    Compressor, Index, IndexMeta, IndexSettings, SegmentMeta, SegmentMetas, metas_read_back,
+    save_metas,
 };
 use seg_values::{Documents, Schema, TResult, TantivyError};
 use std::alloc::{AllocError, Global};
@@ -37,7 +36,6 @@ pub(crate) fn write_work_index<W: Directory>(
     stamp: u64,
     work: &mut W,
 ) -> TResult<()>
-    requires saved { is_schema schema ≡ true }
     requires fields { length batch.now.fields ≡ length schema }
     requires entries { list_all is_built_entry schema ≡ true }
     requires no_columns { list_all (λ e. not e.fast) schema ≡ true }
@@ -57,7 +55,7 @@ pub(crate) fn write_work_index<W: Directory>(
         Ok(()) => {}
         Err(e) => return Err(e),
     }
-    let Ok(copy) = copy_schema(alloc, &schema) else {
+    let Ok(copy) = schema.copy(alloc) else {
         return Err(TantivyError::OutOfMemory);
     };
     match create_index(alloc, copy, work) {
@@ -128,7 +126,6 @@ fn work_metas(
 
 /// Saves a meta, which the files then read as.
 fn save_index<W: Directory>(alloc: Global, metas: &IndexMeta, directory: &mut W) -> TResult<()>
-    requires saved { is_schema metas.now.schema ≡ true }
     requires list { IsMetaList metas.now.segments }
     ensures index { IsTrue (W.tells directory.old) → OnOk result (index.index_of segment_forms (W.files directory.new) ≡ Some (meta_of metas.now)) }
     ensures calls { Does (answer.Wrote FileName.Meta ∷ []) (FileName.Meta ∷ []) result

@@ -1,4 +1,5 @@
 pub mod Code
+pub mod Distinct
 pub mod Facets
 pub mod Falls
 pub mod FieldTypes
@@ -8,6 +9,7 @@ pub mod NameSearch
 pub mod Names
 pub mod Registered
 pub mod Same
+pub mod SchemaRules
 pub mod Tokenizers
 pub mod Tree
 pub mod Utf8

@@ -4,7 +4,7 @@
 //! and a schema as the list of its entries.
 //!
 //! Read `text`, `token` and `tokenizer` first, then `tokenizers`, `analyzers` and `tokenizer_manager` with the law in
-//! `laws`; then `value_error`, `value`, `facet` and `document`; last `schema` with `field_type` and `name_search`, `term` and `error`.
+//! `laws`; then `value_error`, `value`, `facet` and `document`; last `schema` with `schema_copy`, `field_type` and `name_search`, `term` and `error`.
 #![tactic(auto)]
 
 mod analyzers;
@@ -16,6 +16,7 @@ mod field_type;
 mod laws;
 mod name_search;
 mod schema;
+mod schema_copy;
 mod term;
 #[cfg(test)]
 mod tests;

@@ -1,6 +1,7 @@
 //! Fields and schemas.
 ghost use Rattle.std.specs.Prelude.{◌≡◌, List, ℕ, ◌<◌, ◌+◌, ◌-◌, ◌^◌, ◌++◌, [], ◌∷◌, ◌↔◌, ◌⊎◌, length, slice_get, Some, None, Err, true, IfOk, IfErr, IfSome, OnOk, OnErr, IsSome};
 ghost use Rattle.seg_values.specs.Names.{field_named, kept_entry, is_allowed};
+ghost use Rattle.seg_values.specs.SchemaRules.{is_entry, is_schema};
 
 use crate::error::{SchemaCause, TResult, TantivyError};
 use crate::text::Text;
@@ -83,20 +84,37 @@ pub struct Schema {
 }
 
 impl Model for Schema {
-    ghost use Rattle.std.specs.Prelude.{List, ℕ, ◌≡◌, ◌<◌, ◌^◌, ◌-◌, length};
+    ghost use Rattle.std.specs.Prelude.{List, ℕ, ◌≡◌, true};
     ghost use Rattle.std.specs.HashMap.{get_by_text};
     ghost use Rattle.seg_values.specs.declared.schema.FieldEntry.{FieldEntry};
 
     ghost Value = { List FieldEntry };
 
     ghost use Rattle.seg_values.specs.Names.{field_named};
+    ghost use Rattle.seg_values.specs.SchemaRules.{is_schema};
 
     ghost view = { λ a. a.entries.items };
 
-    ghost invariant = { λ a. (length a.entries.items < 2 ^ 32 - 1) × ((name : List ℕ) → get_by_text a.places name ≡ field_named a.entries.items name) };
+    ghost invariant = { λ a. (is_schema a.entries.items ≡ true) × ((name : List ℕ) → get_by_text a.places name ≡ field_named a.entries.items name) };
 }
 
 impl Schema {
+    pub(crate) fn new(alloc: Global) -> Schema
+        ensures { result ≡ [] }
+    {
+        Schema {
+            entries: Vec::new(alloc),
+            places: HashMap::new(alloc),
+        }
+    }
+
+    /// What a builder made sure of: distinct names, options that go with their kinds, and no more fields than can be numbered.
+    pub fn fields_are_valid(&self)
+        ensures { is_schema self.now ≡ true }
+    {
+        let _entries = &self.entries;
+    }
+
     pub fn fields(&self) -> &[FieldEntry]
         ensures { result.now ≡ self.now }
     {
@@ -128,8 +146,9 @@ impl Schema {
     }
 
     /// Adds an entry whose name is new.
-    fn push(&mut self, entry: FieldEntry) -> Result<Field, AllocError>
+    pub(crate) fn push(&mut self, entry: FieldEntry) -> Result<Field, AllocError>
         requires few { length self.old + 1 < 2 ^ 32 - 1 }
+        requires entry { is_entry entry ≡ true }
         requires new { field_named self.old entry.name ≡ None }
         ensures ok { IfOk result (λ f. (f ≡ length self.old) × (self.new ≡ self.old ++ entry ∷ [])) }
         ensures err { OnErr result (self.new ≡ self.old) }
@@ -167,10 +186,7 @@ impl SchemaBuilder {
         ensures { result ≡ [] }
     {
         SchemaBuilder {
-            schema: Schema {
-                entries: Vec::new(alloc),
-                places: HashMap::new(alloc),
-            },
+            schema: Schema::new(alloc),
         }
     }
 

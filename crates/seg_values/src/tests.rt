@@ -148,6 +148,10 @@ fn a_schema(rt: HostRuntime) -> Result<(), Fail> {
         (kept.index, kept.fast, kept.norms),
         (IndexOption::Basic, true, false)
     );
+    let copy = schema.copy(alloc)?;
+    assert_eq!(rt; copy.num_fields(), 2);
+    assert_eq!(rt; copy.get_field("category"), Ok(category));
+    assert_eq!(rt; copy.fields()[1].index, IndexOption::Basic);
     Ok(())
 }
 

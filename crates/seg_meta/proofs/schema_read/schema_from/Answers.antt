@@ -1,11 +1,10 @@
 use Rattle.std.proofs.Common.{◌≡◌, ◌+◌, ◌-◌, ◌^◌, drop, Ok, true, false, arith}
 use Rattle.std.proofs.lemmas.Grind.{common_steps}
 use Rattle.serde_json.specs.View.{view, items_view}
-use Rattle.seg_meta.specs.MetaRead.{same_name}
+use Rattle.seg_values.specs.SchemaRules.{same_name}
+use Rattle.seg_values.proofs.SameNames.{same_name-sym, named, unnamed}
 use Rattle.seg_meta.specs.PartsRead.{entry_from}
 use Rattle.seg_meta.proofs.ListRead.{left-cons, distinct_list-long, distinct_list-again, step}
-use Rattle.seg_meta.proofs.Fields.{all_more, is_schema-whole}
-use Rattle.seg_meta.proofs.Names.{same_name-sym, named, unnamed}
 use Rattle.seg_meta.proofs.schema_read.schema_from.Goals as goal
 
 pub returns-then-len-clause-none : goal.returns-then-len-clause-none
@@ -17,7 +16,7 @@ returns-then-not-branch-clause-none c _ =
     let left = left-cons c.deref-item-items.result.now c.loop-item.item-index c.item-item.result c.loop-item-test.true c.item-item.is in
     let entry = c.in_ok-entry.entry in
     distinct_list-again entry_from same_name (2 ^ 32 - 1) same_name-sym (view c.args.json.now) (view c.item-item.result) c.loop-item.builder
-    (items_view (drop (c.loop-item.item-index + 1) c.deref-item-items.result.now)) c.loop-item.item-index entry (rw left at c.loop-item.invariant.read) c.in_ok-entry.ensures.ok (named entry c.loop-item.builder (c.add_entry.ensures.there there))
+    (items_view (drop (c.loop-item.item-index + 1) c.deref-item-items.result.now)) c.loop-item.item-index entry (rw left at c.loop-item.invariant) c.in_ok-entry.ensures.ok (named entry c.loop-item.builder (c.add_entry.ensures.there there))
 
 pub loop-item-preserved : goal.loop-item-preserved
 loop-item-preserved c =
@@ -25,14 +24,6 @@ loop-item-preserved c =
     let left = left-cons c.deref-item-items.result.now c.loop-item.item-index c.item-item.result c.loop-item-test.true c.item-item.is in
     let entry = c.in_ok-entry.entry in
     let more = c.add_entry.ensures.added added in
-    record {
-      read = step entry_from same_name same_name-sym (view c.args.json.now) (view c.item-item.result) c.loop-item.builder c.add_entry.new.builder
-          (items_view (drop (c.loop-item.item-index + 1) c.deref-item-items.result.now)) c.loop-item.item-index entry (rw left at c.loop-item.invariant.read) c.in_ok-entry.ensures.ok more
-          (unnamed entry c.loop-item.builder (c.add_entry.ensures.distinct added));
-      entries = all_more c.loop-item.builder c.add_entry.new.builder entry c.loop-item.invariant.entries c.in_ok-entry.ensures.entry more;
-    }
-
-pub returns-clause-schema : goal.returns-clause-schema
-returns-clause-schema c =
-    let read = c.loop-item.invariant.read in
-    rw c.build.ensures (is_schema-whole c.loop-item.builder c.loop-item.item-index c.loop-item.invariant.entries read.distinct read.counted (omega (arith, c.loop-item.auto.item-index-end)))
+    step entry_from same_name same_name-sym (view c.args.json.now) (view c.item-item.result) c.loop-item.builder c.add_entry.new.builder
+    (items_view (drop (c.loop-item.item-index + 1) c.deref-item-items.result.now)) c.loop-item.item-index entry (rw left at c.loop-item.invariant) c.in_ok-entry.ensures.ok more
+    (unnamed entry c.loop-item.builder (c.add_entry.ensures.distinct added))

@@ -7,9 +7,6 @@ segments_text-requires-clause-fields g c = (facts _ _ _ _ c.in-Ok.ensures.ok).fi
 pub segments_text-requires-clause-documents : goal.segments_text-requires-clause-documents
 segments_text-requires-clause-documents g c = (facts _ _ _ _ c.in-Ok.ensures.ok).documents
 
-pub write_work_index-requires-clause-saved : goal.write_work_index-requires-clause-saved
-write_work_index-requires-clause-saved g c = (facts _ _ _ _ c.in-Ok.ensures.ok).saved
-
 pub write_work_index-requires-clause-fields : goal.write_work_index-requires-clause-fields
 write_work_index-requires-clause-fields g c = (facts _ _ _ _ c.in-Ok.ensures.ok).fields
 

@@ -3,7 +3,7 @@ use Rattle.seg_tool.proofs.work_index.save_index.Goals as goal
 
 pub returns-clause-index : goal.returns-clause-index
 returns-clause-index g c told =
-    saved-if c.save_metas.result _ _ _ _ (c.save_metas.ensures.file told) (c.metas_read_back.ensures c.requires.list c.requires.saved)
+    saved-if c.save_metas.result _ _ _ _ (c.save_metas.ensures.file told) (c.metas_read_back.ensures c.requires.list)
 
 pub returns-clause-calls : goal.returns-clause-calls
 returns-clause-calls g c =

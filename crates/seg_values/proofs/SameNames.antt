@@ -7,7 +7,7 @@ use Rattle.std.specs.List.{list_any, position_or_len}
 use Rattle.std.proofs.lemmas.Slice.Eq.{bytes_eq-Decides}
 use Rattle.seg_values.specs.declared.schema.FieldEntry.{FieldEntry}
 use Rattle.seg_values.specs.Names.{field_named}
-use Rattle.seg_meta.specs.MetaRead.{same_name}
+use Rattle.seg_values.specs.SchemaRules.{same_name}
 
 counted : (t b : Bool) (n l : ℕ) → b ≡ nat_lt n l → (t || b) ≡ nat_lt (cond (not t) (1 + n) 0) (suc l)
 counted true b n l e = let same : true ≡ nat_lt 0 (suc l) = grind (arith, nat_tests) in same

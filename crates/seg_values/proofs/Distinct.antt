@@ -2,7 +2,7 @@
 use Rattle.std.proofs.Common.{◌≡◌, List, [], ◌∷◌, ◌++◌, Bool, true, false, not, ◌&&◌, ◌||◌, refl, sym}
 use Rattle.std.specs.List.{list_any}
 use Rattle.std.proofs.lemmas.List.Folds.{list_any-append}
-use Rattle.seg_meta.specs.Distinct.{all_distinct}
+use Rattle.seg_values.specs.Distinct.{all_distinct}
 
 fresh : (a b c d e : Bool) → (not a && d) ≡ true → (b || e) ≡ false → (d ≡ true → e ≡ false → c ≡ true) → (not (a || (b || false)) && c) ≡ true
 fresh true b c d e h k r = h
