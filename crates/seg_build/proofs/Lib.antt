@@ -3,6 +3,7 @@ pub mod BuiltEntries
 pub mod Checks
 pub mod Counting
 pub mod Exits
+pub mod Filled
 pub mod Fitting
 pub mod Grouping
 pub mod Growing
@@ -10,6 +11,7 @@ pub mod Hashed
 pub mod Keeping
 pub mod KeptBatch
 pub mod KeptLengths
+pub mod LaidOut
 pub mod MakingFiles
 pub mod NoColumns
 pub mod NoneMade

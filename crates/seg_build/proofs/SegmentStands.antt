@@ -1,9 +1,7 @@
 -- The six files of a segment, once they are made.
 use Rattle.std.proofs.Common.{◌≡◌, ◌≢◌, ℕ, List, [], ◌∷◌, ◌++◌, Some, cond, refl, ap, ◌∙◌}
-use Rattle.std.specs.Prelude.{Vec}
 use Rattle.std.specs.FinMap.{get, insert, get-insert}
 use Rattle.std.specs.List.{AllByRecursion}
-use Rattle.std.specs.declared.alloc.Global.{Global}
 use Rattle.std.proofs.lemmas.Cmp.{eq_by_cmp_equiv}
 use Rattle.seg_common.specs.Names.{name_cmp_total}
 use Rattle.seg_common.specs.declared.name.FileName.{FileName}
@@ -12,10 +10,8 @@ use Rattle.seg_common.specs.declared.name.SegmentComponent.{SegmentComponent}
 use Rattle.seg_common.specs.declared.name.SegmentComponent.TheVariants.{Terms, Postings, Positions, Store, FastFields, FieldNorms}
 use Rattle.seg_directory.specs.Files.{NamedFiles}
 use Rattle.seg_directory.proofs.OtherFiles.{keeps_others}
-use Rattle.seg_build.specs.SegmentFiles.{with_files, HasFiles}
-use Rattle.seg_build.specs.declared.new_files.NewFile.{NewFile}
+use Rattle.seg_build.specs.SegmentFiles.{component_files, with_files, HasFiles, AreAbsent, AreNew, segment_names}
 use Rattle.seg_build.specs.declared.segment_files.SegmentBytes.{SegmentBytes}
-use Rattle.seg_build.proofs.MakingFiles.{pairs_of}
 
 -- a file has the bytes that it was last given
 newest : (files : NamedFiles) (name : FileName) (bytes : List ℕ) → get (insert files name bytes) name ≡ Some bytes
@@ -30,31 +26,52 @@ found : (before : List (FileName × List ℕ)) (f : FileName × List ℕ) (after
 found [] f after files apart = kept after (insert files f.0 f.1) f.0 apart ∙ newest files f.0 f.1
 found (b ∷ bs) f after files apart = found bs f after (insert files b.0 b.1) apart
 
--- a file of a segment
-abbrev part : ℕ → SegmentComponent → Vec ℕ Global → NewFile
-part id component bytes = record { name = Part id component; bytes = bytes }
+-- the components of a segment, in the order in which their files are made
+abbrev pub order : List SegmentComponent
+order = FieldNorms ∷ FastFields ∷ Terms ∷ Postings ∷ Positions ∷ Store ∷ []
 
-abbrev named : NewFile → FileName × List ℕ
-named f = (f.name, f.bytes.items)
+-- files that are absent are new, since their names are distinct
+pub absent_new : (id : ℕ) (files : NamedFiles) → AreAbsent (segment_names id) files → AreNew (segment_names id) files
+absent_new id files (n, (f, (t, (p, (q, (s, _)))))) = (
+  n,
+  ((λ e. cc e), ((λ e. cc e), ((λ e. cc e), ((λ e. cc e), ((λ e. cc e), tt))))),
+  (
+    f,
+    ((λ e. cc e), ((λ e. cc e), ((λ e. cc e), ((λ e. cc e), tt)))),
+    (
+      t,
+      ((λ e. cc e), ((λ e. cc e), ((λ e. cc e), tt))),
+      (
+        p,
+        ((λ e. cc e), ((λ e. cc e), tt)),
+        (
+          q,
+          ((λ e. cc e), tt),
+          (s, tt, tt),
+        ),
+      ),
+    ),
+  ),
+)
 
 module _ (id : ℕ) (bytes : SegmentBytes) (old : NamedFiles) where
   abbrev norms : FileName × List ℕ
-  norms = named (part id FieldNorms bytes.norms)
+  norms = (Part id FieldNorms, bytes.norms.items)
 
   abbrev fast : FileName × List ℕ
-  fast = named (part id FastFields bytes.fast)
+  fast = (Part id FastFields, bytes.fast.items)
 
   abbrev terms : FileName × List ℕ
-  terms = named (part id Terms bytes.terms)
+  terms = (Part id Terms, bytes.terms.items)
 
   abbrev postings : FileName × List ℕ
-  postings = named (part id Postings bytes.postings)
+  postings = (Part id Postings, bytes.postings.items)
 
   abbrev positions : FileName × List ℕ
-  positions = named (part id Positions bytes.positions)
+  positions = (Part id Positions, bytes.positions.items)
 
   abbrev store : FileName × List ℕ
-  store = named (part id Store bytes.store)
+  store = (Part id Store, bytes.store.items)
 
   stands : (new : NamedFiles) → new ≡ with_files (norms ∷ fast ∷ terms ∷ postings ∷ positions ∷ store ∷ []) old → HasFiles id bytes new
   stands new is = record {
@@ -66,5 +83,5 @@ module _ (id : ℕ) (bytes : SegmentBytes) (old : NamedFiles) where
     store_file = ap (λ (files : NamedFiles). get files (Part id Store)) is ∙ found (norms ∷ fast ∷ terms ∷ postings ∷ positions ∷ []) store [] old tt;
   }
 
-  pub segment_stands : (new : NamedFiles) (n f t p q s : NewFile) → n ≡ part id FieldNorms bytes.norms → f ≡ part id FastFields bytes.fast → t ≡ part id Terms bytes.terms → p ≡ part id Postings bytes.postings → q ≡ part id Positions bytes.positions → s ≡ part id Store bytes.store → new ≡ with_files (pairs_of (n ∷ f ∷ t ∷ p ∷ q ∷ s ∷ [])) old → HasFiles id bytes new
-  segment_stands new n f t p q s en ef et ep eq es is = stands new (is ∙ (λ i. with_files (pairs_of (en i ∷ ef i ∷ et i ∷ ep i ∷ eq i ∷ es i ∷ [])) old))
+  pub segment_stands : (new : NamedFiles) → new ≡ with_files (component_files id bytes order) old → HasFiles id bytes new
+  segment_stands new is = stands new is

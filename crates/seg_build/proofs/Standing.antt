@@ -1,9 +1,14 @@
 -- Files that spell what was indexed stand for its documents.
-use Rattle.std.proofs.Common.{◌≡◌, ℕ, true, List, Some, refl, ap}
-use Rattle.std.specs.Prelude.{not}
+use Rattle.std.proofs.Common.{◌≡◌, ℕ, true, List, map, length, Some, Result, Ok, Err, refl, ap, ◌∙◌}
+use Rattle.std.specs.Prelude.{Vec, not, IfOk}
 use Rattle.std.specs.FinMap.{empty}
 use Rattle.std.specs.List.{list_all, AllByRecursion}
 use Rattle.std.specs.Option.{option_map}
+use Rattle.std.specs.declared.alloc.Global.{Global}
+use Rattle.std.specs.declared.alloc.AllocError.{AllocError}
+use Rattle.seg_columnar.specs.Columnar.{rows_of}
+use Rattle.seg_model.specs.Reading.{stored_document}
+use Rattle.seg_store.specs.Store.{store_of, documents_of}
 use Rattle.seg_values.specs.Tree.{Document}
 use Rattle.seg_values.specs.Utf8.{IsUtf8Document}
 use Rattle.seg_model.specs.Built.{are_built}
@@ -20,6 +25,7 @@ use Rattle.seg_build.specs.Forms.{segment_forms}
 use Rattle.seg_build.specs.Holds.{Holds}
 use Rattle.seg_build.specs.SegmentBytes.{SpellsTerms, SpellsNorms, SpellsStored, SpellsRows}
 use Rattle.seg_build.specs.SegmentFiles.{HasFiles}
+use Rattle.seg_build.specs.Standing.{StandFor}
 use Rattle.seg_build.proofs.NoColumns.{no_columns}
 use Rattle.seg_build.proofs.Sound.{built_are_sound}
 
@@ -63,3 +69,18 @@ module _ (schema : Schema) (analyzer : Analyzer) (documents : List Document) (of
       read = read;
       held = holds batch bytes id files is spells has;
     }
+
+  -- bytes that were made of a batch and of a store of its documents stand for them
+  pub made_stand : (utf8 : AllByRecursion IsUtf8Document documents) (batch : IndexedBatch) (store : Vec ℕ Global) (count : ℕ) (made : Result SegmentBytes AllocError) → option_map documents_of (store_of store.items) ≡ Some (map (stored_document schema) documents) → count ≡ length documents → IfOk made (SpellsTerms schema batch) → IfOk made (SpellsNorms schema batch) → IfOk made (λ bytes. bytes.store ≡ store) → IfOk made (λ bytes. rows_of bytes.fast.items ≡ Some count) → IfOk made (λ bytes. are_built schema analyzer documents ≡ true → IsBatchOf schema analyzer documents batch → StandFor schema analyzer documents bytes)
+  made_stand utf8 batch store count (Ok bytes) stored counted terms norms same rows = λ built is files id has. stands built utf8 batch bytes id files is (record {
+    terms = terms;
+    norms = norms;
+    stored = ap (λ (s : Vec ℕ Global). option_map documents_of (store_of s.items)) same ∙ stored;
+    rows = rows ∙ ap Some counted;
+  }) has
+  made_stand utf8 batch store count (Err e) stored counted terms norms same rows = tt
+
+-- whoever analyzes
+pub any_analyzer : (schema : Schema) (documents : List Document) (batch : IndexedBatch) (made : Result SegmentBytes AllocError) → ((analyzer : Analyzer) → IfOk made (λ bytes. are_built schema analyzer documents ≡ true → IsBatchOf schema analyzer documents batch → StandFor schema analyzer documents bytes)) → IfOk made (λ bytes. (analyzer : Analyzer) → are_built schema analyzer documents ≡ true → IsBatchOf schema analyzer documents batch → StandFor schema analyzer documents bytes)
+any_analyzer schema documents batch (Ok bytes) all = all
+any_analyzer schema documents batch (Err e) all = tt

@@ -1,12 +1,11 @@
 -- Fields that are written one by one, from the first on.
 use Rattle.std.proofs.Common.{◌≡◌, ◌≢◌, ℕ, zero, suc, ◌+◌, ◌<◌, ◌≤◌, ◌⊎◌, inl, inr, Bool, true, false, cond, List, [], ◌∷◌, ◌++◌, map, length, Some, None, Option, sym, refl, ap, ◌∙◌, subst, arith, eq-eqb, ne_eqb, length-append}
-use Rattle.std.specs.Prelude.{◌==◌, ◌||◌, ◌&&◌, nat_eq, if◌then◌else◌, is_some, IfSome, Result, IfOk, ⊤}
+use Rattle.std.specs.Prelude.{◌==◌, ◌||◌, ◌&&◌, nat_eq, if◌then◌else◌, is_some, IfSome, IsSomeAnd, Result, Ok, Err, IfOk, ⊤}
 use Rattle.std.specs.FinMap.{entries, empty}
 use Rattle.std.specs.List.{slice_get, slice_index_or, list_all, flat_map, enumerate_from, AllByRecursion}
 use Rattle.std.proofs.lemmas.Bool.{false≢true}
 use Rattle.std.proofs.lemmas.List.{length-map}
 use Rattle.std.proofs.lemmas.Option.{slice_get_within}
-use Rattle.std.proofs.lemmas.Result.{IfOk-weaker}
 use Rattle.seg_common.specs.LittleEndian.{u64_at}
 use Rattle.seg_values.specs.declared.schema.FieldEntry.{FieldEntry}
 use Rattle.seg_values.specs.declared.schema.IndexOption.TheVariants.{Basic}
@@ -22,6 +21,7 @@ use Rattle.seg_postings.specs.FieldWriting.{fresh}
 use Rattle.seg_postings.specs.Files.{FieldFiles, no_fields, with_field, AddsField}
 use Rattle.seg_postings.specs.Kinds.{kind_of}
 use Rattle.seg_build.specs.Entries.{TermEntries}
+use Rattle.seg_build.specs.Filling.{HoldFields}
 use Rattle.seg_build.specs.Holds.{HoldTerms}
 use Rattle.seg_build.specs.TermsWritten.{written, with_terms}
 use Rattle.seg_build.specs.TokenTotal.{token_total}
@@ -242,14 +242,17 @@ module _ (schema : Schema) (built : list_all is_built_entry schema ≡ true) (fi
         let here : part ≡ w.postings = some_same part w.postings (sym found ∙ ap (λ ps. field_of ps field) same ∙ w.in_postings) in
         ap (λ p. u64_at p 0) here ∙ w.spells.counted
 
-  module _ (r : Result PostingsFiles PostingsError) (closed : IfOk r (λ b. IfSome files (AreParts b.terms.items b.postings.items b.positions.items))) where
-    are_parts_of : IfOk r (λ b. AreParts b.terms.items b.postings.items b.positions.items so_far.kept)
-    are_parts_of = subst (λ o. IfOk r (λ b. IfSome o (AreParts b.terms.items b.postings.items b.positions.items))) so_far.is closed
+  pub fields_held : IsSomeAnd files (HoldFields schema fields)
+  fields_held = subst (λ o. IsSomeAnd o (HoldFields schema fields)) (sym so_far.is) (λ terms postings positions t p q. (hold_terms terms postings positions (t, p, q), totals_are_counts terms postings positions (t, p, q)))
 
-    pub files_hold : IfOk r (λ b. (held : List Terms) → fields ≡ map entries held → HoldTerms schema b.terms.items b.postings.items b.positions.items held)
-    files_hold = IfOk-weaker r (λ b. AreParts b.terms.items b.postings.items b.positions.items so_far.kept) (λ b. (held : List Terms) → fields ≡ map entries held → HoldTerms schema b.terms.items b.postings.items b.positions.items held)
-        (λ b. hold_terms b.terms.items b.postings.items b.positions.items) are_parts_of
+-- files that are closed
+module _ (schema : Schema) (fields : List TermEntries) where
+  pub files_hold : (files : Option FieldFiles) → IsSomeAnd files (HoldFields schema fields) → (r : Result PostingsFiles PostingsError) → IfOk r (λ b. IfSome files (AreParts b.terms.items b.postings.items b.positions.items)) → IfOk r (λ b. (held : List Terms) → fields ≡ map entries held → HoldTerms schema b.terms.items b.postings.items b.positions.items held)
+  files_hold (Some f) hold (Ok b) closed = (hold b.terms.items b.postings.items b.positions.items closed.0 closed.1 closed.2).0
+  files_hold None hold (Ok b) closed = absurd hold
+  files_hold files hold (Err e) closed = tt
 
-    pub files_have_totals : IfOk r (λ b. TotalsAreCounts b.postings.items fields)
-    files_have_totals = IfOk-weaker r (λ b. AreParts b.terms.items b.postings.items b.positions.items so_far.kept) (λ b. TotalsAreCounts b.postings.items fields)
-        (λ b. totals_are_counts b.terms.items b.postings.items b.positions.items) are_parts_of
+  pub files_have_totals : (files : Option FieldFiles) → IsSomeAnd files (HoldFields schema fields) → (r : Result PostingsFiles PostingsError) → IfOk r (λ b. IfSome files (AreParts b.terms.items b.postings.items b.positions.items)) → IfOk r (λ b. TotalsAreCounts b.postings.items fields)
+  files_have_totals (Some f) hold (Ok b) closed = (hold b.terms.items b.postings.items b.positions.items closed.0 closed.1 closed.2).1
+  files_have_totals None hold (Ok b) closed = absurd hold
+  files_have_totals files hold (Err e) closed = tt

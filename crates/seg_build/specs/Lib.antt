@@ -4,6 +4,7 @@ pub mod ByBytes
 pub mod Checking
 pub mod Entries
 pub mod Field
+pub mod Filling
 pub mod Forms
 pub mod Grouped
 pub mod Holds
@@ -15,6 +16,8 @@ pub mod Runs
 pub mod SegmentBytes
 pub mod SegmentFiles
 pub mod SegmentWriting
+pub mod Serializing
+pub mod Standing
 pub mod Steps
 pub mod StoredBatch
 pub mod TermsWritten

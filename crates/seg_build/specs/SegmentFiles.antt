@@ -1,9 +1,10 @@
 -- The six files of a segment while they are made, in the order in which they are.
-use Rattle.std.specs.Prelude.{ℕ, ◌≡◌, ◌≢◌, List, [], ◌∷◌, ◌++◌, map, Some, Result, Ok, Err}
+use Rattle.std.specs.Prelude.{ℕ, ◌≡◌, ◌≢◌, List, [], ◌∷◌, ◌++◌, map, None, Some, Result, Ok, Err}
 use Rattle.std.specs.FinMap.{get, insert}
 use Rattle.std.specs.List.{AllByRecursion}
 use Rattle.seg_common.specs.declared.name.FileName.{FileName}
 use Rattle.seg_common.specs.declared.name.FileName.TheVariants.{Part}
+use Rattle.seg_common.specs.declared.name.SegmentComponent.{SegmentComponent}
 use Rattle.seg_common.specs.declared.name.SegmentComponent.TheVariants.{Terms, Postings, Positions, Store, FastFields, FieldNorms}
 use Rattle.seg_values.specs.declared.error.TantivyError.{TantivyError}
 use Rattle.seg_values.specs.declared.error.TantivyError.TheVariants.{IndexAlreadyExists, OpenWriteError}
@@ -17,6 +18,23 @@ use Rattle.seg_build.specs.declared.segment_files.SegmentBytes.{SegmentBytes}
 abbrev pub segment_names : ℕ → List FileName
 segment_names id = Part id FieldNorms ∷ Part id FastFields ∷ Part id Terms ∷ Part id Postings ∷ Part id Positions ∷ Part id Store ∷ []
 
+-- the names of the files of some components
+abbrev pub component_names : ℕ → List SegmentComponent → List FileName
+component_names id components = map (Part id) components
+
+-- the bytes of the file of a component
+abbrev pub bytes_of : SegmentBytes → SegmentComponent → List ℕ
+bytes_of bytes FieldNorms = bytes.norms.items
+bytes_of bytes FastFields = bytes.fast.items
+bytes_of bytes Terms = bytes.terms.items
+bytes_of bytes Postings = bytes.postings.items
+bytes_of bytes Positions = bytes.positions.items
+bytes_of bytes Store = bytes.store.items
+
+-- the files of some components, by their names
+abbrev pub component_files : ℕ → SegmentBytes → List SegmentComponent → List (FileName × List ℕ)
+component_files id bytes components = map (λ c. (Part id c, bytes_of bytes c)) components
+
 -- the files of an id are there with these bytes
 pub record HasFiles (id : ℕ) (bytes : SegmentBytes) (files : NamedFiles) : Type 0 where
   pub norm_file : get files (Part id FieldNorms) ≡ Some bytes.norms.items
@@ -25,6 +43,15 @@ pub record HasFiles (id : ℕ) (bytes : SegmentBytes) (files : NamedFiles) : Typ
   pub posting_file : get files (Part id Postings) ≡ Some bytes.postings.items
   pub position_file : get files (Part id Positions) ≡ Some bytes.positions.items
   pub store_file : get files (Part id Store) ≡ Some bytes.store.items
+
+-- none of these files is there
+abbrev pub AreAbsent : List FileName → NamedFiles → Type 0
+AreAbsent names files = AllByRecursion (λ name. get files name ≡ None) names
+
+-- none of these files is there, and no name stands twice
+abbrev pub AreNew : List FileName → NamedFiles → Type 0
+AreNew [] files = Unit {0}
+AreNew (name ∷ names) files = (get files name ≡ None) × AllByRecursion (λ other. other ≢ name) names × AreNew names files
 
 -- the files of all other names stay
 abbrev pub KeepsAllBut : List FileName → NamedFiles → NamedFiles → Type 0

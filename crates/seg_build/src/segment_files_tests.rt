@@ -1,6 +1,6 @@
 //! The files of a segment in a directory in memory.
 
-use crate::segment_files::{SegmentBytes, write_segment_files};
+use crate::SegmentBytes;
 use seg_common::{FileName, SegmentComponent, SegmentId};
 use seg_directory::{CallKind, FailingCall, MemoryDirectory, list_files, read_file};
 use seg_values::{TResult, TantivyError};
@@ -20,7 +20,7 @@ fn bytes(alloc: Global) -> Result<SegmentBytes, AllocError> {
 
 fn write(alloc: Global, directory: &mut MemoryDirectory) -> TResult<()> {
     match bytes(alloc) {
-        Ok(bytes) => write_segment_files(alloc, directory, SegmentId::from_u128(7), bytes),
+        Ok(bytes) => bytes.write(alloc, SegmentId::from_u128(7), directory),
         Err(_) => Err(TantivyError::OutOfMemory),
     }
 }

@@ -1,5 +1,5 @@
 //! The writer of a segment.
-ghost use Rattle.std.specs.Prelude.{◌≡◌, ◌<◌, ◌^◌, ◌⊎◌, [], List, ℕ, length, map, Some, None, Err, IsTrue, IfOk, IfErr, IfSome, OnOk};
+ghost use Rattle.std.specs.Prelude.{◌≡◌, ◌≢◌, ◌<◌, ◌^◌, ◌⊎◌, [], List, ℕ, length, map, Some, None, Err, IsTrue, IfOk, IfErr, IfSome, OnOk};
 ghost use Rattle.std.specs.FinMap.{entries, get};
 ghost use Rattle.seg_directory.specs.Faults.{FaultHasCause};
 ghost use Rattle.seg_values.specs.Tree.{Document};
@@ -7,7 +7,7 @@ ghost use Rattle.seg_model.specs.IndexOfFiles as index;
 ghost use Rattle.seg_model.specs.Reading.{all_terms};
 ghost use Rattle.seg_model.specs.Valid.{Known};
 ghost use Rattle.seg_build.specs.Forms.{segment_forms};
-ghost use Rattle.seg_build.specs.SegmentFiles.{KeepsAllBut, MakingSeen, segment_names};
+ghost use Rattle.seg_build.specs.SegmentFiles.{AreAbsent, KeepsAllBut, MakingSeen, segment_names};
 ghost use Rattle.seg_build.specs.Totals.{TotalsAreCounts};
 ghost use Rattle.seg_build.specs.WriterStart.{Tests, start_refusal};
 
@@ -172,6 +172,9 @@ impl<'a, Z: Analyzers> SegmentWriter<'a, Z> {
             → TotalsAreCounts postings (map entries (all_terms self.entry.1.schema (Z.tokens_of self.entry.0) documents))) }
         ensures stamps { IfOk result (λ answer. (documents : List Document) (stamps : List ℕ) → Writes (Z.tokens_of self.entry.0) documents stamps self.entry.1 → answer.items ≡ stamps) }
         ensures lacking { self.entry.1.kept ≡ None → result ≡ Err TantivyError.SystemError }
+        ensures fresh { IsTrue (W.tells directory.old)
+            → AreAbsent (segment_names self.entry.1.id) (W.files directory.old)
+            → result ≢ Err TantivyError.IndexAlreadyExists }
         ensures others { KeepsAllBut (segment_names self.entry.1.id) (W.files directory.old) (W.files directory.new) }
         ensures tells { W.tells directory.new ≡ W.tells directory.old }
         ensures seen { MakingSeen (segment_names self.entry.1.id) (W.seen directory.old) result (W.seen directory.new) }
@@ -189,7 +192,7 @@ impl<'a, Z: Analyzers> SegmentWriter<'a, Z> {
             parts,
         } = self;
         match parts {
-            Some(parts) => finish(alloc, segment.schema(), segment.id(), parts, directory),
+            Some(parts) => finish(alloc, segment, parts, directory),
             None => Err(TantivyError::SystemError),
         }
     }

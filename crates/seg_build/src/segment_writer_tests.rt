@@ -4,7 +4,7 @@ ghost use Rattle.seg_model.specs.Fields.{indexing_tokenizer};
 
 use crate::tests::{Repeats, documents_of, title_and_body};
 use crate::writer_start::is_built_schema;
-use crate::{AddOperation, Opstamp, SegmentWriter, index_documents, write_segment};
+use crate::{AddOperation, Opstamp, SegmentBytes, SegmentWriter, index_documents};
 use seg_common::{FileName, SegmentComponent, SegmentId};
 use seg_directory::{MemoryDirectory, read_file};
 use seg_meta::{Compressor, IndexSettings, Segment, SegmentMeta};
@@ -81,8 +81,10 @@ fn write_all<Z: Analyzers>(
     if !is_built_schema(schema.fields()) || batch.fields.len() != schema.num_fields() {
         return Err(TantivyError::FieldNotFound);
     }
-    let id = SegmentId::from_u128(7);
-    write_segment(alloc, schema, &batch, documents, BLOCK_SIZE, id, directory)
+    let Ok(bytes) = SegmentBytes::of_batch(alloc, schema, &batch, documents, BLOCK_SIZE) else {
+        return Err(TantivyError::OutOfMemory);
+    };
+    bytes.write(alloc, SegmentId::from_u128(7), directory)
 }
 
 /// The bytes of the six files, one after the other.

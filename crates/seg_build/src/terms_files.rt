@@ -1,9 +1,11 @@
 //! The files of the terms of all indexed fields.
-ghost use Rattle.std.specs.Prelude.{◌≡◌, ◌<◌, ◌-◌, ◌^◌, List, length, map, true, IfOk, IfErr};
+ghost use Rattle.std.specs.Prelude.{◌≡◌, ◌<◌, ◌-◌, ◌^◌, List, length, map, true, Some, IfOk, IfErr, IsSomeAnd, OnOk};
 ghost use Rattle.std.specs.FinMap.{entries};
 ghost use Rattle.std.specs.List.{list_all};
 ghost use Rattle.seg_model.specs.Built.{is_built_entry};
 ghost use Rattle.seg_model.specs.Reading.{Terms};
+ghost use Rattle.seg_postings.specs.Files.{no_fields};
+ghost use Rattle.seg_build.specs.Filling.{HoldFields};
 ghost use Rattle.seg_build.specs.Holds.{HoldTerms};
 ghost use Rattle.seg_build.specs.Totals.{TotalsAreCounts};
 
@@ -27,11 +29,28 @@ pub(crate) fn terms_files(
     ensures err { IfErr result (λ e. e ≡ PostingsError.OutOfMemory) }
 {
     let mut files = InvertedIndexSerializer::new(alloc);
+    add_fields(alloc, schema, fields, &mut files)?;
+    files.close()
+}
+
+/// Adds the terms of all indexed fields to files that have no field yet.
+pub(crate) fn add_fields(
+    alloc: Global,
+    schema: &Schema,
+    fields: &IndexedFields,
+    files: &mut InvertedIndexSerializer,
+) -> Result<(), PostingsError>
+    requires fields { length fields.now ≡ length schema.now }
+    requires entries { list_all is_built_entry schema.now ≡ true }
+    requires fresh { files.old ≡ Some no_fields }
+    ensures ok { OnOk result (IsSomeAnd files.new (HoldFields schema.now fields.now)) }
+    ensures err { IfErr result (λ e. e ≡ PostingsError.OutOfMemory) }
+{
     for at in 0..schema.num_fields() {
         let field = field_at(at)?;
-        write_field(alloc, fields, field, &mut files)?;
+        write_field(alloc, fields, field, files)?;
     }
-    files.close()
+    Ok(())
 }
 
 /// The field at a place, where a file can have so many.

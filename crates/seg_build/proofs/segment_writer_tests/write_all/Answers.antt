@@ -14,8 +14,8 @@ texts_of_all schema analyzer (d ∷ ds) h =
     let two = both_true (is_addable schema analyzer d) (list_all (is_addable schema analyzer) ds) h in
     and_true (is_built_document schema d) (list_all (is_built_document schema) ds) (both_true (is_built_document schema d) (is_taken schema analyzer d) two.0).0 (texts_of_all schema analyzer ds two.1)
 
-pub write_segment-requires-clause-documents : goal.write_segment-requires-clause-documents
-write_segment-requires-clause-documents g c =
+pub of_batch-requires-clause-documents : goal.of_batch-requires-clause-documents
+of_batch-requires-clause-documents g c =
     let F = g.Z.Analyzers.tokens_of c.args.analyzers.now in
     texts_of_all c.args.schema.now F c.args.documents.now
     (both_true (list_all is_built_entry c.args.schema.now) (list_all (is_addable c.args.schema.now F) c.args.documents.now) c.in-Ok.ensures.built).1

@@ -1,22 +1,8 @@
-use Rattle.std.proofs.Common.{◌≡◌, length, sym, subst, arith}
-use Rattle.seg_build.proofs.WrittenFields.{AreWritten, none_written, ascends, one_more, files_hold, files_have_totals}
+use Rattle.seg_build.proofs.WrittenFields.{files_hold, files_have_totals}
 use Rattle.seg_build.proofs.terms_files.terms_files.Goals as goal
 
-pub loop-at-init : goal.loop-at-init
-loop-at-init c = subst (AreWritten c.args.fields.now 0) (sym c.new-files.ensures) (none_written c.args.fields.now)
-
-pub write_field-requires-clause-ascends : goal.write_field-requires-clause-ascends
-write_field-requires-clause-ascends c = ascends c.args.fields.now c.loop-at.at c.loop-at.files c.loop-at.invariant c.in_ok-field.field c.in_ok-field.ensures.is
-
-pub loop-at-preserved : goal.loop-at-preserved
-loop-at-preserved c = one_more c.args.fields.now c.loop-at.at c.loop-at.files c.loop-at.invariant c.in_ok-field.field c.in_ok-field.ensures.is c.write_field.new.files c.in_ok-write_field.ensures.ok
-
 pub returns-clause-ok : goal.returns-clause-ok
-returns-clause-ok c =
-    let all : c.loop-at.at ≡ length c.args.schema.now = omega arith in
-    files_hold c.args.schema.now c.requires.entries c.args.fields.now c.requires.fields c.loop-at.at all c.loop-at.files c.loop-at.invariant c.close.result c.close.ensures.ok
+returns-clause-ok c = files_hold c.args.schema.now c.args.fields.now c.add_fields.new.files c.in_ok-add_fields.ensures.ok c.close.result c.close.ensures.ok
 
 pub returns-clause-totals : goal.returns-clause-totals
-returns-clause-totals c =
-    let all : c.loop-at.at ≡ length c.args.schema.now = omega arith in
-    files_have_totals c.args.schema.now c.requires.entries c.args.fields.now c.requires.fields c.loop-at.at all c.loop-at.files c.loop-at.invariant c.close.result c.close.ensures.ok
+returns-clause-totals c = files_have_totals c.args.schema.now c.args.fields.now c.add_fields.new.files c.in_ok-add_fields.ensures.ok c.close.result c.close.ensures.ok

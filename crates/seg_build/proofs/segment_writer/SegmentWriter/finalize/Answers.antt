@@ -1,4 +1,4 @@
-use Rattle.std.proofs.Common.{◌≡◌, List, ℕ, Some, map, IsTrue, OnOk, sym, subst}
+use Rattle.std.proofs.Common.{◌≡◌, List, ℕ, Some, map, IsTrue, OnOk, subst}
 use Rattle.std.specs.FinMap.{entries, get}
 use Rattle.seg_common.specs.declared.name.FileName.TheVariants.{Part}
 use Rattle.seg_common.specs.declared.name.SegmentComponent.TheVariants.{Postings}
@@ -8,7 +8,7 @@ use Rattle.std.proofs.lemmas.Result.{on_ok_weaker}
 use Rattle.seg_values.specs.Tree.{Document}
 use Rattle.seg_model.specs.IndexOfFiles as index
 use Rattle.seg_build.specs.Forms.{segment_forms}
-use Rattle.seg_build.specs.SegmentWriting.{kept_of, IsKeptOf, Writes}
+use Rattle.seg_build.specs.SegmentWriting.{IsKeptOf, Writes}
 use Rattle.seg_build.proofs.Keeping.{of_parts}
 use Rattle.seg_build.proofs.NoneMade.{none_made}
 use Rattle.seg_build.proofs.segment_writer.SegmentWriter.finalize.Goals as goal
@@ -19,13 +19,9 @@ returns-in-Some-clause-stands g c =
     let F = tokens c.self.inside.analyzers.now in
     let files = g.W.Directory.files c.finish.new.directory in
     let schema = c.self.inside.segment.schema in
-    let id = c.self.inside.segment.meta.id in
     subst (λ v. IsTrue (g.W.Directory.tells c.args.directory.now) → OnOk c.finish.result ((documents : List Document) (stamps : List ℕ) → Writes (tokens v.0) documents stamps v.1 → index.StandsFor segment_forms files v.1.schema (tokens v.0) v.1.id documents)) c.self.view_is
     (λ told. on_ok_weaker c.finish.result (λ all documents stamps w.
-    subst (λ s. index.StandsFor segment_forms files s F id documents) c.schema.ensures
-    (subst (λ i. index.StandsFor segment_forms files c.schema.result.now F i documents) c.id.ensures
-    (all F documents stamps (subst (λ s. IsKeptOf s F documents stamps (kept_of c.in-Some.parts)) (sym c.schema.ensures)
-    (of_parts (IsKeptOf schema F documents stamps) c.self.inside.parts c.in-Some.parts c.in-Some.is w))))) (c.finish.ensures.stands told))
+    all F documents stamps (of_parts (IsKeptOf schema F documents stamps) c.self.inside.parts c.in-Some.parts c.in-Some.is w)) (c.finish.ensures.stands told))
 
 pub returns-clause-seen : goal.returns-clause-seen
 returns-clause-seen g c = none_made c.args.self.1.id (g.W.Directory.seen c.args.directory.now)
@@ -37,8 +33,5 @@ returns-in-Some-clause-totals g c =
     let files = g.W.Directory.files c.finish.new.directory in
     let schema = c.self.inside.segment.schema in
     subst (λ v. IsTrue (g.W.Directory.tells c.args.directory.now) → OnOk c.finish.result ((documents : List Document) (stamps : List ℕ) → Writes (tokens v.0) documents stamps v.1 → (postings : List ℕ) → get files (Part v.1.id Postings) ≡ Some postings → TotalsAreCounts postings (map entries (all_terms v.1.schema (tokens v.0) documents)))) c.self.view_is
-    (λ told. on_ok_weaker c.finish.result (λ all documents stamps w postings there.
-    subst (λ s. TotalsAreCounts postings (map entries (all_terms s F documents))) c.schema.ensures
-    (all F documents stamps (subst (λ s. IsKeptOf s F documents stamps (kept_of c.in-Some.parts)) (sym c.schema.ensures)
-    (of_parts (IsKeptOf schema F documents stamps) c.self.inside.parts c.in-Some.parts c.in-Some.is w)) postings
-    (subst (λ (i : ℕ). get files (Part i Postings) ≡ Some postings) (sym c.id.ensures) there))) (c.finish.ensures.totals told))
+    (λ told. on_ok_weaker c.finish.result (λ all documents stamps w.
+    all F documents stamps (of_parts (IsKeptOf schema F documents stamps) c.self.inside.parts c.in-Some.parts c.in-Some.is w)) (c.finish.ensures.totals told))

@@ -1,0 +1,23 @@
+use Rattle.std.proofs.Common.{◌≡◌, ℕ, ap, subst, ◌∙◌}
+use Rattle.std.proofs.lemmas.Result.{on_ok_weaker}
+use Rattle.seg_build.specs.SegmentFiles.{HasFiles, KeepsAllBut, segment_names}
+use Rattle.seg_build.specs.Serializing.{Serializing}
+use Rattle.seg_build.proofs.NoneMade.{none_made}
+use Rattle.seg_build.proofs.segment_serializer.SegmentSerializer.close.Goals as goal
+
+pub returns-in_default-clause-seen : goal.returns-in_default-clause-seen
+returns-in_default-clause-seen g c = none_made c.args.self.segment.meta.id (g.W.Directory.seen c.args.directory.now)
+
+pub returns-clause-files : goal.returns-clause-files
+returns-clause-files g c told =
+    let same : c.id-id.result ≡ c.args.self.segment.meta.id = c.id-id.ensures ∙ ap (λ (s : Serializing). s.segment.meta.id) c.self.view_is in
+    on_ok_weaker c.write.result (λ has. record {
+      bytes = c.in-Ok.bytes;
+      laid = c.in-Ok.ensures;
+      there = subst (λ (id : ℕ). HasFiles id c.in-Ok.bytes (g.W.Directory.files c.write.new.directory)) same has;
+    }) (c.write.ensures.files told)
+
+pub returns-clause-others : goal.returns-clause-others
+returns-clause-others g c =
+    let same : c.id-id.result ≡ c.args.self.segment.meta.id = c.id-id.ensures ∙ ap (λ (s : Serializing). s.segment.meta.id) c.self.view_is in
+    subst (λ (id : ℕ). KeepsAllBut (segment_names id) (g.W.Directory.files c.args.directory.now) (g.W.Directory.files c.write.new.directory)) same c.write.ensures.others

@@ -1,0 +1,5 @@
+pub mod Columned
+pub mod Eithers
+pub mod Fieldwise
+pub mod Pairwise
+pub mod Telling

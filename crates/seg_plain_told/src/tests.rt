@@ -1,0 +1,1 @@
+//! Contents of two small documents, written out by hand.
