@@ -29,6 +29,7 @@ fn compare<R: Files + AllocGlobal>(rt: &R, name: &str) -> Result<()> {
     let mut sink = MemorySink::new(alloc, text.len(), Vec::new(alloc))?;
     let mut faults = MemorySink::new(alloc, 100, Vec::new(alloc))?;
     let mut work = MemoryDirectory::new(alloc, Vec::new(alloc))?;
+    let mut output = MemoryDirectory::new(alloc, Vec::new(alloc))?;
     let status = run(
         alloc,
         &words,
@@ -37,6 +38,7 @@ fn compare<R: Files + AllocGlobal>(rt: &R, name: &str) -> Result<()> {
         &mut faults,
         &analyzers,
         &mut work,
+        &mut output,
     );
     ensure!(status == Status::Done, "{name} ends with another status");
     ensure!(sink.bytes() == text.as_slice(), "{name} has another text");

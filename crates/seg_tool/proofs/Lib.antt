@@ -1,11 +1,11 @@
+mod Both
 mod Built
 mod Calls
 mod CauseText
 mod Faults
+mod IndexSteps
 mod Parts
 mod Printed
-mod Saved
 mod ScriptFacts
 mod Slices
 mod Steps
-mod WorkSteps

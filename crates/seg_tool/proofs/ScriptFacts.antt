@@ -1,5 +1,5 @@
 -- What is known of a script that was read and indexed.
-use Rattle.std.proofs.Common.{◌≡◌, ℕ, List, [], ◌∷◌, ◌++◌, map, length, Bool, true, ◌&&◌, not, Some, refl, sym, ap, ◌∙◌, subst}
+use Rattle.std.proofs.Common.{◌≡◌, ℕ, List, [], ◌∷◌, ◌++◌, map, length, Bool, true, ◌&&◌, not, Option, Some, refl, sym, ap, ◌∙◌, subst}
 use Rattle.std.specs.List.{list_all}
 use Rattle.std.proofs.lemmas.Bool.{and_parts}
 use Rattle.seg_directory.specs.Files.{NamedFiles}
@@ -15,13 +15,12 @@ use Rattle.seg_script.specs.declared.script.Script.{Script}
 use Rattle.seg_text.specs.HeaderText.{header_text}
 use Rattle.seg_text.specs.DocumentText.{documents_text}
 use Rattle.seg_text.specs.SegmentText.{segment_text}
-use Rattle.seg_tool.specs.Laws.{CanBeSaved}
 use Rattle.seg_tool.specs.Printing.{entries_text}
 use Rattle.seg_tool.specs.Run.{segment}
-use Rattle.seg_tool.specs.WorkIndex.{HasWorkIndex, IsIndexed, IsReadAs, work_meta}
+use Rattle.seg_tool.specs.WrittenIndex.{IsIndexOf, IsIndexed, IsReadAs, index_meta}
 use Rattle.seg_tool.specs.declared.narrow.NarrowScript.{NarrowScript}
 use Rattle.seg_tool.proofs.Built.{length-all_terms, segment_text-sorted}
-use Rattle.seg_tool.proofs.Saved.{schemas_can_be_saved}
+use Rattle.seg_script.proofs.Texts.{scripts_hold_texts}
 
 list_all-front : {X : Type 0} (p q : X → Bool) (xs : List X) → list_all (λ x. p x && q x) xs ≡ true → list_all p xs ≡ true
 list_all-front p q [] all = refl
@@ -39,12 +38,11 @@ pub record Facts (n : NarrowScript) : Type 0 where
 pub facts : (knows : List ℕ → Type 0) (analyzer : Analyzer) (bytes : List ℕ) (n : NarrowScript) → IsReadAs knows analyzer bytes n → Facts n
 facts knows analyzer bytes n r =
     let parts = and_parts (list_all is_built_entry n.schema) (list_all (λ d. is_built_document n.schema d && is_taken n.schema analyzer d) n.documents) r.indexed.built in
-    let saved : CanBeSaved n.schema = subst CanBeSaved (sym r.indexed.schema) (schemas_can_be_saved bytes r.narrow.meant r.narrow.is_script) in
     record {
       fields = ap length r.indexed.batch.fields ∙ length-all_terms n.schema analyzer n.documents;
       entries = parts.0;
       documents = list_all-front (is_built_document n.schema) (is_taken n.schema analyzer) n.documents parts.1;
-      no_columns = saved.no_columns;
+      no_columns = subst (λ (sc : Schema). list_all (λ e. not e.fast) sc ≡ true) (sym r.indexed.schema) (scripts_hold_texts bytes r.narrow.meant r.narrow.is_script).no_columns;
     }
 
 -- the text of a segment of the script's documents
@@ -56,19 +54,16 @@ segment_text-indexed s analyzer n label given id is i =
     ∙ ap (λ (ds : List Document). segment_text s.schema (segment s.schema analyzer label given ds)) i.documents
     ∙ ap (λ (k : ℕ). segment_text s.schema (segment s.schema analyzer label k (additions s.operations))) is
 
--- the index of the script's documents
-pub has_index : (knows : List ℕ → Type 0) (analyzer : Analyzer) (bytes : List ℕ) (n : NarrowScript) (files : NamedFiles) → IsReadAs knows analyzer bytes n
-    → index.index_of segment_forms files ≡ Some (work_meta n.schema n.stamp (length n.documents))
-    → ((a : Analyzer) → are_built n.schema a n.documents ≡ true → IsBatchOf n.schema a n.documents n.batch → index.StandsFor segment_forms files n.schema a 1 n.documents)
-    → HasWorkIndex knows analyzer bytes files
-has_index knows analyzer bytes n files r reads stands =
-    let i = r.indexed in
-    record {
-      narrow = r.narrow;
-      index_of = reads
-          ∙ ap (λ (sc : Schema). Some (work_meta sc n.stamp (length n.documents))) i.schema
-          ∙ ap (λ (k : ℕ). Some (work_meta r.narrow.meant.schema k (length n.documents))) i.stamp
-          ∙ ap (λ (ds : List Document). Some (work_meta r.narrow.meant.schema (length r.narrow.meant.operations) (length ds))) i.documents;
-      stands = subst (λ (ds : List Document). index.StandsFor segment_forms files r.narrow.meant.schema analyzer 1 ds) i.documents
-          (subst (λ (sc : Schema). index.StandsFor segment_forms files sc analyzer 1 n.documents) i.schema (stands analyzer i.built i.batch));
-    }
+-- an index of the script's documents
+pub has_index : (s : Script) (analyzer : Analyzer) (n : NarrowScript) (files : NamedFiles) (id given stamp : ℕ) (payload : Option (List ℕ)) → given ≡ stamp → IsIndexed analyzer s n
+    → index.index_of segment_forms files ≡ Some (index_meta n.schema id given payload (length n.documents))
+    → ((a : Analyzer) → are_built n.schema a n.documents ≡ true → IsBatchOf n.schema a n.documents n.batch → index.StandsFor segment_forms files n.schema a id n.documents)
+    → IsIndexOf analyzer s id stamp payload files
+has_index s analyzer n files id given stamp payload is i reads stands = record {
+  index_of = reads
+      ∙ ap (λ (sc : Schema). Some (index_meta sc id given payload (length n.documents))) i.schema
+      ∙ ap (λ (k : ℕ). Some (index_meta s.schema id k payload (length n.documents))) is
+      ∙ ap (λ (ds : List Document). Some (index_meta s.schema id stamp payload (length ds))) i.documents;
+  stands = subst (λ (ds : List Document). index.StandsFor segment_forms files s.schema analyzer id ds) i.documents
+      (subst (λ (sc : Schema). index.StandsFor segment_forms files sc analyzer id n.documents) i.schema (stands analyzer i.built i.batch));
+}

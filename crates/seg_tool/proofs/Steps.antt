@@ -1,15 +1,12 @@
 -- What each call of the work directory does, in the words of calls in turn.
-use Rattle.std.proofs.Common.{◌≡◌, ◌≢◌, ◌≤◌, ℕ, List, [], ◌∷◌, ◌++◌, refl, sym, ap, ◌∙◌, subst, Result, Ok, Err, Some, inl, inr}
+use Rattle.std.proofs.Common.{◌≡◌, ◌≤◌, ℕ, List, [], ◌∷◌, ◌++◌, refl, sym, ap, ◌∙◌, subst, Result, Ok, Err, Some, inl, inr}
 use Rattle.std.specs.Prelude.{IfErr, OnOk, ◌⊎◌, ◌<◌}
 use Rattle.std.specs.FinMap.{get, insert, get-insert}
 use Rattle.std.specs.Option.{option_and_then}
-use Rattle.std.specs.List.{AllByRecursion}
 use Rattle.std.proofs.lemmas.List.{append-nil, map-append}
 use Rattle.seg_common.specs.Causes.{Rose}
 use Rattle.seg_common.specs.declared.name.FileName.{FileName}
-use Rattle.seg_common.specs.declared.name.FileName.TheVariants.{Meta, Part}
-use Rattle.seg_common.specs.declared.name.SegmentComponent.{SegmentComponent}
-use Rattle.seg_common.specs.declared.name.SegmentComponent.TheVariants as component
+use Rattle.seg_common.specs.declared.name.FileName.TheVariants.{Meta}
 use Rattle.seg_values.specs.declared.error.TantivyError.{TantivyError}
 use Rattle.seg_values.specs.declared.error.TantivyError.TheVariants.{IndexAlreadyExists, OpenReadError, OpenWriteError, IoError, OutOfMemory}
 use Rattle.seg_directory.specs.declared.answer.Answer.{Answer}
@@ -22,15 +19,10 @@ use Rattle.seg_directory.specs.Files.{NamedFiles}
 use Rattle.seg_common.specs.Names.{name_cmp_total}
 use Rattle.seg_meta.specs.MetaRead.{meta_read}
 use Rattle.seg_meta.specs.Saving.{CreatingSeen, SavingSeen}
-use Rattle.seg_model.specs.Contents.{Contents}
-use Rattle.seg_model.specs.Fields.{Schema, Analyzer}
 use Rattle.seg_model.specs.IndexOfFiles as index
-use Rattle.seg_values.specs.Tree.{Document}
 use Rattle.seg_build.specs.Forms.{segment_forms}
-use Rattle.seg_build.specs.Holds.{Holds}
-use Rattle.seg_build.specs.SegmentFiles.{KeepsAllBut, EndsAt, MakingSeen, segment_names, wrote}
+use Rattle.seg_build.specs.SegmentFiles.{KeepsAllBut, EndsAt, MakingSeen, wrote}
 use Rattle.seg_tool.specs.Calls.{DirectoryState, IsWhy, Stops, HasRisen, Does}
-use Rattle.seg_tool.specs.WorkIndex.{work_names}
 
 -- ---- answers
 
@@ -214,47 +206,6 @@ does-fail e a b errors seen files tells later rose = record {
   later = later;
   caused = risen-read e a.faults b.faults errors rose;
 }
-
--- ---- names
-
-pub among-none : (more : List FileName) (other : FileName) → AllByRecursion (λ name. other ≢ name) more → AllByRecursion (λ name. other ≢ name) []
-among-none more other all = tt
-
-pub among-meta : (other : FileName) → AllByRecursion (λ name. other ≢ name) work_names → AllByRecursion (λ name. other ≢ name) (Meta ∷ [])
-among-meta other all = (all.0, tt)
-
-pub among-segment : (other : FileName) → AllByRecursion (λ name. other ≢ name) work_names → AllByRecursion (λ name. other ≢ name) (segment_names 1)
-among-segment other all = all.1
-
--- ---- the segment, behind a new meta
-
-not-meta : (id : ℕ) (which : SegmentComponent) → AllByRecursion (λ name. Part id which ≢ name) (Meta ∷ [])
-not-meta id which = ((λ is. cc), tt)
-
-holds-kept : (old new : NamedFiles) (id : ℕ) (schema : Schema) (contents : Contents) → KeepsAllBut (Meta ∷ []) old new → Holds old id schema contents → Holds new id schema contents
-holds-kept old new id schema contents kept h = record {
-  terms = h.terms;
-  postings = h.postings;
-  positions = h.positions;
-  norms = h.norms;
-  store = h.store;
-  fast = h.fast;
-  term_file = kept _ (not-meta id component.Terms) ∙ h.term_file;
-  posting_file = kept _ (not-meta id component.Postings) ∙ h.posting_file;
-  position_file = kept _ (not-meta id component.Positions) ∙ h.position_file;
-  norm_file = kept _ (not-meta id component.FieldNorms) ∙ h.norm_file;
-  store_file = kept _ (not-meta id component.Store) ∙ h.store_file;
-  fast_file = kept _ (not-meta id component.FastFields) ∙ h.fast_file;
-  hold_terms = h.hold_terms;
-  norm_parts = h.norm_parts;
-  stored = h.stored;
-  rows = h.rows;
-  no_columns = h.no_columns;
-  shape = h.shape;
-}
-
-pub stands-kept : (old new : NamedFiles) (schema : Schema) (analyzer : Analyzer) (id : ℕ) (documents : List Document) → KeepsAllBut (Meta ∷ []) old new → index.StandsFor segment_forms old schema analyzer id documents → index.StandsFor segment_forms new schema analyzer id documents
-stands-kept old new schema analyzer id documents kept s = record { contents = s.contents; read = s.read; held = holds-kept old new id schema s.contents kept s.held }
 
 -- ---- the meta
 

@@ -17,6 +17,10 @@ pub record DirectoryState : Type 0 where
   pub seen : List Answer
   pub faults : ℕ
 
+-- such a state, part by part
+abbrev pub state_of : Bool → NamedFiles → List Answer → ℕ → DirectoryState
+state_of tells files seen faults = record { tells = tells; files = files; seen = seen; faults = faults }
+
 -- the last answers are why there is this error: a listing of files or a file that is there, a failed call of its kind, or none
 abbrev pub IsWhy : TantivyError → List Answer → Type 0
 IsWhy IndexAlreadyExists why = ((n : ℕ) × (0 < n) × (why ≡ answer.Listed n ∷ [])) ⊎ ((name : FileName) × (why ≡ answer.There name ∷ []))

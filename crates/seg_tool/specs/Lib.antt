@@ -1,7 +1,6 @@
 pub mod Calls
-pub mod Laws
+pub mod DirectoryCalls
 pub mod Printing
 pub mod Run
 pub mod Statuses
-pub mod WorkCalls
-pub mod WorkIndex
+pub mod WrittenIndex

@@ -1,21 +1,21 @@
 //! From the bytes of a script to an index and the text of its segments.
-ghost use Rattle.std.specs.Prelude.{◌≡◌, None, IfErr, IfOk, IsErrOf, IsSome, IsTrue, OnOk, length, true};
+ghost use Rattle.std.specs.Prelude.{◌≡◌, ◌≢◌, None, IfErr, IfOk, IsErrOf, IsSome, IsTrue, OnOk, length, true};
 ghost use Rattle.std.specs.FinMap.{len};
 ghost use Rattle.std.specs.List.{list_all};
 ghost use Rattle.seg_model.specs.Built.{is_built_entry, is_built_document};
 ghost use Rattle.seg_model.specs.Fields.{Analyzer};
 ghost use Rattle.seg_script.specs.Script.{json_of};
 ghost use Rattle.seg_script.specs.declared.script.Script.{Script as ScriptView};
-ghost use Rattle.seg_tool.specs.Calls.{DirectoryState};
+ghost use Rattle.seg_tool.specs.Calls.{state_of};
 ghost use Rattle.seg_tool.specs.Run.{build_text, IsNarrow, IsTextOf};
 ghost use Rattle.seg_tool.specs.Statuses.{IfRefused, IfWritten, status_of};
-ghost use Rattle.seg_tool.specs.WorkCalls.{WorkDoes};
-ghost use Rattle.seg_tool.specs.WorkIndex.{HasWorkIndex, IsIndexed};
+ghost use Rattle.seg_tool.specs.DirectoryCalls.{Directories, BuildDoes};
+ghost use Rattle.seg_tool.specs.WrittenIndex.{HasOutputIndex, HasWorkIndex, IsIndexed};
 
+use crate::indexes::write_indexes;
 use crate::narrow::{NarrowScript, read_narrow};
 use crate::printing::push_segment;
 use crate::status::Status;
-use crate::work_index::write_work_index;
 use seg_common::SegmentId;
 use seg_directory::Directory;
 use seg_script::ScriptError;
@@ -25,12 +25,13 @@ use std::alloc::{AllocError, Global};
 /// What is asked for is not built yet.
 const LATER: TantivyError = TantivyError::InvalidArgument(ArgumentCause::Later);
 
-/// Writes the index of a script, and answers what is printed of it.
-pub(crate) fn build<Z: Analyzers, W: Directory>(
+/// Writes the indexes of a script, and answers what is printed of them.
+pub(crate) fn build<Z: Analyzers, W: Directory, O: Directory>(
     alloc: Global,
     analyzers: &Z,
     bytes: Vec<u8>,
     work: &mut W,
+    output: &mut O,
 ) -> Result<Vec<u8>, Status>
     ensures ok { IfOk result
         (λ t. IsTextOf (Z.knows analyzers.now) (Z.tokens_of analyzers.now) bytes.items t.items) }
@@ -45,17 +46,37 @@ pub(crate) fn build<Z: Analyzers, W: Directory>(
     ensures never_done { IsErrOf result Status.Done → ⊥ }
     ensures never_words { IsErrOf result Status.Words → ⊥ }
     ensures never_stream { IsErrOf result Status.Stream → ⊥ }
-    ensures index { IsTrue (W.tells work.old) → OnOk result
+    ensures work_index { IsTrue (W.tells work.old) → OnOk result
         (HasWorkIndex (Z.knows analyzers.now) (Z.tokens_of analyzers.now) bytes.items (W.files work.new)) }
-    ensures was_empty { IsTrue (W.tells work.old) → OnOk result (len (W.files work.old) ≡ 0) }
-    ensures calls { OnOk result (WorkDoes Status.Done
-        (record { tells = W.tells work.old; files = W.files work.old; seen = W.seen work.old; faults = W.faults work.old })
-        (record { tells = W.tells work.new; files = W.files work.new; seen = W.seen work.new; faults = W.faults work.new })) }
-    ensures calls_ended { IfErr result (λ status. WorkDoes status
-        (record { tells = W.tells work.old; files = W.files work.old; seen = W.seen work.old; faults = W.faults work.old })
-        (record { tells = W.tells work.new; files = W.files work.new; seen = W.seen work.new; faults = W.faults work.new })) }
+    ensures work_was_empty { IsTrue (W.tells work.old) → OnOk result (len (W.files work.old) ≡ 0) }
+    ensures output_index { IsTrue (O.tells output.old) → OnOk result
+        (HasOutputIndex (Z.knows analyzers.now) (Z.tokens_of analyzers.now) bytes.items (O.files output.new)) }
+    ensures output_was_empty { IsTrue (O.tells output.old) → OnOk result (len (O.files output.old) ≡ 0) }
+    ensures fresh { IsTrue (W.tells work.old) → len (W.files work.old) ≡ 0
+        → IsTrue (O.tells output.old) → len (O.files output.old) ≡ 0
+        → IfErr result (λ status. (e : TantivyError) → status ≢ Status.Exists e) }
+    ensures calls { OnOk result (BuildDoes Status.Done
+        (record {
+          work = state_of (W.tells work.old) (W.files work.old) (W.seen work.old) (W.faults work.old);
+          output = state_of (O.tells output.old) (O.files output.old) (O.seen output.old) (O.faults output.old);
+        })
+        (record {
+          work = state_of (W.tells work.new) (W.files work.new) (W.seen work.new) (W.faults work.new);
+          output = state_of (O.tells output.new) (O.files output.new) (O.seen output.new) (O.faults output.new);
+        })) }
+    ensures calls_ended { IfErr result (λ status. BuildDoes status
+        (record {
+          work = state_of (W.tells work.old) (W.files work.old) (W.seen work.old) (W.faults work.old);
+          output = state_of (O.tells output.old) (O.files output.old) (O.seen output.old) (O.faults output.old);
+        })
+        (record {
+          work = state_of (W.tells work.new) (W.files work.new) (W.seen work.new) (W.faults work.new);
+          output = state_of (O.tells output.new) (O.files output.new) (O.seen output.new) (O.faults output.new);
+        })) }
     ensures untouched { IfErr result (λ status. IfRefused status (λ _. work.new ≡ work.old)) }
     ensures untouched_script { IsErrOf result Status.Script → work.new ≡ work.old }
+    ensures output_untouched { IfErr result (λ status. IfRefused status (λ _. output.new ≡ output.old)) }
+    ensures output_untouched_script { IsErrOf result Status.Script → output.new ≡ output.old }
 {
     let script = match read_narrow(alloc, analyzers, bytes) {
         Ok(script) => script,
@@ -72,7 +93,7 @@ pub(crate) fn build<Z: Analyzers, W: Directory>(
         batch,
         stamp,
     } = script;
-    match write_work_index(alloc, schema, &batch, &documents, stamp, work) {
+    match write_indexes(alloc, schema, &batch, &documents, stamp, work, output) {
         Ok(()) => Ok(text),
         Err(e) => Err(status_of(e)),
     }
@@ -115,7 +136,7 @@ fn segments_text(alloc: Global, script: &NarrowScript) -> Result<Vec<u8>, AllocE
     Ok(out)
 }
 
-/// The status of an error of the index that is written.
+/// The status of an error of the indexes that are written.
 fn status_of(error: TantivyError) -> Status
     ensures { result ≡ status_of error }
 {

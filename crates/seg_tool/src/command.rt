@@ -1,14 +1,14 @@
 //! The whole of a run: the words, the source, the sink, and the line on what went wrong.
-ghost use Rattle.std.specs.Prelude.{◌≡◌, ◌≢◌, ◌≤◌, ◌+◌, ◌⊎◌, ◌↔◌, false, length, IfOk, IfErr, IfSome, IsErrOf, IsTrue, OnOk};
+ghost use Rattle.std.specs.Prelude.{◌≡◌, ◌≢◌, ◌≤◌, ◌+◌, ◌⊎◌, ◌↔◌, ℕ, List, Some, false, true, length, IfOk, IfErr, IfSome, IsErrOf, IsTrue, OnOk};
 ghost use Rattle.std.specs.Io.KnownBytes.{Appends, IsAtEnd};
 ghost use Rattle.seg_common.specs.Causes.{Rose};
 ghost use Rattle.seg_common.specs.Idle.{OnlyLastIsIdle};
 ghost use Rattle.seg_common.specs.Streams.{AppendsPart, TakesAtMost};
 ghost use Rattle.seg_tool.specs.Run.{is_build, max_script, IsJson, IsNoScript, IsNarrow, IsTextOf, Gains, GainsPart};
 ghost use Rattle.seg_tool.specs.Statuses.{IfRefused, IfWritten, status_line};
-ghost use Rattle.seg_tool.specs.Calls.{DirectoryState};
-ghost use Rattle.seg_tool.specs.WorkCalls.{WorkDoes};
-ghost use Rattle.seg_tool.specs.WorkIndex.{HasWorkIndex};
+ghost use Rattle.seg_tool.specs.Calls.{state_of};
+ghost use Rattle.seg_tool.specs.DirectoryCalls.{Directories, BuildDoes, IsReady};
+ghost use Rattle.seg_tool.specs.WrittenIndex.{HasOutputIndex, HasWorkIndex};
 ghost use Rattle.std.specs.FinMap.{len};
 
 use crate::building::build;
@@ -24,10 +24,10 @@ const MAX_SCRIPT: usize = 67_108_864;
 
 /// Does what the words say, and answers how it went.
 ///
-/// `build` reads the source to its end as a script, writes an index of its documents into the directory `work`, and writes
-/// the text of its segments to the sink. On any status but `Done` one line is written to `faults`; a failing write there
+/// `build` reads the source to its end as a script, writes an index of its documents into the directory `work` and the index
+/// that it is merged into, into the directory `output`, and writes the text of both segments to the sink. On any status but `Done` one line is written to `faults`; a failing write there
 /// changes nothing. What is written to a directory before it fails stays there.
-pub fn run<S: Source, K: Sink, F: Sink, Z: Analyzers, W: Directory>(
+pub fn run<S: Source, K: Sink, F: Sink, Z: Analyzers, W: Directory, O: Directory>(
     alloc: Global,
     words: &[String],
     source: &mut S,
@@ -35,6 +35,7 @@ pub fn run<S: Source, K: Sink, F: Sink, Z: Analyzers, W: Directory>(
     faults: &mut F,
     analyzers: &Z,
     work: &mut W,
+    output: &mut O,
 ) -> Status
     ensures words { result ≡ Status.Words ↔ (is_build words.now ≡ false) }
 
@@ -57,18 +58,33 @@ pub fn run<S: Source, K: Sink, F: Sink, Z: Analyzers, W: Directory>(
         (λ bytes. GainsPart (IsTextOf (Z.knows analyzers.now) (Z.tokens_of analyzers.now) bytes)
         (K.written sink.old) (K.written sink.new))) }
 
-    // What becomes of the work directory.
-    ensures index { result ≡ Status.Done → IsTrue (W.tells work.old) → IfSome (S.left source.old)
+    // What becomes of the directories.
+    ensures work_index { result ≡ Status.Done → IsTrue (W.tells work.old) → IfSome (S.left source.old)
         (λ bytes. HasWorkIndex (Z.knows analyzers.now) (Z.tokens_of analyzers.now) bytes (W.files work.new)) }
-    ensures was_empty { result ≡ Status.Done → IsTrue (W.tells work.old) → len (W.files work.old) ≡ 0 }
+    ensures work_was_empty { result ≡ Status.Done → IsTrue (W.tells work.old) → len (W.files work.old) ≡ 0 }
+    ensures output_index { result ≡ Status.Done → IsTrue (O.tells output.old) → IfSome (S.left source.old)
+        (λ bytes. HasOutputIndex (Z.knows analyzers.now) (Z.tokens_of analyzers.now) bytes (O.files output.new)) }
+    ensures output_was_empty { result ≡ Status.Done → IsTrue (O.tells output.old) → len (O.files output.old) ≡ 0 }
+    ensures fresh { IsTrue (W.tells work.old) → len (W.files work.old) ≡ 0
+        → IsTrue (O.tells output.old) → len (O.files output.old) ≡ 0
+        → (e : TantivyError) → result ≢ Status.Exists e }
     ensures written { IfWritten result (λ _. IfSome (S.left source.old)
         (IsNarrow (Z.knows analyzers.now) (Z.tokens_of analyzers.now))) }
-    ensures calls { WorkDoes result
-        (record { tells = W.tells work.old; files = W.files work.old; seen = W.seen work.old; faults = W.faults work.old })
-        (record { tells = W.tells work.new; files = W.files work.new; seen = W.seen work.new; faults = W.faults work.new }) }
+    ensures calls { BuildDoes result
+        (record {
+          work = state_of (W.tells work.old) (W.files work.old) (W.seen work.old) (W.faults work.old);
+          output = state_of (O.tells output.old) (O.files output.old) (O.seen output.old) (O.faults output.old);
+        })
+        (record {
+          work = state_of (W.tells work.new) (W.files work.new) (W.seen work.new) (W.faults work.new);
+          output = state_of (O.tells output.new) (O.files output.new) (O.seen output.new) (O.faults output.new);
+        }) }
     ensures unwritten { IfRefused result (λ _. work.new ≡ work.old) }
     ensures unwritten_script { result ≡ Status.Script → work.new ≡ work.old }
     ensures unwritten_words { result ≡ Status.Words → work.new ≡ work.old }
+    ensures output_unwritten { IfRefused result (λ _. output.new ≡ output.old) }
+    ensures output_unwritten_script { result ≡ Status.Script → output.new ≡ output.old }
+    ensures output_unwritten_words { result ≡ Status.Words → output.new ≡ output.old }
 
     // What is taken of the source.
     ensures end { result ≡ Status.Done → IsAtEnd (S.left source.new) }
@@ -85,11 +101,23 @@ pub fn run<S: Source, K: Sink, F: Sink, Z: Analyzers, W: Directory>(
         ⊎ (Rose (F.faults faults.old) (F.faults faults.new)
         × AppendsPart (F.written faults.old) (F.written faults.new) (status_line result)) }
 
+    // What ends well: a narrow script, over empty directories that tell, where nothing fails.
+    ensures complete { (bytes : List ℕ) → is_build words.now ≡ true → S.left source.old ≡ Some bytes
+        → length bytes ≤ max_script
+        → IsNarrow (Z.knows analyzers.now) (Z.tokens_of analyzers.now) bytes
+        → IsReady (state_of (W.tells work.old) (W.files work.old) (W.seen work.old) (W.faults work.old))
+        (state_of (W.tells work.new) (W.files work.new) (W.seen work.new) (W.faults work.new))
+        → IsReady (state_of (O.tells output.old) (O.files output.old) (O.seen output.old) (O.faults output.old))
+        (state_of (O.tells output.new) (O.files output.new) (O.seen output.new) (O.faults output.new))
+        → ¬ (Rose (S.faults source.old) (S.faults source.new))
+        → ¬ (Rose (K.faults sink.old) (K.faults sink.new))
+        → (result ≡ Status.Done) ⊎ (result ≡ Status.Memory) }
+
     ensures count { S.faults source.old ≤ S.faults source.new }
     ensures count_sink { K.faults sink.old ≤ K.faults sink.new }
     ensures count_faults { F.faults faults.old ≤ F.faults faults.new }
 {
-    let status = execute(alloc, words, source, sink, analyzers, work);
+    let status = execute(alloc, words, source, sink, analyzers, work, output);
     if status != Status::Done {
         let _ = report(faults, &status);
     }
@@ -97,13 +125,14 @@ pub fn run<S: Source, K: Sink, F: Sink, Z: Analyzers, W: Directory>(
 }
 
 /// Does what the words say, and answers how it went; nothing is said of it yet.
-fn execute<S: Source, K: Sink, Z: Analyzers, W: Directory>(
+fn execute<S: Source, K: Sink, Z: Analyzers, W: Directory, O: Directory>(
     alloc: Global,
     words: &[String],
     source: &mut S,
     sink: &mut K,
     analyzers: &Z,
     work: &mut W,
+    output: &mut O,
 ) -> Status
     ensures words { result ≡ Status.Words ↔ (is_build words.now ≡ false) }
     ensures script { result ≡ Status.Script → IfSome (S.left source.old) IsNoScript }
@@ -121,17 +150,32 @@ fn execute<S: Source, K: Sink, Z: Analyzers, W: Directory>(
         ⊎ (Rose (K.faults sink.old) (K.faults sink.new) × IfSome (S.left source.old)
         (λ bytes. GainsPart (IsTextOf (Z.knows analyzers.now) (Z.tokens_of analyzers.now) bytes)
         (K.written sink.old) (K.written sink.new))) }
-    ensures index { result ≡ Status.Done → IsTrue (W.tells work.old) → IfSome (S.left source.old)
+    ensures work_index { result ≡ Status.Done → IsTrue (W.tells work.old) → IfSome (S.left source.old)
         (λ bytes. HasWorkIndex (Z.knows analyzers.now) (Z.tokens_of analyzers.now) bytes (W.files work.new)) }
-    ensures was_empty { result ≡ Status.Done → IsTrue (W.tells work.old) → len (W.files work.old) ≡ 0 }
+    ensures work_was_empty { result ≡ Status.Done → IsTrue (W.tells work.old) → len (W.files work.old) ≡ 0 }
+    ensures output_index { result ≡ Status.Done → IsTrue (O.tells output.old) → IfSome (S.left source.old)
+        (λ bytes. HasOutputIndex (Z.knows analyzers.now) (Z.tokens_of analyzers.now) bytes (O.files output.new)) }
+    ensures output_was_empty { result ≡ Status.Done → IsTrue (O.tells output.old) → len (O.files output.old) ≡ 0 }
+    ensures fresh { IsTrue (W.tells work.old) → len (W.files work.old) ≡ 0
+        → IsTrue (O.tells output.old) → len (O.files output.old) ≡ 0
+        → (e : TantivyError) → result ≢ Status.Exists e }
     ensures written { IfWritten result (λ _. IfSome (S.left source.old)
         (IsNarrow (Z.knows analyzers.now) (Z.tokens_of analyzers.now))) }
-    ensures calls { WorkDoes result
-        (record { tells = W.tells work.old; files = W.files work.old; seen = W.seen work.old; faults = W.faults work.old })
-        (record { tells = W.tells work.new; files = W.files work.new; seen = W.seen work.new; faults = W.faults work.new }) }
+    ensures calls { BuildDoes result
+        (record {
+          work = state_of (W.tells work.old) (W.files work.old) (W.seen work.old) (W.faults work.old);
+          output = state_of (O.tells output.old) (O.files output.old) (O.seen output.old) (O.faults output.old);
+        })
+        (record {
+          work = state_of (W.tells work.new) (W.files work.new) (W.seen work.new) (W.faults work.new);
+          output = state_of (O.tells output.new) (O.files output.new) (O.seen output.new) (O.faults output.new);
+        }) }
     ensures unwritten { IfRefused result (λ _. work.new ≡ work.old) }
     ensures unwritten_script { result ≡ Status.Script → work.new ≡ work.old }
     ensures unwritten_words { result ≡ Status.Words → work.new ≡ work.old }
+    ensures output_unwritten { IfRefused result (λ _. output.new ≡ output.old) }
+    ensures output_unwritten_script { result ≡ Status.Script → output.new ≡ output.old }
+    ensures output_unwritten_words { result ≡ Status.Words → output.new ≡ output.old }
     ensures end { result ≡ Status.Done → IsAtEnd (S.left source.new) }
     ensures end_written { IfWritten result (λ _. IsAtEnd (S.left source.new)) }
     ensures end_refused { IfRefused result (λ _. IsAtEnd (S.left source.new)) }
@@ -144,7 +188,7 @@ fn execute<S: Source, K: Sink, Z: Analyzers, W: Directory>(
     if !is_build(words) {
         return Status::Words;
     }
-    match read_and_build(alloc, source, analyzers, work) {
+    match read_and_build(alloc, source, analyzers, work, output) {
         Ok(text) => match write_whole(sink, &text) {
             Ok(()) => Status::Done,
             Err(SinkFailed) => Status::Stream,
@@ -154,11 +198,12 @@ fn execute<S: Source, K: Sink, Z: Analyzers, W: Directory>(
 }
 
 /// Writes the index of the script in the source, and answers its text.
-fn read_and_build<S: Source, Z: Analyzers, W: Directory>(
+fn read_and_build<S: Source, Z: Analyzers, W: Directory, O: Directory>(
     alloc: Global,
     source: &mut S,
     analyzers: &Z,
     work: &mut W,
+    output: &mut O,
 ) -> Result<Vec<u8>, Status>
     ensures ok { IfOk result (λ t. IfSome (S.left source.old)
         (λ bytes. (length bytes ≤ max_script)
@@ -173,22 +218,42 @@ fn read_and_build<S: Source, Z: Analyzers, W: Directory>(
         (λ _. IfSome (S.left source.old) IsJson)) }
     ensures later { IfErr result (λ status. IfRefused status (λ _. IfSome (S.left source.old)
         (λ bytes. ¬ (IsNarrow (Z.knows analyzers.now) (Z.tokens_of analyzers.now) bytes)))) }
-    ensures stream { IsErrOf result Status.Stream
-        → Rose (S.faults source.old) (S.faults source.new) × (work.new ≡ work.old) }
-    ensures index { IsTrue (W.tells work.old) → OnOk result (IfSome (S.left source.old)
+    ensures stream { IsErrOf result Status.Stream → Rose (S.faults source.old) (S.faults source.new)
+        × (work.new ≡ work.old) × (output.new ≡ output.old) }
+    ensures work_index { IsTrue (W.tells work.old) → OnOk result (IfSome (S.left source.old)
         (λ bytes. HasWorkIndex (Z.knows analyzers.now) (Z.tokens_of analyzers.now) bytes (W.files work.new))) }
-    ensures was_empty { IsTrue (W.tells work.old) → OnOk result (len (W.files work.old) ≡ 0) }
+    ensures work_was_empty { IsTrue (W.tells work.old) → OnOk result (len (W.files work.old) ≡ 0) }
+    ensures output_index { IsTrue (O.tells output.old) → OnOk result (IfSome (S.left source.old)
+        (λ bytes. HasOutputIndex (Z.knows analyzers.now) (Z.tokens_of analyzers.now) bytes (O.files output.new))) }
+    ensures output_was_empty { IsTrue (O.tells output.old) → OnOk result (len (O.files output.old) ≡ 0) }
+    ensures fresh { IsTrue (W.tells work.old) → len (W.files work.old) ≡ 0
+        → IsTrue (O.tells output.old) → len (O.files output.old) ≡ 0
+        → IfErr result (λ status. (e : TantivyError) → status ≢ Status.Exists e) }
     ensures written { IfErr result (λ status. IfWritten status (λ _. IfSome (S.left source.old)
         (IsNarrow (Z.knows analyzers.now) (Z.tokens_of analyzers.now)))) }
     ensures end_written { IfErr result (λ status. IfWritten status (λ _. IsAtEnd (S.left source.new))) }
-    ensures calls { OnOk result (WorkDoes Status.Done
-        (record { tells = W.tells work.old; files = W.files work.old; seen = W.seen work.old; faults = W.faults work.old })
-        (record { tells = W.tells work.new; files = W.files work.new; seen = W.seen work.new; faults = W.faults work.new })) }
-    ensures calls_ended { IfErr result (λ status. WorkDoes status
-        (record { tells = W.tells work.old; files = W.files work.old; seen = W.seen work.old; faults = W.faults work.old })
-        (record { tells = W.tells work.new; files = W.files work.new; seen = W.seen work.new; faults = W.faults work.new })) }
+    ensures calls { OnOk result (BuildDoes Status.Done
+        (record {
+          work = state_of (W.tells work.old) (W.files work.old) (W.seen work.old) (W.faults work.old);
+          output = state_of (O.tells output.old) (O.files output.old) (O.seen output.old) (O.faults output.old);
+        })
+        (record {
+          work = state_of (W.tells work.new) (W.files work.new) (W.seen work.new) (W.faults work.new);
+          output = state_of (O.tells output.new) (O.files output.new) (O.seen output.new) (O.faults output.new);
+        })) }
+    ensures calls_ended { IfErr result (λ status. BuildDoes status
+        (record {
+          work = state_of (W.tells work.old) (W.files work.old) (W.seen work.old) (W.faults work.old);
+          output = state_of (O.tells output.old) (O.files output.old) (O.seen output.old) (O.faults output.old);
+        })
+        (record {
+          work = state_of (W.tells work.new) (W.files work.new) (W.seen work.new) (W.faults work.new);
+          output = state_of (O.tells output.new) (O.files output.new) (O.seen output.new) (O.faults output.new);
+        })) }
     ensures unwritten { IfErr result (λ status. IfRefused status (λ _. work.new ≡ work.old)) }
     ensures unwritten_script { IsErrOf result Status.Script → work.new ≡ work.old }
+    ensures output_unwritten { IfErr result (λ status. IfRefused status (λ _. output.new ≡ output.old)) }
+    ensures output_unwritten_script { IsErrOf result Status.Script → output.new ≡ output.old }
     ensures never { IsErrOf result Status.Done → ⊥ }
     ensures never_words { IsErrOf result Status.Words → ⊥ }
     ensures taken { TakesAtMost (max_script + 1) (S.left source.old) (S.left source.new) }
@@ -201,7 +266,7 @@ fn read_and_build<S: Source, Z: Analyzers, W: Directory>(
         Err(ReadError::TooLong) => return Err(Status::Script),
         Err(ReadError::OutOfMemory) => return Err(Status::Memory),
     };
-    build(alloc, analyzers, bytes, work)
+    build(alloc, analyzers, bytes, work, output)
 }
 
 fn is_build(words: &[String]) -> bool

@@ -6,7 +6,7 @@ ghost use Rattle.seg_model.specs.Operations.{additions};
 ghost use Rattle.seg_script.specs.Laws.{HoldsTexts};
 ghost use Rattle.seg_script.specs.Script.{json_of};
 ghost use Rattle.seg_tool.specs.Run.{IsNarrow};
-ghost use Rattle.seg_tool.specs.WorkIndex.{IsIndexed, IsReadAs};
+ghost use Rattle.seg_tool.specs.WrittenIndex.{IsIndexed, IsReadAs};
 
 use seg_build::{IndexError, IndexedBatch, index_documents};
 use seg_script::{Script, ScriptError, read_script};

@@ -2,7 +2,9 @@
 
 use crate::reporting::report;
 use crate::{Status, run};
-use seg_common::{FileName, MemorySink, MemorySource, SegmentComponent, SegmentId, Source};
+use seg_common::{
+    FileName, MemorySink, MemorySource, OwnedBytes, SegmentComponent, SegmentId, Source,
+};
 use seg_directory::{CallKind, Directory, FailingCall, MemoryDirectory};
 use seg_values::{
     ArgumentCause, DefaultTokenizer, Field, SchemaCause, TantivyError, TokenizerManager,
@@ -18,13 +20,14 @@ const LATER: Status = Status::Refused(TantivyError::InvalidArgument(ArgumentCaus
 /// A call that no run comes to.
 const NEVER: u64 = u64::MAX;
 
-/// What is read, where the text and the line on its status go, and the directory of the index.
+/// What is read, where the text and the line on its status go, and the directories of the indexes.
 #[derive(Drop)]
 struct Streams {
     source: MemorySource,
     sink: MemorySink,
     faults: MemorySink,
     work: MemoryDirectory,
+    output: MemoryDirectory,
 }
 
 /// Streams of which each fails at one call; the sink has room for so many bytes.
@@ -36,15 +39,33 @@ fn streams_over(
     at_write: u64,
     at_fault: u64,
 ) -> Result<Streams, AllocError> {
-    let Ok(work) = MemoryDirectory::new(alloc, Vec::new(alloc)) else {
-        return Err(AllocError);
-    };
+    let work = directory_with(alloc, Vec::new(alloc), false)?;
+    let output = directory_with(alloc, Vec::new(alloc), false)?;
     Ok(Streams {
         source: MemorySource::new(alloc, script.as_bytes(), vec![in alloc; at_read]?)?,
         sink: MemorySink::new(alloc, room, vec![in alloc; at_write]?)?,
         faults: MemorySink::new(alloc, 200, vec![in alloc; at_fault]?)?,
         work,
+        output,
     })
+}
+
+/// A directory of which some calls fail, and that may have a file.
+fn directory_with(
+    alloc: Global,
+    fails: Vec<FailingCall>,
+    has_file: bool,
+) -> Result<MemoryDirectory, AllocError> {
+    let Ok(mut directory) = MemoryDirectory::new(alloc, fails) else {
+        return Err(AllocError);
+    };
+    if has_file {
+        let name = FileName::Part(SegmentId::from_u128(7), SegmentComponent::Store);
+        if directory.put(name, b"old").is_err() {
+            return Err(AllocError);
+        }
+    }
+    Ok(directory)
 }
 
 /// The number of a run of the words over the streams, where `default` may be known.
@@ -70,6 +91,7 @@ fn run_over(
         &mut streams.faults,
         &analyzers,
         &mut streams.work,
+        &mut streams.output,
     );
     Ok(status.number())
 }
@@ -179,30 +201,43 @@ fn says_which_stream_failed(rt: HostRuntime) -> Result<(), Fail> {
     Ok(())
 }
 
-/// A run of a script of one document over a directory of which one call fails, or that has a file: its number.
+/// A run over directories of which some calls fail, or that have a file: its number.
 fn run_in(
     alloc: Global,
     streams: &mut Streams,
-    fails: Vec<FailingCall>,
-    has_file: bool,
+    work: MemoryDirectory,
+    output: MemoryDirectory,
 ) -> Result<u8, AllocError> {
-    let Ok(mut work) = MemoryDirectory::new(alloc, fails) else {
-        return Err(AllocError);
-    };
-    if has_file {
-        let name = FileName::Part(SegmentId::from_u128(7), SegmentComponent::Store);
-        if work.put(name, b"old").is_err() {
-            return Err(AllocError);
-        }
-    }
     streams.work = work;
+    streams.output = output;
     run_over(alloc, &["build"], streams, true)
+}
+
+/// The number and the line of a run of which one call of a directory fails, of the output directory or of the other one;
+/// and how many files the output directory then has.
+fn run_failing(
+    alloc: Global,
+    fails_output: bool,
+    kind: CallKind,
+    number: u64,
+) -> Result<(u8, Streams, Option<u64>), AllocError> {
+    let script = script_of_titles(alloc, r#"{"add": [["title", "a"]]}"#)?;
+    let mut streams = streams_over(alloc, &script, 2000, NEVER, NEVER, NEVER)?;
+    let failing = directory_with(alloc, vec![in alloc; FailingCall { kind, number }]?, false)?;
+    let sound = directory_with(alloc, Vec::new(alloc), false)?;
+    let (work, output) = if fails_output {
+        (sound, failing)
+    } else {
+        (failing, sound)
+    };
+    let ended = run_in(alloc, &mut streams, work, output)?;
+    let files = streams.output.list(alloc).ok();
+    Ok((ended, streams, files))
 }
 
 #[test]
 fn says_which_call_of_a_directory_failed(rt: HostRuntime) -> Result<(), Fail> {
     let alloc = rt.alloc();
-    let script = script_of_titles(alloc, r#"{"add": [["title", "a"]]}"#)?;
     for (kind, calls, line) in [
         (CallKind::List, 2u64, "directory: list or read failed\n"),
         (CallKind::WriteNew, 6, "directory: write failed\n"),
@@ -213,13 +248,16 @@ fn says_which_call_of_a_directory_failed(rt: HostRuntime) -> Result<(), Fail> {
         ),
         (CallKind::AtomicWrite, 2, "directory: meta or sync failed\n"),
     ] {
-        for number in 0..=calls {
-            let mut streams = streams_over(alloc, &script, 2000, NEVER, NEVER, NEVER)?;
-            let fails = vec![in alloc; FailingCall { kind, number }]?;
-            let ended = run_in(alloc, &mut streams, fails, false)?;
-            let (expected, said) = if number < calls { (6, line) } else { (0, "") };
-            assert_eq!(rt; ended, expected, "{line} {number}");
-            assert_eq!(rt; streams.faults.bytes(), said.as_bytes(), "{line} {number}");
+        for fails_output in [false, true] {
+            for number in 0..=calls {
+                let (ended, streams, files) = run_failing(alloc, fails_output, kind, number)?;
+                let (expected, said) = if number < calls { (6, line) } else { (0, "") };
+                assert_eq!(rt; ended, expected, "{fails_output} {line} {number}");
+                assert_eq!(rt; streams.faults.bytes(), said.as_bytes(), "{line} {number}");
+                if !fails_output && number < calls {
+                    assert_eq!(rt; files, Some(0), "{line} {number}");
+                }
+            }
         }
     }
     Ok(())
@@ -229,18 +267,72 @@ fn says_which_call_of_a_directory_failed(rt: HostRuntime) -> Result<(), Fail> {
 fn refuses_a_directory_with_files(rt: HostRuntime) -> Result<(), Fail> {
     let alloc = rt.alloc();
     let script = script_of_titles(alloc, r#"{"add": [["title", "a"]]}"#)?;
+    for (in_work, in_output, expected) in [
+        (true, false, 5),
+        (false, true, 5),
+        (true, true, 5),
+        (false, false, 0),
+    ] {
+        let mut streams = streams_over(alloc, &script, 2000, NEVER, NEVER, NEVER)?;
+        let work = directory_with(alloc, Vec::new(alloc), in_work)?;
+        let output = directory_with(alloc, Vec::new(alloc), in_output)?;
+        let ended = run_in(alloc, &mut streams, work, output)?;
+        assert_eq!(rt; ended, expected);
+        let line = if expected == 5 {
+            "exists: a directory is not empty\n"
+        } else {
+            ""
+        };
+        assert_eq!(rt; streams.faults.bytes(), line.as_bytes());
+        assert_eq!(rt; streams.sink.bytes().is_empty(), expected == 5);
+        let files = if expected == 0 { 7 } else { 0 };
+        assert_eq!(rt;
+            streams.work.list(alloc).ok(),
+            Some(files + u64::from(in_work))
+        );
+        assert_eq!(rt;
+            streams.output.list(alloc).ok(),
+            Some(files + u64::from(in_output))
+        );
+    }
+    Ok(())
+}
+
+/// The bytes of a file.
+fn file_of(alloc: Global, directory: &mut MemoryDirectory, name: FileName) -> Option<OwnedBytes> {
+    directory.open_read(alloc, &name).ok()
+}
+
+#[test]
+fn the_output_is_the_work_index_but_for_ids_and_meta(rt: HostRuntime) -> Result<(), Fail> {
+    let alloc = rt.alloc();
+    let script = script_of_titles(
+        alloc,
+        r#"{"add": [["title", "a b"]]}, {"add": [["title", "b b"]]}"#,
+    )?;
     let mut streams = streams_over(alloc, &script, 2000, NEVER, NEVER, NEVER)?;
-    let ended = run_in(alloc, &mut streams, Vec::new(alloc), true)?;
-    assert_eq!(rt; ended, 5);
-    assert!(rt; streams.sink.bytes().is_empty());
-    assert_eq!(rt;
-        streams.faults.bytes(),
-        "exists: a directory is not empty\n".as_bytes()
-    );
-    let mut streams = streams_over(alloc, &script, 2000, NEVER, NEVER, NEVER)?;
-    let ended = run_in(alloc, &mut streams, Vec::new(alloc), false)?;
-    assert_eq!(rt; ended, 0);
-    assert_eq!(rt; streams.work.list(alloc).ok(), Some(7));
+    assert_eq!(rt; run_over(alloc, &["build"], &mut streams, true)?, 0);
+    for component in [
+        SegmentComponent::FieldNorms,
+        SegmentComponent::FastFields,
+        SegmentComponent::Terms,
+        SegmentComponent::Postings,
+        SegmentComponent::Positions,
+        SegmentComponent::Store,
+    ] {
+        let name = FileName::Part(SegmentId::from_u128(1), component);
+        let work = file_of(alloc, &mut streams.work, name).ok_or("work")?;
+        let name = FileName::Part(SegmentId::from_u128(2), component);
+        let output = file_of(alloc, &mut streams.output, name).ok_or("output")?;
+        assert!(rt; !work.as_slice().is_empty());
+        assert_eq!(rt; work.as_slice(), output.as_slice());
+    }
+    let meta = file_of(alloc, &mut streams.output, FileName::Meta).ok_or("meta")?;
+    let text = str::from_utf8(meta.as_slice()).ok().ok_or("text")?;
+    let payload = "\"payload\":\"Segments Merge: [00000000000000000000000000000001]\"";
+    assert!(rt; text.contains(payload), "{text}");
+    assert!(rt; text.contains("\"opstamp\":0"), "{text}");
+    assert!(rt; text.contains("00000000000000000000000000000002"), "{text}");
     Ok(())
 }
 

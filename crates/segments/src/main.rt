@@ -32,9 +32,10 @@ fn main(rt: HostRuntime) -> ExitCode {
         Ok(work) => work,
         Err(status) => return ExitCode::from(status.number()),
     };
-    if let Err(status) = folder(&rt, "out") {
-        return ExitCode::from(status.number());
-    }
+    let mut output = match folder(&rt, "out") {
+        Ok(output) => output,
+        Err(status) => return ExitCode::from(status.number()),
+    };
     let mut source = ReaderSource::new(rt.reader());
     let mut sink = WriterSink::new(io::writer(&rt));
     let mut faults = WriterSink::new(rt.stderr());
@@ -46,6 +47,7 @@ fn main(rt: HostRuntime) -> ExitCode {
         &mut faults,
         &analyzers,
         &mut work,
+        &mut output,
     );
     ExitCode::from(status.number())
 }

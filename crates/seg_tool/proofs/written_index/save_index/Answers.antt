@@ -1,5 +1,5 @@
 use Rattle.seg_tool.proofs.Steps.{does-save, saved-if}
-use Rattle.seg_tool.proofs.work_index.save_index.Goals as goal
+use Rattle.seg_tool.proofs.written_index.save_index.Goals as goal
 
 pub returns-clause-index : goal.returns-clause-index
 returns-clause-index g c told =

@@ -1,6 +1,6 @@
 use Rattle.std.proofs.Common.{ap, Err}
 use Rattle.seg_tool.proofs.Steps.{does-fail}
-use Rattle.seg_tool.proofs.work_index.refuse_files.Goals as goal
+use Rattle.seg_tool.proofs.indexes.refuse_files.Goals as goal
 
 pub returns-in-Err-clause-calls : goal.returns-in-Err-clause-calls
 returns-in-Err-clause-calls g c =

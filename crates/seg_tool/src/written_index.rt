@@ -1,0 +1,119 @@
+//! An index with one segment, written into a directory.
+ghost use Rattle.std.specs.Prelude.{◌≡◌, ◌≢◌, ◌<◌, ◌^◌, ◌∷◌, [], ℕ, Err, IfOk, IsTrue, OnOk, Some, option_map};
+ghost use Rattle.std.specs.FinMap.{len};
+ghost use Rattle.seg_directory.specs.declared.answer.Answer.TheVariants as answer;
+ghost use Rattle.seg_meta.specs.Saving.{CreatingCounts, IsMetaList};
+ghost use Rattle.seg_meta.specs.View.{settings_of, meta_of};
+ghost use Rattle.seg_model.specs.IndexOfFiles as index;
+ghost use Rattle.seg_build.specs.Forms.{segment_forms};
+ghost use Rattle.seg_build.specs.SegmentFiles.{HasFiles};
+ghost use Rattle.seg_tool.specs.Calls.{state_of, Does};
+ghost use Rattle.seg_tool.specs.WrittenIndex.{default_settings, index_answers, index_meta, index_names};
+
+use seg_build::SegmentBytes;
+use seg_common::{FileName, SegmentId};
+use seg_directory::Directory;
+use seg_meta::{
+    Compressor, Index, IndexMeta, IndexSettings, SegmentMeta, SegmentMetas, metas_read_back,
+    save_metas,
+};
+use seg_values::{Schema, TResult, TantivyError, Text};
+use std::alloc::{AllocError, Global};
+
+/// After how many bytes a block of stored documents is closed, where nothing else is asked for.
+pub(crate) const BLOCK_SIZE: u32 = 16384;
+
+/// Writes an index into a directory without files: an empty one, then the files of its segment, then its meta.
+pub(crate) fn write_index<W: Directory>(
+    alloc: Global,
+    metas: &IndexMeta,
+    id: SegmentId,
+    bytes: &SegmentBytes,
+    directory: &mut W,
+) -> TResult<()>
+    requires list { IsMetaList metas.now.segments }
+    ensures index { IsTrue (W.tells directory.old) → OnOk result
+        (index.index_of segment_forms (W.files directory.new) ≡ Some (meta_of metas.now)) }
+    ensures files { IsTrue (W.tells directory.old) → OnOk result
+        (HasFiles id bytes.now (W.files directory.new)) }
+    ensures fresh { IsTrue (W.tells directory.old) → len (W.files directory.old) ≡ 0
+        → result ≢ Err TantivyError.IndexAlreadyExists }
+    ensures calls { Does (index_answers id) (index_names id) result
+        (state_of (W.tells directory.old) (W.files directory.old) (W.seen directory.old) (W.faults directory.old))
+        (state_of (W.tells directory.new) (W.files directory.new) (W.seen directory.new) (W.faults directory.new)) }
+{
+    let Ok(schema) = metas.schema.copy(alloc) else {
+        return Err(TantivyError::OutOfMemory);
+    };
+    match create_index(alloc, schema, directory) {
+        Ok(()) => {}
+        Err(e) => return Err(e),
+    }
+    match bytes.write(alloc, id, directory) {
+        Ok(()) => {}
+        Err(e) => return Err(e),
+    }
+    save_index(alloc, metas, directory)
+}
+
+/// Begins an index with the default settings.
+fn create_index<W: Directory>(alloc: Global, schema: Schema, directory: &mut W) -> TResult<()>
+    ensures number { IsTrue (W.tells directory.old) → CreatingCounts (len (W.files directory.old)) result }
+    ensures calls { Does (answer.Listed 0 ∷ answer.Wrote FileName.Meta ∷ []) (FileName.Meta ∷ []) result
+        (state_of (W.tells directory.old) (W.files directory.old) (W.seen directory.old) (W.faults directory.old))
+        (state_of (W.tells directory.new) (W.files directory.new) (W.seen directory.new) (W.faults directory.new)) }
+{
+    let _index = match Index::create(alloc, schema, default_settings(), directory) {
+        Ok(index) => index,
+        Err(e) => return Err(e),
+    };
+    Ok(())
+}
+
+/// Saves a meta, which the files then read as.
+fn save_index<W: Directory>(alloc: Global, metas: &IndexMeta, directory: &mut W) -> TResult<()>
+    requires list { IsMetaList metas.now.segments }
+    ensures index { IsTrue (W.tells directory.old) → OnOk result
+        (index.index_of segment_forms (W.files directory.new) ≡ Some (meta_of metas.now)) }
+    ensures fresh { result ≢ Err TantivyError.IndexAlreadyExists }
+    ensures calls { Does (answer.Wrote FileName.Meta ∷ []) (FileName.Meta ∷ []) result
+        (state_of (W.tells directory.old) (W.files directory.old) (W.seen directory.old) (W.faults directory.old))
+        (state_of (W.tells directory.new) (W.files directory.new) (W.seen directory.new) (W.faults directory.new)) }
+{
+    metas_read_back(metas);
+    save_metas(alloc, metas, directory)
+}
+
+/// The meta of an index that lists one segment, which has no deletes.
+pub(crate) fn index_metas(
+    alloc: Global,
+    schema: Schema,
+    id: SegmentId,
+    stamp: u64,
+    payload: Option<Text>,
+    documents: u32,
+) -> Result<IndexMeta, AllocError>
+    requires few { documents < 2 ^ 31 }
+    ensures meta { IfOk result (λ metas. meta_of metas ≡ index_meta schema id stamp payload documents) }
+    ensures list { IfOk result (λ metas. IsMetaList metas.segments) }
+{
+    let mut segments = SegmentMetas::new(alloc);
+    segments.push(SegmentMeta::new(id, documents, None))?;
+    Ok(IndexMeta {
+        index_settings: default_settings(),
+        segments,
+        schema,
+        opstamp: stamp,
+        payload,
+    })
+}
+
+fn default_settings() -> IndexSettings
+    ensures { settings_of result ≡ default_settings }
+{
+    IndexSettings {
+        docstore_compression: Compressor::None,
+        docstore_blocksize: BLOCK_SIZE,
+        docstore_compress_dedicated_thread: false,
+    }
+}
