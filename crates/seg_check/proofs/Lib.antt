@@ -1,0 +1,12 @@
+pub mod Adding
+pub mod Deep
+pub mod FieldsCome
+pub mod FirstRefusals
+pub mod JsonTrees
+pub mod LeafWalks
+pub mod LeavesCome
+pub mod OnPaths
+pub mod Places
+pub mod Rising
+pub mod StoredLens
+pub mod ValuesCome

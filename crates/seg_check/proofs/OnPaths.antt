@@ -1,0 +1,185 @@
+-- One more leaf changes what came at its own path, and at no other.
+use Rattle.std.proofs.Common.{◌≡◌, ℕ, ◌+◌, ◌≤◌, Bool, true, false, cond, List, [], ◌∷◌, ◌++◌, map, length, Some, refl, sym, ap, ◌∙◌, arith, append-nil, unwrap_or, Vec}
+use Rattle.std.specs.Prelude.{◌&&◌}
+use Rattle.std.specs.List.{list_all}
+use Rattle.std.specs.Str.{bytes_eq}
+use Rattle.std.specs.HashMap as hash
+use Rattle.std.specs.Map.{lookup, KeepsOthers}
+use Rattle.std.specs.Cmp.Lexicographic.{bytes_decides, nat_list_eq_equiv}
+use Rattle.std.specs.declared.alloc.Global.{Global}
+use Rattle.std.proofs.lemmas.Bool.{false≢true}
+use Rattle.std.proofs.lemmas.Grind.{flat_map-append}
+use Rattle.std.proofs.lemmas.List.Elements.{filter-append}
+use Rattle.std.proofs.lemmas.List.Folds.{list_all-append}
+use Rattle.std.proofs.lemmas.List.{length-append}
+use Rattle.seg_values.specs.Tree.{Leaf}
+use Rattle.seg_values.specs.declared.token.Token.{Token}
+use Rattle.seg_model.specs.Checked.{is_u32, texts_fit, count_of}
+use Rattle.seg_model.specs.Occurrences.{leaf_text, start_after_all}
+use Rattle.seg_check.specs.Sizes.{size_of, saturated}
+use Rattle.seg_check.specs.Totals.{totals_of, with_more, totals_fit}
+use Rattle.seg_check.specs.Paths.{on_path, path_texts, totals_on, fits_on, paths_fit, total_at, PathsStand}
+use Rattle.seg_check.specs.declared.size.TextSize.{TextSize}
+use Rattle.seg_check.specs.declared.totals.Totals.{Totals}
+use Rattle.seg_check.specs.declared.paths.PathTotals.{PathTotals}
+use Rattle.seg_check.proofs.Adding.{starts-add, counts-add, texts-le, saturated-one, size-add, fits-kept, fits-less}
+
+abbrev pub Key : Type 0
+Key = Vec ℕ Global
+
+-- whether a key has the bytes
+abbrev pub has_bytes : List ℕ → Key → Bool
+has_bytes q k = bytes_eq q k.items
+
+apart : (bs cs ks : List ℕ) → bytes_eq bs cs ≡ false → bytes_eq bs ks ≡ true → bytes_eq cs ks ≡ false
+apart bs cs ks n y = nat_list_eq_equiv.symm cs ks ∙ sym (nat_list_eq_equiv.congr bs ks cs y) ∙ n
+
+others_stay : {X : Type 0} (bs : List ℕ) (old new : List (Key × X)) → KeepsOthers (λ x y. bytes_eq x.items y.items) (has_bytes bs) old new → (cs : List ℕ) → bytes_eq bs cs ≡ false → lookup (has_bytes cs) new ≡ lookup (has_bytes cs) old
+unfolding KeepsOthers
+others_stay bs old new h cs n = h (has_bytes cs) (λ x y. nat_list_eq_equiv.congr cs x.items y.items) (λ k. apart bs cs k.items n)
+
+pub both_true : (a b : Bool) → (a && b) ≡ true → (a ≡ true) × (b ≡ true)
+both_true true b h = (refl, h)
+both_true false b h = absurd (false≢true h)
+
+pub and_true : (a b : Bool) → a ≡ true → b ≡ true → (a && b) ≡ true
+and_true a b h k = ap (λ x. x && b) h ∙ k
+
+module _ (analyze : List ℕ → List Token) where
+  -- ---- totals within the limits
+
+  -- the number of texts is no more than where they end
+  fewer : (texts : List (List Token)) (n : ℕ) → (is_u32 (start_after_all 0 texts) && (is_u32 (count_of texts) && is_u32 n)) ≡ ((is_u32 (start_after_all 0 texts) && is_u32 (count_of texts) && is_u32 (length texts)) && is_u32 n)
+  fewer texts n = by_case (is_u32 (start_after_all 0 texts)) refl
+    where
+      shape : (a c l n : Bool) → (a ≡ true → l ≡ true) → (a && (c && n)) ≡ ((a && c && l) && n)
+      shape true true l n h = sym (ap (λ x. x && n) (h refl))
+      shape true false l n h = refl
+      shape false c l n h = refl
+
+      by_case : (a : Bool) → is_u32 (start_after_all 0 texts) ≡ a → (is_u32 (start_after_all 0 texts) && (is_u32 (count_of texts) && is_u32 n)) ≡ ((is_u32 (start_after_all 0 texts) && is_u32 (count_of texts) && is_u32 (length texts)) && is_u32 n)
+      by_case a e = shape (is_u32 (start_after_all 0 texts)) (is_u32 (count_of texts)) (is_u32 (length texts)) (is_u32 n) (fits-less (length texts) (start_after_all 0 texts) (texts-le texts))
+
+  -- what is kept tells whether texts and their number are within the limits
+  pub kept-fit : (n : ℕ) (texts : List (List Token)) → totals_fit (totals_of n texts) ≡ (texts_fit texts && is_u32 n)
+  kept-fit n texts =
+      ap (λ b. b && (is_u32 (saturated (count_of texts)) && is_u32 (saturated n))) (fits-kept (start_after_all 0 texts))
+      ∙ ap (λ b. is_u32 (start_after_all 0 texts) && (b && is_u32 (saturated n))) (fits-kept (count_of texts))
+      ∙ ap (λ b. is_u32 (start_after_all 0 texts) && (is_u32 (count_of texts) && b)) (fits-kept n)
+      ∙ fewer texts n
+
+  -- and fewer are within them too
+  less-fit : (n : ℕ) (texts more : List (List Token)) (m : ℕ) → n ≤ m → (texts_fit (texts ++ more) && is_u32 m) ≡ true → (texts_fit texts && is_u32 n) ≡ true
+  less-fit n texts more m le h =
+      let two = both_true (texts_fit (texts ++ more)) (is_u32 m) h in
+      let three = both_true (is_u32 (start_after_all 0 (texts ++ more)) && is_u32 (count_of (texts ++ more))) (is_u32 (length (texts ++ more))) two.0 in
+      let first = both_true (is_u32 (start_after_all 0 (texts ++ more))) (is_u32 (count_of (texts ++ more))) three.0 in
+      let many : length (texts ++ more) ≡ length texts + length more = length-append texts more in
+      and_true (texts_fit texts) (is_u32 n)
+      (and_true (is_u32 (start_after_all 0 texts) && is_u32 (count_of texts)) (is_u32 (length texts))
+      (and_true (is_u32 (start_after_all 0 texts)) (is_u32 (count_of texts))
+      (fits-less (start_after_all 0 texts) (start_after_all 0 (texts ++ more)) (omega (arith, starts-add texts more)) first.0)
+      (fits-less (count_of texts) (count_of (texts ++ more)) (omega (arith, counts-add texts more)) first.1))
+      (fits-less (length texts) (length (texts ++ more)) (omega (arith, many)) three.1))
+      (fits-less n m le two.1)
+
+  -- ---- one more leaf
+
+  module _ (found : List (List ℕ × Leaf)) (path : List ℕ) (l : Leaf) where
+    more : List (List ℕ × Leaf)
+    more = found ++ (path, l) ∷ []
+
+    texts-last : (q : List ℕ) (b : Bool) → bytes_eq q path ≡ b → path_texts analyze q (found ++ (path, l) ∷ []) ≡ path_texts analyze q found ++ cond b (map analyze (leaf_text l)) []
+    texts-last q b e =
+        flat_map-append (λ (p : List ℕ × Leaf). cond (bytes_eq q p.0) (map analyze (leaf_text p.1)) []) found ((path, l) ∷ [])
+        ∙ ap (λ r. path_texts analyze q found ++ r) (append-nil (cond (bytes_eq q path) (map analyze (leaf_text l)) []))
+        ∙ ap (λ c. path_texts analyze q found ++ cond c (map analyze (leaf_text l)) []) e
+
+    leaves-last : (q : List ℕ) (b : Bool) → bytes_eq q path ≡ b → on_path q (found ++ (path, l) ∷ []) ≡ on_path q found ++ cond b ((path, l) ∷ []) []
+    leaves-last q b e =
+        filter-append (λ (p : List ℕ × Leaf). bytes_eq q p.0) found ((path, l) ∷ [])
+        ∙ ap (λ c. on_path q found ++ cond c ((path, l) ∷ []) []) e
+
+    texts-other : (q : List ℕ) → bytes_eq q path ≡ false → path_texts analyze q (found ++ (path, l) ∷ []) ≡ path_texts analyze q found
+    texts-other q e = texts-last q false e ∙ append-nil (path_texts analyze q found)
+
+    leaves-other : (q : List ℕ) → bytes_eq q path ≡ false → on_path q (found ++ (path, l) ∷ []) ≡ on_path q found
+    leaves-other q e = leaves-last q false e ∙ append-nil (on_path q found)
+
+    count-same : (q : List ℕ) → bytes_eq q path ≡ true → length (on_path q (found ++ (path, l) ∷ [])) ≡ length (on_path q found) + 1
+    count-same q e = ap length (leaves-last q true e) ∙ length-append (on_path q found) ((path, l) ∷ [])
+
+    other : (q : List ℕ) → bytes_eq q path ≡ false → totals_on analyze q (found ++ (path, l) ∷ []) ≡ totals_on analyze q found
+    other q e = ap (λ n. totals_of n (path_texts analyze q (found ++ (path, l) ∷ []))) (ap length (leaves-other q e)) ∙ ap (totals_of (length (on_path q found))) (texts-other q e)
+
+    same : (q : List ℕ) → bytes_eq q path ≡ true → totals_on analyze q (found ++ (path, l) ∷ []) ≡ with_more (totals_on analyze q found) (size_of (map analyze (leaf_text l)))
+    same q e =
+        ap (λ n. totals_of n (path_texts analyze q (found ++ (path, l) ∷ []))) (count-same q e)
+        ∙ ap (totals_of (length (on_path q found) + 1)) (texts-last q true e)
+        ∙ (λ i. record {
+          size = size-add (path_texts analyze q found) (map analyze (leaf_text l)) i;
+          count = saturated-one (length (on_path q found)) i;
+        })
+
+    -- ---- the limits with one more leaf
+
+    fits-other : (q : List ℕ) → bytes_eq q path ≡ false → fits_on analyze (found ++ (path, l) ∷ []) q ≡ fits_on analyze found q
+    fits-other q e = ap (λ texts. texts_fit texts && is_u32 (length (on_path q (found ++ (path, l) ∷ [])))) (texts-other q e) ∙ ap (λ ls. texts_fit (path_texts analyze q found) && is_u32 (length ls)) (leaves-other q e)
+
+    fits-before : (q : List ℕ) → bytes_eq q path ≡ true → fits_on analyze (found ++ (path, l) ∷ []) q ≡ true → fits_on analyze found q ≡ true
+    fits-before q e h =
+        less-fit (length (on_path q found)) (path_texts analyze q found) (map analyze (leaf_text l)) (length (on_path q (found ++ (path, l) ∷ []))) (omega (arith, count-same q e))
+        (ap (λ texts. texts_fit texts && is_u32 (length (on_path q (found ++ (path, l) ∷ [])))) (sym (texts-last q true e)) ∙ h)
+
+    -- where this path is within the limits, each is as it was
+    as_before : fits_on analyze (found ++ (path, l) ∷ []) path ≡ true → (q : List ℕ) → fits_on analyze (found ++ (path, l) ∷ []) q ≡ fits_on analyze found q
+    as_before h q = by_case (bytes_eq q path) refl
+      where
+        by_case : (b : Bool) → bytes_eq q path ≡ b → fits_on analyze (found ++ (path, l) ∷ []) q ≡ fits_on analyze found q
+        by_case false e = fits-other q e
+        by_case true e =
+            let fits : fits_on analyze (found ++ (path, l) ∷ []) q ≡ true = ap (fits_on analyze (found ++ (path, l) ∷ [])) ((bytes_decides q path).0 e) ∙ h in
+            fits ∙ sym (fits-before q e fits)
+
+    pub paths-last : paths_fit analyze (found ++ (path, l) ∷ []) ≡ (paths_fit analyze found && fits_on analyze (found ++ (path, l) ∷ []) path)
+    paths-last = list_all-append (λ (p : List ℕ × Leaf). fits_on analyze (found ++ (path, l) ∷ []) p.0) found ((path, l) ∷ []) ∙ by_case (fits_on analyze (found ++ (path, l) ∷ []) path) refl
+      where
+        none : (a b : Bool) → (a && (false && true)) ≡ (b && false)
+        none true true = refl
+        none true false = refl
+        none false true = refl
+        none false false = refl
+
+        by_case : (b : Bool) → fits_on analyze (found ++ (path, l) ∷ []) path ≡ b → (list_all (λ p. fits_on analyze (found ++ (path, l) ∷ []) p.0) found && (fits_on analyze (found ++ (path, l) ∷ []) path && true)) ≡ (paths_fit analyze found && fits_on analyze (found ++ (path, l) ∷ []) path)
+        by_case true e =
+            ap (λ c. list_all (λ p. fits_on analyze (found ++ (path, l) ∷ []) p.0) found && (c && true)) e
+            ∙ ap (λ (f : List ℕ → Bool). list_all (λ p. f p.0) found && true) (λ i q. as_before e q i)
+            ∙ ap (λ c. paths_fit analyze found && c) (sym e)
+        by_case false e =
+            ap (λ c. list_all (λ p. fits_on analyze (found ++ (path, l) ∷ []) p.0) found && (c && true)) e
+            ∙ none (list_all (λ p. fits_on analyze (found ++ (path, l) ∷ []) p.0) found) (paths_fit analyze found)
+            ∙ ap (λ c. paths_fit analyze found && c) (sym e)
+
+    -- ---- the table
+
+    pub stands-more : (paths after : PathTotals) (w : Totals) (size : TextSize) → size ≡ size_of (map analyze (leaf_text l)) → hash.UpdatesBy (λ x y. bytes_eq x.items y.items) (has_bytes path) paths.totals after.totals (Some w) → w ≡ with_more (total_at paths.totals path) size → after.are_within ≡ (paths.are_within && totals_fit w) → PathsStand analyze paths found → PathsStand analyze after (found ++ (path, l) ∷ [])
+    stands-more paths after w size is_size updates is_w within stands = record { at = here; within = all }
+      where
+        w-is : w ≡ totals_on analyze path (found ++ (path, l) ∷ [])
+        w-is = is_w ∙ ap (λ t. with_more t size) (stands.at path) ∙ ap (with_more (totals_on analyze path found)) is_size ∙ sym (same path ((bytes_decides path path).1 refl))
+
+        by_case : (q : List ℕ) (b : Bool) → bytes_eq path q ≡ b → total_at after.totals q ≡ totals_on analyze q (found ++ (path, l) ∷ [])
+        by_case q true e =
+            ap (total_at after.totals) (sym ((bytes_decides path q).0 e)) ∙ ap (λ o. unwrap_or o (totals_of 0 [])) updates.1 ∙ w-is
+            ∙ ap (λ x. totals_on analyze x (found ++ (path, l) ∷ [])) ((bytes_decides path q).0 e)
+        by_case q false e =
+            ap (λ o. unwrap_or o (totals_of 0 [])) (others_stay path paths.totals.entries after.totals.entries updates.3 q e) ∙ stands.at q ∙ sym (other q (nat_list_eq_equiv.symm q path ∙ e))
+
+        here : (q : List ℕ) → total_at after.totals q ≡ totals_on analyze q (found ++ (path, l) ∷ [])
+        here q = by_case q (bytes_eq path q) refl
+
+        all : after.are_within ≡ paths_fit analyze (found ++ (path, l) ∷ [])
+        all = within ∙ ap (λ b. b && totals_fit w) stands.within
+            ∙ ap (λ t. paths_fit analyze found && totals_fit t) w-is
+            ∙ ap (λ b. paths_fit analyze found && b) (kept-fit (length (on_path path (found ++ (path, l) ∷ []))) (path_texts analyze path (found ++ (path, l) ∷ [])))
+            ∙ sym paths-last

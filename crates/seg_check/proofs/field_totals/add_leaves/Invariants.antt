@@ -1,0 +1,18 @@
+use Rattle.std.proofs.Common.{ℕ, ◌++◌, List, map}
+use Rattle.std.specs.Vec.Iter.{into_iter_items}
+use Rattle.seg_values.specs.Tree.{Leaf}
+use Rattle.seg_check.specs.Leaves.{path_leaf}
+use Rattle.seg_check.specs.Paths.{PathsStand}
+use Rattle.seg_check.proofs.LeavesCome.{SizedWith, StandWith}
+use Rattle.seg_check.proofs.field_totals.add_leaves.Given as goal
+
+-- what came, with what is left, is all
+abbrev pub invariant-loop-found : goal.invariant-loop-found
+invariant-loop-found g l =
+    let analyze = g.Z.Analyzers.tokens_of l.analyzers l.tokenizer in
+    let left = map path_leaf (into_iter_items l.found-iterator) in
+    let all = map path_leaf (into_iter_items l.initial.found-iterator) in
+    record {
+      sized : SizedWith analyze l.whole left all;
+      stand : (before : List (List ℕ × Leaf)) → PathsStand analyze l.initial.paths before → StandWith analyze l.paths left (before ++ all);
+    }

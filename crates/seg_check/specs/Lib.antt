@@ -1,0 +1,9 @@
+pub mod AllFields
+pub mod Known
+pub mod Leaves
+pub mod Paths
+pub mod Refusals
+pub mod Sizes
+pub mod Standing
+pub mod Totals
+pub mod Trees

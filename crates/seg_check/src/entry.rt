@@ -1,0 +1,33 @@
+//! What the entry of a field says of its texts.
+ghost use Rattle.std.specs.Prelude.{◌≡◌};
+ghost use Rattle.seg_model.specs.Fields as fields;
+
+use seg_values::{FieldEntry, FieldKind, IndexOption};
+
+/// Whether a field is indexed.
+pub(crate) fn is_indexed(entry: &FieldEntry) -> bool
+    ensures { result ≡ fields.is_indexed entry.now }
+{
+    match entry.index {
+        IndexOption::No => false,
+        _ => true,
+    }
+}
+
+/// The name of the tokenizer under which a field is indexed.
+pub(crate) fn indexing_tokenizer(entry: &FieldEntry) -> &str
+    ensures { result.now ≡ fields.indexing_tokenizer entry.now }
+{
+    let has_texts = match entry.kind {
+        FieldKind::Text => true,
+        FieldKind::Json => true,
+        _ => false,
+    };
+    if !is_indexed(entry) || !has_texts {
+        return "default";
+    }
+    match &entry.tokenizer {
+        Some(name) => name.as_str(),
+        None => "default",
+    }
+}

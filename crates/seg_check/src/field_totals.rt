@@ -1,0 +1,127 @@
+//! What a document has in a field, value by value.
+ghost use Rattle.std.specs.Prelude.{◌≡◌, List, ℕ, [], ◌∷◌, ◌++◌, ◌&&◌, true, length, map, IfOk, IsSome};
+ghost use Rattle.seg_values.specs.Tree.{Leaf, Tree};
+ghost use Rattle.seg_values.specs.declared.token.Token.{Token};
+ghost use Rattle.seg_values.specs.View.{tree_of};
+ghost use Rattle.seg_model.specs.Checked as checked;
+ghost use Rattle.seg_model.specs.Fields as fields;
+ghost use Rattle.seg_check.specs.Known.{KnowsTexts};
+ghost use Rattle.seg_check.specs.Leaves.{path_leaf, paths_from};
+ghost use Rattle.seg_check.specs.Paths.{texts_of, PathsStand};
+ghost use Rattle.seg_check.specs.Sizes.{measured, all_rise};
+ghost use Rattle.seg_check.specs.Standing.{Stands, found_in};
+
+use crate::entry::indexing_tokenizer;
+use crate::leaves::{PathLeaf, leaves_of};
+use crate::paths::PathTotals;
+use crate::size::TextSize;
+use crate::texts::{leaf_size, value_size};
+use crate::totals::{Totals, is_u32};
+use seg_values::{Analyzers, FieldEntry, FieldKind, OwnedValue};
+use std::alloc::{AllocError, Global};
+
+/// What came in a field: as a whole, and in a JSON field at each joined path.
+#[derive(Drop)]
+pub(crate) struct FieldTotals {
+    pub whole: Totals,
+    pub paths: PathTotals,
+}
+
+impl FieldTotals {
+    /// Before any value.
+    pub fn new(alloc: Global) -> FieldTotals
+        ensures { (entry : FieldEntry) → (analyze : List ℕ → List Token) → Stands entry analyze result [] }
+    {
+        FieldTotals {
+            whole: Totals::none(),
+            paths: PathTotals::new(alloc),
+        }
+    }
+
+    /// One more value, unless positions decrease in one of its texts.
+    pub fn add_value<Z: Analyzers>(
+        &mut self,
+        alloc: Global,
+        analyzers: &Z,
+        entry: &FieldEntry,
+        value: &OwnedValue,
+    ) -> Result<bool, AllocError>
+        requires known { KnowsTexts (Z.knows analyzers.now) entry.now }
+        requires indexed { fields.is_indexed entry.now ≡ true }
+        ensures rises { IfOk result (λ rises. rises ≡ all_rise (checked.value_texts entry.now.kind (Z.tokens_of analyzers.now (fields.indexing_tokenizer entry.now)) (tree_of value.now))) }
+        ensures stands { (done : List Tree) → Stands entry.now (Z.tokens_of analyzers.now (fields.indexing_tokenizer entry.now)) self.old done → IfOk result (λ rises. rises ≡ true → Stands entry.now (Z.tokens_of analyzers.now (fields.indexing_tokenizer entry.now)) self.new (done ++ tree_of value.now ∷ [])) }
+    {
+        match texts_size(&mut self.paths, alloc, analyzers, entry, value)? {
+            Some(size) => {
+                self.whole = self.whole.with(size);
+                Ok(true)
+            }
+            None => Ok(false),
+        }
+    }
+
+    /// Whether all is within the limits.
+    pub fn fits(&self, entry: &FieldEntry) -> bool
+        ensures { (analyze : List ℕ → List Token) → (done : List Tree) → Stands entry.now analyze self.now done → result ≡ (checked.is_u32 (length done) && checked.kind_fits entry.now.kind entry.now.expand_dots analyze done) }
+    {
+        match entry.kind {
+            FieldKind::Text => self.whole.fits(),
+            FieldKind::Json => self.fits_by_path(),
+            _ => is_u32(self.whole.count),
+        }
+    }
+
+    fn fits_by_path(&self) -> bool
+        ensures { result ≡ (checked.is_u32 self.now.whole.count && (checked.is_u32 self.now.whole.size.tokens && self.now.paths.are_within)) }
+    {
+        is_u32(self.whole.count) && is_u32(self.whole.size.tokens) && self.paths.are_within
+    }
+}
+
+/// The size of the texts of a value; none where positions decrease in one. In a JSON field its leaves come in.
+fn texts_size<Z: Analyzers>(
+    paths: &mut PathTotals,
+    alloc: Global,
+    analyzers: &Z,
+    entry: &FieldEntry,
+    value: &OwnedValue,
+) -> Result<Option<TextSize>, AllocError>
+    requires known { KnowsTexts (Z.knows analyzers.now) entry.now }
+    requires indexed { fields.is_indexed entry.now ≡ true }
+    ensures size { IfOk result (λ size. size ≡ measured (checked.value_texts entry.now.kind (Z.tokens_of analyzers.now (fields.indexing_tokenizer entry.now)) (tree_of value.now))) }
+    ensures stands { (done : List Tree) → entry.now.kind ≡ FieldKind.Json → PathsStand (Z.tokens_of analyzers.now (fields.indexing_tokenizer entry.now)) paths.old (found_in entry.now.expand_dots done) → IfOk result (λ size. IsSome size → PathsStand (Z.tokens_of analyzers.now (fields.indexing_tokenizer entry.now)) paths.new (found_in entry.now.expand_dots (done ++ tree_of value.now ∷ []))) }
+{
+    let tokenizer = indexing_tokenizer(entry);
+    match entry.kind {
+        FieldKind::Text => value_size(alloc, analyzers, tokenizer, value),
+        FieldKind::Json => {
+            let leaves = leaves_of(alloc, entry.expand_dots, value)?;
+            add_leaves(paths, alloc, analyzers, tokenizer, leaves)
+        }
+        _ => Ok(Some(TextSize::none())),
+    }
+}
+
+/// The leaves of a value come in. The size of their texts; none where positions decrease in one.
+fn add_leaves<Z: Analyzers>(
+    paths: &mut PathTotals,
+    alloc: Global,
+    analyzers: &Z,
+    tokenizer: &str,
+    leaves: Vec<PathLeaf>,
+) -> Result<Option<TextSize>, AllocError>
+    requires { Z.knows analyzers.now tokenizer.now }
+    ensures size { IfOk result (λ size. size ≡ measured (texts_of (Z.tokens_of analyzers.now tokenizer.now) (map path_leaf leaves.entry.items))) }
+    ensures stands { (found : List (List ℕ × Leaf)) → PathsStand (Z.tokens_of analyzers.now tokenizer.now) paths.old found → IfOk result (λ size. IsSome size → PathsStand (Z.tokens_of analyzers.now tokenizer.now) paths.new (found ++ map path_leaf leaves.entry.items)) }
+{
+    let mut whole = TextSize::none();
+    for found in leaves {
+        let PathLeaf { path, leaf } = found;
+        let Some(size) = leaf_size(alloc, analyzers, tokenizer, leaf)? else {
+            return Ok(None);
+        };
+        paths.add(path, size)?;
+        whole = whole.plus(size);
+    }
+    Ok(Some(whole))
+}

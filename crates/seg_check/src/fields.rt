@@ -1,0 +1,35 @@
+//! The first pass: the fields of a document, and the values that they take.
+ghost use Rattle.std.specs.Prelude.{◌≡◌};
+ghost use Rattle.std.specs.List.{slice_get};
+ghost use Rattle.seg_model.specs.Checked as checked;
+ghost use Rattle.seg_check.specs.Refusals.{told};
+ghost use Rattle.seg_values.specs.View.{tree_of};
+
+use crate::kinds::takes;
+use crate::refusal::Refusal;
+use seg_values::{Field, OwnedValue, Schema, TantivyDocument};
+
+/// The first pair whose field is not in the schema, or does not take the value.
+#[tactic(auto, using(crate::proofs::Places::drop_at))]
+pub(crate) fn fields_refusal(schema: &Schema, document: &TantivyDocument) -> Option<Refusal>
+    ensures { told result ≡ checked.fields_refusal schema.now document.now }
+{
+    for at in 0..document.len() {
+        let (field, value) = document.pair(at);
+        let refusal = value_refusal(schema, field, value);
+        if refusal.is_some() {
+            return refusal;
+        }
+    }
+    None
+}
+
+fn value_refusal(schema: &Schema, field: Field, value: &OwnedValue) -> Option<Refusal>
+    ensures { told result ≡ checked.value_refusal field (tree_of value.now) (slice_get schema.now field) }
+{
+    match schema.fields().get(field.field_id() as usize) {
+        Some(entry) if takes(entry, value) => None,
+        Some(_) => Some(Refusal::WrongValue(field)),
+        None => Some(Refusal::UnknownField),
+    }
+}

@@ -1,0 +1,31 @@
+//! The check that a document passes before it is indexed.
+//!
+//! Four passes go over the pairs of the document, and the first that finds something answers. Each text is cut into its
+//! tokens once, in the third pass, which also tells the fourth what came in each field; numbers there stand still at the
+//! end of a `u64`, so that none is past it.
+//!
+//! To be read in this order: `refusal` and `entry`; `kinds` and `fields` (the first pass); `json` (the second); `size`,
+//! `totals`, `paths`, `leaves`, `texts` and `field_totals` (what a document has in a field), and `positions` (the third
+//! pass); `levels`, `stored_len` and `limits` (the fourth); `document`.
+#![tactic(auto)]
+
+mod document;
+mod entry;
+mod field_totals;
+mod fields;
+mod json;
+mod kinds;
+mod leaves;
+mod levels;
+mod limits;
+mod paths;
+mod positions;
+mod refusal;
+mod size;
+mod stored_len;
+#[cfg(test)]
+mod tests;
+mod texts;
+mod totals;
+
+pub use document::check_document;
