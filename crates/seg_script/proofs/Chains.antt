@@ -3,7 +3,7 @@ use Rattle.std.proofs.Common.{◌≡◌, List, [], ◌∷◌, Bool, true, false,
 use Rattle.std.specs.List.{list_all, AllByRecursion}
 use Rattle.serde_json.specs.Data.{Data, Items, no_items, item}
 use Rattle.serde_json.specs.Find.{as_array}
-use Rattle.seg_script.specs.Reads.{given, provided, each, list_of}
+use Rattle.seg_meta.specs.Reads.{given, provided, each, list_of}
 
 -- what was given
 pub given-some : {A B : Type 0} (o : Option A) (f : A → Option B) (b : B) → given o f ≡ Some b → (a : A) × ((o ≡ Some a) × (f a ≡ Some b))

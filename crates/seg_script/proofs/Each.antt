@@ -5,19 +5,19 @@ use Rattle.serde_json.specs.Data.{Data, array, object, Items}
 use Rattle.serde_json.specs.View.{items_view, members_view}
 use Rattle.serde_json.specs.declared.value.Value.{Value}
 use Rattle.seg_values.specs.declared.schema.FieldEntry.{FieldEntry}
-use Rattle.seg_script.specs.Reads.{each}
-use Rattle.seg_script.specs.Documents.{pair_from, operation_from}
+use Rattle.seg_meta.specs.Reads.{each}
+use Rattle.seg_script.specs.Documents.{named_text_from, operation_from}
 
 -- what was read so far, and then what is left
 abbrev pub so_far : {X : Type 0} → (Data → Option X) → List X → Items → Option (List X)
 so_far read done left = option_map (λ rest. done ++ rest) (each read left)
 
--- a list of other than two values is no pair
-pub not_two : (schema : List FieldEntry) (vs : List Value) → length vs ≢ 2 → pair_from schema (array (items_view vs)) ≡ None
-not_two schema [] h = refl
-not_two schema (v ∷ []) h = refl
-not_two schema (v ∷ w ∷ []) h = absurd (h refl)
-not_two schema (v ∷ w ∷ x ∷ vs) h = refl
+-- a list of other than two values is no text with a name
+pub not_two : (vs : List Value) → length vs ≢ 2 → named_text_from (array (items_view vs)) ≡ None
+not_two [] h = refl
+not_two (v ∷ []) h = refl
+not_two (v ∷ w ∷ []) h = absurd (h refl)
+not_two (v ∷ w ∷ x ∷ vs) h = refl
 
 -- an object of other than one member is no operation
 pub not_one : (schema : List FieldEntry) (ms : List (String Global × Value)) → length ms ≢ 1 → operation_from schema (object (members_view ms)) ≡ None

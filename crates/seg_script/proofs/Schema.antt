@@ -8,7 +8,7 @@ use Rattle.serde_json.specs.View.{view, items_view}
 use Rattle.serde_json.specs.declared.value.Value.{Value}
 use Rattle.seg_values.specs.declared.schema.FieldEntry.{FieldEntry}
 use Rattle.seg_values.specs.Names.{field_named}
-use Rattle.seg_script.specs.Reads.{given, provided, each, list_of}
+use Rattle.seg_meta.specs.Reads.{given, provided, each, list_of}
 use Rattle.seg_script.specs.Fields.{entry_from, are_distinct, schema_from}
 use Rattle.seg_script.proofs.Each.{so_far}
 use Rattle.seg_script.proofs.Distinct.{has_name-none, has_name-some, are_distinct-push, are_distinct-again}

@@ -1,7 +1,11 @@
 pub mod Codes
 pub mod Documents
 pub mod Fields
+pub mod Filters
+pub mod FirstStage
 pub mod Laws
+pub mod Meaning
 pub mod Reads
 pub mod Script
+pub mod Settings
 pub mod View

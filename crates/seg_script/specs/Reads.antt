@@ -1,47 +1,13 @@
--- Words by which a JSON value is read, part by part.
-use Rattle.std.specs.Prelude.{ℕ, List, [], ◌∷◌, Bool, true, false, ◌&&◌, if◌then◌else◌, Option, Some, None, option_map}
-use Rattle.std.specs.List.{list_any}
-use Rattle.std.specs.Map.{lookup}
-use Rattle.std.specs.Str.{bytes_eq}
-use Rattle.serde_json.specs.Data.{Data, null, boolean, number, string, array, object, Items, no_items, item, Members, no_members, member}
-use Rattle.serde_json.specs.Find.{get, as_str, as_array}
+-- A member of a JSON object that may be absent.
+use Rattle.std.specs.Prelude.{ℕ, List, Option, Some, None}
+use Rattle.serde_json.specs.Data.{Data}
+use Rattle.serde_json.specs.Find.{get}
 
--- goes on with what was read
-abbrev pub given : {A B : Type 0} → Option A → (A → Option B) → Option B
-given None f = None
-given (Some a) f = f a
+-- what is read of a value, or the default where there is none
+abbrev pub read_or : {A : Type 0} → A → (Data → Option A) → Option Data → Option A
+read_or default read None = Some default
+read_or default read (Some d) = read d
 
--- goes on where the test holds
-abbrev pub provided : {B : Type 0} → Bool → Option B → Option B
-provided b o = if b then o else None
-
--- a member that must be there
-abbrev pub required : {A : Type 0} → (Data → Option A) → List ℕ → Data → Option A
-required read name d = given (get name d) read
-
--- one of the words of a table
-abbrev pub word_of : {A : Type 0} → List (List ℕ × A) → Data → Option A
-word_of table d = given (as_str d) (λ w. lookup (bytes_eq w) table)
-
--- what is read of each item, where every one can be read
-abbrev pub each : {A : Type 0} → (Data → Option A) → Items → Option (List A)
-each read no_items = Some []
-each read (item d ds) = given (read d) (λ a. option_map (λ as'. a ∷ as') (each read ds))
-
--- the same of a list
-abbrev pub list_of : {A : Type 0} → (Data → Option A) → Data → Option (List A)
-list_of read d = given (as_array d) (each read)
-
--- no member has another name
-abbrev pub names_among : List (List ℕ) → Members → Bool
-names_among names no_members = true
-names_among names (member k d ms) = list_any (bytes_eq k) names && names_among names ms
-
--- an object with no member but these
-abbrev pub has_only : List (List ℕ) → Data → Bool
-has_only names null = false
-has_only names (boolean b) = false
-has_only names (number n) = false
-has_only names (string s) = false
-has_only names (array ds) = false
-has_only names (object ms) = names_among names ms
+-- a member with a default
+abbrev pub optional : {A : Type 0} → A → (Data → Option A) → List ℕ → Data → Option A
+optional default read name d = read_or default read (get name d)

@@ -1,29 +1,43 @@
 -- The script that bytes are.
-use Rattle.std.specs.Prelude.{ℕ, List, [], ◌∷◌, if◌then◌else◌, Option, Some, None, codes}
+use Rattle.std.specs.Prelude.{ℕ, ◌+◌, List, [], ◌∷◌, length, replicate, if◌then◌else◌, Option, Some, None, codes}
+use Rattle.std.specs.List.{range_with_len}
 use Rattle.std.specs.Str.{is_utf8}
 use Rattle.serde_json.specs.Data.{Data}
+use Rattle.serde_json.specs.Find.{as_str}
 use Rattle.serde_json.specs.Read.{read}
-use Rattle.seg_script.specs.Reads.{given, provided, required, list_of, has_only}
+use Rattle.seg_model.specs.Input.{Input}
+use Rattle.seg_meta.specs.PartsRead.{id_from}
+use Rattle.seg_meta.specs.Reads.{given, provided, required, natural, nullable, list_of, has_only}
+use Rattle.seg_script.specs.Reads.{optional}
 use Rattle.seg_script.specs.Fields.{schema_from}
+use Rattle.seg_script.specs.Settings.{default_settings, settings_from}
+use Rattle.seg_script.specs.Filters.{filter_from}
 use Rattle.seg_script.specs.Documents.{operation_from}
-use Rattle.seg_script.specs.declared.script.Script.{Script}
 
 -- the members of a script
 abbrev pub script_members : List (List ℕ)
-script_members = codes "schema" ∷ codes "operations" ∷ []
+script_members = codes "schema" ∷ codes "settings" ∷ codes "operations" ∷ codes "cuts" ∷ codes "filters" ∷ codes "ids" ∷ []
 
--- the script that a JSON value says
-abbrev pub script_from : Data → Option Script
+-- a text of 32 hexadecimal digits in lower case
+abbrev pub id_of : Data → Option ℕ
+id_of d = given (as_str d) id_from
+
+-- the input that a JSON value says; by default there are no cuts, no batch is filtered, and the ids count up from 1
+abbrev pub script_from : Data → Option Input
 script_from d =
     provided (has_only script_members d)
     (given (required schema_from (codes "schema") d) (λ schema.
+    given (optional default_settings settings_from (codes "settings") d) (λ settings.
+    given (optional [] (list_of natural) (codes "cuts") d) (λ cuts.
+    given (optional (replicate (length cuts + 1) None) (list_of (nullable filter_from)) (codes "filters") d) (λ filters.
+    given (optional (range_with_len 1 (length cuts + 2)) (list_of id_of) (codes "ids") d) (λ ids.
     given (required (list_of (operation_from schema)) (codes "operations") d) (λ operations.
-    Some (record { schema = schema; operations = operations }))))
+    Some (record { schema = schema; settings = settings; operations = operations; cuts = cuts; filters = filters; ids = ids }))))))))
 
 -- the JSON value that bytes are; `read` by itself does not ask that they are UTF-8
 abbrev pub json_of : List ℕ → Option Data
 json_of bytes = if is_utf8 bytes then read bytes else None
 
 -- the script that bytes are
-abbrev pub script : List ℕ → Option Script
+abbrev pub script : List ℕ → Option Input
 script bytes = given (json_of bytes) script_from

@@ -3,14 +3,14 @@ ghost use Rattle.std.specs.Prelude.{◌≡◌, ◌≢◌, [], ◌∷◌, length,
 ghost use Rattle.serde_json.specs.Find.{as_str};
 ghost use Rattle.serde_json.specs.View.{view};
 ghost use Rattle.seg_values.specs.View.{tree_of};
-ghost use Rattle.seg_script.specs.Reads.{list_of};
+ghost use Rattle.seg_meta.specs.Reads.{list_of};
 ghost use Rattle.seg_script.specs.View.{operation_of};
-ghost use Rattle.seg_script.specs.Documents.{pair_from, operation_from};
+ghost use Rattle.seg_script.specs.Documents.{named_text_from, pair_from, term_from, operation_named, operation_from};
 
 use crate::error::ScriptError;
-use crate::fields::field_at;
+use crate::fields::field_or_past;
 use crate::operation::{Operation, Operations};
-use seg_values::{Field, OwnedValue, Schema, TantivyDocument, Text};
+use seg_values::{Field, OwnedValue, Schema, TantivyDocument, Term, Text};
 use serde_json::{Map, Value};
 use std::alloc::Global;
 
@@ -34,7 +34,7 @@ pub(crate) fn operations_from(
     Ok(operations)
 }
 
-/// `{"add": [pairs]}`
+/// `{"add": [pairs]}` or `{"delete": [name, text]}`
 fn operation_from(alloc: Global, schema: &Schema, json: Value) -> Result<Operation, ScriptError>
     ensures ok { IfOk result (λ o. operation_from schema.now (view json) ≡ Some (operation_of o)) }
     ensures later { result ≡ Err ScriptError.Later → operation_from schema.now (view json) ≡ None }
@@ -43,11 +43,25 @@ fn operation_from(alloc: Global, schema: &Schema, json: Value) -> Result<Operati
     let Value::Object(members) = json else {
         return Err(ScriptError::Later);
     };
-    let (word, pairs) = only_member(members).ok_or(ScriptError::Later)?;
-    if word.as_str() == "add" {
-        Ok(Operation::Add(document_from(alloc, schema, pairs)?))
-    } else {
-        Err(ScriptError::Later)
+    let (word, value) = only_member(members).ok_or(ScriptError::Later)?;
+    operation_named(alloc, schema, word.as_str(), value)
+}
+
+/// The addition or delete that a word says of a value.
+fn operation_named(
+    alloc: Global,
+    schema: &Schema,
+    word: &str,
+    value: Value,
+) -> Result<Operation, ScriptError>
+    ensures ok { IfOk result (λ o. operation_named schema.now word.now (view value) ≡ Some (operation_of o)) }
+    ensures later { result ≡ Err ScriptError.Later → operation_named schema.now word.now (view value) ≡ None }
+    ensures never { result ≢ Err ScriptError.NotJson }
+{
+    match word {
+        "add" => Ok(Operation::Add(document_from(alloc, schema, value)?)),
+        "delete" => Ok(Operation::Delete(term_from(alloc, schema, value)?)),
+        _ => Err(ScriptError::Later),
     }
 }
 
@@ -74,18 +88,40 @@ fn document_from(
     Ok(document)
 }
 
-/// `[name, text]`, whose text is moved.
+/// A field and its value, whose text is moved.
 fn pair_from(schema: &Schema, json: Value) -> Option<(Field, OwnedValue)>
     ensures { option_map (λ p. (p.0, tree_of p.1)) result ≡ pair_from schema.now (view json) }
+{
+    let (name, text) = named_text_from(json)?;
+    let field = field_or_past(schema, name.as_str());
+    Some((field, OwnedValue::Str(Text::from_string(text))))
+}
+
+/// A field and the bytes of a text.
+fn term_from(alloc: Global, schema: &Schema, json: Value) -> Result<Term, ScriptError>
+    ensures ok { IfOk result (λ t. term_from schema.now (view json) ≡ Some t) }
+    ensures later { result ≡ Err ScriptError.Later → term_from schema.now (view json) ≡ None }
+    ensures never { result ≢ Err ScriptError.NotJson }
+{
+    let Some((name, text)) = named_text_from(json) else {
+        return Err(ScriptError::Later);
+    };
+    let field = field_or_past(schema, name.as_str());
+    match Term::from_field_text(alloc, field, text.as_str()) {
+        Ok(term) => Ok(term),
+        Err(_) => Err(ScriptError::OutOfMemory),
+    }
+}
+
+/// `[name, text]`
+fn named_text_from(json: Value) -> Option<(String, String)>
+    ensures { option_map (λ p. (string_bytes p.0, string_bytes p.1)) result ≡ named_text_from (view json) }
 {
     let Value::Array(items) = json else {
         return None;
     };
-    let (name, value) = two(items)?;
-    let name = text_of(name)?;
-    let field = field_at(schema, name.as_str())?;
-    let text = text_of(value)?;
-    Some((field, OwnedValue::Str(Text::from_string(text))))
+    let (name, text) = two(items)?;
+    Some((text_of(name)?, text_of(text)?))
 }
 
 /// The two values of a list of two.

@@ -1,12 +1,17 @@
 //! Reads the schema of a script.
-ghost use Rattle.std.specs.Prelude.{◌≡◌, ◌≢◌, ◌+◌, ◌-◌, ◌<◌, ◌^◌, [], ◌∷◌, ◌++◌, length, codes, Some, None, Err, IfOk, OnOk, IsSome};
+ghost use Rattle.std.specs.Prelude.{◌≡◌, ◌≢◌, ◌+◌, ◌-◌, ◌<◌, ◌^◌, [], ◌∷◌, ◌++◌, ◌&&◌, length, codes, Some, None, Err, IfOk, OnOk, IsSome};
+ghost use Rattle.serde_json.specs.Find.{as_str};
 ghost use Rattle.serde_json.specs.View.{view};
 ghost use Rattle.seg_values.specs.Names.{field_named};
-ghost use Rattle.seg_script.specs.Reads.{required, word_of};
-ghost use Rattle.seg_script.specs.Fields.{kinds, index_options, is_plain, entry_from, schema_from};
+ghost use Rattle.seg_values.specs.declared.schema.IndexOption.TheVariants.{No};
+ghost use Rattle.seg_model.specs.Fields.{is_text, is_on};
+ghost use Rattle.seg_meta.specs.PartsRead.{index_options};
+ghost use Rattle.seg_meta.specs.Reads.{required, nullable, word_of};
+ghost use Rattle.seg_script.specs.Reads.{optional};
+ghost use Rattle.seg_script.specs.Fields.{kinds, entry_from, schema_from, field_or_past};
 
 use crate::error::ScriptError;
-use crate::members::{flag_at, has_only, text_at};
+use crate::members::{flag_or, has_only, text_at};
 use seg_common::DateTimePrecision;
 use seg_values::{
     Field, FieldEntry, FieldKind, IndexOption, Schema, SchemaBuilder, SchemaCause, TantivyError,
@@ -35,13 +40,14 @@ pub(crate) fn schema_from(alloc: Global, json: &Value) -> Result<Schema, ScriptE
     Ok(builder.build())
 }
 
-/// The field with a name.
-pub(crate) fn field_at(schema: &Schema, name: &str) -> Option<Field>
-    ensures { result ≡ field_named schema.now name.now }
+/// The field with a name, or the number just past the fields.
+pub(crate) fn field_or_past(schema: &Schema, name: &str) -> Field
+    ensures { result ≡ field_or_past schema.now name.now }
 {
+    schema.fields_are_valid();
     match schema.get_field(name) {
-        Ok(field) => Some(field),
-        Err(_) => None,
+        Ok(field) => field,
+        Err(_) => Field::from_field_id(schema.num_fields() as u32),
     }
 }
 
@@ -68,24 +74,25 @@ fn entry_from(alloc: Global, json: &Value) -> Result<FieldEntry, ScriptError>
     ensures later { result ≡ Err ScriptError.Later → entry_from (view json.now) ≡ None }
     ensures never { result ≢ Err ScriptError.NotJson }
 {
-    if !has_only(json, &["name", "kind", "stored", "index", "tokenizer"]) {
+    if !has_only(
+        json,
+        &["name", "kind", "stored", "index", "tokenizer", "norms"],
+    ) {
         return Err(ScriptError::Later);
     }
     let name = text_at(json, "name").ok_or(ScriptError::Later)?;
     let kind = kind_at(json).ok_or(ScriptError::Later)?;
-    let stored = flag_at(json, "stored").ok_or(ScriptError::Later)?;
+    let stored = flag_or(false, json, "stored").ok_or(ScriptError::Later)?;
     let index = index_at(json).ok_or(ScriptError::Later)?;
-    let tokenizer = text_at(json, "tokenizer").ok_or(ScriptError::Later)?;
-    if !(is_plain(name) && stored && tokenizer == "default") {
-        return Err(ScriptError::Later);
-    }
+    let tokenizer = tokenizer_at(alloc, json)?;
+    let norms = flag_or(has_lengths(kind, index), json, "norms").ok_or(ScriptError::Later)?;
     Ok(FieldEntry {
         name: Text::copy_of(alloc, name)?,
         kind,
         stored,
         index,
-        tokenizer: Some(Text::copy_of(alloc, tokenizer)?),
-        norms: true,
+        tokenizer,
+        norms,
         fast: false,
         fast_tokenizer: None,
         precision: DateTimePrecision::Seconds,
@@ -103,16 +110,36 @@ fn kind_at(json: &Value) -> Option<FieldKind>
 }
 
 fn index_at(json: &Value) -> Option<IndexOption>
-    ensures { result ≡ required (word_of index_options) (codes "index") (view json.now) }
+    ensures { result ≡ optional No (word_of index_options) (codes "index") (view json.now) }
 {
-    match text_at(json, "index")? {
+    let Some(word) = json.get("index") else {
+        return Some(IndexOption::No);
+    };
+    match word.as_str()? {
+        "no" => Some(IndexOption::No),
+        "basic" => Some(IndexOption::Basic),
+        "freqs" => Some(IndexOption::Freqs),
         "positions" => Some(IndexOption::Positions),
         _ => None,
     }
 }
 
-fn is_plain(name: &str) -> bool
-    ensures { result ≡ is_plain name.now }
+/// Whether a field has lengths where its entry doesn't say.
+fn has_lengths(kind: FieldKind, index: IndexOption) -> bool
+    ensures { result ≡ (is_text kind && is_on index) }
 {
-    name.as_bytes().iter().all(|b| 2 <= *b)
+    kind == FieldKind::Text && index != IndexOption::No
+}
+
+fn tokenizer_at(alloc: Global, json: &Value) -> Result<Option<Text>, ScriptError>
+    ensures ok { IfOk result (λ t. optional None (nullable as_str) (codes "tokenizer") (view json.now) ≡ Some t) }
+    ensures later { result ≡ Err ScriptError.Later
+        → optional None (nullable as_str) (codes "tokenizer") (view json.now) ≡ None }
+    ensures never { result ≢ Err ScriptError.NotJson }
+{
+    match json.get("tokenizer") {
+        None | Some(Value::Null) => Ok(None),
+        Some(Value::String(name)) => Ok(Some(Text::copy_of(alloc, name.as_str())?)),
+        _ => Err(ScriptError::Later),
+    }
 }

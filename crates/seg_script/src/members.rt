@@ -1,10 +1,11 @@
 //! The members of a JSON object.
-ghost use Rattle.std.specs.Prelude.{◌≡◌, map, option_map};
+ghost use Rattle.std.specs.Prelude.{◌≡◌, ◌^◌, map, option_map};
 ghost use Rattle.std.specs.List.{list_any};
 ghost use Rattle.std.specs.Str.{bytes_eq};
 ghost use Rattle.serde_json.specs.Find.{as_bool, as_str, get};
 ghost use Rattle.serde_json.specs.View.{view};
-ghost use Rattle.seg_script.specs.Reads.{required, has_only};
+ghost use Rattle.seg_meta.specs.Reads.{required, below, has_only};
+ghost use Rattle.seg_script.specs.Reads.{optional};
 
 use serde_json::Value;
 
@@ -30,11 +31,43 @@ pub(crate) fn text_at<'a>(json: &'a Value, name: &str) -> Option<&'a str>
     json.get(name)?.as_str()
 }
 
-/// The truth value that a member is.
-pub(crate) fn flag_at(json: &Value, name: &str) -> Option<bool>
-    ensures { result ≡ required as_bool name.now (view json.now) }
+/// The truth value that a member is, or the default.
+pub(crate) fn flag_or(default: bool, json: &Value, name: &str) -> Option<bool>
+    ensures { result ≡ optional default as_bool name.now (view json.now) }
 {
-    json.get(name)?.as_bool()
+    match json.get(name) {
+        None => Some(default),
+        Some(value) => value.as_bool(),
+    }
+}
+
+/// The number of 32 bits that a member is.
+pub(crate) fn small_at(json: &Value, name: &str) -> Option<u32>
+    ensures { result ≡ required (below (2 ^ 32)) name.now (view json.now) }
+{
+    small_from(json.get(name)?)
+}
+
+/// The number of 32 bits that a member is, or the default.
+pub(crate) fn small_or(default: u32, json: &Value, name: &str) -> Option<u32>
+    ensures { result ≡ optional default (below (2 ^ 32)) name.now (view json.now) }
+{
+    match json.get(name) {
+        None => Some(default),
+        Some(value) => small_from(value),
+    }
+}
+
+/// The number of 32 bits that a value is.
+fn small_from(json: &Value) -> Option<u32>
+    ensures { result ≡ below (2 ^ 32) (view json.now) }
+{
+    let number = json.as_u64()?;
+    if number < 1 << 32 {
+        Some(number as u32)
+    } else {
+        None
+    }
 }
 
 /// The member with a name, moved out of its object.

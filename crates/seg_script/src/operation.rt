@@ -1,9 +1,9 @@
 //! Operations on documents.
-ghost use Rattle.std.specs.Prelude.{◌≡◌, [], ◌∷◌, ◌++◌, length, IfOk, OnOk, OnErr};
+ghost use Rattle.std.specs.Prelude.{◌≡◌, [], ◌∷◌, ◌++◌, map, length, IfOk, OnOk, OnErr};
 ghost use Rattle.seg_model.specs.Operations.{additions};
 ghost use Rattle.seg_script.specs.View.{operation_of};
 
-use seg_values::{Documents, TantivyDocument};
+use seg_values::{Documents, TantivyDocument, Term};
 use std::alloc::{AllocError, Global};
 use std::marker::Model;
 
@@ -11,6 +11,8 @@ use std::marker::Model;
 #[derive(Drop)]
 pub enum Operation {
     Add(TantivyDocument),
+    /// Deletes what holds the term, of the documents added before.
+    Delete(Term),
 }
 
 /// Operations, in the order of their stamps.
@@ -49,6 +51,12 @@ impl Operations {
         self.operations.len()
     }
 
+    pub fn as_slice(&self) -> &[Operation]
+        ensures { map operation_of result.now ≡ self.now }
+    {
+        &self.operations
+    }
+
     pub fn push(&mut self, operation: Operation) -> Result<(), AllocError>
         ensures ok { OnOk result (self.new ≡ self.old ++ operation_of operation ∷ []) }
         ensures err { OnErr result (self.new ≡ self.old) }
@@ -65,6 +73,7 @@ impl Operations {
         for operation in self.operations {
             match operation {
                 Operation::Add(document) => documents.push(document)?,
+                Operation::Delete(_) => {}
             }
         }
         Ok(documents)

@@ -11,7 +11,7 @@ use Rattle.seg_model.specs.Contents.{reading}
 use Rattle.seg_model.specs.Fields.{Schema, Analyzer, fields}
 use Rattle.seg_model.specs.Operations.{additions}
 use Rattle.seg_model.specs.Reading.{Posting, all_terms, field_terms, stored_document}
-use Rattle.seg_script.specs.declared.script.Script.{Script}
+use Rattle.seg_model.specs.Input.{Input}
 use Rattle.seg_script.specs.Laws.{HoldsTexts}
 use Rattle.seg_text.specs.HeaderText.{header_text}
 use Rattle.seg_text.specs.DocumentText.{documents_text}
@@ -27,7 +27,7 @@ list_all-both p q [] all = refl
 list_all-both p q (x ∷ xs) all = let parts = and_parts (p x) (list_all p xs) all in ap (λ b. (b && q x) && list_all (λ y. p y && q y) xs) parts.0 ∙ ap (λ b. q x && b) (list_all-both p q xs parts.1)
 
 -- documents of texts are taken where they pass the check
-pub are_built-texts : (s : Script) (analyzer : Analyzer) → HoldsTexts s → are_built s.schema analyzer (additions s.operations) ≡ list_all (is_taken s.schema analyzer) (additions s.operations)
+pub are_built-texts : (s : Input) (analyzer : Analyzer) → HoldsTexts s → are_built s.schema analyzer (additions s.operations) ≡ list_all (is_taken s.schema analyzer) (additions s.operations)
 are_built-texts s analyzer texts =
     ap (λ b. b && list_all (λ d. is_built_document s.schema d && is_taken s.schema analyzer d) (additions s.operations)) texts.entries
     ∙ list_all-both (is_built_document s.schema) (is_taken s.schema analyzer) (additions s.operations) texts.documents

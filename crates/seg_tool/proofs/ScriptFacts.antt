@@ -11,7 +11,7 @@ use Rattle.seg_model.specs.Operations.{additions}
 use Rattle.seg_model.specs.Reading.{stored_document}
 use Rattle.seg_build.specs.Batch.{IsBatchOf}
 use Rattle.seg_build.specs.Forms.{segment_forms}
-use Rattle.seg_script.specs.declared.script.Script.{Script}
+use Rattle.seg_model.specs.Input.{Input}
 use Rattle.seg_text.specs.HeaderText.{header_text}
 use Rattle.seg_text.specs.DocumentText.{documents_text}
 use Rattle.seg_text.specs.SegmentText.{segment_text}
@@ -20,7 +20,7 @@ use Rattle.seg_tool.specs.Run.{segment}
 use Rattle.seg_tool.specs.WrittenIndex.{IsIndexOf, IsIndexed, IsReadAs, index_meta}
 use Rattle.seg_tool.specs.declared.narrow.NarrowScript.{NarrowScript}
 use Rattle.seg_tool.proofs.Built.{length-all_terms, segment_text-sorted}
-use Rattle.seg_script.proofs.Texts.{scripts_hold_texts}
+use Rattle.seg_script.proofs.Texts.{first_stage_holds_texts}
 
 list_all-front : {X : Type 0} (p q : X → Bool) (xs : List X) → list_all (λ x. p x && q x) xs ≡ true → list_all p xs ≡ true
 list_all-front p q [] all = refl
@@ -42,11 +42,11 @@ facts knows analyzer bytes n r =
       fields = ap length r.indexed.batch.fields ∙ length-all_terms n.schema analyzer n.documents;
       entries = parts.0;
       documents = list_all-front (is_built_document n.schema) (is_taken n.schema analyzer) n.documents parts.1;
-      no_columns = subst (λ (sc : Schema). list_all (λ e. not e.fast) sc ≡ true) (sym r.indexed.schema) (scripts_hold_texts bytes r.narrow.meant r.narrow.is_script).no_columns;
+      no_columns = subst (λ (sc : Schema). list_all (λ e. not e.fast) sc ≡ true) (sym r.indexed.schema) (first_stage_holds_texts bytes r.narrow.meant r.narrow.is_script r.narrow.first).no_columns;
     }
 
 -- the text of a segment of the script's documents
-pub segment_text-indexed : (s : Script) (analyzer : Analyzer) (n : NarrowScript) (label : List ℕ) (given id : ℕ) → given ≡ id → IsIndexed analyzer s n
+pub segment_text-indexed : (s : Input) (analyzer : Analyzer) (n : NarrowScript) (label : List ℕ) (given id : ℕ) → given ≡ id → IsIndexed analyzer s n
     → header_text label given (length n.documents) (length n.documents) ++ (entries_text n.schema n.batch.fields ++ documents_text n.schema (map (stored_document n.schema) n.documents)) ≡ segment_text s.schema (segment s.schema analyzer label id (additions s.operations))
 segment_text-indexed s analyzer n label given id is i =
     segment_text-sorted n.schema analyzer label given n.documents n.batch.fields i.batch.fields
@@ -55,7 +55,7 @@ segment_text-indexed s analyzer n label given id is i =
     ∙ ap (λ (k : ℕ). segment_text s.schema (segment s.schema analyzer label k (additions s.operations))) is
 
 -- an index of the script's documents
-pub has_index : (s : Script) (analyzer : Analyzer) (n : NarrowScript) (files : NamedFiles) (id given stamp : ℕ) (payload : Option (List ℕ)) → given ≡ stamp → IsIndexed analyzer s n
+pub has_index : (s : Input) (analyzer : Analyzer) (n : NarrowScript) (files : NamedFiles) (id given stamp : ℕ) (payload : Option (List ℕ)) → given ≡ stamp → IsIndexed analyzer s n
     → index.index_of segment_forms files ≡ Some (index_meta n.schema id given payload (length n.documents))
     → ((a : Analyzer) → are_built n.schema a n.documents ≡ true → IsBatchOf n.schema a n.documents n.batch → index.StandsFor segment_forms files n.schema a id n.documents)
     → IsIndexOf analyzer s id stamp payload files

@@ -9,9 +9,10 @@ use Rattle.seg_values.specs.Tree.{Document}
 use Rattle.seg_model.specs.Built.{is_taken}
 use Rattle.seg_model.specs.Contents.{reading}
 use Rattle.seg_model.specs.Fields.{Schema, Analyzer}
+use Rattle.seg_model.specs.Input.{Input}
 use Rattle.seg_model.specs.Operations.{additions}
+use Rattle.seg_script.specs.FirstStage.{is_first_stage}
 use Rattle.seg_script.specs.Script.{json_of, script}
-use Rattle.seg_script.specs.declared.script.Script.{Script}
 use Rattle.seg_text.specs.SegmentText.{PrintedSegment, segment_text}
 
 -- the words are `build` alone
@@ -31,7 +32,7 @@ segment schema analyzer label id documents =
     }
 
 -- the documents of a script as work segment 1, and then as output segment 2
-abbrev pub build_text : Analyzer → Script → List ℕ
+abbrev pub build_text : Analyzer → Input → List ℕ
 build_text analyzer s =
     segment_text s.schema (segment s.schema analyzer (codes "work") 1 (additions s.operations))
     ++ segment_text s.schema (segment s.schema analyzer (codes "output") 2 (additions s.operations))
@@ -48,10 +49,11 @@ IsJson bytes = IsSome (json_of bytes) × (length bytes ≤ max_script)
 abbrev pub IsNoScript : List ℕ → Type 0
 IsNoScript bytes = (json_of bytes ≡ None) ⊎ (max_script < length bytes)
 
--- the bytes are a script whose documents pass the check, and `default` is known
+-- the bytes are a script of what is built so far, whose documents pass the check, and `default` is known
 pub record IsNarrow (knows : List ℕ → Type 0) (analyzer : Analyzer) (bytes : List ℕ) : Type 0 where
-  pub meant : Script
+  pub meant : Input
   pub is_script : script bytes ≡ Some meant
+  pub first : is_first_stage meant ≡ true
   pub known : knows (codes "default")
   pub taken : list_all (is_taken meant.schema analyzer) (additions meant.operations) ≡ true
 

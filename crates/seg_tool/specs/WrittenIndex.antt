@@ -10,12 +10,11 @@ use Rattle.seg_model.specs.Built.{are_built}
 use Rattle.seg_model.specs.Fields.{Schema, Analyzer}
 use Rattle.seg_model.specs.IndexOfFiles.{Meta}
 use Rattle.seg_model.specs.IndexOfFiles as index
-use Rattle.seg_model.specs.Input.{Settings, uncompressed}
+use Rattle.seg_model.specs.Input.{Settings, Input, uncompressed}
 use Rattle.seg_model.specs.Operations.{additions}
 use Rattle.seg_build.specs.Batch.{IsBatchOf}
 use Rattle.seg_build.specs.Forms.{segment_forms}
 use Rattle.seg_build.specs.SegmentFiles.{segment_names, wrote}
-use Rattle.seg_script.specs.declared.script.Script.{Script}
 use Rattle.seg_tool.specs.Run.{IsNarrow}
 use Rattle.seg_tool.specs.declared.narrow.NarrowScript.{NarrowScript}
 
@@ -46,7 +45,7 @@ abbrev pub index_answers : ℕ → List Answer
 index_answers id = answer.Listed 0 ∷ answer.Wrote meta_name ∷ (wrote (segment_names id) ++ answer.Wrote meta_name ∷ [])
 
 -- the files are an index with this meta, whose one segment stands for the script's documents
-pub record IsIndexOf (analyzer : Analyzer) (s : Script) (id stamp : ℕ) (payload : Option (List ℕ)) (files : NamedFiles) : Type 0 where
+pub record IsIndexOf (analyzer : Analyzer) (s : Input) (id stamp : ℕ) (payload : Option (List ℕ)) (files : NamedFiles) : Type 0 where
   pub index_of : index.index_of segment_forms files ≡ Some (index_meta s.schema id stamp payload (length (additions s.operations)))
   pub stands : index.StandsFor segment_forms files s.schema analyzer id (additions s.operations)
 
@@ -61,7 +60,7 @@ pub record HasOutputIndex (knows : List ℕ → Type 0) (analyzer : Analyzer) (b
   pub is_index : IsIndexOf analyzer narrow.meant 2 0 (Some (merge_payload 1)) files
 
 -- the schema and the documents of a script, which are indexed, and the number of its operations
-pub record IsIndexed (analyzer : Analyzer) (s : Script) (narrow : NarrowScript) : Type 0 where
+pub record IsIndexed (analyzer : Analyzer) (s : Input) (narrow : NarrowScript) : Type 0 where
   pub schema : narrow.schema ≡ s.schema
   pub documents : narrow.documents ≡ additions s.operations
   pub stamp : narrow.stamp ≡ length s.operations

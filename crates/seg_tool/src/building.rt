@@ -4,8 +4,8 @@ ghost use Rattle.std.specs.FinMap.{len};
 ghost use Rattle.std.specs.List.{list_all};
 ghost use Rattle.seg_model.specs.Built.{is_built_entry, is_built_document};
 ghost use Rattle.seg_model.specs.Fields.{Analyzer};
+ghost use Rattle.seg_model.specs.Input.{Input};
 ghost use Rattle.seg_script.specs.Script.{json_of};
-ghost use Rattle.seg_script.specs.declared.script.Script.{Script as ScriptView};
 ghost use Rattle.seg_tool.specs.Calls.{state_of};
 ghost use Rattle.seg_tool.specs.Run.{build_text, IsNarrow, IsTextOf};
 ghost use Rattle.seg_tool.specs.Statuses.{IfRefused, IfWritten, status_of};
@@ -104,7 +104,7 @@ fn segments_text(alloc: Global, script: &NarrowScript) -> Result<Vec<u8>, AllocE
     requires fields { length script.now.batch.fields ≡ length script.now.schema }
     requires entries { list_all is_built_entry script.now.schema ≡ true }
     requires documents { list_all (is_built_document script.now.schema) script.now.documents ≡ true }
-    ensures { IfOk result (λ t. (analyzer : Analyzer) (s : ScriptView) → IsIndexed analyzer s script.now → t.items ≡ build_text analyzer s) }
+    ensures { IfOk result (λ t. (analyzer : Analyzer) (s : Input) → IsIndexed analyzer s script.now → t.items ≡ build_text analyzer s) }
 {
     let NarrowScript {
         schema,

@@ -4,12 +4,13 @@ ghost use Rattle.std.specs.List.{list_all};
 ghost use Rattle.seg_model.specs.Built.{is_taken};
 ghost use Rattle.seg_model.specs.Operations.{additions};
 ghost use Rattle.seg_script.specs.Laws.{HoldsTexts};
+ghost use Rattle.seg_script.specs.Meaning.{input_of};
 ghost use Rattle.seg_script.specs.Script.{json_of};
 ghost use Rattle.seg_tool.specs.Run.{IsNarrow};
 ghost use Rattle.seg_tool.specs.WrittenIndex.{IsIndexed, IsReadAs};
 
 use seg_build::{IndexError, IndexedBatch, index_documents};
-use seg_script::{Script, ScriptError, read_script};
+use seg_script::{Script, ScriptError, is_first_stage, read_script};
 use seg_values::{Analyzers, Documents, Schema};
 use std::alloc::Global;
 
@@ -38,6 +39,9 @@ pub(crate) fn read_narrow<Z: Analyzers>(
         Ok(script) => script,
         Err(e) => return Err(e),
     };
+    if !is_first_stage(&script) {
+        return Err(ScriptError::Later);
+    }
     if !analyzers.known("default") {
         return Err(ScriptError::Later);
     }
@@ -55,14 +59,18 @@ fn index_script<Z: Analyzers>(
     script: Script,
 ) -> Result<NarrowScript, IndexError>
     requires known { Z.knows analyzers.now (codes "default") }
-    requires texts { HoldsTexts script }
+    requires texts { HoldsTexts (input_of script) }
     ensures taken { OnOk result
         (list_all (is_taken script.schema (Z.tokens_of analyzers.now)) (additions script.operations) ≡ true) }
-    ensures indexed { IfOk result (λ n. IsIndexed (Z.tokens_of analyzers.now) script n) }
+    ensures indexed { IfOk result (λ n. IsIndexed (Z.tokens_of analyzers.now) (input_of script) n) }
     ensures later { result ≡ Err IndexError.Later
         → list_all (is_taken script.schema (Z.tokens_of analyzers.now)) (additions script.operations) ≡ false }
 {
-    let Script { schema, operations } = script;
+    let Script {
+        schema,
+        operations,
+        ..
+    } = script;
     let stamp = operations.len() as u64;
     let documents = operations.into_documents(alloc)?;
     let batch = match index_documents(alloc, analyzers, &schema, &documents) {

@@ -1,0 +1,41 @@
+//! Reads the cuts of a script.
+ghost use Rattle.std.specs.Prelude.{◌≡◌, ◌≢◌, [], codes, Some, None, Err, IfOk};
+ghost use Rattle.serde_json.specs.View.{view};
+ghost use Rattle.seg_meta.specs.Reads.{natural, list_of};
+ghost use Rattle.seg_script.specs.Reads.{optional};
+
+use crate::Cuts;
+use crate::error::ScriptError;
+use serde_json::Value;
+use std::alloc::Global;
+
+/// The cuts of a script.
+pub(crate) fn cuts_at(alloc: Global, json: &Value) -> Result<Cuts, ScriptError>
+    ensures ok { IfOk result (λ c. optional [] (list_of natural) (codes "cuts") (view json.now) ≡ Some c) }
+    ensures later { result ≡ Err ScriptError.Later → optional [] (list_of natural) (codes "cuts") (view json.now) ≡ None }
+    ensures never { result ≢ Err ScriptError.NotJson }
+{
+    match json.get("cuts") {
+        None => Ok(Cuts::new(alloc)),
+        Some(cuts) => cuts_from(alloc, cuts),
+    }
+}
+
+/// The cuts that a list is.
+fn cuts_from(alloc: Global, json: &Value) -> Result<Cuts, ScriptError>
+    ensures ok { IfOk result (λ c. list_of natural (view json.now) ≡ Some c) }
+    ensures later { result ≡ Err ScriptError.Later → list_of natural (view json.now) ≡ None }
+    ensures never { result ≢ Err ScriptError.NotJson }
+{
+    let Some(items) = json.as_array() else {
+        return Err(ScriptError::Later);
+    };
+    let mut cuts = Cuts::new(alloc);
+    for item in items {
+        let Some(cut) = item.as_u64() else {
+            return Err(ScriptError::Later);
+        };
+        cuts.push(cut)?;
+    }
+    Ok(cuts)
+}

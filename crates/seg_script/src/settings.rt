@@ -1,0 +1,69 @@
+//! Reads the settings of a script.
+ghost use Rattle.std.specs.Prelude.{◌≡◌, option_map, codes};
+ghost use Rattle.serde_json.specs.View.{view};
+ghost use Rattle.seg_model.specs.Input.{uncompressed};
+ghost use Rattle.seg_meta.specs.PartsRead.{compressions};
+ghost use Rattle.seg_meta.specs.Reads.{word_of};
+ghost use Rattle.seg_meta.specs.View.{settings_of, compression_of};
+ghost use Rattle.seg_script.specs.Reads.{optional};
+ghost use Rattle.seg_script.specs.Settings.{default_settings, settings_from};
+
+use crate::members::{flag_or, has_only, small_or};
+use seg_meta::{Compressor, IndexSettings};
+use serde_json::Value;
+
+/// A block of stored documents is closed once it has so many bytes, where a script doesn't say otherwise.
+pub(crate) const BLOCK_SIZE: u32 = 16_384;
+
+/// The settings of a script.
+pub(crate) fn settings_at(json: &Value) -> Option<IndexSettings>
+    ensures { option_map settings_of result ≡ optional default_settings settings_from (codes "settings") (view json.now) }
+{
+    match json.get("settings") {
+        None => Some(IndexSettings {
+            docstore_compression: Compressor::None,
+            docstore_blocksize: BLOCK_SIZE,
+            docstore_compress_dedicated_thread: false,
+        }),
+        Some(settings) => settings_from(settings),
+    }
+}
+
+/// The settings that an object is.
+fn settings_from(json: &Value) -> Option<IndexSettings>
+    ensures { option_map settings_of result ≡ settings_from (view json.now) }
+{
+    if !has_only(
+        json,
+        &[
+            "docstore_blocksize",
+            "docstore_compress_dedicated_thread",
+            "docstore_compression",
+        ],
+    ) {
+        return None;
+    }
+    let block_size = small_or(BLOCK_SIZE, json, "docstore_blocksize")?;
+    let dedicated_thread = flag_or(false, json, "docstore_compress_dedicated_thread")?;
+    let compression = compressor_at(json)?;
+    Some(IndexSettings {
+        docstore_compression: compression,
+        docstore_blocksize: block_size,
+        docstore_compress_dedicated_thread: dedicated_thread,
+    })
+}
+
+fn compressor_at(json: &Value) -> Option<Compressor>
+    ensures { option_map compression_of result
+        ≡ optional uncompressed (word_of compressions) (codes "docstore_compression") (view json.now) }
+{
+    let Some(word) = json.get("docstore_compression") else {
+        return Some(Compressor::None);
+    };
+    match word.as_str()? {
+        "none" => Some(Compressor::None),
+        "lz4" => Some(Compressor::Lz4),
+        "zstd" => Some(Compressor::Zstd),
+        _ => None,
+    }
+}
