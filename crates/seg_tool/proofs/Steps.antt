@@ -12,7 +12,7 @@ use Rattle.seg_values.specs.declared.error.TantivyError.TheVariants.{IndexAlread
 use Rattle.seg_directory.specs.declared.answer.Answer.{Answer}
 use Rattle.seg_directory.specs.declared.answer.Answer.TheVariants as answer
 use Rattle.seg_directory.specs.declared.answer.CallKind.TheVariants as kind
-use Rattle.seg_directory.specs.CallAnswers.{seen_listing}
+use Rattle.seg_directory.specs.CallAnswers.{seen_listing, seen_syncing}
 use Rattle.seg_directory.specs.Changes.{KeepsOthers, Replaces}
 use Rattle.seg_directory.specs.Faults.{FaultHasCause}
 use Rattle.seg_directory.specs.Files.{NamedFiles}
@@ -23,6 +23,7 @@ use Rattle.seg_model.specs.IndexOfFiles as index
 use Rattle.seg_build.specs.Forms.{segment_forms}
 use Rattle.seg_build.specs.SegmentFiles.{KeepsAllBut, EndsAt, MakingSeen, wrote}
 use Rattle.seg_tool.specs.Calls.{DirectoryState, IsWhy, Stops, HasRisen, Does}
+use Rattle.seg_tool.proofs.Calls.{does-then, does-among}
 
 -- ---- answers
 
@@ -163,6 +164,35 @@ does-save (Err e) a b seen others tells io errors = record {
   later = io.later;
   caused = risen-save e a.faults b.faults errors (λ is. io.failed (ap Err is));
 }
+
+-- a syncing, of which nothing is seen unless it fails
+syncing-failed : (e : TantivyError) (old new : List Answer) → SavingErrors e → new ≡ old ++ seen_syncing (Err e) → Stops [] e old new
+syncing-failed e old new (inl is) seen =
+    subst (λ (x : TantivyError). new ≡ old ++ seen_syncing (Err x) → Stops [] x old new) (sym is)
+    (λ s. stops-first [] IoError (answer.Failed kind.SyncDirectory ∷ []) old new (inl refl) s) seen
+syncing-failed e old new (inr is) seen =
+    subst (λ (x : TantivyError). new ≡ old ++ seen_syncing (Err x) → Stops [] x old new) (sym is)
+    (λ s. stops-first [] OutOfMemory [] old new refl s) seen
+
+pub does-sync : (r : Result (Unit {0}) TantivyError) (a b : DirectoryState) → b.seen ≡ a.seen ++ seen_syncing r → b.files ≡ a.files → b.tells ≡ a.tells
+    → FaultHasCause IoError a.faults b.faults r → IfErr r SavingErrors → Does [] [] r a b
+does-sync (Ok x) a b seen files tells io errors = record { seen = seen; others = λ other all. ap (λ (fs : NamedFiles). get fs other) files; tells = tells; later = io.later; caused = tt }
+does-sync (Err e) a b seen files tells io errors = record {
+  seen = syncing-failed e a.seen b.seen errors seen;
+  others = λ other all. ap (λ (fs : NamedFiles). get fs other) files;
+  tells = tells;
+  later = io.later;
+  caused = risen-save e a.faults b.faults errors (λ is. io.failed (ap Err is));
+}
+
+-- a meta is saved, and then all is synced
+pub does-save-sync : (r : Result (Unit {0}) TantivyError) (a b c : DirectoryState) → Does {T = Unit {0}} (answer.Wrote Meta ∷ []) (Meta ∷ []) (Ok tt) a b → Does [] [] r b c → Does (answer.Wrote Meta ∷ []) (Meta ∷ []) r a c
+does-save-sync r a b c saved synced = does-then tt r (answer.Wrote Meta ∷ []) [] (Meta ∷ []) a b c saved (does-among r [] [] (Meta ∷ []) b c (λ other all. tt) synced)
+
+-- what the files read as stays while they are synced
+pub index-synced : (r : Result (Unit {0}) TantivyError) (old new : NamedFiles) (meta : index.Meta) → new ≡ old → index.index_of segment_forms old ≡ Some meta → OnOk r (index.index_of segment_forms new ≡ Some meta)
+index-synced (Ok x) old new meta same is = ap (λ (fs : NamedFiles). index.index_of segment_forms fs) same ∙ is
+index-synced (Err e) old new meta same is = tt
 
 -- files are made
 pub does-make : (names : List FileName) (r : Result (Unit {0}) TantivyError) (a b : DirectoryState) → MakingSeen names a.seen r b.seen → KeepsAllBut names a.files b.files → b.tells ≡ a.tells

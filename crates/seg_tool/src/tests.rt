@@ -243,7 +243,7 @@ fn says_which_call_of_a_directory_failed(rt: HostRuntime) -> Result<(), Fail> {
         (CallKind::WriteNew, 6, "directory: write failed\n"),
         (
             CallKind::SyncDirectory,
-            2,
+            3,
             "directory: meta or sync failed\n",
         ),
         (CallKind::AtomicWrite, 2, "directory: meta or sync failed\n"),

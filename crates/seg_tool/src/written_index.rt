@@ -12,7 +12,7 @@ ghost use Rattle.seg_tool.specs.WrittenIndex.{default_settings, index_answers, i
 
 use seg_build::SegmentBytes;
 use seg_common::{FileName, SegmentId};
-use seg_directory::Directory;
+use seg_directory::{Directory, sync_files};
 use seg_meta::{
     Compressor, Index, IndexMeta, IndexSettings, SegmentMeta, SegmentMetas, metas_read_back,
     save_metas,
@@ -23,7 +23,8 @@ use std::alloc::{AllocError, Global};
 /// After how many bytes a block of stored documents is closed, where nothing else is asked for.
 pub(crate) const BLOCK_SIZE: u32 = 16384;
 
-/// Writes an index into a directory without files: an empty one, then the files of its segment, then its meta.
+/// Writes an index into a directory without files: an empty one, then the files of its segment, then its meta, and has all
+/// of it reach the disk.
 pub(crate) fn write_index<W: Directory>(
     alloc: Global,
     metas: &IndexMeta,
@@ -70,7 +71,7 @@ fn create_index<W: Directory>(alloc: Global, schema: Schema, directory: &mut W) 
     Ok(())
 }
 
-/// Saves a meta, which the files then read as.
+/// Saves a meta, which the files then read as, and has it reach the disk.
 fn save_index<W: Directory>(alloc: Global, metas: &IndexMeta, directory: &mut W) -> TResult<()>
     requires list { IsMetaList metas.now.segments }
     ensures index { IsTrue (W.tells directory.old) → OnOk result
@@ -81,7 +82,10 @@ fn save_index<W: Directory>(alloc: Global, metas: &IndexMeta, directory: &mut W)
         (state_of (W.tells directory.new) (W.files directory.new) (W.seen directory.new) (W.faults directory.new)) }
 {
     metas_read_back(metas);
-    save_metas(alloc, metas, directory)
+    match save_metas(alloc, metas, directory) {
+        Ok(()) => sync_files(alloc, directory),
+        Err(e) => Err(e),
+    }
 }
 
 /// The meta of an index that lists one segment, which has no deletes.

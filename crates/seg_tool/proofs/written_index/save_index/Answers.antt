@@ -1,10 +1,19 @@
-use Rattle.seg_tool.proofs.Steps.{does-save, saved-if}
+use Rattle.std.proofs.Common.{Ok, Err}
+use Rattle.seg_tool.proofs.Steps.{does-save, does-sync, does-save-sync, saved-if, index-synced}
 use Rattle.seg_tool.proofs.written_index.save_index.Goals as goal
 
-pub returns-clause-index : goal.returns-clause-index
-returns-clause-index g c told =
-    saved-if c.save_metas.result _ _ _ _ (c.save_metas.ensures.file told) (c.metas_read_back.ensures c.requires.list)
+pub returns-in-Ok-clause-index : goal.returns-in-Ok-clause-index
+returns-in-Ok-clause-index g c told =
+    index-synced c.sync_files.result _ _ _ c.sync_files.ensures.files (saved-if (Ok tt) _ _ _ _ (c.in-Ok.ensures.file told) (c.metas_read_back.ensures c.requires.list))
 
-pub returns-clause-calls : goal.returns-clause-calls
-returns-clause-calls g c =
-    does-save c.save_metas.result _ _ c.save_metas.ensures.seen c.save_metas.ensures.others c.save_metas.ensures.tells c.save_metas.ensures.cause c.save_metas.ensures.errors
+pub returns-in-Ok-clause-calls : goal.returns-in-Ok-clause-calls
+returns-in-Ok-clause-calls g c =
+    let saved = c.in-Ok.ensures in
+    let synced = c.sync_files.ensures in
+    does-save-sync c.sync_files.result _ _ _ (does-save (Ok tt) _ _ saved.seen saved.others saved.tells saved.cause saved.errors)
+    (does-sync c.sync_files.result _ _ synced.seen synced.files synced.tells synced.cause synced.errors)
+
+pub returns-in-Err-clause-calls : goal.returns-in-Err-clause-calls
+returns-in-Err-clause-calls g c =
+    let saved = c.in-Err.ensures in
+    does-save (Err c.in-Err.e) _ _ saved.seen saved.others saved.tells saved.cause saved.errors
