@@ -329,9 +329,9 @@ fn the_output_is_the_work_index_but_for_ids_and_meta(rt: HostRuntime) -> Result<
     }
     let meta = file_of(alloc, &mut streams.output, FileName::Meta).ok_or("meta")?;
     let text = str::from_utf8(meta.as_slice()).ok().ok_or("text")?;
-    let payload = "\"payload\":\"Segments Merge: [00000000000000000000000000000001]\"";
+    let payload = "\"payload\": \"Segments Merge: [00000000000000000000000000000001]\"";
     assert!(rt; text.contains(payload), "{text}");
-    assert!(rt; text.contains("\"opstamp\":0"), "{text}");
+    assert!(rt; text.contains("\"opstamp\": 0"), "{text}");
     assert!(rt; text.contains("00000000000000000000000000000002"), "{text}");
     Ok(())
 }
