@@ -19,7 +19,7 @@ use Rattle.seg_model.specs.Leaves.{PlacedLeaf, level_in_array, leaves_at, leaves
 use Rattle.seg_model.specs.Takes.{is_of_kind, is_null, is_own_leaf, is_own_array, are_own_arrays, takes}
 use Rattle.seg_model.specs.Tables.{is_among}
 use Rattle.seg_common.specs.Dates.{cut_to, precision_unit}
-use Rattle.seg_model.specs.Columns.{ColumnValue, number, bytes_value, text_value, boolean_value, ip_value, date_value, ColumnKey, column_cmp, type_place, value_types, value_keys, FastValue, token_texts, fast_texts, leaf_values, declared_values, value_text, inserted, sorted, json_column_path, json_cut, json_leaf_values, under_name, kind_fast_values, field_fast_values, fast_values, declared_type, column_named, declared_columns, is_declared, values_at, is_filled}
+use Rattle.seg_model.specs.Columns.{ColumnValue, number, bytes_value, text_value, boolean_value, ip_value, date_value, ColumnKey, column_cmp, type_place, value_types, value_keys, FastValue, token_texts, fast_texts, leaf_values, column_tokenizer, declared_values, value_text, inserted, sorted, json_column_path, json_cut, json_leaf_values, under_name, kind_fast_values, field_fast_values, fast_values, declared_type, column_named, declared_columns, is_declared, values_at, is_filled}
 use Rattle.seg_model.specs.Checked.{is_json_leaf, IsSound}
 use Rattle.seg_model.specs.Shape.{IsPathOf, IsJsonPath, is_json_type, has_type}
 use Rattle.seg_model.proofs.Tables.{same_key}
@@ -283,8 +283,8 @@ module _ (e : FieldEntry) (fast : e.fast ≡ true) where
 
   declared_typed : (analyzer : Analyzer) (type : ColumnType) → is_json e.kind ≡ false → declared_type e.kind ≡ Some type → (values : List Tree) → AllByRecursion (IsSoundValue e) values → AllByRecursion (λ v. has_type type v ≡ true) (declared_values analyzer e values)
   declared_typed analyzer type j d values h =
-      each-flat_map (λ v. has_type type v ≡ true) (λ p. (is_null p.leaf || is_of_kind e.kind p.leaf) ≡ true) (λ p. leaf_values analyzer e.fast_tokenizer (cut_to (precision_unit e.precision)) p.leaf)
-      (λ p k. leaf_typed analyzer e.fast_tokenizer (cut_to (precision_unit e.precision)) e.kind type p.leaf d k) (leaves_of values)
+      each-flat_map (λ v. has_type type v ≡ true) (λ p. (is_null p.leaf || is_of_kind e.kind p.leaf) ≡ true) (λ p. leaf_values analyzer (column_tokenizer e) (cut_to (precision_unit e.precision)) p.leaf)
+      (λ p k. leaf_typed analyzer (column_tokenizer e) (cut_to (precision_unit e.precision)) e.kind type p.leaf d k) (leaves_of values)
       (each-flat_map (λ p. (is_null p.leaf || is_of_kind e.kind p.leaf) ≡ true) (IsSoundValue e) leaves (λ t s. own_leaves e.kind [] 0 t (own j t s.taken)) values h)
 
 inserted_typed : (P : ColumnValue → Type 0) (v : ColumnValue) (vs : List ColumnValue) → P v → AllByRecursion P vs → AllByRecursion P (inserted v vs)

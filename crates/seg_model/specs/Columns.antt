@@ -13,7 +13,7 @@ use Rattle.seg_values.specs.declared.schema.FieldEntry.{FieldEntry}
 use Rattle.seg_values.specs.declared.schema.FieldKind.{FieldKind}
 use Rattle.seg_values.specs.declared.schema.FieldKind.TheVariants as kinds
 use Rattle.seg_values.specs.Tree.{Leaf, null, text, pre_tokenized, unsigned, signed, boolean, date, facet, byte_string, ip, Tree, Document}
-use Rattle.seg_model.specs.Fields.{Schema, Analyzer, fields, values_of}
+use Rattle.seg_model.specs.Fields.{Schema, Analyzer, is_text, is_json, fields, values_of}
 use Rattle.seg_model.specs.Leaves.{PlacedLeaf, leaves_of, joined_path}
 use Rattle.seg_model.specs.Tables.{tabulated, is_among}
 
@@ -78,10 +78,14 @@ leaf_values analyzer tokenizer cut (facet encoded) = text_value encoded ∷ []
 leaf_values analyzer tokenizer cut (byte_string b) = bytes_value b ∷ []
 leaf_values analyzer tokenizer cut (ip octets) = ip_value octets ∷ []
 
+-- the fast tokenizer of a fast text or JSON field; in other fields a text is one value
+abbrev pub column_tokenizer : FieldEntry → Option (List ℕ)
+column_tokenizer entry = if entry.fast && (is_text entry.kind || is_json entry.kind) then entry.fast_tokenizer else None
+
 -- the values of a field with a declared column: its arrays are walked
 abbrev pub declared_values : Analyzer → FieldEntry → List Tree → List ColumnValue
 declared_values analyzer entry values =
-    flat_map (λ p. leaf_values analyzer entry.fast_tokenizer (cut_to (precision_unit entry.precision)) p.leaf) (leaves_of values)
+    flat_map (λ p. leaf_values analyzer (column_tokenizer entry) (cut_to (precision_unit entry.precision)) p.leaf) (leaves_of values)
 
 -- the text of a value
 abbrev pub value_text : ColumnValue → List ℕ

@@ -35,13 +35,13 @@ abbrev pub KnowsAny : (List ℕ → Type 0) → Option (List ℕ) → Type 0
 KnowsAny knows None = Unit {0}
 KnowsAny knows (Some name) = knows name
 
--- whether each fast tokenizer that a schema names is known
+-- whether each fast tokenizer that a schema's fast text and JSON fields name is known
 abbrev pub KnowsEach : (List ℕ → Type 0) → Schema → Type 0
-KnowsEach knows schema = All (λ e. KnowsAny knows e.fast_tokenizer) schema
+KnowsEach knows schema = All (λ e. KnowsAny knows (columns.column_tokenizer e)) schema
 
 -- the values of a leaf of a field with a declared column
 abbrev pub declared_leaf : Analyzer → FieldEntry → PlacedLeaf → List columns.ColumnValue
-declared_leaf analyzer entry p = columns.leaf_values analyzer entry.fast_tokenizer (cut_to (precision_unit entry.precision)) p.leaf
+declared_leaf analyzer entry p = columns.leaf_values analyzer (columns.column_tokenizer entry) (cut_to (precision_unit entry.precision)) p.leaf
 
 -- the key of a path and a type
 abbrev pub at_path : List ℕ → ColumnType → columns.ColumnKey

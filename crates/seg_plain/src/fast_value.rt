@@ -8,6 +8,7 @@ ghost use Rattle.seg_plain.specs.ColumnValues.{KnowsAny, KnowsEach, declared_lea
 ghost use Rattle.seg_plain.specs.Leaf.{placed_leaf};
 
 use crate::column_value::{ColumnValues, FastValues};
+use crate::entry::column_tokenizer;
 use crate::field_leaf::leaves_at_place;
 use crate::leaf_value::push_leaf_values;
 use crate::path::{PlacedLeaf, joined_path};
@@ -45,7 +46,7 @@ fn push_field<Z: Analyzers>(
     place: usize,
     entry: &FieldEntry,
 ) -> Result<(), AllocError>
-    requires { KnowsAny (Z.knows analyzers.now) entry.now.fast_tokenizer }
+    requires { KnowsAny (Z.knows analyzers.now) (columns.column_tokenizer entry.now) }
     ensures { OnOk result (out.new ≡ out.old ++ columns.field_fast_values (Z.tokens_of analyzers.now) document.now (place, entry.now)) }
 {
     if !entry.fast {
@@ -74,16 +75,17 @@ fn declared_values<Z: Analyzers>(
     entry: &FieldEntry,
     leaves: &[PlacedLeaf],
 ) -> Result<ColumnValues, AllocError>
-    requires { KnowsAny (Z.knows analyzers.now) entry.now.fast_tokenizer }
+    requires { KnowsAny (Z.knows analyzers.now) (columns.column_tokenizer entry.now) }
     ensures { IfOk result (λ values. values ≡ flat_map (declared_leaf (Z.tokens_of analyzers.now) entry.now) (map placed_leaf leaves.now)) }
 {
+    let tokenizer = column_tokenizer(alloc, entry)?;
     let mut out = ColumnValues::new(alloc);
     for placed in leaves {
         push_leaf_values(
             &mut out,
             alloc,
             analyzers,
-            &entry.fast_tokenizer,
+            &tokenizer,
             entry.precision,
             placed.leaf,
         )?;

@@ -67,10 +67,6 @@ looks_up e = e.fast && (is_text e.kind || is_json e.kind)
 abbrev pub KnowsLooked : (List ℕ → Type 0) → FieldEntry → Type 0
 KnowsLooked knows e = looks_up e ≡ true → KnowsAny knows e.fast_tokenizer
 
--- the fast tokenizer of a field is known, where it is not looked up
-abbrev pub KnowsOther : (List ℕ → Type 0) → FieldEntry → Type 0
-KnowsOther knows e = looks_up e ≡ false → KnowsAny knows e.fast_tokenizer
-
 -- the tokenizers that are looked up are known
 pub record KnowsNames (knows : List ℕ → Type 0) (schema : Schema) : Type 0 where
   pub indexing : AllByRecursion (λ e. knows (indexing_tokenizer e)) schema

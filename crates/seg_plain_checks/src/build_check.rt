@@ -10,7 +10,7 @@ ghost use Rattle.seg_model.specs.Valid as valid;
 ghost use Rattle.seg_plain.specs.ColumnValues.{KnowsEach};
 ghost use Rattle.seg_plain.specs.Operations.{operation_of};
 ghost use Rattle.seg_plain_checks.specs.Builds.{built};
-ghost use Rattle.seg_plain_checks.specs.Inputs.{input_of, KnowsOther, Tests};
+ghost use Rattle.seg_plain_checks.specs.Inputs.{input_of, Tests};
 ghost use Rattle.seg_plain_checks.specs.Parts.{placed};
 
 use crate::document::document_refusal;
@@ -162,7 +162,6 @@ pub fn build_refusal<Z: Analyzers>(
     analyzers: &Z,
     input: &Input,
 ) -> Result<Option<BuildRefusal>, AllocError>
-    requires { AllByRecursion (KnowsOther (Z.knows analyzers.now)) input.now.schema }
     ensures { (known : valid.Known) → Tests known (Z.knows analyzers.now) → IfOk result (λ found. built found ≡ refused.build_refusal known (Z.tokens_of analyzers.now) (input_of input.now)) }
 {
     if let Some(refusal) = input_refusal(alloc, analyzers, input)? {
