@@ -1,0 +1,9 @@
+pub mod Bits
+pub mod Found
+pub mod Kept
+pub mod Lowest
+pub mod Members
+pub mod OneForm
+pub mod Shared
+pub mod Spelled
+pub mod Written
