@@ -1,150 +1,60 @@
--- A document fits exactly where it is one of texts that passes the check.
-use Rattle.std.proofs.Common.{◌≡◌, ℕ, zero, suc, ◌+◌, ◌<◌, ◌^◌, Bool, true, false, cond, List, [], ◌∷◌, map, Some, None, Option, length, sym, refl, ap, ◌∙◌, subst, arith}
-use Rattle.std.specs.Prelude.{filter, nat_lt, nat_le, is_some, is_none, ◌&&◌, ◌||◌}
+-- A document is taken exactly where it passes what no token decides, and its indexed values pass.
+use Rattle.std.proofs.Common.{◌≡◌, ℕ, zero, suc, ◌+◌, ◌<◌, ◌^◌, Bool, true, false, cond, List, [], ◌∷◌, map, Some, None, Option, length, sym, refl, ap, ◌∙◌, subst, arith, inl, inr}
+use Rattle.std.specs.Prelude.{nat_le, is_some, is_none, option_map, ◌&&◌}
 use Rattle.std.specs.List.{slice_get, list_all, enumerate_from}
 use Rattle.std.proofs.lemmas.Bool.{false≢true}
 use Rattle.std.proofs.lemmas.List.{length-map}
+use Rattle.std.proofs.lemmas.Option.{slice_get-map}
 use Rattle.seg_values.specs.declared.schema.FieldEntry.{FieldEntry}
-use Rattle.seg_values.specs.declared.schema.FieldKind.TheVariants.{Text}
-use Rattle.seg_values.specs.Tree.{null, text, pre_tokenized, unsigned, signed, boolean, date, facet, byte_string, ip, Tree, leaf, array, object, levels, Document}
-use Rattle.seg_model.specs.Built.{is_built_entry, is_text_tree, is_built_document, is_taken}
-use Rattle.seg_model.specs.Fields.{Schema, Analyzer, is_json, is_indexed, is_field, indexing_tokenizer, values_of, fields}
-use Rattle.seg_model.specs.Checked.{Refusal, wrong_value, past_limit, unless, is_u32, count_of, value_refusal, is_checked_json, json_refusal, tree_refusal, texts_fit, kind_fits, field_fits, is_within_limits, fields_refusal, leaves_refusal, order_refusal, limit_refusal}
-use Rattle.seg_model.specs.Takes.{takes, is_own_leaf, is_own_array}
+use Rattle.seg_values.specs.Tree.{Tree, levels, Document}
+use Rattle.seg_model.specs.Built.{is_taken}
+use Rattle.seg_model.specs.Fields.{Schema, Analyzer, is_indexed, indexing_tokenizer, values_of, fields}
+use Rattle.seg_model.specs.Checked.{Refusal, past_limit, unless, is_u32, count_of, json_refusal, tree_refusal, texts_fit, kind_fits, field_fits, is_within_limits, fields_refusal, leaves_refusal, order_refusal, limit_refusal, document_refusal}
 use Rattle.seg_model.specs.Occurrences.{start_after_all, value_tokens}
-use Rattle.seg_model.specs.Reading.{stored_value, stored_document}
-use Rattle.seg_model.specs.StoredForm.{document_form, stored_form}
-use Rattle.seg_build.specs.Field.{start_in, count_in}
-use Rattle.seg_build.specs.Steps.{are_texts, is_storable, pairs_fit, document_fits}
-use Rattle.seg_build.specs.declared.field.FieldPostings.{FieldPostings}
-use Rattle.seg_build.proofs.BuiltEntries.{IsTextEntry, both_true, text_entry_at}
-use Rattle.seg_build.proofs.Fitting.{is_less, less_is, and_true, none_unless, both_none, none_else, element_at, is_on-text, built_where_fit, order_where_fit, bounded_where_fit, fit_where_bounded}
-use Rattle.seg_build.proofs.Places.{some_same, Bounded, start_after_all-ge, texts_of}
+use Rattle.seg_model.specs.StoredForm.{stored_form}
+use Rattle.seg_build.specs.Built.{is_built_schema}
+use Rattle.seg_build.specs.Checking.{at_start, pairs_pass}
+use Rattle.seg_build.specs.Steps.{indexed_part}
+use Rattle.seg_build.specs.declared.checking.Progress.{Progress}
+use Rattle.seg_build.proofs.Advancing.{Bounded}
+use Rattle.seg_build.proofs.BuiltEntries.{IsTextEntry, both_true, built_entry_at, text_entry_at, unchecked_json}
+use Rattle.seg_build.proofs.Fitting.{is_less, less_is, and_true, none_unless, both_none, none_else}
+use Rattle.seg_build.proofs.IndexedParts.{either, values_kept}
+use Rattle.seg_build.proofs.Passing.{order_where_pass, bounded_where_pass, pass_where_bounded}
+use Rattle.seg_build.proofs.Places.{some_same, start_after_all-ge, texts_of}
 
--- ---- texts
+-- ---- the limits of a field
 
-pub record IsTextLeaf (t : Tree) : Type 0 where
-  pub bytes_of : List ℕ
-  pub is : t ≡ leaf (text bytes_of)
+module _ (analyzer : Analyzer) (k : ℕ) (e : FieldEntry) (ps : Document) where
+  field_fits-unindexed : is_indexed e ≡ false → field_fits analyzer ps (k, e) ≡ true
+  field_fits-unindexed off = ap (λ b. cond b (is_u32 (length (values_of k ps)) && kind_fits e.kind e.expand_dots (analyzer (indexing_tokenizer e)) (values_of k ps)) true) off
 
-text_leaf : (t : Tree) → is_text_tree t ≡ true → IsTextLeaf t
-text_leaf (leaf (text s)) h = record { bytes_of = s; is = refl }
-text_leaf (leaf null) h = absurd (false≢true h)
-text_leaf (leaf (pre_tokenized p)) h = absurd (false≢true h)
-text_leaf (leaf (unsigned n)) h = absurd (false≢true h)
-text_leaf (leaf (signed z)) h = absurd (false≢true h)
-text_leaf (leaf (boolean b)) h = absurd (false≢true h)
-text_leaf (leaf (date z)) h = absurd (false≢true h)
-text_leaf (leaf (facet s)) h = absurd (false≢true h)
-text_leaf (leaf (byte_string b)) h = absurd (false≢true h)
-text_leaf (leaf (ip a)) h = absurd (false≢true h)
-text_leaf (array ts) h = absurd (false≢true h)
-text_leaf (object ms) h = absurd (false≢true h)
+  module _ (text : IsTextEntry e) where
+    field_fits-text : field_fits analyzer ps (k, e) ≡ (is_u32 (length (values_of k ps)) && texts_fit (texts_of analyzer e k ps))
+    field_fits-text =
+        ap (λ b. cond b (is_u32 (length (values_of k ps)) && kind_fits e.kind e.expand_dots (analyzer (indexing_tokenizer e)) (values_of k ps)) true) text.indexed
+        ∙ ap (λ kind. is_u32 (length (values_of k ps)) && kind_fits kind e.expand_dots (analyzer (indexing_tokenizer e)) (values_of k ps)) text.kind
 
-takes-text : (e : FieldEntry) (t : Tree) → IsTextEntry e → is_text_tree t ≡ true → takes e t ≡ true
-takes-text e t built h =
-    let own : is_own_leaf e.kind t ≡ true = ap (λ k. is_own_leaf k t) built.kind ∙ ap (is_own_leaf Text) (text_leaf t h).is in
-    ap (λ b. cond b true (cond (is_indexed e) (is_own_leaf e.kind t) (cond e.fast (is_own_array e.kind t) true))) (ap is_json built.kind)
-    ∙ ap (λ b. cond b (is_own_leaf e.kind t) (cond e.fast (is_own_array e.kind t) true)) (is_on-text e built)
-    ∙ own
-
-module _ (schema : Schema) (analyzer : Analyzer) (entries : list_all is_built_entry schema ≡ true) where
-  -- ---- a document of texts passes the first two passes, and is stored as it is
-
-  -- a text of a field of the schema
-  record IsTextOf (p : ℕ × Tree) : Type 0 where
-    entry : FieldEntry
-    at : slice_get schema p.0 ≡ Some entry
-    built : IsTextEntry entry
-    is_text : is_text_tree p.1 ≡ true
-
-  text_of : (p : ℕ × Tree) → (nat_lt p.0 (length schema) && is_text_tree p.1) ≡ true → IsTextOf p
-  text_of p h =
-      let two = both_true (nat_lt p.0 (length schema)) (is_text_tree p.1) h in
-      let found = element_at schema p.0 (is_less p.0 (length schema) two.0) in
-      record { entry = found.element; at = found.at; built = text_entry_at schema p.0 found.element entries found.at; is_text = two.1 }
-
-  first_and_rest : (p : ℕ × Tree) (ps : Document) → is_built_document schema (p ∷ ps) ≡ true → ((nat_lt p.0 (length schema) && is_text_tree p.1) ≡ true) × (is_built_document schema ps ≡ true)
-  first_and_rest p ps h = both_true (nat_lt p.0 (length schema) && is_text_tree p.1) (is_built_document schema ps) h
-
-  no_field_refused : (ps : Document) → is_built_document schema ps ≡ true → fields_refusal schema ps ≡ None
-  no_field_refused [] h = refl
-  no_field_refused (p ∷ ps) h =
-      let two = first_and_rest p ps h in
-      let t = text_of p two.0 in
-      none_else (value_refusal p.0 p.1 (slice_get schema p.0)) (fields_refusal schema ps)
-      (ap (value_refusal p.0 p.1) t.at ∙ ap (λ b. unless b (wrong_value p.0)) (takes-text t.entry p.1 t.built t.is_text))
-      (no_field_refused ps two.1)
-
-  no_leaf_refused : (ps : Document) → is_built_document schema ps ≡ true → leaves_refusal schema ps ≡ None
-  no_leaf_refused [] h = refl
-  no_leaf_refused (p ∷ ps) h =
-      let two = first_and_rest p ps h in
-      let t = text_of p two.0 in
-      let none : is_checked_json t.entry ≡ false = ap (λ k. is_json k && (is_indexed t.entry || t.entry.fast)) t.built.kind in
-      none_else (json_refusal p.1 (slice_get schema p.0)) (leaves_refusal schema ps)
-      (ap (json_refusal p.1) t.at ∙ ap (λ b. cond b (tree_refusal p.1) None) none)
-      (no_leaf_refused ps two.1)
-
-  pub few_levels : (ps : Document) → is_built_document schema ps ≡ true → list_all (λ p. nat_le (levels p.1) 200) ps ≡ true
-  few_levels [] h = refl
-  few_levels (p ∷ ps) h =
-      let two = first_and_rest p ps h in
-      let t = text_of p two.0 in
-      and_true (nat_le (levels p.1) 200) (list_all (λ p. nat_le (levels p.1) 200) ps) (ap (λ x. nat_le (levels x) 200) (text_leaf p.1 t.is_text).is) (few_levels ps two.1)
-
-  pub texts_of_built : (ps : Document) → is_built_document schema ps ≡ true → are_texts ps ≡ true
-  texts_of_built [] h = refl
-  texts_of_built (p ∷ ps) h =
-      let two = first_and_rest p ps h in
-      let t = text_of p two.0 in
-      and_true (is_text_tree p.1) (are_texts ps) t.is_text (texts_of_built ps two.1)
-
-  pub stored_as_is : (ps : Document) → is_built_document schema ps ≡ true → stored_document schema ps ≡ ps
-  stored_as_is [] h = refl
-  stored_as_is (p ∷ ps) h =
-      let two = first_and_rest p ps h in
-      let t = text_of p two.0 in
-      let leaf_of = text_leaf p.1 t.is_text in
-      let stored : is_field (λ e. e.stored) (slice_get schema p.0) ≡ true = ap (is_field (λ e. e.stored)) t.at ∙ t.built.stored in
-      let same : stored_value p.1 ≡ p.1 = ap stored_value leaf_of.is ∙ sym leaf_of.is in
-      ap (λ b. map (λ (q : ℕ × Tree). (q.0, stored_value q.1)) (cond b (p ∷ filter (λ q. is_field (λ e. e.stored) (slice_get schema q.0)) ps) (filter (λ q. is_field (λ e. e.stored) (slice_get schema q.0)) ps))) stored
-      ∙ ap (λ x. (p.0, x) ∷ stored_document schema ps) same
-      ∙ ap (λ l. p ∷ l) (stored_as_is ps two.1)
-
-  -- ---- the limits of a field
-
-  field_fits-text : (k : ℕ) (e : FieldEntry) (ps : Document) → IsTextEntry e → field_fits analyzer ps (k, e) ≡ (is_u32 (length (values_of k ps)) && texts_fit (texts_of analyzer e k ps))
-  field_fits-text k e ps built =
-      ap (λ b. cond b (is_u32 (length (values_of k ps)) && kind_fits e.kind e.expand_dots (analyzer (indexing_tokenizer e)) (values_of k ps)) true) (is_on-text e built)
-      ∙ ap (λ kind. is_u32 (length (values_of k ps)) && kind_fits kind e.expand_dots (analyzer (indexing_tokenizer e)) (values_of k ps)) built.kind
-
-  -- a field at the beginning of a document
-  pub record IsFresh (id : ℕ) (field : FieldPostings) : Type 0 where
-    pub start : start_in id field ≡ 0
-    pub count : count_in id field ≡ 0
-
-  module _ (id k : ℕ) (e : FieldEntry) (field : FieldPostings) (ps : Document) (built : IsTextEntry e) (new : IsFresh id field) where
     many : length (texts_of analyzer e k ps) ≡ length (values_of k ps)
     many = length-map (values_of k ps) (value_tokens (analyzer (indexing_tokenizer e)))
 
-    pub fits_bounded : Bounded id field (texts_of analyzer e k ps) → field_fits analyzer ps (k, e) ≡ true
+    pub fits_bounded : Bounded at_start (texts_of analyzer e k ps) → field_fits analyzer ps (k, e) ≡ true
     fits_bounded h =
         let vs = texts_of analyzer e k ps in
-        let start : start_after_all 0 vs < 2 ^ 32 = subst (λ s. start_after_all s vs < 2 ^ 32) new.start h.start in
+        let start : start_after_all 0 vs < 2 ^ 32 = h.start in
         let count : count_of vs < 2 ^ 32 = omega (arith, h.count) in
         let length_small : length vs < 2 ^ 32 = omega (arith, start, start_after_all-ge 0 vs) in
-        field_fits-text k e ps built
+        field_fits-text
         ∙ and_true (is_u32 (length (values_of k ps))) (texts_fit vs) (less_is _ _ (let h : length (values_of k ps) < 2 ^ 32 = omega (arith, length_small, many) in h))
         (and_true (is_u32 (start_after_all 0 vs) && is_u32 (count_of vs)) (is_u32 (length vs)) (and_true (is_u32 (start_after_all 0 vs)) (is_u32 (count_of vs)) (less_is _ _ start) (less_is _ _ count)) (less_is _ _ length_small))
 
-    pub bounded_from : field_fits analyzer ps (k, e) ≡ true → Bounded id field (texts_of analyzer e k ps)
+    pub bounded_from : field_fits analyzer ps (k, e) ≡ true → Bounded at_start (texts_of analyzer e k ps)
     bounded_from h =
         let vs = texts_of analyzer e k ps in
-        let fit = (both_true (is_u32 (length (values_of k ps))) (texts_fit vs) (sym (field_fits-text k e ps built) ∙ h)).1 in
+        let fit = (both_true (is_u32 (length (values_of k ps))) (texts_fit vs) (sym field_fits-text ∙ h)).1 in
         let two = both_true (is_u32 (start_after_all 0 vs)) (is_u32 (count_of vs)) (both_true (is_u32 (start_after_all 0 vs) && is_u32 (count_of vs)) (is_u32 (length vs)) fit).0 in
         let count : count_of vs < 2 ^ 32 = is_less _ _ two.1 in
-        record { start = subst (λ s. start_after_all s vs < 2 ^ 32) (sym new.start) (is_less _ _ two.0); count = omega (arith, count, new.count) }
+        record { start = is_less _ _ two.0; count = omega (arith, count) }
 
 -- ---- all fields
 
@@ -169,59 +79,100 @@ for_one_field Q schema h k e at = subst (λ m. Q (m, e) ≡ true) (let z : 0 + k
 
 -- ---- a document
 
-pub same_truth : (a b : Bool) → (a ≡ true → b ≡ true) → (b ≡ true → a ≡ true) → a ≡ b
+same_truth : (a b : Bool) → (a ≡ true → b ≡ true) → (b ≡ true → a ≡ true) → a ≡ b
 same_truth true b f g = sym (f refl)
 same_truth false true f g = g refl
 same_truth false false f g = refl
 
-is_none_unless : (b : Bool) (r : Refusal) → is_none (unless b r) ≡ b
-is_none_unless true r = refl
-is_none_unless false r = refl
-
-none_is : (o : Option Refusal) → is_none o ≡ true → o ≡ None
+pub none_is : (o : Option Refusal) → is_none o ≡ true → o ≡ None
 none_is None h = refl
 none_is (Some r) h = absurd (false≢true h)
 
-module _ (schema : Schema) (analyzer : Analyzer) (id : ℕ) (entries : list_all is_built_entry schema ≡ true) (fields_now : List FieldPostings) where
-  -- each field of the schema is there, at the beginning of a document
-  pub record HasFresh (k : ℕ) (e : FieldEntry) : Type 0 where
-    pub field : FieldPostings
-    pub at : slice_get fields_now k ≡ Some field
-    pub new : IsFresh schema analyzer entries id field
+-- what no token decides of a document
+abbrev pub untokenized : Schema → Document → Bool
+untokenized schema ps = is_none (fields_refusal schema ps) && (is_u32 (length (stored_form schema ps)) && list_all (λ p. nat_le (levels p.1) 200) ps)
 
-  module _ (all : (k : ℕ) (e : FieldEntry) → slice_get schema k ≡ Some e → HasFresh k e) (ps : Document) where
-    fits_then_taken : document_fits schema analyzer id fields_now ps ≡ true → (is_built_document schema ps && is_taken schema analyzer ps) ≡ true
-    fits_then_taken h =
-        let two = both_true (pairs_fit schema analyzer id fields_now ps) (is_storable ps) h in
-        let built = built_where_fit schema analyzer id entries fields_now ps two.0 in
-        let stored : is_u32 (length (stored_form schema ps)) ≡ true = ap (λ d. is_u32 (length (document_form d))) (stored_as_is schema analyzer entries ps built) ∙ (both_true (are_texts ps) (is_u32 (length (document_form ps))) two.1).1 in
-        let each : list_all (field_fits analyzer ps) (fields schema) ≡ true = for_all_fields (field_fits analyzer ps) schema (λ k e at_e.
-        let has = all k e at_e in
-        let small : Bounded id has.field [] = record { start = omega (arith, has.new.start); count = omega (arith, has.new.count) } in
-        fits_bounded schema analyzer entries id k e has.field ps (text_entry_at schema k e entries at_e) has.new (bounded_where_fit schema analyzer id entries k e at_e fields_now has.field ps has.at small two.0)) in
-        let limits : is_within_limits schema analyzer ps ≡ true = and_true (list_all (field_fits analyzer ps) (fields schema) && is_u32 (length (stored_form schema ps))) (list_all (λ p. nat_le (levels p.1) 200) ps)
-        (and_true (list_all (field_fits analyzer ps) (fields schema)) (is_u32 (length (stored_form schema ps))) each stored) (few_levels schema analyzer entries ps built) in
-        and_true (is_built_document schema ps) (is_taken schema analyzer ps) built
-        (ap is_none (none_else (fields_refusal schema ps) _ (no_field_refused schema analyzer entries ps built)
-        (none_else (leaves_refusal schema ps) _ (no_leaf_refused schema analyzer entries ps built)
-        (none_else (order_refusal schema analyzer ps) (limit_refusal schema analyzer ps) (order_where_fit schema analyzer id entries fields_now ps two.0)
-        (ap (λ b. unless b past_limit) limits)))))
+-- the passes of a document that is taken
+pub record HasPassed (schema : Schema) (analyzer : Analyzer) (ps : Document) : Type 0 where
+  pub taken : fields_refusal schema ps ≡ None
+  pub json : leaves_refusal schema ps ≡ None
+  pub order : order_refusal schema analyzer ps ≡ None
+  pub fit : list_all (field_fits analyzer ps) (fields schema) ≡ true
+  pub stored : is_u32 (length (stored_form schema ps)) ≡ true
+  pub shallow : list_all (λ p. nat_le (levels p.1) 200) ps ≡ true
 
-    taken_then_fits : (is_built_document schema ps && is_taken schema analyzer ps) ≡ true → document_fits schema analyzer id fields_now ps ≡ true
-    taken_then_fits h =
-        let two = both_true (is_built_document schema ps) (is_taken schema analyzer ps) h in
-        let built = two.0 in
-        let leaves_on = both_none (fields_refusal schema ps) _ (none_is _ two.1) in
-        let order_on = both_none (leaves_refusal schema ps) _ leaves_on.1 in
-        let order = both_none (order_refusal schema analyzer ps) (limit_refusal schema analyzer ps) order_on.1 in
-        let limits = none_unless (is_within_limits schema analyzer ps) past_limit order.1 in
-        let parts = both_true (list_all (field_fits analyzer ps) (fields schema)) (is_u32 (length (stored_form schema ps))) (both_true (list_all (field_fits analyzer ps) (fields schema) && is_u32 (length (stored_form schema ps))) (list_all (λ p. nat_le (levels p.1) 200) ps) limits).0 in
-        let stored : is_u32 (length (document_form ps)) ≡ true = ap (λ d. is_u32 (length (document_form d))) (sym (stored_as_is schema analyzer entries ps built)) ∙ parts.1 in
-        and_true (pairs_fit schema analyzer id fields_now ps) (is_storable ps)
-        (fit_where_bounded schema analyzer id entries fields_now ps built order.0 (λ k e at_e.
-        let has = all k e at_e in
-        record { field = has.field; at = has.at; bounded = bounded_from schema analyzer entries id k e has.field ps (text_entry_at schema k e entries at_e) has.new (for_one_field (field_fits analyzer ps) schema parts.0 k e at_e) }))
-        (and_true (are_texts ps) (is_u32 (length (document_form ps))) (texts_of_built schema analyzer entries ps built) stored)
+module _ (schema : Schema) (analyzer : Analyzer) (ps : Document) where
+  pub passed : is_taken schema analyzer ps ≡ true → HasPassed schema analyzer ps
+  passed h =
+      let first = both_none (fields_refusal schema ps) _ (none_is (document_refusal schema analyzer ps) h) in
+      let second = both_none (leaves_refusal schema ps) _ first.1 in
+      let third = both_none (order_refusal schema analyzer ps) (limit_refusal schema analyzer ps) second.1 in
+      let limits = both_true (list_all (field_fits analyzer ps) (fields schema) && is_u32 (length (stored_form schema ps))) (list_all (λ p. nat_le (levels p.1) 200) ps) (none_unless (is_within_limits schema analyzer ps) past_limit third.1) in
+      let two = both_true (list_all (field_fits analyzer ps) (fields schema)) (is_u32 (length (stored_form schema ps))) limits.0 in
+      record { taken = first.0; json = second.0; order = third.0; fit = two.0; stored = two.1; shallow = limits.1 }
 
-    pub document_fits-taken : document_fits schema analyzer id fields_now ps ≡ (is_built_document schema ps && is_taken schema analyzer ps)
-    document_fits-taken = same_truth _ _ fits_then_taken taken_then_fits
+  taken_where : HasPassed schema analyzer ps → is_taken schema analyzer ps ≡ true
+  taken_where h =
+      let limits : is_within_limits schema analyzer ps ≡ true = and_true (list_all (field_fits analyzer ps) (fields schema) && is_u32 (length (stored_form schema ps))) (list_all (λ p. nat_le (levels p.1) 200) ps)
+      (and_true (list_all (field_fits analyzer ps) (fields schema)) (is_u32 (length (stored_form schema ps))) h.fit h.stored) h.shallow in
+      ap is_none (none_else (fields_refusal schema ps) _ h.taken
+      (none_else (leaves_refusal schema ps) _ h.json
+      (none_else (order_refusal schema analyzer ps) (limit_refusal schema analyzer ps) h.order
+      (ap (λ b. unless b past_limit) limits))))
+
+module _ (schema : Schema) (entries : is_built_schema schema ≡ true) where
+  no_json_refused : (t : Tree) (k : ℕ) → json_refusal t (slice_get schema k) ≡ None
+  no_json_refused t k = by (slice_get schema k) refl
+    where
+      by : (o : Option FieldEntry) → slice_get schema k ≡ o → json_refusal t o ≡ None
+      by None at = refl
+      by (Some e) at = ap (λ b. cond b (tree_refusal t) None) (unchecked_json e (built_entry_at schema k e entries at))
+
+  no_leaf_refused : (ps : Document) → leaves_refusal schema ps ≡ None
+  no_leaf_refused [] = refl
+  no_leaf_refused (p ∷ ps) = none_else (json_refusal p.1 (slice_get schema p.0)) (leaves_refusal schema ps) (no_json_refused p.1 p.0) (no_leaf_refused ps)
+
+  abbrev starts : List Progress
+  starts = map (λ (e : FieldEntry). at_start) schema
+
+  starts_at : (k : ℕ) (e : FieldEntry) → slice_get schema k ≡ Some e → slice_get starts k ≡ Some at_start
+  starts_at k e at = slice_get-map (λ (x : FieldEntry). at_start) schema k ∙ ap (option_map (λ (x : FieldEntry). at_start)) at
+
+  module _ (analyzer : Analyzer) (ps : Document) where
+    same_texts : (k : ℕ) (e : FieldEntry) → slice_get schema k ≡ Some e → is_indexed e ≡ true → texts_of analyzer e k (indexed_part schema ps) ≡ texts_of analyzer e k ps
+    same_texts k e at on = ap (map (value_tokens (analyzer (indexing_tokenizer e)))) (values_kept schema k e at ps on)
+
+    taken_from : untokenized schema ps ≡ true → pairs_pass schema analyzer starts (indexed_part schema ps) ≡ true → is_taken schema analyzer ps ≡ true
+    taken_from plain pass =
+        let two = both_true (is_none (fields_refusal schema ps)) (is_u32 (length (stored_form schema ps)) && list_all (λ p. nat_le (levels p.1) 200) ps) plain in
+        let rest = both_true (is_u32 (length (stored_form schema ps))) (list_all (λ p. nat_le (levels p.1) 200) ps) two.1 in
+        let small : Bounded at_start [] = record { start = omega arith; count = omega arith } in
+        taken_where schema analyzer ps (record {
+          taken = none_is (fields_refusal schema ps) two.0;
+          json = no_leaf_refused ps;
+          order = order_where_pass schema analyzer entries starts ps pass;
+          fit = for_all_fields (field_fits analyzer ps) schema (λ k e at. elim (either (is_indexed e)) [
+            | inl on ↦
+                fits_bounded analyzer k e ps (text_entry_at schema k e entries at on)
+                (subst (Bounded at_start) (same_texts k e at on) (bounded_where_pass schema analyzer entries k e at starts at_start (indexed_part schema ps) (starts_at k e at) small pass))
+            | inr off ↦ field_fits-unindexed analyzer k e ps off
+          ]);
+          stored = rest.0;
+          shallow = rest.1;
+        })
+
+    pass_from : is_taken schema analyzer ps ≡ true → (untokenized schema ps && pairs_pass schema analyzer starts (indexed_part schema ps)) ≡ true
+    pass_from taken =
+        let h = passed schema analyzer ps taken in
+        and_true (untokenized schema ps) (pairs_pass schema analyzer starts (indexed_part schema ps))
+        (and_true (is_none (fields_refusal schema ps)) (is_u32 (length (stored_form schema ps)) && list_all (λ p. nat_le (levels p.1) 200) ps) (ap is_none h.taken)
+        (and_true (is_u32 (length (stored_form schema ps))) (list_all (λ p. nat_le (levels p.1) 200) ps) h.stored h.shallow))
+        (pass_where_bounded schema analyzer entries starts ps h.order (λ k e at on. record {
+          now = at_start;
+          at = starts_at k e at;
+          bounded = subst (Bounded at_start) (sym (same_texts k e at on)) (bounded_from analyzer k e ps (text_entry_at schema k e entries at on) (for_one_field (field_fits analyzer ps) schema h.fit k e at));
+        }))
+
+    -- a document passes exactly where it is taken
+    pub passes-taken : (untokenized schema ps && pairs_pass schema analyzer starts (indexed_part schema ps)) ≡ is_taken schema analyzer ps
+    passes-taken = same_truth _ _ (λ h. let two = both_true (untokenized schema ps) (pairs_pass schema analyzer starts (indexed_part schema ps)) h in taken_from two.0 two.1) pass_from

@@ -8,6 +8,7 @@ use Rattle.std.proofs.lemmas.Map.Text.{is_eq-slice_cmp}
 use Rattle.std.proofs.lemmas.Bool.Decides.{nat_tests}
 use Rattle.std.proofs.lemmas.List.{length-map}
 use Rattle.seg_values.specs.declared.schema.FieldEntry.{FieldEntry}
+use Rattle.seg_values.specs.declared.schema.FieldKind.TheVariants.{Text}
 use Rattle.seg_values.specs.declared.schema.IndexOption.TheVariants.{Basic, Positions}
 use Rattle.seg_model.specs.Fields.{is_text, is_json}
 use Rattle.seg_model.specs.Occurrences.{Occurrence}
@@ -16,7 +17,6 @@ use Rattle.seg_model.proofs.Answers.{no_other_terms}
 use Rattle.seg_model.proofs.Grows.{postings_grow}
 use Rattle.seg_model.proofs.Terms.{get-terms_of, unwrap_if_any}
 use Rattle.seg_build.specs.Adding.{with_position, with_occurrence, with_occurrences}
-use Rattle.seg_build.proofs.BuiltEntries.{IsTextEntry}
 
 -- a document with these positions of a term: it is listed where there is one
 abbrev told : ℕ → List ℕ → List Posting
@@ -74,7 +74,12 @@ if_any-append (x ∷ xs) n p ps = refl
 if_any-append [] n p [] = refl
 if_any-append [] n p (x ∷ ps) = refl
 
-module _ (e : FieldEntry) (built : IsTextEntry e) where
+-- a field of texts that records positions
+pub record IsPositional (e : FieldEntry) : Type 0 where
+  pub kind : e.kind ≡ Text
+  pub index : e.index ≡ Positions
+
+module _ (e : FieldEntry) (built : IsPositional e) where
   -- a text term records its positions
   pub term_option-text : (q : List ℕ) → term_option e q ≡ Positions
   term_option-text q = ap (λ k. cond (is_text k || (is_json k && nat_eq (type_code q) 115)) e.index Basic) built.kind ∙ built.index

@@ -2,28 +2,36 @@
 use Rattle.std.proofs.Common.{◌≡◌, ℕ, suc, ◌+◌, ◌<◌, ◌≤◌, ◌^◌, ◌-◌, Bool, true, List, [], ◌∷◌, ◌++◌, map, length, take, drop, get_or, Some, None, Option, option_map, refl, sym, ap, ◌∙◌, subst, arith, length-append}
 use Rattle.std.specs.Prelude.{IsSomeAnd, IfSome}
 use Rattle.std.specs.List.{list_all, AllByRecursion}
+use Rattle.std.proofs.lemmas.List.{length-map}
 use Rattle.seg_common.specs.Growing.{HasGrown}
+use Rattle.seg_values.specs.declared.token.Token.{Token}
+use Rattle.seg_values.specs.declared.schema.FieldEntry.{FieldEntry}
 use Rattle.seg_values.specs.Tree.{Document}
 use Rattle.seg_values.specs.Utf8.{IsUtf8Document}
-use Rattle.seg_model.specs.Built.{is_built_entry, is_built_document, is_taken}
+use Rattle.seg_model.specs.Built.{is_taken}
 use Rattle.seg_model.specs.Fields.{Schema, Analyzer}
+use Rattle.seg_model.specs.Occurrences.{occurrences}
 use Rattle.seg_model.specs.Reading.{stored_document}
 use Rattle.seg_model.specs.StoredForm.{stored_form}
 use Rattle.seg_store.specs.Writing.{taken_count}
 use Rattle.seg_build.specs.Batch.{kept_norms}
+use Rattle.seg_build.specs.Built.{is_built_schema}
 use Rattle.seg_build.specs.Checking.{with_texts, document_texts}
 use Rattle.seg_build.specs.Kept.{Kept}
 use Rattle.seg_build.specs.Lengths.{AreUpTo, with_counts}
-use Rattle.seg_build.specs.SegmentWriting.{kept_of, is_addable, Stores, IsKeptOf, IsUnderWay, HasPlace, Adds, HasRoom, HasTaken}
-use Rattle.seg_build.specs.Steps.{fresh, with_documents, with_pairs}
-use Rattle.seg_build.specs.declared.field_text.FieldText.{FieldText}
+use Rattle.seg_build.specs.MemoryUsage.{saturated, occurrence_count, recorded_count}
+use Rattle.seg_build.specs.SegmentWriting.{kept_of, Stores, IsKeptOf, IsUnderWay, HasPlace, Adds, HasRoom, HasTaken}
+use Rattle.seg_build.specs.Steps.{fresh, indexed_part, with_documents, with_pairs}
 use Rattle.seg_build.specs.declared.writer_parts.WriterParts.{WriterParts}
 use Rattle.seg_build.proofs.BuiltEntries.{both_true}
+use Rattle.seg_build.proofs.Checks.{passed}
 use Rattle.seg_build.proofs.Fitting.{and_true}
-use Rattle.seg_build.proofs.KeptLengths.{room_for, fields_turn, lengths_turn}
-use Rattle.seg_build.proofs.Passing.{with_texts-pairs}
-use Rattle.seg_build.proofs.StoringTexts.{HasStored, shallow_at, stored_turn}
+use Rattle.seg_build.proofs.KeptLengths.{room_for, fields_turn, tokens_in, lengths_turn}
+use Rattle.seg_build.proofs.StoringDocuments.{HasStored, shallow_taken, stored_turn}
+use Rattle.seg_build.proofs.TextSteps.{with_texts-pairs}
 use Rattle.seg_build.proofs.Turns.{take-front}
+use Rattle.seg_build.proofs.MemoryTaken.{total-last, occurring, all_occurring}
+use Rattle.seg_build.proofs.Whole.{length-with_documents}
 
 -- ---- lists with one more behind
 
@@ -57,15 +65,12 @@ if_some : {X : Type 0} (P : X → Type 0) (o : Option X) → IsSomeAnd o P → I
 if_some P (Some x) h = h
 if_some P None h = absurd h
 
-module _ (schema : Schema) (analyzer : Analyzer) (entries : list_all is_built_entry schema ≡ true) (documents : List Document) (d : Document) (addable : is_addable schema analyzer d ≡ true) (utf8 : IsUtf8Document d) (stamps : List ℕ) (stamp : ℕ) (old : Kept) (are : IsKeptOf schema analyzer documents stamps old) (place : HasPlace old) where
+module _ (schema : Schema) (analyzer : Analyzer) (entries : is_built_schema schema ≡ true) (documents : List Document) (d : Document) (taken : is_taken schema analyzer d ≡ true) (utf8 : IsUtf8Document d) (stamps : List ℕ) (stamp : ℕ) (old : Kept) (are : IsKeptOf schema analyzer documents stamps old) (place : HasPlace old) where
   abbrev all : List Document
   all = documents ++ d ∷ []
 
   abbrev many : ℕ
   many = length documents
-
-  built : is_built_document schema d ≡ true
-  built = (both_true (is_built_document schema d) (is_taken schema analyzer d) addable).0
 
   more : length all ≡ many + 1
   more = length-append documents (d ∷ [])
@@ -88,35 +93,50 @@ module _ (schema : Schema) (analyzer : Analyzer) (entries : list_all is_built_en
   pub has_room : HasRoom d old
   has_room = record {
     place = place;
-    shallow = shallow_at schema (d ∷ []) 0 d (omega arith) refl (and_true (is_built_document schema d) true built refl);
+    shallow = shallow_taken d (passed schema analyzer d taken).shallow;
     norms = subst (λ n. IsSomeAnd old.norms (AreUpTo n)) (sym count) (room_for schema analyzer all many within old.norms (are.norms ∙ ap (λ ds. Some (kept_norms schema analyzer ds)) (sym before)));
     store = if_some _ old.store (weaker (Stores schema documents) (λ w. taken_count w < 2 ^ 31 - 1) old.store (λ w s. omega (arith, s.count, few)) are.store);
   }
 
-  module _ (texts : List FieldText) (texts_are : texts ≡ document_texts schema analyzer d) (new : Kept) (took : HasTaken schema d texts stamp old new) where
+  module _ (texts : List (ℕ × List Token)) (texts_are : texts ≡ document_texts schema analyzer d) (new : Kept) (took : HasTaken schema d texts stamp old new) where
     now : old.fields ≡ with_documents schema analyzer 0 (map (λ _. fresh) schema) (take many all)
     now = are.fields ∙ ap (with_documents schema analyzer 0 (map (λ _. fresh) schema)) (sym before)
 
-    after : new.fields ≡ with_pairs schema analyzer many old.fields d
+    after : new.fields ≡ with_pairs schema analyzer many old.fields (indexed_part schema d)
     after = took.fields ∙ ap (λ n. with_texts n old.fields texts) count ∙ ap (with_texts many old.fields) texts_are ∙ with_texts-pairs schema analyzer many old.fields d
 
     here : drop many all ≡ d ∷ drop (many + 1) all
     here = drop-front documents d
 
     stored : IsSomeAnd new.store (HasStored schema all (many + 1))
-    stored = stored_turn schema all many d (omega (arith, more)) (get_or-last documents d) (stored_form schema d) old.store new.store took.store took.reads
-        (weaker (Stores schema documents) (HasStored schema all many) old.store (λ w s. record { read = s.read ∙ ap (map (stored_document schema)) (sym before); taken = s.count }) are.store)
+    stored = stored_turn schema all many d (omega (arith, more)) (get_or-last documents d) (stored_form schema d) old.store new.store took.store refl took.reads
+        (weaker (Stores schema documents) (HasStored schema all many) old.store (λ w s. record { read = s.read ∙ ap (map (stored_document schema)) (sym before); taken = s.count; forms = s.forms ∙ ap (map (stored_form schema)) (sym before) }) are.store)
+
+    fields_now : new.fields ≡ with_documents schema analyzer 0 (map (λ _. fresh) schema) all
+    fields_now = fields_turn schema analyzer all many within entries d here (map (λ _. fresh) schema) old.fields new.fields now after ∙ ap (with_documents schema analyzer 0 (map (λ _. fresh) schema)) whole
+
+    as_many : length new.fields ≡ length schema
+    as_many = ap length fields_now ∙ length-with_documents schema analyzer 0 (map (λ (e : FieldEntry). fresh) schema) all ∙ length-map schema (λ (e : FieldEntry). fresh)
+
+    recorded : recorded_count many new.fields ≡ occurrence_count schema analyzer d
+    recorded = all_occurring schema analyzer d many new.fields 0 schema as_many
+        (λ k e at. let has = tokens_in schema analyzer all many within entries d here (map (λ _. fresh) schema) old.fields new.fields refl now after k e at in
+        record { field = has.field; at = has.at; count = has.count ∙ occurring schema analyzer d k e entries at ∙ ap (λ m. length (occurrences schema analyzer d m)) (let z : k ≡ 0 + k = omega arith in z) })
+
+    took_as : new.occurrences ≡ saturated (old.occurrences + saturated (recorded_count many new.fields))
+    took_as = subst (λ n. new.occurrences ≡ saturated (old.occurrences + saturated (recorded_count n new.fields))) count took.occurrences
 
     pub one_more : IsKeptOf schema analyzer (documents ++ d ∷ []) (stamps ++ stamp ∷ []) new
     one_more = record {
-      addable = all-last (is_addable schema analyzer) documents d are.addable addable;
+      taken = all-last (is_taken schema analyzer) documents d are.taken taken;
       few = omega (arith, few, more);
       utf8 = every-last IsUtf8Document documents d are.utf8 utf8;
-      fields = fields_turn schema analyzer all many within entries d here (map (λ _. fresh) schema) old.fields new.fields now after ∙ ap (with_documents schema analyzer 0 (map (λ _. fresh) schema)) whole;
+      fields = fields_now;
       norms = lengths_turn schema analyzer all many within entries d here (map (λ _. fresh) schema) old.fields new.fields refl now after old.norms new.norms (are.norms ∙ ap (λ ds. Some (kept_norms schema analyzer ds)) (sym before)) (subst (λ n. HasGrown old.norms new.norms (with_counts n new.fields)) count took.norms) ∙ ap (λ ds. Some (kept_norms schema analyzer ds)) whole;
-      store = weaker (HasStored schema all (many + 1)) (Stores schema all) new.store (λ w s. record { read = s.read ∙ ap (map (stored_document schema)) whole; count = s.taken ∙ sym more }) stored;
+      store = weaker (HasStored schema all (many + 1)) (Stores schema all) new.store (λ w s. record { read = s.read ∙ ap (map (stored_document schema)) whole; count = s.taken ∙ sym more; forms = s.forms ∙ ap (map (stored_form schema)) whole }) stored;
       stamped = took.stamps ∙ ap (λ l. l ++ stamp ∷ []) are.stamped;
       each = omega (arith, length-append stamps (stamp ∷ []), more, are.each);
+      occurrences = omega (arith, recorded, took_as, are.occurrences, total-last (occurrence_count schema analyzer) documents d);
     }
 
 -- ---- the parts of a writer
@@ -127,15 +147,15 @@ of_parts P o p is h = subst (λ x. IsSomeAnd (option_map kept_of x) P) is h
 pub to_parts : (P : Kept → Type 0) (o : Option WriterParts) (p : WriterParts) → o ≡ Some p → P (kept_of p) → IsSomeAnd (option_map kept_of o) P
 to_parts P o p is h = subst (λ x. IsSomeAnd (option_map kept_of x) P) (sym is) h
 
-module _ (schema : Schema) (analyzer : Analyzer) (entries : list_all is_built_entry schema ≡ true) (d : Document) (addable : is_addable schema analyzer d ≡ true) (utf8 : IsUtf8Document d) (stamp : ℕ) (parts : Option WriterParts) (p : WriterParts) (is : parts ≡ Some p) (place : HasPlace (kept_of p)) where
+module _ (schema : Schema) (analyzer : Analyzer) (entries : is_built_schema schema ≡ true) (d : Document) (taken : is_taken schema analyzer d ≡ true) (utf8 : IsUtf8Document d) (stamp : ℕ) (parts : Option WriterParts) (p : WriterParts) (is : parts ≡ Some p) (place : HasPlace (kept_of p)) where
   under : IfSome parts (λ p. IsUnderWay schema analyzer (kept_of p)) → IsUnderWay schema analyzer (kept_of p)
   under h = subst (λ x. IfSome x (λ p. IsUnderWay schema analyzer (kept_of p))) is h
 
   -- a writer under way can take one more document
   pub room_of : IfSome parts (λ p. IsUnderWay schema analyzer (kept_of p)) → HasRoom d (kept_of p)
-  room_of h = let u = under h in has_room schema analyzer entries u.documents d addable utf8 u.stamps stamp (kept_of p) u.are place
+  room_of h = let u = under h in has_room schema analyzer entries u.documents d taken utf8 u.stamps stamp (kept_of p) u.are place
 
-  module _ (texts : List FieldText) (texts_are : texts ≡ document_texts schema analyzer d) (new : WriterParts) (took : HasTaken schema d texts stamp (kept_of p) (kept_of new)) where
+  module _ (texts : List (ℕ × List Token)) (texts_are : texts ≡ document_texts schema analyzer d) (new : WriterParts) (took : HasTaken schema d texts stamp (kept_of p) (kept_of new)) where
     -- is under way behind it
     pub still_under_way : IfSome parts (λ p. IsUnderWay schema analyzer (kept_of p)) → IsUnderWay schema analyzer (kept_of new)
     still_under_way h =
@@ -143,13 +163,13 @@ module _ (schema : Schema) (analyzer : Analyzer) (entries : list_all is_built_en
         record {
           documents = u.documents ++ d ∷ [];
           stamps = u.stamps ++ stamp ∷ [];
-          are = one_more schema analyzer entries u.documents d addable utf8 u.stamps stamp (kept_of p) u.are place texts texts_are (kept_of new) took;
+          are = one_more schema analyzer entries u.documents d taken utf8 u.stamps stamp (kept_of p) u.are place texts texts_are (kept_of new) took;
         }
 
     -- and has added it
     pub adds : (id : ℕ) → Adds analyzer d stamp (record { schema = schema; id = id; kept = option_map kept_of parts }) (record { schema = schema; id = id; kept = Some (kept_of new) })
     adds id = record {
       place = to_parts HasPlace parts p is place;
-      addable = addable;
-      behind = λ documents stamps h. one_more schema analyzer entries documents d addable utf8 stamps stamp (kept_of p) (of_parts (IsKeptOf schema analyzer documents stamps) parts p is h) place texts texts_are (kept_of new) took;
+      taken = taken;
+      behind = λ documents stamps h. one_more schema analyzer entries documents d taken utf8 stamps stamp (kept_of p) (of_parts (IsKeptOf schema analyzer documents stamps) parts p is h) place texts texts_are (kept_of new) took;
     }

@@ -7,54 +7,62 @@ use Rattle.std.specs.Option.{option_map}
 use Rattle.std.proofs.lemmas.List.{length-map}
 use Rattle.seg_values.specs.declared.schema.FieldEntry.{FieldEntry}
 use Rattle.seg_values.specs.Tree.{Document}
-use Rattle.seg_model.specs.Built.{is_built_entry, are_built}
+use Rattle.seg_model.specs.Built.{is_taken}
 use Rattle.seg_model.specs.Fields.{Schema, Analyzer}
-use Rattle.seg_model.specs.Reading.{Posting, stored_document, all_terms}
+use Rattle.seg_model.specs.Reading.{stored_document}
 use Rattle.seg_store.specs.Block.{Block}
 use Rattle.seg_store.specs.Store.{store_of, documents_of}
 use Rattle.seg_store.specs.Writing.{Taken, all_blocks}
+use Rattle.seg_build.specs.Built.{is_built_schema, are_built}
+use Rattle.seg_build.specs.Entries.{TermEntries}
+use Rattle.seg_build.specs.FieldTerms.{FieldTerms, positional_terms, recorded_fields, fields_of}
 use Rattle.seg_build.specs.Kept.{Kept}
-use Rattle.seg_build.specs.SegmentWriting.{is_addable, Stores, IsKeptOf}
+use Rattle.seg_build.specs.SegmentWriting.{Stores, IsKeptOf}
 use Rattle.seg_build.specs.Steps.{fresh}
 use Rattle.seg_build.specs.StoredBatch.{IsStoredBatch}
-use Rattle.seg_build.specs.Writable.{CanBeWritten}
+use Rattle.seg_build.specs.Writable.{PositionsCanBeWritten}
 use Rattle.seg_build.specs.declared.field.FieldPostings.{FieldPostings}
 use Rattle.seg_build.specs.declared.fields.IndexedBatch.{IndexedBatch}
 use Rattle.seg_build.proofs.Fitting.{and_true}
+use Rattle.seg_build.proofs.RecordedTerms.{recorded_are_fields, length-recorded_fields}
 use Rattle.seg_build.proofs.Whole.{terms_of_all, length-with_documents}
 use Rattle.seg_build.proofs.WritableTerms.{built_terms_can_be_written}
 
--- the terms of fields, each in byte order
-abbrev pub listed : List FieldPostings → List (List (List ℕ × List Posting))
+-- the terms of fields, each in byte order with all its positions
+abbrev pub listed : List FieldPostings → List TermEntries
 listed fields = map (λ f. entries f.terms) fields
 
 read_from : (schema : Schema) (documents : List Document) (o : Option Taken) (file : Option (List Block)) → file ≡ option_map all_blocks o → IsSomeAnd o (Stores schema documents) → option_map documents_of file ≡ Some (map (stored_document schema) documents)
 read_from schema documents (Some w) file is so = ap (option_map documents_of) is ∙ ap Some so.read
 read_from schema documents None file is so = absurd so
 
-module _ (schema : Schema) (analyzer : Analyzer) (built : list_all is_built_entry schema ≡ true) (documents : List Document) (stamps : List ℕ) (kept : Kept) (are : IsKeptOf schema analyzer documents stamps kept) where
+module _ (schema : Schema) (analyzer : Analyzer) (built : is_built_schema schema ≡ true) (documents : List Document) (stamps : List ℕ) (kept : Kept) (are : IsKeptOf schema analyzer documents stamps kept) where
   are_all_built : are_built schema analyzer documents ≡ true
-  are_all_built = and_true (list_all is_built_entry schema) (list_all (is_addable schema analyzer) documents) built are.addable
+  are_all_built = and_true (is_built_schema schema) (list_all (is_taken schema analyzer) documents) built are.taken
 
-  terms : listed kept.fields ≡ map entries (all_terms schema analyzer documents)
+  terms : listed kept.fields ≡ map entries (positional_terms schema analyzer documents)
   terms = ap listed are.fields ∙ terms_of_all schema analyzer built documents
 
-  pub are_writable : AllByRecursion CanBeWritten (listed kept.fields)
-  are_writable = subst (AllByRecursion CanBeWritten) (sym terms) (built_terms_can_be_written schema analyzer documents are_all_built are.few)
+  pub are_writable : AllByRecursion PositionsCanBeWritten (listed kept.fields)
+  are_writable = subst (AllByRecursion PositionsCanBeWritten) (sym terms) (built_terms_can_be_written schema analyzer documents are_all_built are.few)
 
-  pub as_many_fields : length (listed kept.fields) ≡ length schema
-  as_many_fields =
-      length-map kept.fields (λ (f : FieldPostings). entries f.terms)
-      ∙ ap length are.fields ∙ length-with_documents schema analyzer 0 (map (λ (e : FieldEntry). fresh) schema) documents ∙ length-map schema (λ (e : FieldEntry). fresh)
+  pub as_many_fields : length kept.fields ≡ length schema
+  as_many_fields = ap length are.fields ∙ length-with_documents schema analyzer 0 (map (λ (e : FieldEntry). fresh) schema) documents ∙ length-map schema (λ (e : FieldEntry). fresh)
+
+  pub as_many_recorded : (fields : List FieldTerms) → fields ≡ recorded_fields schema (listed kept.fields) → length fields ≡ length schema
+  as_many_recorded fields is = ap length is ∙ length-recorded_fields schema (listed kept.fields) (length-map kept.fields (λ (f : FieldPostings). entries f.terms) ∙ as_many_fields)
+
+  pub are_fields : (fields : List FieldTerms) → fields ≡ recorded_fields schema (listed kept.fields) → fields ≡ fields_of schema analyzer documents
+  are_fields fields is = is ∙ ap (recorded_fields schema) terms ∙ recorded_are_fields schema analyzer documents built
 
   pub few_stamps : length kept.stamps < 2 ^ 31
   few_stamps = subst (λ n. n < 2 ^ 31) (sym (ap length are.stamped ∙ are.each)) are.few
 
-  pub is_stored_batch : (batch : IndexedBatch) (count : ℕ) (store : List ℕ) → batch.fields ≡ listed kept.fields → batch.norms ≡ kept.norms → count ≡ length kept.stamps → store_of store ≡ option_map all_blocks kept.store → IsStoredBatch schema analyzer documents batch count store
+  pub is_stored_batch : (batch : IndexedBatch) (count : ℕ) (store : List ℕ) → batch.fields ≡ recorded_fields schema (listed kept.fields) → batch.norms ≡ kept.norms → count ≡ length kept.stamps → store_of store ≡ option_map all_blocks kept.store → IsStoredBatch schema analyzer documents batch count store
   is_stored_batch batch count store fields norms many file = record {
     built = are_all_built;
     utf8 = are.utf8;
-    indexed = record { fields = fields ∙ terms; norms = norms ∙ are.norms };
+    indexed = record { fields = are_fields batch.fields fields; norms = norms ∙ are.norms };
     counted = many ∙ ap length are.stamped ∙ are.each;
     stored = read_from schema documents kept.store (store_of store) file are.store;
   }

@@ -1,13 +1,15 @@
 -- Documents have no columns where no field is fast.
 use Rattle.std.proofs.Common.{◌≡◌, ℕ, ◌+◌, Bool, true, false, cond, List, [], ◌∷◌, ◌++◌, map, Some, refl, ap, ◌∙◌}
-use Rattle.std.specs.Prelude.{not}
+use Rattle.std.specs.Prelude.{not, ◌&&◌}
 use Rattle.std.specs.FinMap.{empty}
 use Rattle.std.specs.List.{list_all, flat_map, enumerate_from}
 use Rattle.std.proofs.lemmas.Bool.{false≢true}
 use Rattle.seg_values.specs.Tree.{Document}
 use Rattle.seg_model.specs.Fields.{Schema, Analyzer, values_of}
 use Rattle.seg_model.specs.Columns.{values_at, kind_fast_values, field_fast_values, fast_values, declared_type, column_named, declared_columns, value_keys, columns_from, columns}
-use Rattle.seg_build.proofs.BuiltEntries.{both_true}
+use Rattle.seg_values.specs.declared.schema.FieldEntry.{FieldEntry}
+use Rattle.seg_build.specs.Built.{is_built_entry, is_built_schema}
+use Rattle.seg_build.proofs.BuiltEntries.{both_true, not_fast}
 
 is_off : (b : Bool) → not b ≡ true → b ≡ false
 is_off false h = refl
@@ -35,3 +37,13 @@ module _ (analyzer : Analyzer) where
     pub no_columns : (ds : List Document) → columns schema analyzer ds ≡ Some empty
     no_columns ds = ap (columns_from (declared_columns schema) (λ key. map (values_at key) (map (fast_values schema analyzer) ds)))
         (ap (λ keys. keys ++ flat_map (flat_map value_keys) (map (fast_values schema analyzer) ds)) (none_declared schema off) ∙ no_keys ds)
+
+all_off : (schema : Schema) → is_built_schema schema ≡ true → list_all (λ e. not e.fast) schema ≡ true
+all_off [] h = refl
+all_off (e ∷ es) h =
+    let two = both_true (is_built_entry e) (list_all is_built_entry es) h in
+    ap (λ b. not b && list_all (λ (x : FieldEntry). not x.fast) es) (not_fast e two.0) ∙ all_off es two.1
+
+-- of a schema that is built
+pub built_schemas_have_no_columns : (schema : Schema) (analyzer : Analyzer) (documents : List Document) → is_built_schema schema ≡ true → columns schema analyzer documents ≡ Some empty
+built_schemas_have_no_columns schema analyzer documents built = no_columns analyzer schema (all_off schema built) documents

@@ -1,5 +1,5 @@
 -- One field of a schema while the values of a document come.
-use Rattle.std.proofs.Common.{◌≡◌, ◌≢◌, ℕ, zero, suc, ◌+◌, ◌<◌, ◌≤◌, ◌^◌, true, false, cond, List, [], ◌∷◌, map, Some, None, Option, length, set, sym, refl, ap, ◌∙◌, subst, arith, inl, inr, ◌⊎◌, eq-eqb}
+use Rattle.std.proofs.Common.{◌≡◌, ◌≢◌, ℕ, zero, suc, ◌+◌, ◌≤◌, true, false, cond, List, [], ◌∷◌, map, Some, None, Option, length, set, sym, refl, ap, ◌∙◌, arith, inl, inr, ◌⊎◌, eq-eqb}
 use Rattle.std.specs.Prelude.{filter, nat_eq, is_some}
 use Rattle.std.specs.List.{slice_get}
 use Rattle.std.proofs.lemmas.Bool.{false≢true}
@@ -8,7 +8,6 @@ use Rattle.seg_values.specs.declared.token.Token.{Token}
 use Rattle.seg_values.specs.declared.schema.FieldEntry.{FieldEntry}
 use Rattle.seg_values.specs.Tree.{Tree, Document}
 use Rattle.seg_model.specs.Fields.{Schema, Analyzer, indexing_tokenizer, values_of}
-use Rattle.seg_model.specs.Checked.{count_of}
 use Rattle.seg_model.specs.Occurrences.{counted, start_after, start_after_all, value_tokens, placed_from, text_occurrences}
 use Rattle.seg_build.specs.Adding.{with_occurrences}
 use Rattle.seg_build.specs.Field.{start_in, count_in, added}
@@ -57,23 +56,6 @@ terms-added_all id field (v ∷ vs) =
 pub document-added_all : (id : ℕ) (field : FieldPostings) (vs : List (List Token)) → field.document ≤ id → (added_all id field vs).document ≤ id
 document-added_all id field [] le = le
 document-added_all id field (v ∷ vs) le = document-added_all id (added id field v) vs (omega arith)
-
--- where the next text begins, and the number of tokens, are u32s behind some texts more
-pub record Bounded (id : ℕ) (field : FieldPostings) (vs : List (List Token)) : Type 0 where
-  pub start : start_after_all (start_in id field) vs < 2 ^ 32
-  pub count : count_in id field + count_of vs < 2 ^ 32
-
-pub bounded_before : (id : ℕ) (field : FieldPostings) (v : List Token) (vs : List (List Token)) → Bounded id (added id field v) vs → Bounded id field (v ∷ vs)
-bounded_before id field v vs h = record {
-  start = subst (λ s. start_after_all s vs < 2 ^ 32) (start_in-added id field v) h.start;
-  count = omega (arith, h.count, count_in-added id field v);
-}
-
-pub bounded_after : (id : ℕ) (field : FieldPostings) (v : List Token) (vs : List (List Token)) → Bounded id field (v ∷ vs) → Bounded id (added id field v) vs
-bounded_after id field v vs h = record {
-  start = subst (λ s. start_after_all s vs < 2 ^ 32) (sym (start_in-added id field v)) h.start;
-  count = omega (arith, h.count, count_in-added id field v);
-}
 
 pub start_after-ge : (start : ℕ) (v : List Token) → start + 1 ≤ start_after start v
 start_after-ge start v = omega (arith, reach-ge start (counted v))

@@ -1,48 +1,54 @@
 -- Files that spell what was indexed stand for its documents.
-use Rattle.std.proofs.Common.{◌≡◌, ℕ, true, List, map, length, Some, Result, Ok, Err, refl, ap, ◌∙◌}
-use Rattle.std.specs.Prelude.{Vec, not, IfOk}
+use Rattle.std.proofs.Common.{◌≡◌, true, List, [], ◌∷◌, map, length, Some, refl, sym, ap, ◌∙◌, subst}
+use Rattle.std.specs.Prelude.{◌&&◌, ◌||◌, not}
 use Rattle.std.specs.FinMap.{empty}
 use Rattle.std.specs.List.{list_all, AllByRecursion}
 use Rattle.std.specs.Option.{option_map}
-use Rattle.std.specs.declared.alloc.Global.{Global}
-use Rattle.std.specs.declared.alloc.AllocError.{AllocError}
 use Rattle.seg_columnar.specs.Columnar.{rows_of}
-use Rattle.seg_model.specs.Reading.{stored_document}
 use Rattle.seg_store.specs.Store.{store_of, documents_of}
+use Rattle.seg_values.specs.declared.schema.FieldEntry.{FieldEntry}
 use Rattle.seg_values.specs.Tree.{Document}
 use Rattle.seg_values.specs.Utf8.{IsUtf8Document}
-use Rattle.seg_model.specs.Built.{are_built}
 use Rattle.seg_model.specs.Contents.{reading_with, full_reading}
-use Rattle.seg_model.specs.Fields.{Schema, Analyzer}
-use Rattle.seg_model.specs.IndexOfFiles as index
-use Rattle.seg_model.specs.Reading.{all_terms}
+use Rattle.seg_model.specs.Fields.{Schema, Analyzer, is_text, is_indexed}
+use Rattle.seg_model.specs.Reading.{Terms, stored_document, all_terms}
 use Rattle.seg_model.proofs.ShapedReading.{readings_have_full_shape}
-use Rattle.seg_directory.specs.Files.{NamedFiles}
 use Rattle.seg_build.specs.declared.fields.IndexedBatch.{IndexedBatch}
 use Rattle.seg_build.specs.declared.segment_files.SegmentBytes.{SegmentBytes}
 use Rattle.seg_build.specs.Batch.{IsBatchOf}
-use Rattle.seg_build.specs.Forms.{segment_forms}
-use Rattle.seg_build.specs.Holds.{Holds}
-use Rattle.seg_build.specs.SegmentBytes.{SpellsTerms, SpellsNorms, SpellsStored, SpellsRows}
-use Rattle.seg_build.specs.SegmentFiles.{HasFiles}
+use Rattle.seg_build.specs.Built.{is_built_entry, is_built_schema, are_built}
+use Rattle.seg_build.specs.FieldTerms.{FieldTerms}
+use Rattle.seg_build.specs.Filling.{AreFieldsOf, HoldsNorms}
+use Rattle.seg_build.specs.Holds.{HoldTerms}
 use Rattle.seg_build.specs.Standing.{StandFor}
+use Rattle.seg_build.proofs.BuiltEntries.{both_true}
 use Rattle.seg_build.proofs.NoColumns.{no_columns}
+use Rattle.seg_build.proofs.RecordedTerms.{fields_have_terms}
 use Rattle.seg_build.proofs.Sound.{built_are_sound}
+
+-- no field that is built is fast
+none_fast : (schema : Schema) → is_built_schema schema ≡ true → list_all (λ e. not e.fast) schema ≡ true
+none_fast [] h = refl
+none_fast (e ∷ es) h =
+    let two = both_true (is_built_entry e) (list_all is_built_entry es) h in
+    ap (λ b. b && list_all (λ (x : FieldEntry). not x.fast) es) (both_true (not e.fast) (is_text e.kind || not (is_indexed e)) two.0).0 ∙ none_fast es two.1
 
 -- bytes that spell a batch, and documents
 pub record Spells (schema : Schema) (batch : IndexedBatch) (documents : List Document) (bytes : SegmentBytes) : Type 0 where
-  pub terms : SpellsTerms schema batch bytes
-  pub norms : SpellsNorms schema batch bytes
-  pub stored : SpellsStored schema documents bytes
-  pub rows : SpellsRows documents bytes
+  pub terms : (held : List Terms) → AreFieldsOf schema batch.fields held → HoldTerms schema bytes.terms.items bytes.postings.items bytes.positions.items held
+  pub norms : HoldsNorms schema batch bytes.norms.items
+  pub stored : option_map documents_of (store_of bytes.store.items) ≡ Some (map (stored_document schema) documents)
+  pub rows : rows_of bytes.fast.items ≡ Some (length documents)
 
-module _ (schema : Schema) (analyzer : Analyzer) (documents : List Document) (off : list_all (λ e. not e.fast) schema ≡ true) where
+module _ (schema : Schema) (analyzer : Analyzer) (documents : List Document) (built : are_built schema analyzer documents ≡ true) (utf8 : AllByRecursion IsUtf8Document documents) where
   read : full_reading schema analyzer documents ≡ Some (reading_with schema analyzer documents empty)
-  read = ap (option_map (reading_with schema analyzer documents)) (no_columns analyzer schema off documents)
+  read = ap (option_map (reading_with schema analyzer documents)) (no_columns analyzer schema (none_fast schema (both_true (is_built_schema schema) _ built).0) documents)
 
-  module _ (built : are_built schema analyzer documents ≡ true) (utf8 : AllByRecursion IsUtf8Document documents) where
-    holds : (batch : IndexedBatch) (bytes : SegmentBytes) (id : ℕ) (files : NamedFiles) → IsBatchOf schema analyzer documents batch → Spells schema batch documents bytes → HasFiles id bytes files → Holds files id schema (reading_with schema analyzer documents empty)
-    holds batch bytes id files is spells has = record {
+  pub stands : (batch : IndexedBatch) (bytes : SegmentBytes) → IsBatchOf schema analyzer documents batch → Spells schema batch documents bytes → StandFor schema analyzer documents bytes
+  stands batch bytes is spells files id has = record {
+    contents = reading_with schema analyzer documents empty;
+    read = read;
+    held = record {
       terms = bytes.terms.items;
       postings = bytes.postings.items;
       positions = bytes.positions.items;
@@ -55,32 +61,11 @@ module _ (schema : Schema) (analyzer : Analyzer) (documents : List Document) (of
       norm_file = has.norm_file;
       store_file = has.store_file;
       fast_file = has.fast_file;
-      hold_terms = spells.terms (all_terms schema analyzer documents) is.fields;
+      hold_terms = spells.terms (all_terms schema analyzer documents) (subst (λ (fs : List FieldTerms). AreFieldsOf schema fs (all_terms schema analyzer documents)) (sym is.fields) (fields_have_terms schema analyzer documents));
       norm_parts = spells.norms analyzer documents is.norms;
       stored = spells.stored;
       rows = spells.rows;
       no_columns = refl;
       shape = readings_have_full_shape schema analyzer documents _ (built_are_sound schema analyzer documents built utf8) read;
-    }
-
-    pub stands : (batch : IndexedBatch) (bytes : SegmentBytes) (id : ℕ) (files : NamedFiles) → IsBatchOf schema analyzer documents batch → Spells schema batch documents bytes → HasFiles id bytes files → index.StandsFor segment_forms files schema analyzer id documents
-    stands batch bytes id files is spells has = record {
-      contents = reading_with schema analyzer documents empty;
-      read = read;
-      held = holds batch bytes id files is spells has;
-    }
-
-  -- bytes that were made of a batch and of a store of its documents stand for them
-  pub made_stand : (utf8 : AllByRecursion IsUtf8Document documents) (batch : IndexedBatch) (store : Vec ℕ Global) (count : ℕ) (made : Result SegmentBytes AllocError) → option_map documents_of (store_of store.items) ≡ Some (map (stored_document schema) documents) → count ≡ length documents → IfOk made (SpellsTerms schema batch) → IfOk made (SpellsNorms schema batch) → IfOk made (λ bytes. bytes.store ≡ store) → IfOk made (λ bytes. rows_of bytes.fast.items ≡ Some count) → IfOk made (λ bytes. are_built schema analyzer documents ≡ true → IsBatchOf schema analyzer documents batch → StandFor schema analyzer documents bytes)
-  made_stand utf8 batch store count (Ok bytes) stored counted terms norms same rows = λ built is files id has. stands built utf8 batch bytes id files is (record {
-    terms = terms;
-    norms = norms;
-    stored = ap (λ (s : Vec ℕ Global). option_map documents_of (store_of s.items)) same ∙ stored;
-    rows = rows ∙ ap Some counted;
-  }) has
-  made_stand utf8 batch store count (Err e) stored counted terms norms same rows = tt
-
--- whoever analyzes
-pub any_analyzer : (schema : Schema) (documents : List Document) (batch : IndexedBatch) (made : Result SegmentBytes AllocError) → ((analyzer : Analyzer) → IfOk made (λ bytes. are_built schema analyzer documents ≡ true → IsBatchOf schema analyzer documents batch → StandFor schema analyzer documents bytes)) → IfOk made (λ bytes. (analyzer : Analyzer) → are_built schema analyzer documents ≡ true → IsBatchOf schema analyzer documents batch → StandFor schema analyzer documents bytes)
-any_analyzer schema documents batch (Ok bytes) all = all
-any_analyzer schema documents batch (Err e) all = tt
+    };
+  }

@@ -4,6 +4,9 @@ use Rattle.std.specs.Prelude.{◌==◌, is_some}
 use Rattle.std.specs.List.{fold, slice_get, AllByRecursion}
 use Rattle.std.proofs.lemmas.Bool.{false≢true}
 use Rattle.seg_model.specs.Reading.{Recorded, presence, frequency, positions, Posting}
+use Rattle.seg_postings.specs.declared.record_kind.RecordKind.{RecordKind}
+use Rattle.seg_postings.specs.declared.record_kind.RecordKind.TheVariants.{Documents, Counts, Positions}
+use Rattle.seg_build.specs.FieldTerms.{kept_as, postings_as}
 use Rattle.seg_build.specs.declared.hits.Hit.{Hit}
 use Rattle.seg_build.specs.Grouped.{from_position, joined, grouped}
 use Rattle.seg_build.specs.TokenTotal.{recorded_count, count_total}
@@ -53,9 +56,48 @@ grouped_has [] = tt
 grouped_has (h ∷ hs) = joined_has h (grouped hs) (grouped_has hs)
 
 -- each hit counts
-pub hits_count : (hs : List Hit) → count_total (grouped hs) ≡ length hs
+hits_count : (hs : List Hit) → count_total (grouped hs) ≡ length hs
 hits_count [] = refl
 hits_count (h ∷ hs) = joined_count 0 h (grouped hs) (grouped_has hs) ∙ ap suc (hits_count hs)
+
+-- ---- as a kind keeps them
+
+counts_kept : (kind : RecordKind) → ((r : Recorded) → recorded_count (kept_as kind r) ≡ recorded_count r) → (a : ℕ) (ps : List Posting) → fold and_count a (postings_as kind ps) ≡ fold and_count a ps
+counts_kept kind same a [] = refl
+counts_kept kind same a (p ∷ ps) = ap (λ n. fold and_count (a + n) (postings_as kind ps)) (same p.recorded) ∙ counts_kept kind same (a + recorded_count p.recorded) ps
+
+same_count : (r : Recorded) → recorded_count (kept_as Counts r) ≡ recorded_count r
+same_count presence = refl
+same_count (frequency n) = refl
+same_count (positions ps) = refl
+
+-- where counts are kept, each hit counts
+pub hits_counted : (hs : List Hit) → count_total (postings_as Counts (grouped hs)) ≡ length hs
+hits_counted hs = counts_kept Counts same_count 0 (grouped hs) ∙ hits_count hs
+
+pub hits_placed : (hs : List Hit) → count_total (postings_as Positions (grouped hs)) ≡ length hs
+hits_placed hs = counts_kept Positions (λ r. refl) 0 (grouped hs) ∙ hits_count hs
+
+documents_from : (a : ℕ) (ps : List Posting) → fold and_count a (postings_as Documents ps) ≡ a + length ps
+documents_from a [] = omega arith
+documents_from a (p ∷ ps) = let rest = documents_from (a + 1) ps in omega (arith, rest)
+
+-- where documents alone are kept, each posting counts
+pub documents_count : (ps : List Posting) → count_total (postings_as Documents ps) ≡ length ps
+documents_count ps = documents_from 0 ps ∙ (let z : 0 + length ps ≡ length ps = omega arith in z)
+
+joined_few : (h : Hit) (ps : List Posting) → length (joined h ps) ≤ suc (length ps)
+joined_few h [] = omega arith
+joined_few h (p ∷ ps) =
+    elim (h.document == p.document) as (λ b. length (cond b (record { document = h.document; recorded = from_position h.position p.recorded } ∷ ps) (record { document = h.document; recorded = positions (h.position ∷ []) } ∷ p ∷ ps)) ≤ suc (suc (length ps))) [
+      | true ↦ omega arith
+      | false ↦ omega arith
+    ]
+
+-- postings are no more than the hits
+pub grouped_few : (hs : List Hit) → length (grouped hs) ≤ length hs
+grouped_few [] = omega arith
+grouped_few (h ∷ hs) = let one = joined_few h (grouped hs) in let rest = grouped_few hs in omega (arith, one, rest)
 
 -- ---- all terms
 
@@ -68,12 +110,12 @@ drop-at (y ∷ ys) zero x at = ap (λ z. z ∷ ys) (some_same y x at)
 drop-at (y ∷ ys) (suc i) x at = drop-at ys i x at
 
 -- one term more
-pub total_more : (total : ℕ) (terms : List (List Posting)) (i : ℕ) (hs : List Hit) → slice_get terms i ≡ Some (grouped hs) → fold and_total (total + length hs) (drop (i + 1) terms) ≡ fold and_total total (drop i terms)
-total_more total terms i hs at =
+pub total_more : (total n : ℕ) (terms : List (List Posting)) (i : ℕ) (ps : List Posting) → slice_get terms i ≡ Some ps → n ≡ count_total ps → fold and_total (total + n) (drop (i + 1) terms) ≡ fold and_total total (drop i terms)
+total_more total n terms i ps at many =
     let next : i + 1 ≡ suc i = omega arith in
-    ap (λ n. fold and_total (total + length hs) (drop n terms)) next
-    ∙ ap (λ n. fold and_total (total + n) (drop (suc i) terms)) (sym (hits_count hs))
-    ∙ sym (ap (fold and_total total) (drop-at terms i (grouped hs) at))
+    ap (λ m. fold and_total (total + n) (drop m terms)) next
+    ∙ ap (λ m. fold and_total (total + m) (drop (suc i) terms)) many
+    ∙ sym (ap (fold and_total total) (drop-at terms i ps at))
 
 -- a sum is no less than what it begins with
 pub total-ge : (total : ℕ) (terms : List (List Posting)) → total ≤ fold and_total total terms

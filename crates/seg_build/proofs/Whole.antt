@@ -1,8 +1,7 @@
 -- What all documents give.
-use Rattle.std.proofs.Common.{◌≡◌, ℕ, suc, ◌+◌, ◌≤◌, true, cond, List, [], ◌∷◌, ◌++◌, map, Some, None, Option, length, sym, refl, ap, ◌∙◌, subst, arith, append_assoc, append-nil, length-append}
-use Rattle.std.specs.Prelude.{◌&&◌}
+use Rattle.std.proofs.Common.{◌≡◌, ℕ, suc, ◌+◌, ◌≤◌, true, false, cond, List, [], ◌∷◌, ◌++◌, map, Some, None, Option, length, sym, refl, ap, ◌∙◌, subst, arith, append_assoc, append-nil, length-append, inl, inr}
 use Rattle.std.specs.FinMap as fin
-use Rattle.std.specs.List.{slice_get, list_all, enumerate_from}
+use Rattle.std.specs.List.{slice_get, flat_map, enumerate_from}
 use Rattle.std.specs.Option.{option_map}
 use Rattle.std.proofs.lemmas.Bool.Decides.{nat_tests}
 use Rattle.std.proofs.lemmas.List.{length-map, map-append}
@@ -11,17 +10,19 @@ use Rattle.std.proofs.Math.ListN.{length-set}
 use Rattle.seg_values.specs.declared.token.Token.{Token}
 use Rattle.seg_values.specs.declared.schema.FieldEntry.{FieldEntry}
 use Rattle.seg_values.specs.Tree.{Document}
-use Rattle.seg_model.specs.Built.{is_built_entry, is_built_document, is_taken, are_built}
-use Rattle.seg_model.specs.Fields.{Schema, Analyzer, indexing_tokenizer, values_of}
-use Rattle.seg_model.specs.Occurrences.{Occurrence, text_occurrences, kind_occurrences, occurrences_at, occurrences}
-use Rattle.seg_model.specs.Reading.{Terms, terms_of, field_terms, all_terms}
+use Rattle.seg_model.specs.Fields.{Schema, Analyzer, is_indexed, indexing_tokenizer, values_of}
+use Rattle.seg_model.specs.Occurrences.{Occurrence, value_tokens, text_occurrences, kind_occurrences, occurrences_at, occurrences}
+use Rattle.seg_model.specs.Reading.{Terms, postings_of, if_any, terms_of}
+use Rattle.seg_model.specs.Tables.{tabulated}
 use Rattle.seg_build.specs.Adding.{with_occurrences}
-use Rattle.seg_build.specs.Steps.{fresh, tokens_at, added_at, with_pair, with_pairs, document_fits, with_documents, documents_fit}
+use Rattle.seg_build.specs.Built.{is_built_schema}
+use Rattle.seg_build.specs.Field.{start_in, count_in}
+use Rattle.seg_build.specs.FieldTerms.{positional, positional_terms}
+use Rattle.seg_build.specs.Steps.{fresh, tokens_at, added_at, with_pair, with_pairs, with_documents, indexed_part}
 use Rattle.seg_build.specs.declared.field.FieldPostings.{FieldPostings}
 use Rattle.seg_build.proofs.BuiltEntries.{IsTextEntry, text_entry_at}
-use Rattle.seg_build.proofs.Checks.{IsFresh, document_fits-taken}
-use Rattle.seg_build.proofs.Fitting.{is_on-text}
 use Rattle.seg_build.proofs.Growing.{terms_of-push}
+use Rattle.seg_build.proofs.IndexedParts.{either, values_kept, values_dropped}
 use Rattle.seg_build.proofs.Places.{some_same, texts_of, added_all, terms-added_all, document-added_all, field_after}
 
 -- ---- as many fields as before
@@ -37,36 +38,83 @@ module _ (schema : Schema) (analyzer : Analyzer) where
 
   pub length-with_documents : (first : ℕ) (fields : List FieldPostings) (ds : List Document) → length (with_documents schema analyzer first fields ds) ≡ length fields
   length-with_documents first fields [] = refl
-  length-with_documents first fields (d ∷ ds) = length-with_documents (first + 1) (with_pairs schema analyzer first fields d) ds ∙ length-with_pairs first fields d
+  length-with_documents first fields (d ∷ ds) = length-with_documents (first + 1) (with_pairs schema analyzer first fields (indexed_part schema d)) ds ∙ length-with_pairs first fields (indexed_part schema d)
 
-module _ (schema : Schema) (analyzer : Analyzer) (entries : list_all is_built_entry schema ≡ true) where
-  pub occurrences-text : (k : ℕ) (e : FieldEntry) (ps : Document) → slice_get schema k ≡ Some e → IsTextEntry e → occurrences schema analyzer ps k ≡ text_occurrences 0 (texts_of analyzer e k ps)
-  occurrences-text k e ps at built =
-      ap (occurrences_at analyzer ps k) at
-      ∙ ap (λ b. cond b (kind_occurrences e.kind e.expand_dots (analyzer (indexing_tokenizer e)) (values_of k ps)) []) (is_on-text e built)
-      ∙ ap (λ kind. kind_occurrences kind e.expand_dots (analyzer (indexing_tokenizer e)) (values_of k ps)) built.kind
+-- ---- the terms of one field
 
-  fresh_next : (id : ℕ) (field : FieldPostings) → field.document ≤ id → IsFresh schema analyzer entries (id + 1) field
-  fresh_next id field le = record { start = grind (arith, nat_tests); count = grind (arith, nat_tests) }
+-- a field at the beginning of a document
+pub record IsFresh (id : ℕ) (field : FieldPostings) : Type 0 where
+  pub start : start_in id field ≡ 0
+  pub count : count_in id field ≡ 0
 
+fresh_next : (id : ℕ) (field : FieldPostings) → field.document ≤ id → IsFresh (id + 1) field
+fresh_next id field le = record { start = grind (arith, nat_tests); count = grind (arith, nat_tests) }
+
+module _ (e : FieldEntry) where
+  no_keys : (ds : List Document) (occurred : Document → List Occurrence) → ((d : Document) → occurred d ≡ []) → flat_map (map (λ (o : Occurrence). o.bytes)) (map occurred ds) ≡ []
+  no_keys [] occurred none = refl
+  no_keys (d ∷ ds) occurred none = ap (λ os. map (λ (o : Occurrence). o.bytes) os ++ flat_map (map (λ (o : Occurrence). o.bytes)) (map occurred ds)) (none d) ∙ no_keys ds occurred none
+
+  -- of documents in which nothing occurs there are no terms
+  pub no_terms : (ds : List Document) (occurred : Document → List Occurrence) → ((d : Document) → occurred d ≡ []) → terms_of e (map occurred ds) ≡ fin.empty
+  no_terms ds occurred none = ap (tabulated (λ term. if_any (postings_of e term (map occurred ds)))) (no_keys ds occurred none)
+
+module _ (schema : Schema) (analyzer : Analyzer) (k : ℕ) (e : FieldEntry) (at_e : slice_get schema k ≡ Some e) where
+  abbrev occurred : Document → List Occurrence
+  occurred d = occurrences schema analyzer d k
+
+  -- the texts of what is indexed
+  abbrev indexed_texts : Document → List (List Token)
+  indexed_texts ps = texts_of analyzer e k (indexed_part schema ps)
+
+  pub occurrences-text : (ps : Document) → IsTextEntry e → occurrences schema analyzer ps k ≡ text_occurrences 0 (texts_of analyzer e k ps)
+  occurrences-text ps text =
+      ap (occurrences_at analyzer ps k) at_e
+      ∙ ap (λ b. cond b (kind_occurrences e.kind e.expand_dots (analyzer (indexing_tokenizer e)) (values_of k ps)) []) text.indexed
+      ∙ ap (λ kind. kind_occurrences kind e.expand_dots (analyzer (indexing_tokenizer e)) (values_of k ps)) text.kind
+
+  pub occurrences-unindexed : (ps : Document) → is_indexed e ≡ false → occurrences schema analyzer ps k ≡ []
+  occurrences-unindexed ps off = ap (occurrences_at analyzer ps k) at_e ∙ ap (λ b. cond b (kind_occurrences e.kind e.expand_dots (analyzer (indexing_tokenizer e)) (values_of k ps)) []) off
+
+  module _ (entries : is_built_schema schema ≡ true) (ds : List Document) (ps : Document) where
+    abbrev before : Terms
+    before = terms_of (positional e) (map occurred ds)
+
+    -- one more document
+    terms_turn : with_occurrences before (length (map occurred ds)) (text_occurrences 0 (indexed_texts ps)) ≡ terms_of (positional e) (map occurred (ds ++ ps ∷ []))
+    terms_turn = elim (either (is_indexed e)) [
+      | inl on ↦
+          let text = text_entry_at schema k e entries at_e on in
+          let same : text_occurrences 0 (indexed_texts ps) ≡ occurred ps = ap (λ vs. text_occurrences 0 (map (value_tokens (analyzer (indexing_tokenizer e))) vs)) (values_kept schema k e at_e ps on) ∙ sym (occurrences-text ps text) in
+          ap (with_occurrences before (length (map occurred ds))) same
+          ∙ terms_of-push (positional e) (record { kind = text.kind; index = refl }) (map occurred ds) (occurred ps)
+          ∙ ap (terms_of (positional e)) (sym (map-append occurred ds (ps ∷ [])))
+      | inr off ↦
+          let nothing : (d : Document) → occurred d ≡ [] = λ d. occurrences-unindexed d off in
+          ap (λ vs. with_occurrences before (length (map occurred ds)) (text_occurrences 0 (map (value_tokens (analyzer (indexing_tokenizer e))) vs))) (values_dropped schema k e at_e ps off)
+          ∙ no_terms (positional e) ds occurred nothing
+          ∙ sym (no_terms (positional e) (ds ++ ps ∷ []) occurred nothing)
+    ]
+
+module _ (schema : Schema) (analyzer : Analyzer) (entries : is_built_schema schema ≡ true) where
   -- a field of the schema has the terms of some documents, and is at the beginning of the next
   pub record HasTerms (before : List Document) (fields : List FieldPostings) (k : ℕ) (e : FieldEntry) : Type 0 where
     pub field : FieldPostings
     pub at : slice_get fields k ≡ Some field
-    pub terms : field.terms ≡ terms_of e (map (λ d. occurrences schema analyzer d k) before)
-    pub new : IsFresh schema analyzer entries (length before) field
+    pub terms : field.terms ≡ terms_of (positional e) (map (λ d. occurrences schema analyzer d k) before)
+    pub new : IsFresh (length before) field
     pub past : field.document ≤ length before
 
   abbrev pub AllHaveTerms : List Document → List FieldPostings → Type 0
   AllHaveTerms before fields = (k : ℕ) (e : FieldEntry) → slice_get schema k ≡ Some e → HasTerms before fields k e
 
   -- one more document
-  one_more : (before : List Document) (fields : List FieldPostings) (ps : Document) → AllHaveTerms before fields → AllHaveTerms (before ++ ps ∷ []) (with_pairs schema analyzer (length before) fields ps)
+  one_more : (before : List Document) (fields : List FieldPostings) (ps : Document) → AllHaveTerms before fields → AllHaveTerms (before ++ ps ∷ []) (with_pairs schema analyzer (length before) fields (indexed_part schema ps))
   one_more before fields ps all k e at_e =
       let has = all k e at_e in
       let id = length before in
-      let vs = texts_of analyzer e k ps in
-      let built = text_entry_at schema k e entries at_e in
+      let qs = indexed_part schema ps in
+      let vs = texts_of analyzer e k qs in
       let after = added_all id has.field vs in
       let occurred : Document → List Occurrence = λ d. occurrences schema analyzer d k in
       let many : length (map occurred before) ≡ id = length-map before occurred in
@@ -74,15 +122,13 @@ module _ (schema : Schema) (analyzer : Analyzer) (entries : list_all is_built_en
       let past = document-added_all id has.field vs has.past in
       record {
         field = after;
-        at = field_after schema analyzer id k e at_e fields has.field ps has.at;
+        at = field_after schema analyzer id k e at_e fields has.field qs has.at;
         terms = terms-added_all id has.field vs
             ∙ ap (λ s. with_occurrences has.field.terms id (text_occurrences s vs)) has.new.start
             ∙ ap (λ t. with_occurrences t id (text_occurrences 0 vs)) has.terms
-            ∙ ap (λ n. with_occurrences (terms_of e (map occurred before)) n (text_occurrences 0 vs)) (sym many)
-            ∙ ap (with_occurrences (terms_of e (map occurred before)) (length (map occurred before))) (sym (occurrences-text k e ps at_e built))
-            ∙ terms_of-push e built (map occurred before) (occurred ps)
-            ∙ ap (terms_of e) (sym (map-append occurred before (ps ∷ [])));
-        new = subst (λ n. IsFresh schema analyzer entries n after) (sym next) (fresh_next id after past);
+            ∙ ap (λ n. with_occurrences (terms_of (positional e) (map occurred before)) n (text_occurrences 0 vs)) (sym many)
+            ∙ terms_turn schema analyzer k e at_e entries before ps;
+        new = subst (λ n. IsFresh n after) (sym next) (fresh_next id after past);
         past = omega (arith, past, next);
       }
 
@@ -90,19 +136,10 @@ module _ (schema : Schema) (analyzer : Analyzer) (entries : list_all is_built_en
   all_more before fields [] all = subst (λ l. AllHaveTerms l fields) (sym (append-nil before)) all
   all_more before fields (d ∷ ds) all =
       let next : length (before ++ d ∷ []) ≡ length before + 1 = length-append before (d ∷ []) in
-      let fields' = with_pairs schema analyzer (length before) fields d in
+      let fields' = with_pairs schema analyzer (length before) fields (indexed_part schema d) in
       subst (λ n. AllHaveTerms (before ++ d ∷ ds) (with_documents schema analyzer n fields' ds)) next
       (subst (λ l. AllHaveTerms l (with_documents schema analyzer (length (before ++ d ∷ [])) fields' ds)) (append_assoc before (d ∷ []) ds)
       (all_more (before ++ d ∷ []) fields' ds (one_more before fields d all)))
-
-  all_fit : (before : List Document) (fields : List FieldPostings) (ds : List Document) → AllHaveTerms before fields → documents_fit schema analyzer (length before) fields ds ≡ list_all (λ d. is_built_document schema d && is_taken schema analyzer d) ds
-  all_fit before fields [] all = refl
-  all_fit before fields (d ∷ ds) all =
-      let next : length (before ++ d ∷ []) ≡ length before + 1 = length-append before (d ∷ []) in
-      let fields' = with_pairs schema analyzer (length before) fields d in
-      ap (λ n. document_fits schema analyzer (length before) fields d && documents_fit schema analyzer n fields' ds) (sym next)
-      ∙ ap (λ b. document_fits schema analyzer (length before) fields d && b) (all_fit (before ++ d ∷ []) fields' ds (one_more before fields d all))
-      ∙ ap (λ b. b && list_all (λ d. is_built_document schema d && is_taken schema analyzer d) ds) (document_fits-taken schema analyzer (length before) entries fields (λ k e at_e. let has = all k e at_e in record { field = has.field; at = has.at; new = has.new }) d)
 
   pub all_fresh : AllHaveTerms [] (map (λ _. fresh) schema)
   all_fresh k e at_e = record {
@@ -112,10 +149,6 @@ module _ (schema : Schema) (analyzer : Analyzer) (entries : list_all is_built_en
     new = record { start = refl; count = refl };
     past = omega arith;
   }
-
-  -- documents fit exactly where they are built
-  pub documents_fit-built : (ds : List Document) → documents_fit schema analyzer 0 (map (λ _. fresh) schema) ds ≡ are_built schema analyzer ds
-  documents_fit-built ds = all_fit [] (map (λ _. fresh) schema) ds all_fresh ∙ ap (λ b. b && list_all (λ d. is_built_document schema d && is_taken schema analyzer d) ds) (sym entries)
 
 -- ---- a list of fields
 
@@ -135,9 +168,12 @@ listed_from F n (x ∷ xs) (f ∷ fs) many h =
     let rest = listed_from F (n + 1) xs fs (omega arith) (λ i e at. let s = h (suc i) e at in record { field = s.field; at = s.at; is = s.is ∙ ap (λ m. F (m, e)) (let z : n + suc i ≡ n + 1 + i = omega arith in z) }) in
     λ j. fin.entries (here j) ∷ rest j
 
-module _ (schema : Schema) (analyzer : Analyzer) (entries : list_all is_built_entry schema ≡ true) (ds : List Document) where
+module _ (schema : Schema) (analyzer : Analyzer) (entries : is_built_schema schema ≡ true) (ds : List Document) where
+  abbrev terms_at : ℕ × FieldEntry → Terms
+  terms_at f = terms_of (positional f.1) (map (λ d. occurrences schema analyzer d f.0) ds)
+
   -- and give the terms of each field
-  pub terms_of_all : map (λ f. fin.entries f.terms) (with_documents schema analyzer 0 (map (λ _. fresh) schema) ds) ≡ map fin.entries (all_terms schema analyzer ds)
-  terms_of_all = listed_from (field_terms schema analyzer ds) 0 schema _ (length-with_documents schema analyzer 0 (map (λ _. fresh) schema) ds ∙ length-map schema (λ (x : FieldEntry). fresh)) (λ i e at.
+  pub terms_of_all : map (λ f. fin.entries f.terms) (with_documents schema analyzer 0 (map (λ _. fresh) schema) ds) ≡ map fin.entries (positional_terms schema analyzer ds)
+  terms_of_all = listed_from terms_at 0 schema _ (length-with_documents schema analyzer 0 (map (λ _. fresh) schema) ds ∙ length-map schema (λ (x : FieldEntry). fresh)) (λ i e at.
       let has = all_more schema analyzer entries [] (map (λ _. fresh) schema) ds (all_fresh schema analyzer entries) i e at in
-      record { field = has.field; at = has.at; is = has.terms ∙ ap (λ m. field_terms schema analyzer ds (m, e)) (let z : i ≡ 0 + i = omega arith in z) })
+      record { field = has.field; at = has.at; is = has.terms ∙ ap (λ m. terms_at (m, e)) (let z : i ≡ 0 + i = omega arith in z) })

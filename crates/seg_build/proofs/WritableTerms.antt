@@ -1,6 +1,6 @@
 -- The terms of documents that are built can be written.
-use Rattle.std.proofs.Common.{◌≡◌, ℕ, suc, ◌+◌, ◌<◌, ◌≤◌, ◌^◌, true, false, cond, List, [], ◌∷◌, ◌++◌, map, length, Some, None, Option, Less, Equal, Greater, sym, refl, ap, ◌∙◌, subst, arith, inl, inr, length-append}
-use Rattle.std.specs.Prelude.{filter, nat_le, is_some, is_none, ◌&&◌}
+use Rattle.std.proofs.Common.{◌≡◌, ℕ, suc, ◌+◌, ◌<◌, ◌≤◌, ◌^◌, Bool, true, false, cond, List, [], ◌∷◌, ◌++◌, map, length, Some, None, Option, Less, Equal, Greater, sym, refl, ap, ◌∙◌, subst, arith, inl, inr, length-append}
+use Rattle.std.specs.Prelude.{filter, nat_le, is_some, ◌&&◌}
 use Rattle.std.specs.FinMap.{entries, empty, from_entries, entries_sorted, entries-insert, len-empty, len-entries}
 use Rattle.std.specs.FinMap.Entries.{put, by_order}
 use Rattle.std.specs.List.{AllByRecursion, slice_get, list_all, flat_map, enumerate_from}
@@ -13,25 +13,26 @@ use Rattle.std.proofs.lemmas.List.{length-map}
 use lib.Dec.{T}
 use Rattle.seg_values.specs.declared.token.Token.{Token}
 use Rattle.seg_values.specs.declared.schema.FieldEntry.{FieldEntry}
+use Rattle.seg_values.specs.declared.schema.FieldKind.TheVariants.{Text}
 use Rattle.seg_values.specs.declared.schema.IndexOption.TheVariants as options
-use Rattle.seg_values.specs.Tree.{levels, Document}
-use Rattle.seg_model.specs.Built.{is_built_entry, is_built_document, is_taken}
-use Rattle.seg_model.specs.Checked.{positions_fall, past_limit, unless, is_u32, is_rising, count_of, positions_refusal, field_fits, fields_refusal, leaves_refusal, order_refusal, limit_refusal, document_refusal, is_within_limits}
-use Rattle.seg_model.specs.Fields.{Schema, Analyzer, indexing_tokenizer, fields}
+use Rattle.seg_values.specs.Tree.{Document}
+use Rattle.seg_model.specs.Built.{is_taken}
+use Rattle.seg_model.specs.Checked.{positions_fall, unless, is_rising, count_of, positions_refusal, field_fits, order_refusal}
+use Rattle.seg_model.specs.Fields.{Schema, Analyzer, is_indexed, indexing_tokenizer}
 use Rattle.seg_model.specs.Occurrences.{Occurrence, counted, reach, start_after, start_after_all, value_tokens, placed_from, text_occurrences, occurrences}
-use Rattle.seg_model.specs.Reading.{Recorded, Posting, Terms, positions_of, if_occurs, recorded_in, postings_from, postings_of, if_any, terms_of, field_terms}
-use Rattle.seg_model.specs.StoredForm.{stored_form}
+use Rattle.seg_model.specs.Reading.{Recorded, Posting, Terms, positions_of, if_occurs, recorded_in, postings_from, postings_of, if_any, terms_of}
 use Rattle.seg_model.specs.Tables.{entry_of}
 use Rattle.seg_postings.specs.declared.record_kind.RecordKind.TheVariants.{Positions}
 use Rattle.seg_postings.specs.Written.{Rise, IsOfKind, AreWritable}
+use Rattle.seg_build.specs.Built.{is_built_entry}
 use Rattle.seg_build.specs.Entries.{TermEntries}
-use Rattle.seg_build.specs.Steps.{fresh}
-use Rattle.seg_build.specs.Writable.{CanBeWritten, BuiltTermsCanBeWritten}
+use Rattle.seg_build.specs.FieldTerms.{positional}
+use Rattle.seg_build.specs.Writable.{PositionsCanBeWritten, BuiltTermsCanBeWritten}
 use Rattle.seg_build.proofs.BuiltEntries.{IsTextEntry, both_true, text_entry_at}
-use Rattle.seg_build.proofs.Checks.{bounded_from, for_one_field}
+use Rattle.seg_build.proofs.Checks.{for_one_field, bounded_from, passed}
 use Rattle.seg_build.proofs.Fitting.{both_none, none_unless, positions_refusal-text}
-use Rattle.seg_build.proofs.Growing.{term_option-text}
 use Rattle.seg_build.proofs.Places.{some_same, start_after_all-ge, texts_of, texts_of-taken, texts_of-passed}
+use Rattle.seg_build.proofs.RecordedTerms.{option_of_text, no_terms_of}
 use Rattle.seg_build.proofs.Rising.{rises, rises-first, reach-ge}
 use Rattle.seg_build.proofs.Whole.{occurrences-text}
 
@@ -108,14 +109,7 @@ record Fit (os : List Occurrence) : Type 0 where
 
 -- ---- a document that is taken
 
-none_from : {X : Type 0} (o : Option X) → is_none o ≡ true → o ≡ None
-none_from None h = refl
-none_from (Some x) h = absurd (false≢true h)
-
-module _ (schema : Schema) (analyzer : Analyzer) (built : list_all is_built_entry schema ≡ true) (k : ℕ) (e : FieldEntry) (at_e : slice_get schema k ≡ Some e) where
-  is_text : IsTextEntry e
-  is_text = text_entry_at schema k e built at_e
-
+module _ (schema : Schema) (analyzer : Analyzer) (k : ℕ) (e : FieldEntry) (at_e : slice_get schema k ≡ Some e) (text : IsTextEntry e) where
   rising_texts : (ps : Document) → order_refusal schema analyzer ps ≡ None → AllRising (texts_of analyzer e k ps)
   rising_texts [] none = tt
   rising_texts (p ∷ ps) none =
@@ -124,7 +118,7 @@ module _ (schema : Schema) (analyzer : Analyzer) (built : list_all is_built_entr
       let rest = rising_texts ps two.1 in
       elim (eqb_tells k p.0) [
         | inl h ↦
-            let refusal : unless (is_rising (counted v) && true) positions_fall ≡ None = sym (positions_refusal-text analyzer p.1 e is_text) ∙ ap (positions_refusal analyzer p.1) (sym (ap (slice_get schema) (sym h.1) ∙ at_e)) ∙ two.0 in
+            let refusal : unless (is_rising (counted v) && true) positions_fall ≡ None = sym (positions_refusal-text analyzer p.1 e text) ∙ ap (positions_refusal analyzer p.1) (sym (ap (slice_get schema) (sym h.1) ∙ at_e)) ∙ two.0 in
             let rising = (both_true (is_rising (counted v)) true (none_unless _ positions_fall refusal)).0 in
             subst AllRising (sym (texts_of-taken analyzer e k p ps h.0)) (rising, rest)
         | inr h ↦ subst AllRising (sym (texts_of-passed analyzer e k p ps h.0)) rest
@@ -133,22 +127,18 @@ module _ (schema : Schema) (analyzer : Analyzer) (built : list_all is_built_entr
   taken_fits : (ps : Document) → is_taken schema analyzer ps ≡ true → Fit (occurrences schema analyzer ps k)
   taken_fits ps taken =
       let vs = texts_of analyzer e k ps in
-      let leaves_on = both_none (fields_refusal schema ps) _ (none_from (document_refusal schema analyzer ps) taken) in
-      let order_on = both_none (leaves_refusal schema ps) _ leaves_on.1 in
-      let order = both_none (order_refusal schema analyzer ps) (limit_refusal schema analyzer ps) order_on.1 in
-      let limits = none_unless (is_within_limits schema analyzer ps) past_limit order.1 in
-      let parts = both_true (list_all (field_fits analyzer ps) (fields schema)) (is_u32 (length (stored_form schema ps))) (both_true (list_all (field_fits analyzer ps) (fields schema) && is_u32 (length (stored_form schema ps))) (list_all (λ p. nat_le (levels p.1) 200) ps) limits).0 in
-      let bounded = bounded_from schema analyzer built 0 k e fresh ps is_text (record { start = refl; count = refl }) (for_one_field (field_fits analyzer ps) schema parts.0 k e at_e) in
+      let h = passed schema analyzer ps taken in
+      let bounded = bounded_from analyzer k e ps text (for_one_field (field_fits analyzer ps) schema h.fit k e at_e) in
       let low : start_after_all 0 vs < 2 ^ 32 = bounded.start in
-      let few : count_of vs < 2 ^ 32 = omega (arith, bounded.count) in
+      let few : count_of vs < 2 ^ 32 = let b = bounded.count in omega (arith, b) in
       let many : length (text_occurrences 0 vs) ≡ count_of vs = many_occur 0 vs in
-      subst Fit (sym (occurrences-text schema analyzer built k e ps at_e is_text)) (record { rising = rise_texts 0 0 vs (rising_texts ps order.0) (omega arith) low; few = omega (arith, few, many) })
+      subst Fit (sym (occurrences-text schema analyzer k e at_e ps text)) (record { rising = rise_texts 0 0 vs (rising_texts ps h.order) (omega arith) low; few = omega (arith, few, many) })
 
-  all_fit : (ds : List Document) → list_all (λ d. is_built_document schema d && is_taken schema analyzer d) ds ≡ true → AllByRecursion Fit (map (λ d. occurrences schema analyzer d k) ds)
+  all_fit : (ds : List Document) → list_all (is_taken schema analyzer) ds ≡ true → AllByRecursion Fit (map (λ d. occurrences schema analyzer d k) ds)
   all_fit [] h = tt
   all_fit (d ∷ ds) h =
-      let two = both_true (is_built_document schema d && is_taken schema analyzer d) (list_all (λ d. is_built_document schema d && is_taken schema analyzer d) ds) h in
-      (taken_fits d (both_true (is_built_document schema d) (is_taken schema analyzer d) two.0).1, all_fit ds two.1)
+      let two = both_true (is_taken schema analyzer d) (list_all (is_taken schema analyzer) ds) h in
+      (taken_fits d two.0, all_fit ds two.1)
 
 -- ---- the postings of a term
 
@@ -165,14 +155,14 @@ kept : (ps : List ℕ) → Rise 0 ps → length ps < 2 ^ 32 → IsKept (if_occur
 kept [] rise few = tt
 kept (p ∷ ps) rise few = (p ∷ ps, omega arith, few, rise, refl)
 
-module _ (e : FieldEntry) (text : IsTextEntry e) where
-  all_kept : (q : List ℕ) (ds : List (List Occurrence)) → AllByRecursion Fit ds → AllByRecursion IsKept (map (recorded_in e q) ds)
+module _ (e : FieldEntry) (text : e.kind ≡ Text) where
+  all_kept : (q : List ℕ) (ds : List (List Occurrence)) → AllByRecursion Fit ds → AllByRecursion IsKept (map (recorded_in (positional e) q) ds)
   all_kept q [] h = tt
   all_kept q (os ∷ ds) h =
-      (subst (λ option. IsKept (if_occurs option (positions_of q os))) (sym (term_option-text e text q)) (kept (positions_of q os) (rise_some q 0 os h.0.rising) (let few = h.0.few in omega (arith, fewer q os, few))), all_kept q ds h.1)
+      (subst (λ option. IsKept (if_occurs option (positions_of q os))) (sym (option_of_text (positional e) q text)) (kept (positions_of q os) (rise_some q 0 os h.0.rising) (let few = h.0.few in omega (arith, fewer q os, few))), all_kept q ds h.1)
 
-  postings_writable : (q : List ℕ) (ds : List (List Occurrence)) → AllByRecursion Fit ds → length ds < 2 ^ 31 → AreWritable Positions 0 0 (postings_of e q ds)
-  postings_writable q ds h few = writable_from 0 0 0 (map (recorded_in e q) ds) (omega arith) (omega (arith, few, length-map ds (recorded_in e q))) (all_kept q ds h)
+  postings_writable : (q : List ℕ) (ds : List (List Occurrence)) → AllByRecursion Fit ds → length ds < 2 ^ 31 → AreWritable Positions 0 0 (postings_of (positional e) q ds)
+  postings_writable q ds h few = writable_from 0 0 0 (map (recorded_in (positional e) q) ds) (omega arith) (omega (arith, few, length-map ds (recorded_in (positional e) q))) (all_kept q ds h)
 
 -- ---- the entries of a table
 
@@ -217,15 +207,18 @@ truth : (b : _) → T b → b ≡ true
 truth true h = refl
 truth false h = absurd h
 
-can_be_written : (e : FieldEntry) → IsTextEntry e → (ds : List (List Occurrence)) → AllByRecursion Fit ds → length ds < 2 ^ 31 → CanBeWritten (entries (terms_of e ds))
+can_be_written : (e : FieldEntry) → e.kind ≡ Text → (ds : List (List Occurrence)) → AllByRecursion Fit ds → length ds < 2 ^ 31 → PositionsCanBeWritten (entries (terms_of (positional e) ds))
 can_be_written e text ds h few =
     let keys = flat_map (map (λ (o : Occurrence). o.bytes)) ds in
-    let f : List ℕ → Option (List Posting) = λ q. if_any (postings_of e q ds) in
+    let f : List ℕ → Option (List Posting) = λ q. if_any (postings_of (positional e) q ds) in
     record {
-      ascend = truth _ (entries_sorted (terms_of e ds));
-      occur = from_all (λ ps. 0 < length ps) _ (entry_all (λ ps. 0 < length ps) f keys (λ q v is. any_occurs (postings_of e q ds) v is));
-      writable = from_all (AreWritable Positions 0 0) _ (entry_all (AreWritable Positions 0 0) f keys (λ q v is. any_writable (postings_of e q ds) v (postings_writable e text q ds h few) is));
+      ascend = truth _ (entries_sorted (terms_of (positional e) ds));
+      occur = from_all (λ ps. 0 < length ps) _ (entry_all (λ ps. 0 < length ps) f keys (λ q v is. any_occurs (postings_of (positional e) q ds) v is));
+      writable = from_all (AreWritable Positions 0 0) _ (entry_all (AreWritable Positions 0 0) f keys (λ q v is. any_writable (postings_of (positional e) q ds) v (postings_writable e text q ds h few) is));
     }
+
+none_can : PositionsCanBeWritten []
+none_can = record { ascend = truth _ tt; occur = tt; writable = tt }
 
 -- ---- all fields
 
@@ -234,10 +227,16 @@ all_fields Q F n [] h = tt
 all_fields Q F n (x ∷ xs) h =
     (subst (λ m. Q (entries (F (m, x)))) (let z : n + 0 ≡ n = omega arith in z) (h 0 x refl), all_fields Q F (n + 1) xs (λ i e at. subst (λ m. Q (entries (F (m, e)))) (let z : n + suc i ≡ n + 1 + i = omega arith in z) (h (suc i) e at)))
 
+module _ (schema : Schema) (analyzer : Analyzer) (ds : List Document) (built : list_all is_built_entry schema ≡ true) (taken : list_all (is_taken schema analyzer) ds ≡ true) (few : length ds < 2 ^ 31) where
+  each_can : (i : ℕ) (e : FieldEntry) → slice_get schema i ≡ Some e → (b : Bool) → is_indexed e ≡ b → PositionsCanBeWritten (entries (terms_of (positional e) (map (λ d. occurrences schema analyzer d i) ds)))
+  each_can i e at true on =
+      let occurred : Document → List Occurrence = λ d. occurrences schema analyzer d i in
+      let text = text_entry_at schema i e built at on in
+      can_be_written e text.kind (map occurred ds) (all_fit schema analyzer i e at text ds taken) (omega (arith, few, length-map ds occurred))
+  each_can i e at false off = subst PositionsCanBeWritten (sym (no_terms_of schema analyzer ds i e at off (positional e))) none_can
+
 pub built_terms_can_be_written : BuiltTermsCanBeWritten
 built_terms_can_be_written schema analyzer ds built few =
-    let two = both_true (list_all is_built_entry schema) (list_all (λ d. is_built_document schema d && is_taken schema analyzer d) ds) built in
-    all_fields CanBeWritten (field_terms schema analyzer ds) 0 schema (λ i e at.
-    let occurred : Document → List Occurrence = λ d. occurrences schema analyzer d i in
-    subst (λ n. CanBeWritten (entries (field_terms schema analyzer ds (n, e)))) (let z : i ≡ 0 + i = omega arith in z)
-    (can_be_written e (text_entry_at schema i e two.0 at) (map occurred ds) (all_fit schema analyzer two.0 i e at ds two.1) (omega (arith, few, length-map ds occurred))))
+    let two = both_true (list_all is_built_entry schema) (list_all (is_taken schema analyzer) ds) built in
+    all_fields PositionsCanBeWritten (λ f. terms_of (positional f.1) (map (λ d. occurrences schema analyzer d f.0) ds)) 0 schema (λ i e at.
+    subst (λ n. PositionsCanBeWritten (entries (terms_of (positional e) (map (λ d. occurrences schema analyzer d n) ds)))) (let z : i ≡ 0 + i = omega arith in z) (each_can schema analyzer ds two.0 two.1 few i e at (is_indexed e) refl))

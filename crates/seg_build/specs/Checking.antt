@@ -1,21 +1,16 @@
 -- A document while it is checked, value by value: what the steps between say, of which no public clause speaks.
-use Rattle.std.specs.Prelude.{ℕ, ◌+◌, List, [], ◌∷◌, map, length, Bool, true, false, ◌&&◌, nat_lt, Option, Some, None, slice_set}
+use Rattle.std.specs.Prelude.{◌≡◌, ℕ, ◌+◌, List, [], ◌∷◌, map, length, Bool, true, false, ◌&&◌, Option, Some, None, slice_set}
 use Rattle.std.specs.List.{slice_get}
 use Rattle.seg_values.specs.declared.token.Token.{Token}
 use Rattle.seg_values.specs.Tree.{Tree, Document}
-use Rattle.seg_model.specs.Built.{is_text_tree}
 use Rattle.seg_model.specs.Checked.{is_u32}
 use Rattle.seg_model.specs.Fields.{Schema, Analyzer}
-use Rattle.seg_model.specs.Occurrences.{counted, start_after}
-use Rattle.seg_build.specs.Field.{start_in, count_in, positions_fit}
-use Rattle.seg_build.specs.Steps.{tokens_at, added_at}
+use Rattle.seg_model.specs.Occurrences.{counted, start_after, value_tokens}
+use Rattle.seg_build.specs.Field.{positions_fit}
+use Rattle.seg_build.specs.Steps.{tokens_at, added_at, indexed_part}
 use Rattle.seg_build.specs.declared.checking.Progress.{Progress}
 use Rattle.seg_build.specs.declared.field.FieldPostings.{FieldPostings}
 use Rattle.seg_build.specs.declared.field_text.FieldText.{FieldText}
-
--- how far a document has come in a field
-abbrev pub progress_in : ℕ → FieldPostings → Progress
-progress_in id field = record { start = start_in id field; count = count_in id field }
 
 -- before any text of a document
 abbrev pub at_start : Progress
@@ -39,23 +34,37 @@ abbrev pub advanced_at : ℕ → List Progress → List Token → Option Progres
 advanced_at place reached tokens None = reached
 advanced_at place reached tokens (Some p) = slice_set reached place (advanced p tokens)
 
+-- the tokens that a value was cut into; where it was not cut, those that it comes with
+abbrev pub cut_or_given : Option (List Token) → Tree → List Token
+cut_or_given (Some tokens) value = tokens
+cut_or_given None value = value_tokens (λ _. []) value
+
+-- the same, if there is a value
+abbrev pub tokens_of : Option (List Token) → Option (ℕ × Tree) → List Token
+tokens_of cut None = []
+tokens_of cut (Some p) = cut_or_given cut p.1
+
+-- a text of a document: its field, and its tokens
+abbrev pub text_in : Document → FieldText → ℕ × List Token
+text_in document text = (text.field, tokens_of text.cut (slice_get document text.at))
+
 -- the fields with some more texts of a document
-abbrev pub with_texts : ℕ → List FieldPostings → List FieldText → List FieldPostings
+abbrev pub with_texts : ℕ → List FieldPostings → List (ℕ × List Token) → List FieldPostings
 with_texts id fields [] = fields
-with_texts id fields (t ∷ ts) = with_texts id (added_at id t.field fields t.tokens (slice_get fields t.field)) ts
+with_texts id fields (t ∷ ts) = with_texts id (added_at id t.0 fields t.1 (slice_get fields t.0)) ts
 
 module _ (schema : Schema) (analyzer : Analyzer) where
-  -- a value of a document as its tokens
-  abbrev pub text_of : ℕ × Tree → FieldText
-  text_of p = record { field = p.0; tokens = tokens_at analyzer p.1 (slice_get schema p.0) }
+  -- a value of a document as its tokens, with its field
+  abbrev pub text_of : ℕ × Tree → ℕ × List Token
+  text_of p = (p.0, tokens_at analyzer p.1 (slice_get schema p.0))
 
-  -- and each
-  abbrev pub document_texts : Document → List FieldText
-  document_texts document = map text_of document
+  -- each value that is indexed
+  abbrev pub document_texts : Document → List (ℕ × List Token)
+  document_texts document = map text_of (indexed_part schema document)
 
   -- whether one more value of a document fits
   abbrev pub pair_passes : List Progress → ℕ × Tree → Bool
-  pair_passes reached p = nat_lt p.0 (length schema) && is_text_tree p.1 && passes_at (tokens_at analyzer p.1 (slice_get schema p.0)) (slice_get reached p.0)
+  pair_passes reached p = passes_at (tokens_at analyzer p.1 (slice_get schema p.0)) (slice_get reached p.0)
 
   -- behind one more value
   abbrev pub behind_pair : List Progress → ℕ × Tree → List Progress
@@ -65,3 +74,7 @@ module _ (schema : Schema) (analyzer : Analyzer) where
   abbrev pub pairs_pass : List Progress → Document → Bool
   pairs_pass reached [] = true
   pairs_pass reached (p ∷ ps) = pair_passes reached p && pairs_pass (behind_pair reached p) ps
+
+-- a text is that of a value which stands at a place
+abbrev pub IsTextOf : Schema → Analyzer → ℕ × Tree → ℕ → FieldText → Type 0
+IsTextOf schema analyzer p at text = (document : Document) → slice_get document at ≡ Some p → text_in document text ≡ text_of schema analyzer p

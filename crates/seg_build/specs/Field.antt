@@ -18,10 +18,6 @@ start_in document field = if field.document == document then field.start else 0
 abbrev pub count_in : ℕ → FieldPostings → ℕ
 count_in document field = if field.document == document then field.count else 0
 
--- whether one more text of a document fits
-abbrev pub text_fits : ℕ → FieldPostings → List Token → Bool
-text_fits document field tokens = is_u32 (count_in document field + length (counted tokens)) && positions_fit (start_in document field) tokens
-
 -- a field with one more text of a document
 abbrev pub added : ℕ → FieldPostings → List Token → FieldPostings
 added document field tokens = record {

@@ -7,12 +7,13 @@ use Rattle.seg_store.specs.Block.{Block}
 use Rattle.seg_store.specs.Writing.{Taken}
 use Rattle.seg_build.specs.declared.field.FieldPostings.{FieldPostings}
 
--- the terms of each field, the lengths of each that has lengths, what the store took, and the stamps
+-- the terms of each field, the lengths of each that has lengths, what the store took, the stamps, and how often terms occur
 pub record Kept : Type 0 where
   pub fields : List FieldPostings
   pub norms : Option (List (Option (List ℕ)))
   pub store : Option Taken
   pub stamps : List ℕ
+  pub occurrences : ℕ
 
 -- the code by which a proof tells fields apart
 abbrev pub field_code : Coded FieldPostings
@@ -25,5 +26,5 @@ taken_code = code_by (ℕ × (List Block × Block)) (coded× coded_ℕ (coded× 
 -- and all that is kept
 abbrev pub kept_code : Coded Kept
 kept_code =
-    code_by ((List FieldPostings × Option (List (Option (List ℕ)))) × (Option Taken × List ℕ)) (coded× (coded× (coded_list field_code) (coded_option (coded_list (coded_option (coded_list coded_ℕ))))) (coded× (coded_option taken_code) (coded_list coded_ℕ)))
-    (λ k. ((k.fields, k.norms), (k.store, k.stamps))) (λ p. record { fields = p.0.0; norms = p.0.1; store = p.1.0; stamps = p.1.1 }) (λ _. refl)
+    code_by ((List FieldPostings × Option (List (Option (List ℕ)))) × (Option Taken × (List ℕ × ℕ))) (coded× (coded× (coded_list field_code) (coded_option (coded_list (coded_option (coded_list coded_ℕ))))) (coded× (coded_option taken_code) (coded× (coded_list coded_ℕ) coded_ℕ)))
+    (λ k. ((k.fields, k.norms), (k.store, (k.stamps, k.occurrences)))) (λ p. record { fields = p.0.0; norms = p.0.1; store = p.1.0; stamps = p.1.1.0; occurrences = p.1.1.1 }) (λ _. refl)

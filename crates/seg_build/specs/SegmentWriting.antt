@@ -1,16 +1,20 @@
 -- A writer of a segment while documents are added.
-use Rattle.std.specs.Prelude.{ℕ, ◌≡◌, ◌≤◌, ◌<◌, ◌-◌, ◌^◌, List, [], ◌∷◌, ◌++◌, map, length, true, false, ◌&&◌, Bool, Option, Some, None, IsSomeAnd, IfSome}
+use Rattle.std.specs.Prelude.{ℕ, ◌≡◌, ◌≤◌, ◌<◌, ◌+◌, ◌-◌, ◌^◌, List, [], ◌∷◌, ◌++◌, map, length, true, Option, Some, None, option_map, IsSomeAnd, IfSome}
 use Rattle.std.specs.List.{list_all, AllByRecursion}
 use Rattle.seg_common.specs.Growing.{HasGrown}
-use Rattle.seg_values.specs.declared.error.ArgumentCause.TheVariants.{Documents, Later}
+use Rattle.seg_values.specs.declared.error.ArgumentCause.TheVariants.{Documents}
 use Rattle.seg_values.specs.declared.error.TantivyError.{TantivyError}
 use Rattle.seg_values.specs.declared.error.TantivyError.TheVariants.{InvalidArgument, SystemError, OutOfMemory}
+use Rattle.seg_values.specs.declared.token.Token.{Token}
 use Rattle.seg_values.specs.Tree.{Document}
 use Rattle.seg_values.specs.Utf8.{IsUtf8Document}
-use Rattle.seg_model.specs.Built.{is_built_document, is_taken}
+use Rattle.seg_model.specs.Built.{is_taken}
+use Rattle.seg_model.specs.Checked.{document_refusal}
 use Rattle.seg_model.specs.Fields.{Schema, Analyzer}
 use Rattle.seg_model.specs.Reading.{stored_document}
 use Rattle.seg_model.specs.StoredForm.{stored_form}
+use Rattle.seg_check.specs.Refusals.{error_of}
+use Rattle.seg_store.specs.BlockLaw.{all_documents}
 use Rattle.seg_store.specs.Store.{documents_of}
 use Rattle.seg_store.specs.StoredDocument.{stored_document_of}
 use Rattle.seg_store.specs.StoredLaw.{AreShallow}
@@ -19,13 +23,13 @@ use Rattle.seg_build.specs.Batch.{kept_norms}
 use Rattle.seg_build.specs.Checking.{with_texts}
 use Rattle.seg_build.specs.Kept.{Kept}
 use Rattle.seg_build.specs.Lengths.{AreUpTo, with_counts}
+use Rattle.seg_build.specs.MemoryUsage.{total, saturated, occurrence_count, recorded_count}
 use Rattle.seg_build.specs.Steps.{fresh, with_documents}
-use Rattle.seg_build.specs.declared.field_text.FieldText.{FieldText}
 use Rattle.seg_build.specs.declared.writer_parts.WriterParts.{WriterParts}
 
 -- what the parts of a writer keep
 abbrev pub kept_of : WriterParts → Kept
-kept_of parts = record { fields = parts.fields.items; norms = parts.norms; store = parts.store; stamps = parts.stamps.items }
+kept_of parts = record { fields = parts.fields.items; norms = parts.norms; store = parts.store; stamps = parts.stamps.items; occurrences = parts.occurrences }
 
 -- the schema and the id of the segment, and what is kept of the documents added so far: nothing any more, once memory was lacking
 pub record SegmentWriting : Type 0 where
@@ -33,18 +37,15 @@ pub record SegmentWriting : Type 0 where
   pub id : ℕ
   pub kept : Option Kept
 
--- whether a document is one of texts of fields of a schema, and passes the check
-abbrev pub is_addable : Schema → Analyzer → Document → Bool
-is_addable schema analyzer document = is_built_document schema document && is_taken schema analyzer document
-
 -- a store has taken these documents, as they are stored
 pub record Stores (schema : Schema) (documents : List Document) (taken : Taken) : Type 0 where
   pub read : documents_of (all_blocks taken) ≡ map (stored_document schema) documents
   pub count : taken_count taken ≡ length documents
+  pub forms : all_documents taken ≡ map (stored_form schema) documents
 
 -- what these documents make, with their stamps
 pub record IsKeptOf (schema : Schema) (analyzer : Analyzer) (documents : List Document) (stamps : List ℕ) (kept : Kept) : Type 0 where
-  pub addable : list_all (is_addable schema analyzer) documents ≡ true
+  pub taken : list_all (is_taken schema analyzer) documents ≡ true
   pub few : length documents < 2 ^ 31
   pub utf8 : AllByRecursion IsUtf8Document documents
   pub fields : kept.fields ≡ with_documents schema analyzer 0 (map (λ _. fresh) schema) documents
@@ -52,6 +53,7 @@ pub record IsKeptOf (schema : Schema) (analyzer : Analyzer) (documents : List Do
   pub store : IsSomeAnd kept.store (Stores schema documents)
   pub stamped : kept.stamps ≡ stamps
   pub each : length stamps ≡ length documents
+  pub occurrences : kept.occurrences ≡ saturated (total (occurrence_count schema analyzer) documents)
 
 -- some documents make these
 pub record IsUnderWay (schema : Schema) (analyzer : Analyzer) (kept : Kept) : Type 0 where
@@ -84,16 +86,19 @@ pub record IsOfSame (old new : SegmentWriting) : Type 0 where
 -- a document is added: it is behind the others
 pub record Adds (analyzer : Analyzer) (document : Document) (stamp : ℕ) (old new : SegmentWriting) : Type 0 where
   pub place : IsSomeAnd old.kept HasPlace
-  pub addable : is_addable old.schema analyzer document ≡ true
+  pub taken : is_taken old.schema analyzer document ≡ true
   pub behind : (documents : List Document) (stamps : List ℕ) → Writes analyzer documents stamps old → Writes analyzer (documents ++ document ∷ []) (stamps ++ stamp ∷ []) new
 
+-- an error tells why a document is not taken; `stamp` is the place that it tells
+abbrev pub Tells : Schema → Analyzer → Document → ℕ → TantivyError → Type 0
+Tells schema analyzer document stamp e = option_map (error_of stamp) (document_refusal schema analyzer document) ≡ Some e
+
 -- a document is not added, for a cause; only where memory is lacking the writer is not as before
-abbrev pub AddsNone : Analyzer → Document → SegmentWriting → SegmentWriting → TantivyError → Type 0
-AddsNone analyzer document old new SystemError = (old.kept ≡ None) × (new ≡ old)
-AddsNone analyzer document old new (InvalidArgument Documents) = IsSomeAnd old.kept IsFull × (new ≡ old)
-AddsNone analyzer document old new (InvalidArgument Later) = IsSomeAnd old.kept HasPlace × (is_addable old.schema analyzer document ≡ false) × (new ≡ old)
-AddsNone analyzer document old new OutOfMemory = IsSomeAnd old.kept HasPlace × (new.kept ≡ None)
-AddsNone analyzer document old new _ = ⊥
+abbrev pub AddsNone : Analyzer → Document → ℕ → SegmentWriting → SegmentWriting → TantivyError → Type 0
+AddsNone analyzer document stamp old new SystemError = (old.kept ≡ None) × (new ≡ old)
+AddsNone analyzer document stamp old new (InvalidArgument Documents) = IsSomeAnd old.kept IsFull × (new ≡ old)
+AddsNone analyzer document stamp old new OutOfMemory = IsSomeAnd old.kept HasPlace × (new.kept ≡ None)
+AddsNone analyzer document stamp old new e = IsSomeAnd old.kept HasPlace × Tells old.schema analyzer document stamp e × (new ≡ old)
 
 -- one more document can be taken
 pub record HasRoom (document : Document) (kept : Kept) : Type 0 where
@@ -103,9 +108,10 @@ pub record HasRoom (document : Document) (kept : Kept) : Type 0 where
   pub store : IfSome kept.store (λ w. taken_count w < 2 ^ 31 - 1)
 
 -- one more document was taken, of which these are the texts
-pub record HasTaken (schema : Schema) (document : Document) (texts : List FieldText) (stamp : ℕ) (old new : Kept) : Type 0 where
+pub record HasTaken (schema : Schema) (document : Document) (texts : List (ℕ × List Token)) (stamp : ℕ) (old new : Kept) : Type 0 where
   pub fields : new.fields ≡ with_texts (length old.stamps) old.fields texts
   pub norms : HasGrown old.norms new.norms (with_counts (length old.stamps) new.fields)
   pub store : HasGrown old.store new.store (with_document (stored_form schema document))
   pub reads : stored_document_of (stored_form schema document) ≡ Some (stored_document schema document)
   pub stamps : new.stamps ≡ old.stamps ++ stamp ∷ []
+  pub occurrences : new.occurrences ≡ saturated (old.occurrences + saturated (recorded_count (length old.stamps) new.fields))

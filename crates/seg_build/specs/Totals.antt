@@ -3,10 +3,10 @@ use Rattle.std.specs.Prelude.{◌≡◌, ℕ, List, Some}
 use Rattle.std.specs.List.{slice_get}
 use Rattle.seg_common.specs.LittleEndian.{u64_at}
 use Rattle.seg_directory.specs.Composite.{Part, composite, field_of}
-use Rattle.seg_build.specs.Entries.{TermEntries}
+use Rattle.seg_build.specs.FieldTerms.{FieldTerms}
 use Rattle.seg_build.specs.TokenTotal.{token_total}
 
 -- in a composite file the part of each field begins with how often its terms occur in all
-abbrev pub TotalsAreCounts : List ℕ → List TermEntries → Type 0
+abbrev pub TotalsAreCounts : List ℕ → List FieldTerms → Type 0
 TotalsAreCounts postings fields =
-    (parts : List Part) → composite postings ≡ Some parts → (field : ℕ) (terms : TermEntries) → slice_get fields field ≡ Some terms → (part : List ℕ) → field_of parts field ≡ Some part → u64_at part 0 ≡ token_total terms
+    (parts : List Part) → composite postings ≡ Some parts → (field : ℕ) (found : FieldTerms) → slice_get fields field ≡ Some found → (part : List ℕ) → field_of parts field ≡ Some part → u64_at part 0 ≡ token_total found.terms

@@ -1,24 +1,19 @@
 -- When no writer of a segment is made.
-use Rattle.std.specs.Prelude.{ℕ, ◌↔◌, List, IsTrue, true, false, Bool, ◌&&◌, not, nat_le, Option, Some, option_map}
-use Rattle.std.specs.List.{list_all}
+use Rattle.std.specs.Prelude.{ℕ, ◌↔◌, List, IsTrue, true, false, Bool, nat_le, Option, Some, option_map}
 use Rattle.seg_values.specs.declared.error.ArgumentCause.TheVariants.{Budget, Later, FieldName, Settings}
 use Rattle.seg_values.specs.declared.error.SchemaCause.TheVariants.{Tokenizer}
 use Rattle.seg_values.specs.declared.error.TantivyError.{TantivyError}
-use Rattle.seg_values.specs.declared.error.TantivyError.TheVariants.{InvalidArgument, SchemaError}
-use Rattle.seg_model.specs.Built.{is_built_entry}
+use Rattle.seg_values.specs.declared.error.TantivyError.TheVariants.{InvalidArgument, SchemaError, OutOfMemory}
 use Rattle.seg_model.specs.Fields.{Schema}
 use Rattle.seg_model.specs.Valid.{Known, names_fit, settings_fit, unknown_tokenizer_of}
 use Rattle.seg_meta.specs.View.{settings_of}
 use Rattle.seg_meta.specs.declared.index_settings.IndexSettings.{IndexSettings}
+use Rattle.seg_build.specs.Built.{is_built_schema}
 
 -- what holds, or else an error
 abbrev pub refused_unless : Bool → TantivyError → Option TantivyError → Option TantivyError
 refused_unless true e rest = rest
 refused_unless false e rest = Some e
-
--- stored texts with positions, of which none is fast
-abbrev pub is_built_schema : Schema → Bool
-is_built_schema schema = list_all is_built_entry schema && list_all (λ e. not e.fast) schema
 
 -- the first cause, in this order: a budget below 15,000 bytes, a schema that is not built yet, a name that holds U+0000 or U+0001, compression or a thread of its own, an unknown tokenizer
 abbrev pub start_refusal : Known → ℕ → Schema → IndexSettings → Option TantivyError
@@ -32,3 +27,10 @@ start_refusal known budget schema settings =
 -- a test of names that passes exactly those that are known
 abbrev pub Tests : Known → (List ℕ → Type 0) → Type 0
 Tests known knows = (name : List ℕ) → IsTrue (known name) ↔ knows name
+
+-- an error with which no writer is made: a cause, or want of memory
+abbrev pub IsStartError : TantivyError → Type 0
+IsStartError (SchemaError cause) = Unit {0}
+IsStartError (InvalidArgument cause) = Unit {0}
+IsStartError OutOfMemory = Unit {0}
+IsStartError _ = ⊥

@@ -1,17 +1,18 @@
 //! Checks a document before any of it is added.
-ghost use Rattle.std.specs.Prelude.{◌≡◌, [], ◌∷◌, ◌++◌, true, false, Err, map, length, ◌&&◌, is_some, IfOk, IfSome, OnOk};
-ghost use Rattle.std.specs.List.{list_all, AllByRecursion};
+ghost use Rattle.std.specs.Prelude.{◌≡◌, [], ◌∷◌, ◌++◌, true, map, length, is_some, IfOk, IfSome, OnOk};
+ghost use Rattle.std.specs.List.{AllByRecursion, slice_get};
 ghost use Rattle.seg_values.specs.View.{tree_of};
-ghost use Rattle.seg_model.specs.Built.{is_built_entry, is_built_document, is_taken};
-ghost use Rattle.seg_model.specs.Fields.{indexing_tokenizer};
-ghost use Rattle.seg_build.specs.Checking.{at_start, text_passes, advanced, text_of, document_texts, pair_passes, behind_pair, pairs_pass};
+ghost use Rattle.seg_model.specs.Built.{is_taken};
+ghost use Rattle.seg_model.specs.Fields.{indexing_tokenizer, is_field, is_indexed};
+ghost use Rattle.seg_build.specs.Built.{is_built_schema};
+ghost use Rattle.seg_build.specs.Checking.{at_start, text_passes, advanced, text_in, document_texts, pair_passes, behind_pair, pairs_pass, IsTextOf};
+ghost use Rattle.seg_build.specs.Steps.{indexed_part};
 
-use crate::document::pair_tokens;
-use crate::error::IndexError;
-use crate::field_text::FieldText;
-use crate::stored::is_storable;
+use crate::entry::{is_indexed_field, tokenizer_name};
+use crate::field_text::{FieldText, cut_tokens, text_tokens};
 use crate::tokens::{counted_len, next_start};
-use seg_values::{Analyzers, FieldEntry, OwnedValue, TantivyDocument, Token};
+use seg_check::passes_untokenized;
+use seg_values::{Analyzers, FieldEntry, OwnedValue, Schema, TantivyDocument, Token};
 use std::alloc::{AllocError, Global};
 
 /// How far the texts of a document have come in a field: where the next one begins, and how many tokens came.
@@ -37,26 +38,26 @@ fn advanced(progress: Progress, tokens: &[Token]) -> Option<Progress>
     })
 }
 
-/// The texts of a document, where it is one of texts of the schema's fields and passes the check. `reached` is room for
+/// The texts of a document that are indexed, each cut once; none where the document is not taken. `reached` is room for
 /// how far it has come in each field.
 pub(crate) fn checked_texts<Z: Analyzers>(
     alloc: Global,
     analyzers: &Z,
-    schema: &[FieldEntry],
+    schema: &Schema,
     document: &TantivyDocument,
     reached: &mut Vec<Progress>,
-) -> Result<Vec<FieldText>, IndexError>
+) -> Result<Option<Vec<FieldText>>, AllocError>
     requires known { AllByRecursion (λ e. Z.knows analyzers.now (indexing_tokenizer e)) schema.now }
-    requires entries { list_all is_built_entry schema.now ≡ true }
-    ensures texts { IfOk result (λ texts. texts.items ≡ document_texts schema.now (Z.tokens_of analyzers.now) document.now) }
-    ensures taken { OnOk result ((is_built_document schema.now document.now && is_taken schema.now (Z.tokens_of analyzers.now) document.now) ≡ true) }
-    ensures later { result ≡ Err IndexError.Later → (is_built_document schema.now document.now && is_taken schema.now (Z.tokens_of analyzers.now) document.now) ≡ false }
+    requires entries { is_built_schema schema.now ≡ true }
+    ensures texts { IfOk result (λ found. IfSome found (λ texts. map (text_in document.now) texts.items ≡ document_texts schema.now (Z.tokens_of analyzers.now) document.now)) }
+    ensures taken { IfOk result (λ found. is_some found ≡ is_taken schema.now (Z.tokens_of analyzers.now) document.now) }
 {
-    restart(reached, schema)?;
-    if !is_storable(document) {
-        return Err(IndexError::Later);
+    if !passes_untokenized(schema, document) {
+        return Ok(None);
     }
-    passing_texts(alloc, analyzers, schema, document, reached)
+    let entries = schema.fields();
+    restart(reached, entries)?;
+    passing_texts(alloc, analyzers, entries, document, reached)
 }
 
 /// No text of the document has come in any field.
@@ -70,28 +71,33 @@ fn restart(reached: &mut Vec<Progress>, schema: &[FieldEntry]) -> Result<(), All
     Ok(())
 }
 
-/// The texts of a document, where they fit one after another.
+/// The texts of a document that are indexed, where they fit one after another.
 fn passing_texts<Z: Analyzers>(
     alloc: Global,
     analyzers: &Z,
     schema: &[FieldEntry],
     document: &TantivyDocument,
     reached: &mut [Progress],
-) -> Result<Vec<FieldText>, IndexError>
+) -> Result<Option<Vec<FieldText>>, AllocError>
     requires known { AllByRecursion (λ e. Z.knows analyzers.now (indexing_tokenizer e)) schema.now }
-    requires entries { list_all is_built_entry schema.now ≡ true }
     requires as_many { length reached.old ≡ length schema.now }
-    ensures texts { IfOk result (λ texts. texts.items ≡ document_texts schema.now (Z.tokens_of analyzers.now) document.now) }
-    ensures passes { OnOk result (pairs_pass schema.now (Z.tokens_of analyzers.now) reached.old document.now ≡ true) }
-    ensures later { result ≡ Err IndexError.Later → pairs_pass schema.now (Z.tokens_of analyzers.now) reached.old document.now ≡ false }
+    ensures texts { IfOk result (λ found. IfSome found (λ texts. map (text_in document.now) texts.items ≡ document_texts schema.now (Z.tokens_of analyzers.now) document.now)) }
+    ensures passes { IfOk result (λ found. is_some found ≡ pairs_pass schema.now (Z.tokens_of analyzers.now) reached.old (indexed_part schema.now document.now)) }
 {
     let mut texts = Vec::new(alloc);
     for at in 0..document.len() {
         let (field, value) = document.pair(at);
-        let text = passing_text(alloc, analyzers, schema, field.field_id(), value, reached)?;
+        let field = field.field_id();
+        if !is_indexed_field(schema, field) {
+            continue;
+        }
+        let found = passing_text(alloc, analyzers, schema, field, at, value, reached)?;
+        let Some(text) = found else {
+            return Ok(None);
+        };
         push_text(&mut texts, text)?;
     }
-    Ok(texts)
+    Ok(Some(texts))
 }
 
 fn push_text(texts: &mut Vec<FieldText>, text: FieldText) -> Result<(), AllocError>
@@ -101,27 +107,33 @@ fn push_text(texts: &mut Vec<FieldText>, text: FieldText) -> Result<(), AllocErr
     Ok(())
 }
 
-/// The text of a field's value, where it fits behind those before.
+/// A value of an indexed field as a text, where it fits behind those before. It stands at `at` in its document.
 fn passing_text<Z: Analyzers>(
     alloc: Global,
     analyzers: &Z,
     schema: &[FieldEntry],
     field: u32,
+    at: usize,
     value: &OwnedValue,
     reached: &mut [Progress],
-) -> Result<FieldText, IndexError>
+) -> Result<Option<FieldText>, AllocError>
     requires known { AllByRecursion (λ e. Z.knows analyzers.now (indexing_tokenizer e)) schema.now }
-    requires entries { list_all is_built_entry schema.now ≡ true }
     requires as_many { length reached.old ≡ length schema.now }
-    ensures text { IfOk result (λ text. text ≡ text_of schema.now (Z.tokens_of analyzers.now) (field, tree_of value.now)) }
-    ensures passes { OnOk result (pair_passes schema.now (Z.tokens_of analyzers.now) reached.old (field, tree_of value.now) ≡ true) }
-    ensures reached { OnOk result (reached.new ≡ behind_pair schema.now (Z.tokens_of analyzers.now) reached.old (field, tree_of value.now)) }
-    ensures later { result ≡ Err IndexError.Later → pair_passes schema.now (Z.tokens_of analyzers.now) reached.old (field, tree_of value.now) ≡ false }
+    requires indexed { is_field is_indexed (slice_get schema.now field) ≡ true }
+    ensures text { IfOk result (λ found. IfSome found (λ text. IsTextOf schema.now (Z.tokens_of analyzers.now) (field, tree_of value.now) at text)) }
+    ensures passes { IfOk result (λ found. is_some found ≡ pair_passes schema.now (Z.tokens_of analyzers.now) reached.old (field, tree_of value.now)) }
+    ensures reached { IfOk result (λ found. IfSome found (λ text. reached.new ≡ behind_pair schema.now (Z.tokens_of analyzers.now) reached.old (field, tree_of value.now))) }
 {
-    let tokens = pair_tokens(alloc, analyzers, schema, field, value)?;
-    let Some(progress) = advanced(reached[field as usize], tokens.as_slice()) else {
-        return Err(IndexError::Later);
+    let cut = cut_tokens(
+        alloc,
+        analyzers,
+        tokenizer_name(&schema[field as usize]),
+        value,
+    )?;
+    let tokens = text_tokens(&cut, value);
+    let Some(progress) = advanced(reached[field as usize], tokens) else {
+        return Ok(None);
     };
     reached[field as usize] = progress;
-    Ok(FieldText { field, tokens })
+    Ok(Some(FieldText { field, at, cut }))
 }

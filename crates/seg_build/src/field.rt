@@ -1,13 +1,12 @@
 //! A field while documents come.
-ghost use Rattle.std.specs.Prelude.{◌≡◌, true, false, Err, OnOk};
+ghost use Rattle.std.specs.Prelude.{◌≡◌, OnOk};
 ghost use Rattle.std.specs.FinMap as fin;
-ghost use Rattle.seg_build.specs.Field.{start_in, count_in, text_fits, added};
+ghost use Rattle.seg_build.specs.Field.{start_in, count_in, added};
 
-use crate::error::IndexError;
 use crate::terms::TermIndex;
 use crate::tokens::{add_tokens, counted_len, next_start};
 use seg_values::Token;
-use std::alloc::Global;
+use std::alloc::{AllocError, Global};
 
 /// The terms of a field, and how far its newest document has come: where the next text begins, and how many tokens
 /// came before it. In any other document a text begins at 0.
@@ -31,25 +30,24 @@ impl FieldPostings {
         }
     }
 
-    /// Adds a text of a document that no other one is past. After an error some of its tokens may have been added.
+    /// Adds a text of a document that no other one is past. One that does not fit is answered as memory that is lacking.
+    /// After an error some of its tokens may have been added.
     pub fn add_text(
         &mut self,
         alloc: Global,
         document: u32,
         tokens: &[Token],
-    ) -> Result<(), IndexError>
-        ensures fits { OnOk result (text_fits document self.old tokens.now ≡ true) }
-        ensures added { OnOk result (self.new ≡ added document self.old tokens.now) }
-        ensures later { result ≡ Err IndexError.Later → text_fits document self.old tokens.now ≡ false }
+    ) -> Result<(), AllocError>
+        ensures { OnOk result (self.new ≡ added document self.old tokens.now) }
     {
         let start = self.start_in(document);
         let count = self.count_in(document);
         let more = counted_len(tokens);
         if more > (u32::MAX - count) as usize {
-            return Err(IndexError::Later);
+            return Err(AllocError);
         }
         let Some(next) = next_start(start, tokens) else {
-            return Err(IndexError::Later);
+            return Err(AllocError);
         };
         add_tokens(&mut self.terms, alloc, document, start, tokens)?;
         self.document = document;

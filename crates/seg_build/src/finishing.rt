@@ -1,27 +1,28 @@
-//! The files of a segment from what its writer has.
-ghost use Rattle.std.specs.Prelude.{◌≡◌, ◌≢◌, ◌⊎◌, List, ℕ, Some, Err, map, true, not, IsTrue, OnOk, IfOk, IfErr};
-ghost use Rattle.std.specs.FinMap.{entries, get};
-ghost use Rattle.std.specs.List.{list_all};
+//! A segment from what its writer has.
+ghost use Rattle.std.specs.Prelude.{◌≡◌, ◌≢◌, ◌⊎◌, List, ℕ, Some, Err, true, IsTrue, OnOk, IfOk, IfErr};
+ghost use Rattle.std.specs.FinMap.{get};
 ghost use Rattle.seg_directory.specs.Faults.{FaultHasCause};
 ghost use Rattle.seg_values.specs.Tree.{Document};
-ghost use Rattle.seg_model.specs.Built.{is_built_entry};
 ghost use Rattle.seg_model.specs.Fields.{Analyzer};
 ghost use Rattle.seg_model.specs.IndexOfFiles as index;
-ghost use Rattle.seg_model.specs.Reading.{all_terms};
+ghost use Rattle.seg_build.specs.Built.{is_built_schema};
+ghost use Rattle.seg_build.specs.FieldTerms.{fields_of};
 ghost use Rattle.seg_build.specs.Forms.{segment_forms};
 ghost use Rattle.seg_build.specs.SegmentFiles.{AreAbsent, KeepsAllBut, MakingSeen, segment_names};
 ghost use Rattle.seg_build.specs.SegmentWriting.{kept_of, IsKeptOf, IsUnderWay};
+ghost use Rattle.seg_build.specs.Standing.{StandFor};
 ghost use Rattle.seg_build.specs.Totals.{TotalsAreCounts};
 
 use crate::add_operation::Opstamp;
 use crate::fields::{IndexedBatch, IndexedFields};
+use crate::memory_segment::MemorySegment;
 use crate::segment_serializer::SegmentSerializer;
 use crate::writer_parts::WriterParts;
 use seg_common::{FileName, SegmentComponent};
 use seg_directory::Directory;
 use seg_meta::Segment;
 use seg_values::{TResult, TantivyError};
-use std::alloc::Global;
+use std::alloc::{AllocError, Global};
 
 /// Makes the six files of a segment, and answers the stamps of its documents.
 pub(crate) fn finish<W: Directory>(
@@ -30,8 +31,7 @@ pub(crate) fn finish<W: Directory>(
     parts: WriterParts,
     directory: &mut W,
 ) -> TResult<Vec<Opstamp>>
-    requires entries { list_all is_built_entry segment.schema ≡ true }
-    requires no_columns { list_all (λ e. not e.fast) segment.schema ≡ true }
+    requires entries { is_built_schema segment.schema ≡ true }
     requires under_way { (analyzer : Analyzer) × IsUnderWay segment.schema analyzer (kept_of parts) }
     ensures stands { IsTrue (W.tells directory.old) → OnOk result ((analyzer : Analyzer) (documents : List Document) (stamps : List ℕ)
         → IsKeptOf segment.schema analyzer documents stamps (kept_of parts)
@@ -39,7 +39,7 @@ pub(crate) fn finish<W: Directory>(
     ensures totals { IsTrue (W.tells directory.old) → OnOk result ((analyzer : Analyzer) (documents : List Document) (stamps : List ℕ)
         → IsKeptOf segment.schema analyzer documents stamps (kept_of parts)
         → (postings : List ℕ) → get (W.files directory.new) (FileName.Part segment.meta.id SegmentComponent.Postings) ≡ Some postings
-        → TotalsAreCounts postings (map entries (all_terms segment.schema analyzer documents))) }
+        → TotalsAreCounts postings (fields_of segment.schema analyzer documents)) }
     ensures stamps { IfOk result (λ stamps. stamps.items ≡ parts.stamps.items) }
     ensures fresh { IsTrue (W.tells directory.old)
         → AreAbsent (segment_names segment.meta.id) (W.files directory.old)
@@ -53,23 +53,55 @@ pub(crate) fn finish<W: Directory>(
         (λ e. (e ≡ TantivyError.IndexAlreadyExists)
         ⊎ (e ≡ TantivyError.OpenWriteError) ⊎ (e ≡ TantivyError.OutOfMemory)) }
 {
+    let id = segment.id();
+    let Ok(made) = memory_segment(alloc, segment, parts) else {
+        return Err(TantivyError::OutOfMemory);
+    };
+    match made.bytes.write(alloc, id, directory) {
+        Ok(()) => Ok(made.stamps),
+        Err(e) => Err(e),
+    }
+}
+
+/// Makes the segment, of which no file is made.
+pub(crate) fn memory_segment(
+    alloc: Global,
+    segment: Segment,
+    parts: WriterParts,
+) -> Result<MemorySegment, AllocError>
+    requires entries { is_built_schema segment.schema ≡ true }
+    requires under_way { (analyzer : Analyzer) × IsUnderWay segment.schema analyzer (kept_of parts) }
+    ensures stand { IfOk result (λ made. (analyzer : Analyzer) (documents : List Document) (stamps : List ℕ)
+        → IsKeptOf segment.schema analyzer documents stamps (kept_of parts)
+        → StandFor segment.schema analyzer documents made.bytes) }
+    ensures fields { IfOk result (λ made. (analyzer : Analyzer) (documents : List Document) (stamps : List ℕ)
+        → IsKeptOf segment.schema analyzer documents stamps (kept_of parts)
+        → made.fields ≡ fields_of segment.schema analyzer documents) }
+    ensures totals { IfOk result (λ made. TotalsAreCounts made.bytes.postings.items made.fields) }
+    ensures stamps { IfOk result (λ made. made.stamps.items ≡ parts.stamps.items) }
+{
     let WriterParts {
         fields,
         norms,
         store,
         stamps,
+        ..
     } = parts;
-    let Ok(fields) = IndexedFields::sorted(alloc, fields) else {
-        return Err(TantivyError::OutOfMemory);
+    let Ok(fields) = IndexedFields::sorted(alloc, segment.schema().fields(), fields) else {
+        return Err(AllocError);
     };
     let batch = IndexedBatch { fields, norms };
     let count = stamps.len() as u32;
     let serializer = SegmentSerializer::with_store(alloc, segment, store);
     let Ok(serializer) = serializer.filled(&batch, count) else {
-        return Err(TantivyError::OutOfMemory);
+        return Err(AllocError);
     };
-    match serializer.close(directory) {
-        Ok(()) => Ok(stamps),
-        Err(e) => Err(e),
-    }
+    let Ok(bytes) = serializer.into_bytes() else {
+        return Err(AllocError);
+    };
+    Ok(MemorySegment {
+        bytes,
+        fields: batch.fields,
+        stamps,
+    })
 }

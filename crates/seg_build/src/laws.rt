@@ -1,5 +1,5 @@
 //! Laws of the terms of documents, and of the files of a segment.
-ghost use Rattle.seg_build.specs.Laws.{HoldsOneContents};
+ghost use Rattle.seg_build.specs.Laws.{BuiltHaveNoColumns, HoldsOneContents};
 ghost use Rattle.seg_build.specs.Writable.{BuiltTermsCanBeWritten};
 
 /// Of documents that are indexed the terms can be written: within a document the positions of a term don't fall, and
@@ -11,4 +11,9 @@ pub fn built_terms_can_be_written()
 /// The files of a segment hold at most one contents.
 pub fn files_hold_one_contents()
     ensures { HoldsOneContents }
+{}
+
+/// Documents have no columns, for a schema that is built.
+pub fn built_schemas_have_no_columns()
+    ensures { BuiltHaveNoColumns }
 {}

@@ -1,24 +1,23 @@
 //! The lengths of the fields of one document.
-ghost use Rattle.std.specs.Prelude.{◌≡◌, ◌≤◌, length, IfErr, IfSome, IsSomeAnd, OnOk};
+ghost use Rattle.std.specs.Prelude.{◌≡◌, ◌≤◌, length, IfSome, IsSomeAnd, OnOk};
 ghost use Rattle.std.specs.List.{slice_get};
 ghost use Rattle.seg_common.specs.Growing.{HasGrown};
 ghost use Rattle.seg_postings.specs.FieldNorms.{at_field, with_length};
 ghost use Rattle.seg_build.specs.Lengths.{AreUpTo, with_counts};
 
-use crate::error::IndexError;
 use crate::field::FieldPostings;
 use seg_postings::FieldNormsWriter;
 use seg_values::Field;
+use std::alloc::AllocError;
 
 /// Records how many tokens a document has in each field that has lengths, once its values were added to the fields.
 pub(crate) fn record_lengths(
     document: u32,
     fields: &[FieldPostings],
     norms: &mut FieldNormsWriter,
-) -> Result<(), IndexError>
+) -> Result<(), AllocError>
     requires room { IsSomeAnd norms.old (AreUpTo document) }
-    ensures ok { OnOk result (HasGrown norms.old norms.new (with_counts document fields.now)) }
-    ensures err { IfErr result (λ e. e ≡ IndexError.OutOfMemory) }
+    ensures { OnOk result (HasGrown norms.old norms.new (with_counts document fields.now)) }
 {
     for place in 0..fields.len() {
         let count = fields[place].count_in(document);
@@ -33,13 +32,12 @@ fn record_length(
     place: usize,
     count: u32,
     norms: &mut FieldNormsWriter,
-) -> Result<(), IndexError>
+) -> Result<(), AllocError>
     requires room { IsSomeAnd norms.old (λ kept. IfSome (slice_get kept place) (λ k. IfSome k (λ ids. length ids ≤ document))) }
-    ensures ok { OnOk result (HasGrown norms.old norms.new (at_field place (with_length document count))) }
-    ensures err { IfErr result (λ e. e ≡ IndexError.OutOfMemory) }
+    ensures { OnOk result (HasGrown norms.old norms.new (at_field place (with_length document count))) }
 {
     let Ok(id) = u32::try_from(place) else {
-        return Err(IndexError::OutOfMemory);
+        return Err(AllocError);
     };
     let field = Field::from_field_id(id);
     if norms.ids(field).is_none() {
@@ -47,6 +45,6 @@ fn record_length(
     }
     match norms.record(document, field, count) {
         Ok(()) => Ok(()),
-        Err(_) => Err(IndexError::OutOfMemory),
+        Err(_) => Err(AllocError),
     }
 }

@@ -1,25 +1,26 @@
-//! Indexes documents of texts in memory, and writes them as the six files of a segment.
+//! Indexes documents in memory, and writes them as the six files of a segment.
 //!
-//! A schema of text fields and documents of texts become the terms of each field, in byte order, each with its
-//! postings; contracts see them as a list for each field, of value bytes with postings. While documents come, a field
-//! is a hash table from the bytes of a term to its occurrences, and it is sorted once at the end. A `SegmentWriter` takes
-//! documents one by one; `index_documents` and `SegmentBytes` do the same at once.
+//! A schema and documents become the terms of each field, in byte order, each with its postings; contracts see them as a
+//! list for each field. While documents come, a field is a hash table from the bytes of a term to its occurrences, each
+//! with its position; at the end it is sorted once, and what is shown and written of a term is what its field records. A
+//! `SegmentWriter` takes documents one by one. What isn't built yet, fields that are fast and indexed fields of other
+//! kinds than texts, is refused when a writer is made.
 //!
 //! To be read in this order: `hits` and `runs` (the occurrences of a term, which make its postings), `terms` (a field's
-//! hash table), `sorted` (its terms in byte order), `tokens`, `field`, `stored` and `document` (what one more text, and one
-//! more document, adds, and when it is refused), `lengths` (the field norms of a document), `fields` (all documents);
-//! `writing` (the terms of a field, into a `FieldSerializer`), `terms_files`, `norms_file` and `store_file` (the bytes of
-//! each file), `segment_bytes` (of all six), `component_files` and `segment_files` (files are made), `utf8`, `segment` (the
-//! bytes of documents that were indexed), `segment_serializer` (what the components of a segment are to hold);
-//! `add_operation`, `field_text` and `checking` (a document is checked before it is added), `writer_start`, `writer_parts`,
+//! hash table), `record_kinds` and `sorted` (its terms in byte order, and what they record), `tokens` and `field` (what
+//! one more text adds), `lengths` (the field norms of a document), `usage` (how much memory documents take), `fields` (those of all documents); `writing` (the terms
+//! of a field, into a `FieldSerializer`), `terms_files` and `norms_file` (the parts of files), `component_files` and
+//! `segment_files` (files are made), `segment_serializer` (what the components of a segment are to hold); `add_operation`
+//! and `user_operation`, `entry`, `field_text` and `checking` (a document is checked before it is added, and its texts are
+//! cut), `adding` (to which they are added), `refused` (why one is not), `writer_start`, `writer_parts`, `memory_segment`,
 //! `finishing` and `segment_writer`; `laws` (terms that were indexed can be written, and files hold one contents at most).
 #![tactic(auto)]
 
 mod add_operation;
+mod adding;
 mod checking;
 mod component_files;
-mod document;
-mod error;
+mod entry;
 mod field;
 mod field_text;
 mod fields;
@@ -27,10 +28,11 @@ mod finishing;
 mod hits;
 mod laws;
 mod lengths;
+mod memory_segment;
 mod norms_file;
+mod record_kinds;
+mod refused;
 mod runs;
-mod segment;
-mod segment_bytes;
 mod segment_files;
 #[cfg(test)]
 mod segment_files_tests;
@@ -39,26 +41,29 @@ mod segment_writer;
 #[cfg(test)]
 mod segment_writer_tests;
 mod sorted;
-mod store_file;
-mod stored;
 mod terms;
 mod terms_files;
 #[cfg(test)]
 mod tests;
 mod tokens;
-mod utf8;
+mod usage;
+mod user_operation;
 mod writer_parts;
 mod writer_start;
 mod writing;
 
 pub use add_operation::{AddOperation, Opstamp};
-pub use error::IndexError;
-pub use fields::{IndexedBatch, IndexedFields, index_documents};
+pub use entry::is_built_schema;
+pub use fields::{IndexedBatch, IndexedFields};
 pub use hits::Hit;
-pub use laws::{built_terms_can_be_written, files_hold_one_contents};
+pub use laws::{
+    built_schemas_have_no_columns, built_terms_can_be_written, files_hold_one_contents,
+};
+pub use memory_segment::MemorySegment;
 pub use runs::first_run;
 pub use segment_files::SegmentBytes;
 pub use segment_serializer::SegmentSerializer;
 pub use segment_writer::SegmentWriter;
 pub use sorted::SortedTerms;
+pub use user_operation::UserOperation;
 pub use writing::{write_field, write_terms};

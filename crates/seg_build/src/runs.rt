@@ -1,5 +1,6 @@
 //! The postings of a term, one after another.
-ghost use Rattle.std.specs.Prelude.{◌<◌, length};
+ghost use Rattle.std.specs.Prelude.{◌≡◌, ◌<◌, length};
+ghost use Rattle.seg_build.specs.Grouped.{grouped};
 ghost use Rattle.seg_build.specs.Runs.{IsFirstRun};
 
 use crate::hits::Hit;
@@ -16,4 +17,18 @@ pub fn first_run(hits: &[Hit]) -> usize
         }
     }
     hits.len()
+}
+
+/// How many postings the occurrences make: in how many documents the term occurs.
+pub(crate) fn posting_count(hits: &[Hit]) -> usize
+    ensures { result ≡ length (grouped hits.now) }
+{
+    let mut count = 0;
+    let mut rest = hits;
+    while !rest.is_empty() {
+        let (_, others) = rest.split_at(first_run(rest));
+        rest = others;
+        count += 1;
+    }
+    count
 }

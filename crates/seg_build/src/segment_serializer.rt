@@ -1,9 +1,8 @@
 //! The serializer of a segment.
 ghost use Rattle.std.specs.Prelude.{◌≡◌, ◌≢◌, ◌⊎◌, ◌↔◌, true, length, Some, Err, option_map, IsTrue, IfOk, IfErr, OnOk};
-ghost use Rattle.std.specs.List.{list_all};
 ghost use Rattle.seg_directory.specs.Faults.{FaultHasCause};
-ghost use Rattle.seg_model.specs.Built.{is_built_entry};
 ghost use Rattle.seg_postings.specs.Files.{no_fields};
+ghost use Rattle.seg_build.specs.Built.{is_built_schema};
 ghost use Rattle.seg_build.specs.Serializing.{IsNormsFile};
 ghost use Rattle.seg_build.specs.SegmentFiles.{AreAbsent, KeepsAllBut, MakingSeen, segment_names};
 
@@ -104,7 +103,7 @@ impl SegmentSerializer {
         count: u32,
     ) -> Result<SegmentSerializer, AllocError>
         requires fields { length batch.now.fields ≡ length self.segment.schema }
-        requires entries { list_all is_built_entry self.segment.schema ≡ true }
+        requires entries { is_built_schema self.segment.schema ≡ true }
         requires fresh { self.postings ≡ Some no_fields }
         ensures { IfOk result (IsFilled batch.now count self) }
     {
@@ -162,7 +161,7 @@ impl SegmentSerializer {
     }
 
     /// The bytes of the six files.
-    fn into_bytes(self) -> Result<SegmentBytes, AllocError>
+    pub(crate) fn into_bytes(self) -> Result<SegmentBytes, AllocError>
         ensures { IfOk result (IsLaidOut self) }
     {
         let SegmentSerializer {

@@ -1,27 +1,31 @@
 //! The writer of a segment.
-ghost use Rattle.std.specs.Prelude.{◌≡◌, ◌≢◌, ◌<◌, ◌^◌, ◌⊎◌, [], List, ℕ, length, map, Some, None, Err, IsTrue, IfOk, IfErr, IfSome, OnOk};
-ghost use Rattle.std.specs.FinMap.{entries, get};
+ghost use Rattle.std.specs.Prelude.{◌≡◌, ◌≢◌, ◌⊎◌, [], List, ℕ, Some, None, Err, IsTrue, IfOk, IfErr, IfSome, OnOk};
+ghost use Rattle.std.specs.FinMap.{get};
 ghost use Rattle.seg_directory.specs.Faults.{FaultHasCause};
 ghost use Rattle.seg_values.specs.Tree.{Document};
 ghost use Rattle.seg_model.specs.IndexOfFiles as index;
-ghost use Rattle.seg_model.specs.Reading.{all_terms};
 ghost use Rattle.seg_model.specs.Valid.{Known};
+ghost use Rattle.seg_build.specs.FieldTerms.{fields_of};
 ghost use Rattle.seg_build.specs.Forms.{segment_forms};
+ghost use Rattle.seg_build.specs.MemoryUsage.{memory_usage, saturated};
 ghost use Rattle.seg_build.specs.SegmentFiles.{AreAbsent, KeepsAllBut, MakingSeen, segment_names};
+ghost use Rattle.seg_build.specs.Standing.{StandFor};
 ghost use Rattle.seg_build.specs.Totals.{TotalsAreCounts};
-ghost use Rattle.seg_build.specs.WriterStart.{Tests, start_refusal};
+ghost use Rattle.seg_build.specs.WriterStart.{IsStartError, Tests, start_refusal};
 
 use crate::add_operation::{AddOperation, Opstamp};
 use crate::checking::{Progress, checked_texts};
-use crate::error::IndexError;
-use crate::finishing::finish;
+use crate::finishing::{finish, memory_segment};
+use crate::memory_segment::MemorySegment;
+use crate::refused::refusal;
+use crate::usage::length_fields;
 use crate::writer_parts::WriterParts;
 use crate::writer_start::start_refusal;
 use seg_common::{FileName, SegmentComponent};
 use seg_directory::Directory;
 use seg_meta::{IndexSettings, Segment};
-use seg_values::{Analyzers, ArgumentCause, TResult, TantivyError};
-use std::alloc::Global;
+use seg_values::{Analyzers, ArgumentCause, TResult, TantivyDocument, TantivyError};
+use std::alloc::{AllocError, Global};
 use std::marker::Model;
 
 /// The most documents of a segment.
@@ -39,9 +43,9 @@ pub struct SegmentWriter<'a, Z: Analyzers> {
 }
 
 impl<'a, Z: Analyzers> Model for SegmentWriter<'a, Z> {
-    ghost use Rattle.std.specs.Prelude.{◌≡◌, true, not, option_map, IfSome};
-    ghost use Rattle.std.specs.List.{list_all, AllByRecursion};
-    ghost use Rattle.seg_model.specs.Built.{is_built_entry};
+    ghost use Rattle.std.specs.Prelude.{◌≡◌, true, option_map, IfSome};
+    ghost use Rattle.std.specs.List.{AllByRecursion};
+    ghost use Rattle.seg_build.specs.Built.{is_built_schema};
     ghost use Rattle.seg_model.specs.Fields.{indexing_tokenizer};
     ghost use Rattle.std.specs.Coded.{codes};
     ghost use Rattle.seg_build.specs.Kept.{kept_code};
@@ -60,8 +64,7 @@ impl<'a, Z: Analyzers> Model for SegmentWriter<'a, Z> {
       },
     ) };
 
-    ghost invariant = { λ w. (list_all is_built_entry w.segment.schema ≡ true)
-        × (list_all (λ e. not e.fast) w.segment.schema ≡ true)
+    ghost invariant = { λ w. (is_built_schema w.segment.schema ≡ true)
         × AllByRecursion (λ e. Z.knows w.analyzers.now (indexing_tokenizer e)) w.segment.schema
         × IfSome w.parts (λ parts. IsUnderWay w.segment.schema (Z.tokens_of w.analyzers.now) (kept_of parts)) };
 }
@@ -79,18 +82,14 @@ impl<'a, Z: Analyzers> SegmentWriter<'a, Z> {
     ) -> TResult<SegmentWriter<'a, Z>>
         ensures ok { IfOk result (λ w. Writes (Z.tokens_of analyzers.now) [] [] w.1) }
         ensures of { IfOk result (λ w. (w.0 ≡ analyzers.now) × (w.1.schema ≡ segment.schema) × (w.1.id ≡ segment.meta.id)) }
-        ensures refused { (known : Known) → Tests known (Z.knows analyzers.now) → length segment.schema < 2 ^ 32
+        ensures refused { (known : Known) → Tests known (Z.knows analyzers.now)
             → IfSome (start_refusal known memory_budget_in_bytes segment.schema settings.now) (λ e. result ≡ Err e) }
+        ensures errors { IfErr result IsStartError }
         ensures causes { (known : Known) → Tests known (Z.knows analyzers.now)
             → IfErr result (λ e. (start_refusal known memory_budget_in_bytes segment.schema settings.now ≡ Some e) ⊎ (e ≡ TantivyError.OutOfMemory)) }
     {
         let schema = segment.schema();
-        if let Some(e) = start_refusal(
-            analyzers,
-            memory_budget_in_bytes,
-            schema.fields(),
-            settings,
-        ) {
+        if let Some(e) = start_refusal(analyzers, memory_budget_in_bytes, schema, settings) {
             return Err(e);
         }
         let Ok(parts) = WriterParts::new(alloc, schema, settings.docstore_blocksize) else {
@@ -122,10 +121,40 @@ impl<'a, Z: Analyzers> SegmentWriter<'a, Z> {
         self.max_doc()
     }
 
+    /// How much memory its documents take, by a formula: the bytes of the stored documents, 16 for each occurrence of a
+    /// term, and one for each document and field with lengths; at most `usize::MAX`. Nothing, once memory was lacking.
+    pub fn mem_usage(&self) -> usize
+        ensures of { (documents : List Document) → (stamps : List ℕ) → Writes (Z.tokens_of self.now.0) documents stamps self.now.1
+            → result ≡ saturated (memory_usage self.now.1.schema (Z.tokens_of self.now.0) documents) }
+        ensures nothing { self.now.1.kept ≡ None → result ≡ 0 }
+    {
+        let Some(parts) = &self.parts else {
+            return 0;
+        };
+        let lengths = parts
+            .stamps
+            .len()
+            .saturating_mul(length_fields(self.segment.schema()));
+        let occurrences = parts.occurrences.saturating_mul(16);
+        let terms = parts.store.mem_usage().saturating_add(occurrences);
+        terms.saturating_add(lengths)
+    }
+
     /// Adds a document behind the others.
     pub fn add_document(&mut self, operation: AddOperation) -> TResult<()>
         ensures ok { OnOk result (Adds (Z.tokens_of self.old.0) operation.document operation.opstamp self.old.1 self.new.1) }
-        ensures err { IfErr result (AddsNone (Z.tokens_of self.old.0) operation.document self.old.1 self.new.1) }
+        ensures err { IfErr result (AddsNone (Z.tokens_of self.old.0) operation.document operation.opstamp self.old.1 self.new.1) }
+        ensures analyzers { self.new.0 ≡ self.old.0 }
+        ensures same { IsOfSame self.old.1 self.new.1 }
+    {
+        let AddOperation { opstamp, document } = operation;
+        self.add_ref(opstamp, &document)
+    }
+
+    /// Adds a document behind the others. An error tells the stamp as the place of the document.
+    pub fn add_ref(&mut self, opstamp: Opstamp, document: &TantivyDocument) -> TResult<()>
+        ensures ok { OnOk result (Adds (Z.tokens_of self.old.0) document.now opstamp self.old.1 self.new.1) }
+        ensures err { IfErr result (AddsNone (Z.tokens_of self.old.0) document.now opstamp self.old.1 self.new.1) }
         ensures analyzers { self.new.0 ≡ self.old.0 }
         ensures same { IsOfSame self.old.1 self.new.1 }
     {
@@ -136,28 +165,25 @@ impl<'a, Z: Analyzers> SegmentWriter<'a, Z> {
             self.parts = Some(parts);
             return Err(TantivyError::InvalidArgument(ArgumentCause::Documents));
         }
-        let AddOperation { opstamp, document } = operation;
         document.texts_are_utf8();
+        let alloc = self.alloc;
         let schema = self.segment.schema();
-        match checked_texts(
-            self.alloc,
-            self.analyzers,
-            schema.fields(),
-            &document,
-            &mut self.reached,
-        ) {
-            Ok(texts) => match parts.with_document(self.alloc, schema, &document, &texts, opstamp) {
+        match checked_texts(alloc, self.analyzers, schema, document, &mut self.reached) {
+            Ok(Some(texts)) => match parts.with_document(alloc, schema, document, &texts, opstamp) {
                 Ok(parts) => {
                     self.parts = Some(parts);
                     Ok(())
                 }
                 Err(_) => Err(TantivyError::OutOfMemory),
             },
-            Err(IndexError::Later) => {
-                self.parts = Some(parts);
-                Err(TantivyError::InvalidArgument(ArgumentCause::Later))
-            }
-            Err(IndexError::OutOfMemory) => Err(TantivyError::OutOfMemory),
+            Ok(None) => match refusal(alloc, self.analyzers, schema, document, opstamp) {
+                Ok(e) => {
+                    self.parts = Some(parts);
+                    Err(e)
+                }
+                Err(_) => Err(TantivyError::OutOfMemory),
+            },
+            Err(AllocError) => Err(TantivyError::OutOfMemory),
         }
     }
 
@@ -169,7 +195,7 @@ impl<'a, Z: Analyzers> SegmentWriter<'a, Z> {
         ensures totals { IsTrue (W.tells directory.old) → OnOk result ((documents : List Document) (stamps : List ℕ)
             → Writes (Z.tokens_of self.entry.0) documents stamps self.entry.1
             → (postings : List ℕ) → get (W.files directory.new) (FileName.Part self.entry.1.id SegmentComponent.Postings) ≡ Some postings
-            → TotalsAreCounts postings (map entries (all_terms self.entry.1.schema (Z.tokens_of self.entry.0) documents))) }
+            → TotalsAreCounts postings (fields_of self.entry.1.schema (Z.tokens_of self.entry.0) documents)) }
         ensures stamps { IfOk result (λ answer. (documents : List Document) (stamps : List ℕ) → Writes (Z.tokens_of self.entry.0) documents stamps self.entry.1 → answer.items ≡ stamps) }
         ensures lacking { self.entry.1.kept ≡ None → result ≡ Err TantivyError.SystemError }
         ensures fresh { IsTrue (W.tells directory.old)
@@ -194,6 +220,35 @@ impl<'a, Z: Analyzers> SegmentWriter<'a, Z> {
         match parts {
             Some(parts) => finish(alloc, segment, parts, directory),
             None => Err(TantivyError::SystemError),
+        }
+    }
+
+    /// The segment in memory, for a caller that makes its files: they stand for the documents that were added.
+    pub fn into_segment(self) -> TResult<MemorySegment>
+        ensures stands { IfOk result (λ made. (documents : List Document) (stamps : List ℕ)
+            → Writes (Z.tokens_of self.entry.0) documents stamps self.entry.1
+            → StandFor self.entry.1.schema (Z.tokens_of self.entry.0) documents made.bytes) }
+        ensures fields { IfOk result (λ made. (documents : List Document) (stamps : List ℕ)
+            → Writes (Z.tokens_of self.entry.0) documents stamps self.entry.1
+            → made.fields ≡ fields_of self.entry.1.schema (Z.tokens_of self.entry.0) documents) }
+        ensures totals { IfOk result (λ made. TotalsAreCounts made.bytes.postings.items made.fields) }
+        ensures stamps { IfOk result (λ made. (documents : List Document) (stamps : List ℕ) → Writes (Z.tokens_of self.entry.0) documents stamps self.entry.1 → made.stamps.items ≡ stamps) }
+        ensures lacking { self.entry.1.kept ≡ None → result ≡ Err TantivyError.SystemError }
+        ensures errors { IfErr result (λ e. ((e ≡ TantivyError.SystemError) × (self.entry.1.kept ≡ None)) ⊎ (e ≡ TantivyError.OutOfMemory)) }
+    {
+        let SegmentWriter {
+            alloc,
+            analyzers: _,
+            segment,
+            reached: _,
+            parts,
+        } = self;
+        let Some(parts) = parts else {
+            return Err(TantivyError::SystemError);
+        };
+        match memory_segment(alloc, segment, parts) {
+            Ok(made) => Ok(made),
+            Err(AllocError) => Err(TantivyError::OutOfMemory),
         }
     }
 }

@@ -3,17 +3,21 @@ ghost use Rattle.std.specs.Prelude.{◌≡◌, ◌<◌, ◌≤◌, ◌^◌, leng
 ghost use Rattle.std.specs.FinMap.{entries};
 ghost use Rattle.std.specs.List.{slice_get};
 ghost use Rattle.std.specs.Map.{keys_of, values_of};
+ghost use Rattle.seg_build.specs.FieldTerms.{entries_as, postings_as};
 ghost use Rattle.seg_build.specs.Grouped.{grouped};
-ghost use Rattle.seg_build.specs.TokenTotal.{token_total};
+ghost use Rattle.seg_build.specs.TokenTotal.{count_total, token_total};
 
 use crate::hits::{Hit, Hits};
+use crate::runs::posting_count;
 use crate::terms::TermIndex;
+use seg_postings::RecordKind;
 use std::alloc::{AllocError, Global};
 use std::marker::Model;
 
-/// Terms in byte order, each with its occurrences.
+/// The terms of a field in byte order, each with its occurrences, and what their postings keep of these.
 #[derive(Drop)]
 pub struct SortedTerms {
+    kind: RecordKind,
     terms: Vec<(Vec<u8>, Hits)>,
 }
 
@@ -22,31 +26,38 @@ impl Model for SortedTerms {
     ghost use Rattle.std.specs.Ordering.{nat_cmp};
     ghost use Rattle.std.specs.Cmp.Lexicographic.{slice_cmp};
     ghost use Rattle.std.specs.FinMap.{is_sorted};
-    ghost use Rattle.seg_build.specs.Entries.{TermEntries, entries_code};
+    ghost use Rattle.seg_build.specs.FieldTerms.{FieldTerms, entries_as, field_terms_code};
 
-    ghost Value = { TermEntries };
+    ghost Value = { FieldTerms };
 
-    ghost coded = { entries_code };
+    ghost coded = { field_terms_code };
 
     ghost use Rattle.seg_build.specs.Grouped.{grouped};
     ghost use Rattle.seg_build.specs.ByBytes.{seen};
 
-    ghost view = { λ a. seen grouped a.terms.items };
+    ghost view = { λ a. record { kind = a.kind; terms = entries_as a.kind (seen grouped a.terms.items) } };
 
     ghost invariant = { λ a. IsTrue (is_sorted (slice_cmp nat_cmp) (seen grouped a.terms.items)) };
 }
 
 impl SortedTerms {
+    /// What the postings keep of each document.
+    pub fn kind(&self) -> RecordKind
+        ensures { result ≡ self.now.kind }
+    {
+        self.kind
+    }
+
     pub fn len(&self) -> usize
-        ensures { result ≡ length self.now }
+        ensures { result ≡ length self.now.terms }
     {
         self.terms.len()
     }
 
     /// The bytes of the term at a place.
     pub fn bytes_at(&self, index: usize) -> &[u8]
-        requires { index < length self.now }
-        ensures { slice_get (keys_of self.now) index ≡ Some result.now }
+        requires { index < length self.now.terms }
+        ensures { slice_get (keys_of self.now.terms) index ≡ Some result.now }
     {
         let pair = &self.terms[index];
         pair.0.as_slice()
@@ -54,31 +65,47 @@ impl SortedTerms {
 
     /// Where that term occurs: document by document, and in a document as its tokens come.
     pub fn hits_at(&self, index: usize) -> &[Hit]
-        requires { index < length self.now }
-        ensures { slice_get (values_of self.now) index ≡ Some (grouped result.now) }
+        requires { index < length self.now.terms }
+        ensures { slice_get (values_of self.now.terms) index ≡ Some (postings_as self.now.kind (grouped result.now)) }
     {
         let pair = &self.terms[index];
         pair.1.as_slice()
     }
 
-    /// How many tokens gave these terms: how often they occur in all. None where that is no u64.
+    /// How often the terms occur in all, as far as that is recorded: where their documents alone are, once in each. None
+    /// where that is no u64.
     pub fn total_num_tokens(&self) -> Option<u64>
-        ensures total { IfSome result (λ n. n ≡ token_total self.now) }
-        ensures none { result ≡ None → 2 ^ 64 ≤ token_total self.now }
+        ensures total { IfSome result (λ n. n ≡ token_total self.now.terms) }
+        ensures none { result ≡ None → 2 ^ 64 ≤ token_total self.now.terms }
     {
         let mut total: u64 = 0;
         for at in 0..self.len() {
-            total = total.checked_add(self.hits_at(at).len() as u64)?;
+            let count = recorded_count(self.kind, self.hits_at(at)) as u64;
+            total = total.checked_add(count)?;
         }
         Some(total)
     }
 }
 
-/// Orders the terms.
-pub(crate) fn sort_terms(alloc: Global, index: TermIndex) -> Result<SortedTerms, AllocError>
-    ensures { IfOk result (λ sorted. sorted ≡ entries index) }
+/// How often a term occurs, as far as its postings tell.
+fn recorded_count(kind: RecordKind, hits: &[Hit]) -> usize
+    ensures { result ≡ count_total (postings_as kind (grouped hits.now)) }
+{
+    match kind {
+        RecordKind::Documents => posting_count(hits),
+        RecordKind::Counts | RecordKind::Positions => hits.len(),
+    }
+}
+
+/// Orders the terms of a field, whose postings keep what the kind says.
+pub(crate) fn sort_terms(
+    alloc: Global,
+    kind: RecordKind,
+    index: TermIndex,
+) -> Result<SortedTerms, AllocError>
+    ensures { IfOk result (λ sorted. sorted ≡ record { kind = kind; terms = entries_as kind (entries index) }) }
 {
     let mut terms = index.into_pairs(alloc)?;
     terms.sort_unstable_by(|a, b| a.0.cmp(&b.0));
-    Ok(SortedTerms { terms })
+    Ok(SortedTerms { kind, terms })
 }

@@ -1,39 +1,21 @@
-//! The files of the terms of all indexed fields.
-ghost use Rattle.std.specs.Prelude.{◌≡◌, ◌<◌, ◌-◌, ◌^◌, List, length, map, true, Some, IfOk, IfErr, IsSomeAnd, OnOk};
-ghost use Rattle.std.specs.FinMap.{entries};
-ghost use Rattle.std.specs.List.{list_all};
-ghost use Rattle.seg_model.specs.Built.{is_built_entry};
-ghost use Rattle.seg_model.specs.Reading.{Terms};
+//! The terms of all indexed fields, in the files.
+ghost use Rattle.std.specs.Prelude.{◌≡◌, ◌<◌, ◌≤◌, ◌-◌, ◌^◌, length, true, Some, IfOk, IfErr, IfSome, IsSomeAnd, OnOk};
+ghost use Rattle.std.specs.List.{slice_get};
+ghost use Rattle.seg_directory.specs.Composite.{low_after};
+ghost use Rattle.seg_model.specs.Fields as model;
 ghost use Rattle.seg_postings.specs.Files.{no_fields};
-ghost use Rattle.seg_build.specs.Filling.{HoldFields};
-ghost use Rattle.seg_build.specs.Holds.{HoldTerms};
-ghost use Rattle.seg_build.specs.Totals.{TotalsAreCounts};
+ghost use Rattle.seg_build.specs.Built.{is_built_schema};
+ghost use Rattle.seg_build.specs.Filling.{AddsIndexed, HoldFields};
 
+use crate::entry::is_indexed;
 use crate::fields::IndexedFields;
 use crate::writing::write_field;
-use seg_postings::{InvertedIndexSerializer, PostingsError, PostingsFiles};
-use seg_values::{Field, Schema};
+use seg_postings::{InvertedIndexSerializer, PostingsError};
+use seg_values::{Field, FieldEntry, Schema};
 use std::alloc::Global;
 
-/// The files of the terms of all indexed fields. Fields that are too many for a file are answered as memory that is
-/// lacking.
-pub(crate) fn terms_files(
-    alloc: Global,
-    schema: &Schema,
-    fields: &IndexedFields,
-) -> Result<PostingsFiles, PostingsError>
-    requires fields { length fields.now ≡ length schema.now }
-    requires entries { list_all is_built_entry schema.now ≡ true }
-    ensures ok { IfOk result (λ files. (held : List Terms) → fields.now ≡ map entries held → HoldTerms schema.now files.terms.items files.postings.items files.positions.items held) }
-    ensures totals { IfOk result (λ files. TotalsAreCounts files.postings.items fields.now) }
-    ensures err { IfErr result (λ e. e ≡ PostingsError.OutOfMemory) }
-{
-    let mut files = InvertedIndexSerializer::new(alloc);
-    add_fields(alloc, schema, fields, &mut files)?;
-    files.close()
-}
-
-/// Adds the terms of all indexed fields to files that have no field yet.
+/// Adds the terms of all indexed fields to files that have no field yet. Fields that are too many for a file are answered
+/// as memory that is lacking.
 pub(crate) fn add_fields(
     alloc: Global,
     schema: &Schema,
@@ -41,16 +23,36 @@ pub(crate) fn add_fields(
     files: &mut InvertedIndexSerializer,
 ) -> Result<(), PostingsError>
     requires fields { length fields.now ≡ length schema.now }
-    requires entries { list_all is_built_entry schema.now ≡ true }
+    requires entries { is_built_schema schema.now ≡ true }
     requires fresh { files.old ≡ Some no_fields }
     ensures ok { OnOk result (IsSomeAnd files.new (HoldFields schema.now fields.now)) }
     ensures err { IfErr result (λ e. e ≡ PostingsError.OutOfMemory) }
 {
-    for at in 0..schema.num_fields() {
-        let field = field_at(at)?;
-        write_field(alloc, fields, field, files)?;
+    let entries = schema.fields();
+    for at in 0..entries.len() {
+        add_field(alloc, &entries[at], fields, at, files)?;
     }
     Ok(())
+}
+
+/// Adds the terms of the field at a place, where it is indexed.
+fn add_field(
+    alloc: Global,
+    entry: &FieldEntry,
+    fields: &IndexedFields,
+    at: usize,
+    files: &mut InvertedIndexSerializer,
+) -> Result<(), PostingsError>
+    requires within { at < length fields.now }
+    requires ascends { IfSome files.old (λ f. (low_after 0 f.terms ≤ at) × (low_after 0 f.postings ≤ at) × (low_after 0 f.positions ≤ at)) }
+    ensures ok { OnOk result (AddsIndexed (model.is_indexed entry.now) (slice_get fields.now at) at files.old files.new) }
+    ensures err { IfErr result (λ e. e ≡ PostingsError.OutOfMemory) }
+{
+    if !is_indexed(entry) {
+        return Ok(());
+    }
+    let field = field_at(at)?;
+    write_field(alloc, fields, field, files)
 }
 
 /// The field at a place, where a file can have so many.

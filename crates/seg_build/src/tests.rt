@@ -1,14 +1,15 @@
-//! Small documents, against terms that were worked out by hand.
+//! Terms of small documents as fields of each index option record them, against terms that were worked out by hand.
 ghost use Rattle.std.specs.Prelude.{◌≡◌, true, IfOk};
 ghost use Rattle.seg_values.specs.Names.{is_allowed};
 
 use super::*;
-use seg_common::{DateTimePrecision, OwnedBytes};
+use seg_common::{DateTimePrecision, OwnedBytes, SegmentId};
 use seg_directory::CompositeFile;
-use seg_postings::{InvertedIndexSerializer, PostingsError, PostingsFiles};
+use seg_meta::{Compressor, IndexSettings, Segment, SegmentMeta};
+use seg_postings::RecordKind;
 use seg_values::{
-    Analyzers, Documents, Field, FieldEntry, FieldKind, IndexOption, OwnedValue, Schema,
-    SchemaBuilder, TantivyDocument, Text, Token, Tokens,
+    Analyzers, Field, FieldEntry, FieldKind, IndexOption, Schema, SchemaBuilder, TResult,
+    TantivyDocument, Text, Token, Tokens,
 };
 use std::alloc::{AllocError, Global};
 use std::test::Fail;
@@ -50,16 +51,26 @@ impl Analyzers for Repeats<'_> {
     }
 }
 
-fn text_entry(alloc: Global, name: &str, norms: bool) -> Result<FieldEntry, AllocError>
+/// The fields, each of another option.
+const NOT_INDEXED: u32 = 0;
+
+const DOCUMENTS: u32 = 1;
+
+const COUNTS: u32 = 2;
+
+const POSITIONS: u32 = 3;
+
+fn text_entry(alloc: Global, name: &str, index: IndexOption) -> Result<FieldEntry, AllocError>
+    requires { is_allowed FieldKind.Text index ≡ true }
     ensures { IfOk result (λ e. is_allowed e.kind e.index ≡ true) }
 {
     Ok(FieldEntry {
         name: Text::copy_of(alloc, name)?,
         kind: FieldKind::Text,
         stored: true,
-        index: IndexOption::Positions,
+        index,
         tokenizer: None,
-        norms,
+        norms: true,
         fast: false,
         fast_tokenizer: None,
         precision: DateTimePrecision::Seconds,
@@ -67,55 +78,75 @@ fn text_entry(alloc: Global, name: &str, norms: bool) -> Result<FieldEntry, Allo
     })
 }
 
-/// A field that has lengths, and one that has none.
-pub(crate) fn title_and_body(alloc: Global) -> Result<Schema, AllocError> {
-    let title = text_entry(alloc, "title", true)?;
-    let body = text_entry(alloc, "body", false)?;
+fn each_option(alloc: Global) -> Result<Schema, AllocError> {
+    let not_indexed = text_entry(alloc, "not_indexed", IndexOption::No)?;
+    let documents = text_entry(alloc, "documents", IndexOption::Basic)?;
+    let counts = text_entry(alloc, "counts", IndexOption::Freqs)?;
+    let positions = text_entry(alloc, "positions", IndexOption::Positions)?;
     let mut builder = SchemaBuilder::new(alloc);
-    if builder.add_field(title).is_ok() {
-        let _ = builder.add_field(body).is_ok();
-    }
+    let _ = builder.add_field(not_indexed).is_ok();
+    let _ = builder.add_field(documents).is_ok();
+    let _ = builder.add_field(counts).is_ok();
+    let _ = builder.add_field(positions).is_ok();
     Ok(builder.build())
 }
 
-pub(crate) fn documents_of(
-    alloc: Global,
-    documents: &[&[(u32, &str)]],
-) -> Result<Documents, AllocError> {
-    let mut out = Documents::new(alloc);
-    for pairs in documents {
-        let mut document = TantivyDocument::new(alloc);
-        for (field, text) in *pairs {
-            let value = OwnedValue::Str(Text::copy_of(alloc, text)?);
-            document.add_field_value(Field::from_field_id(*field), value)?;
+/// A document that has some texts in each field.
+fn in_each_field(alloc: Global, texts: &[&str]) -> Result<TantivyDocument, AllocError> {
+    let mut document = TantivyDocument::new(alloc);
+    for text in texts {
+        for field in NOT_INDEXED..=POSITIONS {
+            document.add_text(Field::from_field_id(field), text)?;
         }
-        out.push(document)?;
     }
-    Ok(out)
+    Ok(document)
 }
 
-/// Indexes documents under an analyzer that repeats each text at some positions.
-fn index(
-    alloc: Global,
-    schema: &Schema,
-    positions: &[u32],
-    documents: &Documents,
-) -> Result<IndexedBatch, IndexError> {
-    index_documents(alloc, &Repeats { positions }, schema, documents)
+/// The segment of documents, under an analyzer that repeats each text at some positions.
+fn made(alloc: Global, positions: &[u32], documents: &[&[&str]]) -> TResult<MemorySegment> {
+    let analyzers = Repeats { positions };
+    let meta = SegmentMeta::new(SegmentId::from_u128(7), 0, None);
+    let segment = Segment::new(each_option(alloc)?, meta);
+    let settings = IndexSettings {
+        docstore_compression: Compressor::None,
+        docstore_blocksize: 16,
+        docstore_compress_dedicated_thread: false,
+    };
+    let mut writer = SegmentWriter::for_segment(alloc, 15_000, segment, &settings, &analyzers)?;
+    for texts in documents {
+        writer.add_ref(0, &in_each_field(alloc, texts)?)?;
+    }
+    writer.into_segment()
 }
 
-/// Each field in brackets: the first letter of each term, the length of its first run, and where it occurs.
+/// Of each field what it records, the total of its tokens, and in brackets its terms: the first letter of each, the length
+/// of its first run, and where it occurs.
 fn shown(alloc: Global, fields: &IndexedFields) -> Result<String, AllocError> {
     let mut out = String::new(alloc);
     for field in 0..fields.len() {
-        let terms = fields.get(field);
-        out.push('[')?;
-        for at in 0..terms.len() {
-            show_term(&mut out, terms.bytes_at(at), terms.hits_at(at))?;
-        }
-        out.push(']')?;
+        show_field(&mut out, fields.get(field))?;
     }
     Ok(out)
+}
+
+fn show_field(out: &mut String, terms: &SortedTerms) -> Result<(), AllocError> {
+    out.push(kind_letter(terms.kind()))?;
+    if let Some(total) = terms.total_num_tokens() {
+        write!(out, "{total}")?;
+    }
+    out.push('[')?;
+    for at in 0..terms.len() {
+        show_term(out, terms.bytes_at(at), terms.hits_at(at))?;
+    }
+    out.push(']')
+}
+
+fn kind_letter(kind: RecordKind) -> char {
+    match kind {
+        RecordKind::Documents => 'D',
+        RecordKind::Counts => 'C',
+        RecordKind::Positions => 'P',
+    }
 }
 
 fn show_term(out: &mut String, bytes: &[u8], hits: &[Hit]) -> Result<(), AllocError> {
@@ -132,23 +163,13 @@ fn show_term(out: &mut String, bytes: &[u8], hits: &[Hit]) -> Result<(), AllocEr
 }
 
 #[test]
-fn terms_have_their_postings(rt: HostRuntime) -> Result<(), Fail> {
+fn terms_are_recorded_as_their_fields_ask(rt: HostRuntime) -> Result<(), Fail> {
     let alloc = rt.alloc();
-    let schema = title_and_body(alloc)?;
-    let titles = documents_of(alloc, &[&[(0, "a"), (0, "c")]])?;
-    let batch = index(alloc, &schema, &[0, 1], &titles)?;
+    let made = made(alloc, &[0, 1], &[&["a"], &["b", "a"]]);
+    let made = made.ok().ok_or("made")?;
     assert_eq!(rt;
-        shown(alloc, &batch.fields)?.as_str(),
-        "[a2 0@0 0@1c2 0@3 0@4][]"
-    );
-    let mixed = documents_of(
-        alloc,
-        &[&[(1, "b"), (0, "a")], &[(0, "a"), (1, "a"), (0, "a")]],
-    )?;
-    let batch = index(alloc, &schema, &[0], &mixed)?;
-    assert_eq!(rt;
-        shown(alloc, &batch.fields)?.as_str(),
-        "[a1 0@0 1@0 1@2][a1 1@0b1 0@0]"
+        shown(alloc, &made.fields)?.as_str(),
+        "D0[]D3[a2 0@0 0@1 1@3 1@4b2 1@0 1@1]C6[a2 0@0 0@1 1@3 1@4b2 1@0 1@1]P6[a2 0@0 0@1 1@3 1@4b2 1@0 1@1]"
     );
     Ok(())
 }
@@ -156,96 +177,67 @@ fn terms_have_their_postings(rt: HostRuntime) -> Result<(), Fail> {
 #[test]
 fn long_tokens_give_no_terms(rt: HostRuntime) -> Result<(), Fail> {
     let alloc = rt.alloc();
-    let schema = title_and_body(alloc)?;
     let mut longest = String::new(alloc);
     for _ in 0..65530 {
         longest.push('a')?;
     }
-    let kept = documents_of(alloc, &[&[(0, longest.as_str())]])?;
+    let kept = made(alloc, &[0], &[&[longest.as_str()]]);
+    let kept = kept.ok().ok_or("kept")?;
     assert_eq!(rt;
-        shown(alloc, &index(alloc, &schema, &[0], &kept)?.fields)?.as_str(),
-        "[a1 0@0][]"
+        shown(alloc, &kept.fields)?.as_str(),
+        "D0[]D1[a1 0@0]C1[a1 0@0]P1[a1 0@0]"
     );
     longest.push('a')?;
-    let left_out = documents_of(alloc, &[&[(0, longest.as_str()), (0, "b")]])?;
+    let left_out = made(alloc, &[0], &[&[longest.as_str(), "b"]]);
+    let left_out = left_out.ok().ok_or("left out")?;
     assert_eq!(rt;
-        shown(alloc, &index(alloc, &schema, &[0], &left_out)?.fields)?.as_str(),
-        "[b1 0@1][]"
+        shown(alloc, &left_out.fields)?.as_str(),
+        "D0[]D1[b1 0@1]C1[b1 0@1]P1[b1 0@1]"
     );
     Ok(())
 }
 
-#[test]
-fn other_documents_are_refused(rt: HostRuntime) -> Result<(), Fail> {
-    let alloc = rt.alloc();
-    let schema = title_and_body(alloc)?;
-    let one = documents_of(alloc, &[&[(0, "a")]])?;
-    let two = documents_of(alloc, &[&[(0, "a"), (0, "b")]])?;
-    let unknown = documents_of(alloc, &[&[(2, "a")]])?;
-    assert!(rt; index(alloc, &schema, &[u32::MAX - 2], &one).is_ok());
-    assert_eq!(rt;
-        index(alloc, &schema, &[u32::MAX - 1], &one).err(),
-        Some(IndexError::Later)
-    );
-    assert_eq!(rt;
-        index(alloc, &schema, &[u32::MAX - 2], &two).err(),
-        Some(IndexError::Later)
-    );
-    assert_eq!(rt;
-        index(alloc, &schema, &[1, 0], &one).err(),
-        Some(IndexError::Later)
-    );
-    assert_eq!(rt;
-        index(alloc, &schema, &[0], &unknown).err(),
-        Some(IndexError::Later)
-    );
-    Ok(())
-}
-
-/// The files of the first field alone.
-fn first_field(alloc: Global, fields: &IndexedFields) -> Result<PostingsFiles, PostingsError> {
-    let mut files = InvertedIndexSerializer::new(alloc);
-    if fields.len() > 0 {
-        write_field(alloc, fields, Field::from_field_id(0), &mut files)?;
-    }
-    files.close()
-}
-
-fn part(alloc: Global, file: &[u8]) -> Option<OwnedBytes> {
+/// The part of a field in a composite file.
+fn part(alloc: Global, file: &[u8], field: u32) -> Option<OwnedBytes> {
     let bytes = OwnedBytes::new(alloc, file).ok()?;
     let file = CompositeFile::open(bytes).ok()?;
-    file.open_read(Field::from_field_id(0))
+    file.open_read(Field::from_field_id(field))
+}
+
+/// Whether a file has a part of a field with these bytes.
+fn has_part(alloc: Global, file: &[u8], field: u32, wanted: &[u8]) -> bool {
+    match part(alloc, file, field) {
+        Some(bytes) => bytes.as_slice() == wanted,
+        None => false,
+    }
 }
 
 #[test]
-fn terms_are_written(rt: HostRuntime) -> Result<(), Fail> {
+fn terms_are_written_as_their_fields_ask(rt: HostRuntime) -> Result<(), Fail> {
     let alloc = rt.alloc();
-    let schema = title_and_body(alloc)?;
-    let titles = documents_of(alloc, &[&[(0, "a")], &[(0, "b"), (0, "a")]])?;
-    let batch = index(alloc, &schema, &[0, 1], &titles)?;
-    let files = first_field(alloc, &batch.fields).ok().ok_or("files")?;
-    let postings = part(alloc, &files.postings).ok_or("postings")?;
-    assert_eq!(rt;
-        postings.as_slice(),
-        [6, 0, 0, 0, 0, 0, 0, 0, 2, 0, 2, 1, 2, 2, 1, 2].as_slice()
-    );
-    let positions = part(alloc, &files.positions).ok_or("positions")?;
-    assert_eq!(rt; positions.as_slice(), [0, 1, 3, 1, 0, 1].as_slice());
+    let made = made(alloc, &[0, 1], &[&["a"], &["b", "a"]]);
+    let bytes = made.ok().ok_or("made")?.bytes;
+    assert!(rt; part(alloc, &bytes.terms, NOT_INDEXED).is_none());
+    assert!(rt; part(alloc, &bytes.postings, NOT_INDEXED).is_none());
+    let documents = [3, 0, 0, 0, 0, 0, 0, 0, 0, 0, 1, 0, 1];
+    assert!(rt; has_part(alloc, &bytes.postings, DOCUMENTS, &documents));
+    let counts = [6, 0, 0, 0, 0, 0, 0, 0, 1, 0, 2, 1, 2, 1, 1, 2];
+    assert!(rt; has_part(alloc, &bytes.postings, COUNTS, &counts));
+    let postings = [6, 0, 0, 0, 0, 0, 0, 0, 2, 0, 2, 1, 2, 2, 1, 2];
+    assert!(rt; has_part(alloc, &bytes.postings, POSITIONS, &postings));
+    assert!(rt; has_part(alloc, &bytes.positions, DOCUMENTS, &[]));
+    assert!(rt; has_part(alloc, &bytes.positions, COUNTS, &[]));
+    assert!(rt; has_part(alloc, &bytes.positions, POSITIONS, &[0, 1, 3, 1, 0, 1]));
     Ok(())
 }
 
 #[test]
 fn lengths_are_written(rt: HostRuntime) -> Result<(), Fail> {
     let alloc = rt.alloc();
-    let schema = title_and_body(alloc)?;
-    let documents = documents_of(
-        alloc,
-        &[&[(0, "a"), (1, "b"), (0, "c")], &[(1, "a")], &[(0, "b")]],
-    )?;
-    let batch = index(alloc, &schema, &[0, 1], &documents)?;
-    let file = norms_file::norms_file(alloc, &schema, &batch.norms);
-    let file = file.ok().ok_or("file")?;
-    let ids = part(alloc, &file).ok_or("ids")?;
-    assert_eq!(rt; ids.as_slice(), [4, 0, 2].as_slice());
+    let made = made(alloc, &[0, 1], &[&["a", "c"], &[], &["b"]]);
+    let bytes = made.ok().ok_or("made")?.bytes;
+    assert!(rt; part(alloc, &bytes.norms, NOT_INDEXED).is_none());
+    assert!(rt; has_part(alloc, &bytes.norms, DOCUMENTS, &[4, 0, 2]));
+    assert!(rt; has_part(alloc, &bytes.norms, POSITIONS, &[4, 0, 2]));
     Ok(())
 }

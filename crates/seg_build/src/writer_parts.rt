@@ -1,27 +1,30 @@
 //! What a writer of a segment has of its documents.
-ghost use Rattle.std.specs.Prelude.{◌≡◌, [], ◌<◌, length, IfOk, OnOk};
+ghost use Rattle.std.specs.Prelude.{[], map, IfOk};
 ghost use Rattle.seg_model.specs.Fields.{Analyzer};
-ghost use Rattle.seg_build.specs.Checking.{with_texts};
+ghost use Rattle.seg_build.specs.Checking.{text_in};
 
 use crate::add_operation::Opstamp;
-use crate::error::IndexError;
+use crate::adding::add_texts;
 use crate::field::FieldPostings;
 use crate::field_text::FieldText;
 use crate::fields::new_fields;
 use crate::lengths::record_lengths;
+use crate::usage::recorded_count;
 use seg_meta::Compressor;
 use seg_postings::FieldNormsWriter;
 use seg_store::StoreWriter;
 use seg_values::{Schema, TantivyDocument};
 use std::alloc::{AllocError, Global};
 
-/// The terms and the lengths of documents, their store, and their stamps.
+/// The terms and the lengths of documents, their store, their stamps, and how often terms occur in them, at most
+/// `usize::MAX`.
 #[derive(Drop)]
 pub(crate) struct WriterParts {
     pub fields: Vec<FieldPostings>,
     pub norms: FieldNormsWriter,
     pub store: StoreWriter,
     pub stamps: Vec<Opstamp>,
+    pub occurrences: usize,
 }
 
 impl WriterParts {
@@ -43,6 +46,7 @@ impl WriterParts {
             norms,
             store,
             stamps: Vec::new(alloc),
+            occurrences: 0,
         })
     }
 
@@ -54,39 +58,22 @@ impl WriterParts {
         document: &TantivyDocument,
         texts: &[FieldText],
         stamp: Opstamp,
-    ) -> Result<WriterParts, IndexError>
+    ) -> Result<WriterParts, AllocError>
         requires room { HasRoom document.now (kept_of self) }
-        ensures { IfOk result (λ parts. HasTaken schema.now document.now texts.now stamp (kept_of self) (kept_of parts)) }
+        ensures { IfOk result (λ parts. HasTaken schema.now document.now (map (text_in document.now) texts.now) stamp (kept_of self) (kept_of parts)) }
     {
         let mut parts = self;
         let id = parts.stamps.len() as u32;
-        add_texts(alloc, id, texts, &mut parts.fields)?;
+        add_texts(alloc, id, document, texts, &mut parts.fields)?;
         record_lengths(id, &parts.fields, &mut parts.norms)?;
+        let occurrences = recorded_count(id, &parts.fields);
+        parts.occurrences = parts.occurrences.saturating_add(occurrences);
         let Ok(()) = parts.store.store(document, schema) else {
-            return Err(IndexError::OutOfMemory);
+            return Err(AllocError);
         };
         if parts.stamps.push(stamp).is_err() {
-            return Err(IndexError::OutOfMemory);
+            return Err(AllocError);
         }
         Ok(parts)
     }
-}
-
-/// Adds texts of a document that no other one is past.
-fn add_texts(
-    alloc: Global,
-    id: u32,
-    texts: &[FieldText],
-    fields: &mut [FieldPostings],
-) -> Result<(), IndexError>
-    ensures { OnOk result (fields.new ≡ with_texts id fields.old texts.now) }
-{
-    for text in texts {
-        let place = text.field as usize;
-        if place >= fields.len() {
-            return Err(IndexError::Later);
-        }
-        fields[place].add_text(alloc, id, text.tokens.as_slice())?;
-    }
-    Ok(())
 }

@@ -1,64 +1,47 @@
 //! When no writer of a segment is made.
-ghost use Rattle.std.specs.Prelude.{◌≡◌, ◌<◌, ◌^◌, ◌⊎◌, true, Some, None, length, nat_lt, not};
+ghost use Rattle.std.specs.Prelude.{◌≡◌, ◌<◌, ◌^◌, true, None, length, nat_lt, IfSome};
 ghost use Rattle.std.specs.List.{list_all, AllByRecursion};
 ghost use Rattle.seg_meta.specs.View.{settings_of};
-ghost use Rattle.seg_model.specs.Built.{is_built_entry};
 ghost use Rattle.seg_model.specs.Fields.{indexing_tokenizer};
 ghost use Rattle.seg_model.specs.Valid as valid;
-ghost use Rattle.seg_build.specs.WriterStart.{Tests, start_refusal, is_built_schema};
+ghost use Rattle.seg_build.specs.Built.{is_built_schema};
+ghost use Rattle.seg_build.specs.WriterStart.{IsStartError, Tests, start_refusal};
 
-use crate::document::tokenizer_name;
-use crate::fields::are_all_built;
+use crate::entry::{is_built_schema, tokenizer_name};
 use seg_meta::{Compressor, IndexSettings};
-use seg_values::{Analyzers, ArgumentCause, Field, FieldEntry, SchemaCause, TantivyError};
+use seg_values::{Analyzers, ArgumentCause, Field, FieldEntry, Schema, SchemaCause, TantivyError};
 
 /// The fewest bytes of a budget.
 const LEAST_BUDGET: usize = 15_000;
 
-/// Why no writer is made, as far as it is not for want of memory. A field that is past a u32 is answered as memory that is
-/// lacking.
+/// Why no writer is made, as far as it is not for want of memory.
 pub(crate) fn start_refusal<Z: Analyzers>(
     analyzers: &Z,
     budget: usize,
-    schema: &[FieldEntry],
+    schema: &Schema,
     settings: &IndexSettings,
 ) -> Option<TantivyError>
-    ensures first { (known : valid.Known) → Tests known (Z.knows analyzers.now) → length schema.now < 2 ^ 32 → result ≡ start_refusal known budget schema.now settings.now }
-    ensures causes { (known : valid.Known) → Tests known (Z.knows analyzers.now) → (result ≡ start_refusal known budget schema.now settings.now) ⊎ (result ≡ Some TantivyError.OutOfMemory) }
+    ensures first { (known : valid.Known) → Tests known (Z.knows analyzers.now) → result ≡ start_refusal known budget schema.now settings.now }
+    ensures errors { IfSome result IsStartError }
     ensures built { result ≡ None → is_built_schema schema.now ≡ true }
     ensures known { result ≡ None → AllByRecursion (λ e. Z.knows analyzers.now (indexing_tokenizer e)) schema.now }
 {
     if budget < LEAST_BUDGET {
         return Some(TantivyError::InvalidArgument(ArgumentCause::Budget));
     }
-    if !is_built_schema(schema) {
+    let entries = schema.fields();
+    if !is_built_schema(entries) {
         return Some(TantivyError::InvalidArgument(ArgumentCause::Later));
     }
-    if !names_fit(schema) {
+    if !names_fit(entries) {
         return Some(TantivyError::InvalidArgument(ArgumentCause::FieldName));
     }
     if !settings_fit(settings) {
         return Some(TantivyError::InvalidArgument(ArgumentCause::Settings));
     }
-    let place = unknown_tokenizer(analyzers, schema)?;
-    let Ok(id) = u32::try_from(place) else {
-        return Some(TantivyError::OutOfMemory);
-    };
-    let field = Field::from_field_id(id);
+    schema.fields_are_valid();
+    let field = unknown_tokenizer(analyzers, entries)?;
     Some(TantivyError::SchemaError(SchemaCause::Tokenizer { field }))
-}
-
-/// Stored texts with positions, of which none is fast.
-pub(crate) fn is_built_schema(schema: &[FieldEntry]) -> bool
-    ensures { result ≡ is_built_schema schema.now }
-{
-    are_all_built(schema) && has_no_fast(schema)
-}
-
-fn has_no_fast(schema: &[FieldEntry]) -> bool
-    ensures { result ≡ list_all (λ e. not e.fast) schema.now }
-{
-    schema.iter().all(|entry| !entry.fast)
 }
 
 /// No name holds U+0000 or U+0001.
@@ -85,14 +68,14 @@ fn settings_fit(settings: &IndexSettings) -> bool
 }
 
 /// The first field whose tokenizer is unknown.
-fn unknown_tokenizer<Z: Analyzers>(analyzers: &Z, schema: &[FieldEntry]) -> Option<usize>
-    requires { list_all is_built_entry schema.now ≡ true }
+fn unknown_tokenizer<Z: Analyzers>(analyzers: &Z, schema: &[FieldEntry]) -> Option<Field>
+    requires few { length schema.now < 2 ^ 32 }
     ensures first { (known : valid.Known) → Tests known (Z.knows analyzers.now) → result ≡ valid.unknown_tokenizer_of known schema.now }
     ensures known { result ≡ None → AllByRecursion (λ e. Z.knows analyzers.now (indexing_tokenizer e)) schema.now }
 {
     for (place, entry) in schema.iter().enumerate() {
         if !analyzers.known(tokenizer_name(entry)) {
-            return Some(place);
+            return Some(Field::from_field_id(place as u32));
         }
     }
     None

@@ -1,16 +1,16 @@
-//! The terms of a field, written with their positions.
+//! The terms of a field, written as it records them.
 ghost use Rattle.std.specs.Prelude.{◌≡◌, ◌<◌, ◌≤◌, ◌-◌, ◌^◌, ◌⊎◌, length, map, Some, None, IfErr, IfSome, IsSomeAnd, OnOk, OnErr};
 ghost use Rattle.std.specs.List.{slice_get};
 ghost use Rattle.seg_common.specs.Growing.{HasGrown};
 ghost use Rattle.seg_directory.specs.Composite.{low_after};
-ghost use Rattle.seg_postings.specs.declared.record_kind.RecordKind.TheVariants.{Positions};
+ghost use Rattle.seg_model.specs.Reading.{positions};
 ghost use Rattle.seg_postings.specs.FieldWriting.{MayOpen, fresh};
 ghost use Rattle.seg_postings.specs.Files.{AddsField};
 ghost use Rattle.seg_postings.specs.PostingsForm as form;
-ghost use Rattle.seg_postings.specs.Written.{AreWritable, Rise};
-ghost use Rattle.seg_build.specs.Entries.{TermEntries};
+ghost use Rattle.seg_postings.specs.Written.{AreWritable, IsOfKind, Rise};
+ghost use Rattle.seg_build.specs.FieldTerms.{FieldTerms, kept_as, postings_as};
 ghost use Rattle.seg_build.specs.Grouped.{grouped};
-ghost use Rattle.seg_build.specs.TermsWritten.{IsUnused, IsUnwritten, with_postings, with_terms, with_whole_term};
+ghost use Rattle.seg_build.specs.TermsWritten.{IsUnused, IsUnwritten, TakesDocument, with_posting, with_postings, with_terms, with_whole_term};
 ghost use Rattle.seg_build.specs.TokenTotal.{token_total};
 ghost use Rattle.seg_build.specs.Writable.{CanBeWritten};
 
@@ -22,7 +22,7 @@ use seg_postings::{FieldSerializer, InvertedIndexSerializer, PostingsError, Reco
 use seg_values::Field;
 use std::alloc::{AllocError, Global};
 
-/// Adds a field, which is above those added before, to the files: its terms as they were indexed, and the total of their
+/// Adds a field, which is above those added before, to the files: its terms as they are recorded, and the total of their
 /// tokens.
 pub fn write_field(
     alloc: Global,
@@ -33,7 +33,7 @@ pub fn write_field(
     requires indexed { field < length fields.now }
     requires ascends { IfSome files.old (λ f. (low_after 0 f.terms ≤ field) × (low_after 0 f.postings ≤ field) × (low_after 0 f.positions ≤ field)) }
     requires limit { field < 2 ^ 32 - 1 }
-    ensures ok { OnOk result ((terms : TermEntries) × (slice_get fields.now field ≡ Some terms) × AddsField files.old files.new (with_terms terms (fresh field (token_total terms)))) }
+    ensures ok { OnOk result ((found : FieldTerms) × (slice_get fields.now field ≡ Some found) × AddsField files.old files.new (with_terms found (fresh field (token_total found.terms)))) }
     ensures err { IfErr result (λ e. e ≡ PostingsError.OutOfMemory) }
     ensures files { OnErr result ((files.new ≡ files.old) ⊎ (files.new ≡ None)) }
 {
@@ -57,9 +57,11 @@ pub fn write_terms(
     ensures ok { OnOk result (HasGrown field.old field.new (with_terms terms.now)) }
     ensures err { IfErr result (λ e. e ≡ PostingsError.OutOfMemory) }
 {
+    let kind = terms.kind();
     let mut differences = Vec::new(alloc);
     for at in 0..terms.len() {
         write_term(
+            kind,
             terms.bytes_at(at),
             terms.hits_at(at),
             &mut differences,
@@ -71,39 +73,64 @@ pub fn write_terms(
 
 /// Writes a term, which is greater than those before it. `differences` is room for the positions of a document.
 fn write_term(
+    kind: RecordKind,
     bytes: &[u8],
     hits: &[Hit],
     differences: &mut Vec<u32>,
     field: &mut FieldSerializer,
 ) -> Result<(), PostingsError>
     requires ascends { IfSome field.old (λ w. MayOpen w bytes.now) }
-    requires occurs { 0 < length (grouped hits.now) }
-    requires writable { AreWritable Positions 0 0 (grouped hits.now) }
-    ensures ok { OnOk result (HasGrown field.old field.new (with_whole_term bytes.now (grouped hits.now))) }
+    requires occurs { 0 < length (postings_as kind (grouped hits.now)) }
+    requires writable { AreWritable kind 0 0 (postings_as kind (grouped hits.now)) }
+    ensures ok { OnOk result (HasGrown field.old field.new (with_whole_term kind bytes.now (postings_as kind (grouped hits.now)))) }
     ensures err { IfErr result (λ e. e ≡ PostingsError.OutOfMemory) }
 {
-    field.new_term(bytes, RecordKind::Positions)?;
-    write_hits(hits, differences, field)?;
+    field.new_term(bytes, kind)?;
+    write_hits(kind, hits, differences, field)?;
     field.close_term()
 }
 
 /// Gives the open term its documents, one for each run of hits.
 fn write_hits(
+    kind: RecordKind,
     hits: &[Hit],
     differences: &mut Vec<u32>,
     field: &mut FieldSerializer,
 ) -> Result<(), PostingsError>
-    requires unused { IsSomeAnd field.old (λ w. IsSomeAnd w.current IsUnused) }
-    requires writable { AreWritable Positions 0 0 (grouped hits.now) }
-    ensures ok { OnOk result (HasGrown field.old field.new (with_postings (grouped hits.now))) }
+    requires unused { IsSomeAnd field.old (λ w. IsSomeAnd w.current (IsUnused kind)) }
+    requires writable { AreWritable kind 0 0 (postings_as kind (grouped hits.now)) }
+    ensures ok { OnOk result (HasGrown field.old field.new (with_postings (postings_as kind (grouped hits.now)))) }
     ensures err { IfErr result (λ e. e ≡ PostingsError.OutOfMemory) }
 {
     let mut rest = hits;
     while !rest.is_empty() {
         let (run, others) = rest.split_at(first_run(rest));
-        set_differences(differences, run)?;
-        field.write_doc(rest[0].document, run.len() as u32, differences)?;
+        write_run(kind, rest[0].document, run, differences, field)?;
         rest = others;
+    }
+    Ok(())
+}
+
+/// Gives the open term a document, in which it has these hits: alone, with their count, or with their positions.
+fn write_run(
+    kind: RecordKind,
+    document: u32,
+    run: &[Hit],
+    differences: &mut Vec<u32>,
+    field: &mut FieldSerializer,
+) -> Result<(), PostingsError>
+    requires takes { IfSome field.old (λ w. IsSomeAnd w.current (TakesDocument kind document)) }
+    requires kept { IsOfKind kind (kept_as kind (positions (map (λ h. h.position) run.now))) }
+    ensures ok { OnOk result (HasGrown field.old field.new (with_posting (record { document = document; recorded = kept_as kind (positions (map (λ h. h.position) run.now)) }))) }
+    ensures err { IfErr result (λ e. e ≡ PostingsError.OutOfMemory) }
+{
+    match kind {
+        RecordKind::Documents => field.write_doc(document, 1, &[])?,
+        RecordKind::Counts => field.write_doc(document, run.len() as u32, &[])?,
+        RecordKind::Positions => {
+            set_differences(differences, run)?;
+            field.write_doc(document, run.len() as u32, differences)?;
+        }
     }
     Ok(())
 }

@@ -6,7 +6,8 @@
 //!
 //! To be read in this order: `refusal` and `entry`; `kinds` and `fields` (the first pass); `json` (the second); `size`,
 //! `totals`, `paths`, `leaves`, `texts` and `field_totals` (what a document has in a field), and `positions` (the third
-//! pass); `levels`, `stored_len` and `limits` (the fourth); `document`.
+//! pass); `levels`, `stored_len` and `limits` (the fourth); `document`; `untokenized`
+//! (what no token decides).
 #![tactic(auto)]
 
 mod document;
@@ -27,5 +28,7 @@ mod stored_len;
 mod tests;
 mod texts;
 mod totals;
+mod untokenized;
 
 pub use document::check_document;
+pub use untokenized::passes_untokenized;

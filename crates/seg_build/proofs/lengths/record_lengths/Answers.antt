@@ -13,4 +13,4 @@ record_length-requires c =
 pub loop-place-preserved : goal.loop-place-preserved
 loop-place-preserved c =
     let at : slice_get c.args.fields.now c.loop-place.place ≡ Some c.index-fields-place.result = slice_get_read c.args.fields.now (length c.args.fields.now) c.loop-place.place c.index-fields-place.result refl (omega (arith, c.loop-place-test.true)) c.index-fields-place.is in
-    count_turn c.args.document c.args.norms.now c.loop-place.norms c.args.fields.now c.loop-place.place c.loop-place.invariant c.record_length.new.norms c.index-fields-place.result at (subst (λ n. HasGrown c.loop-place.norms c.record_length.new.norms (at_field c.loop-place.place (with_length c.args.document n))) c.count_in-count.ensures c.in_ok-record_length.ensures.ok)
+    count_turn c.args.document c.args.norms.now c.loop-place.norms c.args.fields.now c.loop-place.place c.loop-place.invariant c.record_length.new.norms c.index-fields-place.result at (subst (λ n. HasGrown c.loop-place.norms c.record_length.new.norms (at_field c.loop-place.place (with_length c.args.document n))) c.count_in-count.ensures c.in_ok-record_length.ensures)

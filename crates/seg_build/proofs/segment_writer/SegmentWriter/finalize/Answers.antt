@@ -1,12 +1,12 @@
-use Rattle.std.proofs.Common.{◌≡◌, List, ℕ, Some, map, IsTrue, OnOk, subst}
-use Rattle.std.specs.FinMap.{entries, get}
+use Rattle.std.proofs.Common.{◌≡◌, List, ℕ, Some, IsTrue, OnOk, subst}
+use Rattle.std.specs.FinMap.{get}
 use Rattle.seg_common.specs.declared.name.FileName.TheVariants.{Part}
 use Rattle.seg_common.specs.declared.name.SegmentComponent.TheVariants.{Postings}
-use Rattle.seg_model.specs.Reading.{all_terms}
 use Rattle.seg_build.specs.Totals.{TotalsAreCounts}
 use Rattle.std.proofs.lemmas.Result.{on_ok_weaker}
 use Rattle.seg_values.specs.Tree.{Document}
 use Rattle.seg_model.specs.IndexOfFiles as index
+use Rattle.seg_build.specs.FieldTerms.{fields_of}
 use Rattle.seg_build.specs.Forms.{segment_forms}
 use Rattle.seg_build.specs.SegmentWriting.{IsKeptOf, Writes}
 use Rattle.seg_build.proofs.Keeping.{of_parts}
@@ -32,6 +32,6 @@ returns-in-Some-clause-totals g c =
     let F = tokens c.self.inside.analyzers.now in
     let files = g.W.Directory.files c.finish.new.directory in
     let schema = c.self.inside.segment.schema in
-    subst (λ v. IsTrue (g.W.Directory.tells c.args.directory.now) → OnOk c.finish.result ((documents : List Document) (stamps : List ℕ) → Writes (tokens v.0) documents stamps v.1 → (postings : List ℕ) → get files (Part v.1.id Postings) ≡ Some postings → TotalsAreCounts postings (map entries (all_terms v.1.schema (tokens v.0) documents)))) c.self.view_is
+    subst (λ v. IsTrue (g.W.Directory.tells c.args.directory.now) → OnOk c.finish.result ((documents : List Document) (stamps : List ℕ) → Writes (tokens v.0) documents stamps v.1 → (postings : List ℕ) → get files (Part v.1.id Postings) ≡ Some postings → TotalsAreCounts postings (fields_of v.1.schema (tokens v.0) documents))) c.self.view_is
     (λ told. on_ok_weaker c.finish.result (λ all documents stamps w.
     all F documents stamps (of_parts (IsKeptOf schema F documents stamps) c.self.inside.parts c.in-Some.parts c.in-Some.is w)) (c.finish.ensures.totals told))

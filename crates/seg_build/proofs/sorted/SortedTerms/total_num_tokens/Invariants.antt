@@ -7,4 +7,4 @@ use Rattle.seg_build.proofs.sorted.SortedTerms.total_num_tokens.Given as goal
 
 -- what is so far, with what is left, is all
 abbrev pub invariant-loop-at : goal.invariant-loop-at
-invariant-loop-at l = fold and_total l.total (drop l.at (values_of l.self)) ≡ token_total l.self
+invariant-loop-at l = fold and_total l.total (drop l.at (values_of l.self.terms)) ≡ token_total l.self.terms

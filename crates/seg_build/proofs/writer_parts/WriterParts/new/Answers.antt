@@ -8,12 +8,13 @@ use Rattle.seg_build.proofs.writer_parts.WriterParts.new.Goals as goal
 
 pub returns : goal.returns
 returns c = λ analyzer. record {
-  addable = refl;
+  taken = refl;
   few = omega arith;
   utf8 = tt;
   fields = c.in_ok-fields.ensures ∙ ap (map (λ (e : FieldEntry). fresh)) c.fields.ensures;
   norms = c.in-Ok.ensures.ok ∙ kept_before c.args.schema.now analyzer;
-  store = subst (λ o. IsSomeAnd o (Stores c.args.schema.now [])) (sym c.in-Ok-new.ensures.ok) (record { read = refl; count = refl });
+  store = subst (λ o. IsSomeAnd o (Stores c.args.schema.now [])) (sym c.in-Ok-new.ensures.ok) (record { read = refl; count = refl; forms = refl });
   stamped = c.new-2.ensures.items;
   each = refl;
+  occurrences = refl;
 }

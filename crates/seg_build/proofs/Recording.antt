@@ -1,0 +1,103 @@
+-- Terms as their fields record them: their bytes, their postings, and that they can be written.
+use Rattle.std.proofs.Common.{◌≡◌, ℕ, zero, suc, ◌<◌, List, [], ◌∷◌, length, Some, sym, refl, ap, ◌∙◌, subst, IsTrue, arith}
+use Rattle.std.specs.Prelude.{◌&&◌, Vec, get_or, is_some}
+use Rattle.std.specs.declared.alloc.Global.{Global}
+use Rattle.std.specs.FinMap.{is_sorted}
+use Rattle.std.specs.FinMap.Entries.{below_all}
+use Rattle.std.specs.List.{slice_get, AllByRecursion}
+use Rattle.std.specs.Map.{keys_of, values_of}
+use Rattle.std.specs.Ordering.{nat_cmp, is_lt}
+use Rattle.std.specs.Cmp.Lexicographic.{slice_cmp}
+use Rattle.std.proofs.lemmas.Bool.{false≢true}
+use Rattle.std.proofs.lemmas.List.{length-map}
+use Rattle.seg_model.specs.Fields.{Schema}
+use Rattle.seg_model.specs.Reading.{Recorded, Posting}
+use Rattle.seg_postings.specs.Kinds.{kind_of}
+use Rattle.seg_postings.specs.Written.{IsOfKind, AreWritable}
+use Rattle.seg_postings.specs.declared.record_kind.RecordKind.{RecordKind}
+use Rattle.seg_postings.specs.declared.record_kind.RecordKind.TheVariants.{Documents, Counts, Positions}
+use Rattle.seg_build.specs.ByBytes.{seen}
+use Rattle.seg_build.specs.Entries.{TermEntries}
+use Rattle.seg_build.specs.FieldTerms.{FieldTerms, kept_as, postings_as, entries_as, recorded_fields}
+use Rattle.seg_build.specs.Grouped.{grouped}
+use Rattle.seg_build.specs.Writable.{CanBeWritten, PositionsCanBeWritten}
+use Rattle.seg_build.specs.declared.hits.Hit.{Hit}
+use Rattle.seg_build.proofs.Places.{some_same}
+use Rattle.seg_build.proofs.Sorting.{key_at, value_at}
+
+-- ---- order and places
+
+below_as : (kind : RecordKind) (k : List ℕ) (es : TermEntries) → below_all (slice_cmp nat_cmp) k (entries_as kind es) ≡ below_all (slice_cmp nat_cmp) k es
+below_as kind k [] = refl
+below_as kind k (e ∷ es) = ap (λ b. is_lt (slice_cmp nat_cmp k e.0) && b) (below_as kind k es)
+
+sorted_as : (kind : RecordKind) (es : TermEntries) → is_sorted (slice_cmp nat_cmp) (entries_as kind es) ≡ is_sorted (slice_cmp nat_cmp) es
+sorted_as kind [] = refl
+sorted_as kind (e ∷ es) =
+    ap (λ b. b && is_sorted (slice_cmp nat_cmp) (entries_as kind es)) (below_as kind e.0 es) ∙ ap (λ b. below_all (slice_cmp nat_cmp) e.0 es && b) (sorted_as kind es)
+
+keys_as : (kind : RecordKind) (es : TermEntries) → keys_of (entries_as kind es) ≡ keys_of es
+keys_as kind [] = refl
+keys_as kind (e ∷ es) = ap (λ ks. e.0 ∷ ks) (keys_as kind es)
+
+value_as : (kind : RecordKind) (es : TermEntries) (i : ℕ) (ps : List Posting) → slice_get (values_of es) i ≡ Some ps → slice_get (values_of (entries_as kind es)) i ≡ Some (postings_as kind ps)
+value_as kind [] i ps at = absurd (false≢true (ap is_some at))
+value_as kind (e ∷ es) zero ps at = ap (λ x. Some (postings_as kind x)) (some_same e.1 ps at)
+value_as kind (e ∷ es) (suc i) ps at = value_as kind es i ps at
+
+abbrev pub listed_as : RecordKind → List (Vec ℕ Global × List Hit) → FieldTerms
+listed_as kind items = record { kind = kind; terms = entries_as kind (seen grouped items) }
+
+-- the term at a place
+module _ (kind : RecordKind) (items : List (Vec ℕ Global × List Hit)) (now : FieldTerms) (same : listed_as kind items ≡ now) (i : ℕ) (x : Vec ℕ Global × List Hit) (lt : i < length now.terms) (is : x ≡ get_or items i x) where
+  within : i < length (seen grouped items)
+  within =
+      let many : length (entries_as kind (seen grouped items)) ≡ length (seen grouped items) = length-map (seen grouped items) _ in
+      let as_now : length (entries_as kind (seen grouped items)) ≡ length now.terms = ap (λ (f : FieldTerms). length f.terms) same in
+      omega (arith, lt, many, as_now)
+
+  pub bytes_of_place : slice_get (keys_of now.terms) i ≡ Some x.0.items
+  bytes_of_place =
+      ap (λ (f : FieldTerms). slice_get (keys_of f.terms) i) (sym same)
+      ∙ ap (λ ks. slice_get ks i) (keys_as kind (seen grouped items))
+      ∙ key_at grouped items (seen grouped items) refl i x within is
+
+  pub postings_of_place : slice_get (values_of now.terms) i ≡ Some (postings_as now.kind (grouped x.1))
+  postings_of_place =
+      ap (λ (f : FieldTerms). slice_get (values_of f.terms) i) (sym same)
+      ∙ value_as kind (seen grouped items) i (grouped x.1) (value_at grouped items (seen grouped items) refl i x within is)
+      ∙ ap (λ (f : FieldTerms). Some (postings_as f.kind (grouped x.1))) same
+
+-- ---- what can be written
+
+of_kind : (kind : RecordKind) (r : Recorded) → IsOfKind Positions r → IsOfKind kind (kept_as kind r)
+of_kind Documents r h = refl
+of_kind Counts r (ps, some, few, rise, is) = subst (λ x. IsOfKind Counts (kept_as Counts x)) (sym is) (length ps, some, few, refl)
+of_kind Positions r h = h
+
+writable_as : (kind : RecordKind) (before least : ℕ) (ps : List Posting) → AreWritable Positions before least ps → AreWritable kind before least (postings_as kind ps)
+writable_as kind before least [] h = tt
+writable_as kind before least (p ∷ ps) (behind, limit, is, rest) = (behind, limit, of_kind kind p.recorded is, writable_as kind p.document 1 ps rest)
+
+all_occur_as : (kind : RecordKind) (es : TermEntries) → AllByRecursion (λ e. 0 < length e.1) es → AllByRecursion (λ e. 0 < length e.1) (entries_as kind es)
+all_occur_as kind [] h = tt
+all_occur_as kind (e ∷ es) h =
+    let many : length (postings_as kind e.1) ≡ length e.1 = length-map e.1 _ in
+    let some : 0 < length e.1 = h.0 in
+    (omega (arith, some, many), all_occur_as kind es h.1)
+
+all_writable_as : (kind : RecordKind) (es : TermEntries) → AllByRecursion (λ e. AreWritable Positions 0 0 e.1) es → AllByRecursion (λ e. AreWritable kind 0 0 e.1) (entries_as kind es)
+all_writable_as kind [] h = tt
+all_writable_as kind (e ∷ es) h = (writable_as kind 0 0 e.1 h.0, all_writable_as kind es h.1)
+
+pub recorded_can : (kind : RecordKind) (terms : TermEntries) → PositionsCanBeWritten terms → CanBeWritten (record { kind = kind; terms = entries_as kind terms })
+recorded_can kind terms can = record {
+  ascend = subst IsTrue (sym (sorted_as kind terms)) can.ascend;
+  occur = all_occur_as kind terms can.occur;
+  writable = all_writable_as kind terms can.writable;
+}
+
+pub all_recorded_can : (schema : Schema) (terms : List TermEntries) → AllByRecursion PositionsCanBeWritten terms → AllByRecursion CanBeWritten (recorded_fields schema terms)
+all_recorded_can [] terms can = tt
+all_recorded_can (e ∷ es) [] can = tt
+all_recorded_can (e ∷ es) (t ∷ ts) can = (recorded_can (kind_of e.index) t can.0, all_recorded_can es ts can.1)
