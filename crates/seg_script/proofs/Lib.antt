@@ -5,7 +5,6 @@ mod Dropped
 mod Each
 mod Json
 mod Items
-pub mod OneBatch
+mod Limits
 mod Schema
 pub mod TextFields
-pub mod Texts

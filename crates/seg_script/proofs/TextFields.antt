@@ -1,11 +1,12 @@
 -- Every script holds text fields without columns, and operations on their texts.
-use Rattle.std.proofs.Common.{◌≡◌, ℕ, zero, suc, ◌-◌, ◌^◌, List, [], ◌∷◌, length, Bool, true, false, ◌&&◌, cond, Option, None, Some, option_map, nat_le, nat_lt, refl, subst, arith}
+use Rattle.std.proofs.Common.{◌≡◌, ℕ, zero, suc, ◌-◌, ◌^◌, List, [], ◌∷◌, length, Bool, true, false, ◌&&◌, ◌≤◌, if◌then◌else◌, cond, Option, None, Some, option_map, nat_le, nat_lt, refl, subst, arith}
 use Rattle.std.specs.Prelude.{codes, unwrap_or, replicate, ◌+◌}
 use Rattle.std.specs.List.{list_all, range_with_len}
 use Rattle.std.specs.Str.{bytes_eq}
 use Rattle.std.proofs.lemmas.Bool.Decides.{nat_tests}
 use Rattle.serde_json.specs.Data.{Data, null, boolean, number, string, array, object, no_members, member}
 use Rattle.serde_json.specs.Find.{get, as_bool, as_str}
+use Rattle.seg_common.specs.SegmentIds.{id_text}
 use Rattle.seg_values.specs.declared.schema.FieldEntry.{FieldEntry}
 use Rattle.seg_values.specs.declared.schema.FieldKind.{FieldKind}
 use Rattle.seg_values.specs.declared.schema.FieldKind.TheVariants as kind
@@ -16,7 +17,7 @@ use Rattle.seg_model.specs.Built.{is_text_tree}
 use Rattle.seg_model.specs.Fields.{is_text, is_on}
 use Rattle.seg_model.specs.Input.{uncompressed, Settings, Filter, Input}
 use Rattle.seg_model.specs.Operations.{Operation, add, delete}
-use Rattle.seg_meta.specs.PartsRead.{index_options, compressions, settings_members}
+use Rattle.seg_meta.specs.PartsRead.{digits_value, id_from, index_options, compressions, settings_members}
 use Rattle.seg_meta.specs.Reads.{required, natural, below, nullable, word_of, list_of, has_only}
 use Rattle.seg_script.specs.Reads.{read_or, optional}
 use Rattle.seg_script.specs.Fields.{kinds, entry_members, entry_from, are_distinct, schema_from, field_or_past}
@@ -24,9 +25,10 @@ use Rattle.seg_script.specs.Settings.{default_settings, settings_from}
 use Rattle.seg_script.specs.Filters.{ascends, all_but, filter_members, filter_from}
 use Rattle.seg_script.specs.Documents.{named_text_from, pair_from, term_from, operation_from}
 use Rattle.seg_script.specs.Script.{script_members, id_of, script_from, json_of}
-use Rattle.seg_script.specs.Laws.{is_text_entry, is_text_operation, is_small_filter, HoldsTextFields, ScriptsHoldTextFields}
+use Rattle.seg_script.specs.Laws.{is_text_entry, is_text_operation, is_small_filter, is_id, HoldsTextFields, ScriptsHoldTextFields}
 use Rattle.seg_script.proofs.Chains.{given-some, provided-some, option_map-some, both_true, all-list_of, list_all-true}
 use Rattle.seg_script.proofs.Dropped.{length-all_but}
+use Rattle.seg_script.proofs.Limits.{range_below}
 
 pub some_same : {A : Type 0} (a b : A) → Some a ≡ Some b → a ≡ b
 some_same a b h = cc
@@ -187,6 +189,28 @@ unfiltered-small (suc n) = unfiltered-small n
 filters-small : (d : Data) (filters : List (Option Filter)) → list_of (nullable filter_from) d ≡ Some filters → list_all is_small_filter filters ≡ true
 filters-small d filters h = list_all-true is_small_filter filters (all-list_of (nullable filter_from) IsSmallFilter nullable-small d filters h)
 
+-- ---- the ids
+
+abbrev AreIds : List ℕ → Type 0
+AreIds ids = list_all is_id ids ≡ true
+
+said_where : (t : Bool) (n id : ℕ) → (if t then Some n else None) ≡ Some id → (t ≡ true) × (n ≡ id)
+said_where true n id h = (refl, some_same n id h)
+said_where false n id h = cc
+
+id-small : (d : Data) (id : ℕ) → id_of d ≡ Some id → is_id id ≡ true
+id-small d id h =
+    let said = given-some (as_str d) id_from id h in
+    let n = digits_value 0 said.0 in
+    let read = said_where (is_id n && bytes_eq said.0 (id_text n)) n id said.1.1 in
+    subst (λ n. is_id n ≡ true) read.1 (both_true (is_id n) (bytes_eq said.0 (id_text n)) read.0).0
+
+ids-small : (d : Data) (ids : List ℕ) → list_of id_of d ≡ Some ids → AreIds ids
+ids-small d ids h = list_all-true is_id ids (all-list_of id_of (λ id. is_id id ≡ true) id-small d ids h)
+
+few_cuts : (count : ℕ) → nat_lt count (2 ^ 64) ≡ true → 1 + (count + 2) ≤ 2 ^ 128
+few_cuts count h = grind (arith, nat_tests)
+
 -- ---- the script
 
 whole : (d : Data) (input : Input) → script_from d ≡ Some input → HoldsTextFields input
@@ -209,6 +233,7 @@ whole d input h =
       operations = list_all-true (is_text_operation schema.0) operations.0 (all-list_of (operation_from schema.0) (IsTextOperation schema.0) (operation-text schema.0) items.0 operations.0 items.1.1);
       block_size = optional-some (λ (s : Settings). IsSmall s.block_size) default_settings settings_from refl settings-small (get (codes "settings") d) settings.0 settings.1.0;
       filters = optional-some (λ fs. list_all is_small_filter fs ≡ true) (replicate (length cuts.0 + 1) None) (list_of (nullable filter_from)) (unfiltered-small (length cuts.0 + 1)) filters-small (get (codes "filters") d) filters.0 filters.1.0;
+      ids = λ few. optional-some AreIds (range_with_len 1 (length cuts.0 + 2)) (list_of id_of) (range_below (2 ^ 128) 1 (length cuts.0 + 2) (few_cuts (length cuts.0) few)) ids-small (get (codes "ids") d) ids.0 ids.1.0;
     })
 
 pub scripts_hold_text_fields : ScriptsHoldTextFields

@@ -2,7 +2,6 @@ pub mod Codes
 pub mod Documents
 pub mod Fields
 pub mod Filters
-pub mod FirstStage
 pub mod Laws
 pub mod Meaning
 pub mod Reads

@@ -1,5 +1,5 @@
 //! The filter of a batch.
-ghost use Rattle.std.specs.Prelude.{◌≡◌, ◌<◌, length, Some, slice_get};
+ghost use Rattle.std.specs.Prelude.{◌≡◌, ◌<◌, true, length, Some, slice_get};
 ghost use Rattle.seg_meta.specs.Reads.{provided};
 ghost use Rattle.seg_script.specs.Filters.{ascends, all_but};
 
@@ -41,6 +41,14 @@ impl BatchFilter {
         ensures { result ≡ length self.now }
     {
         self.size
+    }
+
+    /// The documents that are not kept.
+    pub fn dropped(&self) -> &[u32]
+        ensures all { all_but (length self.now) result.now ≡ self.now }
+        ensures in_order { ascends result.now ≡ true }
+    {
+        &self.dropped
     }
 
     /// Whether a document is kept.

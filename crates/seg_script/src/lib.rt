@@ -2,7 +2,7 @@
 //!
 //! A script is what the definition `script` gives of its bytes: an `Input` of the index's definitions, read off the JSON values that `serde_json` defines. So far every field is of texts.
 //!
-//! `error` says why bytes are no script. `operation`, `cuts`, `batch_filter`, `batch_filters` and `segment_ids` have the parts of a script, `script` the whole, with the one call `read_script`. `members` looks at the members of a JSON object; `fields` reads the schema, `settings` the settings, `documents` the operations, `cuts_read`, `filters_read` and `ids_read` the rest. `first_stage` tells the scripts that are built so far, and `laws` says what every script holds.
+//! `error` says why bytes are no script. `operation`, `cuts`, `batch_filter`, `batch_filters` and `segment_ids` have the parts of a script, `script` the whole, with the one call `read_script`. `members` looks at the members of a JSON object; `fields` reads the schema, `settings` the settings, `documents` the operations, `cuts_read`, `filters_read` and `ids_read` the rest. `laws` says what every script holds.
 #![tactic(auto)]
 
 mod batch_filter;
@@ -13,7 +13,6 @@ mod documents;
 mod error;
 mod fields;
 mod filters_read;
-mod first_stage;
 mod ids_read;
 mod laws;
 mod members;
@@ -28,8 +27,7 @@ pub use batch_filter::BatchFilter;
 pub use batch_filters::BatchFilters;
 pub use cuts::Cuts;
 pub use error::ScriptError;
-pub use first_stage::is_first_stage;
-pub use laws::{first_stage_holds_one_batch, first_stage_holds_texts, scripts_hold_text_fields};
+pub use laws::scripts_hold_text_fields;
 pub use operation::{Operation, Operations};
 pub use script::{Script, read_script};
 pub use segment_ids::SegmentIds;

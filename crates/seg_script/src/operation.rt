@@ -1,9 +1,8 @@
 //! Operations on documents.
-ghost use Rattle.std.specs.Prelude.{◌≡◌, [], ◌∷◌, ◌++◌, map, length, IfOk, OnOk, OnErr};
-ghost use Rattle.seg_model.specs.Operations.{additions};
+ghost use Rattle.std.specs.Prelude.{◌≡◌, [], ◌∷◌, ◌++◌, map, length, OnOk, OnErr};
 ghost use Rattle.seg_script.specs.View.{operation_of};
 
-use seg_values::{Documents, TantivyDocument, Term};
+use seg_values::{TantivyDocument, Term};
 use std::alloc::{AllocError, Global};
 use std::marker::Model;
 
@@ -65,17 +64,9 @@ impl Operations {
         Ok(())
     }
 
-    /// The added documents, in order.
-    pub fn into_documents(self, alloc: Global) -> Result<Documents, AllocError>
-        ensures { IfOk result (λ ds. ds ≡ additions self) }
+    pub fn into_vec(self) -> Vec<Operation>
+        ensures { map operation_of result.items ≡ self }
     {
-        let mut documents = Documents::new(alloc);
-        for operation in self.operations {
-            match operation {
-                Operation::Add(document) => documents.push(document)?,
-                Operation::Delete(_) => {}
-            }
-        }
-        Ok(documents)
+        self.operations
     }
 }

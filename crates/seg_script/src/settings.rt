@@ -13,7 +13,7 @@ use seg_meta::{Compressor, IndexSettings};
 use serde_json::Value;
 
 /// A block of stored documents is closed once it has so many bytes, where a script doesn't say otherwise.
-pub(crate) const BLOCK_SIZE: u32 = 16_384;
+const BLOCK_SIZE: u32 = 16_384;
 
 /// The settings of a script.
 pub(crate) fn settings_at(json: &Value) -> Option<IndexSettings>

@@ -1,8 +1,7 @@
 //! Scripts, and bytes that are none.
 
 use super::{
-    BatchFilter, Operation, Operations, Script, ScriptError, first_stage_holds_one_batch,
-    first_stage_holds_texts, is_first_stage, read_script, scripts_hold_text_fields,
+    BatchFilter, Operation, Operations, Script, ScriptError, read_script, scripts_hold_text_fields,
 };
 use seg_meta::{Compressor, IndexSettings};
 use seg_values::{IndexOption, OwnedValue, TantivyDocument};
@@ -16,6 +15,7 @@ const STORED: &str =
 
 #[test]
 fn reads_a_script(rt: HostRuntime) -> Result<(), Fail> {
+    scripts_hold_text_fields();
     let alloc = rt.alloc();
     let text = format!(in alloc;
         r#"{{
@@ -41,10 +41,9 @@ fn reads_a_script(rt: HostRuntime) -> Result<(), Fail> {
     assert_eq!(rt; schema.fields()[1].index, IndexOption::No);
     assert_eq!(rt; operations.len(), 3);
     assert!(rt; deletes(&operations.as_slice()[1], 1, "本"));
-    let documents = operations.into_documents(alloc)?;
-    assert_eq!(rt; documents.as_slice().len(), 2);
-    assert_eq!(rt; documents.as_slice()[1].len(), 0);
-    let first = &documents.as_slice()[0];
+    let last = added(&operations.as_slice()[2]).ok_or("last")?;
+    assert_eq!(rt; last.len(), 0);
+    let first = added(&operations.as_slice()[0]).ok_or("first")?;
     assert_eq!(rt; first.len(), 3);
     for (at, field, want) in [(0, 1, "日本"), (1, 0, "a\tb"), (2, 2, "x")] {
         let (place, value) = first.pair(at);
@@ -183,41 +182,20 @@ fn tells_other_members(rt: HostRuntime) -> Result<(), Fail> {
 }
 
 #[test]
-fn tells_the_first_stage(rt: HostRuntime) -> Result<(), Fail> {
-    scripts_hold_text_fields();
-    first_stage_holds_texts();
-    first_stage_holds_one_batch();
-    for (operation, rest, first) in [
-        (r#"{"add": [["a", "x"]]}"#, r#""cuts": []"#, true),
-        (r#"{"add": [["none", "x"]]}"#, r#""cuts": []"#, false),
-        (r#"{"delete": ["a", "x"]}"#, r#""cuts": []"#, false),
-        (r#"{"add": []}"#, r#""cuts": [0]"#, false),
-        (r#"{"add": []}"#, r#""filters": [null]"#, true),
-        (r#"{"add": []}"#, r#""filters": [null, null]"#, false),
-        (
-            r#"{"add": []}"#,
-            r#""filters": [{"size": 1, "drop": []}]"#,
-            false,
-        ),
-        (
-            r#"{"add": []}"#,
-            r#""settings": {"docstore_blocksize": 1}"#,
-            false,
-        ),
-        (r#"{"add": []}"#, r#""ids": []"#, false),
-    ] {
-        let is = is_of_first_stage(rt.alloc(), operation, rest)?;
-        assert_eq!(rt; is, first, "{operation} {rest}");
-    }
-    Ok(())
-}
-
-#[test]
 fn counts_operations(rt: HostRuntime) -> Result<(), Fail> {
     let mut operations = Operations::new(rt.alloc());
     operations.push(Operation::Add(TantivyDocument::new(rt.alloc())))?;
     assert_eq!(rt; operations.len(), 1);
+    assert_eq!(rt; operations.into_vec().len(), 1);
     Ok(())
+}
+
+/// The document that an operation adds.
+fn added(operation: &Operation) -> Option<&TantivyDocument> {
+    match operation {
+        Operation::Add(document) => Some(document),
+        Operation::Delete(_) => None,
+    }
 }
 
 fn deletes(operation: &Operation, field: u32, text: &str) -> bool {
@@ -233,7 +211,10 @@ fn is_of_sevens(filter: &Option<BatchFilter>) -> bool {
     let Some(filter) = filter else {
         return false;
     };
-    filter.size() == 4_294_967_295 && !filter.keeps(7) && filter.keeps(8)
+    filter.size() == 4_294_967_295
+        && filter.dropped() == [0, 7, 4_294_967_294].as_slice()
+        && !filter.keeps(7)
+        && filter.keeps(8)
 }
 
 fn is_script(alloc: Global, entry: &str, operation: &str) -> Result<bool, AllocError> {
@@ -249,14 +230,6 @@ fn is_script(alloc: Global, entry: &str, operation: &str) -> Result<bool, AllocE
 fn is_other_script(alloc: Global, rest: &str) -> Result<bool, AllocError> {
     let text = format!(in alloc; r#"{{"schema": [], "operations": [], {rest}}}"#)?;
     Ok(error_of(alloc, text.as_bytes())?.is_none())
-}
-
-fn is_of_first_stage(alloc: Global, operation: &str, rest: &str) -> Result<bool, ScriptError> {
-    let text = format!(in alloc;
-        r#"{{"schema": [{{"name": "a", {STORED}}}], "operations": [{operation}], {rest}}}"#
-    )?;
-    let script = read_script(alloc, Vec::from_slice(alloc, text.as_bytes())?)?;
-    Ok(is_first_stage(&script))
 }
 
 fn error_of(alloc: Global, text: &[u8]) -> Result<Option<ScriptError>, AllocError> {

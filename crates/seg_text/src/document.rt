@@ -3,10 +3,10 @@ ghost use Rattle.std.specs.Prelude.{◌≡◌, ◌<◌, ◌++◌, true, OnOk, le
 ghost use Rattle.std.specs.List.{list_all};
 ghost use Rattle.serde_json.specs.Written.{compact_text};
 ghost use Rattle.seg_values.specs.View.{tree_of};
-ghost use Rattle.seg_model.specs.Built.{is_built_entry, is_built_document, is_text_tree};
+ghost use Rattle.seg_model.specs.Built.{is_text_tree};
 ghost use Rattle.seg_model.specs.Reading.{stored_document};
 ghost use Rattle.seg_text.specs.Json.{value_json};
-ghost use Rattle.seg_text.specs.DocumentText.{document_json, document_line, documents_text, pair_json};
+ghost use Rattle.seg_text.specs.DocumentText.{are_known_texts, document_json, document_line, documents_text, pair_json};
 
 use crate::decimal::push_decimal;
 use crate::quoted::push_quoted;
@@ -21,8 +21,7 @@ pub fn push_documents(
     schema: &Schema,
     documents: &Documents,
 ) -> Result<(), AllocError>
-    requires texts { list_all (is_built_document schema.now) documents.now ≡ true }
-    requires stored { list_all is_built_entry schema.now ≡ true }
+    requires texts { list_all (are_known_texts schema.now) documents.now ≡ true }
     ensures { OnOk result (out.new.items ≡ out.old.items ++ documents_text schema.now (map (stored_document schema.now) documents.now)) }
 {
     for (id, document) in documents.as_slice().iter().enumerate() {
@@ -31,7 +30,7 @@ pub fn push_documents(
     Ok(())
 }
 
-/// The line of a document.
+/// The line of a document, with its pairs of stored fields.
 /// After an error it is open what `out` holds.
 pub fn push_document(
     out: &mut Vec<u8>,
@@ -40,8 +39,7 @@ pub fn push_document(
     id: usize,
     document: &TantivyDocument,
 ) -> Result<(), AllocError>
-    requires texts { is_built_document schema.now document.now ≡ true }
-    requires stored { list_all is_built_entry schema.now ≡ true }
+    requires texts { are_known_texts schema.now document.now ≡ true }
     ensures { OnOk result (out.new.items ≡ out.old.items ++ document_line schema.now id (stored_document schema.now document.now)) }
 {
     out.extend_from_slice(b"doc ")?;
@@ -52,23 +50,28 @@ pub fn push_document(
     Ok(())
 }
 
-/// The list of the pairs.
+/// The list of the pairs of stored fields.
 fn push_pairs(
     out: &mut Vec<u8>,
     alloc: Global,
     schema: &Schema,
     document: &TantivyDocument,
 ) -> Result<(), AllocError>
-    requires { is_built_document schema.now document.now ≡ true }
-    ensures { OnOk result (out.new.items ≡ out.old.items ++ compact_text (document_json schema.now document.now)) }
+    requires { are_known_texts schema.now document.now ≡ true }
+    ensures { OnOk result (out.new.items ≡ out.old.items ++ compact_text (document_json schema.now (stored_document schema.now document.now))) }
 {
     out.push(b'[')?;
+    let mut later = false;
     for at in 0..document.len() {
-        if at > 0 {
+        let (field, value) = document.pair(at);
+        if !schema.get_field_entry(field).stored {
+            continue;
+        }
+        if later {
             out.push(b',')?;
         }
-        let (field, value) = document.pair(at);
         push_pair(out, alloc, schema, field, value)?;
+        later = true;
     }
     out.push(b']')?;
     Ok(())

@@ -9,7 +9,7 @@ use std::alloc::AllocError;
 #[derive(Clone, Copy, Debug)]
 pub enum RecordedRef<'a> {
     Presence,
-    Frequency(u32),
+    Frequency(u64),
     Positions(&'a [u32]),
 }
 
@@ -32,7 +32,7 @@ fn push_recorded(out: &mut Vec<u8>, recorded: RecordedRef<'_>) -> Result<(), All
 {
     match recorded {
         RecordedRef::Presence => {}
-        RecordedRef::Frequency(count) => push_count(out, u64::from(count))?,
+        RecordedRef::Frequency(count) => push_count(out, count)?,
         RecordedRef::Positions(positions) => {
             push_count(out, positions.len() as u64)?;
             out.push(b'@')?;

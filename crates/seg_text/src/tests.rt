@@ -1,8 +1,6 @@
 //! Each call once, against texts written by hand.
-ghost use Rattle.std.specs.Prelude.{◌≡◌, [], ◌∷◌, true, length, IfOk, IfSome};
-ghost use Rattle.std.specs.List.{list_all};
+ghost use Rattle.std.specs.Prelude.{◌≡◌, ◌+◌, ◌<◌, [], ◌∷◌, length, IfOk, OnOk};
 ghost use Rattle.seg_values.specs.Tree.{leaf, text};
-ghost use Rattle.seg_model.specs.Built.{is_built_entry};
 
 use crate::{
     RecordedRef, push_document, push_documents, push_field, push_header, push_posting, push_term,
@@ -74,30 +72,52 @@ fn fields(rt: HostRuntime) -> Result<(), Fail> {
 #[test]
 fn documents(rt: HostRuntime) -> Result<(), Fail> {
     let alloc = rt.alloc();
-    let schema = schema_of(alloc, Text::copy_of(alloc, "a\"\n")?).ok_or("no schema")?;
+    let schema = schema_of(alloc, true)?;
     let mut documents = Documents::new(alloc);
-    documents.push(document_of(alloc, "\\", "\u{e9}\t")?)?;
+    documents.push(document_of(alloc, "\\", "x", "\u{e9}\t")?)?;
     documents.push(TantivyDocument::new(alloc))?;
     let mut out = Vec::new(alloc);
     push_documents(&mut out, alloc, &schema, &documents)?;
-    let text = "doc 0 [[\"a\\\"\\n\",\"\\\\\"],[\"a\\\"\\n\",\"\u{e9}\\t\"]]\ndoc 1 []\n";
+    let text = "doc 0 [[\"a\\\"\\n\",\"\\\\\"],[\"c\",\"\u{e9}\\t\"]]\ndoc 1 []\n";
     assert_eq!(rt; out.as_slice(), text.as_bytes());
+    Ok(())
+}
+
+#[test]
+fn documents_without_stored_fields(rt: HostRuntime) -> Result<(), Fail> {
+    let alloc = rt.alloc();
+    let schema = schema_of(alloc, false)?;
+    let document = document_of(alloc, "x", "y", "z")?;
     let mut line = Vec::new(alloc);
-    push_document(&mut line, alloc, &schema, 7, &documents.as_slice()[1])?;
+    push_document(&mut line, alloc, &schema, 7, &document)?;
     assert_eq!(rt; line.as_slice(), b"doc 7 []\n".as_slice());
     Ok(())
 }
 
-/// A schema of one stored text field with positions.
-fn schema_of(alloc: Global, name: Text) -> Option<Schema>
-    ensures built { IfSome result (λ s. list_all is_built_entry s ≡ true) }
-    ensures one { IfSome result (λ s. length s ≡ 1) }
+/// A schema of three text fields, of which the second isn't stored.
+fn schema_of(alloc: Global, others_are_stored: bool) -> Result<Schema, Fail>
+    ensures { IfOk result (λ s. length s ≡ 3) }
 {
     let mut builder = SchemaBuilder::new(alloc);
+    add_field(
+        &mut builder,
+        Text::copy_of(alloc, "a\"\n")?,
+        others_are_stored,
+    )?;
+    add_field(&mut builder, Text::copy_of(alloc, "b")?, false)?;
+    add_field(&mut builder, Text::copy_of(alloc, "c")?, others_are_stored)?;
+    Ok(builder.build())
+}
+
+/// Adds a text field.
+fn add_field(builder: &mut SchemaBuilder, name: Text, stored: bool) -> Result<(), Fail>
+    requires { length builder.old < 3 }
+    ensures { OnOk result (length builder.new ≡ length builder.old + 1) }
+{
     let entry = FieldEntry {
         name,
         kind: FieldKind::Text,
-        stored: true,
+        stored,
         index: IndexOption::Positions,
         tokenizer: None,
         norms: true,
@@ -107,18 +127,23 @@ fn schema_of(alloc: Global, name: Text) -> Option<Schema>
         expand_dots: false,
     };
     match builder.add_field(entry) {
-        Ok(_) => Some(builder.build()),
-        Err(_) => None,
+        Ok(_) => Ok(()),
+        Err(_) => Err("no field".into()),
     }
 }
 
-/// A document with two texts of the first field.
-fn document_of(alloc: Global, first: &str, second: &str) -> Result<TantivyDocument, Fail>
-    ensures { IfOk result (λ d. d ≡ (0, leaf (text first.now)) ∷ (0, leaf (text second.now)) ∷ []) }
+/// A document with a text of each of the three fields.
+fn document_of(
+    alloc: Global,
+    first: &str,
+    second: &str,
+    third: &str,
+) -> Result<TantivyDocument, Fail>
+    ensures { IfOk result (λ d. d ≡ (0, leaf (text first.now)) ∷ (1, leaf (text second.now)) ∷ (2, leaf (text third.now)) ∷ []) }
 {
-    let field = Field::from_field_id(0);
     let mut document = TantivyDocument::new(alloc);
-    document.add_field_value(field, OwnedValue::Str(Text::copy_of(alloc, first)?))?;
-    document.add_field_value(field, OwnedValue::Str(Text::copy_of(alloc, second)?))?;
+    document.add_text(Field::from_field_id(0), first)?;
+    document.add_text(Field::from_field_id(1), second)?;
+    document.add_text(Field::from_field_id(2), third)?;
     Ok(document)
 }
