@@ -5,12 +5,12 @@ use anyhow::{Result, ensure};
 use seg_common::{MemorySink, MemorySource};
 use seg_directory::MemoryDirectory;
 use seg_tool::{Status, run};
-use seg_values::{DefaultTokenizer, TokenizerManager};
+use seg_values::{DefaultTokenizer, RawTokenizer, TokenizerManager, WhitespaceTokenizer};
 use std::fs;
 use std::rt::Files;
 
 fn main(rt: HostRuntime) -> Result<()> {
-    for name in ["notes", "mail", "catalogue"] {
+    for name in ["notes", "mail", "catalogue", "options"] {
         compare(&rt, name)?;
         println!(rt; "{name}: as expected")?;
     }
@@ -24,6 +24,8 @@ fn compare<R: Files + AllocGlobal>(rt: &R, name: &str) -> Result<()> {
     let text = fs::read(rt, format!(in alloc; "{name}.txt")?)?;
     let mut analyzers = TokenizerManager::new(alloc);
     analyzers.register("default", Box::new(alloc, DefaultTokenizer)?)?;
+    analyzers.register("raw", Box::new(alloc, RawTokenizer)?)?;
+    analyzers.register("whitespace", Box::new(alloc, WhitespaceTokenizer)?)?;
     let words = vec![in alloc; String::from_str(alloc, "build")?]?;
     let mut source = MemorySource::new(alloc, &script, Vec::new(alloc))?;
     let mut sink = MemorySink::new(alloc, text.len(), Vec::new(alloc))?;

@@ -1,11 +1,9 @@
-mod Both
+mod BatchText
 mod Built
-mod Calls
 mod CauseText
+mod Endings
 mod Faults
-mod IndexSteps
+mod OfScript
 mod Parts
 mod Printed
-mod ScriptFacts
 mod Slices
-mod Steps

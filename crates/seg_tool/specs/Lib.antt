@@ -1,6 +1,5 @@
-pub mod Calls
+pub mod BuildInput
 pub mod DirectoryCalls
 pub mod Printing
 pub mod Run
 pub mod Statuses
-pub mod WrittenIndex

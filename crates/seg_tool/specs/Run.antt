@@ -1,17 +1,22 @@
--- What a run of `build` prints.
+-- What a run of `build` prints, what it leaves in the directories, and why it is refused.
 use Rattle.std.specs.Prelude.{ℕ, ◌≡◌, ◌<◌, ◌≤◌, ◌⊎◌, List, [], ◌∷◌, ◌++◌, length, replicate, Bool, true, false, Option, Some, None, IsSome, codes, String, string_bytes}
 use Rattle.std.specs.declared.alloc.Global.{Global}
 use Rattle.std.specs.Io.KnownBytes.{Appends}
-use Rattle.std.specs.List.{list_all}
 use Rattle.std.specs.Str.{bytes_eq}
 use Rattle.seg_common.specs.Streams.{AppendsPart}
+use Rattle.seg_values.specs.declared.error.ArgumentCause.TheVariants.{Later}
+use Rattle.seg_values.specs.declared.error.TantivyError.{TantivyError}
+use Rattle.seg_values.specs.declared.error.TantivyError.TheVariants.{InvalidArgument}
 use Rattle.seg_values.specs.Tree.{Document}
-use Rattle.seg_model.specs.Built.{is_taken}
+use Rattle.seg_directory.specs.Files.{NamedFiles}
 use Rattle.seg_model.specs.Contents.{reading}
 use Rattle.seg_model.specs.Fields.{Schema, Analyzer}
-use Rattle.seg_model.specs.Input.{Input}
-use Rattle.seg_model.specs.Operations.{additions}
-use Rattle.seg_script.specs.FirstStage.{is_first_stage}
+use Rattle.seg_model.specs.Input.{Input, input_batches, input_survivors}
+use Rattle.seg_model.specs.Operations.{Batch}
+use Rattle.seg_model.specs.Valid.{Known, IsValid}
+use Rattle.seg_merge.specs.IndexFiles.{IsOutputIndexOf, IsWorkIndexOf, output_id, work_ids}
+use Rattle.seg_merge.specs.Inputs.{is_built_input}
+use Rattle.seg_merge.specs.Refusals.{first_error, refusal_error}
 use Rattle.seg_script.specs.Script.{json_of, script}
 use Rattle.seg_text.specs.SegmentText.{PrintedSegment, segment_text}
 
@@ -21,21 +26,30 @@ is_build [] = false
 is_build (word ∷ []) = bytes_eq (string_bytes word) (codes "build")
 is_build (word ∷ other ∷ words) = false
 
--- a segment that reads as documents, of which each is alive
-abbrev pub segment : Schema → Analyzer → List ℕ → ℕ → List Document → PrintedSegment
-segment schema analyzer label id documents =
-    record {
-      label = label;
-      id = id;
-      alive = replicate (length documents) true;
-      reading = reading schema analyzer documents;
-    }
+-- ---- the text
 
--- the documents of a script as work segment 1, and then as output segment 2
+-- a segment of documents, of which some are alive
+abbrev pub segment : Schema → Analyzer → List ℕ → ℕ → List Document → List Bool → PrintedSegment
+segment schema analyzer label id documents alive = record { label = label; id = id; alive = alive; reading = reading schema analyzer documents }
+
+-- a work segment a batch
+abbrev pub work_text : Schema → Analyzer → List ℕ → List Batch → List ℕ
+work_text schema analyzer [] batches = []
+work_text schema analyzer (id ∷ ids) [] = []
+work_text schema analyzer (id ∷ ids) (batch ∷ batches) =
+    segment_text schema (segment schema analyzer (codes "work") id batch.documents batch.alive) ++ work_text schema analyzer ids batches
+
+-- the output segment, of the survivors
+abbrev pub output_text : Schema → Analyzer → ℕ → List Document → List ℕ
+output_text schema analyzer id survivors = segment_text schema (segment schema analyzer (codes "output") id survivors (replicate (length survivors) true))
+
+-- the work segments in order, and then the output segment
 abbrev pub build_text : Analyzer → Input → List ℕ
-build_text analyzer s =
-    segment_text s.schema (segment s.schema analyzer (codes "work") 1 (additions s.operations))
-    ++ segment_text s.schema (segment s.schema analyzer (codes "output") 2 (additions s.operations))
+build_text analyzer input =
+    work_text input.schema analyzer (work_ids input.ids) (input_batches analyzer input)
+    ++ output_text input.schema analyzer (output_id input.ids) (input_survivors analyzer input)
+
+-- ---- the script
 
 -- the most bytes of a script
 abbrev pub max_script : ℕ
@@ -49,18 +63,53 @@ IsJson bytes = IsSome (json_of bytes) × (length bytes ≤ max_script)
 abbrev pub IsNoScript : List ℕ → Type 0
 IsNoScript bytes = (json_of bytes ≡ None) ⊎ (max_script < length bytes)
 
--- the bytes are a script of what is built so far, whose documents pass the check, and `default` is known
-pub record IsNarrow (knows : List ℕ → Type 0) (analyzer : Analyzer) (bytes : List ℕ) : Type 0 where
+-- the bytes are a script of what is built so far, and valid
+pub record IsValidScript (known : Known) (analyzer : Analyzer) (bytes : List ℕ) : Type 0 where
   pub meant : Input
   pub is_script : script bytes ≡ Some meant
-  pub first : is_first_stage meant ≡ true
-  pub known : knows (codes "default")
-  pub taken : list_all (is_taken meant.schema analyzer) (additions meant.operations) ≡ true
+  pub built : is_built_input meant ≡ true
+  pub valid : IsValid known analyzer meant
 
--- the bytes are such a script, and this is its text
-pub record IsTextOf (knows : List ℕ → Type 0) (analyzer : Analyzer) (bytes text : List ℕ) : Type 0 where
-  pub narrow : IsNarrow knows analyzer bytes
-  pub printed : text ≡ build_text analyzer narrow.meant
+-- the bytes are a script, and this is its text
+pub record IsTextOf (analyzer : Analyzer) (bytes text : List ℕ) : Type 0 where
+  pub meant : Input
+  pub is_script : script bytes ≡ Some meant
+  pub printed : text ≡ build_text analyzer meant
+
+-- the bytes are a script, and the files are its work index
+pub record HasWorkIndex (analyzer : Analyzer) (bytes : List ℕ) (files : NamedFiles) : Type 0 where
+  pub meant : Input
+  pub is_script : script bytes ≡ Some meant
+  pub is_index : IsWorkIndexOf analyzer meant files
+
+-- the bytes are a script, and the files are its output index
+pub record HasOutputIndex (analyzer : Analyzer) (bytes : List ℕ) (files : NamedFiles) : Type 0 where
+  pub meant : Input
+  pub is_script : script bytes ≡ Some meant
+  pub is_index : IsOutputIndexOf analyzer meant files
+
+-- ---- refusals
+
+-- a JSON text that is no script is not built yet; a script is refused as its input is
+abbrev pub refusal_of : Known → Analyzer → Option Input → Option TantivyError
+refusal_of known analyzer None = Some (InvalidArgument Later)
+refusal_of known analyzer (Some input) = refusal_error known analyzer input
+
+-- an error tells why these bytes are refused
+abbrev pub IsWhyRefused : Known → Analyzer → List ℕ → TantivyError → Type 0
+IsWhyRefused known analyzer bytes e = refusal_of known analyzer (script bytes) ≡ Some e
+
+-- the first of them, before a directory is called
+abbrev pub first_of : Known → Analyzer → Option Input → Option TantivyError
+first_of known analyzer None = Some (InvalidArgument Later)
+first_of known analyzer (Some input) = first_error known analyzer input
+
+-- the bytes are a script, and nothing refuses it before a directory is called
+pub record IsAdmitted (known : Known) (analyzer : Analyzer) (bytes : List ℕ) : Type 0 where
+  pub short : length bytes ≤ max_script
+  pub admitted : first_of known analyzer (script bytes) ≡ None
+
+-- ---- what is gained
 
 -- a text of some kind was appended
 pub record Gains (IsText : List ℕ → Type 0) (old new : Option (List ℕ)) : Type 0 where

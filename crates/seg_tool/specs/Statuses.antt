@@ -1,5 +1,5 @@
 -- The numbers of statuses, and the line that is said of each.
-use Rattle.std.specs.Prelude.{ℕ, List, [], ◌∷◌, ◌++◌, codes, decimal}
+use Rattle.std.specs.Prelude.{ℕ, ◌≡◌, ◌⊎◌, List, [], ◌∷◌, ◌++◌, codes, decimal}
 use Rattle.seg_values.specs.declared.error.TantivyError.{TantivyError}
 use Rattle.seg_values.specs.declared.error.TantivyError.TheVariants.{SchemaError, InvalidArgument, IndexAlreadyExists, OpenReadError, OpenWriteError, IoError}
 use Rattle.seg_values.specs.declared.error.SchemaCause.{SchemaCause}
@@ -31,8 +31,14 @@ IfWritten (Exists e) P = P e
 IfWritten (Directory e) P = P e
 IfWritten _ P = Unit {0}
 
--- the status of an error of an index that is written
+-- refused for this, or before that no memory, or a source that failed
+abbrev pub RefusedFor : TantivyError → Status → Type 0
+RefusedFor e status = (status ≡ Refused e) ⊎ ((status ≡ Memory) ⊎ (status ≡ Stream))
+
+-- the status of an error of an index that is built
 abbrev pub status_of : TantivyError → Status
+status_of (SchemaError cause) = Refused (SchemaError cause)
+status_of (InvalidArgument cause) = Refused (InvalidArgument cause)
 status_of IndexAlreadyExists = Exists IndexAlreadyExists
 status_of OpenReadError = Directory OpenReadError
 status_of OpenWriteError = Directory OpenWriteError
@@ -110,3 +116,11 @@ status_line (Exists e) = codes "exists: a directory is not empty" ++ 10 ∷ []
 status_line (Directory e) = fault_text e ++ 10 ∷ []
 status_line Stream = codes "stream: read or write failed" ++ 10 ∷ []
 status_line Memory = codes "memory: not enough" ++ 10 ∷ []
+
+-- a status of an error of what is built
+abbrev pub IsOfErrors : Status → Type 0
+IsOfErrors (Refused e) = Unit {0}
+IsOfErrors (Exists e) = Unit {0}
+IsOfErrors (Directory e) = Unit {0}
+IsOfErrors Memory = Unit {0}
+IsOfErrors _ = ⊥

@@ -1,24 +1,32 @@
-//! From the bytes of a script to an index and the text of its segments.
-ghost use Rattle.std.specs.Prelude.{◌≡◌, ◌≢◌, None, IfErr, IfOk, IsErrOf, IsSome, IsTrue, OnOk, length, true};
+//! From the bytes of a script to its indexes and the text of their segments.
+ghost use Rattle.std.specs.Prelude.{◌≡◌, ◌≢◌, ◌⊎◌, map, true, Some, None, Err, IfErr, IfOk, IfSome, IsErrOf, IsSome, IsTrue, OnOk, length};
 ghost use Rattle.std.specs.FinMap.{len};
 ghost use Rattle.std.specs.List.{list_all};
-ghost use Rattle.seg_model.specs.Built.{is_built_entry, is_built_document};
-ghost use Rattle.seg_model.specs.Fields.{Analyzer};
-ghost use Rattle.seg_model.specs.Input.{Input};
-ghost use Rattle.seg_script.specs.Script.{json_of};
-ghost use Rattle.seg_tool.specs.Calls.{state_of};
-ghost use Rattle.seg_tool.specs.Run.{build_text, IsNarrow, IsTextOf};
-ghost use Rattle.seg_tool.specs.Statuses.{IfRefused, IfWritten, status_of};
-ghost use Rattle.seg_tool.specs.DirectoryCalls.{Directories, BuildDoes};
-ghost use Rattle.seg_tool.specs.WrittenIndex.{HasOutputIndex, HasWorkIndex, IsIndexed};
+ghost use Rattle.seg_model.specs.Operations.{additions};
+ghost use Rattle.seg_model.specs.Valid.{Known, IsValid};
+ghost use Rattle.seg_build.specs.View.{operation_of};
+ghost use Rattle.seg_build.specs.WriterStart.{Tests};
+ghost use Rattle.seg_merge.specs.Calls.{state_of};
+ghost use Rattle.seg_merge.specs.DirectoryCalls.{Directories};
+ghost use Rattle.seg_merge.specs.IndexFiles.{IsOutputIndexOf, IsWorkIndexOf};
+ghost use Rattle.seg_merge.specs.Inputs.{is_addition, is_built_input};
+ghost use Rattle.seg_merge.specs.Refusals.{first_error, refusal_error};
+ghost use Rattle.seg_script.specs.Laws.{HoldsTextFields};
+ghost use Rattle.seg_script.specs.Script.{json_of, script};
+ghost use Rattle.seg_text.specs.DocumentText.{are_known_texts};
+ghost use Rattle.seg_tool.specs.BuildInput.{input_of};
+ghost use Rattle.seg_tool.specs.DirectoryCalls.{BuildDoes, Wrote};
+ghost use Rattle.seg_tool.specs.Printing.{batch_text};
+ghost use Rattle.seg_tool.specs.Run.{build_text, HasOutputIndex, HasWorkIndex, IsTextOf, IsValidScript, IsWhyRefused, first_of};
+ghost use Rattle.seg_tool.specs.Statuses.{IfRefused, IfWritten, IsOfErrors, status_of};
 
-use crate::indexes::write_indexes;
-use crate::narrow::{NarrowScript, read_narrow};
+use crate::input::{BuildInput, InputError, build_input};
 use crate::printing::push_segment;
 use crate::status::Status;
-use seg_common::SegmentId;
+use seg_build::IndexedFields;
 use seg_directory::Directory;
-use seg_script::ScriptError;
+use seg_merge::build_index_with_fields;
+use seg_script::{Script, ScriptError, read_script, scripts_hold_text_fields};
 use seg_values::{Analyzers, ArgumentCause, TantivyError};
 use std::alloc::{AllocError, Global};
 
@@ -33,24 +41,26 @@ pub(crate) fn build<Z: Analyzers, W: Directory, O: Directory>(
     work: &mut W,
     output: &mut O,
 ) -> Result<Vec<u8>, Status>
-    ensures ok { IfOk result
-        (λ t. IsTextOf (Z.knows analyzers.now) (Z.tokens_of analyzers.now) bytes.items t.items) }
+    ensures ok { IfOk result (λ t. IsTextOf (Z.tokens_of analyzers.now) bytes.items t.items) }
+    ensures valid { (known : Known) → Tests known (Z.knows analyzers.now)
+        → OnOk result (IsValidScript known (Z.tokens_of analyzers.now) bytes.items) }
     ensures script { IsErrOf result Status.Script → json_of bytes.items ≡ None }
-    ensures refused { IfErr result (λ status. IfRefused status
-        (λ e. e ≡ TantivyError.InvalidArgument ArgumentCause.Later)) }
     ensures json { IfErr result (λ status. IfRefused status (λ _. IsSome (json_of bytes.items))) }
-    ensures later { IfErr result (λ status. IfRefused status
-        (λ _. ¬ (IsNarrow (Z.knows analyzers.now) (Z.tokens_of analyzers.now) bytes.items))) }
-    ensures written { IfErr result (λ status. IfWritten status
-        (λ _. IsNarrow (Z.knows analyzers.now) (Z.tokens_of analyzers.now) bytes.items)) }
+    ensures refused { (known : Known) → Tests known (Z.knows analyzers.now)
+        → IfErr result (λ status. IfRefused status (IsWhyRefused known (Z.tokens_of analyzers.now) bytes.items)) }
+    ensures first { (known : Known) → Tests known (Z.knows analyzers.now) → IsSome (json_of bytes.items)
+        → IfSome (first_of known (Z.tokens_of analyzers.now) (script bytes.items))
+        (λ e. ((result ≡ Err (Status.Refused e)) ⊎ (result ≡ Err Status.Memory)) × (work.new ≡ work.old) × (output.new ≡ output.old)) }
+    ensures written { (known : Known) → Tests known (Z.knows analyzers.now)
+        → IfErr result (λ status. IfWritten status (λ _. first_of known (Z.tokens_of analyzers.now) (script bytes.items) ≡ None)) }
     ensures never_done { IsErrOf result Status.Done → ⊥ }
     ensures never_words { IsErrOf result Status.Words → ⊥ }
     ensures never_stream { IsErrOf result Status.Stream → ⊥ }
     ensures work_index { IsTrue (W.tells work.old) → OnOk result
-        (HasWorkIndex (Z.knows analyzers.now) (Z.tokens_of analyzers.now) bytes.items (W.files work.new)) }
+        (HasWorkIndex (Z.tokens_of analyzers.now) bytes.items (W.files work.new)) }
     ensures work_was_empty { IsTrue (W.tells work.old) → OnOk result (len (W.files work.old) ≡ 0) }
     ensures output_index { IsTrue (O.tells output.old) → OnOk result
-        (HasOutputIndex (Z.knows analyzers.now) (Z.tokens_of analyzers.now) bytes.items (O.files output.new)) }
+        (HasOutputIndex (Z.tokens_of analyzers.now) bytes.items (O.files output.new)) }
     ensures output_was_empty { IsTrue (O.tells output.old) → OnOk result (len (O.files output.old) ≡ 0) }
     ensures fresh { IsTrue (W.tells work.old) → len (W.files work.old) ≡ 0
         → IsTrue (O.tells output.old) → len (O.files output.old) ≡ 0
@@ -73,66 +83,106 @@ pub(crate) fn build<Z: Analyzers, W: Directory, O: Directory>(
           work = state_of (W.tells work.new) (W.files work.new) (W.seen work.new) (W.faults work.new);
           output = state_of (O.tells output.new) (O.files output.new) (O.seen output.new) (O.faults output.new);
         })) }
-    ensures untouched { IfErr result (λ status. IfRefused status (λ _. work.new ≡ work.old)) }
-    ensures untouched_script { IsErrOf result Status.Script → work.new ≡ work.old }
-    ensures output_untouched { IfErr result (λ status. IfRefused status (λ _. output.new ≡ output.old)) }
-    ensures output_untouched_script { IsErrOf result Status.Script → output.new ≡ output.old }
+    ensures untouched_script { IsErrOf result Status.Script → (work.new ≡ work.old) × (output.new ≡ output.old) }
 {
-    let script = match read_narrow(alloc, analyzers, bytes) {
+    let script = match read_script(alloc, bytes) {
         Ok(script) => script,
         Err(ScriptError::NotJson) => return Err(Status::Script),
         Err(ScriptError::Later) => return Err(Status::Refused(LATER)),
         Err(ScriptError::OutOfMemory) => return Err(Status::Memory),
     };
-    let Ok(text) = segments_text(alloc, &script) else {
-        return Err(Status::Memory);
+    let input = match build_input(alloc, script) {
+        Ok(input) => input,
+        Err(InputError::Filtered) => return Err(Status::Refused(LATER)),
+        Err(InputError::OutOfMemory) => return Err(Status::Memory),
     };
-    let NarrowScript {
-        schema,
-        documents,
-        batch,
-        stamp,
-    } = script;
-    match write_indexes(alloc, schema, &batch, &documents, stamp, work, output) {
-        Ok(()) => Ok(text),
+    scripts_hold_text_fields();
+    build_and_print(alloc, analyzers, &input, work, output)
+}
+
+/// Writes the indexes of an input, and answers what is printed of them.
+fn build_and_print<Z: Analyzers, W: Directory, O: Directory>(
+    alloc: Global,
+    analyzers: &Z,
+    input: &BuildInput,
+    work: &mut W,
+    output: &mut O,
+) -> Result<Vec<u8>, Status>
+    requires texts { HoldsTextFields (input_of input.now) }
+    ensures ok { IfOk result (λ t. t.items ≡ build_text (Z.tokens_of analyzers.now) (input_of input.now)) }
+    ensures valid { (known : Known) → Tests known (Z.knows analyzers.now)
+        → OnOk result (IsValid known (Z.tokens_of analyzers.now) (input_of input.now)) }
+    ensures built { OnOk result (is_built_input (input_of input.now) ≡ true) }
+    ensures refused { (known : Known) → Tests known (Z.knows analyzers.now)
+        → IfErr result (λ status. IfRefused status (λ e. refusal_error known (Z.tokens_of analyzers.now) (input_of input.now) ≡ Some e)) }
+    ensures first { (known : Known) → Tests known (Z.knows analyzers.now)
+        → IfSome (first_error known (Z.tokens_of analyzers.now) (input_of input.now))
+        (λ e. ((result ≡ Err (Status.Refused e)) ⊎ (result ≡ Err Status.Memory)) × (work.new ≡ work.old) × (output.new ≡ output.old)) }
+    ensures never { IfErr result IsOfErrors }
+    ensures work_index { IsTrue (W.tells work.old) → OnOk result
+        (IsWorkIndexOf (Z.tokens_of analyzers.now) (input_of input.now) (W.files work.new)) }
+    ensures work_was_empty { IsTrue (W.tells work.old) → OnOk result (len (W.files work.old) ≡ 0) }
+    ensures output_index { IsTrue (O.tells output.old) → OnOk result
+        (IsOutputIndexOf (Z.tokens_of analyzers.now) (input_of input.now) (O.files output.new)) }
+    ensures output_was_empty { IsTrue (O.tells output.old) → OnOk result (len (O.files output.old) ≡ 0) }
+    ensures fresh { IsTrue (W.tells work.old) → len (W.files work.old) ≡ 0
+        → IsTrue (O.tells output.old) → len (O.files output.old) ≡ 0
+        → IfErr result (λ status. (e : TantivyError) → status ≢ Status.Exists e) }
+    ensures calls { OnOk result (Wrote
+        (record {
+          work = state_of (W.tells work.old) (W.files work.old) (W.seen work.old) (W.faults work.old);
+          output = state_of (O.tells output.old) (O.files output.old) (O.seen output.old) (O.faults output.old);
+        })
+        (record {
+          work = state_of (W.tells work.new) (W.files work.new) (W.seen work.new) (W.faults work.new);
+          output = state_of (O.tells output.new) (O.files output.new) (O.seen output.new) (O.faults output.new);
+        })) }
+    ensures calls_ended { IfErr result (λ status. BuildDoes status
+        (record {
+          work = state_of (W.tells work.old) (W.files work.old) (W.seen work.old) (W.faults work.old);
+          output = state_of (O.tells output.old) (O.files output.old) (O.seen output.old) (O.faults output.old);
+        })
+        (record {
+          work = state_of (W.tells work.new) (W.files work.new) (W.seen work.new) (W.faults work.new);
+          output = state_of (O.tells output.new) (O.files output.new) (O.seen output.new) (O.faults output.new);
+        })) }
+{
+    let built = build_index_with_fields(
+        alloc,
+        &input.schema,
+        &input.settings,
+        analyzers,
+        &input.operations,
+        &input.cuts,
+        &input.filters,
+        &input.ids,
+        work,
+        output,
+    );
+    match built {
+        Ok(built) => match segments_text(alloc, input, &built.fields) {
+            Ok(text) => Ok(text),
+            Err(AllocError) => Err(Status::Memory),
+        },
         Err(e) => Err(status_of(e)),
     }
 }
 
 /// The text of both segments.
-fn segments_text(alloc: Global, script: &NarrowScript) -> Result<Vec<u8>, AllocError>
-    requires fields { length script.now.batch.fields ≡ length script.now.schema }
-    requires entries { list_all is_built_entry script.now.schema ≡ true }
-    requires documents { list_all (is_built_document script.now.schema) script.now.documents ≡ true }
-    ensures { IfOk result (λ t. (analyzer : Analyzer) (s : Input) → IsIndexed analyzer s script.now → t.items ≡ build_text analyzer s) }
+fn segments_text(
+    alloc: Global,
+    input: &BuildInput,
+    fields: &IndexedFields,
+) -> Result<Vec<u8>, AllocError>
+    requires as_many { length fields.now ≡ length input.now.schema }
+    requires additions { list_all is_addition (map operation_of input.now.operations.items) ≡ true }
+    requires texts { list_all (are_known_texts input.now.schema) (additions (map operation_of input.now.operations.items)) ≡ true }
+    requires ids { length input.now.ids.items ≡ 2 }
+    ensures { IfOk result (λ t. t.items ≡ batch_text input.now fields.now) }
 {
-    let NarrowScript {
-        schema,
-        documents,
-        batch,
-        ..
-    } = script;
     let mut out = Vec::new(alloc);
-    let work = SegmentId::from_u128(1);
-    push_segment(
-        &mut out,
-        alloc,
-        "work",
-        work,
-        schema,
-        &batch.fields,
-        documents,
-    )?;
-    let output = SegmentId::from_u128(2);
-    push_segment(
-        &mut out,
-        alloc,
-        "output",
-        output,
-        schema,
-        &batch.fields,
-        documents,
-    )?;
+    push_segment(&mut out, alloc, "work", input.ids[0], input, fields)?;
+    push_segment(&mut out, alloc, "output", input.ids[1], input, fields)?;
     Ok(out)
 }
 
@@ -141,6 +191,7 @@ fn status_of(error: TantivyError) -> Status
     ensures { result ≡ status_of error }
 {
     match error {
+        TantivyError::SchemaError(_) | TantivyError::InvalidArgument(_) => Status::Refused(error),
         TantivyError::IndexAlreadyExists => Status::Exists(error),
         TantivyError::OpenReadError | TantivyError::OpenWriteError | TantivyError::IoError => {
             Status::Directory(error)

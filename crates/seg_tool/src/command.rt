@@ -1,14 +1,17 @@
 //! The whole of a run: the words, the source, the sink, and the line on what went wrong.
-ghost use Rattle.std.specs.Prelude.{◌≡◌, ◌≢◌, ◌≤◌, ◌+◌, ◌⊎◌, ◌↔◌, ℕ, List, Some, false, true, length, IfOk, IfErr, IfSome, IsErrOf, IsTrue, OnOk};
+ghost use Rattle.std.specs.Prelude.{◌≡◌, ◌≢◌, ◌≤◌, ◌+◌, ◌⊎◌, ◌↔◌, ℕ, List, Some, false, true, length, IsErrAnd, IsSome, IfOk, IfErr, IfSome, IsErrOf, IsTrue, OnOk};
 ghost use Rattle.std.specs.Io.KnownBytes.{Appends, IsAtEnd};
 ghost use Rattle.seg_common.specs.Causes.{Rose};
 ghost use Rattle.seg_common.specs.Idle.{OnlyLastIsIdle};
 ghost use Rattle.seg_common.specs.Streams.{AppendsPart, TakesAtMost};
-ghost use Rattle.seg_tool.specs.Run.{is_build, max_script, IsJson, IsNoScript, IsNarrow, IsTextOf, Gains, GainsPart};
-ghost use Rattle.seg_tool.specs.Statuses.{IfRefused, IfWritten, status_line};
-ghost use Rattle.seg_tool.specs.Calls.{state_of};
-ghost use Rattle.seg_tool.specs.DirectoryCalls.{Directories, BuildDoes, IsReady};
-ghost use Rattle.seg_tool.specs.WrittenIndex.{HasOutputIndex, HasWorkIndex};
+ghost use Rattle.seg_tool.specs.Run.{is_build, max_script, first_of, HasOutputIndex, HasWorkIndex, IsAdmitted, IsJson, IsNoScript, IsTextOf, IsValidScript, IsWhyRefused, Gains, GainsPart};
+ghost use Rattle.seg_tool.specs.Statuses.{IfRefused, IfWritten, RefusedFor, status_line};
+ghost use Rattle.seg_build.specs.WriterStart.{Tests};
+ghost use Rattle.seg_merge.specs.Calls.{state_of};
+ghost use Rattle.seg_merge.specs.DirectoryCalls.{Directories};
+ghost use Rattle.seg_model.specs.Valid.{Known};
+ghost use Rattle.seg_script.specs.Script.{json_of, script};
+ghost use Rattle.seg_tool.specs.DirectoryCalls.{BuildDoes, IsReady};
 ghost use Rattle.std.specs.FinMap.{len};
 
 use crate::building::build;
@@ -16,7 +19,8 @@ use crate::reporting::report;
 use crate::status::Status;
 use seg_common::{ReadError, Sink, SinkFailed, Source, read_to_end, write_whole};
 use seg_directory::Directory;
-use seg_values::{Analyzers, ArgumentCause, TantivyError};
+use seg_model::valid_inputs_are_not_refused;
+use seg_values::{Analyzers, TantivyError};
 use std::alloc::Global;
 
 /// The most bytes of a script.
@@ -41,35 +45,42 @@ pub fn run<S: Source, K: Sink, F: Sink, Z: Analyzers, W: Directory, O: Directory
 
     // What each status says of the bytes that the source had left.
     ensures script { result ≡ Status.Script → IfSome (S.left source.old) IsNoScript }
-    ensures refused { IfRefused result (λ e. e ≡ TantivyError.InvalidArgument ArgumentCause.Later) }
+    ensures refused { (known : Known) → Tests known (Z.knows analyzers.now)
+        → IfRefused result (λ e. IfSome (S.left source.old)
+        (λ bytes. IsWhyRefused known (Z.tokens_of analyzers.now) bytes e)) }
     ensures json { IfRefused result (λ _. IfSome (S.left source.old) IsJson) }
-    ensures later { IfRefused result (λ _. IfSome (S.left source.old)
-        (λ bytes. ¬ (IsNarrow (Z.knows analyzers.now) (Z.tokens_of analyzers.now) bytes))) }
+    ensures first { (known : Known) → Tests known (Z.knows analyzers.now)
+        → (bytes : List ℕ) → is_build words.now ≡ true → S.left source.old ≡ Some bytes → length bytes ≤ max_script
+        → IsSome (json_of bytes) → IfSome (first_of known (Z.tokens_of analyzers.now) (script bytes))
+        (λ e. RefusedFor e result × (work.new ≡ work.old) × (output.new ≡ output.old)) }
+
+    ensures written { (known : Known) → Tests known (Z.knows analyzers.now)
+        → IfWritten result (λ _. IfSome (S.left source.old) (IsAdmitted known (Z.tokens_of analyzers.now))) }
+    ensures valid { (known : Known) → Tests known (Z.knows analyzers.now) → result ≡ Status.Done
+        → IfSome (S.left source.old) (IsValidScript known (Z.tokens_of analyzers.now)) }
 
     // What goes to the sink.
     ensures done { result ≡ Status.Done → IfSome (S.left source.old)
         (λ bytes. (length bytes ≤ max_script)
-        × Gains (IsTextOf (Z.knows analyzers.now) (Z.tokens_of analyzers.now) bytes)
+        × Gains (IsTextOf (Z.tokens_of analyzers.now) bytes)
         (K.written sink.old) (K.written sink.new)) }
     ensures untouched { result ≢ Status.Done → result ≢ Status.Stream → sink.new ≡ sink.old }
     ensures stream { result ≡ Status.Stream →
         (Rose (S.faults source.old) (S.faults source.new) × (sink.new ≡ sink.old))
         ⊎ (Rose (K.faults sink.old) (K.faults sink.new) × IfSome (S.left source.old)
-        (λ bytes. GainsPart (IsTextOf (Z.knows analyzers.now) (Z.tokens_of analyzers.now) bytes)
+        (λ bytes. GainsPart (IsTextOf (Z.tokens_of analyzers.now) bytes)
         (K.written sink.old) (K.written sink.new))) }
 
     // What becomes of the directories.
     ensures work_index { result ≡ Status.Done → IsTrue (W.tells work.old) → IfSome (S.left source.old)
-        (λ bytes. HasWorkIndex (Z.knows analyzers.now) (Z.tokens_of analyzers.now) bytes (W.files work.new)) }
+        (λ bytes. HasWorkIndex (Z.tokens_of analyzers.now) bytes (W.files work.new)) }
     ensures work_was_empty { result ≡ Status.Done → IsTrue (W.tells work.old) → len (W.files work.old) ≡ 0 }
     ensures output_index { result ≡ Status.Done → IsTrue (O.tells output.old) → IfSome (S.left source.old)
-        (λ bytes. HasOutputIndex (Z.knows analyzers.now) (Z.tokens_of analyzers.now) bytes (O.files output.new)) }
+        (λ bytes. HasOutputIndex (Z.tokens_of analyzers.now) bytes (O.files output.new)) }
     ensures output_was_empty { result ≡ Status.Done → IsTrue (O.tells output.old) → len (O.files output.old) ≡ 0 }
     ensures fresh { IsTrue (W.tells work.old) → len (W.files work.old) ≡ 0
         → IsTrue (O.tells output.old) → len (O.files output.old) ≡ 0
         → (e : TantivyError) → result ≢ Status.Exists e }
-    ensures written { IfWritten result (λ _. IfSome (S.left source.old)
-        (IsNarrow (Z.knows analyzers.now) (Z.tokens_of analyzers.now))) }
     ensures calls { BuildDoes result
         (record {
           work = state_of (W.tells work.old) (W.files work.old) (W.seen work.old) (W.faults work.old);
@@ -79,10 +90,8 @@ pub fn run<S: Source, K: Sink, F: Sink, Z: Analyzers, W: Directory, O: Directory
           work = state_of (W.tells work.new) (W.files work.new) (W.seen work.new) (W.faults work.new);
           output = state_of (O.tells output.new) (O.files output.new) (O.seen output.new) (O.faults output.new);
         }) }
-    ensures unwritten { IfRefused result (λ _. work.new ≡ work.old) }
     ensures unwritten_script { result ≡ Status.Script → work.new ≡ work.old }
     ensures unwritten_words { result ≡ Status.Words → work.new ≡ work.old }
-    ensures output_unwritten { IfRefused result (λ _. output.new ≡ output.old) }
     ensures output_unwritten_script { result ≡ Status.Script → output.new ≡ output.old }
     ensures output_unwritten_words { result ≡ Status.Words → output.new ≡ output.old }
 
@@ -101,10 +110,10 @@ pub fn run<S: Source, K: Sink, F: Sink, Z: Analyzers, W: Directory, O: Directory
         ⊎ (Rose (F.faults faults.old) (F.faults faults.new)
         × AppendsPart (F.written faults.old) (F.written faults.new) (status_line result)) }
 
-    // What ends well: a narrow script, over empty directories that tell, where nothing fails.
-    ensures complete { (bytes : List ℕ) → is_build words.now ≡ true → S.left source.old ≡ Some bytes
+    // What ends well: a valid script, over empty directories that tell, where nothing fails.
+    ensures complete { (known : Known) → Tests known (Z.knows analyzers.now) → (bytes : List ℕ) → is_build words.now ≡ true → S.left source.old ≡ Some bytes
         → length bytes ≤ max_script
-        → IsNarrow (Z.knows analyzers.now) (Z.tokens_of analyzers.now) bytes
+        → IsValidScript known (Z.tokens_of analyzers.now) bytes
         → IsReady (state_of (W.tells work.old) (W.files work.old) (W.seen work.old) (W.faults work.old))
         (state_of (W.tells work.new) (W.files work.new) (W.seen work.new) (W.faults work.new))
         → IsReady (state_of (O.tells output.old) (O.files output.old) (O.seen output.old) (O.faults output.old))
@@ -117,6 +126,7 @@ pub fn run<S: Source, K: Sink, F: Sink, Z: Analyzers, W: Directory, O: Directory
     ensures count_sink { K.faults sink.old ≤ K.faults sink.new }
     ensures count_faults { F.faults faults.old ≤ F.faults faults.new }
 {
+    valid_inputs_are_not_refused();
     let status = execute(alloc, words, source, sink, analyzers, work, output);
     if status != Status::Done {
         let _ = report(faults, &status);
@@ -136,31 +146,37 @@ fn execute<S: Source, K: Sink, Z: Analyzers, W: Directory, O: Directory>(
 ) -> Status
     ensures words { result ≡ Status.Words ↔ (is_build words.now ≡ false) }
     ensures script { result ≡ Status.Script → IfSome (S.left source.old) IsNoScript }
-    ensures refused { IfRefused result (λ e. e ≡ TantivyError.InvalidArgument ArgumentCause.Later) }
+    ensures refused { (known : Known) → Tests known (Z.knows analyzers.now)
+        → IfRefused result (λ e. IfSome (S.left source.old)
+        (λ bytes. IsWhyRefused known (Z.tokens_of analyzers.now) bytes e)) }
     ensures json { IfRefused result (λ _. IfSome (S.left source.old) IsJson) }
-    ensures later { IfRefused result (λ _. IfSome (S.left source.old)
-        (λ bytes. ¬ (IsNarrow (Z.knows analyzers.now) (Z.tokens_of analyzers.now) bytes))) }
+    ensures first { (known : Known) → Tests known (Z.knows analyzers.now)
+        → (bytes : List ℕ) → is_build words.now ≡ true → S.left source.old ≡ Some bytes → length bytes ≤ max_script
+        → IsSome (json_of bytes) → IfSome (first_of known (Z.tokens_of analyzers.now) (script bytes))
+        (λ e. RefusedFor e result × (work.new ≡ work.old) × (output.new ≡ output.old)) }
+    ensures written { (known : Known) → Tests known (Z.knows analyzers.now)
+        → IfWritten result (λ _. IfSome (S.left source.old) (IsAdmitted known (Z.tokens_of analyzers.now))) }
+    ensures valid { (known : Known) → Tests known (Z.knows analyzers.now) → result ≡ Status.Done
+        → IfSome (S.left source.old) (IsValidScript known (Z.tokens_of analyzers.now)) }
     ensures done { result ≡ Status.Done → IfSome (S.left source.old)
         (λ bytes. (length bytes ≤ max_script)
-        × Gains (IsTextOf (Z.knows analyzers.now) (Z.tokens_of analyzers.now) bytes)
+        × Gains (IsTextOf (Z.tokens_of analyzers.now) bytes)
         (K.written sink.old) (K.written sink.new)) }
     ensures untouched { result ≢ Status.Done → result ≢ Status.Stream → sink.new ≡ sink.old }
     ensures stream { result ≡ Status.Stream →
         (Rose (S.faults source.old) (S.faults source.new) × (sink.new ≡ sink.old))
         ⊎ (Rose (K.faults sink.old) (K.faults sink.new) × IfSome (S.left source.old)
-        (λ bytes. GainsPart (IsTextOf (Z.knows analyzers.now) (Z.tokens_of analyzers.now) bytes)
+        (λ bytes. GainsPart (IsTextOf (Z.tokens_of analyzers.now) bytes)
         (K.written sink.old) (K.written sink.new))) }
     ensures work_index { result ≡ Status.Done → IsTrue (W.tells work.old) → IfSome (S.left source.old)
-        (λ bytes. HasWorkIndex (Z.knows analyzers.now) (Z.tokens_of analyzers.now) bytes (W.files work.new)) }
+        (λ bytes. HasWorkIndex (Z.tokens_of analyzers.now) bytes (W.files work.new)) }
     ensures work_was_empty { result ≡ Status.Done → IsTrue (W.tells work.old) → len (W.files work.old) ≡ 0 }
     ensures output_index { result ≡ Status.Done → IsTrue (O.tells output.old) → IfSome (S.left source.old)
-        (λ bytes. HasOutputIndex (Z.knows analyzers.now) (Z.tokens_of analyzers.now) bytes (O.files output.new)) }
+        (λ bytes. HasOutputIndex (Z.tokens_of analyzers.now) bytes (O.files output.new)) }
     ensures output_was_empty { result ≡ Status.Done → IsTrue (O.tells output.old) → len (O.files output.old) ≡ 0 }
     ensures fresh { IsTrue (W.tells work.old) → len (W.files work.old) ≡ 0
         → IsTrue (O.tells output.old) → len (O.files output.old) ≡ 0
         → (e : TantivyError) → result ≢ Status.Exists e }
-    ensures written { IfWritten result (λ _. IfSome (S.left source.old)
-        (IsNarrow (Z.knows analyzers.now) (Z.tokens_of analyzers.now))) }
     ensures calls { BuildDoes result
         (record {
           work = state_of (W.tells work.old) (W.files work.old) (W.seen work.old) (W.faults work.old);
@@ -170,10 +186,8 @@ fn execute<S: Source, K: Sink, Z: Analyzers, W: Directory, O: Directory>(
           work = state_of (W.tells work.new) (W.files work.new) (W.seen work.new) (W.faults work.new);
           output = state_of (O.tells output.new) (O.files output.new) (O.seen output.new) (O.faults output.new);
         }) }
-    ensures unwritten { IfRefused result (λ _. work.new ≡ work.old) }
     ensures unwritten_script { result ≡ Status.Script → work.new ≡ work.old }
     ensures unwritten_words { result ≡ Status.Words → work.new ≡ work.old }
-    ensures output_unwritten { IfRefused result (λ _. output.new ≡ output.old) }
     ensures output_unwritten_script { result ≡ Status.Script → output.new ≡ output.old }
     ensures output_unwritten_words { result ≡ Status.Words → output.new ≡ output.old }
     ensures end { result ≡ Status.Done → IsAtEnd (S.left source.new) }
@@ -207,30 +221,35 @@ fn read_and_build<S: Source, Z: Analyzers, W: Directory, O: Directory>(
 ) -> Result<Vec<u8>, Status>
     ensures ok { IfOk result (λ t. IfSome (S.left source.old)
         (λ bytes. (length bytes ≤ max_script)
-        × IsTextOf (Z.knows analyzers.now) (Z.tokens_of analyzers.now) bytes t.items)) }
+        × IsTextOf (Z.tokens_of analyzers.now) bytes t.items)) }
     ensures end { OnOk result (IsAtEnd (S.left source.new)) }
     ensures end_refused { IfErr result (λ status. IfRefused status
         (λ _. IsAtEnd (S.left source.new))) }
     ensures script { IsErrOf result Status.Script → IfSome (S.left source.old) IsNoScript }
-    ensures refused { IfErr result (λ status. IfRefused status
-        (λ e. e ≡ TantivyError.InvalidArgument ArgumentCause.Later)) }
+    ensures refused { (known : Known) → Tests known (Z.knows analyzers.now)
+        → IfErr result (λ status. IfRefused status (λ e. IfSome (S.left source.old)
+        (λ bytes. IsWhyRefused known (Z.tokens_of analyzers.now) bytes e))) }
+    ensures first { (known : Known) → Tests known (Z.knows analyzers.now)
+        → (bytes : List ℕ) → S.left source.old ≡ Some bytes → length bytes ≤ max_script → IsSome (json_of bytes)
+        → IfSome (first_of known (Z.tokens_of analyzers.now) (script bytes))
+        (λ e. IsErrAnd result (RefusedFor e) × (work.new ≡ work.old) × (output.new ≡ output.old)) }
+    ensures written { (known : Known) → Tests known (Z.knows analyzers.now)
+        → IfErr result (λ status. IfWritten status (λ _. IfSome (S.left source.old) (IsAdmitted known (Z.tokens_of analyzers.now)))) }
+    ensures valid { (known : Known) → Tests known (Z.knows analyzers.now) → OnOk result (IfSome (S.left source.old)
+        (IsValidScript known (Z.tokens_of analyzers.now))) }
     ensures json { IfErr result (λ status. IfRefused status
         (λ _. IfSome (S.left source.old) IsJson)) }
-    ensures later { IfErr result (λ status. IfRefused status (λ _. IfSome (S.left source.old)
-        (λ bytes. ¬ (IsNarrow (Z.knows analyzers.now) (Z.tokens_of analyzers.now) bytes)))) }
     ensures stream { IsErrOf result Status.Stream → Rose (S.faults source.old) (S.faults source.new)
         × (work.new ≡ work.old) × (output.new ≡ output.old) }
     ensures work_index { IsTrue (W.tells work.old) → OnOk result (IfSome (S.left source.old)
-        (λ bytes. HasWorkIndex (Z.knows analyzers.now) (Z.tokens_of analyzers.now) bytes (W.files work.new))) }
+        (λ bytes. HasWorkIndex (Z.tokens_of analyzers.now) bytes (W.files work.new))) }
     ensures work_was_empty { IsTrue (W.tells work.old) → OnOk result (len (W.files work.old) ≡ 0) }
     ensures output_index { IsTrue (O.tells output.old) → OnOk result (IfSome (S.left source.old)
-        (λ bytes. HasOutputIndex (Z.knows analyzers.now) (Z.tokens_of analyzers.now) bytes (O.files output.new))) }
+        (λ bytes. HasOutputIndex (Z.tokens_of analyzers.now) bytes (O.files output.new))) }
     ensures output_was_empty { IsTrue (O.tells output.old) → OnOk result (len (O.files output.old) ≡ 0) }
     ensures fresh { IsTrue (W.tells work.old) → len (W.files work.old) ≡ 0
         → IsTrue (O.tells output.old) → len (O.files output.old) ≡ 0
         → IfErr result (λ status. (e : TantivyError) → status ≢ Status.Exists e) }
-    ensures written { IfErr result (λ status. IfWritten status (λ _. IfSome (S.left source.old)
-        (IsNarrow (Z.knows analyzers.now) (Z.tokens_of analyzers.now)))) }
     ensures end_written { IfErr result (λ status. IfWritten status (λ _. IsAtEnd (S.left source.new))) }
     ensures calls { OnOk result (BuildDoes Status.Done
         (record {
@@ -250,9 +269,7 @@ fn read_and_build<S: Source, Z: Analyzers, W: Directory, O: Directory>(
           work = state_of (W.tells work.new) (W.files work.new) (W.seen work.new) (W.faults work.new);
           output = state_of (O.tells output.new) (O.files output.new) (O.seen output.new) (O.faults output.new);
         })) }
-    ensures unwritten { IfErr result (λ status. IfRefused status (λ _. work.new ≡ work.old)) }
     ensures unwritten_script { IsErrOf result Status.Script → work.new ≡ work.old }
-    ensures output_unwritten { IfErr result (λ status. IfRefused status (λ _. output.new ≡ output.old)) }
     ensures output_unwritten_script { IsErrOf result Status.Script → output.new ≡ output.old }
     ensures never { IsErrOf result Status.Done → ⊥ }
     ensures never_words { IsErrOf result Status.Words → ⊥ }

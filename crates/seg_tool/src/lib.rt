@@ -4,22 +4,18 @@
 //! the script gives: the work and the output directory have indexes that stand for the script's documents, and the sink
 //! gains their text, or the status says why not.
 //!
-//! Files in reading order: `command` (`run`), `building` (from a script to its index and text), `narrow` (the script
-//! with its documents, which are indexed), `indexes` (the indexes of the work and the output directory), `written_index`
-//! (one of them), `payload`, `printing` (the text of a segment), `status`, `reporting` (the line that is said of a status).
+//! Files in reading order: `command` (`run`), `building` (from a script to its index and text), `input` (what a script hands
+//! in), `printing` (the text of a segment), `status`, `reporting` (the line that is said of a status).
 #![tactic(auto)]
 
 mod building;
 mod command;
-mod indexes;
-mod narrow;
-mod payload;
+mod input;
 mod printing;
 mod reporting;
 mod status;
 #[cfg(test)]
 mod tests;
-mod written_index;
 
 pub use command::run;
 pub use status::Status;

@@ -4,7 +4,9 @@
 use seg_common::{ReaderSource, WriterSink};
 use seg_directory::FileDirectory;
 use seg_tool::{Status, run};
-use seg_values::{DefaultTokenizer, TantivyError, TokenizerManager};
+use seg_values::{
+    DefaultTokenizer, RawTokenizer, TantivyError, TokenizerManager, WhitespaceTokenizer,
+};
 use std::env::Env;
 use std::io::ErrorKind;
 use std::process::ExitCode;
@@ -14,30 +16,46 @@ use std::{env, fs, io};
 fn main(rt: HostRuntime) -> ExitCode {
     let alloc = rt.alloc();
     let mut analyzers = TokenizerManager::new(alloc);
-    let Ok(tokenizer) = Box::new(alloc, DefaultTokenizer) else {
-        return ExitCode::from(Status::Memory.number());
+    let Ok(default) = Box::new(alloc, DefaultTokenizer) else {
+        return out_of_memory();
     };
-    if analyzers.register("default", tokenizer).is_err() {
-        return ExitCode::from(Status::Memory.number());
+    if analyzers.register("default", default).is_err() {
+        return out_of_memory();
     }
-    let words = match program_words(&rt) {
+    let Ok(raw) = Box::new(alloc, RawTokenizer) else {
+        return out_of_memory();
+    };
+    if analyzers.register("raw", raw).is_err() {
+        return out_of_memory();
+    }
+    let Ok(whitespace) = Box::new(alloc, WhitespaceTokenizer) else {
+        return out_of_memory();
+    };
+    if analyzers.register("whitespace", whitespace).is_err() {
+        return out_of_memory();
+    }
+    run_in_folders(&rt, &analyzers)
+}
+
+/// Runs the words of the command line with these tokenizers, over the folders `work` and `out`.
+fn run_in_folders(rt: &HostRuntime, analyzers: &TokenizerManager) -> ExitCode {
+    let alloc = rt.alloc();
+    let words = match program_words(rt) {
         Ok(words) => words,
-        Err(e) if e.kind() == ErrorKind::OutOfMemory => {
-            return ExitCode::from(Status::Memory.number());
-        }
+        Err(e) if e.kind() == ErrorKind::OutOfMemory => return out_of_memory(),
         // A word that is no text is no command either.
         Err(_) => Vec::new(alloc),
     };
-    let mut work = match folder(&rt, "work") {
+    let mut work = match folder(rt, "work") {
         Ok(work) => work,
         Err(status) => return ExitCode::from(status.number()),
     };
-    let mut output = match folder(&rt, "out") {
+    let mut output = match folder(rt, "out") {
         Ok(output) => output,
         Err(status) => return ExitCode::from(status.number()),
     };
     let mut source = ReaderSource::new(rt.reader());
-    let mut sink = WriterSink::new(io::writer(&rt));
+    let mut sink = WriterSink::new(io::writer(rt));
     let mut faults = WriterSink::new(rt.stderr());
     let status = run(
         alloc,
@@ -45,11 +63,15 @@ fn main(rt: HostRuntime) -> ExitCode {
         &mut source,
         &mut sink,
         &mut faults,
-        &analyzers,
+        analyzers,
         &mut work,
         &mut output,
     );
     ExitCode::from(status.number())
+}
+
+fn out_of_memory() -> ExitCode {
+    ExitCode::from(Status::Memory.number())
 }
 
 /// The directory over a folder, which is made where it is missing; where it can't be, the status to end with.

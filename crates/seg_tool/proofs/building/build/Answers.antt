@@ -1,40 +1,44 @@
-use Rattle.std.proofs.Common.{None, Some, refl}
-use Rattle.seg_tool.specs.WrittenIndex.{merge_payload}
-use Rattle.seg_tool.proofs.Both.{ends-with}
-use Rattle.seg_tool.proofs.ScriptFacts.{facts, has_index}
+use Rattle.std.proofs.Common.{inl, refl}
+use Rattle.std.specs.Prelude.{Err}
+use Rattle.seg_script.specs.Script.{script}
+use Rattle.seg_tool.specs.Run.{first_of}
+use Rattle.seg_tool.specs.declared.status.Status.TheVariants.{Memory}
+use Rattle.seg_tool.proofs.Endings.{stopped-before}
+use Rattle.seg_tool.proofs.OfScript.{says, valid-script, refused-script, first-script, admitted-script, no-memory}
 use Rattle.seg_tool.proofs.building.build.Goals as goal
 
-pub segments_text-requires-clause-fields : goal.segments_text-requires-clause-fields
-segments_text-requires-clause-fields g c = (facts _ _ _ _ c.in-Ok.ensures.ok).fields
+pub returns-in-Err-OutOfMemory-clause-first : goal.returns-in-Err-OutOfMemory-clause-first
+returns-in-Err-OutOfMemory-clause-first g c known tests json =
+    no-memory _ _ (Err Memory) (first_of known (g.Z.Analyzers.tokens_of c.args.analyzers.now) (script c.args.bytes.items)) refl refl refl
 
-pub segments_text-requires-clause-documents : goal.segments_text-requires-clause-documents
-segments_text-requires-clause-documents g c = (facts _ _ _ _ c.in-Ok.ensures.ok).documents
+pub returns-in-Err-OutOfMemory-build_input-clause-first :
+    goal.returns-in-Err-OutOfMemory-build_input-clause-first
+returns-in-Err-OutOfMemory-build_input-clause-first g c known tests json =
+    no-memory _ _ (Err Memory) (first_of known (g.Z.Analyzers.tokens_of c.args.analyzers.now) (script c.args.bytes.items)) refl refl refl
 
-pub write_indexes-requires-clause-fields : goal.write_indexes-requires-clause-fields
-write_indexes-requires-clause-fields g c = (facts _ _ _ _ c.in-Ok.ensures.ok).fields
+pub returns-in-Err-OutOfMemory-build_input-clause-calls_ended :
+    goal.returns-in-Err-OutOfMemory-build_input-clause-calls_ended
+returns-in-Err-OutOfMemory-build_input-clause-calls_ended g c = inl (stopped-before _)
 
-pub write_indexes-requires-clause-no_columns : goal.write_indexes-requires-clause-no_columns
-write_indexes-requires-clause-no_columns g c = (facts _ _ _ _ c.in-Ok.ensures.ok).no_columns
+pub build_and_print-requires : goal.build_and_print-requires
+build_and_print-requires g c = record { texts = c.scripts_hold_text_fields.ensures c.args.bytes.items _ (says c.args.bytes.items _ _ c.in-Ok.ensures.ok c.in-Ok-build_input.ensures.ok) }
 
-pub write_indexes-requires-clause-documents : goal.write_indexes-requires-clause-documents
-write_indexes-requires-clause-documents g c = (facts _ _ _ _ c.in-Ok.ensures.ok).documents
+pub returns-clause-valid : goal.returns-clause-valid
+returns-clause-valid g c known tests =
+    valid-script c.build_and_print.result known (g.Z.Analyzers.tokens_of c.args.analyzers.now) c.args.bytes.items _
+    (says c.args.bytes.items _ _ c.in-Ok.ensures.ok c.in-Ok-build_input.ensures.ok) c.build_and_print.ensures.built (c.build_and_print.ensures.valid known tests)
 
-pub returns-in-Ok-write_indexes-clause-ok : goal.returns-in-Ok-write_indexes-clause-ok
-returns-in-Ok-write_indexes-clause-ok g c =
-    let r = c.in-Ok.ensures.ok in
-    record { narrow = r.narrow; printed = c.in-Ok-segments_text.ensures _ r.narrow.meant r.indexed }
+pub returns-clause-refused : goal.returns-clause-refused
+returns-clause-refused g c known tests =
+    refused-script c.build_and_print.result known (g.Z.Analyzers.tokens_of c.args.analyzers.now) c.args.bytes.items _
+    (says c.args.bytes.items _ _ c.in-Ok.ensures.ok c.in-Ok-build_input.ensures.ok) (c.build_and_print.ensures.refused known tests)
 
-pub returns-in-Ok-write_indexes-clause-work_index : goal.returns-in-Ok-write_indexes-clause-work_index
-returns-in-Ok-write_indexes-clause-work_index g c told =
-    let r = c.in-Ok.ensures.ok in
-    let made = c.in-Ok-write_indexes.ensures in
-    record { narrow = r.narrow; is_index = has_index r.narrow.meant _ _ _ 1 _ _ None r.indexed.stamp r.indexed (made.work_index told) (made.work_stands told) }
+pub returns-clause-first : goal.returns-clause-first
+returns-clause-first g c known tests json =
+    first-script _ _ c.build_and_print.result known (g.Z.Analyzers.tokens_of c.args.analyzers.now) c.args.bytes.items _
+    (says c.args.bytes.items _ _ c.in-Ok.ensures.ok c.in-Ok-build_input.ensures.ok) (c.build_and_print.ensures.first known tests)
 
-pub returns-in-Ok-write_indexes-clause-output_index : goal.returns-in-Ok-write_indexes-clause-output_index
-returns-in-Ok-write_indexes-clause-output_index g c told =
-    let r = c.in-Ok.ensures.ok in
-    let made = c.in-Ok-write_indexes.ensures in
-    record { narrow = r.narrow; is_index = has_index r.narrow.meant _ _ _ 2 0 0 (Some (merge_payload 1)) refl r.indexed (made.output_index told) (made.output_stands told) }
-
-pub returns-in-Err-clause-calls_ended : goal.returns-in-Err-clause-calls_ended
-returns-in-Err-clause-calls_ended g c = ends-with c.status_of.result c.in-Err.e _ _ c.status_of.ensures c.in-Err.ensures.calls
+pub returns-clause-written : goal.returns-clause-written
+returns-clause-written g c known tests =
+    admitted-script _ _ c.build_and_print.result known (g.Z.Analyzers.tokens_of c.args.analyzers.now) c.args.bytes.items _
+    (says c.args.bytes.items _ _ c.in-Ok.ensures.ok c.in-Ok-build_input.ensures.ok) (c.build_and_print.ensures.first known tests)

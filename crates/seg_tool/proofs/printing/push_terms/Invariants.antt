@@ -4,4 +4,4 @@ use Rattle.seg_text.specs.FieldText.{term_line}
 use Rattle.seg_tool.proofs.printing.push_terms.Given as goal
 
 abbrev pub invariant-loop-at : goal.invariant-loop-at
-invariant-loop-at l = l.out.items ++ flat_map term_line (drop l.at l.terms) ≡ l.initial.out.items ++ flat_map term_line l.terms
+invariant-loop-at l = l.out.items ++ flat_map term_line (drop l.at l.terms.terms) ≡ l.initial.out.items ++ flat_map term_line l.terms.terms

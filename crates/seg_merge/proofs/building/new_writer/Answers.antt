@@ -1,0 +1,12 @@
+use Rattle.std.proofs.Common.{ap, ◌∙◌}
+use Rattle.seg_meta.specs.Metas.{SegmentParts}
+use Rattle.seg_merge.proofs.FirstErrors.{refused_or_memory, caused_by}
+use Rattle.seg_merge.proofs.building.new_writer.Goals as goal
+
+pub returns-clause-refused : goal.returns-clause-refused
+returns-clause-refused g c known tests =
+    refused_or_memory known c.new-segment.result.schema c.args.schema.now c.args.settings.now c.for_segment.result (ap (λ (s : SegmentParts). s.schema) c.new-segment.ensures ∙ c.in-Ok.ensures) (c.for_segment.ensures.refused known tests)
+
+pub returns-clause-causes : goal.returns-clause-causes
+returns-clause-causes g c known tests =
+    caused_by known c.new-segment.result.schema c.args.schema.now c.args.settings.now c.for_segment.result (ap (λ (s : SegmentParts). s.schema) c.new-segment.ensures ∙ c.in-Ok.ensures) (c.for_segment.ensures.causes known tests)

@@ -1,0 +1,169 @@
+-- How a run ends.
+use Rattle.std.proofs.Common.{◌≡◌, ◌≢◌, ◌≤◌, ◌⊎◌, ℕ, List, [], ◌∷◌, length, Option, None, Some, refl, sym, ap, subst, ◌∙◌, inl, inr, arith}
+use Rattle.std.specs.Prelude.{Result, Ok, Err, IfErr, IfSome, IsErrAnd, IsSome, is_some, if◌then◌else◌}
+use Rattle.std.specs.Option.{option_map}
+use Rattle.std.proofs.lemmas.List.{append-nil}
+use mathlib.Core.Bool.{true≢false}
+use Rattle.seg_common.specs.Causes.{Rose}
+use Rattle.seg_common.specs.Streams.{IsAllOf}
+use Rattle.seg_common.specs.declared.name.FileName.{FileName}
+use Rattle.seg_values.specs.declared.error.ArgumentCause.TheVariants.{Later}
+use Rattle.seg_values.specs.declared.error.TantivyError.{TantivyError}
+use Rattle.seg_values.specs.declared.error.TantivyError.TheVariants.{InvalidArgument, OutOfMemory}
+use Rattle.seg_directory.specs.declared.answer.Answer.{Answer}
+use Rattle.seg_directory.specs.declared.answer.Answer.TheVariants as answer
+use Rattle.seg_meta.specs.Reads.{given}
+use Rattle.seg_model.specs.Fields.{Analyzer}
+use Rattle.seg_model.specs.Laws.{ValidInputsAreNotRefused}
+use Rattle.seg_model.specs.Refused.{build_refusal}
+use Rattle.seg_model.specs.Valid.{Known}
+use Rattle.seg_merge.specs.Calls.{DirectoryState, HasRisen, Does}
+use Rattle.seg_merge.specs.DirectoryCalls.{Directories, IsRefusal, StopsIn, at_once, work_listing, output_listing, documents, work_index, output_index}
+use Rattle.seg_merge.specs.Refusals.{build_error}
+use Rattle.seg_script.specs.Script.{json_of, script, script_from}
+use Rattle.seg_tool.specs.DirectoryCalls.{Stopped, IsFault, BuildDoes}
+use Rattle.seg_tool.specs.Run.{max_script, first_of, refusal_of, IsAdmitted, IsNoScript, IsValidScript, IsWhyRefused}
+use Rattle.seg_tool.specs.Statuses.{IfRefused, IfWritten, RefusedFor}
+use Rattle.seg_tool.specs.declared.status.Status.{Status}
+use Rattle.seg_tool.specs.declared.status.Status.TheVariants.{Done, Words, Script, Refused, Exists, Directory, Stream, Memory}
+
+-- ---- before any call
+
+does-nothing : (a : DirectoryState) → Does {T = Unit {0}} (answer.Listed 0 ∷ []) [] (Err OutOfMemory) a a
+does-nothing a = record {
+  seen = record { came = []; missing = answer.Listed 0 ∷ []; why = []; cut = refl; is_why = refl; seen = sym (append-nil a.seen) };
+  others = λ other all. refl;
+  tells = refl;
+  later = omega (arith);
+  caused = tt;
+}
+
+-- no memory, before a directory is called
+pub stopped-before : (a : Directories) → Stopped OutOfMemory a a
+stopped-before a = record { work_id = 0; output_id = 0; stops = work_listing (does-nothing a.work) refl }
+
+-- ---- the bytes of the source
+
+-- a fact of all bytes, where an error tells a refusal
+refused-by : (s : Status) (left : Option (List ℕ)) (bytes : List ℕ) (P : List ℕ → TantivyError → Type 0) → IsAllOf left bytes → IfRefused s (P bytes) → IfRefused s (λ e. IfSome left (λ all. P all e))
+refused-by (Refused e) None bytes P all p = tt
+refused-by (Refused e) (Some xs) bytes P all p = subst (λ (ys : List ℕ). P ys e) all p
+refused-by Done left bytes P all p = tt
+refused-by Words left bytes P all p = tt
+refused-by Script left bytes P all p = tt
+refused-by (Exists e) left bytes P all p = tt
+refused-by (Directory e) left bytes P all p = tt
+refused-by Stream left bytes P all p = tt
+refused-by Memory left bytes P all p = tt
+
+pub refused-of : {T : Type 0} (r : Result T Status) (left : Option (List ℕ)) (bytes : List ℕ) (P : List ℕ → TantivyError → Type 0) → IsAllOf left bytes → IfErr r (λ s. IfRefused s (P bytes)) → IfErr r (λ s. IfRefused s (λ e. IfSome left (λ all. P all e)))
+refused-of (Ok x) left bytes P all p = tt
+refused-of (Err s) left bytes P all p = refused-by s left bytes P all p
+
+-- a fact of all bytes, where a directory is told of
+of-left : (left : Option (List ℕ)) (bytes : List ℕ) (P : List ℕ → Type 0) → IsAllOf left bytes → P bytes → IfSome left P
+of-left None bytes P all p = tt
+of-left (Some xs) bytes P all p = subst P all p
+
+admitted-by : (s : Status) (known : Known) (analyzer : Analyzer) (left : Option (List ℕ)) (bytes : List ℕ) → IsAllOf left bytes → length bytes ≤ max_script
+    → IfWritten s (λ _. first_of known analyzer (script bytes) ≡ None) → IfWritten s (λ _. IfSome left (IsAdmitted known analyzer))
+admitted-by (Exists e) known analyzer left bytes all short is = of-left left bytes (IsAdmitted known analyzer) all (record { short = short; admitted = is })
+admitted-by (Directory e) known analyzer left bytes all short is = of-left left bytes (IsAdmitted known analyzer) all (record { short = short; admitted = is })
+admitted-by Done known analyzer left bytes all short is = tt
+admitted-by Words known analyzer left bytes all short is = tt
+admitted-by Script known analyzer left bytes all short is = tt
+admitted-by (Refused e) known analyzer left bytes all short is = tt
+admitted-by Stream known analyzer left bytes all short is = tt
+admitted-by Memory known analyzer left bytes all short is = tt
+
+pub admitted-of : {T : Type 0} (r : Result T Status) (known : Known) (analyzer : Analyzer) (left : Option (List ℕ)) (bytes : List ℕ) → IsAllOf left bytes → length bytes ≤ max_script
+    → IfErr r (λ s. IfWritten s (λ _. first_of known analyzer (script bytes) ≡ None)) → IfErr r (λ s. IfWritten s (λ _. IfSome left (IsAdmitted known analyzer)))
+admitted-of (Ok x) known analyzer left bytes all short is = tt
+admitted-of (Err s) known analyzer left bytes all short is = admitted-by s known analyzer left bytes all short is
+
+-- what is all of the source
+pub all-is : (left : Option (List ℕ)) (bytes all : List ℕ) → IsAllOf left bytes → left ≡ Some all → bytes ≡ all
+all-is left bytes all is at = subst (λ (o : Option (List ℕ)). IsAllOf o bytes) at is
+
+-- refused for an error, or no memory
+for-error : {T : Type 0} (r : Result T Status) (e : TantivyError) → (r ≡ Err (Refused e)) ⊎ (r ≡ Err Memory) → IsErrAnd r (RefusedFor e)
+for-error r e (inl is) = subst (λ (x : Result _ Status). IsErrAnd x (RefusedFor e)) (sym is) (inl refl)
+for-error r e (inr is) = subst (λ (x : Result _ Status). IsErrAnd x (RefusedFor e)) (sym is) (inr (inl refl))
+
+pub first-is : (A B : Type 0) {T : Type 0} (r : Result T Status) (o : Option TantivyError) → IfSome o (λ e. ((r ≡ Err (Refused e)) ⊎ (r ≡ Err Memory)) × A × B) → IfSome o (λ e. IsErrAnd r (RefusedFor e) × A × B)
+first-is A B r None first = tt
+first-is A B r (Some e) first = (for-error r e first.0, first.1, first.2)
+
+-- why it is refused at once, of the bytes that are all
+pub at-all : (A B : Type 0) {T : Type 0} (known : Known) (analyzer : Analyzer) (r : Result T Status) (bytes all : List ℕ) → bytes ≡ all
+    → (IsSome (json_of bytes) → IfSome (first_of known analyzer (script bytes)) (λ e. ((r ≡ Err (Refused e)) ⊎ (r ≡ Err Memory)) × A × B))
+    → IsSome (json_of all) → IfSome (first_of known analyzer (script all)) (λ e. ((r ≡ Err (Refused e)) ⊎ (r ≡ Err Memory)) × A × B)
+at-all A B known analyzer r bytes all is first =
+    subst (λ (xs : List ℕ). IsSome (json_of xs) → IfSome (first_of known analyzer (script xs)) (λ e. ((r ≡ Err (Refused e)) ⊎ (r ≡ Err Memory)) × A × B)) is first
+
+-- ---- what ends well
+
+-- a valid script is not refused
+not-refused : (known : Known) (analyzer : Analyzer) (bytes : List ℕ) (e : TantivyError) → ValidInputsAreNotRefused → IsValidScript known analyzer bytes → IsWhyRefused known analyzer bytes e → ⊥
+not-refused known analyzer bytes e law v why =
+    let none : refusal_of known analyzer (script bytes) ≡ None =
+    ap (refusal_of known analyzer) v.is_script
+    ∙ ap (λ b. if b then option_map build_error (build_refusal known analyzer v.meant) else Some (InvalidArgument Later)) v.built
+    ∙ ap (option_map build_error) ((law known analyzer v.meant).0 v.valid) in
+    true≢false (ap is_some (sym why ∙ none))
+
+-- no JSON text is a script
+no-script : (bytes : List ℕ) → json_of bytes ≡ None → script bytes ≡ None
+no-script bytes none = ap (λ o. given o script_from) none
+
+not-script : (known : Known) (analyzer : Analyzer) (bytes : List ℕ) → length bytes ≤ max_script → IsValidScript known analyzer bytes → IsNoScript bytes → ⊥
+not-script known analyzer bytes short v (inl none) = true≢false (ap is_some (sym v.is_script ∙ no-script bytes none))
+not-script known analyzer bytes short v (inr long) = omega (arith, short, long)
+
+-- a directory that does not fail gives no error of its faults
+no-fault : {T : Type 0} (answers : List Answer) (names : List FileName) (e : TantivyError) (a b : DirectoryState) → IsFault e → (Rose a.faults b.faults → ⊥) → Does {T = T} answers names (Err e) a b → ⊥
+no-fault answers names e a b (inl is) sound d = sound (subst (λ (x : TantivyError). HasRisen x a.faults b.faults) is d.caused)
+no-fault answers names e a b (inr (inl is)) sound d = sound (subst (λ (x : TantivyError). HasRisen x a.faults b.faults) is d.caused)
+no-fault answers names e a b (inr (inr is)) sound d = sound (subst (λ (x : TantivyError). HasRisen x a.faults b.faults) is d.caused)
+
+-- and is no refusal
+no-refusal : (e : TantivyError) → IsFault e → IsRefusal e → ⊥
+no-refusal e (inl is) refusal = subst IsRefusal is refusal
+no-refusal e (inr (inl is)) refusal = subst IsRefusal is refusal
+no-refusal e (inr (inr is)) refusal = subst IsRefusal is refusal
+
+never-stops : (work_id output_id : ℕ) (e : TantivyError) (a b : Directories) → IsFault e → (Rose a.work.faults b.work.faults → ⊥) → (Rose a.output.faults b.output.faults → ⊥) → StopsIn work_id output_id e a b → ⊥
+never-stops w o e a b fault work output (at_once refusal same) = no-refusal e fault refusal
+never-stops w o e a b fault work output (work_listing d same) = no-fault _ _ e _ _ fault work d
+never-stops w o e a b fault work output (output_listing d f) = no-fault _ _ e _ _ fault output f
+never-stops w o e a b fault work output (documents refusal d f) = no-refusal e fault refusal
+never-stops w o e a b fault work output (work_index d f) = no-fault _ _ e _ _ fault work d
+never-stops w o e a b fault work output (output_index d f) = no-fault _ _ e _ _ fault output f
+
+-- neither the source nor the sink fails
+pub no-stream : {A B C D : Type 0} → (A → ⊥) → (C → ⊥) → (A × B) ⊎ (C × D) → ⊥
+no-stream source sink (inl f) = source f.0
+no-stream source sink (inr f) = sink f.0
+
+-- the source is known
+at-left : (P : List ℕ → Type 0) (left : Option (List ℕ)) (bytes : List ℕ) → left ≡ Some bytes → IfSome left P → P bytes
+at-left P left bytes is p = subst (λ (o : Option (List ℕ)). IfSome o P) is p
+
+pub completes : (s : Status) (known : Known) (analyzer : Analyzer) (left : Option (List ℕ)) (bytes : List ℕ) (a b : Directories)
+    → ValidInputsAreNotRefused → left ≡ Some bytes → length bytes ≤ max_script → IsValidScript known analyzer bytes
+    → s ≢ Words → s ≢ Stream → ((e : TantivyError) → s ≢ Exists e)
+    → (s ≡ Script → IfSome left IsNoScript)
+    → IfRefused s (λ e. IfSome left (λ all. IsWhyRefused known analyzer all e))
+    → BuildDoes s a b → (Rose a.work.faults b.work.faults → ⊥) → (Rose a.output.faults b.output.faults → ⊥)
+    → (s ≡ Done) ⊎ (s ≡ Memory)
+completes Done known analyzer left bytes a b law is short v words stream exists script refused does work output = inl refl
+completes Memory known analyzer left bytes a b law is short v words stream exists script refused does work output = inr refl
+completes Words known analyzer left bytes a b law is short v words stream exists script refused does work output = absurd (words refl)
+completes Stream known analyzer left bytes a b law is short v words stream exists script refused does work output = absurd (stream refl)
+completes (Exists e) known analyzer left bytes a b law is short v words stream exists script refused does work output = absurd (exists e refl)
+completes Script known analyzer left bytes a b law is short v words stream exists script refused does work output =
+    absurd (not-script known analyzer bytes short v (at-left IsNoScript left bytes is (script refl)))
+completes (Refused e) known analyzer left bytes a b law is short v words stream exists script refused does work output =
+    absurd (not-refused known analyzer bytes e law v (at-left (λ all. IsWhyRefused known analyzer all e) left bytes is refused))
+completes (Directory e) known analyzer left bytes a b law is short v words stream exists script refused does work output =
+    absurd (never-stops does.1.work_id does.1.output_id e a b does.0 work output does.1.stops)

@@ -1,0 +1,135 @@
+//! What a script hands in to build its index.
+ghost use Rattle.std.specs.Prelude.{◌≡◌, [], ◌∷◌, ◌++◌, false, map, is_none, Err, IfOk, OnOk};
+ghost use Rattle.std.specs.List.{list_all};
+ghost use Rattle.seg_build.specs.View.{operation_of};
+ghost use Rattle.seg_script.specs.Meaning as meaning;
+ghost use Rattle.seg_script.specs.View as scripted;
+ghost use Rattle.seg_tool.specs.BuildInput.{input_of};
+
+use seg_build::UserOperation;
+use seg_common::SegmentId;
+use seg_fastfield::AliveBitSet;
+use seg_meta::IndexSettings;
+use seg_script::{BatchFilter, Cuts, Operation, Operations, Script, SegmentIds};
+use seg_values::{Schema, TantivyDocument};
+use std::alloc::{AllocError, Global};
+
+/// What a script hands in to build its index.
+#[derive(Drop)]
+pub(crate) struct BuildInput {
+    pub schema: Schema,
+    pub settings: IndexSettings,
+    pub operations: Vec<UserOperation<TantivyDocument>>,
+    pub cuts: Vec<usize>,
+    pub filters: Vec<Option<AliveBitSet>>,
+    pub ids: Vec<SegmentId>,
+}
+
+/// Why a script can't be handed on.
+#[derive(Clone, Copy)]
+pub(crate) enum InputError {
+    /// It has a filter, which isn't built yet.
+    Filtered,
+    OutOfMemory,
+}
+
+impl From<AllocError> for InputError {
+    ghost use Rattle.std.specs.Prelude.{◌≡◌};
+    ghost use Rattle.seg_tool.specs.declared.input.InputError.TheVariants.{OutOfMemory};
+
+    ghost from_gives = { λ _ e. e ≡ OutOfMemory };
+
+    fn from(_e: AllocError) -> InputError {
+        InputError::OutOfMemory
+    }
+}
+
+/// What a script hands in; its documents are moved.
+pub(crate) fn build_input(alloc: Global, script: Script) -> Result<BuildInput, InputError>
+    ensures ok { IfOk result (λ input. input_of input ≡ meaning.input_of script) }
+    ensures filtered { result ≡ Err InputError.Filtered → list_all is_none script.filters ≡ false }
+{
+    let Script {
+        schema,
+        settings,
+        operations,
+        cuts,
+        filters,
+        ids,
+    } = script;
+    Ok(BuildInput {
+        schema,
+        settings,
+        operations: user_operations(alloc, operations)?,
+        cuts: places(alloc, &cuts)?,
+        filters: no_filters(alloc, filters.as_slice())?,
+        ids: copied_ids(alloc, &ids)?,
+    })
+}
+
+fn user_operations(
+    alloc: Global,
+    operations: Operations,
+) -> Result<Vec<UserOperation<TantivyDocument>>, AllocError>
+    ensures { IfOk result (λ user. map operation_of user.items ≡ operations) }
+{
+    let mut user = Vec::new(alloc);
+    for operation in operations.into_vec() {
+        user.push(user_operation(operation))?;
+    }
+    Ok(user)
+}
+
+fn user_operation(operation: Operation) -> UserOperation<TantivyDocument>
+    ensures { operation_of result ≡ scripted.operation_of operation }
+{
+    match operation {
+        Operation::Add(document) => UserOperation::Add(document),
+        Operation::Delete(term) => UserOperation::Delete(term),
+    }
+}
+
+fn places(alloc: Global, cuts: &Cuts) -> Result<Vec<usize>, AllocError>
+    ensures { IfOk result (λ places. places.items ≡ cuts.now) }
+{
+    let mut places = Vec::new(alloc);
+    for cut in cuts.as_slice() {
+        places.push(*cut as usize)?;
+    }
+    Ok(places)
+}
+
+/// As many filters, of which there is none.
+fn no_filters(
+    alloc: Global,
+    filters: &[Option<BatchFilter>],
+) -> Result<Vec<Option<AliveBitSet>>, InputError>
+    ensures ok { IfOk result (λ none. none.items ≡ filters.now) }
+    ensures filtered { result ≡ Err InputError.Filtered → list_all is_none filters.now ≡ false }
+{
+    let mut none = Vec::new(alloc);
+    for filter in filters {
+        if filter.is_some() {
+            return Err(InputError::Filtered);
+        }
+        push_none(&mut none)?;
+    }
+    Ok(none)
+}
+
+fn push_none(filters: &mut Vec<Option<AliveBitSet>>) -> Result<(), AllocError>
+    ensures { OnOk result (filters.new.items ≡ filters.old.items ++ None ∷ []) }
+{
+    filters.push(None)?;
+    Ok(())
+}
+
+fn copied_ids(alloc: Global, ids: &SegmentIds) -> Result<Vec<SegmentId>, AllocError>
+    ensures { IfOk result (λ copied. copied.items ≡ ids.now) }
+{
+    let mut copied = Vec::new(alloc);
+    for id in ids.as_slice() {
+        copied.push(*id)?;
+    }
+    Ok(copied)
+}
