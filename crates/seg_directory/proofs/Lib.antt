@@ -1,3 +1,4 @@
+mod CompositeEntries
 mod CompositeGrowing
 mod CompositeSpelled
 mod CompositeTables

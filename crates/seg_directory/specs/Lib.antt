@@ -4,6 +4,7 @@ pub mod CallCounts
 pub mod CallRecord
 pub mod Changes
 pub mod Composite
+pub mod CompositeEntry
 pub mod CompositeSpelling
 pub mod CompositeWriting
 pub mod Faults

@@ -1,6 +1,8 @@
 //! Composite files: the parts of several fields in one file.
-ghost use Rattle.std.specs.Prelude.{◌≡◌, ◌≤◌, ◌+◌, ◌*◌, ◌++◌, List, ℕ, true, false, length, slice_range, IfErr, IfSome, MatchResult, MatchOption, option_map, Some, None};
+ghost use Rattle.std.specs.Prelude.{◌≡◌, ◌≤◌, ◌<◌, ◌+◌, ◌*◌, ◌++◌, List, ℕ, true, false, length, slice_get, slice_range, IfErr, IfSome, MatchResult, MatchOption, option_map, Some, None};
+ghost use Rattle.seg_common.specs.LittleEndian as numbers;
 ghost use Rattle.seg_directory.specs.CompositeSpelling.{spelling};
+ghost use Rattle.seg_directory.specs.CompositeEntry.{IsEntry};
 ghost use Rattle.seg_directory.specs.Composite.{Part, entries_of, are_entries, parts_from, is_composite, parts_of, composite, field_of, count_of};
 
 use seg_common::{ByteCount, CommonError, OwnedBytes, u32_at, u64_at};
@@ -41,7 +43,7 @@ impl CompositeFile {
         }
     }
 
-    /// The bytes of a field, which share those of the file.
+    /// The bytes of a field, which share those of the file: found in the table by halving.
     pub fn open_read(&self, field: Field) -> Option<OwnedBytes>
         ensures { result ≡ field_of self.now field }
     {
@@ -52,6 +54,19 @@ impl CompositeFile {
             Some((start, end)) => Some(self.bytes.slice(start, end)),
             None => None,
         }
+    }
+
+    /// The part at a place, behind its field. Parts stand in the order of their fields.
+    pub fn part(&self, place: u32) -> (Field, OwnedBytes)
+        requires { place < length self.now }
+        ensures { slice_get self.now place ≡ Some result }
+    {
+        let bytes = self.bytes.as_slice();
+        let body = bytes.len() - (COUNT + ENTRY * self.count as usize);
+        let (_, table) = bytes.split_at(body);
+        let (start, end) = entry_range(table, self.count, body, place);
+        let field = u32_at(table, ENTRY * place as usize);
+        (Field::from_field_id(field), self.bytes.slice(start, end))
     }
 
     /// How many parts there are.
@@ -112,6 +127,23 @@ fn is_table(table: &[u8], count: u32, total: usize) -> bool
     start == total as u64
 }
 
+/// Where the part at a place begins and ends.
+fn entry_range(table: &[u8], count: u32, total: usize, place: u32) -> (usize, usize)
+    requires room { 12 * count ≤ length table.now }
+    requires place { place < count }
+    requires good { are_entries 0 0 total (entries_of count table.now) ≡ true }
+    ensures { IsEntry count table.now place total result.0 result.1 }
+{
+    let place = place as usize;
+    let end = u64_at(table, ENTRY * place + 4);
+    if place == 0 {
+        (0, end as usize)
+    } else {
+        let start = u64_at(table, ENTRY * (place - 1) + 4);
+        (start as usize, end as usize)
+    }
+}
+
 /// Where the part of a field begins and ends.
 fn find_entry(table: &[u8], count: u32, total: usize, field: u32) -> Option<(usize, usize)>
     requires room { 12 * count ≤ length table.now }
@@ -119,14 +151,32 @@ fn find_entry(table: &[u8], count: u32, total: usize, field: u32) -> Option<(usi
     ensures found { (body : List ℕ) → field_of (parts_from 0 (entries_of count table.now) body) field ≡ option_map (λ r. slice_range body r.0 r.1) result }
     ensures within { IfSome result (λ r. (r.0 ≤ r.1) × (r.1 ≤ total)) }
 {
-    let mut start = 0u64;
-    for i in 0..count as usize {
-        let end = u64_at(table, ENTRY * i + 4);
-        let at = u32_at(table, ENTRY * i);
-        if at == field {
-            return Some((start as usize, end as usize));
-        }
-        start = end;
+    let place = first_not_below(table, count, field);
+    if place == count {
+        return None;
     }
-    None
+    if u32_at(table, ENTRY * place as usize) != field {
+        return None;
+    }
+    Some(entry_range(table, count, total, place))
+}
+
+/// The first of so many entries whose field isn't below a field, or their number.
+fn first_not_below(table: &[u8], count: u32, field: u32) -> u32
+    requires { 12 * count ≤ length table.now }
+    ensures within { result ≤ count }
+    ensures before { (i : ℕ) → i + 1 ≡ result → numbers.u32_at table.now (12 * i) < field }
+    ensures past { result < count → field ≤ numbers.u32_at table.now (12 * result) }
+{
+    let mut low = 0;
+    let mut high = count;
+    while low < high {
+        let middle = low + (high - low) / 2;
+        if u32_at(table, ENTRY * middle as usize) < field {
+            low = middle + 1;
+        } else {
+            high = middle;
+        }
+    }
+    low
 }
