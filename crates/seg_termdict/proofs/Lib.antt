@@ -3,6 +3,6 @@ mod Assembled
 mod Growth
 mod InfoLemmas
 mod KeyLemmas
-mod KeyOrder
+pub mod KeyOrder
 pub mod LastTerm
 mod TermLemmas

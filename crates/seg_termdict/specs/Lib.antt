@@ -1,4 +1,5 @@
 pub mod Building
 pub mod Dictionary
 pub mod LookUps
+pub mod Streaming
 pub mod Writing

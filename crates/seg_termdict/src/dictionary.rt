@@ -2,12 +2,14 @@
 ghost use Rattle.std.specs.Prelude.{◌≡◌, ◌≤◌, ◌<◌, [], length, slice_get, Contains, IfOk, IfErr, IsSomeAnd, MatchBool, MatchOption, MatchResult};
 ghost use Rattle.seg_termdict.specs.Dictionary.{Term, IsDictionary, terms_of};
 ghost use Rattle.seg_termdict.specs.LookUps.{Refuses, Lacks, HasKeyAt};
+ghost use Rattle.seg_termdict.specs.Streaming.{all_terms};
 
 use crate::check::checked_count;
 use crate::error::TermDictError;
 use crate::format::TermOrdinal;
 use crate::infos::info_at;
 use crate::keys::{find_key, key_at};
+use crate::streamer::TermStreamer;
 use crate::tables::{ends_table, info_table, key_bytes};
 use seg_common::{OwnedBytes, TermInfo};
 use std::marker::Model;
@@ -85,14 +87,28 @@ impl TermDictionary {
         if ord >= self.count as u64 {
             return Ok(false);
         }
+        out.extend_from_slice(self.key(ord as usize))?;
+        Ok(true)
+    }
+
+    /// All terms, in order.
+    pub fn stream(&self) -> TermStreamer<'_>
+        ensures { result ≡ all_terms self.now }
+    {
+        TermStreamer::new(self)
+    }
+
+    /// The key at a place, in the bytes of the dictionary.
+    pub(crate) fn key(&self, place: usize) -> &[u8]
+        requires { place < length self.now }
+        ensures { HasKeyAt self.now place result.now }
+    {
         let bytes = self.bytes.as_slice();
-        let key = key_at(
+        key_at(
             ends_table(bytes, self.count),
             key_bytes(bytes, self.count),
-            ord as usize,
-        );
-        out.extend_from_slice(key)?;
-        Ok(true)
+            place,
+        )
     }
 
     fn find(&self, key: &[u8]) -> Option<usize>

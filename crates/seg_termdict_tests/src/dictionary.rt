@@ -1,7 +1,9 @@
 //! Dictionaries that are read, from bytes that were written by hand.
 
-use crate::{TermDictError, TermDictionary};
 use seg_common::{OwnedBytes, TermInfo};
+use seg_termdict::{
+    TermDictError, TermDictionary, TermDictionaryBuilder, TermOrdinal, TermStreamer,
+};
 use std::alloc::Global;
 use std::test::Fail;
 
@@ -23,6 +25,14 @@ const TWO: &[u8] = &[
     64, 0, 0, 0, 0, 0, 0, 0, // the length of the info store
     1, 0, 0, 0, 3, 0, 0, 0, // version and type
 ];
+
+const FIRST: TermInfo = TermInfo {
+    doc_freq: 1,
+    postings_start: 0,
+    postings_end: 3,
+    positions_start: 0,
+    positions_end: 1,
+};
 
 const SECOND: TermInfo = TermInfo {
     doc_freq: 2,
@@ -63,6 +73,35 @@ fn terms_are_found(rt: HostRuntime) -> Result<(), Fail> {
     assert!(rt; dictionary.ord_to_term(0, &mut key)?);
     assert_eq!(rt; key.as_slice(), b"a".as_slice());
     assert!(rt; !dictionary.ord_to_term(2, &mut key)?);
+    Ok(())
+}
+
+/// Whether a streamer has come to a term with this key, at this place, and with this info.
+fn is_at(stream: &TermStreamer<'_>, key: &[u8], ord: TermOrdinal, info: TermInfo) -> bool {
+    stream.key() == key && stream.term_ord() == ord && *stream.value() == info
+}
+
+#[test]
+fn terms_are_streamed(rt: HostRuntime) -> Result<(), Fail> {
+    let dictionary = open(rt.alloc(), TWO)?;
+    let mut stream = dictionary.stream();
+    assert!(rt; is_at(&stream, b"", 0, TermInfo::default()));
+    assert!(rt; stream.advance());
+    assert!(rt; is_at(&stream, b"a", 0, FIRST));
+    assert!(rt; stream.advance());
+    assert!(rt; is_at(&stream, b"b", 1, SECOND));
+    assert!(rt; !stream.advance());
+    assert!(rt; is_at(&stream, b"b", 1, SECOND));
+    Ok(())
+}
+
+#[test]
+fn nothing_is_streamed(rt: HostRuntime) -> Result<(), Fail> {
+    let bytes = TermDictionaryBuilder::create(rt.alloc())?.finish()?;
+    let dictionary = open(rt.alloc(), bytes.as_slice())?;
+    let mut stream = dictionary.stream();
+    assert!(rt; !stream.advance());
+    assert!(rt; is_at(&stream, b"", 0, TermInfo::default()));
     Ok(())
 }
 

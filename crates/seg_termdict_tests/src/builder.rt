@@ -1,7 +1,7 @@
 //! Dictionaries that are built, against bytes that were written by hand.
 
-use crate::{TermDictError, TermDictionaryBuilder};
 use seg_common::TermInfo;
+use seg_termdict::{TermDictError, TermDictionaryBuilder};
 use std::test::Fail;
 
 const EMPTY: &[u8] = &[

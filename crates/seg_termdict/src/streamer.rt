@@ -1,0 +1,80 @@
+//! The terms of a dictionary, one after another.
+ghost use Rattle.std.specs.Prelude.{◌≡◌, ◌-◌, nat_lt, length};
+ghost use Rattle.seg_termdict.specs.Dictionary.{Term};
+ghost use Rattle.seg_termdict.specs.Streaming.{all_terms, current, advanced};
+
+use crate::dictionary::TermDictionary;
+use crate::format::TermOrdinal;
+use seg_common::TermInfo;
+use std::marker::Model;
+
+/// The terms of a dictionary in the order of their keys, by which `advance` goes. It takes no memory: a key is a slice
+/// of the dictionary's bytes.
+#[derive(Drop)]
+pub struct TermStreamer<'a> {
+    dictionary: &'a TermDictionary,
+    taken: usize,
+    info: TermInfo,
+}
+
+impl<'a> Model for TermStreamer<'a> {
+    ghost use Rattle.std.specs.Prelude.{◌≡◌, ◌≤◌, length};
+    ghost use Rattle.seg_termdict.specs.Streaming.{Stream, current};
+
+    ghost Value = { Stream };
+
+    ghost view = { λ s. record { terms = s.dictionary.now; taken = s.taken } };
+
+    ghost invariant = { λ s. (s.taken ≤ length s.dictionary.now) × (s.info ≡ (current (record { terms = s.dictionary.now; taken = s.taken })).1) };
+}
+
+impl<'a> TermStreamer<'a> {
+    /// Stands before the first term.
+    pub(crate) fn new(dictionary: &'a TermDictionary) -> TermStreamer<'a>
+        ensures { result ≡ all_terms dictionary.now }
+    {
+        TermStreamer {
+            dictionary,
+            taken: 0,
+            info: TermInfo::default(),
+        }
+    }
+
+    /// Goes on to the next term, and tells whether there is one; else it stays at the last.
+    pub fn advance(&mut self) -> bool
+        ensures more { result ≡ nat_lt self.old.taken (length self.old.terms) }
+        ensures place { self.new ≡ advanced self.old }
+    {
+        if self.taken >= self.dictionary.num_terms() {
+            return false;
+        }
+        self.info = self.dictionary.term_info_from_ord(self.taken as u64);
+        self.taken += 1;
+        true
+    }
+
+    /// The place of the term; 0 before the first `advance`.
+    pub fn term_ord(&self) -> TermOrdinal
+        ensures { result ≡ self.now.taken - 1 }
+    {
+        self.taken.saturating_sub(1) as u64
+    }
+
+    /// The key of the term; empty before the first `advance`.
+    pub fn key(&self) -> &[u8]
+        ensures { result.now ≡ (current self.now).0 }
+    {
+        if self.taken == 0 {
+            &[]
+        } else {
+            self.dictionary.key(self.taken - 1)
+        }
+    }
+
+    /// What is known of the term; all zero before the first `advance`.
+    pub fn value(&self) -> &TermInfo
+        ensures { result.now ≡ (current self.now).1 }
+    {
+        &self.info
+    }
+}
