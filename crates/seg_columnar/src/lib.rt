@@ -2,13 +2,14 @@
 //!
 //! It has no column yet, so bytes read as a number of rows, or as nothing.
 //!
-//! To be read in this order: `error`; `writer`.
+//! To be read in this order: `error`, `format`; `writer`; `reader`.
 #![tactic(auto)]
 
 mod error;
-#[cfg(test)]
-mod tests;
+mod format;
+mod reader;
 mod writer;
 
 pub use error::ColumnError;
+pub use reader::ColumnarReader;
 pub use writer::ColumnarWriter;

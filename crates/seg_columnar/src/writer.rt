@@ -3,17 +3,9 @@ ghost use Rattle.std.specs.Prelude.{◌≡◌, Some, IfOk, IfErr};
 ghost use Rattle.seg_columnar.specs.Columnar.{rows_of};
 
 use crate::error::ColumnError;
+use crate::format::{NO_COLUMN, TABLE_LENGTH, VERSION};
 use seg_common::{put_u32, put_u64};
 use std::alloc::Global;
-
-/// The number of columns of a file without any, which is its whole table.
-const NO_COLUMN: u64 = 0;
-
-/// The bytes of that table.
-const TABLE_LENGTH: u64 = 8;
-
-/// The version of the format, the last number of a file.
-const VERSION: u32 = 1;
 
 /// Writes the columns of a segment. It has no column yet.
 #[derive(Drop)]
