@@ -12,7 +12,7 @@ use Rattle.seg_store.specs.Writing.{byte_count}
 
 -- ---- ends
 
-and-true : (a b : Bool) → (a && b) ≡ true → (a ≡ true) × (b ≡ true)
+pub and-true : (a b : Bool) → (a && b) ≡ true → (a ≡ true) × (b ≡ true)
 and-true true b e = (refl, e)
 and-true false b e = absurd cc
 
@@ -50,7 +50,7 @@ ends-below limit start total (e ∷ es) h lt =
 
 -- ---- parts
 
-range-front : (body more : List ℕ) (s e : ℕ) → s ≤ e → e ≤ length body → slice_range (body ++ more) s e ≡ slice_range body s e
+pub range-front : (body more : List ℕ) (s e : ℕ) → s ≤ e → e ≤ length body → slice_range (body ++ more) s e ≡ slice_range body s e
 range-front body more s e se h = ap (take (e - s)) (drop-append-le s body more (omega arith)) ∙ take-append-le (e - s) (drop s body) more (omega (arith, length-drop s body))
 
 pub cut-push : (start : ℕ) (es : List ℕ) (body more : List ℕ) (e : ℕ) → are_ends start (length body) es ≡ true → e ≡ length body + length more → cut_from start (es ++ e ∷ []) (body ++ more) ≡ cut_from start es body ++ more ∷ []
@@ -67,7 +67,7 @@ pub length-cut : (start : ℕ) (es body : List ℕ) → length (cut_from start e
 length-cut start [] body = refl
 length-cut start (e ∷ es) body = ap suc (length-cut e es body)
 
-length-range : (body : List ℕ) (s e : ℕ) → s ≤ e → e ≤ length body → length (slice_range body s e) ≡ e - s
+pub length-range : (body : List ℕ) (s e : ℕ) → s ≤ e → e ≤ length body → length (slice_range body s e) ≡ e - s
 length-range body s e se h = length-take-le (e - s) (drop s body) (omega (arith, length-drop s body))
 
 -- the parts have all bytes from the start on

@@ -6,7 +6,7 @@ use Rattle.std.specs.Int.{w32, w64, to_le_bytes}
 use Rattle.std.proofs.lemmas.List.{length-append, length-drop, length-take-le, take-append-drop, take-append-le, drop-append-le, take_all, drop_all, map-append}
 use Rattle.std.proofs.lemmas.List.Folds.{list_all-append}
 use Rattle.std.proofs.lemmas.Bool.{eqb-true, eq-eqb, le-leb, lt-leb}
-use Rattle.seg_store.specs.declared.written_blocks.Checkpoint.{Checkpoint}
+use Rattle.seg_store.specs.declared.checkpoint.Checkpoint.{Checkpoint}
 use Rattle.seg_store.specs.Ends.{are_ends, cut_from}
 use Rattle.seg_store.specs.StoredDocument.{is_stored_document}
 use Rattle.seg_store.specs.Block.{Block, documents_in, is_block}
@@ -72,7 +72,7 @@ is_ended b before document kept stored few =
     let good : are_ends 0 (length (drop b.start before)) b.ends ≡ true = ap (λ (n : ℕ). are_ends 0 n b.ends) size ∙ kept.open_block.ends in
     let end : ℕ = length all - b.start in
     let end_is : end ≡ length (drop b.start before) + length document = omega (arith, long, size, closed.within) in
-    let parts : closed_parts (ended b before document) ≡ closed_parts (short b before) = ap (cut_from 0 (map (λ c. c.bytes_end) b.checkpoints)) front in
+    let parts : closed_parts (ended b before document) ≡ closed_parts (short b before) = ap (cut_from 0 (map (λ c. c.byte_end) b.checkpoints)) front in
     let open_is : cut_from 0 (b.ends ++ end ∷ []) (drop b.start all) ≡ cut_from 0 b.ends (drop b.start before) ++ document ∷ [] = ap (cut_from 0 (b.ends ++ end ∷ [])) back ∙ cut-push 0 b.ends (drop b.start before) document end good end_is in
     let taken : taken_of (ended b before document) ≡ opened (taken_of (short b before)) document = λ i. record { block_size = b.block_size; closed = map documents_in (parts i); open_block = open_is i } in
     let many : length (cut_from 0 b.ends (drop b.start before) ++ document ∷ []) ≡ length (cut_from 0 b.ends (drop b.start before)) + 1 = length-append (cut_from 0 b.ends (drop b.start before)) (document ∷ []) in
@@ -147,7 +147,7 @@ is_grown b n size end ends size_is end_is ends_are kept stored few =
 
 -- what is kept once the open block is closed
 abbrev pub closed_at : Buffers → List ℕ → ℕ → Buffers
-closed_at b bytes end = record b { bytes = bytes; checkpoints = b.checkpoints ++ record { ids_end = b.documents; bytes_end = end } ∷ []; start = end; ends = [] }
+closed_at b bytes end = record b { bytes = bytes; checkpoints = b.checkpoints ++ record { doc_end = b.documents; byte_end = end } ∷ []; start = end; ends = [] }
 
 pub record IsClosed (b : Buffers) (bytes : List ℕ) (end : ℕ) : Type 0 where
   pub kept : IsKept (closed_at b bytes end)
@@ -175,10 +175,10 @@ is_closed b bytes end kept some small written end_is =
     let grown : length b.bytes ≤ length bytes = omega (arith, ap length written, length-append (b.bytes ++ flat_map (to_le_bytes w64) b.ends) (to_le_bytes w32 (length b.ends)), length-append b.bytes (flat_map (to_le_bytes w64) b.ends)) in
     let whole : take end bytes ≡ front ++ block = take_all end bytes (omega arith) ∙ split in
     let nothing : drop end bytes ≡ [] = drop_all end bytes (omega arith) in
-    let point : Checkpoint = record { ids_end = b.documents; bytes_end = end } in
-    let es : List ℕ = map (λ c. c.bytes_end) b.checkpoints in
-    let es_more : map (λ c. c.bytes_end) (b.checkpoints ++ point ∷ []) ≡ es ++ end ∷ [] = map-append (λ c. c.bytes_end) b.checkpoints (point ∷ []) in
-    let ids_more : map (λ c. c.ids_end) (b.checkpoints ++ point ∷ []) ≡ map (λ c. c.ids_end) b.checkpoints ++ b.documents ∷ [] = map-append (λ c. c.ids_end) b.checkpoints (point ∷ []) in
+    let point : Checkpoint = record { doc_end = b.documents; byte_end = end } in
+    let es : List ℕ = map (λ c. c.byte_end) b.checkpoints in
+    let es_more : map (λ c. c.byte_end) (b.checkpoints ++ point ∷ []) ≡ es ++ end ∷ [] = map-append (λ c. c.byte_end) b.checkpoints (point ∷ []) in
+    let ids_more : map (λ c. c.doc_end) (b.checkpoints ++ point ∷ []) ≡ map (λ c. c.doc_end) b.checkpoints ++ b.documents ∷ [] = map-append (λ c. c.doc_end) b.checkpoints (point ∷ []) in
     let front_good : are_ends 0 (length front) es ≡ true = ap (λ (n : ℕ). are_ends 0 n es) front_size ∙ closed.ends in
     let parts : closed_parts (closed_at b bytes end) ≡ closed_parts b ++ block ∷ [] = (λ i. cut_from 0 (es_more i) (whole i)) ∙ cut-push 0 es front block end front_good (omega (arith, long)) in
     let blocks : map documents_in (closed_parts (closed_at b bytes end)) ≡ map documents_in (closed_parts b) ++ cut_from 0 b.ends body ∷ [] = ap (map documents_in) parts ∙ map-append documents_in (closed_parts b) (block ∷ []) ∙ ap (λ ds. map documents_in (closed_parts b) ++ ds ∷ []) read.documents_are in
@@ -241,17 +241,17 @@ file_read b kept none small =
     let start_is : b.start ≡ length b.bytes = omega (arith, zero_left, closed.within) in
     let whole : take b.start b.bytes ≡ b.bytes = take_all b.start b.bytes (omega (arith, start_is)) in
     let empty : length (cut_from 0 b.ends (drop b.start b.bytes)) ≡ 0 = length-cut 0 b.ends (drop b.start b.bytes) ∙ ap length none in
-    let ends : are_ends 0 (length b.bytes) (map (λ c. c.bytes_end) b.checkpoints) ≡ true = ap (λ (n : ℕ). are_ends 0 n (map (λ c. c.bytes_end) b.checkpoints)) (sym start_is) ∙ closed.ends in
+    let ends : are_ends 0 (length b.bytes) (map (λ c. c.byte_end) b.checkpoints) ≡ true = ap (λ (n : ℕ). are_ends 0 n (map (λ c. c.byte_end) b.checkpoints)) (sym start_is) ∙ closed.ends in
     let count : b.documents ≡ document_count (map documents_in (closed_parts b)) = omega (arith, counts.documents, empty) in
     let below : AllByRecursion (λ n. n < 2 ^ 32) (id_ends 0 (map documents_in (closed_parts b))) = id_ends-below (2 ^ 32) 0 (map documents_in (closed_parts b)) (omega (arith, count, counts.few)) in
     let parts : AreParts b.bytes b.checkpoints b.documents (closed_parts b) = record {
-      cut = ap (cut_from 0 (map (λ c. c.bytes_end) b.checkpoints)) (sym whole);
+      cut = ap (cut_from 0 (map (λ c. c.byte_end) b.checkpoints)) (sym whole);
       ends = ends;
       blocks = closed.blocks;
       ids = closed.ids;
       count = count;
       ids_fit = subst (λ (ns : List ℕ). AllByRecursion (λ n. n < 2 ^ 32) ns) (sym closed.ids) below;
-      ends_fit = ends-below (2 ^ 64) 0 (length b.bytes) (map (λ c. c.bytes_end) b.checkpoints) ends small;
+      ends_fit = ends-below (2 ^ 64) 0 (length b.bytes) (map (λ c. c.byte_end) b.checkpoints) ends small;
       few = omega (arith, counts.blocks, counts.few);
       small = omega (arith, counts.few);
     } in

@@ -8,7 +8,7 @@ use Rattle.std.proofs.lemmas.List.{length-append, drop_at}
 use Rattle.std.proofs.lemmas.Bool.{le-leb, eq-eqb}
 use Rattle.std.proofs.lemmas.Slice.Eq.{bytes_eq-Decides}
 use Rattle.seg_common.specs.LittleEndian.{u32_at, u64_at}
-use Rattle.seg_store.specs.declared.written_blocks.Checkpoint.{Checkpoint}
+use Rattle.seg_store.specs.declared.checkpoint.Checkpoint.{Checkpoint}
 use Rattle.seg_store.specs.Ends.{are_ends, cut_from, last_bytes, but_last}
 use Rattle.seg_store.specs.Block.{documents_in, is_block}
 use Rattle.seg_store.specs.Store.{footer, store_count, checkpoints_of, store_checkpoints, store_body, id_ends, document_count, blocks_of, is_store, store_of}
@@ -38,7 +38,7 @@ unfolding blocks_of
 blocks_by bytes = refl
 
 abbrev pair_of : Checkpoint → ℕ × ℕ
-pair_of c = (c.ids_end, c.bytes_end)
+pair_of c = (c.doc_end, c.byte_end)
 
 pub length-checkpoints : (cs : List Checkpoint) → length (flat_map checkpoint_form cs) ≡ 12 * length cs
 length-checkpoints [] = refl
@@ -54,24 +54,24 @@ one_checkpoint out after cs i d lt more =
     ∙ append_assoc out (checkpoint_form (get_or cs i d)) (flat_map checkpoint_form (drop (i + 1) cs))
     ∙ ap (λ xs. out ++ flat_map checkpoint_form xs) (sym here)
 
-checkpoints_read : (cs : List Checkpoint) → AllByRecursion (λ n. n < 2 ^ 32) (map (λ c. c.ids_end) cs) → AllByRecursion (λ n. n < 2 ^ 64) (map (λ c. c.bytes_end) cs) → checkpoints_of (length cs) (flat_map checkpoint_form cs) ≡ map pair_of cs
+checkpoints_read : (cs : List Checkpoint) → AllByRecursion (λ n. n < 2 ^ 32) (map (λ c. c.doc_end) cs) → AllByRecursion (λ n. n < 2 ^ 64) (map (λ c. c.byte_end) cs) → checkpoints_of (length cs) (flat_map checkpoint_form cs) ≡ map pair_of cs
 checkpoints_read [] ids ends = refl
 checkpoints_read (c ∷ cs) ids ends =
     let tail = flat_map checkpoint_form cs in
     let all : List ℕ = checkpoint_form c ++ tail in
-    let first : u32_at all 0 ≡ c.ids_end = ap (λ (l : List ℕ). u32_at l 0) (append_assoc (to_le_bytes w32 c.ids_end) (to_le_bytes w64 c.bytes_end) tail) ∙ u32_at-written [] (to_le_bytes w64 c.bytes_end ++ tail) c.ids_end 0 ids.0 refl in
-    let second : u64_at all 4 ≡ c.bytes_end = ap (λ (l : List ℕ). u64_at l 4) (append_assoc (to_le_bytes w32 c.ids_end) (to_le_bytes w64 c.bytes_end) tail) ∙ u64_at-written (to_le_bytes w32 c.ids_end) tail c.bytes_end 4 ends.0 refl in
+    let first : u32_at all 0 ≡ c.doc_end = ap (λ (l : List ℕ). u32_at l 0) (append_assoc (to_le_bytes w32 c.doc_end) (to_le_bytes w64 c.byte_end) tail) ∙ u32_at-written [] (to_le_bytes w64 c.byte_end ++ tail) c.doc_end 0 ids.0 refl in
+    let second : u64_at all 4 ≡ c.byte_end = ap (λ (l : List ℕ). u64_at l 4) (append_assoc (to_le_bytes w32 c.doc_end) (to_le_bytes w64 c.byte_end) tail) ∙ u64_at-written (to_le_bytes w32 c.doc_end) tail c.byte_end 4 ends.0 refl in
     let others : drop 12 all ≡ tail = drop_at (checkpoint_form c) tail 12 refl in
     let again : checkpoints_of (length cs) (drop 12 all) ≡ map pair_of cs = ap (checkpoints_of (length cs)) others ∙ checkpoints_read cs ids.1 ends.1 in
     λ i. (first i, second i) ∷ again i
 
-firsts : (cs : List Checkpoint) → counts (map pair_of cs) ≡ map (λ c. c.ids_end) cs
+firsts : (cs : List Checkpoint) → counts (map pair_of cs) ≡ map (λ c. c.doc_end) cs
 firsts [] = refl
-firsts (c ∷ cs) = ap (λ ns. c.ids_end ∷ ns) (firsts cs)
+firsts (c ∷ cs) = ap (λ ns. c.doc_end ∷ ns) (firsts cs)
 
-seconds : (cs : List Checkpoint) → byte_ends (map pair_of cs) ≡ map (λ c. c.bytes_end) cs
+seconds : (cs : List Checkpoint) → byte_ends (map pair_of cs) ≡ map (λ c. c.byte_end) cs
 seconds [] = refl
-seconds (c ∷ cs) = ap (λ ns. c.bytes_end ∷ ns) (seconds cs)
+seconds (c ∷ cs) = ap (λ ns. c.byte_end ∷ ns) (seconds cs)
 
 -- a store's bytes
 abbrev pub store_form : List ℕ → List Checkpoint → ℕ → List ℕ
@@ -79,13 +79,13 @@ store_form body cs documents = (((body ++ flat_map checkpoint_form cs) ++ to_le_
 
 -- the parts of a store
 pub record AreParts (body : List ℕ) (cs : List Checkpoint) (documents : ℕ) (parts : List (List ℕ)) : Type 0 where
-  pub cut : cut_from 0 (map (λ c. c.bytes_end) cs) body ≡ parts
-  pub ends : are_ends 0 (length body) (map (λ c. c.bytes_end) cs) ≡ true
+  pub cut : cut_from 0 (map (λ c. c.byte_end) cs) body ≡ parts
+  pub ends : are_ends 0 (length body) (map (λ c. c.byte_end) cs) ≡ true
   pub blocks : list_all is_block parts ≡ true
-  pub ids : map (λ c. c.ids_end) cs ≡ id_ends 0 (map documents_in parts)
+  pub ids : map (λ c. c.doc_end) cs ≡ id_ends 0 (map documents_in parts)
   pub count : documents ≡ document_count (map documents_in parts)
-  pub ids_fit : AllByRecursion (λ n. n < 2 ^ 32) (map (λ c. c.ids_end) cs)
-  pub ends_fit : AllByRecursion (λ n. n < 2 ^ 64) (map (λ c. c.bytes_end) cs)
+  pub ids_fit : AllByRecursion (λ n. n < 2 ^ 32) (map (λ c. c.doc_end) cs)
+  pub ends_fit : AllByRecursion (λ n. n < 2 ^ 64) (map (λ c. c.byte_end) cs)
   pub few : length cs < 2 ^ 32
   pub small : documents < 2 ^ 32
 

@@ -13,9 +13,13 @@ Block = List (List ℕ)
 abbrev pub block_count : List ℕ → ℕ
 block_count bytes = u32_at (last_bytes 4 bytes) 0
 
+-- the table of where the documents end
+abbrev pub block_table : List ℕ → List ℕ
+block_table bytes = last_bytes (8 * block_count bytes) (but_last 4 bytes)
+
 -- where the documents end
 abbrev pub block_ends : List ℕ → List ℕ
-block_ends bytes = numbers_of (block_count bytes) (last_bytes (8 * block_count bytes) (but_last 4 bytes))
+block_ends bytes = numbers_of (block_count bytes) (block_table bytes)
 
 -- the documents' bytes
 abbrev pub block_body : List ℕ → List ℕ

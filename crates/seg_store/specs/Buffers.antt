@@ -2,7 +2,7 @@
 use Rattle.std.specs.Prelude.{◌≡◌, ◌≤◌, ◌<◌, ◌+◌, ◌-◌, ◌^◌, ℕ, true, List, ◌++◌, length, take, drop, map}
 use Rattle.std.specs.List.{list_all}
 use Rattle.std.specs.Int.{w32, w64, to_le_bytes}
-use Rattle.seg_store.specs.declared.written_blocks.Checkpoint.{Checkpoint}
+use Rattle.seg_store.specs.declared.checkpoint.Checkpoint.{Checkpoint}
 use Rattle.seg_store.specs.Ends.{are_ends, cut_from}
 use Rattle.seg_store.specs.StoredDocument.{is_stored_document}
 use Rattle.seg_store.specs.Block.{documents_in, is_block}
@@ -11,7 +11,7 @@ use Rattle.seg_store.specs.Writing.{Taken, taken_count, block_bytes, byte_count}
 
 -- a checkpoint's bytes
 abbrev pub checkpoint_form : Checkpoint → List ℕ
-checkpoint_form c = to_le_bytes w32 c.ids_end ++ to_le_bytes w64 c.bytes_end
+checkpoint_form c = to_le_bytes w32 c.doc_end ++ to_le_bytes w64 c.byte_end
 
 -- the bytes so far, with a checkpoint for each closed block; where the open block starts, and where its documents end in it; how many documents there are, how many bytes these have, and the size of blocks
 pub record Buffers : Type 0 where
@@ -25,7 +25,7 @@ pub record Buffers : Type 0 where
 
 -- each closed block's bytes
 abbrev pub closed_parts : Buffers → List (List ℕ)
-closed_parts b = cut_from 0 (map (λ c. c.bytes_end) b.checkpoints) (take b.start b.bytes)
+closed_parts b = cut_from 0 (map (λ c. c.byte_end) b.checkpoints) (take b.start b.bytes)
 
 -- what is kept, as blocks
 abbrev pub taken_of : Buffers → Taken
@@ -34,9 +34,9 @@ taken_of b = record { block_size = b.block_size; closed = map documents_in (clos
 -- the closed blocks lie one after the other from the start on
 pub record AreClosed (b : Buffers) : Type 0 where
   pub within : b.start ≤ length b.bytes
-  pub ends : are_ends 0 b.start (map (λ c. c.bytes_end) b.checkpoints) ≡ true
+  pub ends : are_ends 0 b.start (map (λ c. c.byte_end) b.checkpoints) ≡ true
   pub blocks : list_all is_block (closed_parts b) ≡ true
-  pub ids : map (λ c. c.ids_end) b.checkpoints ≡ id_ends 0 (map documents_in (closed_parts b))
+  pub ids : map (λ c. c.doc_end) b.checkpoints ≡ id_ends 0 (map documents_in (closed_parts b))
 
 -- the open block's documents lie behind them
 pub record IsOpen (b : Buffers) : Type 0 where

@@ -24,3 +24,9 @@ are_ends start total (e ∷ es) = nat_le start e && are_ends e total es
 abbrev pub cut_from : ℕ → List ℕ → List ℕ → List (List ℕ)
 cut_from start [] bytes = []
 cut_from start (e ∷ es) bytes = slice_range bytes start e ∷ cut_from e es bytes
+
+-- where a part starts: where the one before it ends
+abbrev pub start_of : ℕ → List ℕ → ℕ → ℕ
+start_of start ends zero = start
+start_of start [] (suc i) = start
+start_of start (e ∷ es) (suc i) = start_of e es i

@@ -1,7 +1,11 @@
 pub mod Block
 pub mod BlockLaw
 pub mod Buffers
+pub mod Checkpoints
 pub mod Ends
+pub mod Making
+pub mod Parts
+pub mod Passing
 pub mod Reader
 pub mod Storable
 pub mod Store

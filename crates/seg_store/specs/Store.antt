@@ -22,9 +22,13 @@ abbrev pub checkpoints_of : ℕ → List ℕ → List (ℕ × ℕ)
 checkpoints_of zero table = []
 checkpoints_of (suc n) table = (u32_at table 0, u64_at table 4) ∷ checkpoints_of n (drop 12 table)
 
+-- the table of a store's checkpoints
+abbrev pub store_table : List ℕ → List ℕ
+store_table bytes = last_bytes (12 * store_count bytes) (but_last 9 bytes)
+
 -- a store's checkpoints
 abbrev pub store_checkpoints : List ℕ → List (ℕ × ℕ)
-store_checkpoints bytes = checkpoints_of (store_count bytes) (last_bytes (12 * store_count bytes) (but_last 9 bytes))
+store_checkpoints bytes = checkpoints_of (store_count bytes) (store_table bytes)
 
 -- the bytes of its blocks
 abbrev pub store_body : List ℕ → List ℕ
@@ -59,6 +63,10 @@ is_store bytes =
 -- what bytes read as
 abbrev pub store_of : List ℕ → Option (List Block)
 store_of bytes = if is_store bytes then Some (blocks_of bytes) else None
+
+-- the documents of blocks, each as its bytes
+abbrev pub raw_documents : List Block → List (List ℕ)
+raw_documents blocks = flat_map (λ b. b) blocks
 
 -- the documents of blocks, as their fields and trees
 abbrev pub documents_of : List Block → List Document

@@ -1,22 +1,36 @@
 //! The store: the bytes that an index keeps of its stored documents, in blocks.
 //!
 //! A writer is seen as its closed blocks and its open one, each the list of its documents' bytes, or as nothing once
-//! memory was lacking. The bytes of a document read as fields with trees.
+//! memory was lacking; a reader as the blocks of its store. The bytes of a document read as fields with trees.
 //!
-//! To be read in this order: `error`; `tree_writer`, `document_writer`, `document_law`; `written_blocks`, `store_writer`, `block_law`.
+//! To be read in this order: `error`; `tree_writer`, `document_writer`, `document_law`; `checkpoint`, `written_blocks`,
+//! `store_writer`, `block_law`; `pieces`, `tree_check`, `document_check`, `parts`, `block_check`, `store_check`;
+//! `leaf_reader`, `tree_reader`, `document_reader`; `locating`, `store_reader`.
 #![tactic(auto)]
 
+mod block_check;
 mod block_law;
+mod checkpoint;
+mod document_check;
 mod document_law;
+mod document_reader;
 mod document_writer;
 mod error;
+mod leaf_reader;
+mod locating;
+mod parts;
+mod pieces;
+mod store_check;
+mod store_reader;
 mod store_writer;
-#[cfg(test)]
-mod tests;
+mod tree_check;
+mod tree_reader;
 mod tree_writer;
 mod written_blocks;
 
 pub use block_law::documents_stay_in_order;
+pub use checkpoint::Checkpoint;
 pub use document_law::stored_documents_are_read;
 pub use error::StoreError;
+pub use store_reader::StoreReader;
 pub use store_writer::StoreWriter;

@@ -10,18 +10,12 @@ ghost use Rattle.seg_store.specs.Store.{store_of};
 ghost use Rattle.seg_store.specs.Writing.{with_document, closed_if_full, with_closed, all_blocks};
 ghost use Rattle.seg_store.specs.Buffers.{taken_of, IsKept, checkpoint_form};
 
+use crate::checkpoint::Checkpoint;
 use crate::document_writer::put_document;
 use seg_common::{put_u32, put_u64};
 use seg_values::{Schema, TantivyDocument};
 use std::alloc::{AllocError, Global};
 use std::marker::Model;
-
-/// Where a block ends: the number of documents up to and with it, and its last byte in the file.
-#[derive(Clone, Copy)]
-pub(crate) struct Checkpoint {
-    pub ids_end: u32,
-    pub bytes_end: u64,
-}
 
 /// Closed blocks, and the documents of an open one behind them.
 #[derive(Drop)]
@@ -152,8 +146,8 @@ impl WrittenBlocks {
         blocks.start = blocks.bytes.len();
         blocks.ends.clear();
         blocks.checkpoints.push(Checkpoint {
-            ids_end: blocks.documents,
-            bytes_end: blocks.start as u64,
+            doc_end: blocks.documents,
+            byte_end: blocks.start as u64,
         })?;
         Ok(blocks)
     }
@@ -213,7 +207,7 @@ fn put_checkpoints(out: &mut Vec<u8>, checkpoints: &[Checkpoint]) -> Result<(), 
 fn put_checkpoint(out: &mut Vec<u8>, checkpoint: &Checkpoint) -> Result<(), AllocError>
     ensures { OnOk result (out.new.items ≡ out.old.items ++ checkpoint_form checkpoint.now) }
 {
-    put_u32(out, checkpoint.ids_end)?;
-    put_u64(out, checkpoint.bytes_end)?;
+    put_u32(out, checkpoint.doc_end)?;
+    put_u64(out, checkpoint.byte_end)?;
     Ok(())
 }

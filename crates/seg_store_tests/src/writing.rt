@@ -2,26 +2,14 @@
 ghost use Rattle.std.specs.Prelude.{◌≡◌, IfOk};
 ghost use Rattle.seg_store.specs.StoredLaw.{AreShallow};
 
-use crate::tree_writer::put_tree;
-use crate::{StoreError, StoreWriter};
 use seg_common::DateTimePrecision;
 use seg_meta::Compressor;
+use seg_store::{StoreError, StoreWriter};
 use seg_values::{
-    Field, FieldEntry, FieldKind, IndexOption, Members, OwnedValue, Schema, SchemaBuilder,
-    TantivyDocument, Text, Values,
+    Field, FieldEntry, FieldKind, IndexOption, Schema, SchemaBuilder, TantivyDocument, Text,
 };
 use std::alloc::{AllocError, Global};
 use std::test::Fail;
-
-/// The object `{"a": [1, null]}`.
-const JSON: &[u8] = &[
-    11, 1, 1, b'a', // an object of one member, its key
-    10, 2, 4, 1, 0, 0, 0, 0, 0, 0, 0, 0, // an array of two, the number 1, null
-];
-
-const NUMBER: &[u8] = &[3, 2, 1, 0, 0, 0, 0, 0, 0];
-
-const NEGATIVE: &[u8] = &[4, 254, 255, 255, 255, 255, 255, 255, 255];
 
 /// One block of a document with the text `a` in field 0.
 const ONE: &[u8] = &[
@@ -147,33 +135,5 @@ fn compressed_stores_are_refused(rt: HostRuntime) -> Result<(), Fail> {
     }
     let threaded = StoreWriter::new(alloc, Compressor::None, 16384, true).err();
     assert_eq!(rt; threaded, Some(StoreError::Compressed));
-    Ok(())
-}
-
-/// The value `{"a": [1, null]}`.
-fn json(alloc: Global) -> Result<OwnedValue, AllocError> {
-    let mut values = Values::new(alloc);
-    values.push(OwnedValue::I64(1))?;
-    values.push(OwnedValue::Null)?;
-    let mut members = Members::new(alloc);
-    members.push(Text::copy_of(alloc, "a")?, OwnedValue::Array(values))?;
-    Ok(OwnedValue::Object(members))
-}
-
-fn bytes_of(alloc: Global, value: &OwnedValue) -> Result<Vec<u8>, AllocError> {
-    let mut out = Vec::new(alloc);
-    put_tree(&mut out, value)?;
-    Ok(out)
-}
-
-#[test]
-fn values_byte_for_byte(rt: HostRuntime) -> Result<(), Fail> {
-    let alloc = rt.alloc();
-    let object = bytes_of(alloc, &json(alloc)?)?;
-    assert_eq!(rt; object.as_slice(), JSON);
-    let number = bytes_of(alloc, &OwnedValue::U64(258))?;
-    assert_eq!(rt; number.as_slice(), NUMBER);
-    let negative = bytes_of(alloc, &OwnedValue::I64(-2))?;
-    assert_eq!(rt; negative.as_slice(), NEGATIVE);
     Ok(())
 }

@@ -1,0 +1,71 @@
+-- Documents of a store by their places.
+use Rattle.std.proofs.Common.{◌≡◌, ℕ, zero, suc, true, false, List, length, [], ◌∷◌, ◌++◌, Option, Some, None, refl, sym, ap, ◌∙◌}
+use Rattle.std.specs.Prelude.{is_some, nat_eq}
+use Rattle.std.specs.List.{slice_get, list_all, flat_map}
+use Rattle.std.specs.Option.{option_to_list}
+use Rattle.std.proofs.lemmas.Bool.{and_parts, false≢true}
+use Rattle.std.proofs.lemmas.Grind.{flat_map-append}
+use Rattle.std.proofs.lemmas.Option.{none-some, same_Some}
+use Rattle.seg_values.specs.Tree.{Document}
+use Rattle.seg_store.specs.Block.{Block}
+use Rattle.seg_store.specs.Store.{store_parts, raw_documents, documents_of, blocks_of, is_store}
+use Rattle.seg_store.specs.Reader.{counted_at}
+use Rattle.seg_store.specs.StoredDocument.{pair_at, all_read, stored_document_of, is_stored_document}
+use Rattle.seg_store.proofs.DocumentPlaces.{all_stored, blocks_cut, store_facts}
+use Rattle.seg_store.proofs.PassedPairs.{not_none}
+
+first_read : (o : Option Document) (others : List Document) → is_some o ≡ true → slice_get (option_to_list o ++ others) zero ≡ o
+first_read None others some = absurd (false≢true some)
+first_read (Some d) others some = refl
+
+others_read : (o : Option Document) (others : List Document) (i : ℕ) → is_some o ≡ true → slice_get (option_to_list o ++ others) (suc i) ≡ slice_get others i
+others_read None others i some = absurd (false≢true some)
+others_read (Some d) others i some = refl
+
+abbrev read_all : List (List ℕ) → List Document
+read_all raws = flat_map (λ d. option_to_list (stored_document_of d)) raws
+
+read_at : (raws : List (List ℕ)) (i : ℕ) (x : List ℕ) → list_all is_stored_document raws ≡ true → slice_get raws i ≡ Some x → slice_get (read_all raws) i ≡ stored_document_of x
+read_at [] i x all is = absurd (none-some x is)
+read_at (y ∷ ys) zero x all is =
+    first_read (stored_document_of y) (read_all ys) (and_parts (is_stored_document y) (list_all is_stored_document ys) all).0
+    ∙ ap stored_document_of (same_Some y x is)
+read_at (y ∷ ys) (suc i) x all is =
+    let p = and_parts (is_stored_document y) (list_all is_stored_document ys) all in
+    others_read (stored_document_of y) (read_all ys) i p.0 ∙ read_at ys i x p.1 is
+
+documents_are_read : (bs : List Block) → documents_of bs ≡ read_all (raw_documents bs)
+documents_are_read [] = refl
+documents_are_read (b ∷ bs) =
+    ap (λ ds. read_all b ++ ds) (documents_are_read bs) ∙ sym (flat_map-append (λ d. option_to_list (stored_document_of d)) b (raw_documents bs))
+
+-- the document whose stored form is at a place
+pub document_read : (bytes : List ℕ) (doc : ℕ) (x : List ℕ) → is_store bytes ≡ true → slice_get (raw_documents (blocks_of bytes)) doc ≡ Some x → slice_get (documents_of (blocks_of bytes)) doc ≡ stored_document_of x
+document_read bytes doc x h is =
+    let stored : list_all is_stored_document (raw_documents (blocks_of bytes)) ≡ true = ap (λ bs. list_all is_stored_document (raw_documents bs)) (blocks_cut bytes) ∙ all_stored (store_parts bytes) ((store_facts bytes h).blocks) in
+    ap (λ ds. slice_get ds doc) (documents_are_read (blocks_of bytes)) ∙ read_at (raw_documents (blocks_of bytes)) doc x stored is
+
+-- ---- a document by its pairs
+
+pub document_lacks : (bytes : List ℕ) → counted_at pair_at bytes ≡ None → stored_document_of bytes ≡ None
+unfolding stored_document_of
+document_lacks bytes none = ap all_read none
+
+only_whole : (pairs : Document) (left : List ℕ) → nat_eq (length left) 0 ≡ true → all_read (Some (pairs, left)) ≡ Some pairs
+only_whole pairs [] empty = refl
+only_whole pairs (b ∷ left) empty = absurd (false≢true (sym (not_none (length left)) ∙ empty))
+
+left_over : (pairs : Document) (left : List ℕ) → nat_eq (length left) 0 ≡ false → all_read (Some (pairs, left)) ≡ None
+left_over pairs [] some = absurd (false≢true (sym some))
+left_over pairs (b ∷ left) some = refl
+
+pub document_whole : (bytes left : List ℕ) (pairs : Document) → counted_at pair_at bytes ≡ Some (pairs, left) → nat_eq (length left) 0 ≡ true → stored_document_of bytes ≡ Some pairs
+unfolding stored_document_of
+document_whole bytes left pairs is empty = ap all_read is ∙ only_whole pairs left empty
+
+pub document_left_over : (bytes left : List ℕ) (pairs : Document) → counted_at pair_at bytes ≡ Some (pairs, left) → nat_eq (length left) 0 ≡ false → stored_document_of bytes ≡ None
+unfolding stored_document_of
+document_left_over bytes left pairs is some = ap all_read is ∙ left_over pairs left some
+
+pub not_stored : (bytes : List ℕ) → is_stored_document bytes ≡ true → stored_document_of bytes ≡ None → ⊥
+not_stored bytes stored none = false≢true (sym (ap is_some none) ∙ stored)

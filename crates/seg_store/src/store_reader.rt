@@ -1,0 +1,95 @@
+//! The reader of stores.
+ghost use Rattle.std.specs.Prelude.{◌≡◌, ◌<◌, ◌+◌, true, length, take, Some, None, IfOk, IfErr, MatchResult};
+ghost use Rattle.std.specs.List.{slice_get};
+ghost use Rattle.seg_store.specs.Checkpoints.{stored_size};
+ghost use Rattle.seg_store.specs.StoredDocument.{is_stored_document};
+ghost use Rattle.seg_store.specs.Store.{store_of, document_count, raw_documents, documents_of};
+
+use crate::checkpoint::{CHECKPOINT_BYTES, Checkpoint, checkpoint_at};
+use crate::document_reader::document_of;
+use crate::error::StoreError;
+use crate::locating::{checkpoint_table, document_place};
+use crate::store_check::is_store;
+use seg_common::{OwnedBytes, u32_at};
+use seg_values::TantivyDocument;
+use std::alloc::Global;
+use std::marker::Model;
+
+/// Reads the documents of a store out of its bytes, of which nothing is copied. It is seen as the store's blocks.
+#[derive(Drop)]
+pub struct StoreReader {
+    bytes: OwnedBytes,
+}
+
+impl Model for StoreReader {
+    ghost use Rattle.std.specs.Prelude.{◌≡◌, List, true};
+    ghost use Rattle.seg_store.specs.Block.{Block};
+    ghost use Rattle.seg_store.specs.Store.{is_store, blocks_of};
+
+    ghost Value = { List Block };
+
+    ghost view = { λ r. blocks_of r.bytes };
+
+    ghost invariant = { λ r. is_store r.bytes ≡ true };
+}
+
+impl StoreReader {
+    /// The reader of a file, whose bytes are gone over once. It asks for no memory.
+    pub fn open(bytes: OwnedBytes) -> Result<StoreReader, StoreError>
+        ensures { MatchResult result (λ r. store_of bytes ≡ Some r) (λ e. (e ≡ StoreError.Malformed) × (store_of bytes ≡ None)) }
+    {
+        if !is_store(bytes.as_slice()) {
+            return Err(StoreError::Malformed);
+        }
+        Ok(StoreReader { bytes })
+    }
+
+    /// How many documents there are.
+    pub fn num_docs(&self) -> u32
+        ensures counted { result ≡ document_count self.now }
+        ensures documents { result ≡ length (documents_of self.now) }
+    {
+        let bytes = self.bytes.as_slice();
+        u32_at(bytes, bytes.len() - 5)
+    }
+
+    /// How many blocks there are.
+    pub fn block_count(&self) -> usize
+        ensures { result ≡ length self.now }
+    {
+        checkpoint_table(self.bytes.as_slice()).len() / CHECKPOINT_BYTES
+    }
+
+    /// Where a block ends.
+    pub fn checkpoint(&self, index: usize) -> Checkpoint
+        requires { index < length self.now }
+        ensures doc_end { result.doc_end ≡ document_count (take (index + 1) self.now) }
+        ensures byte_end { result.byte_end ≡ stored_size (take (index + 1) self.now) }
+    {
+        checkpoint_at(checkpoint_table(self.bytes.as_slice()), index)
+    }
+
+    /// The bytes that a document is stored as.
+    pub fn raw(&self, doc: u32) -> OwnedBytes
+        requires { doc < document_count self.now }
+        ensures is { slice_get (raw_documents self.now) doc ≡ Some result }
+        ensures stored { is_stored_document result ≡ true }
+    {
+        let (start, end) = document_place(self.bytes.as_slice(), doc);
+        self.bytes.slice(start, end)
+    }
+
+    /// A document, out of its stored bytes.
+    pub fn get(&self, alloc: Global, doc: u32) -> Result<TantivyDocument, StoreError>
+        requires { doc < document_count self.now }
+        ensures ok { IfOk result (λ d. slice_get (documents_of self.now) doc ≡ Some d) }
+        ensures err { IfErr result (λ e. e ≡ StoreError.OutOfMemory) }
+    {
+        let bytes = self.bytes.as_slice();
+        let (start, end) = document_place(bytes, doc);
+        let Some(document) = document_of(alloc, &bytes[start..end])? else {
+            return Err(StoreError::Malformed);
+        };
+        Ok(document)
+    }
+}

@@ -1,0 +1,11 @@
+//! Tests of the public calls of `seg_store`, apart from it, so that they are proved without proving it again.
+#![tactic(auto)]
+
+#[cfg(test)]
+mod damage;
+#[cfg(test)]
+mod read_back;
+#[cfg(test)]
+mod reading;
+#[cfg(test)]
+mod writing;

@@ -1,0 +1,98 @@
+//! Stores that were written by hand, read.
+
+use seg_common::{CommonError, OwnedBytes};
+use seg_store::{Checkpoint, StoreError, StoreReader};
+use std::alloc::Global;
+use std::test::Fail;
+
+/// Two blocks, each of a document with the text `a` in field 0.
+pub(crate) const TWO: &[u8] = &[
+    1, 0, 1, 1, b'a', 5, 0, 0, 0, 0, 0, 0, 0, 1, 0, 0, 0, // the first block
+    1, 0, 1, 1, b'a', 5, 0, 0, 0, 0, 0, 0, 0, 1, 0, 0, 0, // the second block
+    1, 0, 0, 0, 17, 0, 0, 0, 0, 0, 0, 0, // one document, 17 bytes
+    2, 0, 0, 0, 34, 0, 0, 0, 0, 0, 0, 0, // two documents, 34 bytes
+    2, 0, 0, 0, 2, 0, 0, 0, 0, // two blocks, two documents, no compression
+];
+
+/// A block of the documents without a value and with `true` in field 0, and one with a null in field 7.
+const THREE: &[u8] = &[
+    0, 1, 0, 6, 1, // the documents of the first block
+    1, 0, 0, 0, 0, 0, 0, 0, 5, 0, 0, 0, 0, 0, 0, 0, 2, 0, 0, 0, // they end at 1 and at 5
+    1, 7, 0, 3, 0, 0, 0, 0, 0, 0, 0, 1, 0, 0, 0, // the second block
+    2, 0, 0, 0, 25, 0, 0, 0, 0, 0, 0, 0, // two documents, 25 bytes
+    3, 0, 0, 0, 40, 0, 0, 0, 0, 0, 0, 0, // three documents, 40 bytes
+    2, 0, 0, 0, 3, 0, 0, 0, 0, // two blocks, three documents, no compression
+];
+
+/// A store without a block.
+const NONE: &[u8] = &[0, 0, 0, 0, 0, 0, 0, 0, 0];
+
+/// The reader of a file.
+pub(crate) fn open(alloc: Global, bytes: &[u8]) -> Result<StoreReader, StoreError> {
+    match OwnedBytes::new(alloc, bytes) {
+        Ok(bytes) => StoreReader::open(bytes),
+        Err(_) => Err(StoreError::OutOfMemory),
+    }
+}
+
+/// The stored bytes of a document, if there is one.
+fn raw(reader: &StoreReader, doc: u32) -> Option<OwnedBytes> {
+    if doc >= reader.num_docs() {
+        return None;
+    }
+    Some(reader.raw(doc))
+}
+
+/// Where a block ends, if there is one.
+fn checkpoint(reader: &StoreReader, index: usize) -> Option<Checkpoint> {
+    if index >= reader.block_count() {
+        return None;
+    }
+    Some(reader.checkpoint(index))
+}
+
+/// Whether a document has these stored bytes.
+fn has(alloc: Global, reader: &StoreReader, doc: u32, stored: &[u8]) -> Result<bool, CommonError> {
+    let wanted = OwnedBytes::new(alloc, stored)?;
+    Ok(match raw(reader, doc) {
+        Some(raw) => raw == wanted,
+        None => false,
+    })
+}
+
+#[test]
+fn documents_are_found(rt: HostRuntime) -> Result<(), Fail> {
+    let alloc = rt.alloc();
+    let reader = open(alloc, THREE)?;
+    assert_eq!(rt; reader.num_docs(), 3);
+    assert!(rt; has(alloc, &reader, 0, &[0])?);
+    assert!(rt; has(alloc, &reader, 1, &[1, 0, 6, 1])?);
+    assert!(rt; has(alloc, &reader, 2, &[1, 7, 0])?);
+    Ok(())
+}
+
+#[test]
+fn checkpoints_are_told(rt: HostRuntime) -> Result<(), Fail> {
+    let reader = open(rt.alloc(), THREE)?;
+    assert_eq!(rt; reader.block_count(), 2);
+    let first = Checkpoint {
+        doc_end: 2,
+        byte_end: 25,
+    };
+    assert_eq!(rt; checkpoint(&reader, 0), Some(first));
+    let second = Checkpoint {
+        doc_end: 3,
+        byte_end: 40,
+    };
+    assert_eq!(rt; checkpoint(&reader, 1), Some(second));
+    assert_eq!(rt; checkpoint(&reader, 2), None);
+    Ok(())
+}
+
+#[test]
+fn a_store_may_be_empty(rt: HostRuntime) -> Result<(), Fail> {
+    let reader = open(rt.alloc(), NONE)?;
+    assert_eq!(rt; reader.num_docs(), 0);
+    assert_eq!(rt; reader.block_count(), 0);
+    Ok(())
+}
