@@ -21,7 +21,7 @@ use Rattle.seg_postings.specs.Written.{recorded_as}
 use Rattle.seg_postings.specs.Field.{term_at, terms_at}
 use Rattle.seg_postings.specs.FieldWriting.{TermWritten, fresh, with_term, with_document, closed, next_document, MayOccur}
 use Rattle.seg_postings.specs.FieldParts.{last_document, occurrence_form, open_term, writing, IsOpenTerm, AreParts}
-use Rattle.seg_postings.proofs.FieldTerms.{term_in, terms_at-front, within-more, within-push, terms_at-push, occurs-push}
+use Rattle.seg_postings.proofs.TermsRead.{term_in, terms_at-front, within-more, within-push, terms_at-push, occurs-push}
 use Rattle.seg_postings.proofs.OpenSteps.{count_form_is, position_form_is, is_of_kind, documents_form-push, positions_form-push, last_document-push, next_document-push, writable-push, last_before_next}
 use Rattle.seg_postings.proofs.PostingsBack.{term_back}
 

@@ -1,7 +1,5 @@
 -- Changes of one field among all.
-use Rattle.std.proofs.Common.{◌≡◌, ℕ, zero, suc, ◌<◌, ◌≤◌, Some, None, sym, List, [], ◌∷◌, length, map, take, drop, ◌++◌, Option, option_map, refl, ap, arith, slice_index_or, slice_set}
-use Rattle.std.specs.Prelude.{IfSome, option_and_then, slice_get}
-use Rattle.std.proofs.lemmas.Option.{none-some}
+use Rattle.std.proofs.Common.{◌≡◌, ℕ, zero, suc, ◌<◌, List, [], ◌∷◌, length, map, take, drop, ◌++◌, Option, option_map, ap, arith, slice_index_or, slice_set}
 use Rattle.seg_postings.specs.FieldNorms.{at_field}
 
 pub set_is_at_field : (change : List ℕ → List ℕ) (fields : List (Option (List ℕ))) (field : ℕ) (d changed : Option (List ℕ)) → field < length fields → changed ≡ option_map change (slice_index_or fields field d) → slice_set fields field changed ≡ at_field field change fields

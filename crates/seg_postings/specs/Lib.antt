@@ -1,9 +1,15 @@
 pub mod Field
 pub mod FieldNorms
 pub mod FieldParts
+pub mod FieldReading
 pub mod FieldWriting
 pub mod Files
+pub mod HeldTerms
 pub mod Kinds
+pub mod Passing
+pub mod NormsRead
 pub mod Postings
 pub mod PostingsForm
+pub mod PostingsLeft
+pub mod PostingsReading
 pub mod Written

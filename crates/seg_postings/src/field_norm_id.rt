@@ -263,14 +263,14 @@ const LENGTHS: [u32; 256] = [
 ];
 
 /// The length that an id stands for.
-pub fn id_to_fieldnorm(id: u8) -> u32
+pub(crate) fn id_to_fieldnorm(id: u8) -> u32
     ensures { result ≡ norms.length_of_id id }
 {
     LENGTHS[id as usize]
 }
 
 /// The id of a length: the greatest whose length is at most it.
-pub fn fieldnorm_to_id(length: u32) -> u8
+pub(crate) fn fieldnorm_to_id(length: u32) -> u8
     ensures { result ≡ norms.length_id length }
 {
     match LENGTHS.binary_search(&length) {

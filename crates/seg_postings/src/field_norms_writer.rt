@@ -93,7 +93,7 @@ impl FieldNormsWriter {
 }
 
 /// Whether a field has lengths.
-fn has_lengths(entry: &FieldEntry) -> bool
+pub(crate) fn has_lengths(entry: &FieldEntry) -> bool
     ensures { result ≡ fields.has_lengths entry.now }
 {
     is_indexed(entry) && entry.norms

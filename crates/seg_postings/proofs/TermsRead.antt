@@ -56,7 +56,7 @@ pub record Both (first : Option TermWritten) (others : Option (List TermWritten)
   pub are_others : others ≡ Some ws
   pub are_all : w ∷ ws ≡ all
 
-both : (first : Option TermWritten) (others : Option (List TermWritten)) (all : List TermWritten) → joined first others ≡ Some all → Both first others all
+pub both : (first : Option TermWritten) (others : Option (List TermWritten)) (all : List TermWritten) → joined first others ≡ Some all → Both first others all
 both None others all h = absurd (none-some all h)
 both (Some w) None all h = absurd (none-some all h)
 both (Some w) (Some ws) all h = record { w = w; ws = ws; is_first = refl; are_others = refl; are_all = some_is h }

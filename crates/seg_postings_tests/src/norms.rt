@@ -1,12 +1,11 @@
-//! Runs of each public call, with ample memory, and vectors of bytes.
+//! Lengths in one byte, and their file as it is written and read, with ample memory and by vectors of bytes.
 ghost use Rattle.std.specs.Prelude.{◌≡◌, true, IfOk};
 ghost use Rattle.seg_values.specs.Names.{is_allowed};
 
-use crate::{
-    FieldNormsSerializer, FieldNormsWriter, PostingsError, fieldnorm_to_id, id_to_fieldnorm,
-};
 use seg_common::{DateTimePrecision, OwnedBytes};
-use seg_directory::CompositeFile;
+use seg_postings::{
+    FieldNormReader, FieldNormReaders, FieldNormsSerializer, FieldNormsWriter, PostingsError,
+};
 use seg_values::{Field, FieldEntry, FieldKind, IndexOption, Schema, SchemaBuilder, TResult, Text};
 use std::alloc::{AllocError, Global};
 use std::test::Fail;
@@ -27,8 +26,8 @@ const LENGTHS: &[(u32, u8, u32)] = &[
 #[test]
 fn lengths_in_one_byte(rt: HostRuntime) -> Result<(), Fail> {
     for (length, id, shorter) in LENGTHS {
-        assert_eq!(rt; fieldnorm_to_id(*length), *id);
-        assert_eq!(rt; id_to_fieldnorm(*id), *shorter);
+        assert_eq!(rt; FieldNormReader::fieldnorm_to_id(*length), *id);
+        assert_eq!(rt; FieldNormReader::id_to_fieldnorm(*id), *shorter);
     }
     Ok(())
 }
@@ -90,10 +89,20 @@ fn file_of_lengths(alloc: Global, schema: &Schema) -> Result<Vec<u8>, PostingsEr
     file.close()
 }
 
-fn part(alloc: Global, file: &[u8], field: u32) -> Option<OwnedBytes> {
-    let bytes = OwnedBytes::new(alloc, file).ok()?;
-    let file = CompositeFile::open(bytes).ok()?;
-    file.open_read(Field::from_field_id(field))
+fn readers(alloc: Global, file: &[u8]) -> Result<FieldNormReaders, PostingsError> {
+    let Ok(bytes) = OwnedBytes::new(alloc, file) else {
+        return Err(PostingsError::OutOfMemory);
+    };
+    FieldNormReaders::open(bytes)
+}
+
+/// The id of a document in a field, and the length that it stands for, where the field has one of it.
+fn id_and_length(readers: &FieldNormReaders, field: u32, doc: u32) -> Option<(u8, u32)> {
+    let reader = readers.get_field(Field::from_field_id(field))?;
+    if (doc as usize) < reader.num_docs() {
+        return Some((reader.fieldnorm_id(doc), reader.fieldnorm(doc)));
+    }
+    None
 }
 
 #[test]
@@ -103,9 +112,38 @@ fn lengths_of_fields(rt: HostRuntime) -> Result<(), Fail> {
         .ok()
         .ok_or("its fields")?;
     assert_eq!(rt; fields.as_slice(), [Field::from_field_id(1)].as_slice());
-    let file = file_of_lengths(rt.alloc(), &schema).ok().ok_or("a file")?;
-    let ids = part(rt.alloc(), &file, 1).ok_or("a part")?;
-    assert_eq!(rt; ids.as_slice(), [2, 0, 40, 0].as_slice());
-    assert!(rt; part(rt.alloc(), &file, 0).is_none());
+    let file = file_of_lengths(rt.alloc(), &schema)?;
+    let read = readers(rt.alloc(), &file)?;
+    assert_eq!(rt; id_and_length(&read, 1, 0), Some((2, 2)));
+    assert_eq!(rt; id_and_length(&read, 1, 1), Some((0, 0)));
+    assert_eq!(rt; id_and_length(&read, 1, 2), Some((40, 40)));
+    assert_eq!(rt; id_and_length(&read, 1, 4), None);
+    assert_eq!(rt; id_and_length(&read, 0, 0), None);
+    Ok(())
+}
+
+#[test]
+fn the_file_fits_its_schema(rt: HostRuntime) -> Result<(), Fail> {
+    let schema = two_fields(rt.alloc()).ok().ok_or("a schema")?;
+    let file = file_of_lengths(rt.alloc(), &schema)?;
+    let read = readers(rt.alloc(), &file)?;
+    assert!(rt; read.fit(&schema, 4));
+    assert!(rt; !read.fit(&schema, 3));
+    assert!(rt; !read.fit(&schema, 5));
+    assert!(rt; !read.fit(&SchemaBuilder::new(rt.alloc()).build(), 4));
+    Ok(())
+}
+
+#[test]
+fn a_file_without_parts(rt: HostRuntime) -> Result<(), Fail> {
+    let schema = two_fields(rt.alloc()).ok().ok_or("a schema")?;
+    let file = FieldNormsSerializer::new(rt.alloc()).close()?;
+    let read = readers(rt.alloc(), &file)?;
+    assert!(rt; !read.fit(&schema, 0));
+    assert!(rt; read.fit(&SchemaBuilder::new(rt.alloc()).build(), 4));
+    assert_eq!(rt;
+        readers(rt.alloc(), &[]).err(),
+        Some(PostingsError::Malformed)
+    );
     Ok(())
 }

@@ -1,0 +1,137 @@
+-- The terms of a field that is read, as a map.
+use Rattle.std.proofs.Common.{◌≡◌, ℕ, zero, suc, ◌+◌, ◌<◌, ◌≤◌, Bool, true, false, cond, T, ◌&&◌, List, [], ◌∷◌, map, length, drop, slice_range, Option, Some, None, refl, sym, ap, ◌∙◌, subst, arith}
+use Rattle.std.specs.Prelude.{option_map, option_and_then}
+use Rattle.std.specs.FinMap.Entries.{below_all}
+use Rattle.std.specs.FinMap.{find, is_sorted, entries-from_sorted, get-from_sorted, slice_cmp-IsAntisymmetric, nat_cmp-IsAntisymmetric}
+use Rattle.std.specs.List.{AllByRecursion, range_with_len}
+use Rattle.std.specs.List.Sorted.{IsStrictlySortedBy}
+use Rattle.std.specs.Ordering.{nat_cmp, is_lt, is_eq, eq_by_cmp}
+use Rattle.std.specs.Cmp.Lexicographic.{slice_cmp}
+use Rattle.std.specs.declared.cmp.Ordering.{Ordering}
+use Rattle.std.specs.declared.cmp.Ordering.TheVariants.{Less, Equal, Greater}
+use Rattle.std.proofs.lemmas.Bool.{false≢true}
+use Rattle.seg_values.specs.declared.schema.FieldEntry.{FieldEntry}
+use Rattle.seg_values.specs.declared.schema.FieldKind.{FieldKind}
+use Rattle.seg_values.specs.declared.schema.FieldKind.TheVariants.{Text}
+use Rattle.seg_model.specs.Fields.{is_text, is_json, is_facet}
+use Rattle.seg_model.specs.Reading.{Posting, term_option}
+use Rattle.seg_model.specs.Shape.{ArePostings, IsTermWith}
+use Rattle.seg_termdict.specs.Dictionary.{Term, AreKeys, key_of, term_of, terms_in, terms_of, IsDictionary}
+use Rattle.seg_termdict.proofs.KeyOrder.{rising}
+use Rattle.seg_postings.specs.Postings.{TermPostings, term_postings}
+use Rattle.seg_postings.specs.Field.{term_at, terms_at, IsField}
+use Rattle.seg_postings.specs.FieldWriting.{TermWritten}
+use Rattle.seg_postings.specs.HeldTerms.{TermsReadHaveShape}
+use Rattle.seg_postings.specs.Kinds.{kind_of}
+use Rattle.seg_postings.proofs.ReadRising.{after, mapped, read_rise}
+
+-- a term with its postings
+abbrev entry_of : TermWritten → List ℕ × List Posting
+entry_of t = (t.bytes, t.postings)
+
+-- ---- keys
+
+-- the keys of what is read are those of the dictionary
+keys_kept : (postings positions : List ℕ) (ts : List Term) (ws : List TermWritten) → terms_at postings positions ts ≡ Some ws → map (λ (e : List ℕ × List Posting). e.0) (map entry_of ws) ≡ map (λ (t : Term). t.0) ts
+unfolding terms_at
+keys_kept postings positions [] ws e = let same : [] ≡ ws = cc in ap (λ (xs : List TermWritten). map (λ (e : List ℕ × List Posting). e.0) (map entry_of xs)) (sym same)
+keys_kept postings positions (t ∷ ts) ws e =
+    let w = after _ (term_at postings positions t) ws e in
+    let rest = mapped _ (terms_at postings positions ts) ws w.next in
+    let p = mapped _ (term_postings t.1.doc_freq (slice_range postings t.1.postings_start t.1.postings_end) (slice_range positions t.1.positions_start t.1.positions_end)) w.value w.is in
+    let key : w.value.bytes ≡ t.0 = ap (λ (x : TermWritten). x.bytes) (sym p.same) in
+    let others = keys_kept postings positions ts rest.value rest.is in
+    ap (λ (xs : List TermWritten). map (λ (e : List ℕ × List Posting). e.0) (map entry_of xs)) (sym rest.same) ∙ (λ i. key i ∷ others i)
+
+module _ (ends keys infos : List ℕ) (count : ℕ) (are : AreKeys ends keys count) where
+  above : (i from n : ℕ) → i < from → from + n ≤ count → AllByRecursion (λ y. slice_cmp nat_cmp (key_of ends keys i) y ≡ Less) (map (λ (t : Term). t.0) (map (term_of ends keys infos) (range_with_len from n)))
+  above i from zero lt le = tt
+  above i from (suc n) lt le = (rising ends keys count are i from lt (omega (arith, le)), above i (from + 1) n (omega (arith, lt)) (omega (arith, le)))
+
+  sorted_from : (from n : ℕ) → from + n ≤ count → IsStrictlySortedBy (slice_cmp nat_cmp) (map (λ (t : Term). t.0) (map (term_of ends keys infos) (range_with_len from n)))
+  unfolding IsStrictlySortedBy
+  sorted_from from zero le = tt
+  sorted_from from (suc n) le = (above from (from + 1) n (omega arith) (omega (arith, le)), sorted_from (from + 1) n (omega (arith, le)))
+
+-- the keys of a dictionary strictly rise
+dictionary_sorted : (bytes : List ℕ) → IsDictionary bytes → IsStrictlySortedBy (slice_cmp nat_cmp) (map (λ (t : Term). t.0) (terms_of bytes))
+unfolding terms_of terms_in
+dictionary_sorted bytes d = sorted_from _ _ _ _ d.keys 0 _ (omega arith)
+
+same_key : (q k : List ℕ) → eq_by_cmp (slice_cmp nat_cmp) q k ≡ true → k ≡ q
+same_key q k h = by (slice_cmp nat_cmp q k) refl h
+  where
+    by : (r : Ordering) → slice_cmp nat_cmp q k ≡ r → is_eq r ≡ true → k ≡ q
+    by Less e h = absurd (false≢true h)
+    by Equal e h = sym (slice_cmp-IsAntisymmetric nat_cmp-IsAntisymmetric q k e)
+    by Greater e h = absurd (false≢true h)
+
+module _ {Y : Type 0} where
+  -- entries whose keys strictly rise are sorted
+  is_sorted-rising : (es : List (List ℕ × Y)) → IsStrictlySortedBy (slice_cmp nat_cmp) (map (λ e. e.0) es) → is_sorted (slice_cmp nat_cmp) es ≡ true
+  unfolding IsStrictlySortedBy
+  is_sorted-rising [] h = refl
+  is_sorted-rising (e ∷ es) h = both (all es h.0) (is_sorted-rising es h.1)
+    where
+      both : {a b : Bool} → a ≡ true → b ≡ true → (a && b) ≡ true
+      both {a} {b} p q = ap (λ x. x && b) p ∙ q
+
+      all : (fs : List (List ℕ × Y)) → AllByRecursion (λ y. slice_cmp nat_cmp e.0 y ≡ Less) (map (λ f. f.0) fs) → below_all (slice_cmp nat_cmp) e.0 fs ≡ true
+      all [] h = refl
+      all (f ∷ fs) h = both (ap is_lt h.0) (all fs h.1)
+
+  -- what holds of each entry holds of the one that is found
+  of_found : (P : List ℕ × Y → Type 0) (q : List ℕ) (es : List (List ℕ × Y)) (x : Y) → AllByRecursion P es → find (slice_cmp nat_cmp) q es ≡ Some x → P (q, x)
+  of_found P q [] x all h = absurd (cc h)
+  of_found P q (e ∷ es) x all h = by (eq_by_cmp (slice_cmp nat_cmp) q e.0) refl h (λ other. of_found P q es x all.1 other)
+    where
+      by : (b : Bool) → eq_by_cmp (slice_cmp nat_cmp) q e.0 ≡ b → cond b (Some e.1) (find (slice_cmp nat_cmp) q es) ≡ Some x → (find (slice_cmp nat_cmp) q es ≡ Some x → P (q, x)) → P (q, x)
+      by true t h later =
+          let same : e.1 ≡ x = cc in
+          subst (λ k. P (k, x)) (same_key q e.0 t) (subst (λ y. P (e.0, y)) same all.0)
+      by false t h later = later h
+
+-- ---- shape
+
+not_json : (kind : FieldKind) → is_text kind ≡ true → is_json kind ≡ true → ⊥
+not_json Text t j = false≢true j
+not_json other t j = false≢true t
+
+not_facet : (kind : FieldKind) → is_text kind ≡ true → is_facet kind ≡ true → ⊥
+not_facet Text t j = false≢true j
+not_facet other t j = false≢true t
+
+module _ (entry : FieldEntry) (documents : ℕ) (text : is_text entry.kind ≡ true) where
+  each : (postings positions : List ℕ) (ts : List Term) (ws : List TermWritten) → terms_at postings positions ts ≡ Some ws → AllByRecursion (λ (t : TermWritten). t.kind ≡ kind_of (term_option entry t.bytes)) ws → AllByRecursion (λ (t : TermWritten). AllByRecursion (λ (p : Posting). p.document < documents) t.postings) ws → AllByRecursion (λ (t : TermWritten). 0 < length t.postings) ws → AllByRecursion (λ (e : List ℕ × List Posting). IsTermWith entry documents e.0 e.1) (map entry_of ws)
+  unfolding terms_at
+  each postings positions [] ws e kinds low occur = let same : [] ≡ ws = cc in subst (λ (xs : List TermWritten). AllByRecursion (λ (x : List ℕ × List Posting). IsTermWith entry documents x.0 x.1) (map entry_of xs)) same tt
+  each postings positions (t ∷ ts) ws e kinds low occur =
+      let w = after _ (term_at postings positions t) ws e in
+      let rest = mapped _ (terms_at postings positions ts) ws w.next in
+      let p = mapped _ (term_postings t.1.doc_freq (slice_range postings t.1.postings_start t.1.postings_end) (slice_range positions t.1.positions_start t.1.positions_end)) w.value w.is in
+      let ks = subst (AllByRecursion (λ (x : TermWritten). x.kind ≡ kind_of (term_option entry x.bytes))) (sym rest.same) kinds in
+      let ls = subst (AllByRecursion (λ (x : TermWritten). AllByRecursion (λ (q : Posting). q.document < documents) x.postings)) (sym rest.same) low in
+      let os = subst (AllByRecursion (λ (x : TermWritten). 0 < length x.postings)) (sym rest.same) occur in
+      let kind : p.value.kind ≡ kind_of (term_option entry w.value.bytes) = ap (λ (x : TermWritten). x.kind) p.same ∙ ks.0 in
+      let same : p.value.postings ≡ w.value.postings = ap (λ (x : TermWritten). x.postings) p.same in
+      let rises = read_rise documents (term_option entry w.value.bytes) t.1.doc_freq (slice_range postings t.1.postings_start t.1.postings_end) (slice_range positions t.1.positions_start t.1.positions_end) p.value p.is kind (subst (AllByRecursion (λ (q : Posting). q.document < documents)) (sym same) ls.0) in
+      subst (λ (xs : List TermWritten). AllByRecursion (λ (x : List ℕ × List Posting). IsTermWith entry documents x.0 x.1) (map entry_of xs)) rest.same (
+        record {
+          form = record { json = λ j. absurd (not_json entry.kind text j); facet = λ f. absurd (not_facet entry.kind text f) };
+          occurs = os.0;
+          postings_ascend = subst (ArePostings (term_option entry w.value.bytes) 0 documents) same rises;
+        },
+        each postings positions ts rest.value rest.is ks.1 ls.1 os.1,
+      )
+
+pub read_have_shape : TermsReadHaveShape
+read_have_shape entry documents dictionary postings positions total written text by =
+    let f = by.spells in
+    let keys : map (λ (e : List ℕ × List Posting). e.0) (map entry_of written) ≡ map (λ (t : Term). t.0) (terms_of dictionary) = keys_kept _ _ (terms_of dictionary) written f.read in
+    let rise = subst (IsStrictlySortedBy (slice_cmp nat_cmp)) (sym keys) (dictionary_sorted dictionary f.is_dictionary) in
+    let sorted : T (is_sorted (slice_cmp nat_cmp) (map entry_of written)) = subst T (sym (is_sorted-rising (map entry_of written) rise)) tt in
+    let all = each entry documents text _ _ (terms_of dictionary) written f.read by.kinds by.low f.occur in
+    record {
+      are = sym (entries-from_sorted (slice_cmp nat_cmp) (map entry_of written) sorted);
+      shape = λ term ps found. of_found (λ (e : List ℕ × List Posting). IsTermWith entry documents e.0 e.1) term (map entry_of written) ps all (sym (get-from_sorted (slice_cmp nat_cmp) (map entry_of written) term sorted) ∙ found);
+    }

@@ -1,0 +1,56 @@
+-- Terms of a dictionary, checked one by one.
+use Rattle.std.proofs.Common.{◌≡◌, ℕ, zero, suc, ◌+◌, ◌<◌, ◌≤◌, ◌&&◌, Bool, true, false, List, [], ◌∷◌, length, get_or, drop, Option, Some, sym, ap, ◌∙◌, arith, subst, slice_range}
+use Rattle.std.specs.Prelude.{nat_lt, IsSomeAnd, slice_get}
+use Rattle.std.specs.List.{list_all, AllByRecursion}
+use Rattle.std.proofs.lemmas.List.{at_drop_more, at_drop_all}
+use Rattle.std.proofs.lemmas.Option.{slice_get-get_or}
+use Rattle.seg_common.specs.declared.term_info.TermInfo.{TermInfo}
+use Rattle.seg_termdict.specs.Dictionary.{Term}
+use Rattle.seg_postings.specs.declared.record_kind.RecordKind.{RecordKind}
+use Rattle.seg_postings.specs.Postings.{term_postings}
+use Rattle.seg_postings.specs.PostingsLeft.{is_term_of}
+use Rattle.seg_postings.specs.FieldParts.{LiesWithin}
+use Rattle.seg_postings.specs.FieldReading.{FieldRules, kind_by, is_read}
+
+-- what holds of each holds at each place
+pub at_place : {X : Type 0} (P : X → Type 0) (xs : List X) (i : ℕ) (d : X) → AllByRecursion P xs → i < length xs → P (get_or xs i d)
+at_place P [] i d all lt = absurd (omega (arith, lt))
+at_place P (x ∷ xs) zero d all lt = all.0
+at_place P (x ∷ xs) (suc i) d all lt = at_place P xs i d all.1 (omega (arith, lt))
+
+-- an info at a place lies within what all lie within
+pub info_within : (m n : ℕ) (terms : List Term) (i : ℕ) (info : TermInfo) → AllByRecursion (LiesWithin m n) terms → i < length terms → IsSomeAnd (slice_get terms i) (λ t. t.1 ≡ info) → LiesWithin m n ([], info)
+info_within m n terms i info all lt has =
+    let d : Term = ([], info) in
+    let is : (get_or terms i d).1 ≡ info = subst (λ (o : Option Term). IsSomeAnd o (λ t. t.1 ≡ info)) (slice_get-get_or terms i d lt) has in
+    subst (λ (x : TermInfo). LiesWithin m n ([], x)) is (at_place (LiesWithin m n) terms i d all lt)
+
+module _ (rules : FieldRules) (postings positions : List ℕ) where
+  -- whether an info is as the kind asks
+  abbrev pub is_info_of : RecordKind → TermInfo → Bool
+  is_info_of kind info = nat_lt 0 info.doc_freq && is_term_of kind rules.max_doc (term_postings info.doc_freq (slice_range postings info.postings_start info.postings_end) (slice_range positions info.positions_start info.positions_end))
+
+  module _ (terms : List Term) (i : ℕ) (kind : RecordKind) (info : TermInfo) (lt : i < length terms) (asked : IsSomeAnd (slice_get terms i) (λ t. kind ≡ kind_by rules t.0)) (has : IsSomeAnd (slice_get terms i) (λ t. t.1 ≡ info)) where
+    abbrev here : Term
+    here = get_or terms i ([], info)
+
+    is_here : slice_get terms i ≡ Some here
+    is_here = slice_get-get_or terms i ([], info) lt
+
+    one : is_read rules postings positions here ≡ is_info_of kind info
+    one =
+        let k : kind ≡ kind_by rules here.0 = subst (λ (o : Option Term). IsSomeAnd o (λ t. kind ≡ kind_by rules t.0)) is_here asked in
+        let v : here.1 ≡ info = subst (λ (o : Option Term). IsSomeAnd o (λ t. t.1 ≡ info)) is_here has in
+        ap (λ x. is_info_of x here.1) (sym k) ∙ ap (is_info_of kind) v
+
+    more : list_all (is_read rules postings positions) (drop i terms) ≡ (is_info_of kind info && list_all (is_read rules postings positions) (drop (i + 1) terms))
+    more = at_drop_more (list_all (is_read rules postings positions)) terms i ([], info) lt ∙ ap (λ b. b && list_all (is_read rules postings positions) (drop (i + 1) terms)) one
+
+    pub turn : is_info_of kind info ≡ true → list_all (is_read rules postings positions) (drop (i + 1) terms) ≡ list_all (is_read rules postings positions) (drop i terms)
+    turn good = sym (more ∙ ap (λ b. b && list_all (is_read rules postings positions) (drop (i + 1) terms)) good)
+
+    pub stops : is_info_of kind info ≡ false → list_all (is_read rules postings positions) (drop i terms) ≡ false
+    stops bad = more ∙ ap (λ b. b && list_all (is_read rules postings positions) (drop (i + 1) terms)) bad
+
+  pub all_checked : (terms : List Term) (i : ℕ) → length terms ≤ i → list_all (is_read rules postings positions) (drop i terms) ≡ true
+  all_checked terms i past = at_drop_all (list_all (is_read rules postings positions)) terms i past

@@ -1,0 +1,81 @@
+//! Which kind the entry of a field asks its terms for.
+ghost use Rattle.std.specs.Prelude.{◌≡◌, ◌<◌, length, IfOk, IfErr, IsSomeAnd, slice_get};
+ghost use Rattle.seg_model.specs.Reading as reading;
+ghost use Rattle.seg_postings.specs.Kinds as kinds;
+ghost use Rattle.seg_postings.specs.FieldReading.{asked_kind};
+
+use crate::error::PostingsError;
+use crate::record_kind::RecordKind;
+use seg_termdict::{TermDictionary, TermOrdinal};
+use seg_values::{FieldEntry, FieldKind, IndexOption};
+
+/// What a field is, and what its texts record.
+#[derive(Clone, Copy)]
+pub(crate) struct AskedKind {
+    pub kind: FieldKind,
+    pub index: IndexOption,
+}
+
+impl AskedKind {
+    /// The kind that the term at a place is asked for. A JSON field is asked by the bytes of the term, which `key` takes.
+    pub(crate) fn of_term(
+        self,
+        terms: &TermDictionary,
+        ord: TermOrdinal,
+        key: &mut Vec<u8>,
+    ) -> Result<RecordKind, PostingsError>
+        requires { ord < length terms.now }
+        ensures ok { IfOk result (λ kind. IsSomeAnd (slice_get terms.now ord) (λ t. kind ≡ asked_kind self.kind self.index t.0)) }
+        ensures err { IfErr result (λ e. e ≡ PostingsError.OutOfMemory) }
+    {
+        match self.kind {
+            FieldKind::Text => Ok(recorded_kind(self.index)),
+            FieldKind::Json => {
+                let Ok(_) = terms.ord_to_term(ord, key) else {
+                    return Err(PostingsError::OutOfMemory);
+                };
+                Ok(json_kind(self.index, key))
+            }
+            _ => Ok(RecordKind::Documents),
+        }
+    }
+}
+
+/// The kind that keeps what an option says.
+fn recorded_kind(index: IndexOption) -> RecordKind
+    ensures { result ≡ kinds.kind_of index }
+{
+    match index {
+        IndexOption::No => RecordKind::Documents,
+        IndexOption::Basic => RecordKind::Documents,
+        IndexOption::Freqs => RecordKind::Counts,
+        IndexOption::Positions => RecordKind::Positions,
+    }
+}
+
+/// The kind of a term of a JSON field: a text's is what the option says, and all others keep their documents alone.
+fn json_kind(index: IndexOption, key: &[u8]) -> RecordKind
+    ensures { result ≡ asked_kind FieldKind.Json index key.now }
+{
+    if type_code(key) == b's' {
+        recorded_kind(index)
+    } else {
+        RecordKind::Documents
+    }
+}
+
+/// The byte behind the first byte 0; 0 if there is none.
+fn type_code(bytes: &[u8]) -> u8
+    ensures { result ≡ reading.type_code bytes.now }
+{
+    for at in 0..bytes.len() {
+        if bytes[at] == 0 {
+            return if at + 1 < bytes.len() {
+                bytes[at + 1]
+            } else {
+                0
+            };
+        }
+    }
+    0
+}

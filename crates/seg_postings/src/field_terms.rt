@@ -1,0 +1,107 @@
+//! The dictionary of a field, which is opened first.
+ghost use Rattle.std.specs.Prelude.{◌≡◌, ℕ, List, length, IfOk, IfErr};
+ghost use Rattle.std.specs.List.{list_all, AllByRecursion};
+ghost use Rattle.seg_termdict.specs.Dictionary.{IsDictionary, terms_of};
+ghost use Rattle.seg_postings.specs.FieldParts.{LiesWithin};
+ghost use Rattle.seg_postings.specs.FieldWriting.{TermWritten};
+ghost use Rattle.seg_postings.specs.FieldReading.{rules_of, IsFieldBy, is_read};
+
+use crate::asked_kind::AskedKind;
+use crate::error::PostingsError;
+use crate::field_postings::FieldPostings;
+use crate::terms_check::are_terms;
+use seg_common::OwnedBytes;
+use seg_termdict::TermDictionary;
+use seg_values::FieldEntry;
+use std::alloc::Global;
+use std::marker::Model;
+
+/// A field of which the dictionary is open. It is seen as the bytes of the dictionary, and the rules by which the entry
+/// of the field and the number of documents say what its postings may be.
+#[derive(Drop)]
+pub struct FieldTerms {
+    alloc: Global,
+    bytes: OwnedBytes,
+    terms: TermDictionary,
+    asked: AskedKind,
+    max_doc: u32,
+}
+
+impl Model for FieldTerms {
+    ghost use Rattle.std.specs.Prelude.{◌≡◌};
+    ghost use Rattle.seg_termdict.specs.Dictionary.{IsDictionary, terms_of};
+    ghost use Rattle.seg_postings.specs.FieldReading.{FirstPart};
+
+    ghost Value = { FirstPart };
+
+    ghost view = { λ f. record { dictionary = f.bytes; rules = record { kind = f.asked.kind; index = f.asked.index; max_doc = f.max_doc } } };
+
+    ghost invariant = { λ f. IsDictionary f.bytes × (f.terms ≡ terms_of f.bytes) };
+}
+
+impl FieldTerms {
+    /// Opens the dictionary of the field with this entry, in a segment of `max_doc` documents. Memory is taken for a
+    /// JSON field alone, for one term at a time.
+    pub fn open(
+        alloc: Global,
+        terms: OwnedBytes,
+        entry: &FieldEntry,
+        max_doc: u32,
+    ) -> Result<FieldTerms, PostingsError>
+        ensures ok { IfOk result (λ field. IsDictionary terms × (field ≡ record { dictionary = terms; rules = rules_of entry.now max_doc })) }
+        ensures err { IfErr result (λ e. (e ≡ PostingsError.Malformed) × (IsDictionary terms → ⊥)) }
+    {
+        let bytes = terms.share();
+        let Ok(terms) = TermDictionary::open(terms) else {
+            return Err(PostingsError::Malformed);
+        };
+        let asked = AskedKind {
+            kind: entry.kind,
+            index: entry.index,
+        };
+        Ok(FieldTerms {
+            alloc,
+            bytes,
+            terms,
+            asked,
+            max_doc,
+        })
+    }
+
+    /// Goes on with the postings. `Malformed`: no positions complete these parts to a field.
+    pub fn with_postings(self, postings: OwnedBytes) -> Result<FieldPostings, PostingsError>
+        ensures ok { IfOk result (λ field. field ≡ record { dictionary = self.dictionary; postings = postings; rules = self.rules }) }
+        ensures err { IfErr result (λ e. (e ≡ PostingsError.Malformed) × ((positions : List ℕ) (total : ℕ) (terms : List TermWritten) → IsFieldBy self.rules self.dictionary postings positions total terms → ⊥)) }
+    {
+        FieldPostings::new(self, postings)
+    }
+
+    pub(crate) fn terms(&self) -> &TermDictionary
+        ensures terms { result.now ≡ terms_of self.now.dictionary }
+        ensures dictionary { IsDictionary self.now.dictionary }
+    {
+        &self.terms
+    }
+
+    /// Whether each term can be read as the rules ask.
+    pub(crate) fn are_terms(&self, postings: &[u8], positions: &[u8]) -> Result<bool, PostingsError>
+        requires within { AllByRecursion (LiesWithin (length postings.now) (length positions.now)) (terms_of self.now.dictionary) }
+        ensures ok { IfOk result (λ all. all ≡ list_all (is_read self.now.rules postings.now positions.now) (terms_of self.now.dictionary)) }
+        ensures err { IfErr result (λ e. e ≡ PostingsError.OutOfMemory) }
+    {
+        are_terms(
+            self.alloc,
+            &self.terms,
+            self.asked,
+            self.max_doc,
+            postings,
+            positions,
+        )
+    }
+
+    pub(crate) fn into_terms(self) -> TermDictionary
+        ensures { result ≡ terms_of self.dictionary }
+    {
+        self.terms
+    }
+}

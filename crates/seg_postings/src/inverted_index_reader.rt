@@ -1,0 +1,86 @@
+//! A field that is open.
+ghost use Rattle.std.specs.Prelude.{◌≡◌, map, length};
+ghost use Rattle.std.specs.List.{AllByRecursion, Any};
+ghost use Rattle.seg_postings.specs.FieldReading.{IsReadable, read_term, dictionary_terms};
+
+use crate::range::bytes_in;
+use crate::segment_postings::SegmentPostings;
+use seg_common::{OwnedBytes, TermInfo};
+use seg_termdict::TermDictionary;
+use std::marker::Model;
+
+/// The terms of a field with their postings, in the bytes that they were written to. It is seen as the total of the
+/// field's tokens, and its terms, each with its info and its postings.
+#[derive(Drop)]
+pub struct InvertedIndexReader {
+    terms: TermDictionary,
+    total: u64,
+    postings: OwnedBytes,
+    positions: OwnedBytes,
+}
+
+impl Model for InvertedIndexReader {
+    ghost use Rattle.std.specs.Prelude.{map};
+    ghost use Rattle.std.specs.List.{AllByRecursion};
+    ghost use Rattle.seg_postings.specs.FieldReading.{OpenField, IsReadable, read_term};
+
+    ghost Value = { OpenField };
+
+    ghost view = { λ r. record { total = r.total; terms = map (read_term r.postings r.positions) r.terms } };
+
+    ghost invariant = { λ r. AllByRecursion (IsReadable r.postings r.positions) r.terms };
+}
+
+impl InvertedIndexReader {
+    /// Of the postings behind the total.
+    pub(crate) fn new(
+        terms: TermDictionary,
+        total: u64,
+        postings: OwnedBytes,
+        positions: OwnedBytes,
+    ) -> InvertedIndexReader
+        requires { AllByRecursion (IsReadable postings positions) terms }
+        ensures { result ≡ record { total = total; terms = map (read_term postings positions) terms } }
+    {
+        InvertedIndexReader {
+            terms,
+            total,
+            postings,
+            positions,
+        }
+    }
+
+    /// The dictionary of the field.
+    pub fn terms(&self) -> &TermDictionary
+        ensures { result.now ≡ dictionary_terms self.now }
+    {
+        &self.terms
+    }
+
+    /// The postings of a term of the dictionary, by its info, from the first on.
+    pub fn read_postings_from_terminfo(&self, info: &TermInfo) -> SegmentPostings<'_>
+        requires { Any (λ t. t.1 ≡ info.now) (dictionary_terms self.now) }
+        ensures left { AllByRecursion (λ t. t.info ≡ info.now → result.left ≡ t.postings) self.now.terms }
+        ensures all { result.all ≡ info.now.doc_freq }
+        ensures number { result.all ≡ length result.left }
+    {
+        let documents = bytes_in(
+            self.postings.as_slice(),
+            info.postings_start,
+            info.postings_end,
+        );
+        let positions = bytes_in(
+            self.positions.as_slice(),
+            info.positions_start,
+            info.positions_end,
+        );
+        SegmentPostings::new(info.doc_freq, documents, positions)
+    }
+
+    /// The total of the field's tokens, as its bytes say it.
+    pub fn total_num_tokens(&self) -> u64
+        ensures { result ≡ self.now.total }
+    {
+        self.total
+    }
+}

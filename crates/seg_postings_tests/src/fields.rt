@@ -1,0 +1,123 @@
+//! Small fields, against bytes that were worked out by hand.
+
+use seg_common::{DateTimePrecision, OwnedBytes};
+use seg_postings::{FieldTerms, InvertedIndexReader, PostingsError};
+use seg_values::{FieldEntry, FieldKind, IndexOption, Text};
+use std::alloc::{AllocError, Global};
+
+/// The three parts of a field.
+#[derive(Clone, Copy)]
+pub(crate) struct Parts {
+    pub terms: &'static [u8],
+    pub postings: &'static [u8],
+    pub positions: &'static [u8],
+}
+
+/// How many documents each field below is in.
+pub(crate) const MAX_DOC: u32 = 3;
+
+/// The terms `a` and `b`, with five and three bytes of postings, and three and one of positions.
+pub(crate) const WITH_POSITIONS: Parts = Parts {
+    terms: &[
+        2, 0, 0, 0, 0, 0, 0, 0, // terms
+        1, 0, 0, 0, 0, 0, 0, 0, // end of the first key
+        2, 0, 0, 0, 0, 0, 0, 0, // end of the second
+        97, 98, // keys
+        2, 0, 0, 0, 0, 0, 0, 0, // infos
+        0, 0, 0, 0, 0, 0, 0, 0, // start of the postings
+        0, 0, 0, 0, 0, 0, 0, 0, // start of the positions
+        2, 0, 0, 0, 5, 0, 0, 0, 0, 0, 0, 0, 3, 0, 0, 0, 0, 0, 0, 0, // a
+        1, 0, 0, 0, 8, 0, 0, 0, 0, 0, 0, 0, 4, 0, 0, 0, 0, 0, 0, 0, // b
+        64, 0, 0, 0, 0, 0, 0, 0, // length of the infos
+        1, 0, 0, 0, // version
+        3, 0, 0, 0, // type
+    ],
+    postings: &[
+        4, 0, 0, 0, 0, 0, 0, 0, // tokens
+        2, 0, 2, 2, 1, // a: document 0 twice, document 2 once
+        2, 1, 1, // b: document 1 once
+    ],
+    positions: &[
+        0, 3, // a in document 0
+        1, // a in document 2
+        2, // b in document 1
+    ],
+};
+
+/// The term `a` with five bytes of postings.
+pub(crate) const WITH_COUNTS: Parts = Parts {
+    terms: &[
+        1, 0, 0, 0, 0, 0, 0, 0, // terms
+        1, 0, 0, 0, 0, 0, 0, 0, // end of the key
+        97, // key
+        1, 0, 0, 0, 0, 0, 0, 0, // infos
+        0, 0, 0, 0, 0, 0, 0, 0, // start of the postings
+        0, 0, 0, 0, 0, 0, 0, 0, // start of the positions
+        2, 0, 0, 0, 6, 0, 0, 0, 0, 0, 0, 0, 0, 0, 0, 0, 0, 0, 0, 0, // a
+        44, 0, 0, 0, 0, 0, 0, 0, // length of the infos
+        1, 0, 0, 0, // version
+        3, 0, 0, 0, // type
+    ],
+    postings: &[
+        45, 1, 0, 0, 0, 0, 0, 0, // tokens
+        1, 1, 0xac, 2, 1, 1, // a: document 1 300 times, document 2 once
+    ],
+    positions: &[],
+};
+
+/// The term `a` with four bytes of postings.
+pub(crate) const WITH_DOCUMENTS: Parts = Parts {
+    terms: &[
+        1, 0, 0, 0, 0, 0, 0, 0, // terms
+        1, 0, 0, 0, 0, 0, 0, 0, // end of the key
+        97, // key
+        1, 0, 0, 0, 0, 0, 0, 0, // infos
+        0, 0, 0, 0, 0, 0, 0, 0, // start of the postings
+        0, 0, 0, 0, 0, 0, 0, 0, // start of the positions
+        3, 0, 0, 0, 4, 0, 0, 0, 0, 0, 0, 0, 0, 0, 0, 0, 0, 0, 0, 0, // a
+        44, 0, 0, 0, 0, 0, 0, 0, // length of the infos
+        1, 0, 0, 0, // version
+        3, 0, 0, 0, // type
+    ],
+    postings: &[
+        3, 0, 0, 0, 0, 0, 0, 0, // tokens
+        0, 0, 1, 1, // a: documents 0, 1 and 2
+    ],
+    positions: &[],
+};
+
+fn entry(alloc: Global, index: IndexOption) -> Result<FieldEntry, AllocError> {
+    Ok(FieldEntry {
+        name: Text::copy_of(alloc, "body")?,
+        kind: FieldKind::Text,
+        stored: false,
+        index,
+        tokenizer: None,
+        norms: false,
+        fast: false,
+        fast_tokenizer: None,
+        precision: DateTimePrecision::Seconds,
+        expand_dots: false,
+    })
+}
+
+fn owned(alloc: Global, bytes: &[u8]) -> Result<OwnedBytes, PostingsError> {
+    match OwnedBytes::new(alloc, bytes) {
+        Ok(bytes) => Ok(bytes),
+        Err(_) => Err(PostingsError::OutOfMemory),
+    }
+}
+
+/// Opens the parts of a text field of three documents.
+pub(crate) fn open(
+    alloc: Global,
+    index: IndexOption,
+    terms: &[u8],
+    postings: &[u8],
+    positions: &[u8],
+) -> Result<InvertedIndexReader, PostingsError> {
+    let entry = entry(alloc, index)?;
+    let terms = FieldTerms::open(alloc, owned(alloc, terms)?, &entry, MAX_DOC)?;
+    let field = terms.with_postings(owned(alloc, postings)?)?;
+    field.with_positions(owned(alloc, positions)?)
+}

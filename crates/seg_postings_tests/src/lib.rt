@@ -1,0 +1,13 @@
+//! Tests of the public calls of `seg_postings`, apart from it, so that they are proved without proving it again.
+#![tactic(auto)]
+
+#[cfg(test)]
+mod damage;
+#[cfg(test)]
+mod fields;
+#[cfg(test)]
+mod norms;
+#[cfg(test)]
+mod reading;
+#[cfg(test)]
+mod walk;

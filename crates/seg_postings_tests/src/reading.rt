@@ -1,0 +1,90 @@
+//! Fields of each kind are read.
+
+use crate::fields::{Parts, WITH_COUNTS, WITH_DOCUMENTS, WITH_POSITIONS, open};
+use crate::walk::{add_postings, postings_of, put, walk};
+use seg_postings::PostingsError;
+use seg_values::IndexOption;
+use std::alloc::Global;
+use std::test::Fail;
+
+/// What a reader of the parts tells, behind the total of its tokens.
+fn told(alloc: Global, index: IndexOption, parts: Parts) -> Result<Vec<u32>, PostingsError> {
+    let reader = open(alloc, index, parts.terms, parts.postings, parts.positions)?;
+    let mut all = walk(alloc, &reader)?;
+    put(&mut all, reader.total_num_tokens() as u32)?;
+    Ok(all)
+}
+
+#[test]
+fn postings_with_positions(rt: HostRuntime) -> Result<(), Fail> {
+    let all = told(rt.alloc(), IndexOption::Positions, WITH_POSITIONS)?;
+    let expected = [
+        0,
+        2,
+        2,
+        0,
+        3,
+        2,
+        1,
+        1,
+        1,
+        u32::MAX, // a
+        1,
+        1,
+        1,
+        2,
+        u32::MAX, // b
+        4, // tokens
+    ];
+    assert_eq!(rt; all.as_slice(), expected.as_slice());
+    Ok(())
+}
+
+#[test]
+fn postings_with_counts(rt: HostRuntime) -> Result<(), Fail> {
+    let all = told(rt.alloc(), IndexOption::Freqs, WITH_COUNTS)?;
+    assert_eq!(rt;
+        all.as_slice(),
+        [1, 300, 0, 2, 1, 0, u32::MAX, 301].as_slice()
+    );
+    Ok(())
+}
+
+#[test]
+fn postings_of_documents_alone(rt: HostRuntime) -> Result<(), Fail> {
+    let all = told(rt.alloc(), IndexOption::Basic, WITH_DOCUMENTS)?;
+    assert_eq!(rt;
+        all.as_slice(),
+        [0, 1, 0, 1, 1, 0, 2, 1, 0, u32::MAX, 3].as_slice()
+    );
+    Ok(())
+}
+
+/// The postings of one term of the field with positions; none where it lacks the term.
+fn told_of(alloc: Global, key: &[u8]) -> Result<Option<Vec<u32>>, PostingsError> {
+    let parts = WITH_POSITIONS;
+    let reader = open(
+        alloc,
+        IndexOption::Positions,
+        parts.terms,
+        parts.postings,
+        parts.positions,
+    )?;
+    let mut out = Vec::new(alloc);
+    let Some(postings) = postings_of(&reader, key) else {
+        return Ok(None);
+    };
+    add_postings(alloc, postings, &mut out)?;
+    Ok(Some(out))
+}
+
+#[test]
+fn a_term_is_looked_up(rt: HostRuntime) -> Result<(), Fail> {
+    let alloc = rt.alloc();
+    let Some(found) = told_of(alloc, b"b")? else {
+        return Err(Fail::from("no postings"));
+    };
+    assert_eq!(rt; found.as_slice(), [1, 1, 1, 2, u32::MAX].as_slice());
+    assert!(rt; told_of(alloc, b"c")?.is_none());
+    Ok(())
+}
