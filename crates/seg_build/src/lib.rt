@@ -34,17 +34,11 @@ mod record_kinds;
 mod refused;
 mod runs;
 mod segment_files;
-#[cfg(test)]
-mod segment_files_tests;
 mod segment_serializer;
 mod segment_writer;
-#[cfg(test)]
-mod segment_writer_tests;
 mod sorted;
 mod terms;
 mod terms_files;
-#[cfg(test)]
-mod tests;
 mod tokens;
 mod usage;
 mod user_operation;

@@ -24,8 +24,6 @@ mod positions;
 mod refusal;
 mod size;
 mod stored_len;
-#[cfg(test)]
-mod tests;
 mod texts;
 mod totals;
 mod untokenized;

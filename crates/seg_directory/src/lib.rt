@@ -15,12 +15,8 @@ mod answer_log;
 mod call_counts;
 mod call_record;
 mod calls;
-#[cfg(test)]
-mod calls_tests;
 mod composite_file;
 mod composite_law;
-#[cfg(test)]
-mod composite_tests;
 mod composite_writer;
 mod directory;
 mod error;
@@ -29,8 +25,6 @@ mod file_directory;
 mod folder;
 mod memory_directory;
 mod stored_files;
-#[cfg(test)]
-mod tests;
 mod written_parts;
 
 pub use answer::{Answer, CallKind};

@@ -14,7 +14,5 @@ mod index_files;
 mod indexes;
 mod payload;
 mod shape;
-#[cfg(test)]
-mod tests;
 
 pub use building::{BuiltIndex, build_index, build_index_with_fields};

@@ -19,21 +19,13 @@ mod index;
 mod index_meta;
 mod index_settings;
 mod load;
-#[cfg(test)]
-mod load_tests;
 mod members;
 mod meta_json;
 mod meta_law;
 mod meta_read;
-#[cfg(test)]
-mod meta_read_tests;
 mod ranges;
 mod read_error;
-#[cfg(test)]
-mod read_tests;
 mod save;
-#[cfg(test)]
-mod save_tests;
 mod schema_read;
 mod segment;
 mod segment_meta;
@@ -41,8 +33,6 @@ mod segment_metas;
 mod segment_read;
 mod segments_read;
 mod settings_read;
-#[cfg(test)]
-mod tests;
 mod words;
 
 pub use compressor::Compressor;

@@ -17,12 +17,8 @@ mod column;
 mod column_key;
 mod column_rows;
 mod column_table;
-#[cfg(test)]
-mod column_tests;
 mod column_value;
 mod entry;
-#[cfg(test)]
-mod fast_tests;
 mod fast_value;
 mod field;
 mod field_leaf;
@@ -30,8 +26,6 @@ mod join;
 mod join_columns;
 mod join_norms;
 mod join_stored;
-#[cfg(test)]
-mod join_tests;
 mod json;
 mod kept;
 mod leaf;
@@ -46,14 +40,8 @@ mod plain;
 mod posting;
 mod sorted;
 mod stored;
-#[cfg(test)]
-mod stored_tests;
 mod survivor;
-#[cfg(test)]
-mod survivor_tests;
 mod terms;
-#[cfg(test)]
-mod tests;
 mod text;
 mod tokens;
 

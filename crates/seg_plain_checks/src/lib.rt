@@ -29,8 +29,6 @@ mod refusal;
 mod stored_bytes;
 mod takes;
 mod term_list;
-#[cfg(test)]
-mod tests;
 mod texts;
 mod token_estimate;
 

@@ -16,8 +16,6 @@ mod opens;
 mod opens_whole;
 mod same;
 mod stored_file;
-#[cfg(test)]
-mod tests;
 mod whole;
 
 pub use file_forms::FileForms;

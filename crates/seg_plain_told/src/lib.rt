@@ -16,8 +16,6 @@ mod same_stored;
 mod same_terms;
 mod same_values;
 mod self_told;
-#[cfg(test)]
-mod tests;
 
 pub use contents::{ColumnRows, PlainContents, TermPostings};
 pub use self_told::is_self_told;

@@ -20,8 +20,6 @@ mod operation;
 mod script;
 mod segment_ids;
 mod settings;
-#[cfg(test)]
-mod tests;
 
 pub use batch_filter::BatchFilter;
 pub use batch_filters::BatchFilters;

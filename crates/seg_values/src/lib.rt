@@ -18,8 +18,6 @@ mod name_search;
 mod schema;
 mod schema_copy;
 mod term;
-#[cfg(test)]
-mod tests;
 mod text;
 mod token;
 mod tokenizer;

@@ -1,0 +1,9 @@
+//! Tests of the public calls of `seg_build`, apart from it, so that they are proved without proving it again.
+#![tactic(auto)]
+
+#[cfg(test)]
+mod segment_files;
+#[cfg(test)]
+mod segment_writer;
+#[cfg(test)]
+mod tests;

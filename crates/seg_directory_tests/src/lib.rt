@@ -1,0 +1,9 @@
+//! Tests of the public calls of `seg_directory`, apart from it, so that they are proved without proving it again.
+#![tactic(auto)]
+
+#[cfg(test)]
+mod calls;
+#[cfg(test)]
+mod composite;
+#[cfg(test)]
+mod tests;
