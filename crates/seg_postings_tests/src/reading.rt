@@ -11,8 +11,16 @@ use std::test::Fail;
 fn told(alloc: Global, index: IndexOption, parts: Parts) -> Result<Vec<u32>, PostingsError> {
     let reader = open(alloc, index, parts.terms, parts.postings, parts.positions)?;
     let mut all = walk(alloc, &reader)?;
-    put(&mut all, reader.total_num_tokens() as u32)?;
+    put(&mut all, small(reader.total_num_tokens()))?;
     Ok(all)
+}
+
+/// The number, or else the greatest u32.
+fn small(number: u64) -> u32 {
+    match u32::try_from(number) {
+        Ok(number) => number,
+        Err(_) => u32::MAX,
+    }
 }
 
 #[test]
