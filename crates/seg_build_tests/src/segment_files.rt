@@ -1,38 +1,29 @@
 //! The files of a segment in a directory in memory.
 
-use seg_build::SegmentBytes;
+use crate::tests::made;
 use seg_common::{FileName, SegmentComponent, SegmentId};
 use seg_directory::{CallKind, FailingCall, MemoryDirectory, list_files, read_file};
 use seg_values::{TResult, TantivyError};
-use std::alloc::{AllocError, Global};
+use std::alloc::Global;
 use std::test::Fail;
 
-fn bytes(alloc: Global) -> Result<SegmentBytes, AllocError> {
-    Ok(SegmentBytes {
-        norms: vec![in alloc; 1]?,
-        fast: vec![in alloc; 2]?,
-        terms: vec![in alloc; 3]?,
-        postings: vec![in alloc; 4]?,
-        positions: vec![in alloc; 5]?,
-        store: vec![in alloc; 6]?,
-    })
-}
-
+/// Makes the files of a small segment.
 fn write(alloc: Global, directory: &mut MemoryDirectory) -> TResult<()> {
-    match bytes(alloc) {
-        Ok(bytes) => bytes.write(alloc, SegmentId::from_u128(7), directory),
-        Err(_) => Err(TantivyError::OutOfMemory),
-    }
+    let segment = made(alloc, &[0], &[&["a"]])?;
+    segment
+        .bytes
+        .write(alloc, SegmentId::from_u128(7), directory)
 }
 
-fn first_byte(
+/// The last byte of the file of a component.
+fn last_byte(
     alloc: Global,
     directory: &mut MemoryDirectory,
     component: SegmentComponent,
 ) -> Option<u8> {
     let name = FileName::Part(SegmentId::from_u128(7), component);
     let file = read_file(alloc, directory, name).ok()?;
-    file.as_slice().first().copied()
+    file.as_slice().last().copied()
 }
 
 #[test]
@@ -40,10 +31,16 @@ fn six_files_are_made_once(rt: HostRuntime) -> Result<(), Fail> {
     let alloc = rt.alloc();
     let mut directory = MemoryDirectory::new(alloc, Vec::new(alloc))?;
     assert_eq!(rt; write(alloc, &mut directory), Ok(()));
-    let norms = first_byte(alloc, &mut directory, SegmentComponent::FieldNorms);
-    assert_eq!(rt; norms, Some(1));
-    let store = first_byte(alloc, &mut directory, SegmentComponent::Store);
-    assert_eq!(rt; store, Some(6));
+    for component in [
+        SegmentComponent::Terms,
+        SegmentComponent::Postings,
+        SegmentComponent::Positions,
+        SegmentComponent::Store,
+        SegmentComponent::FastFields,
+        SegmentComponent::FieldNorms,
+    ] {
+        assert_eq!(rt; last_byte(alloc, &mut directory, component), Some(0));
+    }
     let again = write(alloc, &mut directory);
     assert_eq!(rt; again, Err(TantivyError::IndexAlreadyExists));
     assert_eq!(rt; list_files(alloc, &mut directory), Ok(6));

@@ -3,8 +3,8 @@ ghost use Rattle.std.specs.Prelude.{◌≡◌, true, IfOk};
 ghost use Rattle.seg_values.specs.Names.{is_allowed};
 
 use seg_build::{Hit, IndexedFields, MemorySegment, SegmentWriter, SortedTerms, first_run};
-use seg_common::{DateTimePrecision, OwnedBytes, SegmentId};
-use seg_directory::CompositeFile;
+use seg_common::{DateTimePrecision, FileName, OwnedBytes, SegmentComponent, SegmentId};
+use seg_directory::{CompositeFile, MemoryDirectory, read_file};
 use seg_meta::{Compressor, IndexSettings, Segment, SegmentMeta};
 use seg_postings::RecordKind;
 use seg_values::{
@@ -103,7 +103,11 @@ fn in_each_field(alloc: Global, texts: &[&str]) -> Result<TantivyDocument, Alloc
 }
 
 /// The segment of documents, under an analyzer that repeats each text at some positions.
-fn made(alloc: Global, positions: &[u32], documents: &[&[&str]]) -> TResult<MemorySegment> {
+pub(crate) fn made(
+    alloc: Global,
+    positions: &[u32],
+    documents: &[&[&str]],
+) -> TResult<MemorySegment> {
     let analyzers = Repeats { positions };
     let meta = SegmentMeta::new(SegmentId::from_u128(7), 0, None);
     let segment = Segment::new(each_option(alloc)?, meta);
@@ -197,16 +201,36 @@ fn long_tokens_give_no_terms(rt: HostRuntime) -> Result<(), Fail> {
     Ok(())
 }
 
-/// The part of a field in a composite file.
-fn part(alloc: Global, file: &[u8], field: u32) -> Option<OwnedBytes> {
-    let bytes = OwnedBytes::new(alloc, file).ok()?;
-    let file = CompositeFile::open(bytes).ok()?;
+/// The file of a component, once the files of a segment are made.
+fn file(alloc: Global, made: &MemorySegment, component: SegmentComponent) -> Option<OwnedBytes> {
+    let id = SegmentId::from_u128(7);
+    let mut directory = MemoryDirectory::new(alloc, Vec::new(alloc)).ok()?;
+    if made.bytes.write(alloc, id, &mut directory).is_err() {
+        return None;
+    }
+    read_file(alloc, &mut directory, FileName::Part(id, component)).ok()
+}
+
+/// The part of a field in the composite file of a component.
+fn part(
+    alloc: Global,
+    made: &MemorySegment,
+    component: SegmentComponent,
+    field: u32,
+) -> Option<OwnedBytes> {
+    let file = CompositeFile::open(file(alloc, made, component)?).ok()?;
     file.open_read(Field::from_field_id(field))
 }
 
-/// Whether a file has a part of a field with these bytes.
-fn has_part(alloc: Global, file: &[u8], field: u32, wanted: &[u8]) -> bool {
-    match part(alloc, file, field) {
+/// Whether there is such a part, with these bytes.
+fn has_part(
+    alloc: Global,
+    made: &MemorySegment,
+    component: SegmentComponent,
+    field: u32,
+    wanted: &[u8],
+) -> bool {
+    match part(alloc, made, component, field) {
         Some(bytes) => bytes.as_slice() == wanted,
         None => false,
     }
@@ -216,18 +240,42 @@ fn has_part(alloc: Global, file: &[u8], field: u32, wanted: &[u8]) -> bool {
 fn terms_are_written_as_their_fields_ask(rt: HostRuntime) -> Result<(), Fail> {
     let alloc = rt.alloc();
     let made = made(alloc, &[0, 1], &[&["a"], &["b", "a"]]);
-    let bytes = made.ok().ok_or("made")?.bytes;
-    assert!(rt; part(alloc, &bytes.terms, NOT_INDEXED).is_none());
-    assert!(rt; part(alloc, &bytes.postings, NOT_INDEXED).is_none());
+    let made = made.ok().ok_or("made")?;
+    assert!(rt; part(alloc, &made, SegmentComponent::Terms, NOT_INDEXED).is_none());
+    assert!(rt; part(alloc, &made, SegmentComponent::Postings, NOT_INDEXED).is_none());
     let documents = [3, 0, 0, 0, 0, 0, 0, 0, 0, 0, 1, 0, 1];
-    assert!(rt; has_part(alloc, &bytes.postings, DOCUMENTS, &documents));
+    assert!(rt;
+        has_part(
+            alloc,
+            &made,
+            SegmentComponent::Postings,
+            DOCUMENTS,
+            &documents
+        )
+    );
     let counts = [6, 0, 0, 0, 0, 0, 0, 0, 1, 0, 2, 1, 2, 1, 1, 2];
-    assert!(rt; has_part(alloc, &bytes.postings, COUNTS, &counts));
+    assert!(rt; has_part(alloc, &made, SegmentComponent::Postings, COUNTS, &counts));
     let postings = [6, 0, 0, 0, 0, 0, 0, 0, 2, 0, 2, 1, 2, 2, 1, 2];
-    assert!(rt; has_part(alloc, &bytes.postings, POSITIONS, &postings));
-    assert!(rt; has_part(alloc, &bytes.positions, DOCUMENTS, &[]));
-    assert!(rt; has_part(alloc, &bytes.positions, COUNTS, &[]));
-    assert!(rt; has_part(alloc, &bytes.positions, POSITIONS, &[0, 1, 3, 1, 0, 1]));
+    assert!(rt;
+        has_part(
+            alloc,
+            &made,
+            SegmentComponent::Postings,
+            POSITIONS,
+            &postings
+        )
+    );
+    assert!(rt; has_part(alloc, &made, SegmentComponent::Positions, DOCUMENTS, &[]));
+    assert!(rt; has_part(alloc, &made, SegmentComponent::Positions, COUNTS, &[]));
+    assert!(rt;
+        has_part(
+            alloc,
+            &made,
+            SegmentComponent::Positions,
+            POSITIONS,
+            &[0, 1, 3, 1, 0, 1]
+        )
+    );
     Ok(())
 }
 
@@ -235,9 +283,25 @@ fn terms_are_written_as_their_fields_ask(rt: HostRuntime) -> Result<(), Fail> {
 fn lengths_are_written(rt: HostRuntime) -> Result<(), Fail> {
     let alloc = rt.alloc();
     let made = made(alloc, &[0, 1], &[&["a", "c"], &[], &["b"]]);
-    let bytes = made.ok().ok_or("made")?.bytes;
-    assert!(rt; part(alloc, &bytes.norms, NOT_INDEXED).is_none());
-    assert!(rt; has_part(alloc, &bytes.norms, DOCUMENTS, &[4, 0, 2]));
-    assert!(rt; has_part(alloc, &bytes.norms, POSITIONS, &[4, 0, 2]));
+    let made = made.ok().ok_or("made")?;
+    assert!(rt; part(alloc, &made, SegmentComponent::FieldNorms, NOT_INDEXED).is_none());
+    assert!(rt;
+        has_part(
+            alloc,
+            &made,
+            SegmentComponent::FieldNorms,
+            DOCUMENTS,
+            &[4, 0, 2]
+        )
+    );
+    assert!(rt;
+        has_part(
+            alloc,
+            &made,
+            SegmentComponent::FieldNorms,
+            POSITIONS,
+            &[4, 0, 2]
+        )
+    );
     Ok(())
 }
