@@ -1,0 +1,94 @@
+-- The parts of a field that hold terms are a field by the rules of its entry; and why parts hold none.
+use Rattle.std.proofs.Common.{◌≡◌, ℕ, ◌+◌, ◌<◌, Bool, true, false, cond, T, ◌&&◌, List, [], ◌∷◌, map, Some, None, refl, sym, ap, ◌∙◌, subst}
+use Rattle.std.specs.FinMap.Entries.{below_all}
+use Rattle.std.specs.FinMap.{entries, find, is_sorted, entries_sorted, get-entries}
+use Rattle.std.specs.List.{AllByRecursion}
+use Rattle.std.specs.Ordering.{nat_cmp, is_lt, is_eq}
+use Rattle.std.specs.Cmp.{tied_itself}
+use Rattle.std.specs.Cmp.Lexicographic.{slice_cmp, nat_list_cmp_total}
+use Rattle.std.specs.declared.cmp.Ordering.{Ordering}
+use Rattle.std.specs.declared.cmp.Ordering.TheVariants.{Less, Equal, Greater}
+use Rattle.std.proofs.lemmas.Option.{none-some, same_Some}
+use Rattle.seg_values.specs.declared.schema.FieldEntry.{FieldEntry}
+use Rattle.seg_values.specs.declared.schema.IndexOption.{IndexOption}
+use Rattle.seg_model.specs.Reading.{Posting, term_option}
+use Rattle.seg_model.specs.Shape.{ArePostings, IsTermWith}
+use Rattle.seg_directory.specs.Composite.{Part, field_of}
+use Rattle.seg_postings.specs.FieldWriting.{TermWritten}
+use Rattle.seg_postings.specs.FieldReading.{IsFieldBy, rules_of}
+use Rattle.seg_open.specs.FieldOpening.{MayHold}
+
+-- ---- each entry of a map is found by its key
+
+first : (a b : Bool) → T (a && b) → T a
+first true b p = tt
+first false b p = p
+
+second : (a b : Bool) → T (a && b) → T b
+second true b p = p
+second false b p = absurd p
+
+less : (o : Ordering) → T (is_lt o) → o ≡ Less
+less Less p = refl
+less Equal p = absurd p
+less Greater p = absurd p
+
+module _ {Y : Type 0} where
+  -- a key that ties with one below all others isn't among these
+  missed : (q k : List ℕ) → slice_cmp nat_cmp q k ≡ Equal → (es : List (List ℕ × Y)) → T (below_all (slice_cmp nat_cmp) k es) → find (slice_cmp nat_cmp) q es ≡ None
+  missed q k tie [] h = refl
+  missed q k tie (e ∷ es) h =
+      ap (λ r. cond (is_eq r) (Some e.1) (find (slice_cmp nat_cmp) q es)) (nat_list_cmp_total.congr q k e.0 tie ∙ less _ (first _ _ h))
+      ∙ missed q k tie es (second _ _ h)
+
+  -- what is found behind the first entry is found
+  found_behind : (e : List ℕ × Y) (es : List (List ℕ × Y)) → T (below_all (slice_cmp nat_cmp) e.0 es) → (k : List ℕ) (y : Y) → find (slice_cmp nat_cmp) k es ≡ Some y → (r : Ordering) → slice_cmp nat_cmp k e.0 ≡ r → find (slice_cmp nat_cmp) k (e ∷ es) ≡ Some y
+  found_behind e es below k y at Less is = ap (λ r. cond (is_eq r) (Some e.1) (find (slice_cmp nat_cmp) k es)) is ∙ at
+  found_behind e es below k y at Equal is = absurd (none-some y (sym (missed k e.0 is es below) ∙ at))
+  found_behind e es below k y at Greater is = ap (λ r. cond (is_eq r) (Some e.1) (find (slice_cmp nat_cmp) k es)) is ∙ at
+
+  -- what holds of whatever is found holds of each entry
+  of_each : (P : List ℕ → Y → Type 0) (es : List (List ℕ × Y)) → T (is_sorted (slice_cmp nat_cmp) es) → ((k : List ℕ) (y : Y) → find (slice_cmp nat_cmp) k es ≡ Some y → P k y) → AllByRecursion (λ (e : List ℕ × Y). P e.0 e.1) es
+  of_each P [] s h = tt
+  of_each P (e ∷ es) s h = (
+    h e.0 e.1 (ap (λ r. cond (is_eq r) (Some e.1) (find (slice_cmp nat_cmp) e.0 es)) (tied_itself nat_list_cmp_total e.0)),
+    of_each P es (second _ _ s) (λ k y at. h k y (found_behind e es (first _ _ s) k y at (slice_cmp nat_cmp k e.0) refl)),
+  )
+
+-- ---- their documents
+
+-- postings in order lie below their end
+all_low : (option : IndexOption) (low documents : ℕ) (ps : List Posting) → ArePostings option low documents ps → AllByRecursion (λ (p : Posting). p.document < documents) ps
+all_low option low documents [] are = tt
+all_low option low documents (p ∷ ps) are = (are.1, all_low option (p.document + 1) documents ps are.3)
+
+each_low : (entry : FieldEntry) (documents : ℕ) (written : List TermWritten) → AllByRecursion (λ (e : List ℕ × List Posting). IsTermWith entry documents e.0 e.1) (map (λ (t : TermWritten). (t.bytes, t.postings)) written) → AllByRecursion (λ (t : TermWritten). AllByRecursion (λ (p : Posting). p.document < documents) t.postings) written
+each_low entry documents [] all = tt
+each_low entry documents (t ∷ ts) all = (all_low (term_option entry t.bytes) 0 documents t.postings all.0.postings_ascend, each_low entry documents ts all.1)
+
+module _ (entry : FieldEntry) (field documents : ℕ) (terms : List Part) where
+  by_rules : (postings positions : List Part) (m : MayHold entry field documents terms postings positions) → IsFieldBy (rules_of entry documents) m.holds.dictionary m.holds.postings_part m.holds.positions_part m.holds.total m.holds.written
+  by_rules postings positions m =
+      let shaped = of_each (IsTermWith entry documents) (entries m.held) (entries_sorted m.held) (λ k y at. m.shape k y (get-entries m.held k ∙ at)) in
+      record {
+        spells = m.holds.spells;
+        kinds = m.holds.kinds;
+        low = each_low entry documents m.holds.written (subst (AllByRecursion (λ (e : List ℕ × List Posting). IsTermWith entry documents e.0 e.1)) (sym m.holds.are) shaped);
+      }
+
+  -- ---- why not
+
+  module _ (dictionary : List ℕ) (in_terms : Some dictionary ≡ field_of terms field) (postings : List Part) (part : List ℕ) (in_postings : Some part ≡ field_of postings field) where
+    both : (qs : List Part) (m : MayHold entry field documents terms postings qs) → IsFieldBy (rules_of entry documents) dictionary part m.holds.positions_part m.holds.total m.holds.written
+    both qs m =
+        let d : dictionary ≡ m.holds.dictionary = same_Some dictionary m.holds.dictionary (in_terms ∙ m.holds.in_terms) in
+        let p : part ≡ m.holds.postings_part = same_Some part m.holds.postings_part (in_postings ∙ m.holds.in_postings) in
+        subst (λ (x : List ℕ). IsFieldBy (rules_of entry documents) x part m.holds.positions_part m.holds.total m.holds.written) (sym d)
+        (subst (λ (x : List ℕ). IsFieldBy (rules_of entry documents) m.holds.dictionary x m.holds.positions_part m.holds.total m.holds.written) (sym p) (by_rules postings qs m))
+
+    pub other_postings : ((positions : List ℕ) (total : ℕ) (ts : List TermWritten) → IsFieldBy (rules_of entry documents) dictionary part positions total ts → ⊥) → (qs : List Part) → MayHold entry field documents terms postings qs → ⊥
+    other_postings other qs m = other m.holds.positions_part m.holds.total m.holds.written (both qs m)
+
+    pub other_positions : (positions : List Part) (bytes : List ℕ) → Some bytes ≡ field_of positions field → ((total : ℕ) (ts : List TermWritten) → IsFieldBy (rules_of entry documents) dictionary part bytes total ts → ⊥) → MayHold entry field documents terms postings positions → ⊥
+    other_positions positions bytes in_positions other m =
+        other m.holds.total m.holds.written (subst (λ (x : List ℕ). IsFieldBy (rules_of entry documents) dictionary part x m.holds.total m.holds.written) (sym (same_Some bytes m.holds.positions_part (in_positions ∙ m.holds.in_positions))) (both positions m))

@@ -1,0 +1,7 @@
+pub mod BuiltTexts
+pub mod Disagreeing
+pub mod FieldsFit
+pub mod HeldFields
+pub mod OpenSpells
+pub mod Opened
+pub mod ReadingSteps

@@ -1,0 +1,138 @@
+-- The files of a segment that is open spell the contents of its reader.
+use Rattle.std.proofs.Common.{◌≡◌, ℕ, zero, suc, arith, true, false, List, [], ◌∷◌, map, length, Option, Some, None, refl, sym, ap, ◌∙◌, subst, slice_get}
+use Rattle.std.specs.Prelude.{is_some, unwrap_or}
+use Rattle.std.specs.FinMap.{get, empty, get-empty}
+use Rattle.std.specs.List.{slice_index_or, list_any}
+use Rattle.std.specs.Option.{option_map}
+use Rattle.std.specs.Ordering.{nat_cmp}
+use Rattle.std.specs.Cmp.Lexicographic.{slice_cmp}
+use Rattle.std.proofs.lemmas.Bool.{false≢true}
+use Rattle.std.proofs.lemmas.List.{length-map}
+use Rattle.std.proofs.lemmas.Option.{slice_get-map, unwrap_or-slice_get}
+use Rattle.seg_values.specs.declared.schema.FieldEntry.{FieldEntry}
+use Rattle.seg_model.specs.Columns.{ColumnKey, ColumnValue, declared_columns, is_declared}
+use Rattle.seg_model.specs.Fields.{Schema, is_indexed, is_text}
+use Rattle.seg_model.specs.Reading.{Terms, Posting}
+use Rattle.seg_model.specs.Shape.{HasFullShape, IsTermWith}
+use Rattle.seg_directory.specs.Composite.{Part}
+use Rattle.seg_store.specs.Store.{documents_of}
+use Rattle.seg_postings.specs.FieldReading.{OpenField, written_terms}
+use Rattle.seg_postings.specs.HeldTerms.{TermsReadHaveShape}
+use Rattle.seg_open.specs.FieldOpening.{IsOpened}
+use Rattle.seg_build.specs.Holds.{HoldsField}
+use Rattle.seg_open.specs.OpenSegment.{OpenSegment, terms_in, contents_of}
+use Rattle.seg_open.specs.SegmentOpening.{TermsAreOpen, IsOpen, AreTexts}
+use Rattle.seg_open.specs.FieldsOpening.{IsPlaceOpened}
+use Rattle.seg_open.specs.Spelling.{Spell}
+use Rattle.seg_open.specs.declared.segment_files.SegmentFiles.{SegmentFiles}
+
+-- the terms of the field at a place
+terms_at_place : (fields : List (Option OpenField)) (i : ℕ) (o : Option OpenField) → slice_get fields i ≡ Some o → slice_index_or (map terms_in fields) i empty ≡ terms_in o
+terms_at_place fields i o at =
+    sym (unwrap_or-slice_get (map terms_in fields) i empty) ∙ ap (λ x. unwrap_or x empty) (slice_get-map terms_in fields i ∙ ap (option_map terms_in) at)
+
+none_there : {X : Type 0} (x : X) → (let o : Option X = None in o) ≡ Some x → ⊥
+none_there x e = cc e
+
+record IsThere {X : Type 0} (xs : List X) (i : ℕ) : Type 0 where
+  value : X
+  at : slice_get xs i ≡ Some value
+
+-- a list as long as another has each of its places
+there : {X Y : Type 0} (xs : List X) (ys : List Y) (i : ℕ) (y : Y) → length xs ≡ length ys → slice_get ys i ≡ Some y → IsThere xs i
+there xs [] i y same at = absurd (none_there y at)
+there [] (z ∷ ys) i y same at = absurd (omega (arith, same))
+there (x ∷ xs) (z ∷ ys) zero y same at = record { value = x; at = refl }
+there (x ∷ xs) (z ∷ ys) (suc i) y same at = let rest = there xs ys i y (omega (arith, same)) at in record { value = rest.value; at = rest.at }
+
+-- the field at a place is open
+record IsOpenAt (entry : FieldEntry) (field documents : ℕ) (terms postings positions : List Part) (fields : List (Option OpenField)) : Type 0 where
+  opened : OpenField
+  at : slice_get fields field ≡ Some (Some opened)
+  is : IsOpened entry field documents terms postings positions opened
+
+module _ (law : TermsReadHaveShape) (files : SegmentFiles) (s : OpenSegment) (are : AreTexts s.schema) (has : IsOpen files s) where
+  t : TermsAreOpen s.schema s.documents files.terms files.postings files.positions s.fields
+  t = has.terms
+
+  indexed_at : (field : ℕ) (entry : FieldEntry) → slice_get s.schema field ≡ Some entry → is_indexed entry ≡ true → IsOpenAt entry field s.documents t.term_parts t.posting_parts t.position_parts s.fields
+  indexed_at field entry at on =
+      let p = there s.fields s.schema field entry t.opened.per_field at in
+      by p.value p.at (t.opened.each field entry p.value at p.at)
+    where
+      by : (o : Option OpenField) → slice_get s.fields field ≡ Some o → IsPlaceOpened entry field s.documents t.term_parts t.posting_parts t.position_parts o → IsOpenAt entry field s.documents t.term_parts t.posting_parts t.position_parts s.fields
+      by None found is = absurd (false≢true (sym is ∙ on))
+      by (Some f) found is = record { opened = f; at = found; is = is.1 }
+
+  unindexed_at : (field : ℕ) (entry : FieldEntry) → slice_get s.schema field ≡ Some entry → is_indexed entry ≡ false → slice_get s.fields field ≡ Some None
+  unindexed_at field entry at off =
+      let p = there s.fields s.schema field entry t.opened.per_field at in
+      by p.value p.at (t.opened.each field entry p.value at p.at)
+    where
+      by : (o : Option OpenField) → slice_get s.fields field ≡ Some o → IsPlaceOpened entry field s.documents t.term_parts t.posting_parts t.position_parts o → slice_get s.fields field ≡ Some None
+      by None found is = found
+      by (Some f) found is = absurd (false≢true (sym off ∙ is.0))
+
+  holds_field : (field : ℕ) (entry : FieldEntry) → slice_get s.schema field ≡ Some entry → is_indexed entry ≡ true → HoldsField entry field t.term_parts t.posting_parts t.position_parts (slice_index_or (map terms_in s.fields) field empty)
+  holds_field field entry at on =
+      let o = indexed_at field entry at on in
+      let shape = law entry s.documents o.is.dictionary o.is.postings_part o.is.positions_part o.opened.total (written_terms o.opened) (are.texts field entry at on) o.is.by in
+      subst (HoldsField entry field t.term_parts t.posting_parts t.position_parts) (sym (terms_at_place s.fields field (Some o.opened) o.at)) (record {
+        dictionary = o.is.dictionary;
+        postings_part = o.is.postings_part;
+        positions_part = o.is.positions_part;
+        in_terms = o.is.in_terms;
+        in_postings = o.is.in_postings;
+        in_positions = o.is.in_positions;
+        total = o.opened.total;
+        written = written_terms o.opened;
+        spells = o.is.by.spells;
+        kinds = o.is.by.kinds;
+        are = shape.are;
+      })
+
+  has_terms : (field : ℕ) (entry : FieldEntry) → slice_get s.schema field ≡ Some entry → is_indexed entry ≡ true → (term : List ℕ) (postings : List Posting) → get (slice_index_or (map terms_in s.fields) field empty) term ≡ Some postings → IsTermWith entry s.documents term postings
+  has_terms field entry at on term postings found =
+      let o = indexed_at field entry at on in
+      let shape = law entry s.documents o.is.dictionary o.is.postings_part o.is.positions_part o.opened.total (written_terms o.opened) (are.texts field entry at on) o.is.by in
+      shape.shape term postings (ap (λ (m : Terms). get m term) (sym (terms_at_place s.fields field (Some o.opened) o.at)) ∙ found)
+
+  has_none : (field : ℕ) (entry : FieldEntry) → slice_get s.schema field ≡ Some entry → is_indexed entry ≡ false → (term : List ℕ) → get (slice_index_or (map terms_in s.fields) field empty) term ≡ None
+  has_none field entry at off term =
+      ap (λ (m : Terms). get m term) (terms_at_place s.fields field None (unindexed_at field entry at off)) ∙ get-empty (slice_cmp nat_cmp) term
+
+  shaped : HasFullShape s.schema (contents_of s)
+  shaped = record {
+    terms_per_field = length-map s.fields terms_in ∙ t.opened.per_field;
+    terms = has_terms;
+    no_terms = has_none;
+    stored = has.stored;
+    norms_per_field = has.fit.are.per_field;
+    norms = has.fit.are.norms_are;
+    no_norms = has.fit.are.no_norms;
+    declared = λ key h. absurd (are.undeclared key h);
+    free = λ key rows found off. absurd (none_there rows (sym (get-empty _ key) ∙ found));
+    rows = λ key rows found. absurd (none_there rows (sym (get-empty _ key) ∙ found));
+    one_number_type = λ path i u. absurd (false≢true (ap is_some (sym (get-empty _ _)) ∙ i));
+  }
+
+  pub open_spells : Spell s.schema files (contents_of s)
+  open_spells = record {
+    hold_terms = record {
+      term_parts = t.term_parts;
+      posting_parts = t.posting_parts;
+      position_parts = t.position_parts;
+      term_file = t.term_file.file;
+      posting_file = t.posting_file.file;
+      position_file = t.position_file.file;
+      term_fields = t.term_file.fields;
+      posting_fields = t.posting_file.fields;
+      position_fields = t.position_file.fields;
+      each = λ field entry at on. holds_field field entry at on;
+    };
+    norm_parts = has.norms ∙ ap (λ (p : List Part). Some p) has.fit.parts_are;
+    stored = ap (option_map documents_of) has.store;
+    rows = has.rows;
+    no_columns = refl;
+    shape = shaped;
+  }

@@ -1,0 +1,39 @@
+-- A segment whose files are opened.
+use Rattle.std.specs.Prelude.{◌≡◌, ℕ, List, length, true, Option, Some}
+use Rattle.std.specs.List.{slice_get}
+use Rattle.seg_values.specs.declared.schema.FieldEntry.{FieldEntry}
+use Rattle.seg_model.specs.Columns.{ColumnKey, declared_columns, is_declared}
+use Rattle.seg_model.specs.Fields.{Schema, is_indexed, is_text}
+use Rattle.seg_directory.specs.Composite.{Part, composite}
+use Rattle.seg_columnar.specs.Columnar.{rows_of}
+use Rattle.seg_store.specs.Store.{store_of, documents_of}
+use Rattle.seg_postings.specs.FieldReading.{OpenField}
+use Rattle.seg_postings.specs.NormsRead.{norms_of, HoldNorms}
+use Rattle.seg_open.specs.FieldsOpening.{AreOpened}
+use Rattle.seg_open.specs.IndexedParts.{HaveIndexedParts}
+use Rattle.seg_open.specs.OpenSegment.{OpenSegment}
+use Rattle.seg_open.specs.declared.segment_files.SegmentFiles.{SegmentFiles}
+
+-- three files have a part for each field that is indexed, and each of these is open
+pub record TermsAreOpen (schema : Schema) (documents : ℕ) (terms postings positions : List ℕ) (fields : List (Option OpenField)) : Type 0 where
+  pub term_parts : List Part
+  pub posting_parts : List Part
+  pub position_parts : List Part
+  pub term_file : HaveIndexedParts schema terms term_parts
+  pub posting_file : HaveIndexedParts schema postings posting_parts
+  pub position_file : HaveIndexedParts schema positions position_parts
+  pub opened : AreOpened schema documents term_parts posting_parts position_parts fields
+
+-- all six files are open
+pub record IsOpen (files : SegmentFiles) (s : OpenSegment) : Type 0 where
+  pub terms : TermsAreOpen s.schema s.documents files.terms files.postings files.positions s.fields
+  pub store : store_of files.store ≡ Some s.blocks
+  pub stored : length (documents_of s.blocks) ≡ s.documents
+  pub rows : rows_of files.fast_fields ≡ Some s.documents
+  pub norms : composite files.field_norms ≡ Some s.norms
+  pub fit : HoldNorms s.schema s.documents s.norms (norms_of s.schema s.norms)
+
+-- each field that is indexed is a text, and no column is declared: what is opened so far
+pub record AreTexts (schema : Schema) : Type 0 where
+  pub texts : (field : ℕ) (entry : FieldEntry) → slice_get schema field ≡ Some entry → is_indexed entry ≡ true → is_text entry.kind ≡ true
+  pub undeclared : (key : ColumnKey) → is_declared (declared_columns schema) key ≡ true → ⊥

@@ -1,0 +1,58 @@
+//! The store, the columns and the length ids of a segment, each checked against its number of documents.
+ghost use Rattle.std.specs.Prelude.{◌≡◌, ◌≢◌, ℕ, List, length, Some, None, MatchBool, MatchOption};
+ghost use Rattle.seg_columnar.specs.Columnar.{rows_of};
+ghost use Rattle.seg_directory.specs.Composite.{composite};
+ghost use Rattle.seg_postings.specs.FieldNorms.{norms_parts};
+ghost use Rattle.seg_postings.specs.NormsRead.{norms_of, AreNorms, HoldNorms};
+ghost use Rattle.seg_store.specs.Block.{Block};
+ghost use Rattle.seg_store.specs.Store.{store_of, documents_of};
+
+use seg_columnar::ColumnarReader;
+use seg_common::OwnedBytes;
+use seg_postings::FieldNormReaders;
+use seg_store::StoreReader;
+use seg_values::Schema;
+
+/// The store of so many documents, where the bytes are one.
+pub(crate) fn open_store(bytes: OwnedBytes, max_doc: u32) -> Option<StoreReader>
+    ensures { MatchOption result
+        ((blocks : List Block) → store_of bytes ≡ Some blocks → length (documents_of blocks) ≢ max_doc)
+        (λ r. (store_of bytes ≡ Some r) × (length (documents_of r) ≡ max_doc)) }
+{
+    let Ok(store) = StoreReader::open(bytes) else {
+        return None;
+    };
+    if store.num_docs() != max_doc {
+        return None;
+    }
+    Some(store)
+}
+
+/// Whether the bytes are columns of so many documents.
+pub(crate) fn are_columns(bytes: OwnedBytes, max_doc: u32) -> bool
+    ensures { MatchBool result (rows_of bytes ≡ Some max_doc) (rows_of bytes ≢ Some max_doc) }
+{
+    match ColumnarReader::open(bytes) {
+        Ok(columns) => columns.num_rows() == max_doc,
+        Err(_) => false,
+    }
+}
+
+/// The length ids of so many documents in the fields of a schema, where the bytes are these.
+pub(crate) fn open_norms(
+    bytes: OwnedBytes,
+    schema: &Schema,
+    max_doc: u32,
+) -> Option<FieldNormReaders>
+    ensures { MatchOption result
+        ((norms : List (List ℕ)) → AreNorms schema.now max_doc norms → composite bytes ≢ Some (norms_parts schema.now norms))
+        (λ r. (composite bytes ≡ Some r) × HoldNorms schema.now max_doc r (norms_of schema.now r)) }
+{
+    let Ok(norms) = FieldNormReaders::open(bytes) else {
+        return None;
+    };
+    if !norms.fit(schema, max_doc) {
+        return None;
+    }
+    Some(norms)
+}

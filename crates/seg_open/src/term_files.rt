@@ -1,0 +1,108 @@
+//! The three files that have a part for each field that is indexed.
+ghost use Rattle.std.specs.Prelude.{◌≡◌, ◌≢◌, slice_get, Some, IfOk, IfErr, MatchBool, MatchOption};
+ghost use Rattle.seg_model.specs.Fields as model;
+ghost use Rattle.seg_build.specs.Holds.{indexed_fields};
+ghost use Rattle.seg_open.specs.IndexedParts.{part_fields, HaveIndexedParts, LackIndexedParts, LacksParts};
+
+use crate::open_error::OpenError;
+use seg_common::{OwnedBytes, SegmentComponent};
+use seg_directory::CompositeFile;
+use seg_values::{FieldEntry, IndexOption, Schema};
+
+/// The parts of each indexed field: its dictionary, its postings and its positions.
+#[derive(Drop)]
+pub(crate) struct TermFiles {
+    pub terms: CompositeFile,
+    pub postings: CompositeFile,
+    pub positions: CompositeFile,
+}
+
+/// Opens the tables of the three files, in this order.
+pub(crate) fn open_term_files(
+    terms: OwnedBytes,
+    postings: OwnedBytes,
+    positions: OwnedBytes,
+    schema: &Schema,
+) -> Result<TermFiles, OpenError>
+    ensures terms { IfOk result (λ files. HaveIndexedParts schema.now terms files.terms) }
+    ensures postings { IfOk result (λ files. HaveIndexedParts schema.now postings files.postings) }
+    ensures positions { IfOk result (λ files. HaveIndexedParts schema.now positions files.positions) }
+    ensures err { IfErr result (LacksParts schema.now terms postings positions) }
+{
+    let Some(terms) = open_parts(terms, schema) else {
+        return Err(OpenError::Damaged(SegmentComponent::Terms));
+    };
+    let Some(postings) = open_parts(postings, schema) else {
+        return Err(OpenError::Damaged(SegmentComponent::Postings));
+    };
+    let Some(positions) = open_parts(positions, schema) else {
+        return Err(OpenError::Damaged(SegmentComponent::Positions));
+    };
+    Ok(TermFiles {
+        terms,
+        postings,
+        positions,
+    })
+}
+
+/// A file that has a part for each field that is indexed, and no other.
+fn open_parts(bytes: OwnedBytes, schema: &Schema) -> Option<CompositeFile>
+    ensures { MatchOption result (LackIndexedParts schema.now bytes) (λ parts. HaveIndexedParts schema.now bytes parts) }
+{
+    let Ok(file) = CompositeFile::open(bytes) else {
+        return None;
+    };
+    if !has_fields(&file, schema) {
+        return None;
+    }
+    Some(file)
+}
+
+/// Whether the parts of a file are those of the indexed fields.
+fn has_fields(file: &CompositeFile, schema: &Schema) -> bool
+    ensures { MatchBool result
+        (part_fields file.now ≡ indexed_fields schema.now)
+        (part_fields file.now ≢ indexed_fields schema.now) }
+{
+    are_parts_of(file, schema.fields())
+}
+
+fn are_parts_of(file: &CompositeFile, entries: &[FieldEntry]) -> bool
+    ensures { MatchBool result
+        (part_fields file.now ≡ indexed_fields entries.now)
+        (part_fields file.now ≢ indexed_fields entries.now) }
+{
+    let count = file.num_fields();
+    let mut place = 0;
+    for (field, entry) in entries.iter().enumerate() {
+        if is_indexed(entry) {
+            if !is_part_of(file, place, field) {
+                return false;
+            }
+            place += 1;
+        }
+    }
+    place == count
+}
+
+/// Whether the part at a place is that of a field.
+fn is_part_of(file: &CompositeFile, place: u32, field: usize) -> bool
+    ensures { MatchBool result
+        (slice_get (part_fields file.now) place ≡ Some field)
+        (slice_get (part_fields file.now) place ≢ Some field) }
+{
+    if place >= file.num_fields() {
+        return false;
+    }
+    let (part_field, _bytes) = file.part(place);
+    part_field.field_id() as usize == field
+}
+
+pub(crate) fn is_indexed(entry: &FieldEntry) -> bool
+    ensures { result ≡ model.is_indexed entry.now }
+{
+    match entry.index {
+        IndexOption::No => false,
+        _ => true,
+    }
+}

@@ -1,0 +1,106 @@
+//! A small segment, and the files that it is read from.
+ghost use Rattle.std.specs.Prelude.{◌≡◌, IfOk};
+
+use seg_build::{SegmentWriter, is_built_schema};
+use seg_common::{DateTimePrecision, FileName, OwnedBytes, SegmentComponent, SegmentId};
+use seg_directory::{MemoryDirectory, read_file};
+use seg_meta::{Compressor, IndexSettings, Segment, SegmentMeta};
+use seg_open::SegmentReader;
+use seg_values::{
+    DefaultTokenizer, Field, FieldEntry, FieldKind, IndexOption, Schema, SchemaBuilder, TResult,
+    TantivyDocument, TantivyError, Text, TokenizerManager,
+};
+use std::alloc::{AllocError, Global};
+
+/// The components, in the order in which their files are read.
+pub(crate) const COMPONENTS: [SegmentComponent; 6] = [
+    SegmentComponent::Terms,
+    SegmentComponent::Store,
+    SegmentComponent::Postings,
+    SegmentComponent::Positions,
+    SegmentComponent::FastFields,
+    SegmentComponent::FieldNorms,
+];
+
+pub(crate) fn name(component: SegmentComponent) -> FileName {
+    FileName::Part(SegmentId::from_u128(7), component)
+}
+
+/// A stored text field whose terms record positions.
+fn title(alloc: Global) -> Result<FieldEntry, AllocError>
+    ensures { IfOk result (λ e. (e.kind ≡ FieldKind.Text) × (e.index ≡ IndexOption.Positions)) }
+{
+    Ok(FieldEntry {
+        name: Text::copy_of(alloc, "title")?,
+        kind: FieldKind::Text,
+        stored: true,
+        index: IndexOption::Positions,
+        tokenizer: None,
+        norms: true,
+        fast: false,
+        fast_tokenizer: None,
+        precision: DateTimePrecision::Seconds,
+        expand_dots: false,
+    })
+}
+
+/// The segment, of two documents.
+fn segment(alloc: Global) -> TResult<Segment> {
+    let mut builder = SchemaBuilder::new(alloc);
+    let _ = builder.add_field(title(alloc)?).is_ok();
+    let meta = SegmentMeta::new(SegmentId::from_u128(7), 2, None);
+    Ok(Segment::new(builder.build(), meta))
+}
+
+fn analyzers(alloc: Global) -> Result<TokenizerManager, AllocError> {
+    let mut manager = TokenizerManager::new(alloc);
+    manager.register("default", Box::new(alloc, DefaultTokenizer)?)?;
+    Ok(manager)
+}
+
+/// A directory with the files of the documents `a b a` and `b`.
+pub(crate) fn written(alloc: Global) -> TResult<MemoryDirectory> {
+    let settings = IndexSettings {
+        docstore_compression: Compressor::None,
+        docstore_blocksize: 16384,
+        docstore_compress_dedicated_thread: false,
+    };
+    let analyzers = analyzers(alloc)?;
+    let mut writer = SegmentWriter::for_segment(
+        alloc,
+        15_000,
+        segment(alloc)?,
+        &settings,
+        &analyzers,
+    )?;
+    for text in ["a b a", "b"] {
+        let mut document = TantivyDocument::new(alloc);
+        document.add_text(Field::from_field_id(0), text)?;
+        writer.add_ref(0, &document)?;
+    }
+    let Ok(mut directory) = MemoryDirectory::new(alloc, Vec::new(alloc)) else {
+        return Err(TantivyError::OutOfMemory);
+    };
+    let made = writer.into_segment()?;
+    made.bytes
+        .write(alloc, SegmentId::from_u128(7), &mut directory)?;
+    Ok(directory)
+}
+
+/// The segment of a directory.
+pub(crate) fn opened(alloc: Global, directory: &mut MemoryDirectory) -> TResult<SegmentReader> {
+    let segment = segment(alloc)?;
+    if !is_built_schema(segment.schema().fields()) {
+        return Err(TantivyError::SystemError);
+    }
+    SegmentReader::open(alloc, &segment, directory)
+}
+
+/// The bytes of a file.
+pub(crate) fn file(
+    alloc: Global,
+    directory: &mut MemoryDirectory,
+    component: SegmentComponent,
+) -> TResult<OwnedBytes> {
+    read_file(alloc, directory, name(component))
+}
