@@ -1,7 +1,7 @@
 //! Files that are missing, cut, longer, or have another bit.
 
 use crate::segments::{COMPONENTS, file, name, opened, written};
-use seg_common::SegmentComponent;
+use seg_common::{OwnedBytes, SegmentComponent};
 use seg_directory::MemoryDirectory;
 use seg_values::{TResult, TantivyError};
 use std::alloc::{AllocError, Global};
@@ -33,19 +33,49 @@ fn answer(alloc: Global, component: SegmentComponent, bytes: &[u8]) -> TResult<(
     }
 }
 
-#[test]
-fn a_cut_or_longer_file_is_told(rt: HostRuntime) -> Result<(), Fail> {
-    let alloc = rt.alloc();
-    let mut directory = written(alloc)?;
-    for component in COMPONENTS {
-        let whole = file(alloc, &mut directory, component)?;
-        let whole = whole.as_slice();
-        for end in 0..whole.len() {
-            assert!(rt; is_told(answer(alloc, component, &whole[..end]), component));
+/// Whether each shorter front of the file is told to be damaged.
+fn cuts_are_told(alloc: Global, component: SegmentComponent, whole: &[u8]) -> bool {
+    for end in 0..whole.len() {
+        if !is_told(answer(alloc, component, &whole[..end]), component) {
+            return false;
         }
-        let mut longer = Vec::from_slice(alloc, whole)?;
-        longer.push(0)?;
-        assert!(rt; is_told(answer(alloc, component, &longer), component));
+    }
+    true
+}
+
+/// Whether the file with a byte more is told to be damaged.
+fn a_longer_is_told(
+    alloc: Global,
+    component: SegmentComponent,
+    whole: &[u8],
+) -> Result<bool, AllocError> {
+    let mut longer = Vec::from_slice(alloc, whole)?;
+    longer.push(0)?;
+    Ok(is_told(answer(alloc, component, &longer), component))
+}
+
+/// The bytes of the file of a component.
+fn whole(alloc: Global, component: SegmentComponent) -> TResult<OwnedBytes> {
+    let mut directory = written(alloc)?;
+    file(alloc, &mut directory, component)
+}
+
+#[test]
+fn a_cut_file_is_told(rt: HostRuntime) -> Result<(), Fail> {
+    let alloc = rt.alloc();
+    for component in COMPONENTS {
+        let file = whole(alloc, component)?;
+        assert!(rt; cuts_are_told(alloc, component, file.as_slice()));
+    }
+    Ok(())
+}
+
+#[test]
+fn a_longer_file_is_told(rt: HostRuntime) -> Result<(), Fail> {
+    let alloc = rt.alloc();
+    for component in COMPONENTS {
+        let file = whole(alloc, component)?;
+        assert!(rt; a_longer_is_told(alloc, component, file.as_slice())?);
     }
     Ok(())
 }
@@ -59,33 +89,51 @@ fn flipped(alloc: Global, bytes: &[u8], at: usize) -> Result<Vec<u8>, AllocError
     Ok(flipped)
 }
 
+/// Whether an answer is that the segment is open, or that a file is damaged.
+fn is_read_or_told(answer: TResult<()>) -> bool {
+    matches!(
+        answer,
+        Ok(()) | Err(TantivyError::DataCorruption { name: _ })
+    )
+}
+
+/// Whether the file with each byte flipped is read, or told to be damaged.
+fn flips_are_seen(
+    alloc: Global,
+    component: SegmentComponent,
+    whole: &[u8],
+) -> Result<bool, AllocError> {
+    for at in 0..whole.len() {
+        let bytes = flipped(alloc, whole, at)?;
+        if !is_read_or_told(answer(alloc, component, &bytes)) {
+            return Ok(false);
+        }
+    }
+    Ok(true)
+}
+
 #[test]
 fn another_bit_is_read_or_told(rt: HostRuntime) -> Result<(), Fail> {
     let alloc = rt.alloc();
-    let mut directory = written(alloc)?;
     for component in COMPONENTS {
-        let whole = file(alloc, &mut directory, component)?;
-        let whole = whole.as_slice();
-        for at in 0..whole.len() {
-            match answer(alloc, component, &flipped(alloc, whole, at)?) {
-                Ok(()) => {}
-                Err(TantivyError::DataCorruption { name: _ }) => {}
-                Err(_) => return Err(Fail::from("another error")),
-            }
-        }
+        let file = whole(alloc, component)?;
+        assert!(rt; flips_are_seen(alloc, component, file.as_slice())?);
     }
     Ok(())
 }
 
+/// Why nothing is opened in a directory without files.
+fn refusal(alloc: Global) -> Option<TantivyError> {
+    let mut directory = MemoryDirectory::new(alloc, Vec::new(alloc)).ok()?;
+    opened(alloc, &mut directory).err()
+}
+
 #[test]
 fn a_missing_file_is_told(rt: HostRuntime) -> Result<(), Fail> {
-    let alloc = rt.alloc();
-    let mut directory = match MemoryDirectory::new(alloc, Vec::new(alloc)) {
-        Ok(directory) => directory,
-        Err(_) => return Err(Fail::from("no memory")),
-    };
-    let none = opened(alloc, &mut directory).err();
     let terms = name(SegmentComponent::Terms);
-    assert_eq!(rt; none, Some(TantivyError::DataCorruption { name: terms }));
+    assert_eq!(rt;
+        refusal(rt.alloc()),
+        Some(TantivyError::DataCorruption { name: terms })
+    );
     Ok(())
 }

@@ -7,8 +7,8 @@ use seg_directory::{MemoryDirectory, read_file};
 use seg_meta::{Compressor, IndexSettings, Segment, SegmentMeta};
 use seg_open::SegmentReader;
 use seg_values::{
-    DefaultTokenizer, Field, FieldEntry, FieldKind, IndexOption, Schema, SchemaBuilder, TResult,
-    TantivyDocument, TantivyError, Text, TokenizerManager,
+    Analyzers, DefaultTokenizer, Field, FieldEntry, FieldKind, IndexOption, Schema, SchemaBuilder,
+    TResult, TantivyDocument, TantivyError, Text, Tokenizer, Tokens,
 };
 use std::alloc::{AllocError, Global};
 
@@ -52,10 +52,29 @@ fn segment(alloc: Global) -> TResult<Segment> {
     Ok(Segment::new(builder.build(), meta))
 }
 
-fn analyzers(alloc: Global) -> Result<TokenizerManager, AllocError> {
-    let mut manager = TokenizerManager::new(alloc);
-    manager.register("default", Box::new(alloc, DefaultTokenizer)?)?;
-    Ok(manager)
+/// An analyzer that has the words of a text under every name.
+struct Words;
+
+impl Analyzers for Words {
+    ghost use Rattle.seg_values.specs.Tokenizers.{default_tokens};
+
+    ghost knows = { λ _ _. Unit {0} };
+
+    ghost tokens_of = { λ _ _ text. default_tokens text };
+
+    fn known(&self, _name: &str) -> bool {
+        true
+    }
+
+    fn tokens(
+        &self,
+        alloc: Global,
+        _name: &str,
+        text: &str,
+        out: &mut Tokens,
+    ) -> Result<(), AllocError> {
+        DefaultTokenizer.tokens(alloc, text, out)
+    }
 }
 
 /// A directory with the files of the documents `a b a` and `b`.
@@ -65,14 +84,7 @@ pub(crate) fn written(alloc: Global) -> TResult<MemoryDirectory> {
         docstore_blocksize: 16384,
         docstore_compress_dedicated_thread: false,
     };
-    let analyzers = analyzers(alloc)?;
-    let mut writer = SegmentWriter::for_segment(
-        alloc,
-        15_000,
-        segment(alloc)?,
-        &settings,
-        &analyzers,
-    )?;
+    let mut writer = SegmentWriter::for_segment(alloc, 15_000, segment(alloc)?, &settings, &Words)?;
     for text in ["a b a", "b"] {
         let mut document = TantivyDocument::new(alloc);
         document.add_text(Field::from_field_id(0), text)?;
