@@ -2,44 +2,60 @@
 
 use crate::segments::{opened, written};
 use seg_open::SegmentReader;
-use seg_postings::InvertedIndexReader;
+use seg_postings::{InvertedIndexReader, PostingsError, SegmentPostings};
 use seg_values::{Field, OwnedValue};
 use std::alloc::Global;
 use std::test::Fail;
 
 const TITLE: u32 = 0;
 
-/// The documents of a term, with the positions in each.
-fn postings(
+/// Whether postings are at a document, with these positions.
+fn is_at(
+    alloc: Global,
+    postings: &SegmentPostings<'_>,
+    document: u32,
+    positions: &[u32],
+) -> Result<bool, PostingsError> {
+    let mut found = Vec::new(alloc);
+    postings.positions(&mut found)?;
+    Ok(postings.doc() == document && found.as_slice() == positions)
+}
+
+/// Whether a term occurs in these documents alone, each with its positions.
+fn occurs(
     alloc: Global,
     index: &InvertedIndexReader,
     term: &[u8],
-) -> Result<Vec<(u32, Vec<u32>)>, Fail> {
-    let mut found = Vec::new(alloc);
+    wanted: &[(u32, &[u32])],
+) -> Result<bool, PostingsError> {
     let Some(info) = index.terms().get(term) else {
-        return Ok(found);
+        return Ok(false);
     };
     let mut postings = index.read_postings_from_terminfo(&info);
-    for _ in 0..postings.doc_freq() {
-        let mut positions = Vec::new(alloc);
-        postings.positions(&mut positions)?;
-        found.push((postings.doc(), positions))?;
+    if postings.doc_freq() as usize != wanted.len() {
+        return Ok(false);
+    }
+    for (document, positions) in wanted {
+        if !is_at(alloc, &postings, *document, positions)? {
+            return Ok(false);
+        }
         postings.advance();
     }
-    Ok(found)
+    Ok(true)
 }
 
-/// Whether the postings are these.
-fn are(found: &[(u32, Vec<u32>)], wanted: &[(u32, &[u32])]) -> bool {
-    if found.len() != wanted.len() {
-        return false;
+/// Whether both terms of the title are as they were written.
+fn has_both_terms(alloc: Global, reader: &SegmentReader) -> Result<bool, PostingsError> {
+    let Some(index) = reader.inverted_index(Field::from_field_id(TITLE)) else {
+        return Ok(false);
+    };
+    if index.terms().num_terms() != 2 || index.total_num_tokens() != 4 {
+        return Ok(false);
     }
-    for (posting, (document, positions)) in found.iter().zip(wanted) {
-        if posting.0 != *document || posting.1.as_slice() != *positions {
-            return false;
-        }
+    if !occurs(alloc, index, b"a", &[(0, &[0, 2])])? {
+        return Ok(false);
     }
-    true
+    occurs(alloc, index, b"b", &[(0, &[1]), (1, &[0])])
 }
 
 #[test]
@@ -47,16 +63,24 @@ fn terms_are_read(rt: HostRuntime) -> Result<(), Fail> {
     let alloc = rt.alloc();
     let mut directory = written(alloc)?;
     let reader = opened(alloc, &mut directory)?;
-    assert_eq!(rt; reader.max_doc(), 2);
-    assert_eq!(rt; reader.schema().num_fields(), 1);
-    let index = reader
-        .inverted_index(Field::from_field_id(TITLE))
-        .ok_or("no index")?;
-    assert_eq!(rt; index.terms().num_terms(), 2);
-    assert_eq!(rt; index.total_num_tokens(), 4);
-    assert!(rt; are(&postings(alloc, index, b"a")?, &[(0, &[0, 2])]));
-    assert!(rt; are(&postings(alloc, index, b"b")?, &[(0, &[1]), (1, &[0])]));
-    assert!(rt; reader.inverted_index(Field::from_field_id(1)).is_none());
+    assert!(rt; has_both_terms(alloc, &reader)?);
+    Ok(())
+}
+
+/// Whether the segment has two documents and one field.
+fn has_its_numbers(reader: &SegmentReader) -> bool {
+    let other = Field::from_field_id(1);
+    reader.max_doc() == 2
+        && reader.schema().num_fields() == 1
+        && reader.inverted_index(other).is_none()
+}
+
+#[test]
+fn numbers_are_read(rt: HostRuntime) -> Result<(), Fail> {
+    let alloc = rt.alloc();
+    let mut directory = written(alloc)?;
+    let reader = opened(alloc, &mut directory)?;
+    assert!(rt; has_its_numbers(&reader));
     Ok(())
 }
 
