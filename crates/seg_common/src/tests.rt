@@ -189,6 +189,8 @@ fn names_of_files(rt: HostRuntime) -> Result<(), Fail> {
         assert_eq!(rt; name.text(rt.alloc())?.as_str(), text);
     }
     assert_eq!(rt; id.uuid_string(rt.alloc())?.as_str(), digits);
+    assert_eq!(rt; id.encode_uuid(&mut [0u8; 32]), digits);
+    assert_eq!(rt; SegmentComponent::Store.extension(), ".store");
     assert_eq!(rt; SegmentId::from_uuid_string(digits), Some(id));
     let last = SegmentId::from_uuid_string("ffffffffffffffffffffffffffffffff");
     assert_eq!(rt; last, Some(SegmentId::from_u128(u128::MAX)));
