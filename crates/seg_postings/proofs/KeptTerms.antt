@@ -1,9 +1,8 @@
 -- The terms of a field that is read, as a map.
-use Rattle.std.proofs.Common.{◌≡◌, ℕ, zero, suc, ◌+◌, ◌<◌, ◌≤◌, Bool, true, false, cond, T, ◌&&◌, List, [], ◌∷◌, map, length, drop, slice_range, Option, Some, None, refl, sym, ap, ◌∙◌, subst, arith}
-use Rattle.std.specs.Prelude.{option_map, option_and_then}
+use Rattle.std.proofs.Common.{◌≡◌, ℕ, ◌<◌, Bool, true, false, cond, T, ◌&&◌, List, [], ◌∷◌, map, length, slice_range, Some, refl, sym, ap, ◌∙◌, subst}
 use Rattle.std.specs.FinMap.Entries.{below_all}
 use Rattle.std.specs.FinMap.{find, is_sorted, entries-from_sorted, get-from_sorted, slice_cmp-IsAntisymmetric, nat_cmp-IsAntisymmetric}
-use Rattle.std.specs.List.{AllByRecursion, range_with_len}
+use Rattle.std.specs.List.{AllByRecursion}
 use Rattle.std.specs.List.Sorted.{IsStrictlySortedBy}
 use Rattle.std.specs.Ordering.{nat_cmp, is_lt, is_eq, eq_by_cmp}
 use Rattle.std.specs.Cmp.Lexicographic.{slice_cmp}
@@ -16,10 +15,10 @@ use Rattle.seg_values.specs.declared.schema.FieldKind.TheVariants.{Text}
 use Rattle.seg_model.specs.Fields.{is_text, is_json, is_facet}
 use Rattle.seg_model.specs.Reading.{Posting, term_option}
 use Rattle.seg_model.specs.Shape.{ArePostings, IsTermWith}
-use Rattle.seg_termdict.specs.Dictionary.{Term, AreKeys, key_of, term_of, terms_in, terms_of, IsDictionary}
-use Rattle.seg_termdict.proofs.KeyOrder.{rising}
+use Rattle.seg_termdict.specs.Dictionary.{Term, terms_of}
+use Rattle.seg_termdict.proofs.SortedKeys.{dictionary_sorted}
 use Rattle.seg_postings.specs.Postings.{TermPostings, term_postings}
-use Rattle.seg_postings.specs.Field.{term_at, terms_at, IsField}
+use Rattle.seg_postings.specs.Field.{term_at, terms_at}
 use Rattle.seg_postings.specs.FieldWriting.{TermWritten}
 use Rattle.seg_postings.specs.HeldTerms.{TermsReadHaveShape}
 use Rattle.seg_postings.specs.Kinds.{kind_of}
@@ -43,21 +42,6 @@ keys_kept postings positions (t ∷ ts) ws e =
     let others = keys_kept postings positions ts rest.value rest.is in
     ap (λ (xs : List TermWritten). map (λ (e : List ℕ × List Posting). e.0) (map entry_of xs)) (sym rest.same) ∙ (λ i. key i ∷ others i)
 
-module _ (ends keys infos : List ℕ) (count : ℕ) (are : AreKeys ends keys count) where
-  above : (i from n : ℕ) → i < from → from + n ≤ count → AllByRecursion (λ y. slice_cmp nat_cmp (key_of ends keys i) y ≡ Less) (map (λ (t : Term). t.0) (map (term_of ends keys infos) (range_with_len from n)))
-  above i from zero lt le = tt
-  above i from (suc n) lt le = (rising ends keys count are i from lt (omega (arith, le)), above i (from + 1) n (omega (arith, lt)) (omega (arith, le)))
-
-  sorted_from : (from n : ℕ) → from + n ≤ count → IsStrictlySortedBy (slice_cmp nat_cmp) (map (λ (t : Term). t.0) (map (term_of ends keys infos) (range_with_len from n)))
-  unfolding IsStrictlySortedBy
-  sorted_from from zero le = tt
-  sorted_from from (suc n) le = (above from (from + 1) n (omega arith) (omega (arith, le)), sorted_from (from + 1) n (omega (arith, le)))
-
--- the keys of a dictionary strictly rise
-dictionary_sorted : (bytes : List ℕ) → IsDictionary bytes → IsStrictlySortedBy (slice_cmp nat_cmp) (map (λ (t : Term). t.0) (terms_of bytes))
-unfolding terms_of terms_in
-dictionary_sorted bytes d = sorted_from _ _ _ _ d.keys 0 _ (omega arith)
-
 same_key : (q k : List ℕ) → eq_by_cmp (slice_cmp nat_cmp) q k ≡ true → k ≡ q
 same_key q k h = by (slice_cmp nat_cmp q k) refl h
   where
@@ -68,7 +52,7 @@ same_key q k h = by (slice_cmp nat_cmp q k) refl h
 
 module _ {Y : Type 0} where
   -- entries whose keys strictly rise are sorted
-  is_sorted-rising : (es : List (List ℕ × Y)) → IsStrictlySortedBy (slice_cmp nat_cmp) (map (λ e. e.0) es) → is_sorted (slice_cmp nat_cmp) es ≡ true
+  pub is_sorted-rising : (es : List (List ℕ × Y)) → IsStrictlySortedBy (slice_cmp nat_cmp) (map (λ e. e.0) es) → is_sorted (slice_cmp nat_cmp) es ≡ true
   unfolding IsStrictlySortedBy
   is_sorted-rising [] h = refl
   is_sorted-rising (e ∷ es) h = both (all es h.0) (is_sorted-rising es h.1)

@@ -1,5 +1,6 @@
 mod DictionaryRanges
 mod FieldGoals
+mod FieldMap
 mod FieldRead
 mod FieldSteps
 mod KeptTerms

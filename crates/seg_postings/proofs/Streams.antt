@@ -11,7 +11,7 @@ use Rattle.seg_postings.specs.Kinds.{kind_of_byte}
 use Rattle.seg_postings.specs.Passing.{Passes}
 use Rattle.seg_postings.specs.Postings.{number_at, positions_at, postings_of_kind, TermPostings, term_postings}
 use Rattle.seg_postings.specs.PostingsLeft.{counted_at, recorded_at, postings_at, postings_from}
-use Rattle.seg_postings.specs.PostingsReading.{kind_at, left_from, can_be_read, count_of, places_of}
+use Rattle.seg_postings.specs.PostingsReading.{kind_at, left_from, can_be_read, count_of, places_of, kind_kept}
 use Rattle.seg_postings.proofs.PostingsSteps.{first_document, with_first, first_recorded}
 use Rattle.seg_postings.proofs.FieldRead.{none_length, some_is}
 
@@ -102,6 +102,17 @@ unfolding recorded_at
 count_kept Documents count qs recorded after e = sym (ap (λ (y : Recorded × List ℕ). count_of y.0) (some_is e))
 count_kept Counts count qs recorded after e = sym (ap (λ (y : Recorded × List ℕ). count_of y.0) (some_is e))
 count_kept Positions count qs recorded after e = positions_kept count qs recorded after (positions_at count 0 qs) refl e
+
+positions_recorded : (recorded : Recorded) (after : List ℕ) (o : Option (List ℕ × List ℕ)) → option_map {U = Recorded × List ℕ} (λ (r : List ℕ × List ℕ). (positions r.0, r.1)) o ≡ Some (recorded, after) → kind_kept recorded ≡ Positions
+positions_recorded recorded after None e = absurd cc
+positions_recorded recorded after (Some r) e = sym (ap (λ (y : Recorded × List ℕ). kind_kept y.0) (some_is e))
+
+-- what is recorded is what the kind keeps
+pub recorded_kind : (kind : RecordKind) (count : ℕ) (qs : List ℕ) (recorded : Recorded) (after : List ℕ) → recorded_at kind count qs ≡ Some (recorded, after) → kind_kept recorded ≡ kind
+unfolding recorded_at
+recorded_kind Documents count qs recorded after e = sym (ap (λ (y : Recorded × List ℕ). kind_kept y.0) (some_is e))
+recorded_kind Counts count qs recorded after e = sym (ap (λ (y : Recorded × List ℕ). kind_kept y.0) (some_is e))
+recorded_kind Positions count qs recorded after e = positions_recorded recorded after (positions_at count 0 qs) e
 
 pub documents_keep : (kind : RecordKind) (count : ℕ) → kind ≡ Documents → kept kind count ≡ 1
 documents_keep kind count is = rw is refl

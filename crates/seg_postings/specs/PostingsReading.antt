@@ -3,6 +3,7 @@ use Rattle.std.specs.Prelude.{ℕ, ◌-◌, ◌^◌, Bool, true, List, [], ◌�
 use Rattle.seg_model.specs.Reading.{Recorded, presence, frequency, positions, Posting}
 use Rattle.seg_postings.specs.declared.documents.CountedDocument.{CountedDocument}
 use Rattle.seg_postings.specs.declared.record_kind.RecordKind.{RecordKind}
+use Rattle.seg_postings.specs.declared.record_kind.RecordKind.TheVariants.{Documents, Counts, Positions}
 use Rattle.seg_postings.specs.Kinds.{kind_of_byte}
 use Rattle.seg_postings.specs.PostingsLeft.{postings_from}
 
@@ -51,3 +52,14 @@ places_of _ = []
 abbrev pub positions_of : List Posting → List ℕ
 positions_of [] = []
 positions_of (p ∷ ps) = places_of p.recorded
+
+-- the kind that keeps what is recorded
+abbrev pub kind_kept : Recorded → RecordKind
+kind_kept presence = Documents
+kind_kept (frequency n) = Counts
+kind_kept (positions ps) = Positions
+
+-- the kind that keeps what is recorded of the current document; none at the end
+abbrev pub kept_kind_of : List Posting → Option RecordKind
+kept_kind_of [] = None
+kept_kind_of (p ∷ ps) = Some (kind_kept p.recorded)

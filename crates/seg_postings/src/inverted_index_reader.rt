@@ -1,7 +1,9 @@
 //! A field that is open.
 ghost use Rattle.std.specs.Prelude.{◌≡◌, map, length};
+ghost use Rattle.std.specs.FinMap.{entries};
 ghost use Rattle.std.specs.List.{AllByRecursion, Any};
-ghost use Rattle.seg_postings.specs.FieldReading.{IsReadable, read_term, dictionary_terms};
+ghost use Rattle.seg_postings.specs.FieldReading.{IsReadable, read_term, dictionary_terms, written_terms};
+ghost use Rattle.seg_postings.specs.HeldTerms.{terms_held};
 
 use crate::range::bytes_in;
 use crate::segment_postings::SegmentPostings;
@@ -48,6 +50,13 @@ impl InvertedIndexReader {
             postings,
             positions,
         }
+    }
+
+    /// The terms strictly ascend in byte order, so they are those of a map.
+    pub fn terms_ascend(&self)
+        ensures { entries (terms_held (written_terms self.now)) ≡ map (λ t. (t.bytes, t.postings)) self.now.terms }
+    {
+        self.terms.keys_ascend();
     }
 
     /// The dictionary of the field.

@@ -2,7 +2,7 @@
 ghost use Rattle.std.specs.Prelude.{◌≡◌, ◌<◌, ◌-◌, ◌++◌, ℕ, true, is_some, drop, option_map, unwrap_or, [], Some, None, IfErr, OnOk, MatchOption};
 ghost use Rattle.seg_postings.specs.Postings.{positions_at, term_postings};
 ghost use Rattle.seg_postings.specs.PostingsLeft.{postings_from};
-ghost use Rattle.seg_postings.specs.PostingsReading.{kind_at, left_from, can_be_read, document_of, term_freq_of, positions_of};
+ghost use Rattle.seg_postings.specs.PostingsReading.{kind_at, left_from, can_be_read, document_of, kept_kind_of, term_freq_of, positions_of};
 
 use crate::documents::{CountedDocument, TERMINATED, pass_recorded, take_document, take_number};
 use crate::error::PostingsError;
@@ -84,6 +84,16 @@ impl<'a> SegmentPostings<'a> {
         );
         self.left = self.left.saturating_sub(1);
         self.doc()
+    }
+
+    /// What the postings keep of the current document; none at the end.
+    pub fn record_kind(&self) -> Option<RecordKind>
+        ensures { result ≡ kept_kind_of self.now.left }
+    {
+        match self.current {
+            Some(_current) => Some(self.kind),
+            None => None,
+        }
     }
 
     /// How often the term occurs in the current document: 1 where that isn't kept, and at the end.

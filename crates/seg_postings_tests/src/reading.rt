@@ -2,7 +2,7 @@
 
 use crate::fields::{Parts, WITH_COUNTS, WITH_DOCUMENTS, WITH_POSITIONS, open};
 use crate::walk::{add_postings, postings_of, put, walk};
-use seg_postings::PostingsError;
+use seg_postings::{PostingsError, RecordKind};
 use seg_values::IndexOption;
 use std::alloc::Global;
 use std::test::Fail;
@@ -94,5 +94,30 @@ fn a_term_is_looked_up(rt: HostRuntime) -> Result<(), Fail> {
     };
     assert_eq!(rt; found.as_slice(), [1, 1, 1, 2, u32::MAX].as_slice());
     assert!(rt; told_of(alloc, b"c")?.is_none());
+    Ok(())
+}
+
+/// What the postings of the term `a` keep.
+fn kept(
+    alloc: Global,
+    index: IndexOption,
+    parts: Parts,
+) -> Result<Option<RecordKind>, PostingsError> {
+    let reader = open(alloc, index, parts.terms, parts.postings, parts.positions)?;
+    let Some(postings) = postings_of(&reader, b"a") else {
+        return Ok(None);
+    };
+    Ok(postings.record_kind())
+}
+
+#[test]
+fn postings_tell_what_they_keep(rt: HostRuntime) -> Result<(), Fail> {
+    let alloc = rt.alloc();
+    let documents = kept(alloc, IndexOption::Basic, WITH_DOCUMENTS)?;
+    assert_eq!(rt; documents, Some(RecordKind::Documents));
+    let counts = kept(alloc, IndexOption::Freqs, WITH_COUNTS)?;
+    assert_eq!(rt; counts, Some(RecordKind::Counts));
+    let positions = kept(alloc, IndexOption::Positions, WITH_POSITIONS)?;
+    assert_eq!(rt; positions, Some(RecordKind::Positions));
     Ok(())
 }

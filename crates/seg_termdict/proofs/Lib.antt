@@ -5,4 +5,5 @@ mod InfoLemmas
 mod KeyLemmas
 pub mod KeyOrder
 pub mod LastTerm
+pub mod SortedKeys
 mod TermLemmas

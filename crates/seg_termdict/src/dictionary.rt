@@ -1,5 +1,8 @@
 //! Term dictionaries that are read from their bytes.
-ghost use Rattle.std.specs.Prelude.{◌≡◌, ◌≤◌, ◌<◌, [], length, slice_get, Contains, IfOk, IfErr, IsSomeAnd, MatchBool, MatchOption, MatchResult};
+ghost use Rattle.std.specs.Prelude.{◌≡◌, ◌≤◌, ◌<◌, [], length, map, slice_get, Contains, IfOk, IfErr, IsSomeAnd, MatchBool, MatchOption, MatchResult};
+ghost use Rattle.std.specs.Cmp.Lexicographic.{slice_cmp};
+ghost use Rattle.std.specs.List.Sorted.{IsStrictlySortedBy};
+ghost use Rattle.std.specs.Ordering.{nat_cmp};
 ghost use Rattle.seg_termdict.specs.Dictionary.{Term, IsDictionary, terms_of};
 ghost use Rattle.seg_termdict.specs.LookUps.{Refuses, Lacks, HasKeyAt};
 ghost use Rattle.seg_termdict.specs.Streaming.{all_terms};
@@ -41,6 +44,13 @@ impl TermDictionary {
             Ok(count) => Ok(TermDictionary { bytes, count }),
             Err(error) => Err(error),
         }
+    }
+
+    /// What the bytes were checked for: the keys strictly ascend in byte order.
+    pub fn keys_ascend(&self)
+        ensures { IsStrictlySortedBy (slice_cmp nat_cmp) (map (λ t. t.0) self.now) }
+    {
+        let _bytes = &self.bytes;
     }
 
     /// How many terms there are.
