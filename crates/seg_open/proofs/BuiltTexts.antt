@@ -1,5 +1,5 @@
 -- Of a schema that is built each indexed field is a text, and no column is declared.
-use Rattle.std.proofs.Common.{◌≡◌, true, false, cond, [], ◌∷◌, ◌++◌, refl, sym, ap, ◌∙◌}
+use Rattle.std.proofs.Common.{◌≡◌, true, cond, [], ◌∷◌, ◌++◌, refl, sym, ap, ◌∙◌}
 use Rattle.std.proofs.lemmas.Bool.{false≢true}
 use Rattle.seg_model.specs.Columns.{declared_columns, declared_type, column_named, is_declared}
 use Rattle.seg_model.specs.Fields.{Schema, is_text}

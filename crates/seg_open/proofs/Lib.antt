@@ -1,7 +1,10 @@
 pub mod BuiltTexts
 pub mod Disagreeing
 pub mod FieldsFit
+pub mod FilesMade
+pub mod FilesStand
 pub mod HeldFields
 pub mod OpenSpells
 pub mod Opened
+pub mod PlacesOpened
 pub mod ReadingSteps

@@ -2,7 +2,7 @@
 use Rattle.std.proofs.Common.{◌≡◌, ℕ, zero, suc, arith, true, false, List, [], ◌∷◌, map, length, Option, Some, None, refl, sym, ap, ◌∙◌, subst, slice_get}
 use Rattle.std.specs.Prelude.{is_some, unwrap_or}
 use Rattle.std.specs.FinMap.{get, empty, get-empty}
-use Rattle.std.specs.List.{slice_index_or, list_any}
+use Rattle.std.specs.List.{slice_index_or}
 use Rattle.std.specs.Option.{option_map}
 use Rattle.std.specs.Ordering.{nat_cmp}
 use Rattle.std.specs.Cmp.Lexicographic.{slice_cmp}
@@ -10,8 +10,7 @@ use Rattle.std.proofs.lemmas.Bool.{false≢true}
 use Rattle.std.proofs.lemmas.List.{length-map}
 use Rattle.std.proofs.lemmas.Option.{slice_get-map, unwrap_or-slice_get}
 use Rattle.seg_values.specs.declared.schema.FieldEntry.{FieldEntry}
-use Rattle.seg_model.specs.Columns.{ColumnKey, ColumnValue, declared_columns, is_declared}
-use Rattle.seg_model.specs.Fields.{Schema, is_indexed, is_text}
+use Rattle.seg_model.specs.Fields.{is_indexed}
 use Rattle.seg_model.specs.Reading.{Terms, Posting}
 use Rattle.seg_model.specs.Shape.{HasFullShape, IsTermWith}
 use Rattle.seg_directory.specs.Composite.{Part}

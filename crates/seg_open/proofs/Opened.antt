@@ -1,11 +1,10 @@
 -- What the opening of a segment shows, once its files are read.
-use Rattle.std.proofs.Common.{◌≡◌, ℕ, List, ◌++◌, Option, Some, None, Result, Ok, Err, IfErr, refl, sym, ap, ◌∙◌, subst, inl, inr}
+use Rattle.std.proofs.Common.{◌≡◌, ℕ, List, ◌++◌, Option, Some, None, Err, refl, sym, ap, ◌∙◌, subst, inl, inr}
 use Rattle.std.specs.FinMap.{get}
 use Rattle.seg_common.specs.declared.name.FileName.TheVariants.{Part}
 use Rattle.seg_common.specs.declared.name.SegmentComponent.{SegmentComponent}
 use Rattle.seg_common.specs.declared.name.SegmentComponent.TheVariants.{Terms, Store, Postings, Positions, FastFields, FieldNorms}
 use Rattle.seg_values.specs.declared.error.TantivyError.{TantivyError}
-use Rattle.seg_values.specs.declared.error.TantivyError.TheVariants as error
 use Rattle.seg_model.specs.Contents.{Contents}
 use Rattle.seg_model.specs.Fields.{Schema}
 use Rattle.seg_directory.specs.Files.{NamedFiles}
@@ -13,7 +12,7 @@ use Rattle.seg_directory.specs.declared.answer.Answer.{Answer}
 use Rattle.seg_build.specs.Holds.{Holds}
 use Rattle.seg_open.specs.OpenSegment.{OpenSegment, contents_of}
 use Rattle.seg_open.specs.SegmentOpened.{IsNoDamage, OpeningSeen, ReadsWhole, error_of}
-use Rattle.seg_open.specs.SegmentRead.{HasFiles, ReadsSegment, ReadingSeen, ReadingEnds, read_order, reads}
+use Rattle.seg_open.specs.SegmentRead.{HasFiles, ReadsSegment, ReadingEnds, read_order, reads}
 use Rattle.seg_open.specs.Spelling.{Spell, Disagree, IsWhyNotOpen}
 use Rattle.seg_open.specs.declared.open_error.OpenError.{OpenError}
 use Rattle.seg_open.specs.declared.open_error.OpenError.TheVariants.{Damaged, OutOfMemory}

@@ -1,15 +1,14 @@
 -- How the reading of the files of a segment goes on, and ends.
-use Rattle.std.proofs.Common.{◌≡◌, ℕ, List, [], ◌∷◌, ◌++◌, Result, Ok, Err, IsErrAnd, IfErr, None, refl, sym, ap, ◌∙◌, subst, append_assoc, ◌⊎◌, inl, inr}
+use Rattle.std.proofs.Common.{◌≡◌, ℕ, List, ◌∷◌, ◌++◌, Result, Err, IsErrAnd, sym, ap, ◌∙◌, subst, append_assoc, inl, inr}
 use Rattle.std.specs.FinMap.{get}
 use Rattle.std.proofs.lemmas.Result.{err_from_is_err_and}
 use Rattle.seg_common.specs.declared.name.FileName.TheVariants.{Part}
 use Rattle.seg_common.specs.declared.name.SegmentComponent.{SegmentComponent}
 use Rattle.seg_values.specs.declared.error.TantivyError.{TantivyError}
-use Rattle.seg_values.specs.declared.error.TantivyError.TheVariants as error
 use Rattle.seg_directory.specs.CallAnswers.{seen_reading, ReadsFile}
 use Rattle.seg_directory.specs.Files.{NamedFiles}
 use Rattle.seg_directory.specs.declared.answer.Answer.{Answer}
-use Rattle.seg_open.specs.SegmentRead.{read_order, reads, ReadingEnds, ReadingSeen, ReadsSegment, IsWhyUnread}
+use Rattle.seg_open.specs.SegmentRead.{read_order, reads, ReadingSeen, ReadsSegment, IsWhyUnread}
 use Rattle.seg_open.specs.declared.segment_files.SegmentFiles.{SegmentFiles}
 
 -- answers behind others

@@ -28,6 +28,10 @@ bytes_of files Positions = files.positions
 bytes_of files FastFields = files.fast_fields
 bytes_of files FieldNorms = files.field_norms
 
+-- the files of some components, by their names
+abbrev pub component_files : ℕ → SegmentFiles → List SegmentComponent → List (FileName × List ℕ)
+component_files id files components = map (λ c. (Part id c, bytes_of files c)) components
+
 -- files of an id were read, with these bytes
 abbrev pub reads : ℕ → SegmentFiles → List SegmentComponent → List Answer
 reads id files components = map (λ c. answer.Read (Part id c) (bytes_of files c)) components

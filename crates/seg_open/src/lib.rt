@@ -3,11 +3,12 @@
 //! A reader is seen as the contents that the bytes of its six files hold. Each file is read once, whole, and checked against
 //! those before it; what is looked up later is looked up in these bytes.
 //!
-//! Files in reading order: `segment_files` (the six files, read), `open_error`, `term_files` (the three files of terms),
+//! Files in reading order: `segment_files` (the six files, read, and made again), `component_files`, `open_error`, `term_files` (the three files of terms),
 //! `field_opening` (the terms of a field), `fields_opening` (those of all fields), `parts_opening` (the store, the columns
 //! and the length ids), `segment_reader`.
 #![tactic(auto)]
 
+mod component_files;
 mod field_opening;
 mod fields_opening;
 mod open_error;

@@ -1,9 +1,11 @@
 //! The six files of a segment, as they are read.
-ghost use Rattle.std.specs.Prelude.{◌≡◌, IsTrue};
+ghost use Rattle.std.specs.Prelude.{◌≡◌, ◌≢◌, ◌⊎◌, Err, IsTrue, OnOk, IfErr};
 ghost use Rattle.seg_common.specs.declared.name.FileName.{FileName};
 ghost use Rattle.seg_directory.specs.Faults.{FaultHasCause};
-ghost use Rattle.seg_open.specs.SegmentRead.{ReadingSeen, ReadsSegment};
+ghost use Rattle.seg_build.specs.SegmentFiles.{segment_names, AreAbsent, KeepsAllBut, MakingSeen};
+ghost use Rattle.seg_open.specs.SegmentRead.{bytes_of, HasFiles, ReadingSeen, ReadsSegment};
 
+use crate::component_files::write_components;
 use seg_common::{FileName, OwnedBytes, SegmentComponent, SegmentId};
 use seg_directory::{Directory, read_file};
 use seg_values::{TResult, TantivyError};
@@ -73,5 +75,65 @@ impl SegmentFiles {
             fast_fields,
             field_norms,
         })
+    }
+
+    /// The same bytes once more; this takes no memory.
+    pub fn share(&self) -> SegmentFiles
+        ensures { result ≡ self.now }
+    {
+        SegmentFiles {
+            terms: self.terms.share(),
+            store: self.store.share(),
+            postings: self.postings.share(),
+            positions: self.positions.share(),
+            fast_fields: self.fast_fields.share(),
+            field_norms: self.field_norms.share(),
+        }
+    }
+
+    /// Makes the six files under an id, in the order field norms, fast fields, terms, postings, positions, store.
+    pub fn write<W: Directory>(
+        &self,
+        alloc: Global,
+        id: SegmentId,
+        directory: &mut W,
+    ) -> TResult<()>
+        ensures files { IsTrue (W.tells directory.old) → OnOk result
+            (HasFiles (W.files directory.new) id self.now) }
+        ensures fresh { IsTrue (W.tells directory.old)
+            → AreAbsent (segment_names id) (W.files directory.old)
+            → result ≢ Err TantivyError.IndexAlreadyExists }
+        ensures others { KeepsAllBut (segment_names id) (W.files directory.old) (W.files directory.new) }
+        ensures tells { W.tells directory.new ≡ W.tells directory.old }
+        ensures seen { MakingSeen (segment_names id) (W.seen directory.old) result (W.seen directory.new) }
+        ensures cause { FaultHasCause
+            TantivyError.OpenWriteError (W.faults directory.old) (W.faults directory.new) result }
+        ensures errors { IfErr result
+            (λ e. (e ≡ TantivyError.IndexAlreadyExists)
+            ⊎ (e ≡ TantivyError.OpenWriteError) ⊎ (e ≡ TantivyError.OutOfMemory)) }
+    {
+        let components = [
+            SegmentComponent::FieldNorms,
+            SegmentComponent::FastFields,
+            SegmentComponent::Terms,
+            SegmentComponent::Postings,
+            SegmentComponent::Positions,
+            SegmentComponent::Store,
+        ];
+        write_components(alloc, directory, id, self, &components)
+    }
+
+    /// The bytes of the file of a component.
+    pub(crate) fn of_component(&self, component: SegmentComponent) -> &[u8]
+        ensures { result.now ≡ bytes_of self.now component }
+    {
+        match component {
+            SegmentComponent::Terms => self.terms.as_slice(),
+            SegmentComponent::Store => self.store.as_slice(),
+            SegmentComponent::Postings => self.postings.as_slice(),
+            SegmentComponent::Positions => self.positions.as_slice(),
+            SegmentComponent::FastFields => self.fast_fields.as_slice(),
+            SegmentComponent::FieldNorms => self.field_norms.as_slice(),
+        }
     }
 }

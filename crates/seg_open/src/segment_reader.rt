@@ -1,11 +1,12 @@
 //! A segment that is open.
-ghost use Rattle.std.specs.Prelude.{◌≡◌, true, Some, None, slice_get, IfOk, IfErr, IfSome, IsTrue, MatchOption};
+ghost use Rattle.std.specs.Prelude.{◌≡◌, true, map, is_some, Some, None, slice_get, IfOk, IfErr, IfSome, IsTrue, MatchOption};
 ghost use Rattle.seg_model.specs.Contents.{Contents};
+ghost use Rattle.seg_model.specs.Fields.{is_indexed};
 ghost use Rattle.seg_directory.specs.Faults.{FaultHasCause};
 ghost use Rattle.seg_build.specs.Built.{is_built_schema};
 ghost use Rattle.seg_build.specs.Holds.{Holds};
 ghost use Rattle.seg_open.specs.OpenSegment.{contents_of};
-ghost use Rattle.seg_open.specs.SegmentOpened.{IsNoDamage, OpeningSeen, error_of};
+ghost use Rattle.seg_open.specs.SegmentOpened.{IsNoDamage, OpeningSeen};
 ghost use Rattle.seg_open.specs.Spelling.{Spell, IsWhyNotOpen};
 
 use crate::fields_opening::open_fields;
@@ -13,7 +14,7 @@ use crate::open_error::OpenError;
 use crate::parts_opening::{are_columns, open_norms, open_store};
 use crate::segment_files::SegmentFiles;
 use crate::term_files::open_term_files;
-use seg_common::{FileName, SegmentComponent, SegmentId};
+use seg_common::SegmentComponent;
 use seg_directory::Directory;
 use seg_meta::Segment;
 use seg_postings::{FieldNormReaders, InvertedIndexReader, terms_read_have_shape};
@@ -34,11 +35,15 @@ pub struct SegmentReader {
 }
 
 impl Model for SegmentReader {
+    ghost use Rattle.std.specs.Prelude.{◌≡◌, map, is_some};
+    ghost use Rattle.seg_model.specs.Fields.{is_indexed};
     ghost use Rattle.seg_open.specs.OpenSegment.{OpenSegment};
 
     ghost Value = { OpenSegment };
 
     ghost view = { λ r. record { schema = r.schema; documents = r.max_doc; fields = r.fields.items; blocks = r.store; norms = r.norms } };
+
+    ghost invariant = { λ r. map is_some r.fields.items ≡ map is_indexed r.schema };
 }
 
 impl SegmentReader {
@@ -74,7 +79,7 @@ impl SegmentReader {
         };
         match SegmentReader::open_files(alloc, schema, segment.meta().max_doc(), files) {
             Ok(reader) => Ok(reader),
-            Err(e) => Err(open_error(id, e)),
+            Err(e) => Err(e.of_segment(id)),
         }
     }
 
@@ -89,6 +94,13 @@ impl SegmentReader {
         ensures { result.now ≡ self.now.schema }
     {
         &self.schema
+    }
+
+    /// Each field of the schema has its terms where it is indexed, and none elsewhere.
+    pub fn indexed_fields_are_open(&self)
+        ensures { map is_some self.now.fields ≡ map is_indexed self.now.schema }
+    {
+        let _fields = &self.fields;
     }
 
     /// The terms of a field, with their postings; none where the field isn't indexed.
@@ -117,8 +129,9 @@ impl SegmentReader {
         &self.norms
     }
 
-    /// Opens the files of a segment of so many documents, each checked whole and against those that are read before it.
-    pub(crate) fn open_files(
+    /// Opens the files of a segment of so many documents, each checked whole and against those that are read before it: for
+    /// a segment whose bytes are wanted besides, so that each file is read once.
+    pub fn open_files(
         alloc: Global,
         schema: Schema,
         max_doc: u32,
@@ -156,17 +169,5 @@ impl SegmentReader {
             store,
             norms,
         })
-    }
-}
-
-/// What is told of a segment that can't be opened.
-fn open_error(id: SegmentId, error: OpenError) -> TantivyError
-    ensures { result ≡ error_of id error }
-{
-    match error {
-        OpenError::Damaged(component) => TantivyError::DataCorruption {
-            name: FileName::Part(id, component),
-        },
-        OpenError::OutOfMemory => TantivyError::OutOfMemory,
     }
 }

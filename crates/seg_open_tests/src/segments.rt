@@ -45,7 +45,7 @@ fn title(alloc: Global) -> Result<FieldEntry, AllocError>
 }
 
 /// The segment, of two documents.
-fn segment(alloc: Global) -> TResult<Segment> {
+pub(crate) fn segment(alloc: Global) -> TResult<Segment> {
     let mut builder = SchemaBuilder::new(alloc);
     let _ = builder.add_field(title(alloc)?).is_ok();
     let meta = SegmentMeta::new(SegmentId::from_u128(7), 2, None);

@@ -1,4 +1,4 @@
-use Rattle.std.proofs.Common.{rules, refl, sym, List, [], ◌∷◌, ◌≡◌, ◌++◌, append-nil}
+use Rattle.std.proofs.Common.{rules, refl, sym, [], ◌∷◌, append-nil}
 use Rattle.seg_common.specs.declared.name.FileName.TheVariants.{Part}
 use Rattle.seg_common.specs.declared.name.SegmentComponent.TheVariants.{Terms, Store, Postings, Positions, FastFields, FieldNorms}
 use Rattle.seg_directory.specs.declared.answer.Answer.TheVariants as answer

@@ -1,7 +1,7 @@
-use Rattle.std.proofs.Common.{rules}
 use Rattle.seg_open.proofs.BuiltTexts.{built_are_texts}
 use Rattle.seg_open.proofs.Disagreeing.{fields_disagree, norms_disagree, why}
 use Rattle.seg_open.proofs.OpenSpells.{open_spells}
+use Rattle.seg_open.proofs.PlacesOpened.{open_places}
 use Rattle.seg_open.proofs.segment_reader.SegmentReader.open_files.Goals as goal
 
 pub returns-in_err-fields-clause-err : goal.returns-in_err-fields-clause-err
@@ -38,3 +38,8 @@ returns-clause-ok c =
       norms = c.in-Some-open_norms.ensures.0;
       fit = c.in-Some-open_norms.ensures.1;
     })
+
+pub invariant_of-result : goal.invariant_of-result
+invariant_of-result c =
+    let parts = c.in_ok-term_files in
+    open_places c.args.schema c.args.max_doc parts.term_files.terms parts.term_files.postings parts.term_files.positions c.in_ok-fields.fields.items c.in_ok-fields.ensures.ok
