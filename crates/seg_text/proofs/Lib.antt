@@ -1,4 +1,9 @@
 pub mod AllAlive
 mod KnownTexts
+pub mod PlainDates
 mod PlainTerms
-pub mod StoredTexts
+pub mod Places
+pub mod Placing
+pub mod PrintedTokens
+pub mod PrintedTrees
+pub mod ShownAddresses

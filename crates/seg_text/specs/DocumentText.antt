@@ -1,18 +1,12 @@
 -- The lines of the stored documents.
-use Rattle.std.specs.Prelude.{ℕ, ◌+◌, List, [], ◌∷◌, ◌++◌, Bool, ◌&&◌, nat_lt, length, slice_get, codes, decimal, unwrap_or, option_map}
-use Rattle.std.specs.List.{list_all}
+use Rattle.std.specs.Prelude.{ℕ, ◌+◌, List, [], ◌∷◌, ◌++◌, slice_get, codes, decimal, unwrap_or, option_map}
 use Rattle.serde_json.specs.Data.{Data, string, array, Items, no_items, item}
 use Rattle.serde_json.specs.Written.{compact_text}
 use Rattle.seg_values.specs.Tree.{Tree, Document}
-use Rattle.seg_model.specs.Built.{is_text_tree}
 use Rattle.seg_model.specs.Fields.{Schema}
 use Rattle.seg_text.specs.Json.{value_json}
 
--- each pair is a text of a field of the schema
-abbrev pub are_known_texts : Schema → Document → Bool
-are_known_texts schema document = list_all (λ p. nat_lt p.0 (length schema) && is_text_tree p.1) document
-
--- the name of a field
+-- the name of a field, which is empty where the schema has no such field
 abbrev pub name_at : Schema → ℕ → List ℕ
 name_at schema field = unwrap_or (option_map (λ entry. entry.name) (slice_get schema field)) []
 

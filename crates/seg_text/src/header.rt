@@ -5,13 +5,12 @@ ghost use Rattle.seg_text.specs.HeaderText.{header_text};
 
 use crate::decimal::push_decimal;
 use seg_common::SegmentId;
-use std::alloc::{AllocError, Global};
+use std::alloc::AllocError;
 
 /// The first line of a segment whose documents are all alive.
 /// After an error it is open what `out` holds.
 pub fn push_header(
     out: &mut Vec<u8>,
-    alloc: Global,
     label: &str,
     id: SegmentId,
     documents: usize,
@@ -20,7 +19,7 @@ pub fn push_header(
 {
     out.extend_from_slice(label.as_bytes())?;
     out.push(b' ')?;
-    push_id(out, alloc, id)?;
+    push_id(out, id)?;
     out.extend_from_slice(b" docs ")?;
     push_decimal(out, documents as u64)?;
     out.extend_from_slice(b" alive ")?;
@@ -30,11 +29,10 @@ pub fn push_header(
 }
 
 /// The digits of an id.
-fn push_id(out: &mut Vec<u8>, alloc: Global, id: SegmentId) -> Result<(), AllocError>
+fn push_id(out: &mut Vec<u8>, id: SegmentId) -> Result<(), AllocError>
     ensures { OnOk result (out.new.items ≡ out.old.items ++ id_text id) }
 {
-    match id.uuid_string(alloc) {
-        Ok(digits) => out.extend_from_slice(digits.as_bytes()),
-        Err(_) => Err(AllocError),
-    }
+    let mut digits = [0u8; 32];
+    out.extend_from_slice(id.encode_uuid(&mut digits).as_bytes())?;
+    Ok(())
 }

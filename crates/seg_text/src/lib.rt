@@ -2,21 +2,27 @@
 //!
 //! Its model: `segment_text` gives the bytes that stand for what a segment holds under a schema.
 //!
-//! In reading order: `decimal`, `hexadecimal` and `quoted` are what lines are made of, `header` is the first line, `term`, `posting` and `field` are the index, `document` the stored documents.
+//! In reading order: `decimal`, `hexadecimal`, `quoted` and `comma` are what lines are made of, `header` is the first line, `term`, `posting` and `field` are the index. `date`, `leaf`, `pre_tokenized` and `value` are values as JSON, `pair` is a field with one, and `document` the line of a document of any values.
 #![tactic(auto)]
 
+mod comma;
+mod date;
 mod decimal;
 mod document;
 mod field;
 mod header;
 mod hexadecimal;
+mod leaf;
+mod pair;
 mod posting;
+mod pre_tokenized;
 mod quoted;
 mod term;
 #[cfg(test)]
 mod tests;
+mod value;
 
-pub use document::{push_document, push_documents};
+pub use document::push_document;
 pub use field::push_field;
 pub use header::push_header;
 pub use posting::{RecordedRef, push_posting};

@@ -1,0 +1,5 @@
+use Rattle.std.proofs.Common.{append_assoc}
+use Rattle.seg_text.proofs.document.push_document.Goals as goal
+
+pub returns : goal.returns
+returns c = rw (c.in_ok-push-2.ensures.items, c.in_ok-push_pairs.ensures, c.in_ok-push.ensures.items, c.in_ok-push_decimal.ensures, c.in_ok-extend_from_slice.ensures.items) (simp append_assoc)
