@@ -14,7 +14,7 @@ use Rattle.seg_meta.specs.View.{settings_of}
 use Rattle.seg_meta.specs.declared.index_settings.IndexSettings.{IndexSettings}
 use Rattle.seg_model.specs.Built.{is_taken}
 use Rattle.seg_model.specs.Checked.{Refusal, document_refusal}
-use Rattle.seg_model.specs.Fields.{Analyzer}
+use Rattle.seg_model.specs.Fields.{Analyzer, Schema}
 use Rattle.seg_model.specs.Input.{Input, input_batches, input_survivors}
 use Rattle.seg_model.specs.IndexOfFiles as index
 use Rattle.seg_model.specs.Operations.{Batch, additions}
@@ -222,17 +222,17 @@ same_errors (Some x) r s e is is' (inl k) = inl (is' ∙ ap Err (ap error_in (sy
 same_errors (Some x) r s e is is' (inr k) = inr (is' ∙ ap Err (ap error_in (sym is ∙ k)))
 
 -- of an error with which no writer is made
-pub start_stops : (work_id last_id : ℕ) (e : TantivyError) (ds : Directories) → IsStartError e → StopsIn work_id last_id e ds ds
-start_stops work_id last_id (SchemaError cause) ds h = at_once tt refl
-start_stops work_id last_id (InvalidArgument cause) ds h = at_once tt refl
-start_stops work_id last_id OutOfMemory ds h = stops-before work_id last_id ds
-start_stops work_id last_id IndexAlreadyExists ds h = absurd h
-start_stops work_id last_id OpenReadError ds h = absurd h
-start_stops work_id last_id OpenWriteError ds h = absurd h
-start_stops work_id last_id IoError ds h = absurd h
-start_stops work_id last_id (DataCorruption name) ds h = absurd h
-start_stops work_id last_id SystemError ds h = absurd h
-start_stops work_id last_id FieldNotFound ds h = absurd h
+pub start_stops : (work_id last_id : ℕ) (schema : Schema) (number : ℕ) (e : TantivyError) (ds : Directories) → IsStartError e → StopsIn work_id last_id schema number e ds ds
+start_stops work_id last_id schema number (SchemaError cause) ds h = at_once tt refl
+start_stops work_id last_id schema number (InvalidArgument cause) ds h = at_once tt refl
+start_stops work_id last_id schema number OutOfMemory ds h = stops-before work_id last_id schema number ds
+start_stops work_id last_id schema number IndexAlreadyExists ds h = absurd h
+start_stops work_id last_id schema number OpenReadError ds h = absurd h
+start_stops work_id last_id schema number OpenWriteError ds h = absurd h
+start_stops work_id last_id schema number IoError ds h = absurd h
+start_stops work_id last_id schema number (DataCorruption name) ds h = absurd h
+start_stops work_id last_id schema number SystemError ds h = absurd h
+start_stops work_id last_id schema number FieldNotFound ds h = absurd h
 
 pub never_exists : (e : TantivyError) → IsStartError e → e ≡ IndexAlreadyExists → ⊥
 never_exists e h is = subst IsStartError is h

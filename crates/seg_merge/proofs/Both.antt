@@ -1,6 +1,6 @@
 -- The indexes of both directories, one after the other.
 use Rattle.std.proofs.Common.{◌≡◌, ◌≢◌, ℕ, List, [], ◌∷◌, refl, sym, ap, subst, Result, Ok, Err, inl, inr, arith}
-use Rattle.std.specs.Prelude.{OnOk, ◌<◌, ◌⊎◌, Option, None, Some, is_some}
+use Rattle.std.specs.Prelude.{Bool, IsTrue, OnOk, ◌<◌, ◌⊎◌, Option, None, Some, is_some}
 use Rattle.std.specs.List.{enumerate_from}
 use Rattle.std.specs.Option.{option_map}
 use Rattle.std.proofs.lemmas.Bool.{false≢true}
@@ -16,7 +16,8 @@ use Rattle.seg_values.specs.declared.error.TantivyError.TheVariants.{IndexAlread
 use Rattle.seg_directory.specs.declared.answer.Answer.TheVariants as answer
 use Rattle.seg_meta.specs.Saving.{CreatingCounts}
 use Rattle.seg_merge.specs.Calls.{DirectoryState, Does}
-use Rattle.seg_merge.specs.DirectoryCalls.{Directories, Ends, Lists, Begins, Writes, IsRefusal, StopsIn, work_listing, output_listing, documents, work_index, output_index, BeginsUpTo, BeginStops, at_work, at_output, at_beginning, Fills, FillStops, in_work, in_output}
+use Rattle.seg_open.specs.OpenSegment.{OpenSegment}
+use Rattle.seg_merge.specs.DirectoryCalls.{Directories, Ends, Lists, Begins, Writes, WritesThenReads, WritesBoth, ReadsBack, IsRefusal, StopsIn, work_listing, output_listing, documents, work_index, reading_back, output_index, BeginsUpTo, BeginStops, at_work, at_output, at_beginning, Fills, FillsThenReads, FillsBoth, FillStops, in_work, in_reading, in_output}
 use Rattle.seg_merge.specs.IndexFiles.{begun_answers, filled_answers, index_answers, index_names}
 use Rattle.seg_merge.proofs.Calls.{does-then, does-stop, does-among, does-nothing}
 
@@ -49,6 +50,14 @@ begins-stop id e a b d =
     does-stop e (answer.Listed 0 ∷ begun_answers) (filled_answers id) (index_names id) a b
     (does-among (Err e) (answer.Listed 0 ∷ begun_answers) (Meta ∷ []) (index_names id) a b (λ other all. (all.0, tt)) d)
 
+-- a segment that is read back behind the making of its index
+pub fills-read : (id : ℕ) (schema : Schema) (number : ℕ) (r : Result OpenSegment TantivyError) (a b c : DirectoryState) → Fills id (Ok tt) a b → ReadsBack id schema number r b c → FillsThenReads id schema number r a c
+fills-read id schema number r a b c made read = record { filled = b; made = made; read = read }
+
+-- and behind its beginning
+begins-read : (id : ℕ) (schema : Schema) (number : ℕ) (r : Result OpenSegment TantivyError) (a b c : DirectoryState) → Begins (Ok tt) a b → FillsThenReads id schema number r b c → WritesThenReads id schema number r a c
+begins-read id schema number r a b c d e = record { filled = e.filled; made = begins-then id (Ok tt) a b e.filled d e.made; read = e.read }
+
 -- what tells a refusal
 refusal_is : (r : BuildRefusal) → IsRefusal (build_error r)
 refusal_is (input_refused bad_cuts) = tt
@@ -76,34 +85,57 @@ pub told_is_refusal : (o : Option BuildRefusal) (e : TantivyError) → option_ma
 told_is_refusal None e h = absurd (false≢true (ap is_some h))
 told_is_refusal (Some r) e h = subst IsRefusal (some_is (build_error r) e h) (refusal_is r)
 
-module _ (work_id output_id : ℕ) where
+module _ (work_id output_id : ℕ) (schema : Schema) (number : ℕ) where
   -- no memory, before anything
-  pub stops-before : (ds : Directories) → StopsIn work_id output_id OutOfMemory ds ds
+  pub stops-before : (ds : Directories) → StopsIn work_id output_id schema number OutOfMemory ds ds
   stops-before ds = work_listing (does-nothing (answer.Listed 0 ∷ []) [] ds.work) refl
 
   -- the first calls stop
-  pub stops-beginning : (e : TantivyError) (a b : Directories) → BeginStops e a b → StopsIn work_id output_id e a b
+  pub stops-beginning : (e : TantivyError) (a b : Directories) → BeginStops e a b → StopsIn work_id output_id schema number e a b
   stops-beginning e a b (at_work d same) = work_listing d same
   stops-beginning e a b (at_output w d) = output_listing w d
   stops-beginning e a b (at_beginning d o) = work_index (begins-stop work_id e a.work b.work d) o
 
   -- no memory behind them
-  pub stops-begun : (a b : Directories) → Begins (Ok tt) a.work b.work → Lists (Ok tt) a.output b.output → StopsIn work_id output_id OutOfMemory a b
+  pub stops-begun : (a b : Directories) → Begins (Ok tt) a.work b.work → Lists (Ok tt) a.output b.output → StopsIn work_id output_id schema number OutOfMemory a b
   stops-begun a b w o = work_index (begins-then work_id (Err OutOfMemory) a.work b.work b.work w (does-nothing (filled_answers work_id) (index_names work_id) b.work)) o
 
   -- a document is refused behind them, or there is no memory
-  pub stops-refused : (e : TantivyError) (schema : Schema) (analyzer : Analyzer) (operations : List Operation) (a b : Directories) → Begins (Ok tt) a.work b.work → Lists (Ok tt) a.output b.output → (e ≡ OutOfMemory) ⊎ (batch_error schema analyzer operations ≡ Some e) → StopsIn work_id output_id e a b
-  stops-refused e schema analyzer operations a b w o (inl is) = subst (λ (x : TantivyError). StopsIn work_id output_id x a b) (sym is) (stops-begun a b w o)
-  stops-refused e schema analyzer operations a b w o (inr is) = documents (told_is_refusal (batch_refusal schema analyzer (enumerate_from 0 operations)) e is) w o
+  pub stops-refused : (e : TantivyError) (given : Schema) (analyzer : Analyzer) (operations : List Operation) (a b : Directories) → Begins (Ok tt) a.work b.work → Lists (Ok tt) a.output b.output → (e ≡ OutOfMemory) ⊎ (batch_error given analyzer operations ≡ Some e) → StopsIn work_id output_id schema number e a b
+  stops-refused e given analyzer operations a b w o (inl is) = subst (λ (x : TantivyError). StopsIn work_id output_id schema number x a b) (sym is) (stops-begun a b w o)
+  stops-refused e given analyzer operations a b w o (inr is) = documents (told_is_refusal (batch_refusal given analyzer (enumerate_from 0 operations)) e is) w o
 
   -- the last calls stop
-  pub stops-filling : (e : TantivyError) (a b c : Directories) → Begins (Ok tt) a.work b.work → Lists (Ok tt) a.output b.output → FillStops work_id output_id e b c → StopsIn work_id output_id e a c
+  pub stops-filling : (e : TantivyError) (a b c : Directories) → Begins (Ok tt) a.work b.work → Lists (Ok tt) a.output b.output → FillStops work_id output_id schema number e b c → StopsIn work_id output_id schema number e a c
   stops-filling e a b c w o (in_work d same) = work_index (begins-then work_id (Err e) a.work b.work c.work w d) (subst (λ (s : DirectoryState). Lists (Ok tt) a.output s) (sym same) o)
-  stops-filling e a b c w o (in_output d f) = output_index (begins-then work_id (Ok tt) a.work b.work c.work w d) (lists-then output_id (Err e) a.output b.output c.output o f)
+  stops-filling e a b c w o (in_reading d same) = reading_back (begins-read work_id schema number (Err e) a.work b.work c.work w d) (subst (λ (s : DirectoryState). Lists (Ok tt) a.output s) (sym same) o)
+  stops-filling e a b c w o (in_output reader d f) = output_index reader (begins-read work_id schema number (Ok reader) a.work b.work c.work w d) (lists-then output_id (Err e) a.output b.output c.output o f)
 
   -- or go well
-  pub both-written : (a b c : Directories) → Begins (Ok tt) a.work b.work → Lists (Ok tt) a.output b.output → Fills work_id (Ok tt) b.work c.work → Does {T = Unit {0}} (index_answers output_id) (index_names output_id) (Ok tt) b.output c.output → Writes work_id (Ok tt) a.work c.work × Writes output_id (Ok tt) a.output c.output
-  both-written a b c w o d f = (begins-then work_id (Ok tt) a.work b.work c.work w d, lists-then output_id (Ok tt) a.output b.output c.output o f)
+  pub both-written : (reader : OpenSegment) (a b c : Directories) → Begins (Ok tt) a.work b.work → Lists (Ok tt) a.output b.output → FillsBoth work_id output_id schema number reader b c → WritesBoth work_id output_id schema number reader a c
+  both-written reader a b c w o filled = record {
+    work = begins-read work_id schema number (Ok reader) a.work b.work c.work w filled.work;
+    output = lists-then output_id (Ok tt) a.output b.output c.output o filled.output;
+    held = λ told. filled.held (subst (λ (t : Bool). IsTrue t) (sym o.tells) told);
+  }
+
+-- of so many documents
+pub stops-counted : (work_id output_id : ℕ) (schema : Schema) (n m : ℕ) (e : TantivyError) (a b : Directories) → n ≡ m → StopsIn work_id output_id schema n e a b → StopsIn work_id output_id schema m e a b
+stops-counted work_id output_id schema n m e a b same stops = subst (λ k. StopsIn work_id output_id schema k e a b) same stops
+
+pub written-counted : (work_id output_id : ℕ) (schema : Schema) (n m : ℕ) (reader : OpenSegment) (a b : Directories) → n ≡ m → WritesBoth work_id output_id schema n reader a b → WritesBoth work_id output_id schema m reader a b
+written-counted work_id output_id schema n m reader a b same written = subst (λ k. WritesBoth work_id output_id schema k reader a b) same written
+
+-- under the ids that were asked for
+pub both-asked : (work_id given output_id last : ℕ) (schema : Schema) (number : ℕ) (reader same : OpenSegment) (a b : Directories) → work_id ≡ given → output_id ≡ last → reader ≡ same → WritesBoth work_id output_id schema number reader a b → WritesBoth given last schema number same a b
+both-asked work_id given output_id last schema number reader same a b is is' as_read written =
+    subst (λ i. WritesBoth i last schema number same a b) is
+    (subst (λ i. WritesBoth work_id i schema number same a b) is'
+    (subst (λ r. WritesBoth work_id output_id schema number r a b) as_read written))
+
+pub stops-asked : (work_id given output_id last : ℕ) (schema : Schema) (number : ℕ) (e : TantivyError) (a b : Directories) → work_id ≡ given → output_id ≡ last → StopsIn work_id output_id schema number e a b → StopsIn given last schema number e a b
+stops-asked work_id given output_id last schema number e a b is is' stops =
+    subst (λ i. StopsIn i last schema number e a b) is (subst (λ i. StopsIn work_id i schema number e a b) is' stops)
 
 -- ---- errors that do not come
 

@@ -14,6 +14,8 @@ use Rattle.seg_directory.specs.declared.answer.Answer.{Answer}
 use Rattle.seg_directory.specs.declared.answer.Answer.TheVariants as answer
 use Rattle.seg_build.specs.SegmentFiles.{AreAbsent, HasFiles, KeepsAllBut, segment_names, wrote}
 use Rattle.seg_build.specs.declared.segment_files.SegmentBytes.{SegmentBytes}
+use Rattle.seg_open.specs.SegmentRead as segment
+use Rattle.seg_open.specs.declared.segment_files.SegmentFiles.{SegmentFiles}
 use Rattle.seg_merge.specs.Calls.{DirectoryState, Does}
 use Rattle.seg_merge.specs.IndexFiles.{begun_answers, filled_answers, index_answers, index_names}
 use Rattle.seg_merge.proofs.Calls.{does-then, does-stop, does-among}
@@ -71,6 +73,20 @@ has-files-kept id bytes old new kept h = record {
 pub files-kept : (r : Outcome) (id : ℕ) (bytes : SegmentBytes) (old new : NamedFiles) → KeepsAllBut (Meta ∷ []) old new → HasFiles id bytes old → OnOk r (HasFiles id bytes new)
 files-kept (Ok x) id bytes old new kept h = has-files-kept id bytes old new kept h
 files-kept (Err e) id bytes old new kept h = tt
+
+-- and so do files that were read
+pub read-files-kept : (r : Outcome) (id : ℕ) (read : SegmentFiles) (old new : NamedFiles) → KeepsAllBut (Meta ∷ []) old new → segment.HasFiles old id read → OnOk r (segment.HasFiles new id read)
+read-files-kept (Ok x) id read old new kept (t, (s, (p, (q, (f, (n, _)))))) = (
+  kept _ (not-meta id component.Terms) ∙ t,
+  (
+    kept _ (not-meta id component.Store) ∙ s,
+    (
+      kept _ (not-meta id component.Postings) ∙ p,
+      (kept _ (not-meta id component.Positions) ∙ q, (kept _ (not-meta id component.FastFields) ∙ f, (kept _ (not-meta id component.FieldNorms) ∙ n, tt))),
+    ),
+  ),
+)
+read-files-kept (Err e) id read old new kept h = tt
 
 -- in a directory without files a segment has none, also behind a new meta
 absent-part : (id : ℕ) (which : SegmentComponent) (old new : NamedFiles) → len old ≡ 0 → KeepsAllBut (Meta ∷ []) old new → get new (Part id which) ≡ None

@@ -5,4 +5,6 @@ mod Calls
 mod FirstErrors
 mod IndexSteps
 mod OneBatch
+mod ReadBackSteps
 mod Steps
+mod WorkRead

@@ -7,6 +7,7 @@ ghost use Rattle.seg_meta.specs.View.{settings_of, meta_of};
 ghost use Rattle.seg_model.specs.IndexOfFiles as index;
 ghost use Rattle.seg_build.specs.Forms.{segment_forms};
 ghost use Rattle.seg_build.specs.SegmentFiles.{AreAbsent, HasFiles, segment_names};
+ghost use Rattle.seg_open.specs.SegmentRead as segment;
 ghost use Rattle.seg_merge.specs.Calls.{state_of, Does};
 ghost use Rattle.seg_merge.specs.IndexFiles.{begun_answers, filled_answers, index_answers, index_meta, index_names};
 
@@ -16,6 +17,7 @@ use seg_directory::{Directory, sync_files};
 use seg_meta::{
     Index, IndexMeta, IndexSettings, SegmentMeta, SegmentMetas, metas_read_back, save_metas,
 };
+use seg_open::SegmentFiles;
 use seg_values::{Schema, TResult, TantivyError, Text};
 use std::alloc::{AllocError, Global};
 
@@ -68,19 +70,45 @@ pub(crate) fn fill_index<W: Directory>(
     save_index(alloc, metas, directory)
 }
 
-/// Writes an index into a directory without files.
-pub(crate) fn write_index<W: Directory>(
+/// As `fill_index`, with the files of a segment that was read.
+fn fill_index_with<W: Directory>(
     alloc: Global,
     metas: &IndexMeta,
     id: SegmentId,
-    bytes: &SegmentBytes,
+    files: &SegmentFiles,
     directory: &mut W,
 ) -> TResult<()>
     requires list { IsMetaList metas.now.segments }
     ensures index { IsTrue (W.tells directory.old) → OnOk result
         (index.index_of segment_forms (W.files directory.new) ≡ Some (meta_of metas.now)) }
     ensures files { IsTrue (W.tells directory.old) → OnOk result
-        (HasFiles id bytes.now (W.files directory.new)) }
+        (segment.HasFiles (W.files directory.new) id files.now) }
+    ensures fresh { IsTrue (W.tells directory.old) → AreAbsent (segment_names id) (W.files directory.old)
+        → result ≢ Err TantivyError.IndexAlreadyExists }
+    ensures calls { Does (filled_answers id) (index_names id) result
+        (state_of (W.tells directory.old) (W.files directory.old) (W.seen directory.old) (W.faults directory.old))
+        (state_of (W.tells directory.new) (W.files directory.new) (W.seen directory.new) (W.faults directory.new)) }
+{
+    match files.write(alloc, id, directory) {
+        Ok(()) => {}
+        Err(e) => return Err(e),
+    }
+    save_index(alloc, metas, directory)
+}
+
+/// Writes an index into a directory without files: its meta, and the files of a segment that was read.
+pub(crate) fn write_index<W: Directory>(
+    alloc: Global,
+    metas: &IndexMeta,
+    id: SegmentId,
+    files: &SegmentFiles,
+    directory: &mut W,
+) -> TResult<()>
+    requires list { IsMetaList metas.now.segments }
+    ensures index { IsTrue (W.tells directory.old) → OnOk result
+        (index.index_of segment_forms (W.files directory.new) ≡ Some (meta_of metas.now)) }
+    ensures files { IsTrue (W.tells directory.old) → OnOk result
+        (segment.HasFiles (W.files directory.new) id files.now) }
     ensures fresh { IsTrue (W.tells directory.old) → len (W.files directory.old) ≡ 0
         → result ≢ Err TantivyError.IndexAlreadyExists }
     ensures calls { Does (index_answers id) (index_names id) result
@@ -91,7 +119,7 @@ pub(crate) fn write_index<W: Directory>(
         Ok(()) => {}
         Err(e) => return Err(e),
     }
-    fill_index(alloc, metas, id, bytes, directory)
+    fill_index_with(alloc, metas, id, files, directory)
 }
 
 /// Saves a meta, which the files then read as, and has it reach the disk.

@@ -2,4 +2,6 @@
 #![tactic(auto)]
 
 #[cfg(test)]
+mod reading_back;
+#[cfg(test)]
 mod tests;

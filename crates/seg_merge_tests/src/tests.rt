@@ -16,7 +16,7 @@ use std::alloc::{AllocError, Global};
 use std::test::Fail;
 
 /// A text field or number field that is not stored.
-fn entry(
+pub(crate) fn entry(
     alloc: Global,
     name: &str,
     kind: FieldKind,
@@ -41,7 +41,12 @@ fn entry(
 }
 
 /// A schema of one text field.
-fn texts(alloc: Global, name: &str, tokenizer: &str, fast: bool) -> Result<Schema, AllocError> {
+pub(crate) fn texts(
+    alloc: Global,
+    name: &str,
+    tokenizer: &str,
+    fast: bool,
+) -> Result<Schema, AllocError> {
     let mut builder = SchemaBuilder::new(alloc);
     let entry = entry(
         alloc,
@@ -65,7 +70,7 @@ fn numbers(alloc: Global, index: IndexOption) -> Result<Schema, AllocError>
     Ok(builder.build())
 }
 
-fn add(
+pub(crate) fn add(
     alloc: Global,
     field: u32,
     value: OwnedValue,
@@ -94,7 +99,7 @@ fn operations(
 }
 
 /// Two documents with a text in the first field.
-fn two_texts(alloc: Global) -> Result<Vec<UserOperation<TantivyDocument>>, AllocError> {
+pub(crate) fn two_texts(alloc: Global) -> Result<Vec<UserOperation<TantivyDocument>>, AllocError> {
     let mut operations = Vec::new(alloc);
     add(
         alloc,
@@ -111,7 +116,10 @@ fn two_texts(alloc: Global) -> Result<Vec<UserOperation<TantivyDocument>>, Alloc
     Ok(operations)
 }
 
-fn no_filters(alloc: Global, count: usize) -> Result<Vec<Option<AliveBitSet>>, AllocError> {
+pub(crate) fn no_filters(
+    alloc: Global,
+    count: usize,
+) -> Result<Vec<Option<AliveBitSet>>, AllocError> {
     let mut filters = Vec::new(alloc);
     for _ in 0..count {
         filters.push(None)?;
@@ -119,7 +127,7 @@ fn no_filters(alloc: Global, count: usize) -> Result<Vec<Option<AliveBitSet>>, A
     Ok(filters)
 }
 
-fn analyzers(alloc: Global) -> Result<TokenizerManager, AllocError> {
+pub(crate) fn analyzers(alloc: Global) -> Result<TokenizerManager, AllocError> {
     let mut analyzers = TokenizerManager::new(alloc);
     analyzers.register("default", Box::new(alloc, DefaultTokenizer)?)?;
     Ok(analyzers)

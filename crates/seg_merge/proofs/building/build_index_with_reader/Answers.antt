@@ -3,6 +3,8 @@ use Rattle.std.proofs.lemmas.List.{length-map}
 use Rattle.std.specs.List.{list_all}
 use Rattle.seg_meta.specs.View.{meta_of}
 use Rattle.seg_model.specs.Built.{is_taken}
+use Rattle.seg_model.specs.Contents.{full_reading}
+use Rattle.seg_open.specs.OpenSegment.{contents_of}
 use Rattle.seg_model.specs.IndexOfFiles as index
 use Rattle.seg_model.specs.Operations.{additions}
 use Rattle.seg_build.specs.Forms.{segment_forms}
@@ -11,9 +13,10 @@ use Rattle.seg_merge.specs.Inputs.{input_of}
 use Rattle.seg_merge.specs.Refusals.{IfRefusal, first_error, refusal_error, batch_error}
 use Rattle.seg_merge.specs.DirectoryCalls.{at_once}
 use Rattle.seg_merge.proofs.AsAsked.{if_none, none_where, none_of_writer, first_of_writer, same_errors, refused_writer, start_stops, never_exists, as_work_index, meta_as_asked, as_output_index, as_one_batch, as_valid, as_refused}
-use Rattle.seg_merge.proofs.Both.{error_in}
+use Rattle.seg_merge.proofs.Both.{both-asked, stops-asked, error_in}
+use Rattle.seg_merge.proofs.WorkRead.{start_undamaged}
 use Rattle.seg_merge.proofs.FirstErrors.{if_first, any_first, first_of_shape, first_is_refused, if_refusal, shape_is_refusal}
-use Rattle.seg_merge.proofs.building.build_index_with_fields.Goals as goal
+use Rattle.seg_merge.proofs.building.build_index_with_reader.Goals as goal
 
 pub returns-in-Some-clause-first : goal.returns-in-Some-clause-first
 returns-in-Some-clause-first g c known tests =
@@ -65,7 +68,7 @@ returns-in-Err-clause-fresh g c told none told' none' is =
 
 pub returns-in-Err-clause-calls : goal.returns-in-Err-clause-calls
 returns-in-Err-clause-calls g c =
-    start_stops _ _ c.in-Err.e _ c.in-Err.ensures.errors
+    start_stops _ _ _ _ c.in-Err.e _ c.in-Err.ensures.errors
 
 pub returns-in-Ok-built-clause-first : goal.returns-in-Ok-built-clause-first
 returns-in-Ok-built-clause-first g c known tests =
@@ -125,13 +128,20 @@ returns-in-Ok-built-clause-work_index g c told =
     (subst (λ z. index.StandsFor segment_forms (g.W.Directory.files c.write_indexes-built.new.work) c.args.schema.now (g.Z.Analyzers.tokens_of z) c.work_id-work_id.result (additions (map operation_of c.args.operations.now))) under (c.in-Ok-built.ensures.work_stands told))
 
 pub returns-in-Ok-built-clause-output_index : goal.returns-in-Ok-built-clause-output_index
-returns-in-Ok-built-clause-output_index g c told =
+returns-in-Ok-built-clause-output_index g c told told' =
     let input = input_of c.args.schema.now c.args.settings.now c.args.operations.now c.args.cuts.now c.args.filters.now c.args.ids.now in
     let F = g.Z.Analyzers.tokens_of c.args.analyzers.now in
     let shape = sym c.shape_error.ensures ∙ none_where c.shape_error.result c.in_default.not-Some in
     let under = c.in-Ok.ensures.of.0 in
-    as_output_index F input shape c.work_id-work_id.result c.output_id-output_id.result _ c.work_id-work_id.ensures c.output_id-output_id.ensures (c.in-Ok-built.ensures.output_index told)
-    (subst (λ z. index.StandsFor segment_forms (g.O.Directory.files c.write_indexes-built.new.output) c.args.schema.now (g.Z.Analyzers.tokens_of z) c.output_id-output_id.result (additions (map operation_of c.args.operations.now))) under (c.in-Ok-built.ensures.output_stands told))
+    as_output_index F input shape c.work_id-work_id.result c.output_id-output_id.result _ c.work_id-work_id.ensures c.output_id-output_id.ensures (c.in-Ok-built.ensures.output_index told')
+    (subst (λ z. index.StandsFor segment_forms (g.O.Directory.files c.write_indexes-built.new.output) c.args.schema.now (g.Z.Analyzers.tokens_of z) c.output_id-output_id.result (additions (map operation_of c.args.operations.now))) under (c.in-Ok-built.ensures.output_stands told told'))
+
+pub returns-in-Ok-built-clause-output_meta : goal.returns-in-Ok-built-clause-output_meta
+returns-in-Ok-built-clause-output_meta g c told =
+    let input = input_of c.args.schema.now c.args.settings.now c.args.operations.now c.args.cuts.now c.args.filters.now c.args.ids.now in
+    let F = g.Z.Analyzers.tokens_of c.args.analyzers.now in
+    let shape = sym c.shape_error.ensures ∙ none_where c.shape_error.result c.in_default.not-Some in
+    c.in-Ok-built.ensures.output_index told ∙ ap Some (meta_as_asked F input shape c.work_id-work_id.result c.output_id-output_id.result c.work_id-work_id.ensures c.output_id-output_id.ensures)
 
 pub returns-in-Ok-built-clause-one_batch : goal.returns-in-Ok-built-clause-one_batch
 returns-in-Ok-built-clause-one_batch g c =
@@ -152,3 +162,29 @@ returns-in-Err-built-clause-refused g c known tests =
 pub returns-in-Ok-built-clause-taken : goal.returns-in-Ok-built-clause-taken
 returns-in-Ok-built-clause-taken g c =
     subst (λ z. list_all (is_taken c.args.schema.now (g.Z.Analyzers.tokens_of z)) (additions (map operation_of c.args.operations.now)) ≡ true) c.in-Ok.ensures.of.0 c.in-Ok-built.ensures.taken
+
+pub returns-in-Err-clause-whole : goal.returns-in-Err-clause-whole
+returns-in-Err-clause-whole g c told = start_undamaged c.in-Err.e c.in-Err.ensures.errors
+
+pub returns-in-Ok-built-clause-reader : goal.returns-in-Ok-built-clause-reader
+returns-in-Ok-built-clause-reader g c =
+    let input = input_of c.args.schema.now c.args.settings.now c.args.operations.now c.args.cuts.now c.args.filters.now c.args.ids.now in
+    both-asked _ _ _ _ c.args.schema.now (length (additions input.operations)) _ _ _ _ c.work_id-work_id.ensures c.output_id-output_id.ensures (sym c.built_index.ensures.reader) c.in-Ok-built.ensures.written
+
+pub returns-in-Ok-built-clause-calls : goal.returns-in-Ok-built-clause-calls
+returns-in-Ok-built-clause-calls g c =
+    let input = input_of c.args.schema.now c.args.settings.now c.args.operations.now c.args.cuts.now c.args.filters.now c.args.ids.now in (
+      c.in-Ok-built.built.reader,
+      both-asked _ _ _ _ c.args.schema.now (length (additions input.operations)) _ _ _ _ c.work_id-work_id.ensures c.output_id-output_id.ensures refl c.in-Ok-built.ensures.written,
+    )
+
+pub returns-in-Err-built-clause-calls : goal.returns-in-Err-built-clause-calls
+returns-in-Err-built-clause-calls g c =
+    let input = input_of c.args.schema.now c.args.settings.now c.args.operations.now c.args.cuts.now c.args.filters.now c.args.ids.now in
+    stops-asked _ _ _ _ c.args.schema.now (length (additions input.operations)) c.in-Err-built.e _ _ c.work_id-work_id.ensures c.output_id-output_id.ensures c.in-Err-built.ensures.stops
+
+pub returns-in-Ok-built-clause-read : goal.returns-in-Ok-built-clause-read
+returns-in-Ok-built-clause-read g c told =
+    let documents = additions (map operation_of c.args.operations.now) in
+    subst (λ z. full_reading c.args.schema.now (g.Z.Analyzers.tokens_of z) documents ≡ Some (contents_of c.built_index.result.reader)) c.in-Ok.ensures.of.0
+    (c.in-Ok-built.ensures.read told ∙ ap (λ r. Some (contents_of r)) (sym c.built_index.ensures.reader))

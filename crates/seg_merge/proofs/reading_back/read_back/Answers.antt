@@ -1,0 +1,34 @@
+use Rattle.std.proofs.Common.{rules, ◌≡◌, Err, sym, ◌∙◌, subst}
+use Rattle.seg_model.specs.Fields.{Schema}
+use Rattle.seg_open.specs.OpenSegment.{contents_of}
+use Rattle.seg_open.specs.Spelling.{Spell, IsWhyNotOpen}
+use Rattle.seg_open.specs.declared.segment_files.SegmentFiles.{SegmentFiles}
+use Rattle.seg_merge.specs.Calls.{state_of}
+use Rattle.seg_merge.specs.DirectoryCalls.{ReadsBack}
+use Rattle.seg_merge.proofs.ReadBackSteps.{back-nothing, back-unread, back-damaged, back-whole}
+use Rattle.seg_merge.proofs.reading_back.read_back.Goals as goal
+
+pub returns-in-Ok-open_files-clause-reads : goal.returns-in-Ok-open_files-clause-reads
+returns-in-Ok-open_files-clause-reads g c =
+    let reader = c.in-Ok-open_files.reader in
+    let read = c.in-Ok-read.files in
+    let same : c.in-Ok.copy ≡ c.args.schema.now = search rules in
+    let spell : Spell c.args.schema.now read (contents_of reader) = search rules in
+    back-whole c.args.id c.args.schema.now c.args.max_doc _ _ c.in-Ok-read.ensures.files c.in-Ok-read.ensures.tells read c.in-Ok-read.ensures.seen c.in-Ok-read.ensures.read c.in-Ok-read.ensures.cause.later reader
+    (c.in-Ok-open_files.ensures.of.0 ∙ same) c.in-Ok-open_files.ensures.of.1 spell
+
+pub returns-in-Err-open_files-clause-stops : goal.returns-in-Err-open_files-clause-stops
+returns-in-Err-open_files-clause-stops g c =
+    let read = c.in-Ok-read.files in
+    let same : c.in-Ok.copy ≡ c.args.schema.now = search rules in
+    let why : IsWhyNotOpen c.args.schema.now c.args.max_doc read c.in-Err-open_files.e =
+    subst (λ (s : Schema). IsWhyNotOpen s c.args.max_doc read c.in-Err-open_files.e) same (subst (λ (f : SegmentFiles). IsWhyNotOpen c.in-Ok.copy c.args.max_doc f c.in-Err-open_files.e) c.share.ensures c.in-Err-open_files.ensures.err) in
+    subst (λ e. ReadsBack c.args.id c.args.schema.now c.args.max_doc (Err e) (state_of (g.W.Directory.tells c.args.directory.now) (g.W.Directory.files c.args.directory.now) (g.W.Directory.seen c.args.directory.now) (g.W.Directory.faults c.args.directory.now)) (state_of (g.W.Directory.tells c.read.new.directory) (g.W.Directory.files c.read.new.directory) (g.W.Directory.seen c.read.new.directory) (g.W.Directory.faults c.read.new.directory))) (sym c.of_segment.ensures)
+    (back-damaged c.args.id c.args.schema.now c.args.max_doc _ _ c.in-Ok-read.ensures.files c.in-Ok-read.ensures.tells read c.in-Ok-read.ensures.seen c.in-Ok-read.ensures.read c.in-Ok-read.ensures.cause.later c.in-Err-open_files.e why)
+
+pub returns-in_default-clause-stops : goal.returns-in_default-clause-stops
+returns-in_default-clause-stops g c = back-nothing c.args.id c.args.schema.now c.args.max_doc _
+
+pub returns-in-Err-clause-stops : goal.returns-in-Err-clause-stops
+returns-in-Err-clause-stops g c =
+    back-unread c.args.id c.args.schema.now c.args.max_doc _ _ c.in-Err.ensures.files c.in-Err.ensures.tells c.in-Err.e c.in-Err.ensures.seen c.in-Err.ensures.read c.in-Err.ensures.cause
