@@ -1,6 +1,6 @@
 -- How a run ends.
 use Rattle.std.proofs.Common.{◌≡◌, ◌≢◌, ◌≤◌, ◌⊎◌, ℕ, List, [], ◌∷◌, length, Option, None, Some, refl, sym, ap, subst, ◌∙◌, inl, inr, arith}
-use Rattle.std.specs.Prelude.{Result, Ok, Err, IfErr, IfSome, IsErrAnd, IsSome, is_some, if◌then◌else◌}
+use Rattle.std.specs.Prelude.{Result, Ok, Err, OnOk, IfErr, IfSome, IsErrAnd, IsSome, is_some, if◌then◌else◌}
 use Rattle.std.specs.Option.{option_map}
 use Rattle.std.proofs.lemmas.List.{append-nil}
 use mathlib.Core.Bool.{true≢false}
@@ -9,23 +9,25 @@ use Rattle.seg_common.specs.Streams.{IsAllOf}
 use Rattle.seg_common.specs.declared.name.FileName.{FileName}
 use Rattle.seg_values.specs.declared.error.ArgumentCause.TheVariants.{Later}
 use Rattle.seg_values.specs.declared.error.TantivyError.{TantivyError}
-use Rattle.seg_values.specs.declared.error.TantivyError.TheVariants.{InvalidArgument, OutOfMemory}
+use Rattle.seg_values.specs.declared.error.TantivyError.TheVariants.{InvalidArgument, OpenWriteError, IoError, OutOfMemory}
 use Rattle.seg_directory.specs.declared.answer.Answer.{Answer}
 use Rattle.seg_directory.specs.declared.answer.Answer.TheVariants as answer
 use Rattle.seg_meta.specs.Reads.{given}
-use Rattle.seg_model.specs.Fields.{Analyzer}
+use Rattle.seg_model.specs.Fields.{Schema, Analyzer}
 use Rattle.seg_model.specs.Laws.{ValidInputsAreNotRefused}
 use Rattle.seg_model.specs.Refused.{build_refusal}
 use Rattle.seg_model.specs.Valid.{Known}
 use Rattle.seg_merge.specs.Calls.{DirectoryState, HasRisen, Does}
-use Rattle.seg_merge.specs.DirectoryCalls.{Directories, IsRefusal, StopsIn, at_once, work_listing, output_listing, documents, work_index, output_index}
+use Rattle.seg_merge.specs.DirectoryCalls.{Directories, IsRefusal, ReadsBehind, StopsIn, at_once, work_listing, output_listing, documents, work_index, reading_back, output_index}
+use Rattle.seg_open.specs.SegmentOpened.{OpeningSeen}
+use Rattle.seg_open.specs.SegmentRead.{IsWhyUnread}
 use Rattle.seg_merge.specs.Refusals.{build_error}
 use Rattle.seg_script.specs.Script.{json_of, script, script_from}
 use Rattle.seg_tool.specs.DirectoryCalls.{Stopped, IsFault, BuildDoes}
 use Rattle.seg_tool.specs.Run.{max_script, first_of, refusal_of, IsAdmitted, IsNoScript, IsValidScript, IsWhyRefused}
 use Rattle.seg_tool.specs.Statuses.{IfRefused, IfWritten, RefusedFor}
 use Rattle.seg_tool.specs.declared.status.Status.{Status}
-use Rattle.seg_tool.specs.declared.status.Status.TheVariants.{Done, Words, Script, Refused, Exists, Directory, Stream, Memory}
+use Rattle.seg_tool.specs.declared.status.Status.TheVariants.{Done, Words, Script, Refused, Exists, Directory, Damaged, Stream, Memory}
 
 -- ---- before any call
 
@@ -40,7 +42,7 @@ does-nothing a = record {
 
 -- no memory, before a directory is called
 pub stopped-before : (a : Directories) → Stopped OutOfMemory a a
-stopped-before a = record { work_id = 0; output_id = 0; stops = work_listing (does-nothing a.work) refl }
+stopped-before a = record { work_id = 0; output_id = 0; schema = []; number = 0; stops = work_listing (does-nothing a.work) refl }
 
 -- ---- the bytes of the source
 
@@ -53,6 +55,7 @@ refused-by Words left bytes P all p = tt
 refused-by Script left bytes P all p = tt
 refused-by (Exists e) left bytes P all p = tt
 refused-by (Directory e) left bytes P all p = tt
+refused-by (Damaged name) left bytes P all p = tt
 refused-by Stream left bytes P all p = tt
 refused-by Memory left bytes P all p = tt
 
@@ -65,10 +68,15 @@ of-left : (left : Option (List ℕ)) (bytes : List ℕ) (P : List ℕ → Type 0
 of-left None bytes P all p = tt
 of-left (Some xs) bytes P all p = subst P all p
 
+pub on-all : {T E : Type 0} (r : Result T E) (left : Option (List ℕ)) (bytes : List ℕ) (P : List ℕ → Type 0) → IsAllOf left bytes → OnOk r (P bytes) → OnOk r (IfSome left P)
+on-all (Ok x) left bytes P all p = of-left left bytes P all p
+on-all (Err e) left bytes P all p = tt
+
 admitted-by : (s : Status) (known : Known) (analyzer : Analyzer) (left : Option (List ℕ)) (bytes : List ℕ) → IsAllOf left bytes → length bytes ≤ max_script
     → IfWritten s (λ _. first_of known analyzer (script bytes) ≡ None) → IfWritten s (λ _. IfSome left (IsAdmitted known analyzer))
 admitted-by (Exists e) known analyzer left bytes all short is = of-left left bytes (IsAdmitted known analyzer) all (record { short = short; admitted = is })
 admitted-by (Directory e) known analyzer left bytes all short is = of-left left bytes (IsAdmitted known analyzer) all (record { short = short; admitted = is })
+admitted-by (Damaged name) known analyzer left bytes all short is = of-left left bytes (IsAdmitted known analyzer) all (record { short = short; admitted = is })
 admitted-by Done known analyzer left bytes all short is = tt
 admitted-by Words known analyzer left bytes all short is = tt
 admitted-by Script known analyzer left bytes all short is = tt
@@ -132,13 +140,38 @@ no-refusal e (inl is) refusal = subst IsRefusal is refusal
 no-refusal e (inr (inl is)) refusal = subst IsRefusal is refusal
 no-refusal e (inr (inr is)) refusal = subst IsRefusal is refusal
 
-never-stops : (work_id output_id : ℕ) (e : TantivyError) (a b : Directories) → IsFault e → (Rose a.work.faults b.work.faults → ⊥) → (Rose a.output.faults b.output.faults → ⊥) → StopsIn work_id output_id e a b → ⊥
-never-stops w o e a b fault work output (at_once refusal same) = no-refusal e fault refusal
-never-stops w o e a b fault work output (work_listing d same) = no-fault _ _ e _ _ fault work d
-never-stops w o e a b fault work output (output_listing d f) = no-fault _ _ e _ _ fault output f
-never-stops w o e a b fault work output (documents refusal d f) = no-refusal e fault refusal
-never-stops w o e a b fault work output (work_index d f) = no-fault _ _ e _ _ fault work d
-never-stops w o e a b fault work output (output_index d f) = no-fault _ _ e _ _ fault output f
+-- such a fault is not told of a file that can't be read
+no-write : (name : FileName) → IsWhyUnread name OpenWriteError → ⊥
+no-write name (inl is) = cc is
+no-write name (inr (inl is)) = cc is
+no-write name (inr (inr is)) = cc is
+
+no-io : (name : FileName) → IsWhyUnread name IoError → ⊥
+no-io name (inl is) = cc is
+no-io name (inr (inl is)) = cc is
+no-io name (inr (inr is)) = cc is
+
+rose-before : (a b c : ℕ) → a ≤ b → Rose b c → Rose a c
+rose-before a b c le rose = omega (arith, le, rose)
+
+-- nor do files that are made and read back
+no-read-fault : (answers : List Answer) (id : ℕ) (schema : Schema) (number : ℕ) (e : TantivyError) (a b : DirectoryState) → IsFault e → (Rose a.faults b.faults → ⊥) → ReadsBehind answers id schema number (Err e) a b → ⊥
+no-read-fault answers id schema number e a b (inl is) sound r = sound (rose-before a.faults r.filled.faults b.faults r.made.later (r.read.cause.failed (ap Err is)))
+no-read-fault answers id schema number e a b (inr (inl is)) sound r =
+    let seen : OpeningSeen id schema number r.filled.seen (Err OpenWriteError) b.seen = subst (λ (x : TantivyError). OpeningSeen id schema number r.filled.seen (Err x) b.seen) is r.read.seen in
+    no-write _ seen.why
+no-read-fault answers id schema number e a b (inr (inr is)) sound r =
+    let seen : OpeningSeen id schema number r.filled.seen (Err IoError) b.seen = subst (λ (x : TantivyError). OpeningSeen id schema number r.filled.seen (Err x) b.seen) is r.read.seen in
+    no-io _ seen.why
+
+never-stops : (w o : ℕ) (schema : Schema) (number : ℕ) (e : TantivyError) (a b : Directories) → IsFault e → (Rose a.work.faults b.work.faults → ⊥) → (Rose a.output.faults b.output.faults → ⊥) → StopsIn w o schema number e a b → ⊥
+never-stops w o schema number e a b fault work output (at_once refusal same) = no-refusal e fault refusal
+never-stops w o schema number e a b fault work output (work_listing d same) = no-fault _ _ e _ _ fault work d
+never-stops w o schema number e a b fault work output (output_listing d f) = no-fault _ _ e _ _ fault output f
+never-stops w o schema number e a b fault work output (documents refusal d f) = no-refusal e fault refusal
+never-stops w o schema number e a b fault work output (work_index d f) = no-fault _ _ e _ _ fault work d
+never-stops w o schema number e a b fault work output (reading_back d f) = no-read-fault _ w schema number e a.work b.work fault work d
+never-stops w o schema number e a b fault work output (output_index reader d f) = no-fault _ _ e _ _ fault output f
 
 -- neither the source nor the sink fails
 pub no-stream : {A B C D : Type 0} → (A → ⊥) → (C → ⊥) → (A × B) ⊎ (C × D) → ⊥
@@ -151,19 +184,20 @@ at-left P left bytes is p = subst (λ (o : Option (List ℕ)). IfSome o P) is p
 
 pub completes : (s : Status) (known : Known) (analyzer : Analyzer) (left : Option (List ℕ)) (bytes : List ℕ) (a b : Directories)
     → ValidInputsAreNotRefused → left ≡ Some bytes → length bytes ≤ max_script → IsValidScript known analyzer bytes
-    → s ≢ Words → s ≢ Stream → ((e : TantivyError) → s ≢ Exists e)
+    → s ≢ Words → s ≢ Stream → ((e : TantivyError) → s ≢ Exists e) → ((name : FileName) → s ≢ Damaged name)
     → (s ≡ Script → IfSome left IsNoScript)
     → IfRefused s (λ e. IfSome left (λ all. IsWhyRefused known analyzer all e))
     → BuildDoes s a b → (Rose a.work.faults b.work.faults → ⊥) → (Rose a.output.faults b.output.faults → ⊥)
     → (s ≡ Done) ⊎ (s ≡ Memory)
-completes Done known analyzer left bytes a b law is short v words stream exists script refused does work output = inl refl
-completes Memory known analyzer left bytes a b law is short v words stream exists script refused does work output = inr refl
-completes Words known analyzer left bytes a b law is short v words stream exists script refused does work output = absurd (words refl)
-completes Stream known analyzer left bytes a b law is short v words stream exists script refused does work output = absurd (stream refl)
-completes (Exists e) known analyzer left bytes a b law is short v words stream exists script refused does work output = absurd (exists e refl)
-completes Script known analyzer left bytes a b law is short v words stream exists script refused does work output =
+completes Done known analyzer left bytes a b law is short v words stream exists whole script refused does work output = inl refl
+completes Memory known analyzer left bytes a b law is short v words stream exists whole script refused does work output = inr refl
+completes Words known analyzer left bytes a b law is short v words stream exists whole script refused does work output = absurd (words refl)
+completes Stream known analyzer left bytes a b law is short v words stream exists whole script refused does work output = absurd (stream refl)
+completes (Exists e) known analyzer left bytes a b law is short v words stream exists whole script refused does work output = absurd (exists e refl)
+completes (Damaged name) known analyzer left bytes a b law is short v words stream exists whole script refused does work output = absurd (whole name refl)
+completes Script known analyzer left bytes a b law is short v words stream exists whole script refused does work output =
     absurd (not-script known analyzer bytes short v (at-left IsNoScript left bytes is (script refl)))
-completes (Refused e) known analyzer left bytes a b law is short v words stream exists script refused does work output =
+completes (Refused e) known analyzer left bytes a b law is short v words stream exists whole script refused does work output =
     absurd (not-refused known analyzer bytes e law v (at-left (λ all. IsWhyRefused known analyzer all e) left bytes is refused))
-completes (Directory e) known analyzer left bytes a b law is short v words stream exists script refused does work output =
-    absurd (never-stops does.1.work_id does.1.output_id e a b does.0 work output does.1.stops)
+completes (Directory e) known analyzer left bytes a b law is short v words stream exists whole script refused does work output =
+    absurd (never-stops does.1.work_id does.1.output_id does.1.schema does.1.number e a b does.0 work output does.1.stops)

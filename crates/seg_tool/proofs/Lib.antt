@@ -1,4 +1,3 @@
-mod BatchText
 mod Built
 mod CauseText
 mod Endings
@@ -6,4 +5,4 @@ mod Faults
 mod OfScript
 mod Parts
 mod Printed
-mod Slices
+mod ReadText

@@ -11,7 +11,7 @@ use Rattle.seg_script.specs.Script.{script}
 use Rattle.seg_tool.specs.Run.{first_of, refusal_of, IsValidScript, IsWhyRefused}
 use Rattle.seg_tool.specs.Statuses.{IfRefused, IfWritten}
 use Rattle.seg_tool.specs.declared.status.Status.{Status}
-use Rattle.seg_tool.specs.declared.status.Status.TheVariants.{Done, Words, Script, Refused, Exists, Directory, Stream, Memory}
+use Rattle.seg_tool.specs.declared.status.Status.TheVariants.{Done, Words, Script, Refused, Exists, Directory, Damaged, Stream, Memory}
 
 -- what is handed in is what the script says
 pub says : (bytes : List ℕ) (said made : Input) → script bytes ≡ Some said → made ≡ said → script bytes ≡ Some made
@@ -40,6 +40,7 @@ no-memory A B r (Some e) is a b = (inr is, a, b)
 pub when-written : (s : Status) (P : Type 0) → P → IfWritten s (λ _. P)
 when-written (Exists e) P p = p
 when-written (Directory e) P p = p
+when-written (Damaged name) P p = p
 when-written Done P p = tt
 when-written Words P p = tt
 when-written Script P p = tt

@@ -3,23 +3,30 @@ use Rattle.std.specs.Prelude.{ℕ, ◌≡◌, ◌⊎◌, IsTrue}
 use Rattle.std.specs.FinMap.{len}
 use Rattle.seg_common.specs.Causes.{Rose}
 use Rattle.seg_values.specs.declared.error.TantivyError.{TantivyError}
-use Rattle.seg_values.specs.declared.error.TantivyError.TheVariants.{IndexAlreadyExists, OpenReadError, OpenWriteError, IoError, OutOfMemory}
+use Rattle.seg_values.specs.declared.error.TantivyError.TheVariants.{IndexAlreadyExists, OpenReadError, OpenWriteError, IoError, DataCorruption, OutOfMemory}
+use Rattle.seg_model.specs.Fields.{Schema}
+use Rattle.seg_open.specs.OpenSegment.{OpenSegment}
 use Rattle.seg_merge.specs.Calls.{DirectoryState}
 use Rattle.seg_merge.specs.DirectoryCalls.{Directories, StopsIn, WritesBoth}
 use Rattle.seg_tool.specs.declared.status.Status.{Status}
-use Rattle.seg_tool.specs.declared.status.Status.TheVariants.{Done, Refused, Exists, Directory, Stream, Memory}
+use Rattle.seg_tool.specs.declared.status.Status.TheVariants.{Done, Refused, Exists, Directory, Damaged, Stream, Memory}
 
--- both indexes were written, under some ids
+-- both indexes were written, the second of what a reader had of the first
 pub record Wrote (before after : Directories) : Type 0 where
   pub work_id : ℕ
   pub output_id : ℕ
-  pub writes : WritesBoth work_id output_id before after
+  pub schema : Schema
+  pub number : ℕ
+  pub reader : OpenSegment
+  pub writes : WritesBoth work_id output_id schema number reader before after
 
--- it stopped with an error, under some ids
+-- it stopped with an error
 pub record Stopped (e : TantivyError) (before after : Directories) : Type 0 where
   pub work_id : ℕ
   pub output_id : ℕ
-  pub stops : StopsIn work_id output_id e before after
+  pub schema : Schema
+  pub number : ℕ
+  pub stops : StopsIn work_id output_id schema number e before after
 
 -- an error of a directory that failed
 abbrev pub IsFault : TantivyError → Type 0
@@ -31,6 +38,7 @@ BuildDoes Done before after = Wrote before after
 BuildDoes (Refused e) before after = (after ≡ before) ⊎ Stopped e before after
 BuildDoes (Exists e) before after = (e ≡ IndexAlreadyExists) × Stopped e before after
 BuildDoes (Directory e) before after = IsFault e × Stopped e before after
+BuildDoes (Damaged name) before after = Stopped (DataCorruption name) before after
 BuildDoes Stream before after = (after ≡ before) ⊎ Wrote before after
 BuildDoes Memory before after = Stopped OutOfMemory before after ⊎ Wrote before after
 BuildDoes _ before after = after ≡ before

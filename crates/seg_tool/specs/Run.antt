@@ -1,5 +1,5 @@
 -- What a run of `build` prints, what it leaves in the directories, and why it is refused.
-use Rattle.std.specs.Prelude.{ℕ, ◌≡◌, ◌<◌, ◌≤◌, ◌⊎◌, List, [], ◌∷◌, ◌++◌, length, replicate, Bool, true, false, Option, Some, None, IsSome, codes, String, string_bytes}
+use Rattle.std.specs.Prelude.{ℕ, ◌≡◌, ◌<◌, ◌≤◌, ◌⊎◌, List, [], ◌∷◌, ◌++◌, length, replicate, Bool, true, false, Option, Some, None, IsSome, codes, String, string_bytes, IsTrue}
 use Rattle.std.specs.declared.alloc.Global.{Global}
 use Rattle.std.specs.Io.KnownBytes.{Appends}
 use Rattle.std.specs.Str.{bytes_eq}
@@ -12,13 +12,18 @@ use Rattle.seg_directory.specs.Files.{NamedFiles}
 use Rattle.seg_model.specs.Contents.{reading}
 use Rattle.seg_model.specs.Fields.{Schema, Analyzer}
 use Rattle.seg_model.specs.Input.{Input, input_batches, input_survivors}
-use Rattle.seg_model.specs.Operations.{Batch}
+use Rattle.seg_model.specs.IndexOfFiles as index
+use Rattle.seg_model.specs.Operations.{Batch, additions}
 use Rattle.seg_model.specs.Valid.{Known, IsValid}
-use Rattle.seg_merge.specs.IndexFiles.{IsOutputIndexOf, IsWorkIndexOf, output_id, work_ids}
+use Rattle.seg_build.specs.Forms.{segment_forms}
+use Rattle.seg_open.specs.OpenSegment.{OpenSegment}
+use Rattle.seg_merge.specs.DirectoryCalls.{Directories, WritesBoth}
+use Rattle.seg_merge.specs.IndexFiles.{IsOutputIndexOf, IsWorkIndexOf, first_id, output_id, output_meta, work_ids}
 use Rattle.seg_merge.specs.Inputs.{is_built_input}
 use Rattle.seg_merge.specs.Refusals.{first_error, refusal_error}
 use Rattle.seg_script.specs.Script.{json_of, script}
 use Rattle.seg_text.specs.SegmentText.{PrintedSegment, segment_text}
+use Rattle.seg_tool.specs.Printing.{read_text}
 
 -- the words are `build` alone
 abbrev pub is_build : List (String Global) → Bool
@@ -70,11 +75,18 @@ pub record IsValidScript (known : Known) (analyzer : Analyzer) (bytes : List ℕ
   pub built : is_built_input meant ≡ true
   pub valid : IsValid known analyzer meant
 
--- the bytes are a script, and this is its text
-pub record IsTextOf (analyzer : Analyzer) (bytes text : List ℕ) : Type 0 where
+-- both indexes of an input were written, and this is the text of the segment that was read back for the second: where the work directory tells, it is that of the reading of the documents
+pub record IsTextOfInput (analyzer : Analyzer) (input : Input) (before after : Directories) (text : List ℕ) : Type 0 where
+  pub reader : OpenSegment
+  pub writes : WritesBoth (first_id input.ids) (output_id input.ids) input.schema (length (additions input.operations)) reader before after
+  pub printed : text ≡ read_text input.ids reader
+  pub told : IsTrue before.work.tells → text ≡ build_text analyzer input
+
+-- the bytes are a script, and this is the text of its indexes
+pub record IsTextOf (analyzer : Analyzer) (bytes : List ℕ) (before after : Directories) (text : List ℕ) : Type 0 where
   pub meant : Input
   pub is_script : script bytes ≡ Some meant
-  pub printed : text ≡ build_text analyzer meant
+  pub text_of : IsTextOfInput analyzer meant before after text
 
 -- the bytes are a script, and the files are its work index
 pub record HasWorkIndex (analyzer : Analyzer) (bytes : List ℕ) (files : NamedFiles) : Type 0 where
@@ -87,6 +99,12 @@ pub record HasOutputIndex (analyzer : Analyzer) (bytes : List ℕ) (files : Name
   pub meant : Input
   pub is_script : script bytes ≡ Some meant
   pub is_index : IsOutputIndexOf analyzer meant files
+
+-- the bytes are a script, and the files are an index with the meta of its output index
+pub record HasOutputMeta (analyzer : Analyzer) (bytes : List ℕ) (files : NamedFiles) : Type 0 where
+  pub meant : Input
+  pub is_script : script bytes ≡ Some meant
+  pub is_meta : index.index_of segment_forms files ≡ Some (output_meta analyzer meant)
 
 -- ---- refusals
 

@@ -1,13 +1,14 @@
 -- The numbers of statuses, and the line that is said of each.
 use Rattle.std.specs.Prelude.{ℕ, ◌≡◌, ◌⊎◌, List, [], ◌∷◌, ◌++◌, codes, decimal}
+use Rattle.seg_common.specs.FileNames.{name_text}
 use Rattle.seg_values.specs.declared.error.TantivyError.{TantivyError}
-use Rattle.seg_values.specs.declared.error.TantivyError.TheVariants.{SchemaError, InvalidArgument, IndexAlreadyExists, OpenReadError, OpenWriteError, IoError}
+use Rattle.seg_values.specs.declared.error.TantivyError.TheVariants.{SchemaError, InvalidArgument, IndexAlreadyExists, OpenReadError, OpenWriteError, IoError, DataCorruption}
 use Rattle.seg_values.specs.declared.error.SchemaCause.{SchemaCause}
 use Rattle.seg_values.specs.declared.error.SchemaCause.TheVariants.{UnknownField, WrongValue, DeleteField, Tokenizer, DuplicateName, NotFacet, NoNorms, NoColumn}
 use Rattle.seg_values.specs.declared.error.ArgumentCause.{ArgumentCause}
 use Rattle.seg_values.specs.declared.error.ArgumentCause.TheVariants as arguments
 use Rattle.seg_tool.specs.declared.status.Status.{Status}
-use Rattle.seg_tool.specs.declared.status.Status.TheVariants.{Done, Words, Script, Refused, Exists, Directory, Stream, Memory}
+use Rattle.seg_tool.specs.declared.status.Status.TheVariants.{Done, Words, Script, Refused, Exists, Directory, Damaged, Stream, Memory}
 
 -- the number with which the program ends
 abbrev pub number_of : Status → ℕ
@@ -17,6 +18,7 @@ number_of Script = 3
 number_of (Refused e) = 4
 number_of (Exists e) = 5
 number_of (Directory e) = 6
+number_of (Damaged name) = 7
 number_of Stream = 8
 number_of Memory = 9
 
@@ -25,10 +27,11 @@ abbrev pub IfRefused : Status → (TantivyError → Type 0) → Type 0
 IfRefused (Refused e) P = P e
 IfRefused _ P = Unit {0}
 
--- a fact of the error, where a directory was not empty or failed
+-- a fact of the error, where a directory was not empty, failed or has a file that is damaged
 abbrev pub IfWritten : Status → (TantivyError → Type 0) → Type 0
 IfWritten (Exists e) P = P e
 IfWritten (Directory e) P = P e
+IfWritten (Damaged name) P = P (DataCorruption name)
 IfWritten _ P = Unit {0}
 
 -- refused for this, or before that no memory, or a source that failed
@@ -43,6 +46,7 @@ status_of IndexAlreadyExists = Exists IndexAlreadyExists
 status_of OpenReadError = Directory OpenReadError
 status_of OpenWriteError = Directory OpenWriteError
 status_of IoError = Directory IoError
+status_of (DataCorruption name) = Damaged name
 status_of _ = Memory
 
 -- the name of a cause, and its numbers
@@ -114,6 +118,7 @@ status_line Script = codes "script: not a valid script" ++ 10 ∷ []
 status_line (Refused e) = codes "refused: " ++ (cause_text (cause_words e) ++ 10 ∷ [])
 status_line (Exists e) = codes "exists: a directory is not empty" ++ 10 ∷ []
 status_line (Directory e) = fault_text e ++ 10 ∷ []
+status_line (Damaged name) = codes "damaged: " ++ (name_text name ++ 10 ∷ [])
 status_line Stream = codes "stream: read or write failed" ++ 10 ∷ []
 status_line Memory = codes "memory: not enough" ++ 10 ∷ []
 
@@ -122,5 +127,6 @@ abbrev pub IsOfErrors : Status → Type 0
 IsOfErrors (Refused e) = Unit {0}
 IsOfErrors (Exists e) = Unit {0}
 IsOfErrors (Directory e) = Unit {0}
+IsOfErrors (Damaged name) = Unit {0}
 IsOfErrors Memory = Unit {0}
 IsOfErrors _ = ⊥

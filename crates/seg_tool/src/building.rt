@@ -1,32 +1,30 @@
 //! From the bytes of a script to its indexes and the text of their segments.
-ghost use Rattle.std.specs.Prelude.{◌≡◌, ◌≢◌, ◌⊎◌, map, true, Some, None, Err, IfErr, IfOk, IfSome, IsErrOf, IsSome, IsTrue, OnOk, length};
+ghost use Rattle.std.specs.Prelude.{◌≡◌, ◌≢◌, ◌⊎◌, true, Some, None, Err, IfErr, IfOk, IfSome, IsErrOf, IsSome, IsTrue, OnOk, length};
 ghost use Rattle.std.specs.FinMap.{len};
-ghost use Rattle.std.specs.List.{list_all};
-ghost use Rattle.seg_model.specs.Operations.{additions};
+ghost use Rattle.seg_model.specs.IndexOfFiles as index;
 ghost use Rattle.seg_model.specs.Valid.{Known, IsValid};
-ghost use Rattle.seg_build.specs.View.{operation_of};
+ghost use Rattle.seg_build.specs.Forms.{segment_forms};
 ghost use Rattle.seg_build.specs.WriterStart.{Tests};
 ghost use Rattle.seg_merge.specs.Calls.{state_of};
 ghost use Rattle.seg_merge.specs.DirectoryCalls.{Directories};
-ghost use Rattle.seg_merge.specs.IndexFiles.{IsOutputIndexOf, IsWorkIndexOf};
-ghost use Rattle.seg_merge.specs.Inputs.{is_addition, is_built_input};
+ghost use Rattle.seg_merge.specs.IndexFiles.{IsOutputIndexOf, IsWorkIndexOf, output_meta};
+ghost use Rattle.seg_merge.specs.Inputs.{is_built_input};
 ghost use Rattle.seg_merge.specs.Refusals.{first_error, refusal_error};
-ghost use Rattle.seg_script.specs.Laws.{HoldsTextFields};
 ghost use Rattle.seg_script.specs.Script.{json_of, script};
-ghost use Rattle.seg_text.specs.DocumentText.{are_known_texts};
 ghost use Rattle.seg_tool.specs.BuildInput.{input_of};
 ghost use Rattle.seg_tool.specs.DirectoryCalls.{BuildDoes, Wrote};
-ghost use Rattle.seg_tool.specs.Printing.{batch_text};
-ghost use Rattle.seg_tool.specs.Run.{build_text, HasOutputIndex, HasWorkIndex, IsTextOf, IsValidScript, IsWhyRefused, first_of};
+ghost use Rattle.seg_tool.specs.Printing.{read_text};
+ghost use Rattle.seg_tool.specs.Run.{HasOutputIndex, HasOutputMeta, HasWorkIndex, IsTextOf, IsTextOfInput, IsValidScript, IsWhyRefused, first_of};
 ghost use Rattle.seg_tool.specs.Statuses.{IfRefused, IfWritten, IsOfErrors, status_of};
 
 use crate::input::{BuildInput, InputError, build_input};
 use crate::printing::push_segment;
 use crate::status::Status;
-use seg_build::IndexedFields;
+use seg_common::FileName;
 use seg_directory::Directory;
-use seg_merge::build_index_with_fields;
-use seg_script::{Script, ScriptError, read_script, scripts_hold_text_fields};
+use seg_merge::{BuiltIndex, build_index_with_reader};
+use seg_open::SegmentReader;
+use seg_script::{Script, ScriptError, read_script};
 use seg_values::{Analyzers, ArgumentCause, TantivyError};
 use std::alloc::{AllocError, Global};
 
@@ -41,7 +39,15 @@ pub(crate) fn build<Z: Analyzers, W: Directory, O: Directory>(
     work: &mut W,
     output: &mut O,
 ) -> Result<Vec<u8>, Status>
-    ensures ok { IfOk result (λ t. IsTextOf (Z.tokens_of analyzers.now) bytes.items t.items) }
+    ensures ok { IfOk result (λ t. IsTextOf (Z.tokens_of analyzers.now) bytes.items
+        (record {
+          work = state_of (W.tells work.old) (W.files work.old) (W.seen work.old) (W.faults work.old);
+          output = state_of (O.tells output.old) (O.files output.old) (O.seen output.old) (O.faults output.old);
+        })
+        (record {
+          work = state_of (W.tells work.new) (W.files work.new) (W.seen work.new) (W.faults work.new);
+          output = state_of (O.tells output.new) (O.files output.new) (O.seen output.new) (O.faults output.new);
+        }) t.items) }
     ensures valid { (known : Known) → Tests known (Z.knows analyzers.now)
         → OnOk result (IsValidScript known (Z.tokens_of analyzers.now) bytes.items) }
     ensures script { IsErrOf result Status.Script → json_of bytes.items ≡ None }
@@ -59,12 +65,15 @@ pub(crate) fn build<Z: Analyzers, W: Directory, O: Directory>(
     ensures work_index { IsTrue (W.tells work.old) → OnOk result
         (HasWorkIndex (Z.tokens_of analyzers.now) bytes.items (W.files work.new)) }
     ensures work_was_empty { IsTrue (W.tells work.old) → OnOk result (len (W.files work.old) ≡ 0) }
-    ensures output_index { IsTrue (O.tells output.old) → OnOk result
+    ensures output_index { IsTrue (W.tells work.old) → IsTrue (O.tells output.old) → OnOk result
         (HasOutputIndex (Z.tokens_of analyzers.now) bytes.items (O.files output.new)) }
+    ensures output_meta { IsTrue (O.tells output.old) → OnOk result
+        (HasOutputMeta (Z.tokens_of analyzers.now) bytes.items (O.files output.new)) }
     ensures output_was_empty { IsTrue (O.tells output.old) → OnOk result (len (O.files output.old) ≡ 0) }
     ensures fresh { IsTrue (W.tells work.old) → len (W.files work.old) ≡ 0
         → IsTrue (O.tells output.old) → len (O.files output.old) ≡ 0
         → IfErr result (λ status. (e : TantivyError) → status ≢ Status.Exists e) }
+    ensures whole { IsTrue (W.tells work.old) → IfErr result (λ status. (name : FileName) → status ≢ Status.Damaged name) }
     ensures calls { OnOk result (BuildDoes Status.Done
         (record {
           work = state_of (W.tells work.old) (W.files work.old) (W.seen work.old) (W.faults work.old);
@@ -96,7 +105,6 @@ pub(crate) fn build<Z: Analyzers, W: Directory, O: Directory>(
         Err(InputError::Filtered) => return Err(Status::Refused(LATER)),
         Err(InputError::OutOfMemory) => return Err(Status::Memory),
     };
-    scripts_hold_text_fields();
     build_and_print(alloc, analyzers, &input, work, output)
 }
 
@@ -108,8 +116,15 @@ fn build_and_print<Z: Analyzers, W: Directory, O: Directory>(
     work: &mut W,
     output: &mut O,
 ) -> Result<Vec<u8>, Status>
-    requires texts { HoldsTextFields (input_of input.now) }
-    ensures ok { IfOk result (λ t. t.items ≡ build_text (Z.tokens_of analyzers.now) (input_of input.now)) }
+    ensures ok { IfOk result (λ t. IsTextOfInput (Z.tokens_of analyzers.now) (input_of input.now)
+        (record {
+          work = state_of (W.tells work.old) (W.files work.old) (W.seen work.old) (W.faults work.old);
+          output = state_of (O.tells output.old) (O.files output.old) (O.seen output.old) (O.faults output.old);
+        })
+        (record {
+          work = state_of (W.tells work.new) (W.files work.new) (W.seen work.new) (W.faults work.new);
+          output = state_of (O.tells output.new) (O.files output.new) (O.seen output.new) (O.faults output.new);
+        }) t.items) }
     ensures valid { (known : Known) → Tests known (Z.knows analyzers.now)
         → OnOk result (IsValid known (Z.tokens_of analyzers.now) (input_of input.now)) }
     ensures built { OnOk result (is_built_input (input_of input.now) ≡ true) }
@@ -122,12 +137,15 @@ fn build_and_print<Z: Analyzers, W: Directory, O: Directory>(
     ensures work_index { IsTrue (W.tells work.old) → OnOk result
         (IsWorkIndexOf (Z.tokens_of analyzers.now) (input_of input.now) (W.files work.new)) }
     ensures work_was_empty { IsTrue (W.tells work.old) → OnOk result (len (W.files work.old) ≡ 0) }
-    ensures output_index { IsTrue (O.tells output.old) → OnOk result
+    ensures output_index { IsTrue (W.tells work.old) → IsTrue (O.tells output.old) → OnOk result
         (IsOutputIndexOf (Z.tokens_of analyzers.now) (input_of input.now) (O.files output.new)) }
+    ensures output_meta { IsTrue (O.tells output.old) → OnOk result (index.index_of segment_forms (O.files output.new)
+        ≡ Some (output_meta (Z.tokens_of analyzers.now) (input_of input.now))) }
     ensures output_was_empty { IsTrue (O.tells output.old) → OnOk result (len (O.files output.old) ≡ 0) }
     ensures fresh { IsTrue (W.tells work.old) → len (W.files work.old) ≡ 0
         → IsTrue (O.tells output.old) → len (O.files output.old) ≡ 0
         → IfErr result (λ status. (e : TantivyError) → status ≢ Status.Exists e) }
+    ensures whole { IsTrue (W.tells work.old) → IfErr result (λ status. (name : FileName) → status ≢ Status.Damaged name) }
     ensures calls { OnOk result (Wrote
         (record {
           work = state_of (W.tells work.old) (W.files work.old) (W.seen work.old) (W.faults work.old);
@@ -147,7 +165,7 @@ fn build_and_print<Z: Analyzers, W: Directory, O: Directory>(
           output = state_of (O.tells output.new) (O.files output.new) (O.seen output.new) (O.faults output.new);
         })) }
 {
-    let built = build_index_with_fields(
+    let built = build_index_with_reader(
         alloc,
         &input.schema,
         &input.settings,
@@ -160,7 +178,7 @@ fn build_and_print<Z: Analyzers, W: Directory, O: Directory>(
         output,
     );
     match built {
-        Ok(built) => match segments_text(alloc, input, &built.fields) {
+        Ok(built) => match built_text(alloc, input, built) {
             Ok(text) => Ok(text),
             Err(AllocError) => Err(Status::Memory),
         },
@@ -168,21 +186,26 @@ fn build_and_print<Z: Analyzers, W: Directory, O: Directory>(
     }
 }
 
-/// The text of both segments.
+/// The text of both segments of an index that was built.
+fn built_text(alloc: Global, input: &BuildInput, built: BuiltIndex) -> Result<Vec<u8>, AllocError>
+    requires ids { length input.now.ids.items ≡ 2 }
+    ensures { IfOk result (λ t. t.items ≡ read_text input.now.ids.items built.reader) }
+{
+    segments_text(alloc, input, &built.reader)
+}
+
+/// The text of both segments, which hold what was read.
 fn segments_text(
     alloc: Global,
     input: &BuildInput,
-    fields: &IndexedFields,
+    reader: &SegmentReader,
 ) -> Result<Vec<u8>, AllocError>
-    requires as_many { length fields.now ≡ length input.now.schema }
-    requires additions { list_all is_addition (map operation_of input.now.operations.items) ≡ true }
-    requires texts { list_all (are_known_texts input.now.schema) (additions (map operation_of input.now.operations.items)) ≡ true }
     requires ids { length input.now.ids.items ≡ 2 }
-    ensures { IfOk result (λ t. t.items ≡ batch_text input.now fields.now) }
+    ensures { IfOk result (λ t. t.items ≡ read_text input.now.ids.items reader.now) }
 {
     let mut out = Vec::new(alloc);
-    push_segment(&mut out, alloc, "work", input.ids[0], input, fields)?;
-    push_segment(&mut out, alloc, "output", input.ids[1], input, fields)?;
+    push_segment(&mut out, alloc, "work", input.ids[0], reader)?;
+    push_segment(&mut out, alloc, "output", input.ids[1], reader)?;
     Ok(out)
 }
 
@@ -196,6 +219,7 @@ fn status_of(error: TantivyError) -> Status
         TantivyError::OpenReadError | TantivyError::OpenWriteError | TantivyError::IoError => {
             Status::Directory(error)
         }
+        TantivyError::DataCorruption { name } => Status::Damaged(name),
         _ => Status::Memory,
     }
 }

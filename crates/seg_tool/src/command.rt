@@ -4,7 +4,7 @@ ghost use Rattle.std.specs.Io.KnownBytes.{Appends, IsAtEnd};
 ghost use Rattle.seg_common.specs.Causes.{Rose};
 ghost use Rattle.seg_common.specs.Idle.{OnlyLastIsIdle};
 ghost use Rattle.seg_common.specs.Streams.{AppendsPart, TakesAtMost};
-ghost use Rattle.seg_tool.specs.Run.{is_build, max_script, first_of, HasOutputIndex, HasWorkIndex, IsAdmitted, IsJson, IsNoScript, IsTextOf, IsValidScript, IsWhyRefused, Gains, GainsPart};
+ghost use Rattle.seg_tool.specs.Run.{is_build, max_script, first_of, HasOutputIndex, HasOutputMeta, HasWorkIndex, IsAdmitted, IsJson, IsNoScript, IsTextOf, IsValidScript, IsWhyRefused, Gains, GainsPart};
 ghost use Rattle.seg_tool.specs.Statuses.{IfRefused, IfWritten, RefusedFor, status_line};
 ghost use Rattle.seg_build.specs.WriterStart.{Tests};
 ghost use Rattle.seg_merge.specs.Calls.{state_of};
@@ -17,7 +17,7 @@ ghost use Rattle.std.specs.FinMap.{len};
 use crate::building::build;
 use crate::reporting::report;
 use crate::status::Status;
-use seg_common::{ReadError, Sink, SinkFailed, Source, read_to_end, write_whole};
+use seg_common::{FileName, ReadError, Sink, SinkFailed, Source, read_to_end, write_whole};
 use seg_directory::Directory;
 use seg_model::valid_inputs_are_not_refused;
 use seg_values::{Analyzers, TantivyError};
@@ -28,9 +28,10 @@ const MAX_SCRIPT: usize = 67_108_864;
 
 /// Does what the words say, and answers how it went.
 ///
-/// `build` reads the source to its end as a script, writes an index of its documents into the directory `work` and the index
-/// that it is merged into, into the directory `output`, and writes the text of both segments to the sink. On any status but `Done` one line is written to `faults`; a failing write there
-/// changes nothing. What is written to a directory before it fails stays there.
+/// `build` reads the source to its end as a script and writes an index of its documents into the directory `work`. It reads
+/// the segment of that index back, each of its files once, writes what was read as the index that it is merged into, into the
+/// directory `output`, and writes the text of both segments, of what was read, to the sink. On any status but `Done` one line
+/// is written to `faults`; a failing write there changes nothing. What is written to a directory before it fails stays there.
 pub fn run<S: Source, K: Sink, F: Sink, Z: Analyzers, W: Directory, O: Directory>(
     alloc: Global,
     words: &[String],
@@ -59,28 +60,47 @@ pub fn run<S: Source, K: Sink, F: Sink, Z: Analyzers, W: Directory, O: Directory
     ensures valid { (known : Known) → Tests known (Z.knows analyzers.now) → result ≡ Status.Done
         → IfSome (S.left source.old) (IsValidScript known (Z.tokens_of analyzers.now)) }
 
-    // What goes to the sink.
+    // What goes to the sink: the text of the segment that was read back.
     ensures done { result ≡ Status.Done → IfSome (S.left source.old)
         (λ bytes. (length bytes ≤ max_script)
-        × Gains (IsTextOf (Z.tokens_of analyzers.now) bytes)
+        × Gains (IsTextOf (Z.tokens_of analyzers.now) bytes
+        (record {
+          work = state_of (W.tells work.old) (W.files work.old) (W.seen work.old) (W.faults work.old);
+          output = state_of (O.tells output.old) (O.files output.old) (O.seen output.old) (O.faults output.old);
+        })
+        (record {
+          work = state_of (W.tells work.new) (W.files work.new) (W.seen work.new) (W.faults work.new);
+          output = state_of (O.tells output.new) (O.files output.new) (O.seen output.new) (O.faults output.new);
+        }))
         (K.written sink.old) (K.written sink.new)) }
     ensures untouched { result ≢ Status.Done → result ≢ Status.Stream → sink.new ≡ sink.old }
     ensures stream { result ≡ Status.Stream →
         (Rose (S.faults source.old) (S.faults source.new) × (sink.new ≡ sink.old))
         ⊎ (Rose (K.faults sink.old) (K.faults sink.new) × IfSome (S.left source.old)
-        (λ bytes. GainsPart (IsTextOf (Z.tokens_of analyzers.now) bytes)
+        (λ bytes. GainsPart (IsTextOf (Z.tokens_of analyzers.now) bytes
+        (record {
+          work = state_of (W.tells work.old) (W.files work.old) (W.seen work.old) (W.faults work.old);
+          output = state_of (O.tells output.old) (O.files output.old) (O.seen output.old) (O.faults output.old);
+        })
+        (record {
+          work = state_of (W.tells work.new) (W.files work.new) (W.seen work.new) (W.faults work.new);
+          output = state_of (O.tells output.new) (O.files output.new) (O.seen output.new) (O.faults output.new);
+        }))
         (K.written sink.old) (K.written sink.new))) }
 
     // What becomes of the directories.
     ensures work_index { result ≡ Status.Done → IsTrue (W.tells work.old) → IfSome (S.left source.old)
         (λ bytes. HasWorkIndex (Z.tokens_of analyzers.now) bytes (W.files work.new)) }
     ensures work_was_empty { result ≡ Status.Done → IsTrue (W.tells work.old) → len (W.files work.old) ≡ 0 }
-    ensures output_index { result ≡ Status.Done → IsTrue (O.tells output.old) → IfSome (S.left source.old)
+    ensures output_index { result ≡ Status.Done → IsTrue (W.tells work.old) → IsTrue (O.tells output.old) → IfSome (S.left source.old)
         (λ bytes. HasOutputIndex (Z.tokens_of analyzers.now) bytes (O.files output.new)) }
+    ensures output_meta { result ≡ Status.Done → IsTrue (O.tells output.old) → IfSome (S.left source.old)
+        (λ bytes. HasOutputMeta (Z.tokens_of analyzers.now) bytes (O.files output.new)) }
     ensures output_was_empty { result ≡ Status.Done → IsTrue (O.tells output.old) → len (O.files output.old) ≡ 0 }
     ensures fresh { IsTrue (W.tells work.old) → len (W.files work.old) ≡ 0
         → IsTrue (O.tells output.old) → len (O.files output.old) ≡ 0
         → (e : TantivyError) → result ≢ Status.Exists e }
+    ensures whole { IsTrue (W.tells work.old) → (name : FileName) → result ≢ Status.Damaged name }
     ensures calls { BuildDoes result
         (record {
           work = state_of (W.tells work.old) (W.files work.old) (W.seen work.old) (W.faults work.old);
@@ -160,23 +180,42 @@ fn execute<S: Source, K: Sink, Z: Analyzers, W: Directory, O: Directory>(
         → IfSome (S.left source.old) (IsValidScript known (Z.tokens_of analyzers.now)) }
     ensures done { result ≡ Status.Done → IfSome (S.left source.old)
         (λ bytes. (length bytes ≤ max_script)
-        × Gains (IsTextOf (Z.tokens_of analyzers.now) bytes)
+        × Gains (IsTextOf (Z.tokens_of analyzers.now) bytes
+        (record {
+          work = state_of (W.tells work.old) (W.files work.old) (W.seen work.old) (W.faults work.old);
+          output = state_of (O.tells output.old) (O.files output.old) (O.seen output.old) (O.faults output.old);
+        })
+        (record {
+          work = state_of (W.tells work.new) (W.files work.new) (W.seen work.new) (W.faults work.new);
+          output = state_of (O.tells output.new) (O.files output.new) (O.seen output.new) (O.faults output.new);
+        }))
         (K.written sink.old) (K.written sink.new)) }
     ensures untouched { result ≢ Status.Done → result ≢ Status.Stream → sink.new ≡ sink.old }
     ensures stream { result ≡ Status.Stream →
         (Rose (S.faults source.old) (S.faults source.new) × (sink.new ≡ sink.old))
         ⊎ (Rose (K.faults sink.old) (K.faults sink.new) × IfSome (S.left source.old)
-        (λ bytes. GainsPart (IsTextOf (Z.tokens_of analyzers.now) bytes)
+        (λ bytes. GainsPart (IsTextOf (Z.tokens_of analyzers.now) bytes
+        (record {
+          work = state_of (W.tells work.old) (W.files work.old) (W.seen work.old) (W.faults work.old);
+          output = state_of (O.tells output.old) (O.files output.old) (O.seen output.old) (O.faults output.old);
+        })
+        (record {
+          work = state_of (W.tells work.new) (W.files work.new) (W.seen work.new) (W.faults work.new);
+          output = state_of (O.tells output.new) (O.files output.new) (O.seen output.new) (O.faults output.new);
+        }))
         (K.written sink.old) (K.written sink.new))) }
     ensures work_index { result ≡ Status.Done → IsTrue (W.tells work.old) → IfSome (S.left source.old)
         (λ bytes. HasWorkIndex (Z.tokens_of analyzers.now) bytes (W.files work.new)) }
     ensures work_was_empty { result ≡ Status.Done → IsTrue (W.tells work.old) → len (W.files work.old) ≡ 0 }
-    ensures output_index { result ≡ Status.Done → IsTrue (O.tells output.old) → IfSome (S.left source.old)
+    ensures output_index { result ≡ Status.Done → IsTrue (W.tells work.old) → IsTrue (O.tells output.old) → IfSome (S.left source.old)
         (λ bytes. HasOutputIndex (Z.tokens_of analyzers.now) bytes (O.files output.new)) }
+    ensures output_meta { result ≡ Status.Done → IsTrue (O.tells output.old) → IfSome (S.left source.old)
+        (λ bytes. HasOutputMeta (Z.tokens_of analyzers.now) bytes (O.files output.new)) }
     ensures output_was_empty { result ≡ Status.Done → IsTrue (O.tells output.old) → len (O.files output.old) ≡ 0 }
     ensures fresh { IsTrue (W.tells work.old) → len (W.files work.old) ≡ 0
         → IsTrue (O.tells output.old) → len (O.files output.old) ≡ 0
         → (e : TantivyError) → result ≢ Status.Exists e }
+    ensures whole { IsTrue (W.tells work.old) → (name : FileName) → result ≢ Status.Damaged name }
     ensures calls { BuildDoes result
         (record {
           work = state_of (W.tells work.old) (W.files work.old) (W.seen work.old) (W.faults work.old);
@@ -221,7 +260,15 @@ fn read_and_build<S: Source, Z: Analyzers, W: Directory, O: Directory>(
 ) -> Result<Vec<u8>, Status>
     ensures ok { IfOk result (λ t. IfSome (S.left source.old)
         (λ bytes. (length bytes ≤ max_script)
-        × IsTextOf (Z.tokens_of analyzers.now) bytes t.items)) }
+        × IsTextOf (Z.tokens_of analyzers.now) bytes
+        (record {
+          work = state_of (W.tells work.old) (W.files work.old) (W.seen work.old) (W.faults work.old);
+          output = state_of (O.tells output.old) (O.files output.old) (O.seen output.old) (O.faults output.old);
+        })
+        (record {
+          work = state_of (W.tells work.new) (W.files work.new) (W.seen work.new) (W.faults work.new);
+          output = state_of (O.tells output.new) (O.files output.new) (O.seen output.new) (O.faults output.new);
+        }) t.items)) }
     ensures end { OnOk result (IsAtEnd (S.left source.new)) }
     ensures end_refused { IfErr result (λ status. IfRefused status
         (λ _. IsAtEnd (S.left source.new))) }
@@ -244,12 +291,15 @@ fn read_and_build<S: Source, Z: Analyzers, W: Directory, O: Directory>(
     ensures work_index { IsTrue (W.tells work.old) → OnOk result (IfSome (S.left source.old)
         (λ bytes. HasWorkIndex (Z.tokens_of analyzers.now) bytes (W.files work.new))) }
     ensures work_was_empty { IsTrue (W.tells work.old) → OnOk result (len (W.files work.old) ≡ 0) }
-    ensures output_index { IsTrue (O.tells output.old) → OnOk result (IfSome (S.left source.old)
+    ensures output_index { IsTrue (W.tells work.old) → IsTrue (O.tells output.old) → OnOk result (IfSome (S.left source.old)
         (λ bytes. HasOutputIndex (Z.tokens_of analyzers.now) bytes (O.files output.new))) }
+    ensures output_meta { IsTrue (O.tells output.old) → OnOk result (IfSome (S.left source.old)
+        (λ bytes. HasOutputMeta (Z.tokens_of analyzers.now) bytes (O.files output.new))) }
     ensures output_was_empty { IsTrue (O.tells output.old) → OnOk result (len (O.files output.old) ≡ 0) }
     ensures fresh { IsTrue (W.tells work.old) → len (W.files work.old) ≡ 0
         → IsTrue (O.tells output.old) → len (O.files output.old) ≡ 0
         → IfErr result (λ status. (e : TantivyError) → status ≢ Status.Exists e) }
+    ensures whole { IsTrue (W.tells work.old) → IfErr result (λ status. (name : FileName) → status ≢ Status.Damaged name) }
     ensures end_written { IfErr result (λ status. IfWritten status (λ _. IsAtEnd (S.left source.new))) }
     ensures calls { OnOk result (BuildDoes Status.Done
         (record {

@@ -5,11 +5,13 @@
 //! gains their text, or the status says why not.
 //!
 //! Files in reading order: `command` (`run`), `building` (from a script to its index and text), `input` (what a script hands
-//! in), `printing` (the text of a segment), `status`, `reporting` (the line that is said of a status).
+//! in), `printing` (the text of a segment that is read), `status`, `reporting` (the line that is said of a status), `damage` (the
+//! name of a file, in that line).
 #![tactic(auto)]
 
 mod building;
 mod command;
+mod damage;
 mod input;
 mod printing;
 mod reporting;

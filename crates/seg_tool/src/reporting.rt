@@ -5,6 +5,7 @@ ghost use Rattle.seg_common.specs.Causes.{HasCause};
 ghost use Rattle.seg_common.specs.Streams.{StaysTold, AppendsPart};
 ghost use Rattle.seg_tool.specs.Statuses.{cause_words, fault_text, schema_cause_words, argument_cause_words, numbers_text, cause_text, status_line};
 
+use crate::damage::write_damage;
 use crate::status::Status;
 use seg_common::{Sink, SinkFailed, write_whole};
 use seg_values::{ArgumentCause, SchemaCause, TantivyError};
@@ -25,6 +26,7 @@ pub(crate) fn report<F: Sink>(faults: &mut F, status: &Status) -> Result<(), Sin
         Status::Refused(error) => write_refusal(faults, error),
         Status::Exists(_) => write_whole(faults, b"exists: a directory is not empty\n"),
         Status::Directory(error) => write_fault(faults, error),
+        Status::Damaged(name) => write_damage(faults, name),
         Status::Stream => write_whole(faults, b"stream: read or write failed\n"),
         Status::Memory => write_whole(faults, b"memory: not enough\n"),
     }

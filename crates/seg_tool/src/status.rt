@@ -2,6 +2,7 @@
 ghost use Rattle.std.specs.Prelude.{◌≡◌};
 ghost use Rattle.seg_tool.specs.Statuses.{number_of};
 
+use seg_common::FileName;
 use seg_values::TantivyError;
 
 /// How a run went.
@@ -19,6 +20,8 @@ pub enum Status {
     Exists(TantivyError),
     /// A directory failed.
     Directory(TantivyError),
+    /// A file of the work segment was missing when it was read back, or didn't agree with those read before it.
+    Damaged(FileName),
     /// The source or the sink failed.
     Stream,
     /// There was not enough memory.
@@ -37,6 +40,7 @@ impl Status {
             Status::Refused(_) => 4,
             Status::Exists(_) => 5,
             Status::Directory(_) => 6,
+            Status::Damaged(_) => 7,
             Status::Stream => 8,
             Status::Memory => 9,
         }

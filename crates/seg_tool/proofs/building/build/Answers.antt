@@ -11,6 +11,10 @@ pub returns-in-Err-OutOfMemory-clause-first : goal.returns-in-Err-OutOfMemory-cl
 returns-in-Err-OutOfMemory-clause-first g c known tests json =
     no-memory _ _ (Err Memory) (first_of known (g.Z.Analyzers.tokens_of c.args.analyzers.now) (script c.args.bytes.items)) refl refl refl
 
+pub returns-in-Err-OutOfMemory-clause-calls_ended :
+    goal.returns-in-Err-OutOfMemory-clause-calls_ended
+returns-in-Err-OutOfMemory-clause-calls_ended g c = inl (stopped-before _)
+
 pub returns-in-Err-OutOfMemory-build_input-clause-first :
     goal.returns-in-Err-OutOfMemory-build_input-clause-first
 returns-in-Err-OutOfMemory-build_input-clause-first g c known tests json =
@@ -19,9 +23,6 @@ returns-in-Err-OutOfMemory-build_input-clause-first g c known tests json =
 pub returns-in-Err-OutOfMemory-build_input-clause-calls_ended :
     goal.returns-in-Err-OutOfMemory-build_input-clause-calls_ended
 returns-in-Err-OutOfMemory-build_input-clause-calls_ended g c = inl (stopped-before _)
-
-pub build_and_print-requires : goal.build_and_print-requires
-build_and_print-requires g c = record { texts = c.scripts_hold_text_fields.ensures c.args.bytes.items _ (says c.args.bytes.items _ _ c.in-Ok.ensures.ok c.in-Ok-build_input.ensures.ok) }
 
 pub returns-clause-valid : goal.returns-clause-valid
 returns-clause-valid g c known tests =

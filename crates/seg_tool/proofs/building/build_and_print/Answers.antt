@@ -1,71 +1,77 @@
-use Rattle.std.proofs.Common.{◌≡◌, ◌∙◌, ap, length, map, refl, subst, sym, true, Err, Some}
-use Rattle.std.specs.List.{list_all}
-use Rattle.seg_model.specs.Built.{is_taken}
+use Rattle.std.proofs.Common.{◌≡◌, ap, inr, length, refl, subst, sym, Err, Some}
+use Rattle.seg_model.specs.IndexOfFiles as index
 use Rattle.seg_model.specs.Input.{Input}
-use Rattle.seg_model.specs.Operations.{additions}
 use Rattle.seg_model.specs.Valid.{IsValid}
-use Rattle.seg_build.specs.FieldTerms.{fields_of}
-use Rattle.seg_build.specs.View.{operation_of}
-use Rattle.seg_merge.specs.IndexFiles.{IsOutputIndexOf, IsWorkIndexOf}
+use Rattle.seg_build.specs.Forms.{segment_forms}
+use Rattle.seg_merge.specs.IndexFiles.{IsOutputIndexOf, IsWorkIndexOf, output_meta}
 use Rattle.seg_merge.specs.Inputs as handed
 use Rattle.seg_merge.specs.Inputs.{IsOneBatch}
 use Rattle.seg_merge.specs.Refusals.{IfRefusal, first_error, refusal_error}
 use Rattle.seg_tool.specs.BuildInput.{input_of}
 use Rattle.seg_tool.specs.Statuses.{IfRefused}
-use Rattle.seg_tool.proofs.BatchText.{is_build_text, length-fields_of}
-use Rattle.seg_tool.proofs.Built.{ends-with, first_as, first_statuses, first_of_same, known_texts, refused_as}
+use Rattle.seg_tool.proofs.Built.{ends-with, first_as, first_statuses, first_of_same, refused_as, undamaged_status}
+use Rattle.seg_tool.proofs.ReadText.{text_of_same}
 use Rattle.seg_tool.proofs.building.build_and_print.Goals as goal
 
-pub segments_text-requires-clause-as_many : goal.segments_text-requires-clause-as_many
-segments_text-requires-clause-as_many g c =
+pub built_text-requires : goal.built_text-requires
+built_text-requires g c =
     let F = g.Z.Analyzers.tokens_of c.args.analyzers.now in
     let same : handed.input_of c.args.input.now.schema c.args.input.now.settings c.deref.result.now c.deref-2.result.now c.deref-3.result.now c.deref-4.result.now ≡ input_of c.args.input.now = λ i. handed.input_of c.args.input.now.schema c.args.input.now.settings (c.deref.ensures.value i) (c.deref-2.ensures.value i) (c.deref-3.ensures.value i) (c.deref-4.ensures.value i) in
-    ap length (c.in-Ok.ensures.fields ∙ ap (λ (s : Input). fields_of c.args.input.now.schema F (additions s.operations)) same) ∙ length-fields_of c.args.input.now.schema F (additions (map operation_of c.args.input.now.operations.items))
+    record { ids = ap length (subst (IsOneBatch F) same c.in-Ok.ensures.one_batch).ids }
 
-pub segments_text-requires-clause-texts : goal.segments_text-requires-clause-texts
-segments_text-requires-clause-texts g c =
+pub returns-in-Ok-built_text-clause-ok : goal.returns-in-Ok-built_text-clause-ok
+returns-in-Ok-built_text-clause-ok g c =
     let F = g.Z.Analyzers.tokens_of c.args.analyzers.now in
     let same : handed.input_of c.args.input.now.schema c.args.input.now.settings c.deref.result.now c.deref-2.result.now c.deref-3.result.now c.deref-4.result.now ≡ input_of c.args.input.now = λ i. handed.input_of c.args.input.now.schema c.args.input.now.settings (c.deref.ensures.value i) (c.deref-2.ensures.value i) (c.deref-3.ensures.value i) (c.deref-4.ensures.value i) in
-    known_texts c.args.input.now.schema F (map operation_of c.args.input.now.operations.items) c.requires.texts.operations
-    (subst (λ (s : Input). list_all (is_taken c.args.input.now.schema F) (additions s.operations) ≡ true) same c.in-Ok.ensures.taken)
+    text_of_same F _ (input_of c.args.input.now) c.in-Ok.built.reader _ _ _ same c.in-Ok.ensures.one_batch c.in-Ok.ensures.reader c.in-Ok.ensures.read c.in-Ok-built_text.ensures
 
-pub returns-in-Ok-segments_text-clause-ok : goal.returns-in-Ok-segments_text-clause-ok
-returns-in-Ok-segments_text-clause-ok g c =
-    let F = g.Z.Analyzers.tokens_of c.args.analyzers.now in
-    let same : handed.input_of c.args.input.now.schema c.args.input.now.settings c.deref.result.now c.deref-2.result.now c.deref-3.result.now c.deref-4.result.now ≡ input_of c.args.input.now = λ i. handed.input_of c.args.input.now.schema c.args.input.now.settings (c.deref.ensures.value i) (c.deref-2.ensures.value i) (c.deref-3.ensures.value i) (c.deref-4.ensures.value i) in
-    c.in-Ok-segments_text.ensures ∙ is_build_text F c.args.input.now c.in-Ok.built.fields (subst (IsOneBatch F) same c.in-Ok.ensures.one_batch) (c.in-Ok.ensures.fields ∙ ap (λ (s : Input). fields_of c.args.input.now.schema F (additions s.operations)) same)
-
-pub returns-in-Ok-segments_text-clause-valid : goal.returns-in-Ok-segments_text-clause-valid
-returns-in-Ok-segments_text-clause-valid g c known tests =
+pub returns-in-Ok-built_text-clause-valid : goal.returns-in-Ok-built_text-clause-valid
+returns-in-Ok-built_text-clause-valid g c known tests =
     let F = g.Z.Analyzers.tokens_of c.args.analyzers.now in
     let same : handed.input_of c.args.input.now.schema c.args.input.now.settings c.deref.result.now c.deref-2.result.now c.deref-3.result.now c.deref-4.result.now ≡ input_of c.args.input.now = λ i. handed.input_of c.args.input.now.schema c.args.input.now.settings (c.deref.ensures.value i) (c.deref-2.ensures.value i) (c.deref-3.ensures.value i) (c.deref-4.ensures.value i) in
     subst (IsValid known F) same (c.in-Ok.ensures.valid known tests)
 
-pub returns-in-Ok-segments_text-clause-work_index : goal.returns-in-Ok-segments_text-clause-work_index
-returns-in-Ok-segments_text-clause-work_index g c told =
+pub returns-in-Ok-built_text-clause-work_index : goal.returns-in-Ok-built_text-clause-work_index
+returns-in-Ok-built_text-clause-work_index g c told =
     let F = g.Z.Analyzers.tokens_of c.args.analyzers.now in
     let same : handed.input_of c.args.input.now.schema c.args.input.now.settings c.deref.result.now c.deref-2.result.now c.deref-3.result.now c.deref-4.result.now ≡ input_of c.args.input.now = λ i. handed.input_of c.args.input.now.schema c.args.input.now.settings (c.deref.ensures.value i) (c.deref-2.ensures.value i) (c.deref-3.ensures.value i) (c.deref-4.ensures.value i) in
-    subst (λ (s : Input). IsWorkIndexOf F s (g.W.Directory.files c.build_index_with_fields-built.new.work)) same (c.in-Ok.ensures.work_index told)
+    subst (λ (s : Input). IsWorkIndexOf F s (g.W.Directory.files c.build_index_with_reader-built.new.work)) same (c.in-Ok.ensures.work_index told)
 
-pub returns-in-Ok-segments_text-clause-output_index : goal.returns-in-Ok-segments_text-clause-output_index
-returns-in-Ok-segments_text-clause-output_index g c told =
+pub returns-in-Ok-built_text-clause-output_index : goal.returns-in-Ok-built_text-clause-output_index
+returns-in-Ok-built_text-clause-output_index g c told told' =
     let F = g.Z.Analyzers.tokens_of c.args.analyzers.now in
     let same : handed.input_of c.args.input.now.schema c.args.input.now.settings c.deref.result.now c.deref-2.result.now c.deref-3.result.now c.deref-4.result.now ≡ input_of c.args.input.now = λ i. handed.input_of c.args.input.now.schema c.args.input.now.settings (c.deref.ensures.value i) (c.deref-2.ensures.value i) (c.deref-3.ensures.value i) (c.deref-4.ensures.value i) in
-    subst (λ (s : Input). IsOutputIndexOf F s (g.O.Directory.files c.build_index_with_fields-built.new.output)) same (c.in-Ok.ensures.output_index told)
+    subst (λ (s : Input). IsOutputIndexOf F s (g.O.Directory.files c.build_index_with_reader-built.new.output)) same (c.in-Ok.ensures.output_index told told')
 
-pub returns-clause-refused : goal.returns-clause-refused
-returns-clause-refused g c known tests =
+pub returns-in-Ok-built_text-clause-output_meta : goal.returns-in-Ok-built_text-clause-output_meta
+returns-in-Ok-built_text-clause-output_meta g c told =
+    let F = g.Z.Analyzers.tokens_of c.args.analyzers.now in
+    let same : handed.input_of c.args.input.now.schema c.args.input.now.settings c.deref.result.now c.deref-2.result.now c.deref-3.result.now c.deref-4.result.now ≡ input_of c.args.input.now = λ i. handed.input_of c.args.input.now.schema c.args.input.now.settings (c.deref.ensures.value i) (c.deref-2.ensures.value i) (c.deref-3.ensures.value i) (c.deref-4.ensures.value i) in
+    subst (λ (s : Input). index.index_of segment_forms (g.O.Directory.files c.build_index_with_reader-built.new.output) ≡ Some (output_meta F s)) same (c.in-Ok.ensures.output_meta told)
+
+pub returns-in-Ok-built_text-clause-calls : goal.returns-in-Ok-built_text-clause-calls
+returns-in-Ok-built_text-clause-calls g c = record { work_id = _; output_id = _; schema = _; number = _; reader = c.in-Ok.built.reader; writes = c.in-Ok.ensures.reader }
+
+pub returns-in-Err-built_text-clause-calls_ended :
+    goal.returns-in-Err-built_text-clause-calls_ended
+returns-in-Err-built_text-clause-calls_ended g c = inr (record { work_id = _; output_id = _; schema = _; number = _; reader = c.in-Ok.built.reader; writes = c.in-Ok.ensures.reader })
+
+pub returns-in-Err-clause-refused : goal.returns-in-Err-clause-refused
+returns-in-Err-clause-refused g c known tests =
     let F = g.Z.Analyzers.tokens_of c.args.analyzers.now in
     let same : handed.input_of c.args.input.now.schema c.args.input.now.settings c.deref.result.now c.deref-2.result.now c.deref-3.result.now c.deref-4.result.now ≡ input_of c.args.input.now = λ i. handed.input_of c.args.input.now.schema c.args.input.now.settings (c.deref.ensures.value i) (c.deref-2.ensures.value i) (c.deref-3.ensures.value i) (c.deref-4.ensures.value i) in
     subst (λ s. IfRefused s (λ e. refusal_error known F (input_of c.args.input.now) ≡ Some e)) (sym c.status_of.ensures)
     (refused_as (λ e. refusal_error known F (input_of c.args.input.now) ≡ Some e) c.in-Err.e (subst (λ (s : Input). IfRefusal (λ e. refusal_error known F s ≡ Some e) c.in-Err.e) same (c.in-Err.ensures.refused known tests)))
 
-pub returns-clause-first : goal.returns-clause-first
-returns-clause-first g c known tests =
+pub returns-in-Err-clause-first : goal.returns-in-Err-clause-first
+returns-in-Err-clause-first g c known tests =
     let F = g.Z.Analyzers.tokens_of c.args.analyzers.now in
     let same : handed.input_of c.args.input.now.schema c.args.input.now.settings c.deref.result.now c.deref-2.result.now c.deref-3.result.now c.deref-4.result.now ≡ input_of c.args.input.now = λ i. handed.input_of c.args.input.now.schema c.args.input.now.settings (c.deref.ensures.value i) (c.deref-2.ensures.value i) (c.deref-3.ensures.value i) (c.deref-4.ensures.value i) in
     first_as _ _ (first_error known F (input_of c.args.input.now)) c.in-Err.e _ _ refl (ap Err c.status_of.ensures) (first_statuses known F (input_of c.args.input.now))
     (first_of_same known F _ (input_of c.args.input.now) same _ (c.in-Err.ensures.first known tests)) (first_of_same known F _ (input_of c.args.input.now) same _ (c.in-Err.ensures.untouched known tests))
 
-pub returns-clause-calls_ended : goal.returns-clause-calls_ended
-returns-clause-calls_ended g c = ends-with c.status_of.result _ _ c.in-Err.e _ _ c.status_of.ensures c.in-Err.ensures.calls
+pub returns-in-Err-clause-calls_ended : goal.returns-in-Err-clause-calls_ended
+returns-in-Err-clause-calls_ended g c = ends-with c.status_of.result _ _ _ _ c.in-Err.e _ _ c.status_of.ensures c.in-Err.ensures.calls
+
+pub returns-in-Err-clause-whole : goal.returns-in-Err-clause-whole
+returns-in-Err-clause-whole g c told name = undamaged_status c.status_of.result c.in-Err.e name c.status_of.ensures (c.in-Err.ensures.whole told)

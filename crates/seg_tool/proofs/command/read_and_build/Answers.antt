@@ -1,7 +1,7 @@
 use Rattle.std.proofs.Common.{inl}
-use Rattle.seg_tool.specs.Run.{IsWhyRefused, first_of}
+use Rattle.seg_tool.specs.Run.{HasOutputIndex, IsWhyRefused, first_of}
 use Rattle.seg_script.specs.Script.{script}
-use Rattle.seg_tool.proofs.Endings.{stopped-before, refused-of, all-is, first-is, at-all, admitted-of}
+use Rattle.seg_tool.proofs.Endings.{stopped-before, refused-of, all-is, first-is, at-all, admitted-of, on-all}
 use Rattle.seg_tool.proofs.command.read_and_build.Goals as goal
 
 pub returns-in-Err-OutOfMemory-clause-calls_ended : goal.returns-in-Err-OutOfMemory-clause-calls_ended
@@ -20,3 +20,7 @@ returns-clause-first g c known tests bytes left short json =
 pub returns-clause-written : goal.returns-clause-written
 returns-clause-written g c known tests =
     admitted-of c.build.result known (g.Z.Analyzers.tokens_of c.args.analyzers.now) _ c.in-Ok.bytes.items c.in-Ok.ensures.ok.0 c.in-Ok.ensures.ok.1 (c.build.ensures.written known tests)
+
+pub returns-clause-output_index : goal.returns-clause-output_index
+returns-clause-output_index g c told told' =
+    on-all c.build.result _ c.in-Ok.bytes.items (λ bytes. HasOutputIndex (g.Z.Analyzers.tokens_of c.args.analyzers.now) bytes (g.O.Directory.files c.build.new.output)) c.in-Ok.ensures.ok.0 (c.build.ensures.output_index told told')

@@ -1,0 +1,79 @@
+//! Runs whose work directory answers other bytes than it was given.
+
+use crate::streams::{NEVER, Streams, both_segments, build_over, script_of_titles, streams_over};
+use seg_common::{FileName, OwnedBytes, SegmentComponent, SegmentId};
+use seg_directory::{Directory, MemoryDirectory};
+use seg_odd_directory::OddDirectory;
+use std::alloc::{AllocError, Global};
+use std::test::Fail;
+
+/// The name of the store of the work segment, or of the output segment.
+fn store_name(id: u128) -> FileName {
+    FileName::Part(SegmentId::from_u128(id), SegmentComponent::Store)
+}
+
+/// The number of a run over one document, whose work directory answers these bytes for its store.
+fn run_with_store(alloc: Global, streams: &mut Streams, other: Vec<u8>) -> Result<u8, Fail> {
+    let Ok(inner) = MemoryDirectory::new(alloc, Vec::new(alloc)) else {
+        return Err("no directory".into());
+    };
+    let mut work = OddDirectory {
+        inner,
+        name: store_name(1),
+        other,
+    };
+    Ok(build_over(alloc, streams, &mut work)?)
+}
+
+/// Streams over a script of one document with this text.
+fn streams_of(alloc: Global, text: &str) -> Result<Streams, AllocError> {
+    let operation = format!(in alloc; r#"{{"add": [["title", "{text}"]]}}"#)?;
+    let script = script_of_titles(alloc, &operation)?;
+    streams_over(alloc, &script, 2000, NEVER, NEVER, NEVER)
+}
+
+/// The store of a segment in a directory.
+fn store_of(alloc: Global, directory: &mut MemoryDirectory, id: u128) -> Option<OwnedBytes> {
+    directory.open_read(alloc, &store_name(id)).ok()
+}
+
+/// The store of an index of one document with this text.
+fn other_store(alloc: Global, text: &str) -> Result<Vec<u8>, Fail> {
+    let mut streams = streams_of(alloc, text)?;
+    let Ok(mut work) = MemoryDirectory::new(alloc, Vec::new(alloc)) else {
+        return Err("no directory".into());
+    };
+    let number = build_over(alloc, &mut streams, &mut work)?;
+    let store = store_of(alloc, &mut work, 1).ok_or("no store")?;
+    if number != 0 {
+        return Err("not built".into());
+    }
+    Ok(Vec::from_slice(alloc, store.as_slice())?)
+}
+
+#[test]
+fn what_was_read_is_printed_and_written(rt: HostRuntime) -> Result<(), Fail> {
+    let alloc = rt.alloc();
+    let mut streams = streams_of(alloc, "a b")?;
+    let other = other_store(alloc, "other")?;
+    let answered = Vec::from_slice(alloc, other.as_slice())?;
+    assert_eq!(rt; run_with_store(alloc, &mut streams, answered)?, 0);
+    let lines = "field \"title\" terms 2\na 0x1@0\nb 0x1@1\ndoc 0 [[\"title\",\"other\"]]\n";
+    let text = both_segments(alloc, 1, lines)?;
+    assert_eq!(rt; streams.sink.bytes(), text.as_bytes());
+    let output = store_of(alloc, &mut streams.output, 2).ok_or("no output")?;
+    assert_eq!(rt; output.as_slice(), other.as_slice());
+    Ok(())
+}
+
+#[test]
+fn damage_is_told(rt: HostRuntime) -> Result<(), Fail> {
+    let alloc = rt.alloc();
+    let mut streams = streams_of(alloc, "a b")?;
+    assert_eq!(rt; run_with_store(alloc, &mut streams, Vec::new(alloc))?, 7);
+    let line = "damaged: 00000000000000000000000000000001.store\n";
+    assert_eq!(rt; streams.faults.bytes(), line.as_bytes());
+    assert!(rt; streams.sink.bytes().is_empty());
+    assert_eq!(rt; streams.output.list(alloc).ok(), Some(0));
+    Ok(())
+}

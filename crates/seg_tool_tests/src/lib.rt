@@ -1,0 +1,11 @@
+//! Tests of the public calls of `seg_tool`, apart from it, so that they are proved without proving it again.
+#![tactic(auto)]
+
+#[cfg(test)]
+mod damage;
+#[cfg(test)]
+mod failures;
+#[cfg(test)]
+mod streams;
+#[cfg(test)]
+mod texts;
