@@ -1,0 +1,4 @@
+pub mod Posted
+pub mod Stamped
+pub mod Told
+pub mod Turns

@@ -1,0 +1,4 @@
+pub mod Cleared
+pub mod Laws
+pub mod Postings
+pub mod Stamps
