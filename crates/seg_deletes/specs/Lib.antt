@@ -1,0 +1,4 @@
+pub mod Deleted
+pub mod Laws
+pub mod QueueEnds
+pub mod Queues
