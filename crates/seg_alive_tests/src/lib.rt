@@ -1,0 +1,11 @@
+//! Tests of the public calls of `seg_alive`, apart from it, so that they are proved without proving it again.
+#![tactic(auto)]
+
+#[cfg(test)]
+mod cursors;
+#[cfg(test)]
+mod deletes;
+#[cfg(test)]
+mod laws;
+#[cfg(test)]
+mod segments;
