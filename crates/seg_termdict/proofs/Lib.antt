@@ -1,9 +1,14 @@
 pub mod Appended
 mod Assembled
+mod Bounds
 mod Growth
+mod Heads
 mod InfoLemmas
 mod KeyLemmas
 pub mod KeyOrder
 pub mod LastTerm
+mod MergeSteps
+mod Merges
+mod Ranked
 pub mod SortedKeys
 mod TermLemmas

@@ -1,14 +1,21 @@
 -- The terms of a dictionary, by what a method sees of its bytes.
-use Rattle.std.proofs.Common.{◌≡◌, ◌≢◌, ℕ, ◌<◌, List, length, get_or, sym, ap, subst, ◌∙◌, arith, Option, Some, None, MatchOption, Contains, IsSomeAnd, slice_get}
+use Rattle.std.proofs.Common.{◌≡◌, ◌≢◌, ℕ, ◌<◌, List, length, get_or, sym, ap, subst, ◌∙◌, arith, Option, Some, None, [], unwrap_or, MatchOption, Contains, IsSomeAnd, slice_get}
 use Rattle.std.proofs.lemmas.List.FromFn.{length-map-range_with_len, get_or-map-range_with_len}
 use Rattle.std.proofs.lemmas.Option.{slice_get-get_or}
 use Rattle.seg_common.specs.declared.term_info.TermInfo.{TermInfo}
 use Rattle.seg_termdict.specs.Dictionary.{Term, count_of, ends_of, keys_of, infos_of, key_of, info_of, term_of, terms_in, terms_of}
+use Rattle.seg_termdict.specs.Building.{Building, complete}
 use Rattle.seg_termdict.specs.LookUps.{Lacks, HasKeyAt}
 
 length-terms_of : (bytes : List ℕ) → length (terms_of bytes) ≡ count_of bytes
 unfolding terms_of terms_in
 length-terms_of bytes = length-map-range_with_len (term_of (ends_of bytes) (keys_of bytes) (infos_of bytes)) 0 (count_of bytes)
+
+-- bytes of a dictionary without a term count none
+pub none_counted : (bytes : List ℕ) → Some (complete (terms_of bytes)) ≡ Some (complete []) → 0 ≡ count_of bytes
+none_counted bytes e =
+    let none : terms_of bytes ≡ [] = ap (λ (o : Option Building). (unwrap_or o (complete [])).terms) e in
+    sym (ap length none) ∙ length-terms_of bytes
 
 term_at : (bytes : List ℕ) (i : ℕ) (d : Term) → i < count_of bytes → get_or (terms_of bytes) i d ≡ term_of (ends_of bytes) (keys_of bytes) (infos_of bytes) i
 unfolding terms_of terms_in

@@ -5,16 +5,20 @@ ghost use Rattle.std.specs.List.Sorted.{IsStrictlySortedBy};
 ghost use Rattle.std.specs.Ordering.{nat_cmp};
 ghost use Rattle.seg_termdict.specs.Dictionary.{Term, IsDictionary, terms_of};
 ghost use Rattle.seg_termdict.specs.LookUps.{Refuses, Lacks, HasKeyAt};
+ghost use Rattle.seg_termdict.specs.Ranges.{IsCut, comes_before, unbounded};
 ghost use Rattle.seg_termdict.specs.Streaming.{all_terms};
 
+use crate::builder::TermDictionaryBuilder;
 use crate::check::checked_count;
 use crate::error::TermDictError;
 use crate::format::TermOrdinal;
 use crate::infos::info_at;
-use crate::keys::{find_key, key_at};
+use crate::keys::{find_key, key_at, keys_before};
 use crate::streamer::TermStreamer;
+use crate::streamer_builder::TermStreamerBuilder;
 use crate::tables::{ends_table, info_table, key_bytes};
 use seg_common::{OwnedBytes, TermInfo};
+use std::alloc::Global;
 use std::marker::Model;
 
 /// The terms of a field in the order of their keys, in the bytes that they were written to.
@@ -36,6 +40,18 @@ impl Model for TermDictionary {
 }
 
 impl TermDictionary {
+    /// A dictionary without a term.
+    pub fn empty(alloc: Global) -> Result<TermDictionary, TermDictError>
+        ensures ok { IfOk result (λ d. d ≡ []) }
+        ensures err { IfErr result (λ e. e ≡ TermDictError.OutOfMemory) }
+    {
+        let bytes = TermDictionaryBuilder::create(alloc)?.finish()?;
+        match OwnedBytes::from_vec(alloc, bytes) {
+            Ok(bytes) => Ok(TermDictionary { bytes, count: 0 }),
+            Err(_) => Err(TermDictError::OutOfMemory),
+        }
+    }
+
     /// Checks the bytes whole, in time linear in them, and takes no memory.
     pub fn open(bytes: OwnedBytes) -> Result<TermDictionary, TermDictError>
         ensures { MatchResult result (λ d. IsDictionary bytes × (d ≡ terms_of bytes)) (Refuses bytes) }
@@ -108,6 +124,13 @@ impl TermDictionary {
         TermStreamer::new(self)
     }
 
+    /// A range of the terms: all of them, until bounds are set. It takes no memory yet.
+    pub fn range(&self, alloc: Global) -> TermStreamerBuilder<'_>
+        ensures { result ≡ unbounded self.now }
+    {
+        TermStreamerBuilder::new(alloc, self)
+    }
+
     /// The key at a place, in the bytes of the dictionary.
     pub(crate) fn key(&self, place: usize) -> &[u8]
         requires { place < length self.now }
@@ -118,6 +141,20 @@ impl TermDictionary {
             ends_table(bytes, self.count),
             key_bytes(bytes, self.count),
             place,
+        )
+    }
+
+    /// How many terms come before a bound, or with `through` at or before it.
+    pub(crate) fn terms_before(&self, bound: &[u8], through: bool) -> usize
+        ensures { IsCut self.now (comes_before through bound.now) result }
+    {
+        let bytes = self.bytes.as_slice();
+        keys_before(
+            ends_table(bytes, self.count),
+            key_bytes(bytes, self.count),
+            self.count,
+            bound,
+            through,
         )
     }
 

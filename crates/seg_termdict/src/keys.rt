@@ -1,8 +1,9 @@
 //! The keys of a dictionary: a table of their ends, and their bytes.
-ghost use Rattle.std.specs.Prelude.{◌≡◌, ◌≢◌, ◌≤◌, ◌<◌, ◌+◌, ◌*◌, ℕ, ◌⊎◌, length, MatchBool, MatchOption};
+ghost use Rattle.std.specs.Prelude.{◌≡◌, ◌≢◌, ◌≤◌, ◌<◌, ◌+◌, ◌*◌, ℕ, ◌⊎◌, true, false, length, MatchBool, MatchOption};
 ghost use Rattle.std.specs.Ordering.{nat_cmp};
 ghost use Rattle.std.specs.Cmp.Lexicographic.{slice_cmp};
 ghost use Rattle.seg_termdict.specs.Dictionary as spec;
+ghost use Rattle.seg_termdict.specs.Ranges as ranges;
 
 use crate::format::KEY_END;
 use seg_common::u64_at;
@@ -88,4 +89,42 @@ pub(crate) fn find_key(ends: &[u8], keys: &[u8], count: usize, key: &[u8]) -> Op
         }
     }
     None
+}
+
+/// Whether a key comes before a bound, or with `through` at or before it.
+fn comes_before(through: bool, bound: &[u8], key: &[u8]) -> bool
+    ensures { result ≡ ranges.comes_before through bound.now key.now }
+{
+    match key.cmp(&bound) {
+        Ordering::Less => true,
+        Ordering::Equal => through,
+        Ordering::Greater => false,
+    }
+}
+
+/// How many keys come before a bound, or with `through` at or before it, by halving.
+pub(crate) fn keys_before(
+    ends: &[u8],
+    keys: &[u8],
+    count: usize,
+    bound: &[u8],
+    through: bool,
+) -> usize
+    requires room { 8 * count ≤ length ends.now }
+    requires keys { spec.AreKeys ends.now keys.now count }
+    ensures within { result ≤ count }
+    ensures before { (i : ℕ) → i < result → ranges.comes_before through bound.now (spec.key_of ends.now keys.now i) ≡ true }
+    ensures behind { (i : ℕ) → result ≤ i → i < count → ranges.comes_before through bound.now (spec.key_of ends.now keys.now i) ≡ false }
+{
+    let mut low = 0;
+    let mut high = count;
+    while low < high {
+        let middle = low + (high - low) / 2;
+        if comes_before(through, bound, key_at(ends, keys, middle)) {
+            low = middle + 1;
+        } else {
+            high = middle;
+        }
+    }
+    low
 }

@@ -2,10 +2,12 @@
 //!
 //! A builder is seen as the terms that it was given, and the key that waits for its info; as nothing, once memory was
 //! lacking. Bytes are a dictionary or not, and a dictionary is seen as its one list of terms; a streamer as this list, and
-//! how many of its terms it has come to.
+//! how many of its terms it has come to. A range is seen as the list and the `TermRange` that was asked for, and its
+//! streamer goes over what `streamed` of `seg_model` has of them. A merger is seen as what is left of the
+//! `merged_terms` of its streamers, and the term that it has come to; as nothing, once memory was lacking.
 //!
 //! To be read in this order: `error`, `format`; `written_terms`, `builder`; `tables`, `keys`, `infos`, `check`,
-//! `dictionary`; `streamer`.
+//! `dictionary`; `streamer`; `kept_key`, `streamer_builder`, `range_streamer`; `head`, `merger`.
 #![tactic(auto)]
 
 mod builder;
@@ -13,9 +15,14 @@ mod check;
 mod dictionary;
 mod error;
 mod format;
+mod head;
 mod infos;
+mod kept_key;
 mod keys;
+mod merger;
+mod range_streamer;
 mod streamer;
+mod streamer_builder;
 mod tables;
 mod written_terms;
 
@@ -23,4 +30,7 @@ pub use builder::TermDictionaryBuilder;
 pub use dictionary::TermDictionary;
 pub use error::TermDictError;
 pub use format::TermOrdinal;
+pub use merger::TermMerger;
+pub use range_streamer::RangeStreamer;
 pub use streamer::TermStreamer;
+pub use streamer_builder::TermStreamerBuilder;

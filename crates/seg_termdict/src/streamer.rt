@@ -1,5 +1,8 @@
 //! The terms of a dictionary, one after another.
-ghost use Rattle.std.specs.Prelude.{◌≡◌, ◌-◌, nat_lt, length};
+ghost use Rattle.std.specs.Prelude.{◌≡◌, ◌-◌, ◌<◌, nat_lt, length, map};
+ghost use Rattle.std.specs.Cmp.Lexicographic.{slice_cmp};
+ghost use Rattle.std.specs.List.Sorted.{IsStrictlySortedBy};
+ghost use Rattle.std.specs.Ordering.{nat_cmp};
 ghost use Rattle.seg_termdict.specs.Dictionary.{Term};
 ghost use Rattle.seg_termdict.specs.Streaming.{all_terms, current, advanced};
 
@@ -40,6 +43,13 @@ impl<'a> TermStreamer<'a> {
         }
     }
 
+    /// What the dictionary was checked for: the keys strictly ascend in byte order.
+    pub fn keys_ascend(&self)
+        ensures { IsStrictlySortedBy (slice_cmp nat_cmp) (map (λ t. t.0) self.now.terms) }
+    {
+        self.dictionary.keys_ascend();
+    }
+
     /// Goes on to the next term, and tells whether there is one; else it stays at the last.
     pub fn advance(&mut self) -> bool
         ensures more { result ≡ nat_lt self.old.taken (length self.old.terms) }
@@ -69,6 +79,15 @@ impl<'a> TermStreamer<'a> {
         } else {
             self.dictionary.key(self.taken - 1)
         }
+    }
+
+    /// The key of the term that it has come to, for as long as the dictionary lives.
+    pub(crate) fn last_key(&self) -> &'a [u8]
+        requires { 0 < self.now.taken }
+        ensures { result.now ≡ (current self.now).0 }
+    {
+        let dictionary = self.dictionary;
+        dictionary.key(self.taken - 1)
     }
 
     /// What is known of the term; all zero before the first `advance`.

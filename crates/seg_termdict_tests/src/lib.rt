@@ -5,3 +5,7 @@
 mod builder;
 #[cfg(test)]
 mod dictionary;
+#[cfg(test)]
+mod merger;
+#[cfg(test)]
+mod ranges;

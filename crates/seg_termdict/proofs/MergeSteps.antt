@@ -1,0 +1,285 @@
+-- The merged terms of ascending streams: the least of the first keys, and then those of what is behind it.
+use Rattle.std.proofs.Common.{◌≡◌, ℕ, zero, suc, ◌+◌, ◌<◌, Bool, true, false, cond, List, [], ◌∷◌, ◌++◌, map, length, get_or, refl, sym, ap, subst, ◌∙◌, arith, Some, None, inl, inr}
+use Rattle.std.specs.Prelude.{filter}
+use Rattle.std.specs.FinMap.{entries, empty, get, insert, find, put, same_map, get-insert, get-entries, entries-insert, len-entries, len-empty}
+use Rattle.std.specs.FinMap.Entries.{by_order}
+use Rattle.std.specs.List.{AllByRecursion, flat_map}
+use Rattle.std.specs.List.Sorted.{IsStrictlySortedBy}
+use Rattle.std.specs.Ordering.{is_lt, is_le, is_eq, eq_by_cmp, ordering_reverse}
+use Rattle.std.specs.Str.{bytes_eq}
+use Rattle.std.specs.declared.cmp.Ordering.{Ordering}
+use Rattle.std.specs.declared.cmp.Ordering.TheVariants.{Less, Equal, Greater}
+use Rattle.std.proofs.lemmas.Bool.{false≢true, cond-true, cond-false, cases_lt}
+use Rattle.std.proofs.lemmas.Cmp.{nat_list_cmp_total, tied_itself}
+use Rattle.std.proofs.lemmas.List.{length-append, nil_from_length}
+use Rattle.std.proofs.lemmas.Map.Text.{is_eq-slice_cmp}
+use Rattle.std.proofs.lemmas.Slice.Eq.{bytes_eq-Decides}
+use Rattle.seg_common.specs.declared.term_info.TermInfo.{TermInfo}
+use Rattle.seg_model.specs.SortedTerms.{RankedTerm, SortedTerms, key_cmp}
+use Rattle.seg_model.specs.MergedTerms.{Standing, standing_in, standings_from, if_stands, keys_in, merged_terms}
+use Rattle.seg_model.proofs.MergedTerms.{merged_terms_answer}
+use Rattle.seg_model.proofs.Terms.{texts_apart}
+use Rattle.seg_termdict.specs.Merging.{MergedTerm, Ascends, first, first_with, behind, standing_first, standings_first, NotBelow, IsLeast}
+use Rattle.seg_termdict.proofs.KeyOrder.{same_keys}
+
+-- ---- keys
+
+is_less : (o : Ordering) → is_lt o ≡ true → o ≡ Less
+is_less Less e = refl
+is_less Equal e = absurd (false≢true e)
+is_less Greater e = absurd (false≢true e)
+
+at_most_then_less : (a b c : List ℕ) → is_le (key_cmp a b) ≡ true → key_cmp b c ≡ Less → key_cmp a c ≡ Less
+at_most_then_less a b c le less = by (key_cmp a b) refl
+  where
+    by : (o : Ordering) → key_cmp a b ≡ o → key_cmp a c ≡ Less
+    by Less e = nat_list_cmp_total.trans a b c e less
+    by Equal e = subst (λ (k : List ℕ). key_cmp k c ≡ Less) (sym (same_keys a b e)) less
+    by Greater e = absurd (false≢true (sym (ap is_le e) ∙ le))
+
+differs : (a b : List ℕ) → key_cmp a b ≡ Less → bytes_eq a b ≡ false
+differs a b less = sym (is_eq-slice_cmp a b) ∙ ap is_eq less
+
+at_most_not_same : (a b : List ℕ) → is_le (key_cmp a b) ≡ true → bytes_eq a b ≡ false → key_cmp a b ≡ Less
+at_most_not_same a b le other = by (key_cmp a b) refl
+  where
+    by : (o : Ordering) → key_cmp a b ≡ o → key_cmp a b ≡ Less
+    by Less e = e
+    by Equal e = absurd (false≢true (sym other ∙ sym (is_eq-slice_cmp a b) ∙ ap is_eq e))
+    by Greater e = absurd (false≢true (sym (ap is_le e) ∙ le))
+
+-- ---- one stream
+
+-- a key is below each term
+abbrev Below : List ℕ → List (RankedTerm TermInfo) → Type 0
+Below key terms = AllByRecursion (λ (t : RankedTerm TermInfo). key_cmp key t.key ≡ Less) terms
+
+below_all_from : (key k : List ℕ) → is_le (key_cmp key k) ≡ true → (ts : List (RankedTerm TermInfo)) → AllByRecursion (λ y. key_cmp k y ≡ Less) (keys_in ts) → Below key ts
+below_all_from key k le [] h = tt
+below_all_from key k le (t ∷ ts) h = (at_most_then_less key k t.key le h.0, below_all_from key k le ts h.1)
+
+below_rest : (key : List ℕ) (t : RankedTerm TermInfo) (ts : List (RankedTerm TermInfo)) → is_le (key_cmp key t.key) ≡ true → Ascends (t ∷ ts) → Below key ts
+unfolding IsStrictlySortedBy
+below_rest key t ts le rise = below_all_from key t.key le ts rise.0
+
+rest_ascends : (t : RankedTerm TermInfo) (ts : List (RankedTerm TermInfo)) → Ascends (t ∷ ts) → Ascends ts
+unfolding IsStrictlySortedBy
+rest_ascends t ts rise = rise.1
+
+abbrev standing_of : ℕ → RankedTerm TermInfo → Standing TermInfo
+standing_of segment t = record { segment = segment; ord = t.ord; info = t.info }
+
+-- where a key stands, by whether the first term has it
+split_standing : (segment : ℕ) (key : List ℕ) (t : RankedTerm TermInfo) (ts : List (RankedTerm TermInfo)) (b : Bool) → bytes_eq key t.key ≡ b → standing_in segment key (t ∷ ts) ≡ cond b (standing_of segment t ∷ standing_in segment key ts) (standing_in segment key ts)
+split_standing segment key t ts true e = ap (λ b. map (standing_of segment) (cond b (t ∷ filter (λ (u : RankedTerm TermInfo). bytes_eq key u.key) ts) (filter (λ (u : RankedTerm TermInfo). bytes_eq key u.key) ts))) e
+split_standing segment key t ts false e = ap (λ b. map (standing_of segment) (cond b (t ∷ filter (λ (u : RankedTerm TermInfo). bytes_eq key u.key) ts) (filter (λ (u : RankedTerm TermInfo). bytes_eq key u.key) ts))) e
+
+none_below : (segment : ℕ) (key : List ℕ) (ts : List (RankedTerm TermInfo)) → Below key ts → standing_in segment key ts ≡ []
+none_below segment key [] h = refl
+none_below segment key (t ∷ ts) h = split_standing segment key t ts false (differs key t.key h.0) ∙ none_below segment key ts h.1
+
+first_stands : (segment : ℕ) (key : List ℕ) (terms : List (RankedTerm TermInfo)) → Ascends terms → NotBelow key terms → standing_in segment key terms ≡ standing_first segment (first_with key terms)
+first_stands segment key [] rise low = refl
+first_stands segment key (t ∷ ts) rise low = by (bytes_eq key t.key) refl
+  where
+    rest : standing_in segment key ts ≡ []
+    rest = none_below segment key ts (below_rest key t ts low rise)
+
+    by : (b : Bool) → bytes_eq key t.key ≡ b → standing_in segment key (t ∷ ts) ≡ standing_first segment (first_with key (t ∷ ts))
+    by true e = split_standing segment key t ts true e ∙ ap (λ ss. standing_of segment t ∷ ss) rest ∙ sym (ap (standing_first segment) (cond-true (bytes_eq key t.key) (Some (t.ord, t.info)) None e))
+    by false e = split_standing segment key t ts false e ∙ rest ∙ sym (ap (standing_first segment) (cond-false (bytes_eq key t.key) (Some (t.ord, t.info)) None e))
+
+-- behind a key every other key stands where it stood
+others_stay : (segment : ℕ) (q key : List ℕ) (terms : List (RankedTerm TermInfo)) → bytes_eq q key ≡ false → standing_in segment q terms ≡ standing_in segment q (behind key terms)
+others_stay segment q key [] other = refl
+others_stay segment q key (t ∷ ts) other = by (bytes_eq key t.key) refl
+  where
+    by : (b : Bool) → bytes_eq key t.key ≡ b → standing_in segment q (t ∷ ts) ≡ standing_in segment q (behind key (t ∷ ts))
+    by true e =
+        let same : key ≡ t.key = (bytes_eq-Decides key t.key).0 e in
+        split_standing segment q t ts false (ap (bytes_eq q) (sym same) ∙ other) ∙ sym (ap (standing_in segment q) (cond-true (bytes_eq key t.key) ts (t ∷ ts) e))
+    by false e = sym (ap (standing_in segment q) (cond-false (bytes_eq key t.key) ts (t ∷ ts) e))
+
+behind_below : (key : List ℕ) (terms : List (RankedTerm TermInfo)) → Ascends terms → NotBelow key terms → Below key (behind key terms)
+behind_below key [] rise low = tt
+behind_below key (t ∷ ts) rise low = by (bytes_eq key t.key) refl
+  where
+    by : (b : Bool) → bytes_eq key t.key ≡ b → Below key (behind key (t ∷ ts))
+    by true e = subst (Below key) (sym (cond-true (bytes_eq key t.key) ts (t ∷ ts) e)) (below_rest key t ts low rise)
+    by false e = subst (Below key) (sym (cond-false (bytes_eq key t.key) ts (t ∷ ts) e)) (at_most_not_same key t.key low e, below_rest key t ts low rise)
+
+behind_ascends : (key : List ℕ) (terms : List (RankedTerm TermInfo)) → Ascends terms → Ascends (behind key terms)
+behind_ascends key [] rise = rise
+behind_ascends key (t ∷ ts) rise = by (bytes_eq key t.key) refl
+  where
+    by : (b : Bool) → bytes_eq key t.key ≡ b → Ascends (behind key (t ∷ ts))
+    by true e = subst Ascends (sym (cond-true (bytes_eq key t.key) ts (t ∷ ts) e)) (rest_ascends t ts rise)
+    by false e = subst Ascends (sym (cond-false (bytes_eq key t.key) ts (t ∷ ts) e)) rise
+
+-- a key that isn't greater stands nowhere behind another
+none_lower : (segment : ℕ) (q key : List ℕ) → is_lt (key_cmp key q) ≡ false → (ts : List (RankedTerm TermInfo)) → Below key ts → standing_in segment q ts ≡ []
+none_lower segment q key low [] h = refl
+none_lower segment q key low (t ∷ ts) h = split_standing segment q t ts false (by (bytes_eq q t.key) refl) ∙ none_lower segment q key low ts h.1
+  where
+    by : (b : Bool) → bytes_eq q t.key ≡ b → b ≡ false
+    by true e = absurd (false≢true (sym low ∙ ap (λ (k : List ℕ). is_lt (key_cmp key k)) ((bytes_eq-Decides q t.key).0 e) ∙ ap is_lt h.0))
+    by false e = refl
+
+-- ---- all streams
+
+abbrev pub Streams : Type 0
+Streams = List (List (RankedTerm TermInfo))
+
+all_first : (n : ℕ) (key : List ℕ) (hs : Streams) → AllByRecursion Ascends hs → AllByRecursion (NotBelow key) hs → standings_from n key hs ≡ standings_first n key hs
+all_first n key [] rise low = refl
+all_first n key (h ∷ hs) rise low =
+    ap (λ ss. ss ++ standings_from (n + 1) key hs) (first_stands n key h rise.0 low.0)
+    ∙ ap (λ ss. standing_first n (first_with key h) ++ ss) (all_first (n + 1) key hs rise.1 low.1)
+
+all_others : (n : ℕ) (q key : List ℕ) (hs : Streams) → bytes_eq q key ≡ false → standings_from n q hs ≡ standings_from n q (map (behind key) hs)
+all_others n q key [] other = refl
+all_others n q key (h ∷ hs) other =
+    ap (λ ss. ss ++ standings_from (n + 1) q hs) (others_stay n q key h other)
+    ∙ ap (λ ss. standing_in n q (behind key h) ++ ss) (all_others (n + 1) q key hs other)
+
+all_lower : (n : ℕ) (q key : List ℕ) (hs : Streams) → is_lt (key_cmp key q) ≡ false → AllByRecursion Ascends hs → AllByRecursion (NotBelow key) hs → standings_from n q (map (behind key) hs) ≡ []
+all_lower n q key [] low rise least = refl
+all_lower n q key (h ∷ hs) low rise least =
+    ap (λ ss. ss ++ standings_from (n + 1) q (map (behind key) hs)) (none_lower n q key low (behind key h) (behind_below key h rise.0 least.0))
+    ∙ all_lower (n + 1) q key hs low rise.1 least.1
+
+pub all_ascend : (key : List ℕ) (hs : Streams) → AllByRecursion Ascends hs → AllByRecursion Ascends (map (behind key) hs)
+all_ascend key [] rise = tt
+all_ascend key (h ∷ hs) rise = (behind_ascends key h rise.0, all_ascend key hs rise.1)
+
+if_some : (ss : List (Standing TermInfo)) → 0 < length ss → if_stands ss ≡ Some ss
+if_some [] lt = absurd (omega (arith, lt))
+if_some (s ∷ ss) lt = refl
+
+-- an entry below all others comes first
+put_first : (key : List ℕ) (v : List (Standing TermInfo)) (es : List MergedTerm) → ((q : List ℕ) → is_lt (key_cmp key q) ≡ false → find key_cmp q es ≡ None) → put key_cmp key v es ≡ (key, v) ∷ es
+put_first key v [] none = refl
+put_first key v (e ∷ es) none = by (key_cmp key e.0) refl
+  where
+    itself : eq_by_cmp key_cmp e.0 e.0 ≡ true
+    itself = ap is_eq (tied_itself nat_list_cmp_total e.0)
+
+    found : find key_cmp e.0 (e ∷ es) ≡ Some e.1
+    found = cond-true (eq_by_cmp key_cmp e.0 e.0) (Some e.1) (find key_cmp e.0 es) itself
+
+    not_none : find key_cmp e.0 (e ∷ es) ≡ None → ⊥
+    not_none h = let no : Some e.1 ≡ None = sym found ∙ h in absurd cc
+
+    by : (o : Ordering) → key_cmp key e.0 ≡ o → put key_cmp key v (e ∷ es) ≡ (key, v) ∷ e ∷ es
+    by Less is = ap (λ o. by_order o ((key, v) ∷ e ∷ es) ((e.0, v) ∷ es) (e ∷ put key_cmp key v es)) is
+    by Equal is = absurd (not_none (none e.0 (ap is_lt is)))
+    by Greater is = absurd (not_none (none e.0 (ap is_lt is)))
+
+-- the least of the first keys, and what is behind it
+module _ (hs : Streams) (key : List ℕ) (rise : AllByRecursion Ascends hs) (low : AllByRecursion (NotBelow key) hs) (some : 0 < length (standings_first 0 key hs)) where
+  rest : SortedTerms (List (Standing TermInfo))
+  rest = merged_terms (map (behind key) hs)
+
+  at_key : if_stands (standings_from 0 key hs) ≡ Some (standings_first 0 key hs)
+  at_key = ap if_stands (all_first 0 key hs rise low) ∙ if_some (standings_first 0 key hs) some
+
+  at_each : (q : List ℕ) (b : Bool) → eq_by_cmp key_cmp q key ≡ b → if_stands (standings_from 0 q hs) ≡ cond b (Some (standings_first 0 key hs)) (get rest q)
+  unfolding rest
+  at_each q true e = ap (λ (k : List ℕ). if_stands (standings_from 0 k hs)) ((bytes_eq-Decides q key).0 (sym (is_eq-slice_cmp q key) ∙ e)) ∙ at_key
+  at_each q false e = ap if_stands (all_others 0 q key hs (sym (is_eq-slice_cmp q key) ∙ e)) ∙ sym (merged_terms_answer TermInfo (map (behind key) hs) q)
+
+  inserted : merged_terms hs ≡ insert rest key (standings_first 0 key hs)
+  inserted = same_map nat_list_cmp_total texts_apart (merged_terms hs) (insert rest key (standings_first 0 key hs)) (λ q.
+      merged_terms_answer TermInfo hs q ∙ at_each q (eq_by_cmp key_cmp q key) refl ∙ sym (get-insert nat_list_cmp_total rest key (standings_first 0 key hs) q))
+
+  none_before : (q : List ℕ) → is_lt (key_cmp key q) ≡ false → find key_cmp q (entries rest) ≡ None
+  unfolding rest
+  none_before q lower = sym (get-entries rest q) ∙ merged_terms_answer TermInfo (map (behind key) hs) q ∙ ap if_stands (all_lower 0 q key hs lower rise low)
+
+  pub next_merged : entries (merged_terms hs) ≡ (key, standings_first 0 key hs) ∷ entries (merged_terms (map (behind key) hs))
+  unfolding rest
+  next_merged = ap entries inserted ∙ entries-insert nat_list_cmp_total rest key (standings_first 0 key hs) ∙ put_first key (standings_first 0 key hs) (entries rest) none_before
+
+no_keys : (hs : Streams) → AllByRecursion (λ (h : List (RankedTerm TermInfo)). h ≡ []) hs → flat_map keys_in hs ≡ []
+no_keys [] h = refl
+no_keys (x ∷ xs) h = ap (λ ts. keys_in ts ++ flat_map keys_in xs) h.0 ∙ no_keys xs h.1
+
+-- where no stream has a term left, no merged term is
+pub none_merged : (hs : Streams) → AllByRecursion (λ (h : List (RankedTerm TermInfo)). h ≡ []) hs → entries (merged_terms hs) ≡ []
+none_merged hs h =
+    let m : SortedTerms (List (Standing TermInfo)) = empty in
+    let e : merged_terms hs ≡ m = ap (λ ks. Rattle.seg_model.specs.Tables.tabulated (λ key. if_stands (standings_from 0 key hs)) ks) (no_keys hs h) in
+    ap entries e ∙ nil_from_length (entries m) (sym (len-entries m) ∙ len-empty key_cmp (List (Standing TermInfo)))
+
+-- ---- the place of the least key
+
+each_of : (P : List (RankedTerm TermInfo) → Type 0) (hs : Streams) → ((i : ℕ) → i < length hs → P (get_or hs i [])) → AllByRecursion P hs
+each_of P [] h = tt
+each_of P (x ∷ xs) h = (h 0 (omega arith), each_of P xs (λ i lt. h (suc i) (omega (arith, lt))))
+
+pub all_over : (hs : Streams) → IsLeast hs (length hs) None → AllByRecursion (λ (h : List (RankedTerm TermInfo)). h ≡ []) hs
+all_over hs h = each_of (λ (x : List (RankedTerm TermInfo)). x ≡ []) hs h
+
+pub all_not_below : (hs : Streams) (best : ℕ) → IsLeast hs (length hs) (Some best) → AllByRecursion (NotBelow (first (get_or hs best [])).key) hs
+all_not_below hs best h = each_of (NotBelow (first (get_or hs best [])).key) hs h.2
+
+itself_with : (key : List ℕ) (h : List (RankedTerm TermInfo)) → 0 < length h → (first h).key ≡ key → (n : ℕ) → 0 < length (standing_first n (first_with key h))
+itself_with key [] lt e n = absurd (omega (arith, lt))
+itself_with key (t ∷ ts) lt e n = subst (λ o. 0 < length (standing_first n o)) (sym (cond-true (bytes_eq key t.key) (Some (t.ord, t.info)) None ((bytes_eq-Decides key t.key).1 (sym e)))) (omega arith)
+
+some_from : (hs : Streams) (best n : ℕ) (key : List ℕ) → best < length hs → 0 < length (get_or hs best []) → (first (get_or hs best [])).key ≡ key → 0 < length (standings_first n key hs)
+some_from [] best n key lt has e = absurd (omega (arith, lt))
+some_from (h ∷ hs) zero n key lt has e = omega (arith, itself_with key h has e n, length-append (standing_first n (first_with key h)) (standings_first (n + 1) key hs))
+some_from (h ∷ hs) (suc best) n key lt has e = omega (arith, some_from hs best (n + 1) key (omega (arith, lt)) has e, length-append (standing_first n (first_with key h)) (standings_first (n + 1) key hs))
+
+pub some_stand : (hs : Streams) (best : ℕ) → IsLeast hs (length hs) (Some best) → 0 < length (standings_first 0 (first (get_or hs best [])).key hs)
+some_stand hs best h = some_from hs best 0 (first (get_or hs best [])).key h.0 h.1 refl
+
+-- ---- the place of the least key so far
+
+not_below_itself : (h : List (RankedTerm TermInfo)) → NotBelow (first h).key h
+not_below_itself [] = tt
+not_below_itself (t ∷ ts) = ap is_le (tied_itself nat_list_cmp_total t.key)
+
+still_not_below : (a b : List ℕ) (h : List (RankedTerm TermInfo)) → key_cmp b a ≡ Less → NotBelow a h → NotBelow b h
+still_not_below a b [] less low = tt
+still_not_below a b (t ∷ ts) less low = by (key_cmp a t.key) refl
+  where
+    by : (o : Ordering) → key_cmp a t.key ≡ o → is_le (key_cmp b t.key) ≡ true
+    by Less e = ap is_le (nat_list_cmp_total.trans b a t.key less e)
+    by Equal e = ap is_le (subst (λ (k : List ℕ). key_cmp b k ≡ Less) (same_keys a t.key e) less)
+    by Greater e = absurd (false≢true (sym (ap is_le e) ∙ low))
+
+-- a stream with a term behind those without one
+pub least_first : (hs : Streams) (i : ℕ) → IsLeast hs i None → 0 < length (get_or hs i []) → IsLeast hs (i + 1) (Some i)
+least_first hs i none has =
+    let key : List ℕ = (first (get_or hs i [])).key in (
+      omega arith,
+      has,
+      λ j lt. elim (cases_lt j i) [
+        | inl l ↦ subst (NotBelow key) (sym (none j l)) tt
+        | inr le ↦ let e : i ≡ j = omega arith in subst (λ (n : ℕ). NotBelow key (get_or hs n [])) e (not_below_itself (get_or hs i []))
+      ],
+    )
+
+less_from : (a b : List ℕ) → is_le (key_cmp a b) ≡ false → key_cmp b a ≡ Less
+less_from a b h = by (key_cmp a b) refl
+  where
+    by : (o : Ordering) → key_cmp a b ≡ o → key_cmp b a ≡ Less
+    by Less e = absurd (false≢true (sym h ∙ ap is_le e))
+    by Equal e = absurd (false≢true (sym h ∙ ap is_le e))
+    by Greater e = nat_list_cmp_total.antisymm b a ∙ ap ordering_reverse e
+
+-- a stream with a lesser key
+pub least_new : (hs : Streams) (i best : ℕ) → IsLeast hs i (Some best) → is_le (key_cmp (first (get_or hs best [])).key (first (get_or hs i [])).key) ≡ false → 0 < length (get_or hs i []) → IsLeast hs (i + 1) (Some i)
+least_new hs i best h greater has =
+    let old : List ℕ = (first (get_or hs best [])).key in
+    let key : List ℕ = (first (get_or hs i [])).key in
+    let less : key_cmp key old ≡ Less = less_from old key greater in (
+      omega arith,
+      has,
+      λ j lt. elim (cases_lt j i) [
+        | inl l ↦ still_not_below old key (get_or hs j []) less (h.2 j l)
+        | inr le ↦ let e : i ≡ j = omega arith in subst (λ (n : ℕ). NotBelow key (get_or hs n [])) e (not_below_itself (get_or hs i []))
+      ],
+    )

@@ -1,0 +1,82 @@
+//! One of the streams that are merged.
+ghost use Rattle.std.specs.Prelude.{◌≡◌, ◌<◌, drop, nat_lt, length};
+ghost use Rattle.seg_termdict.specs.Merging.{Ascends, behind, first, first_with, terms_of_stream};
+
+use crate::format::TermOrdinal;
+use crate::streamer::TermStreamer;
+use seg_common::TermInfo;
+use std::marker::Model;
+
+/// A streamer that has come to its next term, or to its end. It is seen as the terms from this one on.
+#[derive(Drop)]
+pub(crate) struct Head<'a> {
+    stream: TermStreamer<'a>,
+    stands: bool,
+}
+
+impl<'a> Model for Head<'a> {
+    ghost use Rattle.std.specs.Prelude.{◌≡◌, ◌-◌, ◌<◌, ◌≤◌, true, if◌then◌else◌, List, [], drop, length};
+    ghost use Rattle.seg_common.specs.declared.term_info.TermInfo.{TermInfo};
+    ghost use Rattle.seg_model.specs.SortedTerms.{RankedTerm};
+    ghost use Rattle.seg_termdict.specs.Ranges.{ranked_terms};
+
+    ghost Value = { List (RankedTerm TermInfo) };
+
+    ghost view = { λ h. if h.stands then drop (h.stream.taken - 1) (ranked_terms h.stream.terms) else [] };
+
+    ghost invariant = { λ h. h.stands ≡ true → (0 < h.stream.taken) × (h.stream.taken ≤ length h.stream.terms) };
+}
+
+impl<'a> Head<'a> {
+    /// Goes to the first term of a streamer.
+    pub(crate) fn new(mut stream: TermStreamer<'a>) -> Head<'a>
+        requires { stream.taken ≡ 0 }
+        ensures terms { result ≡ terms_of_stream stream.entry }
+        ensures order { Ascends result }
+    {
+        stream.keys_ascend();
+        let stands = stream.advance();
+        Head { stream, stands }
+    }
+
+    /// Whether a term is left.
+    pub(crate) fn stands(&self) -> bool
+        ensures { result ≡ nat_lt 0 (length self.now) }
+    {
+        self.stands
+    }
+
+    /// The key of the term.
+    pub(crate) fn key(&self) -> &'a [u8]
+        requires { 0 < length self.now }
+        ensures { result.now ≡ (first self.now).key }
+    {
+        self.stream.last_key()
+    }
+
+    /// The ordinal and the info of the term, if it has the key.
+    pub(crate) fn at(&self, key: &[u8]) -> Option<(TermOrdinal, TermInfo)>
+        ensures { result ≡ first_with key.now self.now }
+    {
+        if !self.stands {
+            return None;
+        }
+        if key == self.stream.key() {
+            Some((self.stream.term_ord(), *self.stream.value()))
+        } else {
+            None
+        }
+    }
+
+    /// Goes behind the term, if it has the key.
+    pub(crate) fn pass(&mut self, key: &[u8])
+        ensures { self.new ≡ behind key.now self.old }
+    {
+        if !self.stands {
+            return;
+        }
+        if key == self.stream.key() {
+            self.stands = self.stream.advance();
+        }
+    }
+}
