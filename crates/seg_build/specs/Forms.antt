@@ -1,10 +1,11 @@
--- The forms of the files of an index, as they are written here. No alive file is written yet.
+-- The forms of the files of an index, as they are written here.
 use Rattle.seg_common.specs.Names.{name_cmp}
 use Rattle.seg_common.specs.declared.name.FileName.TheVariants.{Meta}
 use Rattle.seg_model.specs.IndexOfFiles.{Forms}
 use Rattle.seg_meta.specs.MetaRead.{meta_read}
 use Rattle.seg_build.specs.Holds.{Holds}
+use Rattle.seg_build.specs.HoldsAlive.{HoldsAlive}
 
--- the meta's name and text, and the six files of a segment
+-- the meta's name and text, the six files of a segment, and its alive file
 abbrev pub segment_forms : Forms name_cmp
-segment_forms = record { meta_name = Meta; meta_of = meta_read; Holds = Holds; HoldsAlive = λ _ _ _ _ _. ⊥ }
+segment_forms = record { meta_name = Meta; meta_of = meta_read; Holds = Holds; HoldsAlive = HoldsAlive }

@@ -10,6 +10,7 @@ pub mod Filling
 pub mod Forms
 pub mod Grouped
 pub mod Holds
+pub mod HoldsAlive
 pub mod Kept
 pub mod Laws
 pub mod MemoryUsage

@@ -12,12 +12,12 @@ use std::alloc::Global;
 /// The bytes of the six files of a segment, whatever its id.
 #[derive(Drop)]
 pub struct SegmentBytes {
-    pub(crate) norms: Vec<u8>,
-    pub(crate) fast: Vec<u8>,
-    pub(crate) terms: Vec<u8>,
-    pub(crate) postings: Vec<u8>,
-    pub(crate) positions: Vec<u8>,
-    pub(crate) store: Vec<u8>,
+    pub norms: Vec<u8>,
+    pub fast: Vec<u8>,
+    pub terms: Vec<u8>,
+    pub postings: Vec<u8>,
+    pub positions: Vec<u8>,
+    pub store: Vec<u8>,
 }
 
 impl SegmentBytes {

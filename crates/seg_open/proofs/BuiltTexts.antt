@@ -7,7 +7,7 @@ use Rattle.seg_build.specs.Built.{is_built_entry, is_built_schema}
 use Rattle.seg_build.proofs.BuiltEntries.{both_true, not_fast, text_entry_at}
 use Rattle.seg_open.specs.SegmentOpening.{AreTexts}
 
-none_declared : (schema : Schema) → is_built_schema schema ≡ true → declared_columns schema ≡ []
+pub none_declared : (schema : Schema) → is_built_schema schema ≡ true → declared_columns schema ≡ []
 none_declared [] h = refl
 none_declared (e ∷ es) h =
     let two = both_true (is_built_entry e) (is_built_schema es) h in

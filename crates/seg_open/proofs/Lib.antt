@@ -8,3 +8,4 @@ pub mod OpenSpells
 pub mod Opened
 pub mod PlacesOpened
 pub mod ReadingSteps
+pub mod SpelledFiles

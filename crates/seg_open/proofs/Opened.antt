@@ -42,10 +42,10 @@ spelled_holds directory id schema files contents has spell = record {
 }
 
 -- the files of contents that are held
-abbrev files_of : (directory : NamedFiles) (id : ℕ) (schema : Schema) (contents : Contents) → Holds directory id schema contents → SegmentFiles
+abbrev pub files_of : (directory : NamedFiles) (id : ℕ) (schema : Schema) (contents : Contents) → Holds directory id schema contents → SegmentFiles
 files_of directory id schema contents h = record { terms = h.terms; store = h.store; postings = h.postings; positions = h.positions; fast_fields = h.fast; field_norms = h.norms }
 
-held_spelled : (directory : NamedFiles) (id : ℕ) (schema : Schema) (contents : Contents) (h : Holds directory id schema contents) → Spell schema (files_of directory id schema contents h) contents
+pub held_spelled : (directory : NamedFiles) (id : ℕ) (schema : Schema) (contents : Contents) (h : Holds directory id schema contents) → Spell schema (files_of directory id schema contents h) contents
 held_spelled directory id schema contents h = record {
   hold_terms = h.hold_terms;
   norm_parts = h.norm_parts;
@@ -55,7 +55,7 @@ held_spelled directory id schema contents h = record {
   shape = h.shape;
 }
 
-one : (o : Option (List ℕ)) (x y : List ℕ) → o ≡ Some x → o ≡ Some y → x ≡ y
+pub one : (o : Option (List ℕ)) (x y : List ℕ) → o ≡ Some x → o ≡ Some y → x ≡ y
 one o x y p q = let both : (let m : Option (List ℕ) = Some x in m) ≡ Some y = sym p ∙ q in cc
 
 module _ (directory : NamedFiles) (id : ℕ) (schema : Schema) (documents : ℕ) (contents : Contents) (held : Holds directory id schema contents) (number : contents.documents ≡ documents) (files : SegmentFiles) (has : HasFiles directory id files) where

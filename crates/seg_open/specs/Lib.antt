@@ -1,6 +1,8 @@
 pub mod FieldOpening
 pub mod FieldsOpening
 pub mod IndexedParts
+pub mod Laws
+pub mod MadeFiles
 pub mod OpenSegment
 pub mod SegmentOpened
 pub mod SegmentOpening

@@ -1,11 +1,13 @@
-//! The six files of a segment, as they are read.
-ghost use Rattle.std.specs.Prelude.{◌≡◌, ◌≢◌, ◌⊎◌, Err, IsTrue, OnOk, IfErr};
+//! The six files of a segment, as they are read or were just made.
+ghost use Rattle.std.specs.Prelude.{◌≡◌, ◌≢◌, ◌⊎◌, Err, IsTrue, OnOk, IfOk, IfErr};
 ghost use Rattle.seg_common.specs.declared.name.FileName.{FileName};
 ghost use Rattle.seg_directory.specs.Faults.{FaultHasCause};
 ghost use Rattle.seg_build.specs.SegmentFiles.{segment_names, AreAbsent, KeepsAllBut, MakingSeen};
+ghost use Rattle.seg_open.specs.MadeFiles.{IsOfBytes};
 ghost use Rattle.seg_open.specs.SegmentRead.{bytes_of, HasFiles, ReadingSeen, ReadsSegment};
 
 use crate::component_files::write_components;
+use seg_build::SegmentBytes;
 use seg_common::{FileName, OwnedBytes, SegmentComponent, SegmentId};
 use seg_directory::{Directory, read_file};
 use seg_values::{TResult, TantivyError};
@@ -77,6 +79,29 @@ impl SegmentFiles {
         })
     }
 
+    /// The files of a segment that was just made, whose bytes aren't copied.
+    pub fn from_bytes(alloc: Global, bytes: SegmentBytes) -> TResult<SegmentFiles>
+        ensures same { IfOk result (λ files. IsOfBytes bytes files) }
+        ensures err { IfErr result (λ e. e ≡ TantivyError.OutOfMemory) }
+    {
+        let SegmentBytes {
+            norms,
+            fast,
+            terms,
+            postings,
+            positions,
+            store,
+        } = bytes;
+        Ok(SegmentFiles {
+            terms: shared(alloc, terms)?,
+            store: shared(alloc, store)?,
+            postings: shared(alloc, postings)?,
+            positions: shared(alloc, positions)?,
+            fast_fields: shared(alloc, fast)?,
+            field_norms: shared(alloc, norms)?,
+        })
+    }
+
     /// The same bytes once more; this takes no memory.
     pub fn share(&self) -> SegmentFiles
         ensures { result ≡ self.now }
@@ -135,5 +160,16 @@ impl SegmentFiles {
             SegmentComponent::FastFields => self.fast_fields.as_slice(),
             SegmentComponent::FieldNorms => self.field_norms.as_slice(),
         }
+    }
+}
+
+/// The bytes of a file, without a copy.
+fn shared(alloc: Global, bytes: Vec<u8>) -> TResult<OwnedBytes>
+    ensures ok { IfOk result (λ owned. owned ≡ bytes.items) }
+    ensures err { IfErr result (λ e. e ≡ TantivyError.OutOfMemory) }
+{
+    match OwnedBytes::from_vec(alloc, bytes) {
+        Ok(owned) => Ok(owned),
+        Err(_) => Err(TantivyError::OutOfMemory),
     }
 }

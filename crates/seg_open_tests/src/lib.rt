@@ -6,6 +6,10 @@ mod copying;
 #[cfg(test)]
 mod damage;
 #[cfg(test)]
+mod laws;
+#[cfg(test)]
+mod making;
+#[cfg(test)]
 mod reading;
 #[cfg(test)]
 mod segments;

@@ -1,7 +1,7 @@
 //! A small segment, and the files that it is read from.
 ghost use Rattle.std.specs.Prelude.{◌≡◌, IfOk};
 
-use seg_build::{SegmentWriter, is_built_schema};
+use seg_build::{MemorySegment, SegmentWriter, is_built_schema};
 use seg_common::{DateTimePrecision, FileName, OwnedBytes, SegmentComponent, SegmentId};
 use seg_directory::{MemoryDirectory, read_file};
 use seg_meta::{Compressor, IndexSettings, Segment, SegmentMeta};
@@ -77,8 +77,8 @@ impl Analyzers for Words {
     }
 }
 
-/// A directory with the files of the documents `a b a` and `b`.
-pub(crate) fn written(alloc: Global) -> TResult<MemoryDirectory> {
+/// The documents `a b a` and `b`, as a segment in memory.
+pub(crate) fn made(alloc: Global) -> TResult<MemorySegment> {
     let settings = IndexSettings {
         docstore_compression: Compressor::None,
         docstore_blocksize: 16384,
@@ -90,10 +90,15 @@ pub(crate) fn written(alloc: Global) -> TResult<MemoryDirectory> {
         document.add_text(Field::from_field_id(0), text)?;
         writer.add_ref(0, &document)?;
     }
+    writer.into_segment()
+}
+
+/// A directory with the files of this segment.
+pub(crate) fn written(alloc: Global) -> TResult<MemoryDirectory> {
+    let made = made(alloc)?;
     let Ok(mut directory) = MemoryDirectory::new(alloc, Vec::new(alloc)) else {
         return Err(TantivyError::OutOfMemory);
     };
-    let made = writer.into_segment()?;
     made.bytes
         .write(alloc, SegmentId::from_u128(7), &mut directory)?;
     Ok(directory)
