@@ -18,6 +18,7 @@ mod PostingsBack
 mod PostingsSteps
 mod Streams
 mod ReadRising
+mod RisingPositions
 mod TermReads
 mod TermsChecked
 mod TermsRead

@@ -3,6 +3,7 @@ ghost use Rattle.std.specs.Prelude.{◌≡◌, ◌<◌, ◌-◌, ◌++◌, ℕ, 
 ghost use Rattle.seg_postings.specs.Postings.{positions_at, term_postings};
 ghost use Rattle.seg_postings.specs.PostingsLeft.{postings_from};
 ghost use Rattle.seg_postings.specs.PostingsReading.{kind_at, left_from, can_be_read, document_of, kept_kind_of, term_freq_of, positions_of};
+ghost use Rattle.seg_postings.specs.Written.{Rise};
 
 use crate::documents::{CountedDocument, TERMINATED, pass_recorded, take_document, take_number};
 use crate::error::PostingsError;
@@ -110,9 +111,10 @@ impl<'a> SegmentPostings<'a> {
     }
 
     /// Puts the positions of the term in the current document into `out`, in place of what it held: none where they
-    /// aren't kept, and at the end.
+    /// aren't kept, and at the end. They never fall.
     pub fn positions(&self, out: &mut Vec<u32>) -> Result<(), PostingsError>
         ensures ok { OnOk result (out.new.items ≡ positions_of self.now.left) }
+        ensures rise { OnOk result (Rise 0 out.new.items) }
         ensures err { IfErr result (λ e. e ≡ PostingsError.OutOfMemory) }
     {
         out.clear();
