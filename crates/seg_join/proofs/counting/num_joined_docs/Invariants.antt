@@ -1,0 +1,11 @@
+use Rattle.std.proofs.Common.{◌≡◌, ◌<◌, ◌+◌, ◌^◌, drop}
+use Rattle.std.specs.List.{AllByRecursion}
+use Rattle.seg_join.specs.KeptSegment.{IsMarked, kept_count}
+use Rattle.seg_join.proofs.counting.num_joined_docs.Given as goal
+
+abbrev pub invariant-loop-part : goal.invariant-loop-part
+invariant-loop-part l = record {
+  few : l.count < 2 ^ 31;
+  counted : l.count + kept_count (drop l.part-index l.parts) ≡ kept_count l.parts;
+  marked : AllByRecursion IsMarked (drop l.part-index l.parts) → AllByRecursion IsMarked l.parts;
+}

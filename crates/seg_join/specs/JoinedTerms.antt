@@ -1,0 +1,71 @@
+-- The terms of a field in segments, joined.
+use Rattle.std.specs.Prelude.{◌≡◌, ◌+◌, ◌*◌, ◌/◌, ◌==◌, if◌then◌else◌, ℕ, Bool, true, false, List, [], ◌∷◌, map, is_some, Option, Some, None}
+use Rattle.std.specs.FinMap.{get, entries}
+use Rattle.std.specs.List.{slice_get, AllByRecursion}
+use Rattle.seg_fastfield.specs.BitSets.{member_count}
+use Rattle.seg_values.specs.declared.schema.FieldEntry.{FieldEntry}
+use Rattle.seg_model.specs.Fields.{is_indexed}
+use Rattle.seg_model.specs.Join.{joined_terms}
+use Rattle.seg_model.specs.Reading.{Posting, term_option}
+use Rattle.seg_model.specs.Shape.{IsTermWith}
+use Rattle.seg_postings.specs.FieldReading.{ReadTerm, OpenField, written_terms}
+use Rattle.seg_postings.specs.FieldWriting.{TermWritten}
+use Rattle.seg_postings.specs.Files.{FieldFiles, AddsField}
+use Rattle.seg_postings.specs.HeldTerms.{terms_held}
+use Rattle.seg_postings.specs.Kinds.{kind_of}
+use Rattle.seg_join.specs.KeptSegment.{KeptSegment, IsMarked, part_of}
+use Rattle.seg_join.specs.MovedPostings.{SourceTerms}
+use Rattle.seg_join.specs.NewIds.{NumberedSegment}
+
+-- each field that is indexed is open, and no other
+abbrev pub FieldsAreOpen : KeptSegment → Type 0
+FieldsAreOpen p = map is_some p.segment.fields ≡ map is_indexed p.segment.schema
+
+-- a field is open
+abbrev pub IsOpenAt : ℕ → KeptSegment → Type 0
+IsOpenAt field p = (opened : OpenField) × (slice_get p.segment.fields field ≡ Some (Some opened))
+
+-- the terms that are read of a field; none where it isn't open
+abbrev pub terms_read : Option (Option OpenField) → List ReadTerm
+terms_read None = []
+terms_read (Some None) = []
+terms_read (Some (Some f)) = f.terms
+
+-- the terms of a field in a segment, with the new ids of its documents
+abbrev pub source_of : ℕ → NumberedSegment → SourceTerms
+source_of field n = record { terms = terms_read (slice_get n.part.segment.fields field); ids = n.ids }
+
+-- a field with this entry is open in a segment, and each of its terms has the form of full shape
+pub record IsOfField (entry : FieldEntry) (field : ℕ) (p : KeptSegment) : Type 0 where
+  pub opened : OpenField
+  pub is_open : slice_get p.segment.fields field ≡ Some (Some opened)
+  pub marked : IsMarked p
+  pub shape : (term : List ℕ) (postings : List Posting) → get (terms_held (written_terms opened)) term ≡ Some postings → IsTermWith entry p.segment.documents term postings
+
+-- the joined terms of a field were added to files, each recorded as the field asks
+pub record AddsJoined (entry : FieldEntry) (field : ℕ) (parts : List KeptSegment) (old new : Option FieldFiles) : Type 0 where
+  pub total : ℕ
+  pub written : List TermWritten
+  pub adds : AddsField old new (record { field = field; total = total; terms = written; current = None })
+  pub kinds : AllByRecursion (λ t. t.kind ≡ kind_of (term_option entry t.bytes)) written
+  pub are : map (λ t. (t.bytes, t.postings)) written ≡ entries (joined_terms (map part_of parts) (field, entry))
+
+-- where the field is indexed; else none was added
+abbrev pub AddsIfIndexed : Bool → FieldEntry → ℕ → List KeptSegment → Option FieldFiles → Option FieldFiles → Type 0
+AddsIfIndexed true entry field parts old new = AddsJoined entry field parts old new
+AddsIfIndexed false entry field parts old new = new ≡ old
+
+-- as large a part of the tokens of a segment as is kept of its documents, rounded down
+abbrev pub kept_tokens : ℕ → ℕ → ℕ → ℕ
+kept_tokens tokens live documents = if live == documents then tokens else tokens * live / documents
+
+-- the total of tokens that is read of a field; 0 where it isn't open
+abbrev pub total_read : Option (Option OpenField) → ℕ
+total_read None = 0
+total_read (Some None) = 0
+total_read (Some (Some f)) = f.total
+
+-- an estimate of the tokens of a field in the kept documents of segments
+abbrev pub tokens_in : ℕ → List KeptSegment → ℕ
+tokens_in field [] = 0
+tokens_in field (p ∷ parts) = kept_tokens (total_read (slice_get p.segment.fields field)) (member_count p.alive) p.segment.documents + tokens_in field parts

@@ -1,0 +1,9 @@
+pub mod JoinedNorms
+pub mod JoinedStore
+pub mod JoinedTerms
+pub mod KeptSegment
+pub mod Laws
+pub mod MovedPostings
+pub mod NewIds
+pub mod SourcesJoined
+pub mod WritingTerms
