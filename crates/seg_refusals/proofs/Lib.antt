@@ -1,0 +1,5 @@
+pub mod Cuts
+pub mod Distinct
+pub mod Divided
+pub mod FirstErrors
+pub mod Places
