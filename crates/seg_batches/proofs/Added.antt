@@ -1,0 +1,148 @@
+-- The documents of a batch, added one by one: a writer has those of the operations so far, and the first that is refused tells why.
+use Rattle.std.proofs.Common.{◌≡◌, ℕ, zero, suc, ◌+◌, ◌≤◌, ◌<◌, ◌^◌, true, false, List, [], ◌∷◌, ◌++◌, length, map, take, drop, Some, None, Option, inl, inr, refl, sym, ap, ◌∙◌, subst, arith}
+use Rattle.std.specs.Prelude.{◌⊎◌, is_none, is_some, IsSomeAnd}
+use Rattle.std.specs.List.{list_all, slice_get}
+use Rattle.std.specs.Option.{option_map}
+use Rattle.std.proofs.lemmas.Bool.{false≢true}
+use Rattle.std.proofs.lemmas.List.{append-nil}
+use Rattle.std.proofs.lemmas.Option.{slice_get_within}
+use Rattle.seg_values.specs.Tree.{Document}
+use Rattle.seg_values.specs.declared.error.ArgumentCause.TheVariants as argument
+use Rattle.seg_values.specs.declared.error.TantivyError.{TantivyError}
+use Rattle.seg_values.specs.declared.error.TantivyError.TheVariants.{SchemaError, InvalidArgument, SystemError, OutOfMemory}
+use Rattle.seg_check.specs.Refusals.{error_of}
+use Rattle.seg_model.specs.Built.{is_taken}
+use Rattle.seg_model.specs.Checked.{Refusal, document_refusal}
+use Rattle.seg_model.specs.Fields.{Schema, Analyzer}
+use Rattle.seg_model.specs.Operations.{Operation, add, delete, delete_all, additions}
+use Rattle.seg_model.specs.Refused.{document_refused, operation_refusal}
+use Rattle.seg_removal.specs.Stamps.{addition_stamps}
+use Rattle.seg_build.specs.Standing.{StandFor}
+use Rattle.seg_build.specs.declared.memory_segment.MemorySegment.{MemorySegment}
+use Rattle.seg_build.specs.Kept.{Kept}
+use Rattle.seg_build.specs.SegmentWriting.{SegmentWriting, AddsNone, IsKeptOf, IsFull, Tells, Writes}
+use Rattle.seg_batches.specs.Indexing.{HasAdditions, IsNotTaken, IsOfBatch, IsTaken}
+use Rattle.seg_refusals.specs.Refusals.{build_error, batch_error}
+use Rattle.seg_batches.proofs.Refused.{refused_from, refused_at}
+use Rattle.seg_batches.proofs.Turns.{take-item, length-front}
+
+-- ---- one more operation
+
+additions-push : (operations : List Operation) (operation : Operation) → additions (operations ++ operation ∷ []) ≡ additions operations ++ additions (operation ∷ [])
+additions-push [] operation = refl
+additions-push (add document ∷ operations) operation = ap (λ ds. document ∷ ds) (additions-push operations operation)
+additions-push (delete term ∷ operations) operation = additions-push operations operation
+additions-push (delete_all terms ∷ operations) operation = additions-push operations operation
+
+same_place : (first : ℕ) (operations : List Operation) (operation : Operation) → addition_stamps (first + 1) operations ++ addition_stamps (first + 1 + length operations) (operation ∷ []) ≡ addition_stamps (first + 1) operations ++ addition_stamps (first + suc (length operations)) (operation ∷ [])
+same_place first operations operation = ap (λ n. addition_stamps (first + 1) operations ++ addition_stamps n (operation ∷ [])) (let e : first + 1 + length operations ≡ first + suc (length operations) = omega arith in e)
+
+stamps-push : (first : ℕ) (operations : List Operation) (operation : Operation) → addition_stamps first (operations ++ operation ∷ []) ≡ addition_stamps first operations ++ addition_stamps (first + length operations) (operation ∷ [])
+stamps-push first [] operation = ap (λ n. addition_stamps n (operation ∷ [])) (let e : first ≡ first + 0 = omega arith in e)
+stamps-push first (add document ∷ operations) operation = ap (λ l. first ∷ l) (stamps-push (first + 1) operations operation ∙ same_place first operations operation)
+stamps-push first (delete term ∷ operations) operation = stamps-push (first + 1) operations operation ∙ same_place first operations operation
+stamps-push first (delete_all terms ∷ operations) operation = stamps-push (first + 1) operations operation ∙ same_place first operations operation
+
+-- an addition is one of the additions
+one_of : (operations : List Operation) (i : ℕ) (document : Document) → slice_get operations i ≡ Some (add document) → length (additions (take i operations)) < length (additions operations)
+one_of [] i document at = absurd (false≢true (ap is_some at))
+one_of (add other ∷ operations) zero document at = omega arith
+one_of (delete term ∷ operations) zero document at = cc
+one_of (delete_all terms ∷ operations) zero document at = cc
+one_of (add other ∷ operations) (suc i) document at = omega (arith, one_of operations i document at)
+one_of (delete term ∷ operations) (suc i) document at = one_of operations i document at
+one_of (delete_all terms ∷ operations) (suc i) document at = one_of operations i document at
+
+module _ (analyzer : Analyzer) (place : ℕ) (old new : SegmentWriting) where
+  taken_behind : (operation : Operation) (documents : List Document) (stamps : List ℕ) → IsTaken analyzer place operation old new → Writes analyzer documents stamps old → Writes analyzer (documents ++ additions (operation ∷ [])) (stamps ++ addition_stamps place (operation ∷ [])) new
+  taken_behind (add document) documents stamps h w = h.behind documents stamps w
+  taken_behind (delete term) documents stamps h w = subst (λ ds. Writes analyzer ds (stamps ++ []) new) (sym (append-nil documents)) (subst (λ ss. Writes analyzer documents ss new) (sym (append-nil stamps)) (subst (Writes analyzer documents stamps) (sym h) w))
+  taken_behind (delete_all terms) documents stamps h w = subst (λ ds. Writes analyzer ds (stamps ++ []) new) (sym (append-nil documents)) (subst (λ ss. Writes analyzer documents ss new) (sym (append-nil stamps)) (subst (Writes analyzer documents stamps) (sym h) w))
+
+  pub taken_unrefused : (schema : Schema) (operation : Operation) → old.schema ≡ schema → IsTaken analyzer place operation old new → operation_refusal schema analyzer place operation ≡ None
+  taken_unrefused schema (add document) same h = none_is (document_refusal schema analyzer document) (ap (λ s. is_taken s analyzer document) (sym same) ∙ h.taken)
+    where
+      none_is : (o : Option Refusal) → is_none o ≡ true → option_map (document_refused place) o ≡ None
+      none_is None k = refl
+      none_is (Some r) k = absurd (false≢true k)
+  taken_unrefused schema (delete term) same h = refl
+  taken_unrefused schema (delete_all terms) same h = refl
+
+module _ (schema : Schema) (analyzer : Analyzer) (first : ℕ) (operations : List Operation) (i : ℕ) where
+  -- ---- one turn
+  pub one_more : (operation : Operation) (old new : SegmentWriting) → slice_get operations i ≡ Some operation → HasAdditions analyzer first (take i operations) old → IsTaken analyzer (first + i) operation old new → HasAdditions analyzer first (take (i + 1) operations) new
+  one_more operation old new at has h =
+      let so_far = take i operations in
+      let front : length so_far ≡ i = length-front i operations (omega (arith, slice_get_within operations i operation at)) in
+      let stamps : addition_stamps first (so_far ++ operation ∷ []) ≡ addition_stamps first so_far ++ addition_stamps (first + i) (operation ∷ []) = stamps-push first so_far operation ∙ ap (λ n. addition_stamps first so_far ++ addition_stamps (first + n) (operation ∷ [])) front in
+      subst (λ l. HasAdditions analyzer first l new) (sym (take-item operations i operation at))
+      (subst (λ ds. Writes analyzer ds (addition_stamps first (so_far ++ operation ∷ [])) new) (sym (additions-push so_far operation))
+      (subst (λ ss. Writes analyzer (additions so_far ++ additions (operation ∷ [])) ss new) (sym stamps)
+      (taken_behind analyzer (first + i) old new operation (additions so_far) (addition_stamps first so_far) h has)))
+
+  -- ---- one that is not taken
+  module _ (few : length (additions operations) < 2 ^ 31) (so_far : refused_from schema analyzer (first + i) (drop i operations) ≡ refused_from schema analyzer first operations) (old new : SegmentWriting) (same : old.schema ≡ schema) (has : HasAdditions analyzer first (take i operations) old) where
+    module _ (document : Document) (at : slice_get operations i ≡ Some (add document)) where
+      refusal_tells : (e : TantivyError) → Tells old.schema analyzer document (first + i) e → batch_error schema analyzer first operations ≡ Some e
+      refusal_tells e h = by (document_refusal schema analyzer document) refl
+        where
+          told : option_map (error_of (first + i)) (document_refusal schema analyzer document) ≡ Some e
+          told = ap (λ s. option_map (error_of (first + i)) (document_refusal s analyzer document)) (sym same) ∙ h
+
+          by : (o : Option Refusal) → document_refusal schema analyzer document ≡ o → batch_error schema analyzer first operations ≡ Some e
+          by None is = absurd (false≢true (ap is_some (ap (option_map (error_of (first + i))) (sym is) ∙ told)))
+          by (Some r) is =
+              refused_at schema analyzer first operations i (add document) at (document_refused (first + i) r) (ap (option_map (document_refused (first + i))) is) few so_far
+              ∙ ap (option_map (error_of (first + i))) (sym is) ∙ told
+
+      not_added : (e : TantivyError) → AddsNone analyzer document (first + i) old new e → (e ≡ OutOfMemory) ⊎ (batch_error schema analyzer first operations ≡ Some e)
+      not_added SystemError h = absurd (subst (λ o. IsSomeAnd o (IsKeptOf old.schema analyzer (additions (take i operations)) (addition_stamps first (take i operations)))) h.0 has)
+      not_added OutOfMemory h = inl refl
+      not_added (InvalidArgument argument.Documents) h = absurd (full old.kept has h.0)
+        where
+          full : (kept : Option Kept) → IsSomeAnd kept (IsKeptOf old.schema analyzer (additions (take i operations)) (addition_stamps first (take i operations))) → IsSomeAnd kept IsFull → ⊥
+          full None w f = f
+          full (Some kept) w f =
+              let many : length kept.stamps ≡ length (additions (take i operations)) = ap length w.stamped ∙ w.each in
+              omega (arith, many, f, few, one_of operations i document at)
+      not_added (SchemaError cause) h = inr (refusal_tells _ h.1)
+      not_added (InvalidArgument cause) h = inr (refusal_tells _ h.1)
+      not_added e h = inr (refusal_tells e h.1)
+
+    pub not_taken : (operation : Operation) (e : TantivyError) → slice_get operations i ≡ Some operation → IsNotTaken analyzer (first + i) operation old new e → (e ≡ OutOfMemory) ⊎ (batch_error schema analyzer first operations ≡ Some e)
+    not_taken (add document) e at h = not_added document at e h
+    not_taken (delete term) e at h = absurd h
+    not_taken (delete_all terms) e at h = absurd h
+
+-- ---- all of them
+
+pub take-all : {X : Type 0} (xs : List X) (n : ℕ) → length xs ≤ n → take n xs ≡ xs
+take-all [] zero le = refl
+take-all [] (suc n) le = refl
+take-all (x ∷ xs) zero le = absurd (omega (arith, le))
+take-all (x ∷ xs) (suc n) le = ap (λ l. x ∷ l) (take-all xs n (omega (arith, le)))
+
+pub all_added : (analyzer : Analyzer) (first : ℕ) (operations : List Operation) (n : ℕ) (writer : SegmentWriting) → length operations ≤ n → HasAdditions analyzer first (take n operations) writer → HasAdditions analyzer first operations writer
+all_added analyzer first operations n writer le h = subst (λ l. HasAdditions analyzer first l writer) (take-all operations n le) h
+
+module _ (schema : Schema) (analyzer : Analyzer) (first : ℕ) (operations : List Operation) (writer : SegmentWriting) (same : writer.schema ≡ schema) (has : HasAdditions analyzer first operations writer) where
+  -- they passed the check
+  pub were_taken : list_all (is_taken schema analyzer) (additions operations) ≡ true
+  were_taken = by writer.kept has
+    where
+      by : (kept : Option Kept) → IsSomeAnd kept (IsKeptOf writer.schema analyzer (additions operations) (addition_stamps first operations)) → list_all (is_taken schema analyzer) (additions operations) ≡ true
+      by None k = absurd k
+      by (Some kept) k = ap (λ s. list_all (is_taken s analyzer) (additions operations)) (sym same) ∙ k.taken
+
+  -- the segment that is made of the writer
+  pub of_batch : (given : Analyzer) (segment : MemorySegment) → given ≡ analyzer
+      → ((ds : List Document) (stamps : List ℕ) → Writes given ds stamps writer → StandFor writer.schema given ds segment.bytes)
+      → ((ds : List Document) (stamps : List ℕ) → Writes given ds stamps writer → segment.stamps.items ≡ stamps)
+      → IsOfBatch schema analyzer first operations segment
+  of_batch given segment is stand stamps = record {
+    stand = subst (λ s. StandFor s analyzer (additions operations) segment.bytes) same (subst (λ a. StandFor writer.schema a (additions operations) segment.bytes) is (stand (additions operations) (addition_stamps first operations) writes));
+    stamps = stamps (additions operations) (addition_stamps first operations) writes;
+  }
+    where
+      writes : Writes given (additions operations) (addition_stamps first operations) writer
+      writes = subst (λ a. Writes a (additions operations) (addition_stamps first operations) writer) (sym is) has

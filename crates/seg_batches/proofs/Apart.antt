@@ -1,0 +1,104 @@
+-- Things of which no two have one number, and files of other segments: their names differ.
+use Rattle.std.proofs.Common.{◌≡◌, ◌≢◌, ℕ, zero, suc, ◌+◌, Bool, true, false, List, [], ◌∷◌, map, take, drop, Some, None, Option, refl, sym, subst, arith}
+use Rattle.std.specs.Prelude.{◌||◌, not, nat_eq}
+use Rattle.std.specs.List.{AllByRecursion, flat_map, list_any, slice_get}
+use Rattle.std.proofs.lemmas.Bool.{false≢true}
+use Rattle.std.proofs.lemmas.Bool.Decides.{nat_tests}
+use Rattle.std.proofs.lemmas.Option.{none-some, same_Some}
+use Rattle.seg_common.specs.declared.name.FileName.{FileName}
+use Rattle.seg_common.specs.declared.name.FileName.TheVariants.{Alive, Part}
+use Rattle.seg_common.specs.declared.name.SegmentComponent.{SegmentComponent}
+use Rattle.seg_common.specs.declared.name.SegmentComponent.TheVariants.{Terms, Postings, Positions, Store, FastFields, FieldNorms}
+use Rattle.seg_model.specs.IndexOfFiles.{Deletes, ListedSegment}
+use Rattle.seg_model.specs.Valid.{are_distinct}
+use Rattle.seg_build.specs.SegmentFiles.{segment_names}
+use Rattle.seg_batches.specs.Segments.{alive_file}
+use Rattle.seg_batches.proofs.BatchTurns.{both}
+use Rattle.seg_batches.proofs.FilesTurn.{AreApart, all_both}
+
+-- ---- numbers
+
+neither : (a b : Bool) → not (a || b) ≡ true → (a ≡ false) × (not b ≡ true)
+neither true b h = absurd (false≢true h)
+neither false b h = (refl, h)
+
+differ : (n m : ℕ) → nat_eq n m ≡ false → n ≢ m
+differ n m h = grind (arith, nat_tests)
+
+module _ {X : Type 0} (number : X → ℕ) where
+  none_has : (n : ℕ) (xs : List X) → not (list_any (nat_eq n) (map number xs)) ≡ true → AllByRecursion (λ x. number x ≢ n) xs
+  none_has n [] h = tt
+  none_has n (x ∷ xs) h =
+      let parts = neither (nat_eq n (number x)) (list_any (nat_eq n) (map number xs)) h in
+      ((λ is. differ n (number x) parts.0 (sym is)), none_has n xs parts.1)
+
+  that_has : (n : ℕ) (xs : List X) (i : ℕ) (x : X) → AllByRecursion (λ y. number y ≢ n) xs → slice_get xs i ≡ Some x → number x ≢ n
+  that_has n [] i x h at = absurd (none-some x at)
+  that_has n (y ∷ ys) zero x h at = subst (λ z. number z ≢ n) (same_Some y x at) h.0
+  that_has n (y ∷ ys) (suc i) x h at = that_has n ys i x h.1 at
+
+  -- where no two have one number, those behind one have others
+  pub others_behind : (xs : List X) (i : ℕ) (x : X) → are_distinct (map number xs) ≡ true → slice_get xs i ≡ Some x → AllByRecursion (λ y. number y ≢ number x) (drop (i + 1) xs)
+  others_behind [] i x h at = absurd (none-some x at)
+  others_behind (y ∷ ys) zero x h at =
+      let parts = both (not (list_any (nat_eq (number y)) (map number ys))) (are_distinct (map number ys)) h in
+      subst (λ z. AllByRecursion (λ w. number w ≢ number z) ys) (same_Some y x at) (none_has (number y) ys parts.0)
+  others_behind (y ∷ ys) (suc i) x h at =
+      let parts = both (not (list_any (nat_eq (number y)) (map number ys))) (are_distinct (map number ys)) h in
+      subst (λ n. AllByRecursion (λ w. number w ≢ number x) (drop n (y ∷ ys))) (let e : suc (i + 1) ≡ suc i + 1 = omega arith in e) (others_behind ys i x parts.1 at)
+
+  -- and so have those before it
+  pub others_before : (xs : List X) (i : ℕ) (x : X) → are_distinct (map number xs) ≡ true → slice_get xs i ≡ Some x → AllByRecursion (λ y. number y ≢ number x) (take i xs)
+  others_before [] i x h at = absurd (none-some x at)
+  others_before (y ∷ ys) zero x h at = tt
+  others_before (y ∷ ys) (suc i) x h at =
+      let parts = both (not (list_any (nat_eq (number y)) (map number ys))) (are_distinct (map number ys)) h in
+      ((λ is. that_has (number y) ys i x (none_has (number y) ys parts.0) at (sym is)), others_before ys i x parts.1 at)
+
+  -- the files of others are apart, where those of any two are that differ in their numbers
+  pub files_apart : (names : X → List FileName) (x : X) (ys : List X) → ((y : X) → number y ≢ number x → AreApart (names y) (names x)) → AllByRecursion (λ y. number y ≢ number x) ys → AreApart (flat_map names ys) (names x)
+  files_apart names x [] apart others = tt
+  files_apart names x (y ∷ ys) apart others =
+      all_both (λ name. AllByRecursion (λ other. name ≢ other) (names x)) (names y) (flat_map names ys) (apart y others.0) (files_apart names x ys apart others.1)
+
+-- ---- the six files
+
+part_apart : (a b : ℕ) (c d : SegmentComponent) → a ≢ b → Part a c ≢ Part b d
+part_apart a b c d ne is = ne (let e : a ≡ b = cc is in e)
+
+pub part_from_parts : (a b : ℕ) (c : SegmentComponent) → a ≢ b → AllByRecursion (λ other. Part a c ≢ other) (segment_names b)
+part_from_parts a b c ne = (
+  part_apart a b c FieldNorms ne,
+  (
+    part_apart a b c FastFields ne,
+    (part_apart a b c Terms ne, (part_apart a b c Postings ne, (part_apart a b c Positions ne, (part_apart a b c Store ne, tt)))),
+  ),
+)
+
+pub parts_apart : (a b : ℕ) → a ≢ b → AreApart (segment_names a) (segment_names b)
+parts_apart a b ne = (
+  part_from_parts a b FieldNorms ne,
+  (
+    part_from_parts a b FastFields ne,
+    (
+      part_from_parts a b Terms ne,
+      (part_from_parts a b Postings ne, (part_from_parts a b Positions ne, (part_from_parts a b Store ne, tt))),
+    ),
+  ),
+)
+
+-- ---- alive files
+
+alive_apart : (a b s t : ℕ) → a ≢ b → Alive a s ≢ Alive b t
+alive_apart a b s t ne is = ne (let e : a ≡ b = cc is in e)
+
+pub alive_from_file : (a s b : ℕ) (d : Option Deletes) → a ≢ b → AllByRecursion (λ other. Alive a s ≢ other) (alive_file b d)
+alive_from_file a s b None ne = tt
+alive_from_file a s b (Some d) ne = (alive_apart a b s d.stamp ne, tt)
+
+pub alive_files_apart : (s t : ListedSegment) → s.id ≢ t.id → AreApart (alive_file s.id s.deletes) (alive_file t.id t.deletes)
+alive_files_apart s t ne = by s.deletes
+  where
+    by : (d : Option Deletes) → AreApart (alive_file s.id d) (alive_file t.id t.deletes)
+    by None = tt
+    by (Some d) = (alive_from_file s.id d.stamp t.id t.deletes ne, tt)

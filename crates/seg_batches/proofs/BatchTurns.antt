@@ -1,0 +1,188 @@
+-- The batches of operations, one after the other: where each begins and ends, and what it leaves to those behind it.
+use Rattle.std.proofs.Common.{◌≡◌, ℕ, zero, suc, ◌+◌, ◌-◌, ◌<◌, ◌≤◌, Bool, true, false, List, [], ◌∷◌, ◌++◌, length, take, drop, Some, None, Option, refl, sym, ap, ◌∙◌, subst, inl, inr, arith}
+use Rattle.std.specs.Prelude.{◌⊎◌, ◌&&◌, nat_le, unwrap_or, slice_range}
+use Rattle.std.specs.List.{list_all, slice_get, enumerate_from}
+use Rattle.std.specs.Option.{option_or}
+use Rattle.std.proofs.lemmas.Bool.{false≢true}
+use Rattle.std.proofs.lemmas.Bool.Decides.{nat_tests}
+use Rattle.std.proofs.lemmas.Option.{slice_get_within}
+use Rattle.std.proofs.lemmas.List.{take-append-drop, take-take, take_all, drop_all, drop-drop, drop-take, length-drop}
+use Rattle.seg_model.specs.Fields.{Schema, Analyzer}
+use Rattle.seg_model.specs.Operations.{Operation, Batch, additions, alive_after, batches_from}
+use Rattle.seg_model.specs.Refused.{BuildRefusal, cut_from, first_of, batch_refusal}
+use Rattle.seg_model.specs.Valid.{never_falls, cuts_fit}
+use Rattle.seg_batches.specs.Writing.{batch_between}
+use Rattle.seg_batches.proofs.Members.{left_from, not_within}
+
+pub both : (a b : Bool) → (a && b) ≡ true → (a ≡ true) × (b ≡ true)
+both true b h = (refl, h)
+both false b h = absurd (false≢true h)
+
+at_most : (n m : ℕ) → nat_le n m ≡ true → n ≤ m
+at_most n m h = grind (arith, nat_tests)
+
+from_zero : (n : ℕ) → nat_le 0 n ≡ true
+from_zero n = grind (arith, nat_tests)
+
+-- the front of a list, and what follows it
+take-add : {X : Type 0} (n m : ℕ) (xs : List X) → take (n + m) xs ≡ take n xs ++ take m (drop n xs)
+take-add n m xs =
+    sym (take-append-drop n (take (n + m) xs))
+    ∙ ap (λ l. l ++ drop n (take (n + m) xs)) (take-take n (n + m) xs (omega arith))
+    ∙ ap (λ l. take n xs ++ l) (drop-take n m xs)
+
+-- members with their numbers, in two parts
+take-enumerate : {X : Type 0} (n k : ℕ) (xs : List X) → take n (enumerate_from k xs) ≡ enumerate_from k (take n xs)
+take-enumerate zero k xs = refl
+take-enumerate (suc n) k [] = refl
+take-enumerate (suc n) k (x ∷ xs) = ap (λ l. (k, x) ∷ l) (take-enumerate n (k + 1) xs)
+
+drop-enumerate : {X : Type 0} (n k : ℕ) (xs : List X) → drop n (enumerate_from k xs) ≡ enumerate_from (k + n) (drop n xs)
+drop-enumerate zero k xs = ap (λ m. enumerate_from m xs) (let z : k ≡ k + 0 = omega arith in z)
+drop-enumerate (suc n) k [] = refl
+drop-enumerate (suc n) k (x ∷ xs) = drop-enumerate n (k + 1) xs ∙ ap (λ m. enumerate_from m (drop n xs)) (let z : k + 1 + n ≡ k + suc n = omega arith in z)
+
+-- ---- places
+
+-- where a batch ends behind so many cuts: at the next cut, or at the end
+abbrev pub end_at : List Operation → List ℕ → ℕ → ℕ
+end_at operations cuts at = unwrap_or (slice_get cuts at) (length operations)
+
+-- a batch begins here behind so many cuts: the others don't fall, nor pass the end, which is where all of them are past
+pub record IsPlace (operations : List Operation) (cuts : List ℕ) (at first : ℕ) : Type 0 where
+  pub within : first ≤ length operations
+  pub rising : never_falls (first ∷ drop at cuts) ≡ true
+  pub fit : list_all (λ cut. nat_le cut (length operations)) (drop at cuts) ≡ true
+  pub ends : length cuts < at → first ≡ length operations
+
+never_falls-zero : (cuts : List ℕ) → never_falls cuts ≡ true → never_falls (0 ∷ cuts) ≡ true
+never_falls-zero [] h = refl
+never_falls-zero (cut ∷ cuts) h = ap (λ b. b && never_falls (cut ∷ cuts)) (from_zero cut) ∙ h
+
+pub first_place : (operations : List Operation) (cuts : List ℕ) → cuts_fit operations cuts ≡ true → IsPlace operations cuts 0 0
+first_place operations cuts h =
+    let parts = both (never_falls cuts) (list_all (λ cut. nat_le cut (length operations)) cuts) h in
+    record { within = omega arith; rising = never_falls-zero cuts parts.0; fit = parts.1; ends = λ behind. absurd (omega (arith, behind)) }
+
+-- ---- one batch, and those behind it
+
+-- the batches from here on
+abbrev pub batches_left : Schema → Analyzer → List Operation → List ℕ → ℕ → ℕ → List Batch
+batches_left schema analyzer operations cuts at first = batches_from schema analyzer first (drop at cuts) (drop first operations)
+
+-- why they are refused: the first of them that is
+abbrev pub refused_left : Schema → Analyzer → List Operation → List ℕ → ℕ → ℕ → Option BuildRefusal
+refused_left schema analyzer operations cuts at first = first_of (batch_refusal schema analyzer) (cut_from first (drop at cuts) (enumerate_from first (drop first operations)))
+
+-- why this one is
+abbrev pub refused_here : Schema → Analyzer → List Operation → ℕ → ℕ → Option BuildRefusal
+refused_here schema analyzer operations first end = batch_refusal schema analyzer (enumerate_from first (slice_range operations first end))
+
+-- a batch is the first of those that are left, and the others begin where it ends; or it is the last of all
+abbrev pub IsFirstLeft : Schema → Analyzer → List Operation → List ℕ → ℕ → ℕ → ℕ → Type 0
+IsFirstLeft schema analyzer operations cuts at first end =
+    ((at < length cuts) × (batches_left schema analyzer operations cuts at first ≡ batch_between schema analyzer first end operations ∷ batches_left schema analyzer operations cuts (at + 1) end))
+    ⊎ ((length cuts ≤ at) × (batches_left schema analyzer operations cuts at first ≡ batch_between schema analyzer first end operations ∷ []))
+
+-- what there is to say of a batch that begins and ends here
+pub record Turn (schema : Schema) (analyzer : Analyzer) (operations : List Operation) (cuts : List ℕ) (at first end : ℕ) : Type 0 where
+  pub rises : first ≤ end
+  pub next : IsPlace operations cuts (at + 1) end
+  pub up_to : take end operations ≡ take first operations ++ slice_range operations first end
+  pub is_first : IsFirstLeft schema analyzer operations cuts at first end
+  pub others : Option BuildRefusal
+  pub refusals : refused_left schema analyzer operations cuts at first ≡ option_or (refused_here schema analyzer operations first end) others
+  pub are_others : at < length cuts → others ≡ refused_left schema analyzer operations cuts (at + 1) end
+
+module _ (schema : Schema) (analyzer : Analyzer) (operations : List Operation) (cuts : List ℕ) (at first : ℕ) (is : IsPlace operations cuts at first) where
+  -- up to the next cut
+  module _ (cut : ℕ) (found : slice_get cuts at ≡ Some cut) where
+    cut_here : drop at cuts ≡ cut ∷ drop (at + 1) cuts
+    cut_here = left_from cuts at cut found
+
+    rises_there : (first ≤ cut) × (never_falls (cut ∷ drop (at + 1) cuts) ≡ true)
+    rises_there =
+        let parts = both (nat_le first cut) (never_falls (cut ∷ drop (at + 1) cuts)) (subst (λ l. never_falls (first ∷ l) ≡ true) cut_here is.rising) in
+        (at_most first cut parts.0, parts.1)
+
+    fits_there : (cut ≤ length operations) × (list_all (λ c. nat_le c (length operations)) (drop (at + 1) cuts) ≡ true)
+    fits_there =
+        let parts = both (nat_le cut (length operations)) (list_all (λ c. nat_le c (length operations)) (drop (at + 1) cuts)) (subst (λ l. list_all (λ c. nat_le c (length operations)) l ≡ true) cut_here is.fit) in
+        (at_most cut (length operations) parts.0, parts.1)
+
+    size : first + (cut - first) ≡ cut
+    size = omega (arith, rises_there.0)
+
+    behind : drop (cut - first) (drop first operations) ≡ drop cut operations
+    behind = drop-drop (cut - first) first operations ∙ ap (λ n. drop n operations) size
+
+    numbered : List (ℕ × Operation)
+    numbered = enumerate_from first (drop first operations)
+
+    behind_numbered : drop (cut - first) (enumerate_from first (drop first operations)) ≡ enumerate_from cut (drop cut operations)
+    behind_numbered = drop-enumerate (cut - first) first (drop first operations) ∙ ap (λ k. enumerate_from k (drop (cut - first) (drop first operations))) size ∙ ap (enumerate_from cut) behind
+
+    to_cut : Turn schema analyzer operations cuts at first cut
+    to_cut = record {
+      rises = rises_there.0;
+      next = record {
+        within = fits_there.0;
+        rising = rises_there.1;
+        fit = fits_there.1;
+        ends = λ past. absurd (omega (arith, past, slice_get_within cuts at cut found));
+      };
+      up_to = sym (ap (λ n. take n operations) size) ∙ take-add first (cut - first) operations;
+      is_first = inl (
+        slice_get_within cuts at cut found,
+        ap (λ l. batches_from schema analyzer first l (drop first operations)) cut_here
+            ∙ ap (λ (os : List Operation). (let b : Batch = record { documents = additions (slice_range operations first cut); alive = alive_after schema analyzer (slice_range operations first cut) os } in b) ∷ batches_from schema analyzer cut (drop (at + 1) cuts) os) behind,
+      );
+      others = refused_left schema analyzer operations cuts (at + 1) cut;
+      refusals = ap (λ l. first_of (batch_refusal schema analyzer) (cut_from first l (enumerate_from first (drop first operations)))) cut_here
+          ∙ ap (λ part. option_or (batch_refusal schema analyzer part) (first_of (batch_refusal schema analyzer) (cut_from cut (drop (at + 1) cuts) (drop (cut - first) (enumerate_from first (drop first operations)))))) (take-enumerate (cut - first) first (drop first operations))
+          ∙ ap (λ part. option_or (refused_here schema analyzer operations first cut) (first_of (batch_refusal schema analyzer) (cut_from cut (drop (at + 1) cuts) part))) behind_numbered;
+      are_others = λ lt. refl;
+    }
+
+  -- up to the end
+  module _ (none : slice_get cuts at ≡ None) where
+    are_past : length cuts ≤ at
+    are_past = not_within cuts at none
+
+    gone : drop (at + 1) cuts ≡ []
+    gone = drop_all (at + 1) cuts (omega (arith, are_past))
+
+    takes_all : slice_range operations first (length operations) ≡ drop first operations
+    takes_all = take_all (length operations - first) (drop first operations) (omega (arith, length-drop first operations))
+
+    leaves_none : drop (length operations) operations ≡ []
+    leaves_none = drop_all (length operations) operations (omega arith)
+
+    to_end : Turn schema analyzer operations cuts at first (length operations)
+    to_end = record {
+      rises = is.within;
+      next = record {
+        within = omega arith;
+        rising = ap (λ l. never_falls (length operations ∷ l)) gone;
+        fit = ap (λ l. list_all (λ c. nat_le c (length operations)) l) gone;
+        ends = λ past. refl;
+      };
+      up_to = take_all (length operations) operations (omega arith) ∙ sym (take-append-drop first operations) ∙ ap (λ l. take first operations ++ l) (sym takes_all);
+      is_first = inr (
+        are_past,
+        ap (λ l. batches_from schema analyzer first l (drop first operations)) (drop_all at cuts are_past)
+            ∙ ap (λ (os : List Operation). (let b : Batch = record { documents = additions os; alive = alive_after schema analyzer os [] } in b) ∷ []) (sym takes_all)
+            ∙ ap (λ (os : List Operation). (let b : Batch = record { documents = additions (slice_range operations first (length operations)); alive = alive_after schema analyzer (slice_range operations first (length operations)) os } in b) ∷ []) (sym leaves_none),
+      );
+      others = None;
+      refusals = ap (λ l. first_of (batch_refusal schema analyzer) (cut_from first l (enumerate_from first (drop first operations)))) (drop_all at cuts are_past)
+          ∙ ap (λ (os : List Operation). option_or (batch_refusal schema analyzer (enumerate_from first os)) None) (sym takes_all);
+      are_others = λ lt. absurd (omega (arith, are_past, lt));
+    }
+
+  pub turn_here : (end : ℕ) → end ≡ end_at operations cuts at → Turn schema analyzer operations cuts at first end
+  turn_here end ends = subst (Turn schema analyzer operations cuts at first) (sym ends) (by (slice_get cuts at) refl)
+    where
+      by : (o : Option ℕ) → slice_get cuts at ≡ o → Turn schema analyzer operations cuts at first (unwrap_or o (length operations))
+      by None none = to_end none
+      by (Some cut) found = to_cut cut found

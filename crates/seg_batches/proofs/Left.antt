@@ -1,0 +1,143 @@
+-- What the deletes that wait leave of a batch.
+use Rattle.std.proofs.Common.{◌≡◌, ℕ, zero, suc, ◌+◌, Bool, true, false, List, [], ◌∷◌, ◌++◌, length, map, take, drop, replicate, Some, None, Option, refl, sym, ap, subst, ◌∙◌, arith, append_assoc, take-append-drop}
+use Rattle.std.specs.Prelude.{is_some, option_copied}
+use Rattle.std.specs.Borrow.{Bor}
+use Rattle.std.specs.List.{AllByRecursion, range_with_len, slice_get}
+use Rattle.std.specs.Option.{option_map}
+use Rattle.std.proofs.lemmas.Bool.{false≢true}
+use Rattle.std.proofs.lemmas.Option.{none-some}
+use Rattle.seg_common.specs.declared.name.SegmentComponent.{SegmentComponent}
+use Rattle.seg_values.specs.ValueBytes.{TermKey}
+use Rattle.seg_values.specs.Tree.{Document}
+use Rattle.seg_model.specs.Columns.{Columns, columns}
+use Rattle.seg_model.specs.Contents.{Contents, full_reading, reading_with}
+use Rattle.seg_model.specs.Fields.{Schema, Analyzer}
+use Rattle.seg_model.specs.Operations.{Operation, add, delete, delete_all, additions, alive_after}
+use Rattle.seg_model.specs.Reading.{Terms, all_terms}
+use Rattle.seg_removal.specs.Laws.{ArePassed}
+use Rattle.seg_removal.specs.Stamps.{addition_stamps, stamped_deletes}
+use Rattle.seg_deletes.specs.declared.doc_opstamp_mapping.DocToOpstampMapping.{DocToOpstampMapping}
+use Rattle.seg_deletes.specs.declared.doc_opstamp_mapping.DocToOpstampMapping.TheVariants.{WithMap}
+use Rattle.seg_deletes.specs.declared.operation.DeleteOperation.{DeleteOperation}
+use Rattle.seg_build.specs.Standing.{StandFor}
+use Rattle.seg_build.specs.declared.memory_segment.MemorySegment.{MemorySegment}
+use Rattle.seg_open.specs.OpenSegment.{OpenSegment, contents_of, terms_in}
+use Rattle.seg_open.specs.SegmentRead.{bytes_of}
+use Rattle.seg_open.specs.Laws.{FilesSpellOneContents, MadeFilesSpell}
+use Rattle.seg_open.specs.MadeFiles.{IsOfBytes}
+use Rattle.seg_open.specs.Spelling.{Spell, Disagree, IsWhyNotOpen, up_to}
+use Rattle.seg_open.specs.declared.open_error.OpenError.{OpenError}
+use Rattle.seg_open.specs.declared.open_error.OpenError.TheVariants.{Damaged}
+use Rattle.seg_open.specs.declared.segment_files.SegmentFiles.{SegmentFiles}
+use Rattle.seg_alive.specs.Applying.{IsTold, left_by}
+use Rattle.seg_alive.specs.Laws.{as_operations, AppliedDeletesLeaveTheAlive}
+use Rattle.seg_batches.specs.Indexing.{IsOfBatch}
+use Rattle.seg_batches.specs.Making.{AreWhole, IsMadeOf, passed_below}
+use Rattle.seg_batches.proofs.Passed.{batch_passes}
+
+-- ---- lists
+
+none_left : {X : Type 0} (xs : List X) (i : ℕ) → slice_get xs i ≡ None → drop i xs ≡ []
+none_left [] zero is = refl
+none_left [] (suc i) is = refl
+none_left (y ∷ ys) zero is = absurd (none-some y (sym is))
+none_left (y ∷ ys) (suc i) is = none_left ys i is
+
+-- a look-up that finds nothing is at the end
+pub at_end : {X : Type 0} (found : Option (Bor X)) (asked xs : List X) (i : ℕ) → asked ≡ xs → option_copied found ≡ slice_get asked i → is_some found ≡ false → drop i xs ≡ []
+at_end None asked xs i same is none = none_left xs i (ap (λ l. slice_get l i) (sym same) ∙ sym is)
+at_end (Some x) asked xs i same is none = absurd (false≢true (sym none))
+
+all_pass : (from n : ℕ) → map (λ d. true) (range_with_len from n) ≡ replicate n true
+all_pass from zero = refl
+all_pass from (suc n) = ap (λ l. true ∷ l) (all_pass (from + 1) n)
+
+pub stamps_counted : (first : ℕ) (batch : List Operation) → length (addition_stamps first batch) ≡ length (additions batch)
+stamps_counted first [] = refl
+stamps_counted first (add document ∷ batch) = ap suc (stamps_counted (first + 1) batch)
+stamps_counted first (delete term ∷ batch) = stamps_counted (first + 1) batch
+stamps_counted first (delete_all terms ∷ batch) = stamps_counted (first + 1) batch
+
+-- ---- files that were just made
+
+-- what is read of documents
+pub read_of : (schema : Schema) (analyzer : Analyzer) (documents : List Document) (contents : Contents) → full_reading schema analyzer documents ≡ Some contents → (contents.documents ≡ length documents) × (contents.terms ≡ all_terms schema analyzer documents)
+read_of schema analyzer documents contents read = by (columns schema analyzer documents) read
+  where
+    some_is : (x y : Contents) → Some x ≡ Some y → y ≡ x
+    some_is x y e = cc
+
+    by : (cs : Option Columns) → option_map (reading_with schema analyzer documents) cs ≡ Some contents → (contents.documents ≡ length documents) × (contents.terms ≡ all_terms schema analyzer documents)
+    by None e = absurd (false≢true (ap is_some e))
+    by (Some cs) e =
+        let same = some_is (reading_with schema analyzer documents cs) contents e in
+        (ap (λ (c : Contents). c.documents) same, ap (λ (c : Contents). c.terms) same)
+
+pub made_files : MadeFilesSpell → (given schema : Schema) (by analyzer : Analyzer) (first : ℕ) (operations : List Operation) (segment : MemorySegment) (files : SegmentFiles) → given ≡ schema → by ≡ analyzer
+    → IsOfBatch given by first operations segment → IsOfBytes segment.bytes files → IsMadeOf schema analyzer (additions operations) files
+made_files law given schema by analyzer first operations segment files same_schema same of has =
+    let stand = subst (λ s. StandFor s analyzer (additions operations) segment.bytes) same_schema (subst (λ a. StandFor given a (additions operations) segment.bytes) same of.stand) in
+    let spelled = law schema analyzer (additions operations) segment.bytes files stand has in
+    record { contents = spelled.0; read = spelled.1; spelled = spelled.2 }
+
+pub made_whole : (schema : Schema) (analyzer : Analyzer) (documents : List Document) (files : SegmentFiles) (n : ℕ) → IsMadeOf schema analyzer documents files → length documents ≡ n → AreWhole schema files n
+made_whole schema analyzer documents files n made counted = record {
+  contents = made.contents;
+  spelled = made.spelled;
+  counted = (read_of schema analyzer documents made.contents made.read).0 ∙ counted;
+}
+
+module _ (given schema : Schema) (shared files : SegmentFiles) (n : ℕ) (same : given ≡ schema) (share : shared ≡ files) where
+  -- files that are whole disagree nowhere
+  pub undamaged : (e : OpenError) (component : SegmentComponent) → e ≡ Damaged component → AreWhole schema files n → IsWhyNotOpen given n shared e → ⊥
+  undamaged e component is whole damaged = disagree files whole.contents (all (up_to component)) whole.spelled whole.counted
+    where
+      disagree : Disagree schema n files component
+      disagree = subst (λ s. Disagree s n files component) same (subst (λ fs. Disagree given n fs component) share (subst (IsWhyNotOpen given n shared) is damaged))
+
+      all : (cs : List SegmentComponent) → AllByRecursion (λ c. bytes_of files c ≡ bytes_of files c) cs
+      all [] = tt
+      all (c ∷ cs) = (refl, all cs)
+
+  -- what is read of them is what they spell
+  pub one_contents : FilesSpellOneContents → (read : Contents) → Spell given shared read → (contents : Contents) → Spell schema files contents → read ≡ contents
+  one_contents one read spelled contents h = one schema files read contents (subst (λ s. Spell s files read) same (subst (λ fs. Spell given fs read) share spelled)) h
+
+-- ---- deletes that wait
+
+told_of : (n m : ℕ) (left alive : List Bool) (told : Option (List Bool)) → n ≡ m → left ≡ alive → IsTold n left told → IsTold m alive told
+told_of n m left alive told counted same h = subst (λ k. IsTold k alive told) counted (subst (λ l. IsTold n l told) same h)
+
+module _ (law : AppliedDeletesLeaveTheAlive) (schema : Schema) (analyzer : Analyzer) (before batch after : List Operation) (first : ℕ) (place : length before ≡ first) (stamps : Bor (List ℕ)) (are : stamps.now ≡ addition_stamps first batch)
+    (operations : List (DeleteOperation TermKey)) (all : as_operations operations ≡ stamped_deletes 0 (before ++ (batch ++ after))) (at : ℕ) (passed : passed_below first (take at operations)) where
+  counted : length (additions batch) ≡ length stamps.now
+  counted = sym (ap length are ∙ stamps_counted first batch)
+
+  -- those from a place on leave what no later operation removes
+  waiting_leave : left_by (all_terms schema analyzer (additions batch)) (WithMap stamps) (length (additions batch)) (drop at operations) ≡ alive_after schema analyzer batch after
+  waiting_leave = law schema analyzer before batch after stamps (take at operations) (drop at operations)
+      (are ∙ ap (λ n. addition_stamps n batch) (sym place))
+      (ap as_operations (take-append-drop at operations) ∙ all ∙ ap (stamped_deletes 0) (sym (append_assoc before batch after)))
+      (subst (λ ss. ArePassed ss (as_operations (take at operations))) (sym are) (batch_passes first batch (take at operations) passed))
+
+  -- where none waits all are left
+  pub none_waits : drop at operations ≡ [] → IsTold (length stamps.now) (alive_after schema analyzer batch after) None
+  none_waits none =
+      sym waiting_leave
+      ∙ ap (left_by (all_terms schema analyzer (additions batch)) (WithMap stamps) (length (additions batch))) none
+      ∙ all_pass 0 (length (additions batch))
+      ∙ ap (λ n. replicate n true) counted
+
+  -- what is told of those that a reader of the batch's files finds
+  pub told_alive : (files : SegmentFiles) (reader : OpenSegment) (waiting : List (DeleteOperation TermKey)) (told : Option (List Bool)) → IsMadeOf schema analyzer (additions batch) files
+      → ((contents : Contents) → Spell schema files contents → contents_of reader ≡ contents) → reader.documents ≡ length stamps.now → waiting ≡ operations
+      → IsTold reader.documents (left_by (map terms_in reader.fields) (WithMap stamps) reader.documents (drop at waiting)) told
+      → IsTold (length stamps.now) (alive_after schema analyzer batch after) told
+  told_alive files reader waiting told made one number same h =
+      let terms : map terms_in reader.fields ≡ all_terms schema analyzer (additions batch) =
+      ap (λ (c : Contents). c.terms) (one made.contents made.spelled) ∙ (read_of schema analyzer (additions batch) made.contents made.read).1 in
+      told_of reader.documents (length stamps.now) (left_by (map terms_in reader.fields) (WithMap stamps) reader.documents (drop at waiting)) (alive_after schema analyzer batch after) told number
+      (ap (λ os. left_by (map terms_in reader.fields) (WithMap stamps) reader.documents (drop at os)) same
+      ∙ ap (λ ts. left_by ts (WithMap stamps) reader.documents (drop at operations)) terms
+      ∙ ap (λ n. left_by (all_terms schema analyzer (additions batch)) (WithMap stamps) n (drop at operations)) (number ∙ sym counted)
+      ∙ waiting_leave) h

@@ -1,0 +1,66 @@
+-- Marks of documents: how many are alive, whether all are, and whether one is not.
+use Rattle.std.proofs.Common.{◌≡◌, ℕ, zero, suc, ◌+◌, ◌-◌, ◌≤◌, Bool, true, false, List, [], ◌∷◌, length, replicate, Option, Some, None, refl, sym, ap, ◌∙◌, subst, arith}
+use Rattle.std.specs.Prelude.{cond, not}
+use Rattle.std.specs.List.{Contains, count_by, list_all}
+use Rattle.std.proofs.lemmas.Bool.{false≢true}
+use Rattle.std.proofs.lemmas.List.Filters.{length-filter_both}
+use Rattle.std.proofs.lemmas.List.Sums.{length-filter, sum_by-cons}
+use Rattle.seg_fastfield.specs.BitSets.{member_count}
+use Rattle.seg_model.specs.IndexOfFiles.{Deletes}
+use Rattle.seg_batches.specs.Segments.{LacksSome, alive_of, deletes_of}
+
+-- those that are alive, and those that are not, are all
+pub counts_both : (set : List Bool) → member_count set + count_by not set ≡ length set
+counts_both set = omega (arith, length-filter_both (λ b. b) not (λ b. refl) set, length-filter (λ b. b) set, length-filter not set)
+
+-- ---- all
+
+pub all_alive : (n : ℕ) → list_all (λ b. b) (replicate n true) ≡ true
+all_alive zero = refl
+all_alive (suc n) = all_alive n
+
+-- ---- not all
+
+module _ (b : Bool) (set : List Bool) where
+  count-cons : count_by not (b ∷ set) ≡ cond (not b) 1 0 + count_by not set
+  count-cons = sum_by-cons (λ x. cond (not x) 1 0) b set
+
+pub some_lacks : (set : List Bool) → Contains set false → (list_all (λ b. b) set ≡ false) × (1 ≤ count_by not set)
+some_lacks [] c = absurd (omega (arith, c.1))
+some_lacks (false ∷ set) c = (refl, omega (arith, count-cons false set))
+some_lacks (true ∷ set) (zero, lt, is) = absurd (false≢true (sym is))
+some_lacks (true ∷ set) (suc k, lt, is) =
+    let rest = some_lacks set (k, omega (arith, lt), is) in
+    (rest.0, omega (arith, rest.1, count-cons true set))
+
+-- ---- deletes
+
+-- without a set there are none
+no_deletes : (stamp n : ℕ) → deletes_of stamp (replicate n true) ≡ None
+no_deletes stamp n = ap (λ b. cond b None (Some (let d : Deletes = record { number = count_by not (replicate n true); stamp = stamp } in d))) (all_alive n)
+
+pub none_listed : (documents stamp : ℕ) (o : Option (List Bool)) → o ≡ None → deletes_of stamp (alive_of documents o) ≡ None
+none_listed documents stamp o none = ap (λ p. deletes_of stamp (alive_of documents p)) none ∙ no_deletes stamp documents
+
+pub all_listed_alive : (documents stamp : ℕ) (alive : List Bool) → alive ≡ replicate documents true → deletes_of stamp alive ≡ None
+all_listed_alive documents stamp alive all = ap (deletes_of stamp) all ∙ no_deletes stamp documents
+
+pub lacking_listed : (stamp : ℕ) (alive : List Bool) → Contains alive false → deletes_of stamp alive ≡ Some (record { number = count_by not alive; stamp = stamp })
+lacking_listed stamp alive lacks = ap (λ b. cond b None (Some (let d : Deletes = record { number = count_by not alive; stamp = stamp } in d))) (some_lacks alive lacks).0
+
+-- a set that lacks some has as many as it lacks
+module _ (documents count : ℕ) (o : Option (List Bool)) (set : List Bool) (is : o ≡ Some set) (lacks : LacksSome documents o) (counted : count ≡ member_count set) where
+  parts : LacksSome documents (Some set)
+  parts = subst (LacksSome documents) is lacks
+
+  number_is : count_by not set ≡ documents - count
+  number_is = omega (arith, counts_both set, counted, parts.0)
+
+  pub some_listed : (stamp : ℕ) → deletes_of stamp (alive_of documents o) ≡ Some (record { number = documents - count; stamp = stamp })
+  some_listed stamp =
+      ap (λ p. deletes_of stamp (alive_of documents p)) is
+      ∙ ap (λ b. cond b None (Some (let d : Deletes = record { number = count_by not set; stamp = stamp } in d))) (some_lacks set parts.1).0
+      ∙ ap (λ n. Some (let d : Deletes = record { number = n; stamp = stamp } in d)) number_is
+
+  pub are_some : (1 ≤ documents - count) × (documents - count ≤ documents)
+  are_some = (omega (arith, number_is, (some_lacks set parts.1).1), omega arith)

@@ -1,0 +1,20 @@
+use Rattle.std.proofs.Common.{◌≤◌, ◌^◌, arith, ap, inr, length, map}
+use Rattle.seg_model.specs.Operations.{additions}
+use Rattle.seg_build.specs.View.{operation_of}
+use Rattle.seg_batches.proofs.Added.{of_batch}
+use Rattle.seg_batches.proofs.Refused.{too_many}
+use Rattle.seg_batches.proofs.batch_indexing.index_batch.Goals as goal
+
+pub returns-then-count_additions-gt-MAX_DOCUMENTS-clause-err : goal.returns-then-count_additions-gt-MAX_DOCUMENTS-clause-err
+returns-then-count_additions-gt-MAX_DOCUMENTS-clause-err g c =
+    let operations = map operation_of c.args.operations.now in
+    let many : 2 ^ 31 ≤ length (additions operations) = omega (arith, c.if-count_additions-gt-MAX_DOCUMENTS.true, c.count_additions.ensures) in
+    inr (too_many c.args.writer.1.schema (g.Z.Analyzers.tokens_of c.args.writer.0) c.args.first operations many)
+
+pub returns-in-Ok-into_segment-clause-segment : goal.returns-in-Ok-into_segment-clause-segment
+returns-in-Ok-into_segment-clause-segment g c =
+    let F = g.Z.Analyzers.tokens_of in
+    let made = c.in-Ok-into_segment in
+    let writer = c.add_operations.new.writer in
+    of_batch c.args.writer.1.schema (F c.args.writer.0) c.args.first (map operation_of c.args.operations.now) writer.1 c.in-Ok.ensures.schema c.in-Ok.ensures.added
+    (F writer.0) made.segment (ap F c.in-Ok.ensures.analyzers) made.ensures.stands made.ensures.stamps

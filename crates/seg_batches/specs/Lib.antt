@@ -1,0 +1,6 @@
+pub mod Calls
+pub mod Indexing
+pub mod Making
+pub mod Reading
+pub mod Segments
+pub mod Writing

@@ -1,0 +1,80 @@
+//! The alive files of segments, in a directory.
+ghost use Rattle.std.specs.Prelude.{◌≡◌, ◌≢◌, true, map, Some, Err, IfOk, IsTrue, OnOk};
+ghost use Rattle.seg_build.specs.SegmentFiles.{AreAbsent, wrote};
+ghost use Rattle.seg_fastfield.specs.BitSets.{set_of};
+ghost use Rattle.seg_model.specs.Valid.{are_distinct};
+ghost use Rattle.seg_batches.specs.Calls.{Does, state_of};
+ghost use Rattle.seg_batches.specs.Segments.{AllTellAlive, TellsAlive, alive_file, alive_files, all_listed, deletes_of};
+
+use crate::written_segment::WrittenSegment;
+use seg_common::{FileName, MemorySink};
+use seg_deletes::Opstamp;
+use seg_directory::{Directory, write_file};
+use seg_fastfield::{BitSet, write_alive_bitset};
+use seg_values::{TResult, TantivyError};
+use std::alloc::{AllocError, Global};
+
+/// Writes the alive file of each segment some of whose documents are not alive, one segment after another, under the stamp
+/// of the meta that lists them. `IndexAlreadyExists`: a file of that name is there.
+pub fn write_alive_files<W: Directory>(
+    alloc: Global,
+    stamp: Opstamp,
+    segments: &[WrittenSegment],
+    directory: &mut W,
+) -> TResult<()>
+    requires distinct { are_distinct (map (λ s. s.id) segments.now) ≡ true }
+    ensures tell { IsTrue (W.tells directory.old) → OnOk result
+        (AllTellAlive (W.files directory.new) stamp segments.now) }
+    ensures fresh { IsTrue (W.tells directory.old)
+        → AreAbsent (alive_files (all_listed stamp segments.now)) (W.files directory.old)
+        → result ≢ Err TantivyError.IndexAlreadyExists }
+    ensures calls { Does (wrote (alive_files (all_listed stamp segments.now))) (alive_files (all_listed stamp segments.now)) result
+        (state_of (W.tells directory.old) (W.files directory.old) (W.seen directory.old) (W.faults directory.old))
+        (state_of (W.tells directory.new) (W.files directory.new) (W.seen directory.new) (W.faults directory.new)) }
+{
+    for segment in segments {
+        match write_alive_file(alloc, stamp, segment, directory) {
+            Ok(()) => {}
+            Err(e) => return Err(e),
+        }
+    }
+    Ok(())
+}
+
+/// Writes the alive file of a segment, where some of its documents are not alive.
+fn write_alive_file<W: Directory>(
+    alloc: Global,
+    stamp: Opstamp,
+    segment: &WrittenSegment,
+    directory: &mut W,
+) -> TResult<()>
+    ensures tells { IsTrue (W.tells directory.old) → OnOk result
+        (TellsAlive (W.files directory.new) segment.now.id segment.now.documents segment.now.alive (deletes_of stamp segment.now.alive)) }
+    ensures fresh { IsTrue (W.tells directory.old)
+        → AreAbsent (alive_file segment.now.id (deletes_of stamp segment.now.alive)) (W.files directory.old)
+        → result ≢ Err TantivyError.IndexAlreadyExists }
+    ensures calls { Does (wrote (alive_file segment.now.id (deletes_of stamp segment.now.alive))) (alive_file segment.now.id (deletes_of stamp segment.now.alive)) result
+        (state_of (W.tells directory.old) (W.files directory.old) (W.seen directory.old) (W.faults directory.old))
+        (state_of (W.tells directory.new) (W.files directory.new) (W.seen directory.new) (W.faults directory.new)) }
+{
+    let Some(alive) = segment.alive() else {
+        return Ok(());
+    };
+    let Ok(file) = set_in_memory(alloc, alive) else {
+        return Err(TantivyError::OutOfMemory);
+    };
+    let name = FileName::Alive(segment.id(), stamp);
+    write_file(alloc, directory, name, file.bytes())
+}
+
+/// The bytes of an alive file, in a sink with room for just these.
+fn set_in_memory(alloc: Global, alive: &BitSet) -> Result<MemorySink, AllocError>
+    ensures { IfOk result (λ file. set_of file.written ≡ Some alive.now) }
+{
+    let words = alive.max_value().div_ceil(64);
+    let mut file = MemorySink::new(alloc, 4 + 8 * words as usize, Vec::new(alloc))?;
+    match write_alive_bitset(alive, &mut file) {
+        Ok(()) => Ok(file),
+        Err(_) => Err(AllocError),
+    }
+}

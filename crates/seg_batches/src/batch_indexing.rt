@@ -1,0 +1,130 @@
+//! The segment of a batch, in memory.
+ghost use Rattle.std.specs.Prelude.{◌≡◌, ◌<◌, ◌+◌, ◌^◌, ◌⊎◌, [], true, map, length, Err, IfOk, IfErr, IfSome, OnOk};
+ghost use Rattle.std.specs.List.{list_all};
+ghost use Rattle.seg_model.specs.Built.{is_taken};
+ghost use Rattle.seg_model.specs.Operations.{additions};
+ghost use Rattle.seg_model.specs.Valid.{Known};
+ghost use Rattle.seg_build.specs.SegmentWriting.{IsOfSame, Writes};
+ghost use Rattle.seg_build.specs.View.{operation_of};
+ghost use Rattle.seg_build.specs.WriterStart.{IsStartError, Tests, start_refusal};
+ghost use Rattle.seg_batches.specs.Indexing.{HasAdditions, IsNotTaken, IsOfBatch, IsTaken, is_addition};
+ghost use Rattle.seg_refusals.specs.Refusals.{batch_error};
+
+use seg_build::{MemorySegment, SegmentWriter, UserOperation};
+use seg_common::SegmentId;
+use seg_deletes::Opstamp;
+use seg_meta::{IndexSettings, Segment, SegmentMeta};
+use seg_values::{Analyzers, ArgumentCause, Schema, TResult, TantivyDocument, TantivyError};
+use std::alloc::Global;
+
+/// The fewest bytes of a budget: a batch is kept whole, whatever it takes.
+const BUDGET: usize = 15_000;
+
+/// The most documents of a segment.
+const MAX_DOCUMENTS: usize = 0x7fff_ffff;
+
+/// The segment of the documents that a batch adds, all of them, whichever the batch deletes again.
+pub(crate) fn index_batch<Z: Analyzers>(
+    first: Opstamp,
+    operations: &[UserOperation<TantivyDocument>],
+    writer: SegmentWriter<'_, Z>,
+) -> TResult<MemorySegment>
+    requires places { first + length operations.now < 2 ^ 64 }
+    requires fresh { Writes (Z.tokens_of writer.0) [] [] writer.1 }
+    ensures segment { IfOk result (IsOfBatch writer.entry.1.schema (Z.tokens_of writer.entry.0) first (map operation_of operations.now)) }
+    ensures few { OnOk result (length (additions (map operation_of operations.now)) < 2 ^ 31) }
+    ensures taken { OnOk result (list_all (is_taken writer.entry.1.schema (Z.tokens_of writer.entry.0)) (additions (map operation_of operations.now)) ≡ true) }
+    ensures err { IfErr result (λ e. (e ≡ TantivyError.OutOfMemory) ⊎ (batch_error writer.entry.1.schema (Z.tokens_of writer.entry.0) first (map operation_of operations.now) ≡ Some e)) }
+{
+    if count_additions(operations) > MAX_DOCUMENTS {
+        return Err(TantivyError::InvalidArgument(ArgumentCause::Documents));
+    }
+    let mut writer = writer;
+    match add_operations(first, operations, &mut writer) {
+        Ok(()) => {}
+        Err(e) => return Err(e),
+    }
+    match writer.into_segment() {
+        Ok(segment) => Ok(segment),
+        Err(_) => Err(TantivyError::OutOfMemory),
+    }
+}
+
+fn count_additions(operations: &[UserOperation<TantivyDocument>]) -> usize
+    ensures { result ≡ length (additions (map operation_of operations.now)) }
+{
+    operations
+        .iter()
+        .filter(|operation| is_addition(operation))
+        .count()
+}
+
+fn is_addition(operation: &UserOperation<TantivyDocument>) -> bool
+    ensures { result ≡ is_addition (operation_of operation.now) }
+{
+    match operation {
+        UserOperation::Add(_) => true,
+        UserOperation::Delete(_) => false,
+    }
+}
+
+/// Adds the documents of operations, up to the first that is refused.
+fn add_operations<Z: Analyzers>(
+    first: Opstamp,
+    operations: &[UserOperation<TantivyDocument>],
+    writer: &mut SegmentWriter<'_, Z>,
+) -> TResult<()>
+    requires places { first + length operations.now < 2 ^ 64 }
+    requires few { length (additions (map operation_of operations.now)) < 2 ^ 31 }
+    requires fresh { Writes (Z.tokens_of writer.old.0) [] [] writer.old.1 }
+    ensures added { OnOk result (HasAdditions (Z.tokens_of writer.old.0) first (map operation_of operations.now) writer.new.1) }
+    ensures analyzers { writer.new.0 ≡ writer.old.0 }
+    ensures schema { writer.new.1.schema ≡ writer.old.1.schema }
+    ensures err { IfErr result (λ e. (e ≡ TantivyError.OutOfMemory) ⊎ (batch_error writer.old.1.schema (Z.tokens_of writer.old.0) first (map operation_of operations.now) ≡ Some e)) }
+{
+    for (at, operation) in operations.iter().enumerate() {
+        match add_operation(first + at as u64, operation, writer) {
+            Ok(()) => {}
+            Err(e) => return Err(e),
+        }
+    }
+    Ok(())
+}
+
+/// Adds the document of an addition, and passes over a delete; an error tells the place of the operation.
+fn add_operation<Z: Analyzers>(
+    place: Opstamp,
+    operation: &UserOperation<TantivyDocument>,
+    writer: &mut SegmentWriter<'_, Z>,
+) -> TResult<()>
+    ensures ok { OnOk result (IsTaken (Z.tokens_of writer.old.0) place (operation_of operation.now) writer.old.1 writer.new.1) }
+    ensures err { IfErr result (IsNotTaken (Z.tokens_of writer.old.0) place (operation_of operation.now) writer.old.1 writer.new.1) }
+    ensures analyzers { writer.new.0 ≡ writer.old.0 }
+    ensures same { IsOfSame writer.old.1 writer.new.1 }
+{
+    match operation {
+        UserOperation::Add(document) => writer.add_ref(place, document),
+        UserOperation::Delete(_) => Ok(()),
+    }
+}
+
+/// A writer of no documents, over a copy of the schema.
+pub(crate) fn new_writer<'a, Z: Analyzers>(
+    alloc: Global,
+    schema: &Schema,
+    settings: &IndexSettings,
+    analyzers: &'a Z,
+    id: SegmentId,
+) -> TResult<SegmentWriter<'a, Z>>
+    ensures unused { IfOk result (λ w. Writes (Z.tokens_of analyzers.now) [] [] w.1) }
+    ensures of { IfOk result (λ w. (w.0 ≡ analyzers.now) × (w.1.schema ≡ schema.now)) }
+    ensures errors { IfErr result IsStartError }
+    ensures causes { (known : Known) → Tests known (Z.knows analyzers.now)
+        → IfErr result (λ e. (start_refusal known 15000 schema.now settings.now ≡ Some e) ⊎ (e ≡ TantivyError.OutOfMemory)) }
+{
+    let Ok(schema) = schema.copy(alloc) else {
+        return Err(TantivyError::OutOfMemory);
+    };
+    let segment = Segment::new(schema, SegmentMeta::new(id, 0, None));
+    SegmentWriter::for_segment(alloc, BUDGET, segment, settings, analyzers)
+}

@@ -1,0 +1,110 @@
+//! The segment of a batch, and which of its documents later deletes leave.
+ghost use Rattle.std.specs.Prelude.{◌≡◌, ◌≤◌, ◌<◌, ◌+◌, ◌^◌, ◌⊎◌, ◌++◌, true, Some, List, length, map, take, IfOk, IfErr, OnOk};
+ghost use Rattle.std.specs.List.{enumerate_from, list_all};
+ghost use Rattle.std.specs.Option.{option_map};
+ghost use Rattle.seg_model.specs.Built.{is_taken};
+ghost use Rattle.seg_model.specs.Operations.{Operation, additions, alive_after};
+ghost use Rattle.seg_model.specs.Refused.{batch_refusal};
+ghost use Rattle.seg_model.specs.Valid.{Known};
+ghost use Rattle.seg_removal.specs.Stamps.{addition_stamps, stamped_deletes};
+ghost use Rattle.seg_build.specs.Built.{is_built_schema};
+ghost use Rattle.seg_build.specs.View.{operation_of};
+ghost use Rattle.seg_build.specs.WriterStart.{Tests, start_refusal};
+ghost use Rattle.seg_alive.specs.Applying.{IsTold};
+ghost use Rattle.seg_alive.specs.Laws.{as_operations};
+ghost use Rattle.seg_batches.specs.Making.{IsMadeOf, passed_below};
+ghost use Rattle.seg_refusals.specs.Refusals.{IsRefusal, build_error};
+
+use crate::batch_alive::alive_documents;
+use crate::batch_indexing::{index_batch, new_writer};
+use seg_build::{MemorySegment, UserOperation};
+use seg_common::SegmentId;
+use seg_deletes::{DeleteCursor, DeleteQueue, Opstamp};
+use seg_fastfield::BitSet;
+use seg_meta::IndexSettings;
+use seg_open::{SegmentFiles, made_files_spell};
+use seg_values::{Analyzers, Schema, TResult, TantivyDocument, TantivyError, Term};
+use std::alloc::Global;
+
+/// The segment of a batch, whose files aren't made yet, and which of its documents later deletes leave; `None` where they
+/// leave all.
+#[derive(Drop)]
+pub(crate) struct MadeBatch {
+    pub(crate) files: SegmentFiles,
+    pub(crate) max_doc: u32,
+    pub(crate) alive: Option<BitSet>,
+}
+
+/// Makes the segment of a batch, whose first operation has the place `first`. The queue is of the deletes of all
+/// operations, in the batch and after it too, and the cursor may be handed on from batch to batch.
+///
+/// Refusals come in the order of a writer that is started, the number of documents, and the first document that does not
+/// pass its check.
+pub(crate) fn make_batch<Z: Analyzers>(
+    alloc: Global,
+    schema: &Schema,
+    settings: &IndexSettings,
+    analyzers: &Z,
+    id: SegmentId,
+    first: Opstamp,
+    operations: &[UserOperation<TantivyDocument>],
+    queue: &mut DeleteQueue<Term>,
+    cursor: &mut DeleteCursor,
+) -> TResult<MadeBatch>
+    requires built { is_built_schema schema.now ≡ true }
+    requires places { first + length operations.now < 2 ^ 64 }
+    requires cursor { cursor.old ≤ queue.old.flushed }
+    requires passed { passed_below first (take cursor.old queue.old.operations) }
+    ensures made { IfOk result (λ b. IsMadeOf schema.now (Z.tokens_of analyzers.now) (additions (map operation_of operations.now)) b.files) }
+    ensures number { IfOk result (λ b. (b.max_doc ≡ length (additions (map operation_of operations.now))) × (b.max_doc < 2 ^ 31)) }
+    ensures taken { OnOk result (list_all (is_taken schema.now (Z.tokens_of analyzers.now)) (additions (map operation_of operations.now)) ≡ true) }
+    ensures alive { IfOk result (λ b. (before after : List Operation) → length before ≡ first
+        → as_operations queue.old.operations ≡ stamped_deletes 0 (before ++ (map operation_of operations.now ++ after))
+        → IsTold b.max_doc (alive_after schema.now (Z.tokens_of analyzers.now) (map operation_of operations.now) after) b.alive) }
+    ensures queue { queue.new.operations ≡ queue.old.operations }
+    ensures within { cursor.new ≤ queue.new.flushed }
+    ensures passed { passed_below first (take cursor.new queue.new.operations) }
+    ensures errors { IfErr result (λ e. IsRefusal e ⊎ (e ≡ TantivyError.OutOfMemory)) }
+    ensures refused { (known : Known) → Tests known (Z.knows analyzers.now) → IfErr result (λ e. (e ≡ TantivyError.OutOfMemory)
+        ⊎ (start_refusal known 15000 schema.now settings.now ≡ Some e)
+        ⊎ (option_map build_error (batch_refusal schema.now (Z.tokens_of analyzers.now) (enumerate_from first (map operation_of operations.now))) ≡ Some e)) }
+{
+    let (files, stamps) = batch_files(alloc, schema, settings, analyzers, id, first, operations)?;
+    let alive = alive_documents(alloc, schema, &files, first, &stamps, queue, cursor)?;
+    Ok(MadeBatch {
+        files,
+        max_doc: stamps.len() as u32,
+        alive,
+    })
+}
+
+/// The files of a batch, and the stamps of its documents.
+fn batch_files<Z: Analyzers>(
+    alloc: Global,
+    schema: &Schema,
+    settings: &IndexSettings,
+    analyzers: &Z,
+    id: SegmentId,
+    first: Opstamp,
+    operations: &[UserOperation<TantivyDocument>],
+) -> TResult<(SegmentFiles, Vec<Opstamp>)>
+    requires places { first + length operations.now < 2 ^ 64 }
+    ensures made { IfOk result (λ m. IsMadeOf schema.now (Z.tokens_of analyzers.now) (additions (map operation_of operations.now)) m.0) }
+    ensures stamps { IfOk result (λ m. m.1.items ≡ addition_stamps first (map operation_of operations.now)) }
+    ensures few { OnOk result (length (additions (map operation_of operations.now)) < 2 ^ 31) }
+    ensures taken { OnOk result (list_all (is_taken schema.now (Z.tokens_of analyzers.now)) (additions (map operation_of operations.now)) ≡ true) }
+    ensures errors { IfErr result (λ e. IsRefusal e ⊎ (e ≡ TantivyError.OutOfMemory)) }
+    ensures refused { (known : Known) → Tests known (Z.knows analyzers.now) → IfErr result (λ e. (e ≡ TantivyError.OutOfMemory)
+        ⊎ (start_refusal known 15000 schema.now settings.now ≡ Some e)
+        ⊎ (option_map build_error (batch_refusal schema.now (Z.tokens_of analyzers.now) (enumerate_from first (map operation_of operations.now))) ≡ Some e)) }
+{
+    made_files_spell();
+    let writer = new_writer(alloc, schema, settings, analyzers, id)?;
+    let MemorySegment {
+        bytes,
+        fields: _,
+        stamps,
+    } = index_batch(first, operations, writer)?;
+    let files = SegmentFiles::from_bytes(alloc, bytes)?;
+    Ok((files, stamps))
+}

@@ -1,0 +1,198 @@
+//! The segments of all batches, in a directory.
+ghost use Rattle.std.specs.Prelude.{◌≡◌, ◌≢◌, ◌+◌, ◌^◌, ◌<◌, ◌≤◌, ◌⊎◌, ◌∷◌, ◌++◌, [], true, Some, None, Err, length, map, take, slice_range, slice_get, unwrap_or, option_map, IfOk, IfErr, IsTrue, OnOk};
+ghost use Rattle.std.specs.List.{AllByRecursion, enumerate_from, list_all};
+ghost use Rattle.seg_alive.specs.Laws.{as_operations};
+ghost use Rattle.seg_build.specs.Built.{is_built_schema};
+ghost use Rattle.seg_build.specs.Forms.{segment_forms};
+ghost use Rattle.seg_build.specs.SegmentFiles.{AreAbsent, segment_names, wrote};
+ghost use Rattle.seg_build.specs.View.{operation_of};
+ghost use Rattle.seg_build.specs.WriterStart.{Tests, start_refusal};
+ghost use Rattle.seg_model.specs.Built.{is_taken};
+ghost use Rattle.seg_model.specs.IndexOfFiles as index;
+ghost use Rattle.seg_model.specs.Operations.{Batch, additions, batches};
+ghost use Rattle.seg_model.specs.Refused.{batch_refusal, cut_from, first_of};
+ghost use Rattle.seg_model.specs.Valid.{Known, are_distinct, cuts_fit};
+ghost use Rattle.seg_open.specs.SegmentRead.{HasFiles};
+ghost use Rattle.seg_removal.specs.Stamps.{stamped_deletes};
+ghost use Rattle.seg_batches.specs.Calls.{Does, state_of};
+ghost use Rattle.seg_batches.specs.Making.{passed_below};
+ghost use Rattle.seg_refusals.specs.Refusals.{IfRefusal, build_error};
+ghost use Rattle.seg_batches.specs.Segments.{AllStand, LacksSome, alive_of, segment_of, segments_of, six_files};
+ghost use Rattle.seg_batches.specs.Writing.{WritesBatches, batch_between};
+
+use crate::batch_making::{MadeBatch, make_batch};
+use crate::delete_queue::delete_queue;
+use crate::written_segment::WrittenSegment;
+use seg_build::UserOperation;
+use seg_common::SegmentId;
+use seg_deletes::{DeleteCursor, DeleteQueue, Opstamp};
+use seg_directory::Directory;
+use seg_meta::IndexSettings;
+use seg_values::{Analyzers, Schema, TResult, TantivyDocument, TantivyError, Term};
+use std::alloc::{AllocError, Global};
+
+/// Writes the segment of each batch, one after another: the operations up to each cut, and those behind the last. Each has
+/// all documents that its batch adds; which of them the deletes of all operations leave is told beside its files.
+///
+/// An error ends it, with the segments of the batches before written. `SchemaError` and `InvalidArgument` tell a refusal;
+/// `IndexAlreadyExists`: a file of that name is there.
+pub fn write_batches<Z: Analyzers, W: Directory>(
+    alloc: Global,
+    schema: &Schema,
+    settings: &IndexSettings,
+    analyzers: &Z,
+    operations: &[UserOperation<TantivyDocument>],
+    cuts: &[usize],
+    ids: &[SegmentId],
+    directory: &mut W,
+) -> TResult<Vec<WrittenSegment>>
+    requires built { is_built_schema schema.now ≡ true }
+    requires cuts { cuts_fit (map operation_of operations.now) cuts.now ≡ true }
+    requires ids { length ids.now ≡ length cuts.now + 1 }
+    requires distinct { are_distinct ids.now ≡ true }
+    ensures segments { IfOk result (λ ws. ws.items ≡ segments_of ids.now (batches schema.now (Z.tokens_of analyzers.now) cuts.now (map operation_of operations.now))) }
+    ensures few { OnOk result (AllByRecursion (λ (b : Batch). length b.documents < 2 ^ 31) (batches schema.now (Z.tokens_of analyzers.now) cuts.now (map operation_of operations.now))) }
+    ensures taken { OnOk result (list_all (is_taken schema.now (Z.tokens_of analyzers.now)) (additions (map operation_of operations.now)) ≡ true) }
+    ensures stand { IsTrue (W.tells directory.old) → OnOk result
+        (AllStand schema.now (Z.tokens_of analyzers.now) (W.files directory.new) ids.now (batches schema.now (Z.tokens_of analyzers.now) cuts.now (map operation_of operations.now))) }
+    ensures fresh { IsTrue (W.tells directory.old) → AreAbsent (six_files ids.now) (W.files directory.old)
+        → result ≢ Err TantivyError.IndexAlreadyExists }
+    ensures calls { WritesBatches ids.now result
+        (state_of (W.tells directory.old) (W.files directory.old) (W.seen directory.old) (W.faults directory.old))
+        (state_of (W.tells directory.new) (W.files directory.new) (W.seen directory.new) (W.faults directory.new)) }
+    ensures refused { (known : Known) → Tests known (Z.knows analyzers.now) → IfErr result (IfRefusal (λ e.
+        (start_refusal known 15000 schema.now settings.now ≡ Some e)
+        ⊎ (option_map build_error (first_of (batch_refusal schema.now (Z.tokens_of analyzers.now)) (cut_from 0 cuts.now (enumerate_from 0 (map operation_of operations.now)))) ≡ Some e))) }
+{
+    let mut queue = match delete_queue(alloc, operations) {
+        Ok(queue) => queue,
+        Err(e) => return Err(e),
+    };
+    let mut cursor = queue.cursor();
+    let mut written = Vec::new(alloc);
+    let mut first = 0;
+    for (at, id) in ids.iter().enumerate() {
+        let end = batch_end(cuts, at, operations);
+        let segment = match write_batch(
+            alloc,
+            schema,
+            settings,
+            analyzers,
+            *id,
+            operations,
+            first,
+            end,
+            &mut queue,
+            &mut cursor,
+            directory,
+        ) {
+            Ok(segment) => segment,
+            Err(e) => return Err(e),
+        };
+        let Ok(()) = keep(segment, &mut written) else {
+            return Err(TantivyError::OutOfMemory);
+        };
+        first = end;
+    }
+    Ok(written)
+}
+
+/// Where the batch behind so many cuts ends.
+fn batch_end(cuts: &[usize], at: usize, operations: &[UserOperation<TantivyDocument>]) -> usize
+    ensures { result ≡ unwrap_or (slice_get cuts.now at) (length operations.now) }
+{
+    cuts.get(at).copied().unwrap_or(operations.len())
+}
+
+/// Puts a segment at the end.
+fn keep(segment: WrittenSegment, written: &mut Vec<WrittenSegment>) -> Result<(), AllocError>
+    ensures { OnOk result (written.new.items ≡ written.old.items ++ segment ∷ []) }
+{
+    written.push(segment)?;
+    Ok(())
+}
+
+/// Writes the segment of the batch of the operations from `first` up to `end`. The cursor stands behind the deletes of
+/// batches before it.
+fn write_batch<Z: Analyzers, W: Directory>(
+    alloc: Global,
+    schema: &Schema,
+    settings: &IndexSettings,
+    analyzers: &Z,
+    id: SegmentId,
+    operations: &[UserOperation<TantivyDocument>],
+    first: usize,
+    end: usize,
+    queue: &mut DeleteQueue<Term>,
+    cursor: &mut DeleteCursor,
+    directory: &mut W,
+) -> TResult<WrittenSegment>
+    requires built { is_built_schema schema.now ≡ true }
+    requires rises { first ≤ end }
+    requires within { end ≤ length operations.now }
+    requires waits { as_operations queue.old.operations ≡ stamped_deletes 0 (map operation_of operations.now) }
+    requires cursor { cursor.old ≤ queue.old.flushed }
+    requires passed { passed_below first (take cursor.old queue.old.operations) }
+    ensures segment { IfOk result (λ s. s ≡ segment_of id (batch_between schema.now (Z.tokens_of analyzers.now) first end (map operation_of operations.now))) }
+    ensures few { OnOk result (length (additions (slice_range (map operation_of operations.now) first end)) < 2 ^ 31) }
+    ensures taken { OnOk result (list_all (is_taken schema.now (Z.tokens_of analyzers.now)) (additions (slice_range (map operation_of operations.now) first end)) ≡ true) }
+    ensures accepted { OnOk result (batch_refusal schema.now (Z.tokens_of analyzers.now) (enumerate_from first (slice_range (map operation_of operations.now) first end)) ≡ None) }
+    ensures stands { IsTrue (W.tells directory.old) → OnOk result
+        (index.StandsFor segment_forms (W.files directory.new) schema.now (Z.tokens_of analyzers.now) id (additions (slice_range (map operation_of operations.now) first end))) }
+    ensures fresh { IsTrue (W.tells directory.old) → AreAbsent (segment_names id) (W.files directory.old)
+        → result ≢ Err TantivyError.IndexAlreadyExists }
+    ensures calls { WritesBatches (id ∷ []) result
+        (state_of (W.tells directory.old) (W.files directory.old) (W.seen directory.old) (W.faults directory.old))
+        (state_of (W.tells directory.new) (W.files directory.new) (W.seen directory.new) (W.faults directory.new)) }
+    ensures refused { (known : Known) → Tests known (Z.knows analyzers.now) → IfErr result (IfRefusal (λ e.
+        (start_refusal known 15000 schema.now settings.now ≡ Some e)
+        ⊎ (option_map build_error (batch_refusal schema.now (Z.tokens_of analyzers.now) (enumerate_from first (slice_range (map operation_of operations.now) first end))) ≡ Some e))) }
+    ensures queue { queue.new.operations ≡ queue.old.operations }
+    ensures within { cursor.new ≤ queue.new.flushed }
+    ensures passed { passed_below first (take cursor.new queue.new.operations) }
+{
+    let batch = &operations[first..end];
+    let made = match make_batch(
+        alloc,
+        schema,
+        settings,
+        analyzers,
+        id,
+        first as Opstamp,
+        batch,
+        queue,
+        cursor,
+    ) {
+        Ok(made) => made,
+        Err(e) => return Err(e),
+    };
+    write_made(alloc, id, made, directory)
+}
+
+/// Writes the files of a segment that was made; their bytes are let go.
+fn write_made<W: Directory>(
+    alloc: Global,
+    id: SegmentId,
+    made: MadeBatch,
+    directory: &mut W,
+) -> TResult<WrittenSegment>
+    requires few { made.max_doc < 2 ^ 31 }
+    requires set { LacksSome made.max_doc made.alive }
+    ensures segment { IfOk result (λ s. s ≡ record { id = id; documents = made.max_doc; alive = alive_of made.max_doc made.alive }) }
+    ensures files { IsTrue (W.tells directory.old) → OnOk result (HasFiles (W.files directory.new) id made.files) }
+    ensures fresh { IsTrue (W.tells directory.old) → AreAbsent (segment_names id) (W.files directory.old)
+        → result ≢ Err TantivyError.IndexAlreadyExists }
+    ensures calls { Does (wrote (segment_names id)) (segment_names id) result
+        (state_of (W.tells directory.old) (W.files directory.old) (W.seen directory.old) (W.faults directory.old))
+        (state_of (W.tells directory.new) (W.files directory.new) (W.seen directory.new) (W.faults directory.new)) }
+{
+    let MadeBatch {
+        files,
+        max_doc,
+        alive,
+    } = made;
+    match files.write(alloc, id, directory) {
+        Ok(()) => Ok(WrittenSegment::new(id, max_doc, alive)),
+        Err(e) => Err(e),
+    }
+}

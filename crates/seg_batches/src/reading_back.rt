@@ -1,0 +1,37 @@
+//! The six files of a segment, read back.
+ghost use Rattle.std.specs.Prelude.{◌≡◌, true};
+ghost use Rattle.seg_build.specs.Built.{is_built_schema};
+ghost use Rattle.seg_batches.specs.Calls.{state_of};
+ghost use Rattle.seg_batches.specs.Reading.{ReadsBack};
+
+use seg_common::SegmentId;
+use seg_directory::Directory;
+use seg_open::{SegmentFiles, SegmentReader};
+use seg_values::{Schema, TResult, TantivyError};
+use std::alloc::Global;
+
+/// Reads the six files of a segment of so many documents, each once, and opens them.
+pub(crate) fn read_back<W: Directory>(
+    alloc: Global,
+    schema: &Schema,
+    id: SegmentId,
+    max_doc: u32,
+    directory: &mut W,
+) -> TResult<SegmentReader>
+    requires built { is_built_schema schema.now ≡ true }
+    ensures { ReadsBack id schema.now max_doc result
+        (state_of (W.tells directory.old) (W.files directory.old) (W.seen directory.old) (W.faults directory.old))
+        (state_of (W.tells directory.new) (W.files directory.new) (W.seen directory.new) (W.faults directory.new)) }
+{
+    let Ok(copy) = schema.copy(alloc) else {
+        return Err(TantivyError::OutOfMemory);
+    };
+    let files = match SegmentFiles::read(alloc, id, directory) {
+        Ok(files) => files,
+        Err(e) => return Err(e),
+    };
+    match SegmentReader::open_files(alloc, copy, max_doc, files) {
+        Ok(reader) => Ok(reader),
+        Err(e) => Err(e.of_segment(id)),
+    }
+}

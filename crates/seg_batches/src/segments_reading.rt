@@ -1,0 +1,108 @@
+//! Segments, read back.
+ghost use Rattle.std.specs.Prelude.{◌≡◌, ◌<◌, ◌∷◌, ◌++◌, [], true, vec_len, vec_capacity, Ok, Err, IfOk, IfErr, OnOk};
+ghost use Rattle.seg_build.specs.Built.{is_built_schema};
+ghost use Rattle.seg_join.specs.KeptSegment.{KeptSegment};
+ghost use Rattle.seg_batches.specs.Calls.{state_of};
+ghost use Rattle.seg_batches.specs.Reading.{ReadsSegment, ReadsUpTo, StopsInSegment};
+
+use crate::alive_reading::read_deletes;
+use crate::read_segment::ReadSegment;
+use crate::reading_back::read_back;
+use seg_directory::Directory;
+use seg_meta::SegmentMeta;
+use seg_values::{Schema, TResult, TantivyError};
+use std::alloc::Global;
+
+/// Reads segments as a meta lists them, one after another: the six files of each, and behind them its alive file where it
+/// has deletes; each file once. The first that is not read ends it.
+///
+/// `DataCorruption` tells a file that is missing, or that doesn't agree with the meta and the files of its segment that were
+/// read before it.
+pub fn read_segments<W: Directory>(
+    alloc: Global,
+    schema: &Schema,
+    segments: &[SegmentMeta],
+    directory: &mut W,
+) -> TResult<Vec<ReadSegment>>
+    requires built { is_built_schema schema.now ≡ true }
+    ensures read { IfOk result (λ read. ReadsUpTo schema.now segments.now (Ok read.items)
+        (state_of (W.tells directory.old) (W.files directory.old) (W.seen directory.old) (W.faults directory.old))
+        (state_of (W.tells directory.new) (W.files directory.new) (W.seen directory.new) (W.faults directory.new))) }
+    ensures stops { IfErr result (λ e. ReadsUpTo schema.now segments.now (Err e)
+        (state_of (W.tells directory.old) (W.files directory.old) (W.seen directory.old) (W.faults directory.old))
+        (state_of (W.tells directory.new) (W.files directory.new) (W.seen directory.new) (W.faults directory.new))) }
+{
+    let mut read = Vec::new(alloc);
+    for segment in segments {
+        match read_next(alloc, schema, segment, directory, &mut read) {
+            Ok(()) => {}
+            Err(e) => return Err(e),
+        }
+    }
+    Ok(read)
+}
+
+/// Reads one more segment. Room for it is taken first, so that nothing is read for want of memory behind it.
+fn read_next<W: Directory>(
+    alloc: Global,
+    schema: &Schema,
+    segment: &SegmentMeta,
+    directory: &mut W,
+    read: &mut Vec<ReadSegment>,
+) -> TResult<()>
+    requires built { is_built_schema schema.now ≡ true }
+    ensures read { OnOk result ((next : KeptSegment) × (read.new.items ≡ read.old.items ++ next ∷ []) × ReadsSegment schema.now segment.now next
+        (state_of (W.tells directory.old) (W.files directory.old) (W.seen directory.old) (W.faults directory.old))
+        (state_of (W.tells directory.new) (W.files directory.new) (W.seen directory.new) (W.faults directory.new))) }
+    ensures stops { IfErr result (λ e. StopsInSegment schema.now segment.now e
+        (state_of (W.tells directory.old) (W.files directory.old) (W.seen directory.old) (W.faults directory.old))
+        (state_of (W.tells directory.new) (W.files directory.new) (W.seen directory.new) (W.faults directory.new))) }
+{
+    if read.reserve(1).is_err() {
+        return Err(TantivyError::OutOfMemory);
+    }
+    match read_segment(alloc, schema, segment, directory) {
+        Ok(next) => {
+            keep(next, read);
+            Ok(())
+        }
+        Err(e) => Err(e),
+    }
+}
+
+/// Puts a segment at the end, where there is room.
+fn keep(segment: ReadSegment, read: &mut Vec<ReadSegment>)
+    requires { vec_len read.old < vec_capacity read.old }
+    ensures { read.new.items ≡ read.old.items ++ segment ∷ [] }
+{
+    if read.push(segment).is_err() {
+        unreachable!()
+    }
+}
+
+/// Reads a segment.
+fn read_segment<W: Directory>(
+    alloc: Global,
+    schema: &Schema,
+    segment: &SegmentMeta,
+    directory: &mut W,
+) -> TResult<ReadSegment>
+    requires built { is_built_schema schema.now ≡ true }
+    ensures read { IfOk result (λ read. ReadsSegment schema.now segment.now read
+        (state_of (W.tells directory.old) (W.files directory.old) (W.seen directory.old) (W.faults directory.old))
+        (state_of (W.tells directory.new) (W.files directory.new) (W.seen directory.new) (W.faults directory.new))) }
+    ensures stops { IfErr result (λ e. StopsInSegment schema.now segment.now e
+        (state_of (W.tells directory.old) (W.files directory.old) (W.seen directory.old) (W.faults directory.old))
+        (state_of (W.tells directory.new) (W.files directory.new) (W.seen directory.new) (W.faults directory.new))) }
+{
+    let id = segment.id();
+    let max_doc = segment.max_doc();
+    let reader = match read_back(alloc, schema, id, max_doc, directory) {
+        Ok(reader) => reader,
+        Err(e) => return Err(e),
+    };
+    match read_deletes(alloc, id, max_doc, segment.deletes(), directory) {
+        Ok(alive) => Ok(ReadSegment::new(reader, alive)),
+        Err(e) => Err(e),
+    }
+}
