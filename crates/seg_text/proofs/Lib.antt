@@ -1,4 +1,5 @@
 pub mod AllAlive
+pub mod DeadIds
 mod KnownTexts
 pub mod PlainDates
 mod PlainTerms

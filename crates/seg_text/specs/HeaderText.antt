@@ -14,10 +14,14 @@ dead_from first [] = []
 dead_from first (true ∷ alive) = dead_from (first + 1) alive
 dead_from first (false ∷ alive) = first ∷ dead_from (first + 1) alive
 
+-- an id after a space
+abbrev pub id_word : ℕ → List ℕ
+id_word id = 32 ∷ decimal id
+
 -- `dead` and each id, where there are any
 abbrev pub dead_line : List ℕ → List ℕ
 dead_line [] = []
-dead_line (id ∷ ids) = codes "dead" ++ (flat_map (λ i. 32 ∷ decimal i) (id ∷ ids) ++ 10 ∷ [])
+dead_line (id ∷ ids) = codes "dead" ++ (flat_map id_word (id ∷ ids) ++ 10 ∷ [])
 
 -- the line of the deleted documents: none where all are alive
 abbrev pub dead_text : List Bool → List ℕ

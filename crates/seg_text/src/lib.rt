@@ -2,7 +2,7 @@
 //!
 //! Its model: `segment_text` gives the bytes that stand for what a segment holds under a schema.
 //!
-//! In reading order: `decimal`, `hexadecimal`, `quoted` and `comma` are what lines are made of, `header` is the first line, `term`, `posting` and `field` are the index. `date`, `leaf`, `pre_tokenized` and `value` are values as JSON, `pair` is a field with one, and `document` the line of a document of any values.
+//! In reading order: `decimal`, `hexadecimal`, `quoted` and `comma` are what lines are made of, `header` are the first lines, `term`, `posting` and `field` are the index. `date`, `leaf`, `pre_tokenized` and `value` are values as JSON, `pair` is a field with one, and `document` the line of a document of any values.
 #![tactic(auto)]
 
 mod comma;
@@ -24,6 +24,6 @@ mod value;
 
 pub use document::push_document;
 pub use field::push_field;
-pub use header::push_header;
+pub use header::{push_dead, push_header};
 pub use posting::{RecordedRef, push_posting};
 pub use term::push_term;

@@ -1,16 +1,29 @@
 //! Each call once, against texts written by hand.
 
-use crate::{RecordedRef, push_field, push_header, push_posting, push_term};
-use seg_common::SegmentId;
+use crate::{RecordedRef, push_dead, push_field, push_header, push_posting, push_term};
+use seg_common::{OwnedBytes, SegmentId};
+use seg_fastfield::AliveBitSet;
 use std::test::Fail;
 
 #[test]
 fn headers(rt: HostRuntime) -> Result<(), Fail> {
     let mut out = Vec::new(rt.alloc());
-    push_header(&mut out, "work", SegmentId::from_u128(1), 3)?;
-    push_header(&mut out, "output", SegmentId::from_u128(u128::MAX), 0)?;
-    let text = "work 00000000000000000000000000000001 docs 3 alive 3\n\
+    push_header(&mut out, "work", SegmentId::from_u128(1), 7, 3)?;
+    push_header(&mut out, "output", SegmentId::from_u128(u128::MAX), 0, 0)?;
+    let text = "work 00000000000000000000000000000001 docs 7 alive 3\n\
                 output ffffffffffffffffffffffffffffffff docs 0 alive 0\n";
+    assert_eq!(rt; out.as_slice(), text.as_bytes());
+    Ok(())
+}
+
+#[test]
+fn deleted_documents(rt: HostRuntime) -> Result<(), Fail> {
+    let mut out = Vec::new(rt.alloc());
+    for alive in [0b111_1111, 0b111_0010, 0] {
+        let bytes = OwnedBytes::new(rt.alloc(), &[7, 0, 0, 0, alive, 0, 0, 0, 0, 0, 0, 0])?;
+        push_dead(&mut out, &AliveBitSet::open(bytes)?)?;
+    }
+    let text = "dead 0 2 3\ndead 0 1 2 3 4 5 6\n";
     assert_eq!(rt; out.as_slice(), text.as_bytes());
     Ok(())
 }

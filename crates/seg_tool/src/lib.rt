@@ -16,8 +16,7 @@ mod input;
 mod printing;
 mod reporting;
 mod status;
-#[cfg(test)]
-mod tests;
 
 pub use command::run;
+pub use reporting::report;
 pub use status::Status;

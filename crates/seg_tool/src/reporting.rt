@@ -10,8 +10,9 @@ use crate::status::Status;
 use seg_common::{Sink, SinkFailed, write_whole};
 use seg_values::{ArgumentCause, SchemaCause, TantivyError};
 
-/// Says what came of a run in one line. It takes no memory.
-pub(crate) fn report<F: Sink>(faults: &mut F, status: &Status) -> Result<(), SinkFailed>
+/// Says what came of a run in one line, and of `Done` nothing. It takes no memory. After an error some first bytes of the line
+/// were written.
+pub fn report<F: Sink>(faults: &mut F, status: &Status) -> Result<(), SinkFailed>
     ensures ok { OnOk result (Appends (F.written faults.old) (F.written faults.new)
         (status_line status.now)) }
     ensures err { OnErr result (AppendsPart (F.written faults.old) (F.written faults.new)

@@ -6,6 +6,8 @@ mod damage;
 #[cfg(test)]
 mod failures;
 #[cfg(test)]
+mod reporting;
+#[cfg(test)]
 mod streams;
 #[cfg(test)]
 mod texts;
