@@ -1,5 +1,6 @@
 //! The errors of an index, call by call.
 
+use crate::tests::KINDS;
 use seg_common::{FileName, SegmentComponent, SegmentId};
 use seg_directory::{
     CallKind, FailingCall, MemoryDirectory, list_files, read_file, rewrite_file, sync_files,
@@ -14,35 +15,44 @@ const NAME: FileName = FileName::Meta;
 /// A directory whose first call of each kind fails.
 fn failing(alloc: Global) -> Result<MemoryDirectory, Fail> {
     let mut fails = Vec::new(alloc);
-    for kind in [
-        CallKind::List,
-        CallKind::OpenRead,
-        CallKind::WriteNew,
-        CallKind::AtomicWrite,
-        CallKind::SyncDirectory,
-    ] {
+    for kind in KINDS {
         fails.push(FailingCall { kind, number: 0 })?;
     }
     Ok(MemoryDirectory::new(alloc, fails)?)
+}
+
+/// Calls the directory once, and tells why it failed.
+fn error_of(
+    alloc: Global,
+    directory: &mut MemoryDirectory,
+    kind: CallKind,
+) -> Option<TantivyError> {
+    match kind {
+        CallKind::List => list_files(alloc, directory).err(),
+        CallKind::OpenRead => read_file(alloc, directory, NAME).err(),
+        CallKind::WriteNew => write_file(alloc, directory, NAME, b"new").err(),
+        CallKind::AtomicWrite => rewrite_file(alloc, directory, NAME, b"new").err(),
+        CallKind::SyncDirectory => sync_files(alloc, directory).err(),
+    }
+}
+
+/// What is told of a fault at a call.
+fn fault_at(kind: CallKind) -> TantivyError {
+    match kind {
+        CallKind::List | CallKind::OpenRead => TantivyError::OpenReadError,
+        CallKind::WriteNew => TantivyError::OpenWriteError,
+        CallKind::AtomicWrite | CallKind::SyncDirectory => TantivyError::IoError,
+    }
 }
 
 #[test]
 fn faults_are_told_by_the_call(rt: HostRuntime) -> Result<(), Fail> {
     let alloc = rt.alloc();
     let mut directory = failing(alloc)?;
-    let listed = list_files(alloc, &mut directory);
-    assert_eq!(rt; listed, Err(TantivyError::OpenReadError));
-    let read = read_file(alloc, &mut directory, NAME);
-    assert!(rt; matches!(read, Err(TantivyError::OpenReadError)));
-    let written = write_file(alloc, &mut directory, NAME, b"new");
-    assert_eq!(rt; written, Err(TantivyError::OpenWriteError));
-    let rewritten = rewrite_file(alloc, &mut directory, NAME, b"new");
-    assert_eq!(rt; rewritten, Err(TantivyError::IoError));
-    assert_eq!(rt;
-        sync_files(alloc, &mut directory),
-        Err(TantivyError::IoError)
-    );
-    assert_eq!(rt; list_files(alloc, &mut directory), Ok(0));
+    for kind in KINDS {
+        assert!(rt; error_of(alloc, &mut directory, kind) == Some(fault_at(kind)));
+    }
+    assert!(rt; list_files(alloc, &mut directory) == Ok(0));
     Ok(())
 }
 
@@ -55,24 +65,40 @@ fn damage_of(name: FileName) -> Option<TantivyError> {
     Some(TantivyError::DataCorruption { name })
 }
 
+/// Whether the file of terms is missing, which is damage of an index.
+fn lacks_terms(alloc: Global, directory: &mut MemoryDirectory) -> bool {
+    read_file(alloc, directory, terms()).err() == damage_of(terms())
+}
+
+/// Whether the file has these bytes.
+fn has(alloc: Global, directory: &mut MemoryDirectory, name: FileName, bytes: &[u8]) -> bool {
+    match read_file(alloc, directory, name) {
+        Ok(kept) => kept.as_slice() == bytes,
+        Err(_) => false,
+    }
+}
+
 #[test]
-fn files_are_made_read_and_replaced(rt: HostRuntime) -> Result<(), Fail> {
+fn files_are_made_once_and_read(rt: HostRuntime) -> Result<(), Fail> {
     let alloc = rt.alloc();
     let mut directory = MemoryDirectory::new(alloc, Vec::new(alloc))?;
-    let missing = read_file(alloc, &mut directory, terms());
-    assert_eq!(rt; missing.err(), damage_of(terms()));
-    assert_eq!(rt;
-        write_file(alloc, &mut directory, terms(), b"terms"),
-        Ok(())
-    );
+    assert!(rt; lacks_terms(alloc, &mut directory));
+    assert!(rt; write_file(alloc, &mut directory, terms(), b"terms").is_ok());
     let again = write_file(alloc, &mut directory, terms(), b"others");
-    assert_eq!(rt; again, Err(TantivyError::IndexAlreadyExists));
-    let Ok(kept) = read_file(alloc, &mut directory, terms()) else {
-        return Err(Fail::from("not read"));
-    };
-    assert_eq!(rt; kept.as_slice(), b"terms".as_slice());
-    assert_eq!(rt; rewrite_file(alloc, &mut directory, NAME, b"meta"), Ok(()));
-    assert_eq!(rt; sync_files(alloc, &mut directory), Ok(()));
-    assert_eq!(rt; list_files(alloc, &mut directory), Ok(2));
+    assert!(rt; again == Err(TantivyError::IndexAlreadyExists));
+    assert!(rt; has(alloc, &mut directory, terms(), b"terms"));
+    Ok(())
+}
+
+#[test]
+fn files_are_replaced_and_synced(rt: HostRuntime) -> Result<(), Fail> {
+    let alloc = rt.alloc();
+    let mut directory = MemoryDirectory::new(alloc, Vec::new(alloc))?;
+    for bytes in [b"old", b"new"] {
+        assert!(rt; rewrite_file(alloc, &mut directory, NAME, bytes).is_ok());
+        assert!(rt; sync_files(alloc, &mut directory).is_ok());
+        assert!(rt; has(alloc, &mut directory, NAME, bytes));
+    }
+    assert!(rt; list_files(alloc, &mut directory) == Ok(1));
     Ok(())
 }

@@ -1,7 +1,7 @@
 //! Composite files, against bytes that were written by hand.
 
 use seg_common::{ByteCount, CommonError, OwnedBytes};
-use seg_directory::{CompositeFile, CompositeWriter};
+use seg_directory::{CompositeFile, CompositeWriter, composite_files_are_spelled};
 use seg_values::Field;
 use std::alloc::Global;
 use std::test::Fail;
@@ -52,42 +52,69 @@ fn has_three_in_order(file: &CompositeFile) -> bool {
     true
 }
 
-#[test]
-fn what_is_written_is_read(rt: HostRuntime) -> Result<(), Fail> {
-    let alloc = rt.alloc();
-    let none = CompositeWriter::new(alloc).close()?;
-    assert_eq!(rt; none.as_slice(), EMPTY);
-    assert_eq!(rt; open(alloc, EMPTY)?.num_fields(), 0);
+/// The file of the three parts.
+fn three(alloc: Global) -> Result<Vec<u8>, CommonError> {
     let mut writer = CompositeWriter::new(alloc);
     writer.write(Field::from_field_id(0), b"abc")?;
     writer.write(Field::from_field_id(2), b"")?;
     writer.write(Field::from_field_id(256), b"d")?;
-    let three = writer.close()?;
-    assert_eq!(rt; three.as_slice(), THREE);
-    let file = open(alloc, THREE)?;
-    assert!(rt; has_three(&file));
-    assert!(rt; has_three_in_order(&file));
-    assert_eq!(rt; file.num_bytes(), ByteCount(44));
+    writer.close()
+}
+
+#[test]
+fn files_are_written_byte_for_byte(rt: HostRuntime) -> Result<(), Fail> {
+    let none = CompositeWriter::new(rt.alloc()).close()?;
+    assert!(rt; none.as_slice() == EMPTY);
+    let three = three(rt.alloc())?;
+    composite_files_are_spelled(&three);
+    assert!(rt; three.as_slice() == THREE);
     Ok(())
 }
 
 #[test]
-fn cut_and_flipped_files_are_seen(rt: HostRuntime) -> Result<(), Fail> {
-    let alloc = rt.alloc();
-    for end in 0..THREE.len() {
-        let answer = open(alloc, &THREE[..end]);
-        assert!(rt; matches!(answer, Err(CommonError::Malformed)), "{end}");
-    }
-    for at in 0..THREE.len() {
-        let mut flipped = Vec::from_slice(alloc, THREE)?;
-        flipped[at] = 255 - flipped[at];
-        match open(alloc, &flipped) {
-            Ok(file) => assert!(rt; !has_three(&file), "{at}"),
-            Err(error) => assert_eq!(rt; error, CommonError::Malformed, "{at}"),
+fn a_file_without_parts(rt: HostRuntime) -> Result<(), Fail> {
+    let file = open(rt.alloc(), EMPTY)?;
+    assert!(rt; file.num_fields() == 0);
+    Ok(())
+}
+
+#[test]
+fn parts_are_read(rt: HostRuntime) -> Result<(), Fail> {
+    let file = open(rt.alloc(), THREE)?;
+    assert!(rt; has_three(&file) && has_three_in_order(&file));
+    assert!(rt; file.num_bytes() == ByteCount(44));
+    Ok(())
+}
+
+fn is_malformed(alloc: Global, bytes: &[u8]) -> bool {
+    open(alloc, bytes).err() == Some(CommonError::Malformed)
+}
+
+#[test]
+fn cut_files_are_malformed(rt: HostRuntime) {
+    for whole in [EMPTY, THREE] {
+        for end in 0..whole.len() {
+            assert!(rt; is_malformed(rt.alloc(), &whole[..end]), "{end}");
         }
     }
-    for end in 0..EMPTY.len() {
-        assert!(rt; open(alloc, &EMPTY[..end]).is_err(), "{end}");
+}
+
+/// Whether a file of three parts with this byte flipped is malformed, or has other parts.
+fn is_flip_seen(alloc: Global, at: usize) -> Result<bool, CommonError> {
+    let mut flipped = Vec::from_slice(alloc, THREE)?;
+    if let Some(byte) = flipped.get_mut(at) {
+        *byte = 255 - *byte;
+    }
+    match open(alloc, &flipped) {
+        Ok(file) => Ok(!has_three(&file)),
+        Err(error) => Ok(error == CommonError::Malformed),
+    }
+}
+
+#[test]
+fn flipped_files_are_seen(rt: HostRuntime) -> Result<(), Fail> {
+    for at in 0..THREE.len() {
+        assert!(rt; is_flip_seen(rt.alloc(), at)?, "{at}");
     }
     Ok(())
 }

@@ -6,4 +6,6 @@ mod calls;
 #[cfg(test)]
 mod composite;
 #[cfg(test)]
+mod folder;
+#[cfg(test)]
 mod tests;

@@ -1,14 +1,11 @@
 //! Runs of each call, with ample memory.
 
 use seg_common::{FileName, SegmentComponent, SegmentId};
-use seg_directory::{
-    CallKind, Directory, DirectoryError, FailingCall, FileDirectory, MemoryDirectory,
-};
+use seg_directory::{CallKind, Directory, DirectoryError, FailingCall, MemoryDirectory};
 use std::alloc::Global;
-use std::fs;
 use std::test::Fail;
 
-const KINDS: [CallKind; 5] = [
+pub(crate) const KINDS: [CallKind; 5] = [
     CallKind::List,
     CallKind::OpenRead,
     CallKind::WriteNew,
@@ -16,14 +13,12 @@ const KINDS: [CallKind; 5] = [
     CallKind::SyncDirectory,
 ];
 
-const FOLDER: &str = "seg_directory_test";
-
-fn part(component: SegmentComponent) -> FileName {
+pub(crate) fn part(component: SegmentComponent) -> FileName {
     FileName::Part(SegmentId::from_u128(7), component)
 }
 
 /// Calls a directory once.
-fn call<D: Directory>(
+pub(crate) fn call<D: Directory>(
     alloc: Global,
     directory: &mut D,
     kind: CallKind,
@@ -43,155 +38,135 @@ fn call<D: Directory>(
     Ok(())
 }
 
-#[test]
-fn fails_at_the_listed_call_alone(rt: HostRuntime) -> Result<(), Fail> {
-    let alloc = rt.alloc();
-    let names = [part(SegmentComponent::Terms), part(SegmentComponent::Store)];
-    for kind in KINDS {
-        for number in 0..2u64 {
-            let fails = vec![in alloc; FailingCall { kind, number }]?;
-            let mut directory = MemoryDirectory::new(alloc, fails)?;
-            directory.put(FileName::Meta, b"old")?;
-            for (at, name) in names.iter().enumerate() {
-                for called in KINDS {
-                    let expected = if called == kind && at as u64 == number {
-                        Err(DirectoryError::Fault)
-                    } else {
-                        Ok(())
-                    };
-                    let answer = call(alloc, &mut directory, called, name);
-                    assert_eq!(rt;
-                        answer,
-                        expected,
-                        "{called:?} {at} where {kind:?} {number} fails"
-                    );
-                }
-            }
+/// A directory in memory with an old meta, whose call of this kind and number fails.
+fn failing(alloc: Global, kind: CallKind, number: u64) -> Result<MemoryDirectory, Fail> {
+    let fails = vec![in alloc; FailingCall { kind, number }]?;
+    let mut directory = MemoryDirectory::new(alloc, fails)?;
+    directory.put(FileName::Meta, b"old")?;
+    Ok(directory)
+}
+
+/// What is answered to a call that may fail.
+fn answer(fails: bool) -> Result<(), DirectoryError> {
+    if fails {
+        return Err(DirectoryError::Fault);
+    }
+    Ok(())
+}
+
+/// Whether of two rounds of calls of each kind just this one fails.
+fn fails_alone(alloc: Global, kind: CallKind, number: u64) -> Result<bool, Fail> {
+    let mut directory = failing(alloc, kind, number)?;
+    let mut told = true;
+    for (round, component) in (0..2u64).zip([SegmentComponent::Terms, SegmentComponent::Store]) {
+        for called in KINDS {
+            let found = call(alloc, &mut directory, called, &part(component));
+            told &= found == answer(called == kind && round == number);
         }
     }
+    Ok(told)
+}
+
+#[test]
+fn fails_at_the_listed_call_alone(rt: HostRuntime) -> Result<(), Fail> {
+    for kind in KINDS {
+        for number in 0..2u64 {
+            assert!(rt; fails_alone(rt.alloc(), kind, number)?, "{kind:?} {number}");
+        }
+    }
+    Ok(())
+}
+
+/// Whether the file has these bytes.
+pub(crate) fn has<D: Directory>(
+    alloc: Global,
+    directory: &mut D,
+    name: &FileName,
+    bytes: &[u8],
+) -> bool {
+    match directory.open_read(alloc, name) {
+        Ok(found) => found.as_slice() == bytes,
+        Err(_) => false,
+    }
+}
+
+/// Whether the file is missing.
+fn lacks<D: Directory>(alloc: Global, directory: &mut D, name: &FileName) -> bool {
+    directory.open_read(alloc, name).err() == Some(DirectoryError::Missing)
+}
+
+/// Whether the file can't be made, since there is one.
+fn refuses<D: Directory>(alloc: Global, directory: &mut D, name: &FileName) -> bool {
+    directory.write_new(alloc, name, b"others") == Err(DirectoryError::Exists)
+}
+
+/// Whether so many files are listed.
+pub(crate) fn lists<D: Directory>(alloc: Global, directory: &mut D, number: u64) -> bool {
+    directory.list(alloc) == Ok(number)
+}
+
+/// Whether the file, which is missing, is made once, with these bytes.
+pub(crate) fn is_made_once<D: Directory>(
+    alloc: Global,
+    directory: &mut D,
+    name: &FileName,
+    bytes: &[u8],
+) -> bool {
+    lacks(alloc, directory, name)
+        && directory.write_new(alloc, name, bytes).is_ok()
+        && refuses(alloc, directory, name)
+        && has(alloc, directory, name, bytes)
+}
+
+/// Whether the meta is replaced by these bytes, and the directory synced.
+pub(crate) fn is_replaced<D: Directory>(alloc: Global, directory: &mut D, bytes: &[u8]) -> bool {
+    directory
+        .atomic_write(alloc, &FileName::Meta, bytes)
+        .is_ok()
+        && directory.sync_directory(alloc).is_ok()
+        && has(alloc, directory, &FileName::Meta, bytes)
+}
+
+#[test]
+fn a_failing_call_makes_no_file(rt: HostRuntime) -> Result<(), Fail> {
+    let alloc = rt.alloc();
+    let terms = part(SegmentComponent::Terms);
+    let mut directory = failing(alloc, CallKind::WriteNew, 0)?;
+    let made = directory.write_new(alloc, &terms, b"new");
+    assert!(rt; made == Err(DirectoryError::Fault));
+    assert!(rt; lacks(alloc, &mut directory, &terms));
     Ok(())
 }
 
 #[test]
 fn a_failing_call_changes_no_file(rt: HostRuntime) -> Result<(), Fail> {
     let alloc = rt.alloc();
-    let terms = part(SegmentComponent::Terms);
-    for (kind, meta, is_made) in [
-        (CallKind::WriteNew, b"newer".as_slice(), false),
-        (CallKind::AtomicWrite, b"old".as_slice(), true),
-    ] {
-        let fails = vec![in alloc; FailingCall { kind, number: 0 }]?;
-        let mut directory = MemoryDirectory::new(alloc, fails)?;
-        directory.put(FileName::Meta, b"old")?;
-        let _made = directory.write_new(alloc, &terms, b"new");
-        let _replaced = directory.atomic_write(alloc, &FileName::Meta, b"newer");
-        let bytes = directory.open_read(alloc, &FileName::Meta)?;
-        assert_eq!(rt; bytes.as_slice(), meta, "{kind:?}");
-        assert_eq!(rt;
-            directory.open_read(alloc, &terms).is_ok(),
-            is_made,
-            "{kind:?}"
-        );
-    }
+    let mut directory = failing(alloc, CallKind::AtomicWrite, 0)?;
+    let replaced = directory.atomic_write(alloc, &FileName::Meta, b"newer");
+    assert!(rt; replaced == Err(DirectoryError::Fault));
+    assert!(rt; has(alloc, &mut directory, &FileName::Meta, b"old"));
     Ok(())
 }
 
 #[test]
-fn keeps_files_in_memory(rt: HostRuntime) -> Result<(), Fail> {
+fn files_in_memory_are_made_once_and_replaced(rt: HostRuntime) -> Result<(), Fail> {
     let alloc = rt.alloc();
-    let store = part(SegmentComponent::Store);
     let mut directory = MemoryDirectory::new(alloc, Vec::new(alloc))?;
-    assert_eq!(rt;
-        directory.open_read(alloc, &store).err(),
-        Some(DirectoryError::Missing)
-    );
-    directory.put(store, b"put")?;
-    directory.put(store, b"put again")?;
-    assert_eq!(rt;
-        directory.write_new(alloc, &store, b"new"),
-        Err(DirectoryError::Exists)
-    );
-    assert_eq!(rt;
-        directory.open_read(alloc, &store)?.as_slice(),
-        b"put again".as_slice()
-    );
-    directory.write_new(alloc, &FileName::Meta, b"")?;
-    assert_eq!(rt;
-        directory.open_read(alloc, &FileName::Meta)?.as_slice(),
-        b"".as_slice()
-    );
-    assert_eq!(rt; directory.list(alloc)?, 2);
-    Ok(())
-}
-
-#[test]
-fn keeps_files_in_a_folder(rt: HostRuntime) -> Result<(), Fail> {
-    let alloc = rt.alloc();
-    let terms = part(SegmentComponent::Terms);
-    let _left_over = fs::remove_dir_all(&rt, FOLDER);
-    fs::create_dir(&rt, FOLDER)?;
-    let mut directory = FileDirectory::new(rt.clone()?, alloc, FOLDER)?;
-    assert_eq!(rt; directory.list(alloc)?, 0);
-    assert_eq!(rt;
-        directory.open_read(alloc, &terms).err(),
-        Some(DirectoryError::Missing)
-    );
-    directory.write_new(alloc, &terms, b"terms")?;
-    assert_eq!(rt;
-        directory.write_new(alloc, &terms, b"others"),
-        Err(DirectoryError::Exists)
-    );
-    assert_eq!(rt;
-        directory.open_read(alloc, &terms)?.as_slice(),
-        b"terms".as_slice()
-    );
-
-    // What an earlier process left unfinished neither counts nor is in the way.
-    fs::create_dir(&rt, "seg_directory_test/inner")?;
-    fs::write(
-        &rt,
-        "seg_directory_test/.unfinished",
-        b"cut off, and longer",
-    )?;
-    assert_eq!(rt; directory.list(alloc)?, 1);
-    directory.atomic_write(alloc, &FileName::Meta, b"old")?;
-    directory.atomic_write(alloc, &FileName::Meta, b"new")?;
-    assert_eq!(rt;
-        directory.open_read(alloc, &FileName::Meta)?.as_slice(),
-        b"new".as_slice()
-    );
-    assert_eq!(rt; directory.list(alloc)?, 2);
-
-    directory.sync_directory(alloc)?;
-    let path = "seg_directory_test/00000000000000000000000000000007.term";
-    assert_eq!(rt; fs::read(&rt, path)?.as_slice(), b"terms".as_slice());
-    fs::write(&rt, "seg_directory_test/notes", b"")?;
-    assert_eq!(rt; directory.list(alloc)?, 3);
-    fs::remove_dir_all(&rt, FOLDER)?;
-    Ok(())
-}
-
-#[test]
-fn tells_faults_of_the_system(rt: HostRuntime) -> Result<(), Fail> {
-    let alloc = rt.alloc();
-    let terms = part(SegmentComponent::Terms);
-    let mut directory = FileDirectory::new(rt.clone()?, alloc, "seg_directory_absent")?;
-    for (kind, expected) in [
-        (CallKind::List, DirectoryError::Fault),
-        (CallKind::OpenRead, DirectoryError::Missing),
-        (CallKind::WriteNew, DirectoryError::Fault),
-        (CallKind::AtomicWrite, DirectoryError::Fault),
-        (CallKind::SyncDirectory, DirectoryError::Fault),
-    ] {
-        let answer = call(alloc, &mut directory, kind, &terms);
-        assert_eq!(rt; answer, Err(expected), "{kind:?}");
+    let store = part(SegmentComponent::Store);
+    assert!(rt; is_made_once(alloc, &mut directory, &store, b""));
+    for bytes in [b"old", b"new"] {
+        assert!(rt; is_replaced(alloc, &mut directory, bytes));
     }
+    assert!(rt; lists(alloc, &mut directory, 2));
+    Ok(())
+}
 
-    // A folder in the place of a file can't be read.
-    fs::create_dir_all(&rt, "seg_directory_other/meta.json")?;
-    let mut other = FileDirectory::new(rt.clone()?, alloc, "seg_directory_other")?;
-    let answer = call(alloc, &mut other, CallKind::OpenRead, &terms);
-    assert_eq!(rt; answer, Err(DirectoryError::Fault));
-    fs::remove_dir_all(&rt, "seg_directory_other")?;
+#[test]
+fn what_is_put_is_the_file(rt: HostRuntime) -> Result<(), Fail> {
+    let alloc = rt.alloc();
+    let mut directory = MemoryDirectory::new(alloc, Vec::new(alloc))?;
+    directory.put(FileName::Meta, b"put")?;
+    directory.put(FileName::Meta, b"put again")?;
+    assert!(rt; has(alloc, &mut directory, &FileName::Meta, b"put again"));
     Ok(())
 }

@@ -1,6 +1,6 @@
 //! Whole metas that are read, and texts that are none.
 
-use seg_meta::{ReadError, meta_text, meta_texts_read_back, metas_read_back, read_meta};
+use seg_meta::{IndexMeta, ReadError, meta_text, meta_texts_read_back, metas_read_back, read_meta};
 use std::alloc::{AllocError, Global};
 use std::test::Fail;
 
@@ -31,8 +31,18 @@ const LONG: &str =
 const MORE_DELETED: &str = "{\"segment_id\": \"00000000000000000000000000000001\", \"max_doc\": 1,
     \"deletes\": {\"num_deleted_docs\": 2, \"opstamp\": 3}}";
 
-/// The text of a meta with these fields and segments.
-fn meta_with(alloc: Global, fields: &str, segments: &str) -> Result<String, AllocError> {
+fn joined(alloc: Global, pieces: &[&str]) -> Result<String, AllocError> {
+    let mut text = String::new(alloc);
+    for piece in pieces {
+        text.push_str(piece)?;
+    }
+    Ok(text)
+}
+
+/// The text of a meta whose fields and segments are these pieces.
+fn meta_with(alloc: Global, fields: &[&str], segments: &[&str]) -> Result<String, AllocError> {
+    let fields = joined(alloc, fields)?;
+    let segments = joined(alloc, segments)?;
     format!(in alloc;
         "{{\"segments\": [{segments}], \"schema\": [{fields}], \"payload\": \"a \\u0062\", \"opstamp\": 7,
         \"index_settings\": {{\"docstore_compression\": \"zstd\", \"docstore_blocksize\": 4294967295,
@@ -40,53 +50,63 @@ fn meta_with(alloc: Global, fields: &str, segments: &str) -> Result<String, Allo
     )
 }
 
-fn is_refused(alloc: Global, fields: &str, segments: &str) -> Result<bool, AllocError> {
+fn is_refused(alloc: Global, fields: &[&str], segments: &[&str]) -> Result<bool, AllocError> {
     let text = meta_with(alloc, fields, segments)?;
     Ok(matches!(read_meta(alloc, text.as_bytes()), Err(ReadError::NoMeta)))
 }
 
 #[test]
-fn texts_that_are_no_meta(rt: HostRuntime) -> Result<(), Fail> {
-    let alloc = rt.alloc();
-    assert!(rt; !is_refused(alloc, TITLE, ONE)?);
-    assert!(rt; is_refused(alloc, SLOW_FACET, ONE)?);
-    assert!(rt; is_refused(alloc, OTHER_WORD, ONE)?);
-    assert!(rt; is_refused(alloc, TITLE, LONG)?);
-    assert!(rt; is_refused(alloc, TITLE, MORE_DELETED)?);
-    let twice = format!(in alloc; "{TITLE}, {TITLE}")?;
-    assert!(rt; is_refused(alloc, twice.as_str(), ONE)?);
-    let again = format!(in alloc; "{ONE}, {ONE}")?;
-    assert!(rt; is_refused(alloc, TITLE, again.as_str())?);
-    let closed_early = format!(in alloc; "{ONE}], \"more\": [")?;
-    assert!(rt; is_refused(alloc, TITLE, closed_early.as_str())?);
-    assert!(rt; is_refused(alloc, TITLE, "]")?);
+fn fields_that_are_none(rt: HostRuntime) -> Result<(), Fail> {
+    let table: [&[&str]; 3] = [&[SLOW_FACET], &[OTHER_WORD], &[TITLE, ", ", TITLE]];
+    for (at, fields) in table.iter().enumerate() {
+        assert!(rt; is_refused(rt.alloc(), fields, &[ONE])?, "{at}");
+    }
+    Ok(())
+}
+
+#[test]
+fn segments_that_are_none(rt: HostRuntime) -> Result<(), Fail> {
+    let table: [&[&str]; 5] = [
+        &[LONG],
+        &[MORE_DELETED],
+        &[ONE, ", ", ONE],
+        &[ONE, "], \"more\": ["],
+        &["]"],
+    ];
+    for (at, segments) in table.iter().enumerate() {
+        assert!(rt; is_refused(rt.alloc(), &[TITLE], segments)?, "{at}");
+    }
     Ok(())
 }
 
 #[test]
 fn the_last_of_equal_members_counts(rt: HostRuntime) -> Result<(), Fail> {
-    let alloc = rt.alloc();
-    let twice = format!(in alloc; "{LONG}], \"segments\": [{ONE}")?;
-    assert!(rt; !is_refused(alloc, TITLE, twice.as_str())?);
+    let twice = &[LONG, "], \"segments\": [", ONE];
+    assert!(rt; !is_refused(rt.alloc(), &[TITLE], twice)?);
     Ok(())
+}
+
+/// The meta of one field and two segments.
+fn two_segments(alloc: Global) -> Option<IndexMeta> {
+    let text = meta_with(alloc, &[TITLE], &[ONE, ", ", TWO]).ok()?;
+    read_meta(alloc, text.as_bytes()).ok()
+}
+
+/// Whether the text of a meta reads as a meta with this text.
+fn is_read_back(alloc: Global, metas: &IndexMeta) -> Result<bool, AllocError> {
+    let written = meta_text(alloc, metas)?;
+    let Ok(again) = read_meta(alloc, &written) else {
+        return Ok(false);
+    };
+    Ok(meta_text(alloc, &again)?.as_slice() == written.as_slice())
 }
 
 #[test]
 fn a_meta_is_read_and_written(rt: HostRuntime) -> Result<(), Fail> {
-    let alloc = rt.alloc();
-    let segments = format!(in alloc; "{ONE}, {TWO}")?;
-    let text = meta_with(alloc, TITLE, segments.as_str())?;
-    let Ok(metas) = read_meta(alloc, text.as_bytes()) else {
-        return Err(Fail::from("no meta"));
-    };
-    assert_eq!(rt; metas.opstamp, 7);
-    assert_eq!(rt; metas.segments.as_slice().len(), 2);
+    let metas = two_segments(rt.alloc()).ok_or("no meta")?;
+    assert!(rt; metas.opstamp == 7 && metas.segments.as_slice().len() == 2);
     meta_texts_read_back();
     metas_read_back(&metas);
-    let written = meta_text(alloc, &metas)?;
-    let Ok(again) = read_meta(alloc, &written) else {
-        return Err(Fail::from("no meta again"));
-    };
-    assert!(rt; meta_text(alloc, &again)?.as_slice() == written.as_slice());
+    assert!(rt; is_read_back(rt.alloc(), &metas)?);
     Ok(())
 }

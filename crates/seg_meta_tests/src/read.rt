@@ -21,52 +21,58 @@ fn is_segment(alloc: Global, text: &str) -> Result<bool, Error> {
 
 #[test]
 fn segments_are_read(rt: HostRuntime) -> Result<(), Fail> {
-    let alloc = rt.alloc();
-    let whole =
-        "{\"segment_id\": \"0000000000000000000000000000000a\", \"max_doc\": 2147483647, \"deletes\": null}";
-    assert!(rt; is_segment(alloc, whole)?);
-    let long =
-        "{\"segment_id\": \"0000000000000000000000000000000a\", \"max_doc\": 2147483648, \"deletes\": null}";
-    assert!(rt; !is_segment(alloc, long)?);
-    let upper =
-        "{\"segment_id\": \"0000000000000000000000000000000A\", \"max_doc\": 1, \"deletes\": null}";
-    assert!(rt; !is_segment(alloc, upper)?);
-    let none_deleted = "{\"segment_id\": \"0000000000000000000000000000000a\", \"max_doc\": 1,
-        \"deletes\": {\"num_deleted_docs\": 0, \"opstamp\": 3}}";
-    assert!(rt; !is_segment(alloc, none_deleted)?);
-    let more =
-        "{\"segment_id\": \"0000000000000000000000000000000a\", \"max_doc\": 1, \"deletes\": null, \"a\": 1}";
-    assert!(rt; !is_segment(alloc, more)?);
+    for (max_doc, read) in [("2147483647", true), ("2147483648", false)] {
+        let text = format!(in rt.alloc();
+            "{{\"segment_id\": \"0000000000000000000000000000000a\", \"max_doc\": {max_doc}, \"deletes\": null}}"
+        )?;
+        assert!(rt; is_segment(rt.alloc(), text.as_str())? == read, "{max_doc}");
+    }
     Ok(())
+}
+
+#[test]
+fn objects_that_are_no_segment(rt: HostRuntime) -> Result<(), Fail> {
+    for text in [
+        "{\"segment_id\": \"0000000000000000000000000000000A\", \"max_doc\": 1, \"deletes\": null}",
+        "{\"segment_id\": \"0000000000000000000000000000000a\", \"max_doc\": 1,
+            \"deletes\": {\"num_deleted_docs\": 0, \"opstamp\": 3}}",
+        "{\"segment_id\": \"0000000000000000000000000000000a\", \"max_doc\": 1, \"deletes\": null, \"a\": 1}",
+    ] {
+        assert!(rt; !is_segment(rt.alloc(), text)?, "{text}");
+    }
+    Ok(())
+}
+
+/// Whether an object is the field `title`; an error where it can't be told.
+fn is_title(alloc: Global, text: &str) -> Result<bool, Fail> {
+    match entry_from(alloc, &Value::from_str(alloc, text)?) {
+        Ok(entry) => Ok(entry.name.as_str() == "title"),
+        Err(ReadError::NoMeta) => Ok(false),
+        Err(ReadError::OutOfMemory) => Err(Fail::from("not enough memory")),
+    }
 }
 
 #[test]
 fn fields_are_read(rt: HostRuntime) -> Result<(), Fail> {
-    let alloc = rt.alloc();
-    let Ok(entry) = entry_from(alloc, &Value::from_str(alloc, ENTRY)?) else {
-        return Err(Fail::from("no field"));
-    };
-    assert!(rt; entry.name.as_str() == "title");
-    let refused = entry_from(alloc, &Value::from_str(alloc, NO_ENTRY)?);
-    assert!(rt; matches!(refused, Err(ReadError::NoMeta)));
+    assert!(rt; is_title(rt.alloc(), ENTRY)?);
+    assert!(rt; !is_title(rt.alloc(), NO_ENTRY)?);
     Ok(())
+}
+
+/// The size of blocks in settings with this compression, where these are settings.
+fn block_size(alloc: Global, compression: &str) -> Result<Option<u32>, Error> {
+    let text = format!(in alloc;
+        "{{\"docstore_blocksize\": 7, \"docstore_compress_dedicated_thread\": true, \"docstore_compression\": \"{compression}\"}}"
+    )?;
+    let Some(settings) = settings_from(&Value::from_str(alloc, text.as_str())?) else {
+        return Ok(None);
+    };
+    Ok(Some(settings.docstore_blocksize))
 }
 
 #[test]
 fn settings_are_read(rt: HostRuntime) -> Result<(), Fail> {
-    let alloc = rt.alloc();
-    let json = Value::from_str(
-        alloc,
-        "{\"docstore_blocksize\": 7, \"docstore_compress_dedicated_thread\": true, \"docstore_compression\": \"zstd\"}",
-    )?;
-    let Some(settings) = settings_from(&json) else {
-        return Err(Fail::from("no settings"));
-    };
-    assert_eq!(rt; settings.docstore_blocksize, 7);
-    let odd = Value::from_str(
-        alloc,
-        "{\"docstore_blocksize\": 7, \"docstore_compress_dedicated_thread\": true, \"docstore_compression\": \"zip\"}",
-    )?;
-    assert!(rt; settings_from(&odd).is_none());
+    assert!(rt; block_size(rt.alloc(), "zstd")? == Some(7));
+    assert!(rt; block_size(rt.alloc(), "zip")?.is_none());
     Ok(())
 }

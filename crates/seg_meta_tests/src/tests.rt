@@ -33,13 +33,16 @@ fn title(alloc: Global) -> Result<Schema, AllocError> {
     Ok(builder.build())
 }
 
+fn has_text(alloc: Global, metas: &IndexMeta, expected: &str) -> Result<bool, AllocError> {
+    Ok(meta_text(alloc, metas)?.as_slice() == expected.as_bytes())
+}
+
 #[test]
 fn the_text_of_an_empty_index(rt: HostRuntime) -> Result<(), Fail> {
-    let alloc = rt.alloc();
     let metas = IndexMeta {
         index_settings: SETTINGS,
-        segments: SegmentMetas::new(alloc),
-        schema: title(alloc)?,
+        segments: SegmentMetas::new(rt.alloc()),
+        schema: title(rt.alloc())?,
         opstamp: 0,
         payload: None,
     };
@@ -68,21 +71,25 @@ fn the_text_of_an_empty_index(rt: HostRuntime) -> Result<(), Fail> {
   \"segments\": []
 }
 ";
-    assert!(rt; meta_text(alloc, &metas)?.as_slice() == expected.as_bytes());
+    assert!(rt; has_text(rt.alloc(), &metas, expected)?);
     Ok(())
 }
 
-#[test]
-fn the_text_of_segments(rt: HostRuntime) -> Result<(), Fail> {
-    let alloc = rt.alloc();
-    let mut segments = SegmentMetas::new(alloc);
-    segments.push(SegmentMeta::new(SegmentId::from_u128(1), 1, None))?;
+/// A segment without deletes, and one with a delete.
+fn two_segments(alloc: Global) -> Result<SegmentMetas, AllocError> {
     let deletes = DeleteMeta {
         num_deleted_docs: 1,
         opstamp: 3,
     };
+    let mut segments = SegmentMetas::new(alloc);
+    segments.push(SegmentMeta::new(SegmentId::from_u128(1), 1, None))?;
     segments.push(SegmentMeta::new(SegmentId::from_u128(2), 4, Some(deletes)))?;
-    let metas = IndexMeta {
+    Ok(segments)
+}
+
+/// A meta without fields.
+fn without_fields(alloc: Global, segments: SegmentMetas, payload: Text) -> IndexMeta {
+    IndexMeta {
         index_settings: IndexSettings {
             docstore_compression: Compressor::Lz4,
             docstore_blocksize: 7,
@@ -91,8 +98,14 @@ fn the_text_of_segments(rt: HostRuntime) -> Result<(), Fail> {
         segments,
         schema: SchemaBuilder::new(alloc).build(),
         opstamp: 3,
-        payload: Some(Text::copy_of(alloc, "a \"b\"")?),
-    };
+        payload: Some(payload),
+    }
+}
+
+#[test]
+fn the_text_of_segments(rt: HostRuntime) -> Result<(), Fail> {
+    let payload = Text::copy_of(rt.alloc(), "a \"b\"")?;
+    let metas = without_fields(rt.alloc(), two_segments(rt.alloc())?, payload);
     let expected = "{
   \"index_settings\": {
     \"docstore_blocksize\": 7,
@@ -119,24 +132,20 @@ fn the_text_of_segments(rt: HostRuntime) -> Result<(), Fail> {
   ]
 }
 ";
-    assert!(rt; meta_text(alloc, &metas)?.as_slice() == expected.as_bytes());
+    assert!(rt; has_text(rt.alloc(), &metas, expected)?);
     Ok(())
 }
 
 #[test]
-fn deletes_are_counted(rt: HostRuntime) -> Result<(), Fail> {
+fn deletes_are_counted(rt: HostRuntime) {
     let deletes = DeleteMeta {
         num_deleted_docs: 3,
         opstamp: 9,
     };
     let segment = SegmentMeta::new(SegmentId::from_u128(1), 5, Some(deletes));
-    assert_eq!(rt; segment.num_docs(), 2);
-    assert_eq!(rt; segment.num_deleted_docs(), 3);
-    assert!(rt; segment.has_deletes());
-    assert_eq!(rt; segment.delete_opstamp(), Some(9));
+    assert!(rt; segment.num_docs() == 2 && segment.num_deleted_docs() == 3);
+    assert!(rt; segment.has_deletes() && segment.delete_opstamp() == Some(9));
     let whole = SegmentMeta::new(SegmentId::from_u128(1), 5, None);
-    assert_eq!(rt; whole.num_docs(), 5);
-    assert_eq!(rt; whole.delete_opstamp(), None);
+    assert!(rt; whole.num_docs() == 5 && whole.delete_opstamp().is_none());
     assert!(rt; segment != whole);
-    Ok(())
 }

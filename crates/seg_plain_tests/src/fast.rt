@@ -1,8 +1,8 @@
 //! What documents record for columns, worked out by hand.
-use crate::tests::{Words, document_of, entry_of, text_of};
+use crate::tests::{Words, document_of, entry_of, object_of, texts_of};
 use seg_common::ColumnType;
-use seg_plain::{ColumnValue, ColumnValues, FastValues, columns, fast_values};
-use seg_values::{FieldKind, Members, OwnedValue, Schema, SchemaBuilder, TantivyDocument, Text};
+use seg_plain::{Column, ColumnValue, ColumnValues, FastValues, columns, fast_values};
+use seg_values::{FieldKind, OwnedValue, Schema, SchemaBuilder, TantivyDocument, Text};
 use std::alloc::{AllocError, Global};
 use std::test::Fail;
 
@@ -55,9 +55,7 @@ fn is_recorded_as(
     tokenizer: Option<Text>,
     texts: &[&str],
 ) -> Result<bool, AllocError> {
-    let mut values = Vec::new(alloc);
-    values.push(text_of(alloc, "Red mug")?)?;
-    let document = document_of(alloc, values)?;
+    let document = document_of(alloc, texts_of(alloc, &["Red mug"])?)?;
     let schema = fast_schema(alloc, FieldKind::Text, tokenizer)?;
     Ok(are(&recorded(alloc, &schema, &document)?, texts))
 }
@@ -77,10 +75,8 @@ pub(crate) fn number(
     schema: &Schema,
     number: OwnedValue,
 ) -> Result<FastValues, AllocError> {
-    let mut members = Members::new(alloc);
-    members.push(Text::copy_of(alloc, "n")?, number)?;
     let mut values = Vec::new(alloc);
-    values.push(OwnedValue::Object(members))?;
+    values.push(object_of(alloc, "n", number)?)?;
     let document = document_of(alloc, values)?;
     recorded(alloc, schema, &document)
 }
@@ -89,7 +85,7 @@ pub(crate) fn number(
 fn large_numbers(alloc: Global, schema: &Schema) -> Result<Vec<FastValues>, AllocError> {
     let mut documents = Vec::new(alloc);
     documents.push(number(alloc, schema, OwnedValue::U64(5))?)?;
-    documents.push(number(alloc, schema, OwnedValue::U64(9223372036854775808))?)?;
+    documents.push(number(alloc, schema, OwnedValue::U64(1 << 63))?)?;
     Ok(documents)
 }
 
@@ -106,17 +102,23 @@ fn have(rows: &[ColumnValues], numbers: &[i128]) -> bool {
     true
 }
 
+/// Whether there is just one column, at the key "n", of this type, with one number in each row, and these are they.
+pub(crate) fn is_column(table: &[Column], column_type: ColumnType, numbers: &[i128]) -> bool {
+    let [column] = table else {
+        return false;
+    };
+    column.key.path.as_slice() == b"field\x01n".as_slice()
+        && column.key.column_type == column_type
+        && have(&column.rows, numbers)
+}
+
 #[test]
 fn numbers_of_json_have_one_type(rt: HostRuntime) -> Result<(), Fail> {
     let alloc = rt.alloc();
     let schema = fast_schema(alloc, FieldKind::Json, None)?;
     let documents = large_numbers(alloc, &schema)?;
     let table = columns(alloc, &schema, &documents)?.ok_or("no columns")?;
-    assert_eq!(rt; table.len(), 1);
-    let column = table.first().ok_or("no column")?;
-    assert_eq!(rt; column.key.path.as_slice(), b"field\x01n".as_slice());
-    assert_eq!(rt; column.key.column_type, ColumnType::U64);
-    assert!(rt; have(&column.rows, &[5, 9223372036854775808]));
+    assert!(rt; is_column(&table, ColumnType::U64, &[5, 1 << 63]));
     Ok(())
 }
 

@@ -1,10 +1,10 @@
 //! Joins that were worked out by hand.
 use crate::column::numbers;
-use crate::fast::fast_schema;
-use crate::tests::{entry_of, occurrences_of, text_of};
+use crate::fast::{fast_schema, is_column};
+use crate::tests::{entry_of, has_positions, has_terms, occurrences_of, texts_of};
 use seg_common::ColumnType;
 use seg_plain::{
-    Column, ColumnValue, ColumnsPart, JoinedPart, NormsPart, Recorded, columns, field_terms,
+    Column, ColumnsPart, JoinedPart, NormsPart, Posting, Terms, columns, field_terms,
     joined_columns, joined_norms, joined_terms,
 };
 use seg_values::{FieldKind, OwnedValue, Schema};
@@ -16,8 +16,7 @@ fn part_with(alloc: Global, alive: &[bool], words: &[&str]) -> Result<JoinedPart
     let entry = entry_of(alloc, FieldKind::Text)?;
     let mut documents = Vec::new(alloc);
     for word in words {
-        let mut values = Vec::new(alloc);
-        values.push(text_of(alloc, word)?)?;
+        let values = texts_of(alloc, &[word])?;
         documents.push(occurrences_of(alloc, FieldKind::Text, values)?)?;
     }
     Ok(JoinedPart {
@@ -27,24 +26,30 @@ fn part_with(alloc: Global, alive: &[bool], words: &[&str]) -> Result<JoinedPart
     })
 }
 
+/// The joined terms of two segments of two documents, with the second of the one and the first of the other dead.
+fn terms_without_dead(alloc: Global) -> Result<Terms, AllocError> {
+    let mut parts = Vec::new(alloc);
+    parts.push(part_with(alloc, &[true, false], &["a", "b"])?)?;
+    parts.push(part_with(alloc, &[false, true], &["b", "a"])?)?;
+    joined_terms(alloc, &parts)
+}
+
+/// Whether there is one posting for each document up to a number, at the first position.
+fn are_in_each(postings: &[Posting], documents: u64) -> bool {
+    for (document, posting) in (0..documents).zip(postings) {
+        if posting.document != document || !has_positions(posting, &[0]) {
+            return false;
+        }
+    }
+    postings.len() as u64 == documents
+}
+
 #[test]
 fn dead_documents_leave_no_terms(rt: HostRuntime) -> Result<(), Fail> {
-    let alloc = rt.alloc();
-    let first = part_with(alloc, &[true, false], &["a", "b"])?;
-    let second = part_with(alloc, &[false, true], &["b", "a"])?;
-    let parts = vec![in alloc; first, second]?;
-    let terms = joined_terms(alloc, &parts)?;
-    assert!(rt; terms.get(b"b").is_none());
-    let postings = terms.get(b"a").ok_or("no term")?.as_slice();
-    assert_eq!(rt; postings.len(), 2);
-    for (document, posting) in postings.iter().enumerate() {
-        assert_eq!(rt; posting.document, document as u64);
-        let Recorded::Positions(positions) = &posting.recorded else {
-            return Err(Fail::from("no positions"));
-        };
-        assert_eq!(rt; positions.as_slice(), [0].as_slice());
-    }
-    assert_eq!(rt; terms.into_entries(alloc)?.len(), 1);
+    let terms = terms_without_dead(rt.alloc())?;
+    let postings = terms.get(b"a").ok_or("no term")?;
+    assert!(rt; are_in_each(postings.as_slice(), 2));
+    assert!(rt; has_terms(rt.alloc(), terms, &[b"a"])?);
     Ok(())
 }
 
@@ -68,10 +73,7 @@ fn part_of_ids(alloc: Global, alive: &[bool], ids: &[u8]) -> Result<NormsPart, A
 #[test]
 fn dead_documents_leave_no_lengths(rt: HostRuntime) -> Result<(), Fail> {
     let alloc = rt.alloc();
-    assert_eq!(rt;
-        ids_without_dead(alloc, true)?.as_slice(),
-        [1, 2, 5].as_slice()
-    );
+    assert!(rt; ids_without_dead(alloc, true)?.as_slice() == [1, 2, 5].as_slice());
     assert!(rt; ids_without_dead(alloc, false)?.is_empty());
     Ok(())
 }
@@ -108,27 +110,11 @@ fn joined_numbers(
     Ok(joined_columns(alloc, &schema, &parts)?)
 }
 
-/// Whether there is one column of this type, with one number in each row, and these are they.
-fn are_numbers(table: &[Column], column_type: ColumnType, numbers: &[i128]) -> bool {
-    let [column] = table else {
-        return false;
-    };
-    if column.key.column_type != column_type || column.rows.len() != numbers.len() {
-        return false;
-    }
-    for (row, number) in column.rows.iter().zip(numbers) {
-        if !matches!(row.as_slice(), [ColumnValue::Number(found)] if *found == *number) {
-            return false;
-        }
-    }
-    true
-}
-
 #[test]
 fn joined_numbers_may_change_their_type(rt: HostRuntime) -> Result<(), Fail> {
     let alloc = rt.alloc();
     let table = joined_numbers(alloc, &[true, false], &[true, true])?.ok_or("no columns")?;
-    assert!(rt; are_numbers(&table, ColumnType::U64, &[5, 1 << 63, 7]));
+    assert!(rt; is_column(&table, ColumnType::U64, &[5, 1 << 63, 7]));
     let mixed = joined_numbers(alloc, &[true, true], &[true, true])?;
     assert!(rt; mixed.is_none());
     Ok(())
@@ -138,6 +124,6 @@ fn joined_numbers_may_change_their_type(rt: HostRuntime) -> Result<(), Fail> {
 fn dead_documents_leave_no_values(rt: HostRuntime) -> Result<(), Fail> {
     let alloc = rt.alloc();
     let table = joined_numbers(alloc, &[true, false], &[false, true])?.ok_or("no columns")?;
-    assert!(rt; are_numbers(&table, ColumnType::I64, &[5, 7]));
+    assert!(rt; is_column(&table, ColumnType::I64, &[5, 7]));
     Ok(())
 }

@@ -2,7 +2,7 @@
 ghost use Rattle.std.specs.Prelude.{◌≡◌, IfOk};
 
 use seg_common::DateTimePrecision;
-use seg_plain::{StoredPart, StoredValue, joined_stored, stored_document};
+use seg_plain::{StoredPair, StoredPart, StoredValue, joined_stored, stored_document};
 use seg_values::{
     Field, FieldEntry, FieldKind, IndexOption, OwnedValue, PreTokenizedString, Schema,
     SchemaBuilder, TantivyDocument, Text, Tokens,
@@ -55,32 +55,66 @@ fn document_of(alloc: Global) -> Result<TantivyDocument, AllocError> {
     Ok(document)
 }
 
+/// Whether the pairs are the text "said" of a text with tokens, and a text.
+fn are_two_texts(pairs: &[StoredPair]) -> bool {
+    let [first, second] = pairs else {
+        return false;
+    };
+    matches!(first.value, StoredValue::Text("said"))
+        && matches!(second.value, StoredValue::Value(OwnedValue::Str(_)))
+}
+
 #[test]
 fn stored_pairs(rt: HostRuntime) -> Result<(), Fail> {
     let alloc = rt.alloc();
     let schema = schema_of(alloc).ok_or("no schema")?;
     let document = document_of(alloc)?;
     let pairs = stored_document(alloc, &schema, &document)?;
-    assert_eq!(rt; pairs.len(), 2);
-    assert!(rt; matches!(pairs[0].value, StoredValue::Text("said")));
-    assert!(rt; matches!(pairs[1].value, StoredValue::Value(OwnedValue::Str(_))));
+    assert!(rt; are_two_texts(&pairs));
     Ok(())
+}
+
+/// A part of one document with values.
+fn alive(alloc: Global) -> Result<StoredPart, AllocError> {
+    let mut stored = Vec::new(alloc);
+    stored.push(document_of(alloc)?)?;
+    Ok(StoredPart {
+        alive: Vec::from_slice(alloc, &[true])?,
+        stored,
+    })
+}
+
+/// A part of a dead document with values, and one without.
+fn dead_and_empty(alloc: Global) -> Result<StoredPart, AllocError> {
+    let mut stored = Vec::new(alloc);
+    stored.push(document_of(alloc)?)?;
+    stored.push(TantivyDocument::new(alloc))?;
+    Ok(StoredPart {
+        alive: Vec::from_slice(alloc, &[false, true])?,
+        stored,
+    })
+}
+
+/// Whether the documents have so many pairs.
+fn have_pairs(documents: &[TantivyDocument], pairs: &[usize]) -> bool {
+    if documents.len() != pairs.len() {
+        return false;
+    }
+    for (document, wanted) in documents.iter().zip(pairs) {
+        if document.len() != *wanted {
+            return false;
+        }
+    }
+    true
 }
 
 #[test]
 fn dead_documents_are_not_stored(rt: HostRuntime) -> Result<(), Fail> {
     let alloc = rt.alloc();
-    let first = StoredPart {
-        alive: vec![in alloc; false, true]?,
-        stored: vec![in alloc; document_of(alloc)?, TantivyDocument::new(alloc)]?,
-    };
-    let second = StoredPart {
-        alive: vec![in alloc; true]?,
-        stored: vec![in alloc; document_of(alloc)?]?,
-    };
-    let joined = joined_stored(alloc, vec![in alloc; first, second]?)?;
-    assert_eq!(rt; joined.len(), 2);
-    assert_eq!(rt; joined[0].len(), 0);
-    assert_eq!(rt; joined[1].len(), 3);
+    let mut parts = Vec::new(alloc);
+    parts.push(dead_and_empty(alloc)?)?;
+    parts.push(alive(alloc)?)?;
+    let joined = joined_stored(alloc, parts)?;
+    assert!(rt; have_pairs(&joined, &[0, 3]));
     Ok(())
 }

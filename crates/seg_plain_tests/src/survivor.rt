@@ -46,15 +46,16 @@ fn are(documents: &[&TantivyDocument], titles: &[&str]) -> bool {
     true
 }
 
-/// Whether the survivors under these filters, with cuts at 2 and 4, have these titles.
+/// Whether the survivors under these filters have these titles.
 fn leave(
     alloc: Global,
+    cuts: &[usize],
     filters: &[Option<Vec<bool>>],
     titles: &[&str],
 ) -> Result<bool, AllocError> {
     let schema = schema_of(alloc, FieldKind::Text)?;
     let history = history(alloc)?;
-    let left = survivors(alloc, &Words, &schema, filters, &[2, 4], &history)?;
+    let left = survivors(alloc, &Words, &schema, filters, cuts, &history)?;
     Ok(are(&left, titles))
 }
 
@@ -66,11 +67,13 @@ fn filter(alloc: Global, marks: &[bool]) -> Result<Option<Vec<bool>>, AllocError
 #[test]
 fn a_batch_behind_the_last_filter_has_none(rt: HostRuntime) -> Result<(), Fail> {
     let alloc = rt.alloc();
-    assert!(rt; leave(alloc, &[], &["b", "a", "c"])?);
+    let cuts = &[2, 4];
+    assert!(rt; leave(alloc, &[], &[], &["b", "a", "c"])?);
+    assert!(rt; leave(alloc, cuts, &[], &["b", "a", "c"])?);
     let first = filter(alloc, &[true, false])?;
-    assert!(rt; leave(alloc, &[first], &["a", "c"])?);
+    assert!(rt; leave(alloc, cuts, &[first], &["a", "c"])?);
     let second = filter(alloc, &[])?;
-    assert!(rt; leave(alloc, &[None, second], &["b", "c"])?);
+    assert!(rt; leave(alloc, cuts, &[None, second], &["b", "c"])?);
     Ok(())
 }
 

@@ -1,6 +1,6 @@
 //! Damaged parts are refused, or read to an end.
 
-use crate::fields::{Parts, WITH_COUNTS, WITH_DOCUMENTS, WITH_POSITIONS, open};
+use crate::fields::{Parts, WITH_COUNTS, WITH_DOCUMENTS, WITH_POSITIONS, open, part_at, with_part};
 use crate::walk::walk;
 use seg_postings::PostingsError;
 use seg_values::IndexOption;
@@ -8,28 +8,16 @@ use std::alloc::{AllocError, Global};
 use std::test::Fail;
 
 /// Whether the parts are refused.
-fn is_refused(
-    alloc: Global,
-    index: IndexOption,
-    terms: &[u8],
-    postings: &[u8],
-    positions: &[u8],
-) -> bool {
-    match open(alloc, index, terms, postings, positions) {
+fn is_refused(alloc: Global, index: IndexOption, parts: Parts<'_>) -> bool {
+    match open(alloc, index, parts) {
         Ok(_) => false,
         Err(error) => error == PostingsError::Malformed,
     }
 }
 
 /// Whether the parts are refused, or all that they hold can be read.
-fn is_answered(
-    alloc: Global,
-    index: IndexOption,
-    terms: &[u8],
-    postings: &[u8],
-    positions: &[u8],
-) -> bool {
-    match open(alloc, index, terms, postings, positions) {
+fn is_answered(alloc: Global, index: IndexOption, parts: Parts<'_>) -> bool {
+    match open(alloc, index, parts) {
         Ok(reader) => walk(alloc, &reader).is_ok(),
         Err(error) => error == PostingsError::Malformed,
     }
@@ -38,8 +26,8 @@ fn is_answered(
 /// The bytes with one of them changed.
 fn flipped(alloc: Global, bytes: &[u8], place: usize, mask: u8) -> Result<Vec<u8>, AllocError> {
     let mut changed = Vec::from_slice(alloc, bytes)?;
-    if place < changed.len() {
-        changed[place] ^= mask;
+    if let Some(byte) = changed.get_mut(place) {
+        *byte ^= mask;
     }
     Ok(changed)
 }
@@ -51,131 +39,70 @@ fn longer(alloc: Global, bytes: &[u8]) -> Result<Vec<u8>, AllocError> {
     Ok(changed)
 }
 
-/// How many changes of one byte of a part, by the mask, are answered wrongly.
-fn wrong_flips(
+/// Whether each change of one byte of a part, by the mask, is answered.
+fn are_flips_answered(
     alloc: Global,
     index: IndexOption,
-    parts: Parts,
+    parts: Parts<'_>,
     mask: u8,
-) -> Result<usize, AllocError> {
-    let mut wrong = 0usize;
-    for place in 0..parts.terms.len() {
-        let terms = flipped(alloc, parts.terms, place, mask)?;
-        if !is_answered(alloc, index, &terms, parts.postings, parts.positions) {
-            wrong = wrong.saturating_add(1);
+) -> Result<bool, AllocError> {
+    for at in 0..3 {
+        let part = part_at(parts, at);
+        for place in 0..part.len() {
+            let changed = flipped(alloc, part, place, mask)?;
+            if !is_answered(alloc, index, with_part(parts, at, &changed)) {
+                return Ok(false);
+            }
         }
     }
-    for place in 0..parts.postings.len() {
-        let postings = flipped(alloc, parts.postings, place, mask)?;
-        if !is_answered(alloc, index, parts.terms, &postings, parts.positions) {
-            wrong = wrong.saturating_add(1);
-        }
-    }
-    for place in 0..parts.positions.len() {
-        let positions = flipped(alloc, parts.positions, place, mask)?;
-        if !is_answered(alloc, index, parts.terms, parts.postings, &positions) {
-            wrong = wrong.saturating_add(1);
-        }
-    }
-    Ok(wrong)
+    Ok(true)
 }
 
-/// How many fronts of a part aren't refused.
-fn taken_fronts(alloc: Global, index: IndexOption, parts: Parts) -> usize {
-    let mut taken = 0usize;
-    for end in 0..parts.terms.len() {
-        if !is_refused(
-            alloc,
-            index,
-            &parts.terms[..end],
-            parts.postings,
-            parts.positions,
-        ) {
-            taken = taken.saturating_add(1);
+/// Whether each front of a part is refused.
+fn are_fronts_refused(alloc: Global, index: IndexOption, parts: Parts<'_>) -> bool {
+    for at in 0..3 {
+        let part = part_at(parts, at);
+        for end in 0..part.len() {
+            if !is_refused(alloc, index, with_part(parts, at, &part[..end])) {
+                return false;
+            }
         }
     }
-    for end in 0..parts.postings.len() {
-        if !is_refused(
-            alloc,
-            index,
-            parts.terms,
-            &parts.postings[..end],
-            parts.positions,
-        ) {
-            taken = taken.saturating_add(1);
-        }
-    }
-    for end in 0..parts.positions.len() {
-        if !is_refused(
-            alloc,
-            index,
-            parts.terms,
-            parts.postings,
-            &parts.positions[..end],
-        ) {
-            taken = taken.saturating_add(1);
-        }
-    }
-    taken
+    true
 }
 
 #[test]
 fn each_byte_is_changed(rt: HostRuntime) -> Result<(), Fail> {
     let alloc = rt.alloc();
     for mask in [1u8, 2, 0x80, 0xff] {
-        assert_eq!(rt;
-            wrong_flips(alloc, IndexOption::Positions, WITH_POSITIONS, mask)?,
-            0
-        );
-        assert_eq!(rt;
-            wrong_flips(alloc, IndexOption::Freqs, WITH_COUNTS, mask)?,
-            0
-        );
-        assert_eq!(rt;
-            wrong_flips(alloc, IndexOption::Basic, WITH_DOCUMENTS, mask)?,
-            0
+        assert!(rt; are_flips_answered(alloc, IndexOption::Positions, WITH_POSITIONS, mask)?);
+        assert!(rt; are_flips_answered(alloc, IndexOption::Freqs, WITH_COUNTS, mask)?);
+        assert!(rt; are_flips_answered(alloc, IndexOption::Basic, WITH_DOCUMENTS, mask)?);
+    }
+    Ok(())
+}
+
+#[test]
+fn each_part_is_cut(rt: HostRuntime) {
+    assert!(rt; are_fronts_refused(rt.alloc(), IndexOption::Positions, WITH_POSITIONS));
+    assert!(rt; are_fronts_refused(rt.alloc(), IndexOption::Freqs, WITH_COUNTS));
+    assert!(rt; are_fronts_refused(rt.alloc(), IndexOption::Basic, WITH_DOCUMENTS));
+}
+
+#[test]
+fn each_part_is_longer(rt: HostRuntime) -> Result<(), Fail> {
+    for at in 0..3 {
+        let part = longer(rt.alloc(), part_at(WITH_POSITIONS, at))?;
+        let parts = with_part(WITH_POSITIONS, at, &part);
+        assert!(rt;
+            is_refused(rt.alloc(), IndexOption::Positions, parts),
+            "{at}"
         );
     }
     Ok(())
 }
 
 #[test]
-fn each_part_is_cut(rt: HostRuntime) -> Result<(), Fail> {
-    let alloc = rt.alloc();
-    assert_eq!(rt;
-        taken_fronts(alloc, IndexOption::Positions, WITH_POSITIONS),
-        0
-    );
-    assert_eq!(rt; taken_fronts(alloc, IndexOption::Freqs, WITH_COUNTS), 0);
-    assert_eq!(rt; taken_fronts(alloc, IndexOption::Basic, WITH_DOCUMENTS), 0);
-    Ok(())
-}
-
-#[test]
-fn each_part_is_longer(rt: HostRuntime) -> Result<(), Fail> {
-    let alloc = rt.alloc();
-    let parts = WITH_POSITIONS;
-    let index = IndexOption::Positions;
-    let terms = longer(alloc, parts.terms)?;
-    let postings = longer(alloc, parts.postings)?;
-    let positions = longer(alloc, parts.positions)?;
-    assert!(rt; is_refused(alloc, index, &terms, parts.postings, parts.positions));
-    assert!(rt; is_refused(alloc, index, parts.terms, &postings, parts.positions));
-    assert!(rt; is_refused(alloc, index, parts.terms, parts.postings, &positions));
-    Ok(())
-}
-
-#[test]
-fn another_kind_is_refused(rt: HostRuntime) -> Result<(), Fail> {
-    let alloc = rt.alloc();
-    let parts = WITH_POSITIONS;
-    let other = is_refused(
-        alloc,
-        IndexOption::Freqs,
-        parts.terms,
-        parts.postings,
-        parts.positions,
-    );
-    assert!(rt; other);
-    Ok(())
+fn another_kind_is_refused(rt: HostRuntime) {
+    assert!(rt; is_refused(rt.alloc(), IndexOption::Freqs, WITH_POSITIONS));
 }

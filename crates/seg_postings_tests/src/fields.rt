@@ -7,17 +7,37 @@ use std::alloc::{AllocError, Global};
 
 /// The three parts of a field.
 #[derive(Clone, Copy)]
-pub(crate) struct Parts {
-    pub terms: &'static [u8],
-    pub postings: &'static [u8],
-    pub positions: &'static [u8],
+pub(crate) struct Parts<'a> {
+    pub terms: &'a [u8],
+    pub postings: &'a [u8],
+    pub positions: &'a [u8],
+}
+
+/// One of the three parts, by its place.
+pub(crate) fn part_at<'a>(parts: Parts<'a>, place: usize) -> &'a [u8] {
+    match place {
+        0 => parts.terms,
+        1 => parts.postings,
+        _ => parts.positions,
+    }
+}
+
+/// The parts with another one at a place.
+pub(crate) fn with_part<'a>(parts: Parts<'a>, place: usize, part: &'a [u8]) -> Parts<'a> {
+    let mut changed = parts;
+    match place {
+        0 => changed.terms = part,
+        1 => changed.postings = part,
+        _ => changed.positions = part,
+    }
+    changed
 }
 
 /// How many documents each field below is in.
 pub(crate) const MAX_DOC: u32 = 3;
 
 /// The terms `a` and `b`, with five and three bytes of postings, and three and one of positions.
-pub(crate) const WITH_POSITIONS: Parts = Parts {
+pub(crate) const WITH_POSITIONS: Parts<'static> = Parts {
     terms: &[
         2, 0, 0, 0, 0, 0, 0, 0, // terms
         1, 0, 0, 0, 0, 0, 0, 0, // end of the first key
@@ -45,7 +65,7 @@ pub(crate) const WITH_POSITIONS: Parts = Parts {
 };
 
 /// The term `a` with five bytes of postings.
-pub(crate) const WITH_COUNTS: Parts = Parts {
+pub(crate) const WITH_COUNTS: Parts<'static> = Parts {
     terms: &[
         1, 0, 0, 0, 0, 0, 0, 0, // terms
         1, 0, 0, 0, 0, 0, 0, 0, // end of the key
@@ -66,7 +86,7 @@ pub(crate) const WITH_COUNTS: Parts = Parts {
 };
 
 /// The term `a` with four bytes of postings.
-pub(crate) const WITH_DOCUMENTS: Parts = Parts {
+pub(crate) const WITH_DOCUMENTS: Parts<'static> = Parts {
     terms: &[
         1, 0, 0, 0, 0, 0, 0, 0, // terms
         1, 0, 0, 0, 0, 0, 0, 0, // end of the key
@@ -112,12 +132,10 @@ fn owned(alloc: Global, bytes: &[u8]) -> Result<OwnedBytes, PostingsError> {
 pub(crate) fn open(
     alloc: Global,
     index: IndexOption,
-    terms: &[u8],
-    postings: &[u8],
-    positions: &[u8],
+    parts: Parts<'_>,
 ) -> Result<InvertedIndexReader, PostingsError> {
     let entry = entry(alloc, index)?;
-    let terms = FieldTerms::open(alloc, owned(alloc, terms)?, &entry, MAX_DOC)?;
-    let field = terms.with_postings(owned(alloc, postings)?)?;
-    field.with_positions(owned(alloc, positions)?)
+    let terms = FieldTerms::open(alloc, owned(alloc, parts.terms)?, &entry, MAX_DOC)?;
+    let field = terms.with_postings(owned(alloc, parts.postings)?)?;
+    field.with_positions(owned(alloc, parts.positions)?)
 }

@@ -24,12 +24,17 @@ const LENGTHS: &[(u32, u8, u32)] = &[
 ];
 
 #[test]
-fn lengths_in_one_byte(rt: HostRuntime) -> Result<(), Fail> {
+fn lengths_in_one_byte(rt: HostRuntime) {
     for (length, id, shorter) in LENGTHS {
-        assert_eq!(rt; FieldNormReader::fieldnorm_to_id(*length), *id);
-        assert_eq!(rt; FieldNormReader::id_to_fieldnorm(*id), *shorter);
+        assert!(rt;
+            FieldNormReader::fieldnorm_to_id(*length) == *id,
+            "{length}"
+        );
+        assert!(rt;
+            FieldNormReader::id_to_fieldnorm(*id) == *shorter,
+            "{length}"
+        );
     }
-    Ok(())
 }
 
 fn entry(alloc: Global, name: &str, norms: bool) -> Result<FieldEntry, AllocError>
@@ -105,31 +110,44 @@ fn id_and_length(readers: &FieldNormReaders, field: u32, doc: u32) -> Option<(u8
     None
 }
 
+/// The schema of two fields, and the readers of its file.
+fn schema_and_readers(alloc: Global) -> Result<(Schema, FieldNormReaders), Fail> {
+    let schema = two_fields(alloc).ok().ok_or("a schema")?;
+    let file = file_of_lengths(alloc, &schema)?;
+    Ok((schema, readers(alloc, &file)?))
+}
+
 #[test]
-fn lengths_of_fields(rt: HostRuntime) -> Result<(), Fail> {
+fn lengths_of_documents(rt: HostRuntime) -> Result<(), Fail> {
+    let (_, read) = schema_and_readers(rt.alloc())?;
+    for (field, doc, expected) in [
+        (1, 0, Some((2, 2))),
+        (1, 1, Some((0, 0))),
+        (1, 2, Some((40, 40))),
+        (1, 4, None),
+        (0, 0, None),
+    ] {
+        assert!(rt;
+            id_and_length(&read, field, doc) == expected,
+            "{field} {doc}"
+        );
+    }
+    Ok(())
+}
+
+#[test]
+fn fields_with_lengths(rt: HostRuntime) -> Result<(), Fail> {
     let schema = two_fields(rt.alloc()).ok().ok_or("a schema")?;
-    let fields = FieldNormsWriter::fields_with_fieldnorm(rt.alloc(), &schema)
-        .ok()
-        .ok_or("its fields")?;
-    assert_eq!(rt; fields.as_slice(), [Field::from_field_id(1)].as_slice());
-    let file = file_of_lengths(rt.alloc(), &schema)?;
-    let read = readers(rt.alloc(), &file)?;
-    assert_eq!(rt; id_and_length(&read, 1, 0), Some((2, 2)));
-    assert_eq!(rt; id_and_length(&read, 1, 1), Some((0, 0)));
-    assert_eq!(rt; id_and_length(&read, 1, 2), Some((40, 40)));
-    assert_eq!(rt; id_and_length(&read, 1, 4), None);
-    assert_eq!(rt; id_and_length(&read, 0, 0), None);
+    let fields = FieldNormsWriter::fields_with_fieldnorm(rt.alloc(), &schema).ok();
+    let fields = fields.ok_or("its fields")?;
+    assert!(rt; fields.as_slice() == [Field::from_field_id(1)].as_slice());
     Ok(())
 }
 
 #[test]
 fn the_file_fits_its_schema(rt: HostRuntime) -> Result<(), Fail> {
-    let schema = two_fields(rt.alloc()).ok().ok_or("a schema")?;
-    let file = file_of_lengths(rt.alloc(), &schema)?;
-    let read = readers(rt.alloc(), &file)?;
-    assert!(rt; read.fit(&schema, 4));
-    assert!(rt; !read.fit(&schema, 3));
-    assert!(rt; !read.fit(&schema, 5));
+    let (schema, read) = schema_and_readers(rt.alloc())?;
+    assert!(rt; read.fit(&schema, 4) && !read.fit(&schema, 3) && !read.fit(&schema, 5));
     assert!(rt; !read.fit(&SchemaBuilder::new(rt.alloc()).build(), 4));
     Ok(())
 }
@@ -141,9 +159,10 @@ fn a_file_without_parts(rt: HostRuntime) -> Result<(), Fail> {
     let read = readers(rt.alloc(), &file)?;
     assert!(rt; !read.fit(&schema, 0));
     assert!(rt; read.fit(&SchemaBuilder::new(rt.alloc()).build(), 4));
-    assert_eq!(rt;
-        readers(rt.alloc(), &[]).err(),
-        Some(PostingsError::Malformed)
-    );
     Ok(())
+}
+
+#[test]
+fn no_byte_is_no_file(rt: HostRuntime) {
+    assert!(rt; readers(rt.alloc(), &[]).err() == Some(PostingsError::Malformed));
 }

@@ -64,7 +64,7 @@ fn has(alloc: Global, reader: &StoreReader, doc: u32, stored: &[u8]) -> Result<b
 fn documents_are_found(rt: HostRuntime) -> Result<(), Fail> {
     let alloc = rt.alloc();
     let reader = open(alloc, THREE)?;
-    assert_eq!(rt; reader.num_docs(), 3);
+    assert!(rt; reader.num_docs() == 3);
     assert!(rt; has(alloc, &reader, 0, &[0])?);
     assert!(rt; has(alloc, &reader, 1, &[1, 0, 6, 1])?);
     assert!(rt; has(alloc, &reader, 2, &[1, 7, 0])?);
@@ -74,25 +74,25 @@ fn documents_are_found(rt: HostRuntime) -> Result<(), Fail> {
 #[test]
 fn checkpoints_are_told(rt: HostRuntime) -> Result<(), Fail> {
     let reader = open(rt.alloc(), THREE)?;
-    assert_eq!(rt; reader.block_count(), 2);
+    assert!(rt; reader.block_count() == 2);
     let first = Checkpoint {
         doc_end: 2,
         byte_end: 25,
     };
-    assert_eq!(rt; checkpoint(&reader, 0), Some(first));
+    assert!(rt; checkpoint(&reader, 0) == Some(first));
     let second = Checkpoint {
         doc_end: 3,
         byte_end: 40,
     };
-    assert_eq!(rt; checkpoint(&reader, 1), Some(second));
-    assert_eq!(rt; checkpoint(&reader, 2), None);
+    assert!(rt; checkpoint(&reader, 1) == Some(second));
+    assert!(rt; checkpoint(&reader, 2).is_none());
     Ok(())
 }
 
 #[test]
 fn a_store_may_be_empty(rt: HostRuntime) -> Result<(), Fail> {
     let reader = open(rt.alloc(), NONE)?;
-    assert_eq!(rt; reader.num_docs(), 0);
-    assert_eq!(rt; reader.block_count(), 0);
+    assert!(rt; reader.num_docs() == 0);
+    assert!(rt; reader.block_count() == 0);
     Ok(())
 }

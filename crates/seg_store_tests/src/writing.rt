@@ -101,16 +101,20 @@ fn store_of_two(alloc: Global, block_size: u32) -> Result<Vec<u8>, StoreError> {
 }
 
 #[test]
-fn stores_byte_for_byte(rt: HostRuntime) -> Result<(), Fail> {
-    let alloc = rt.alloc();
-    let one = store_of_one(alloc, 16384)?;
-    assert_eq!(rt; one.as_slice(), ONE);
-    let alone = store_of_one(alloc, 0)?;
-    assert_eq!(rt; alone.as_slice(), ONE);
-    let two = store_of_two(alloc, 0)?;
-    assert_eq!(rt; two.as_slice(), TWO);
-    let both = store_of_two(alloc, 16384)?;
-    assert_eq!(rt; both.as_slice(), BOTH);
+fn stores_of_one_document(rt: HostRuntime) -> Result<(), Fail> {
+    for block_size in [0, 16384] {
+        let store = store_of_one(rt.alloc(), block_size)?;
+        assert!(rt; store.as_slice() == ONE, "{block_size}");
+    }
+    Ok(())
+}
+
+#[test]
+fn stores_of_two_documents(rt: HostRuntime) -> Result<(), Fail> {
+    for (block_size, expected) in [(0, TWO), (16384, BOTH)] {
+        let store = store_of_two(rt.alloc(), block_size)?;
+        assert!(rt; store.as_slice() == expected, "{block_size}");
+    }
     Ok(())
 }
 
@@ -118,22 +122,26 @@ fn stores_byte_for_byte(rt: HostRuntime) -> Result<(), Fail> {
 fn stored_bytes_are_kept(rt: HostRuntime) -> Result<(), Fail> {
     let alloc = rt.alloc();
     let mut writer = StoreWriter::new(alloc, Compressor::None, 0, false)?;
-    assert_eq!(rt; writer.mem_usage(), 0);
+    assert!(rt; writer.mem_usage() == 0);
     writer.store_bytes(&[1, 0, 6, 1])?;
-    assert_eq!(rt; writer.mem_usage(), 4);
+    assert!(rt; writer.mem_usage() == 4);
     let file = writer.close()?;
-    assert_eq!(rt; file.as_slice(), FLAG);
+    assert!(rt; file.as_slice() == FLAG);
     Ok(())
 }
 
+/// Whether a store of these settings is refused, since it isn't built.
+fn is_refused(alloc: Global, compressor: Compressor, threaded: bool) -> bool {
+    StoreWriter::new(alloc, compressor, 16384, threaded).err() == Some(StoreError::Compressed)
+}
+
 #[test]
-fn compressed_stores_are_refused(rt: HostRuntime) -> Result<(), Fail> {
-    let alloc = rt.alloc();
-    for compressor in [Compressor::Lz4, Compressor::Zstd] {
-        let refused = StoreWriter::new(alloc, compressor, 16384, false).err();
-        assert_eq!(rt; refused, Some(StoreError::Compressed));
+fn compressed_stores_are_refused(rt: HostRuntime) {
+    for (compressor, threaded) in [
+        (Compressor::Lz4, false),
+        (Compressor::Zstd, false),
+        (Compressor::None, true),
+    ] {
+        assert!(rt; is_refused(rt.alloc(), compressor, threaded));
     }
-    let threaded = StoreWriter::new(alloc, Compressor::None, 16384, true).err();
-    assert_eq!(rt; threaded, Some(StoreError::Compressed));
-    Ok(())
 }

@@ -36,6 +36,16 @@ fn tokens_by<T: Tokenizer>(tokenizer: &T, alloc: Global, text: &str) -> Result<T
     Ok(tokens)
 }
 
+/// Whether a tokenizer cuts a text into these tokens.
+fn has_tokens<T: Tokenizer>(
+    tokenizer: &T,
+    alloc: Global,
+    text: &str,
+    expected: &[Expected],
+) -> Result<bool, AllocError> {
+    Ok(are(&tokens_by(tokenizer, alloc, text)?, expected))
+}
+
 #[test]
 fn default_tokens(rt: HostRuntime) -> Result<(), Fail> {
     let table: [(&str, &[Expected]); 7] = [
@@ -48,42 +58,47 @@ fn default_tokens(rt: HostRuntime) -> Result<(), Fail> {
         ("Room 101B ", &[(0, 4, "room"), (5, 9, "101b")]),
     ];
     for (text, expected) in table {
-        let tokens = tokens_by(&DefaultTokenizer, rt.alloc(), text)?;
-        assert!(rt; are(&tokens, expected), "{text}");
+        assert!(rt;
+            has_tokens(&DefaultTokenizer, rt.alloc(), text, expected)?,
+            "{text}"
+        );
     }
     Ok(())
 }
 
 #[test]
-fn raw_and_whitespace_tokens(rt: HostRuntime) -> Result<(), Fail> {
-    let raw = tokens_by(&RawTokenizer, rt.alloc(), "Hello, wörld")?;
-    assert!(rt; are(&raw, &[(0, 13, "Hello, wörld")]));
-    assert!(rt; are(&tokens_by(&RawTokenizer, rt.alloc(), "")?, &[]));
-    let whitespace = tokens_by(
-        &WhitespaceTokenizer,
-        rt.alloc(),
-        " Hello,\twörld\r\n1.5\u{a0}x",
-    )?;
-    assert!(rt;
-        are(
-            &whitespace,
-            &[(1, 7, "Hello,"), (8, 14, "wörld"), (16, 22, "1.5\u{a0}x")]
-        )
-    );
+fn raw_tokens(rt: HostRuntime) -> Result<(), Fail> {
+    let table: [(&str, &[Expected]); 2] = [("Hello, wörld", &[(0, 13, "Hello, wörld")]), ("", &[])];
+    for (text, expected) in table {
+        assert!(rt;
+            has_tokens(&RawTokenizer, rt.alloc(), text, expected)?,
+            "{text}"
+        );
+    }
     Ok(())
 }
 
-fn tokens_at<A: Analyzers>(
+#[test]
+fn whitespace_tokens(rt: HostRuntime) -> Result<(), Fail> {
+    let text = " Hello,\twörld\r\n1.5\u{a0}x";
+    let expected = &[(1, 7, "Hello,"), (8, 14, "wörld"), (16, 22, "1.5\u{a0}x")];
+    assert!(rt; has_tokens(&WhitespaceTokenizer, rt.alloc(), text, expected)?);
+    Ok(())
+}
+
+/// Whether the analyzer of this name cuts `A b` into these tokens; with none, whether there is no such analyzer.
+fn has_analyzer<A: Analyzers>(
     analyzers: &A,
     alloc: Global,
     name: &str,
-) -> Result<Option<Tokens>, AllocError> {
+    expected: Option<&[Expected]>,
+) -> Result<bool, AllocError> {
     if !analyzers.known(name) {
-        return Ok(None);
+        return Ok(expected.is_none());
     }
     let mut tokens = Tokens::new(alloc);
     analyzers.tokens(alloc, name, "A b", &mut tokens)?;
-    Ok(Some(tokens))
+    Ok(expected.is_some_and(|expected| are(&tokens, expected)))
 }
 
 #[test]
@@ -100,13 +115,7 @@ fn a_manager(rt: HostRuntime) -> Result<(), Fail> {
         ("other", None),
     ];
     for (name, expected) in table {
-        let tokens = tokens_at(&manager, alloc, name)?;
-        let same = match (&tokens, expected) {
-            (Some(tokens), Some(expected)) => are(tokens, expected),
-            (None, None) => true,
-            _ => false,
-        };
-        assert!(rt; same, "{name}");
+        assert!(rt; has_analyzer(&manager, alloc, name, expected)?, "{name}");
     }
     Ok(())
 }
@@ -128,36 +137,75 @@ fn entry(alloc: Global, name: &str, kind: FieldKind) -> Result<FieldEntry, Alloc
     })
 }
 
-#[test]
-fn a_schema(rt: HostRuntime) -> Result<(), Fail> {
-    let alloc = rt.alloc();
+/// The fields `title` and `category`.
+fn two_fields(alloc: Global) -> Result<Schema, TantivyError> {
     let mut builder = SchemaBuilder::new(alloc);
-    let title = builder.add_field(entry(alloc, "title", FieldKind::Text)?)?;
-    let duplicate = builder.add_field(entry(alloc, "title", FieldKind::Bytes)?);
-    let refusal = TantivyError::SchemaError(SchemaCause::DuplicateName);
-    assert_eq!(rt; duplicate, Err(refusal));
-    let category = builder.add_field(entry(alloc, "category", FieldKind::Facet)?)?;
-    assert!(rt; title < category);
-    let schema = builder.build();
-    assert_eq!(rt; schema.num_fields(), 2);
-    assert_eq!(rt; schema.get_field("title"), Ok(title));
-    assert_eq!(rt; schema.get_field("category"), Ok(Field::from_field_id(1)));
-    assert_eq!(rt; schema.get_field("other"), Err(TantivyError::FieldNotFound));
-    let kept = &schema.fields()[1];
-    assert_eq!(rt;
-        (kept.index, kept.fast, kept.norms),
-        (IndexOption::Basic, true, false)
-    );
-    let copy = schema.copy(alloc)?;
-    assert_eq!(rt; copy.num_fields(), 2);
-    assert_eq!(rt; copy.get_field("category"), Ok(category));
-    assert_eq!(rt; copy.fields()[1].index, IndexOption::Basic);
-    Ok(())
+    builder.add_field(entry(alloc, "title", FieldKind::Text)?)?;
+    builder.add_field(entry(alloc, "category", FieldKind::Facet)?)?;
+    Ok(builder.build())
+}
+
+/// Whether the schema has just the fields `title` and `category`, in this order.
+fn has_two_fields(schema: &Schema) -> bool {
+    schema.num_fields() == 2
+        && schema.get_field("title") == Ok(Field::from_field_id(0))
+        && schema.get_field("category") == Ok(Field::from_field_id(1))
+        && schema.get_field("other") == Err(TantivyError::FieldNotFound)
+}
+
+/// Whether a facet field is indexed and fast, without lengths, though its entry said otherwise.
+fn is_facet_field(entry: &FieldEntry) -> bool {
+    entry.index == IndexOption::Basic && entry.fast && !entry.norms
 }
 
 #[test]
-fn facets(rt: HostRuntime) -> Result<(), Fail> {
-    let alloc = rt.alloc();
+fn a_schema_and_its_copy(rt: HostRuntime) -> Result<(), Fail> {
+    let schema = two_fields(rt.alloc())?;
+    let copy = schema.copy(rt.alloc())?;
+    for schema in [&schema, &copy] {
+        assert!(rt; has_two_fields(schema));
+        assert!(rt;
+            schema
+                .fields()
+                .get(1)
+                .is_some_and(|entry| is_facet_field(entry))
+        );
+    }
+    Ok(())
+}
+
+/// Whether a second field of the name `title` is refused.
+fn is_second_title_refused(alloc: Global) -> Result<bool, AllocError> {
+    let first = entry(alloc, "title", FieldKind::Text)?;
+    let second = entry(alloc, "title", FieldKind::Bytes)?;
+    let mut builder = SchemaBuilder::new(alloc);
+    if builder.add_field(first).is_err() {
+        return Ok(false);
+    }
+    let refusal = TantivyError::SchemaError(SchemaCause::DuplicateName);
+    Ok(builder.add_field(second) == Err(refusal))
+}
+
+#[test]
+fn names_are_distinct(rt: HostRuntime) -> Result<(), Fail> {
+    assert!(rt; is_second_title_refused(rt.alloc())?);
+    Ok(())
+}
+
+/// Whether a facet has this path.
+fn has_path(alloc: Global, facet: &Facet, path: &str) -> Result<bool, ValueError> {
+    Ok(facet.to_path_string(alloc)?.as_str() == path)
+}
+
+/// Whether a path is encoded so, and told again.
+fn is_encoded(alloc: Global, path: &str, encoded: &str) -> Result<bool, ValueError> {
+    let facet = Facet::from_text(alloc, path)?;
+    let told = has_path(alloc, &facet, path)?;
+    Ok(told && facet.encoded_str() == encoded)
+}
+
+#[test]
+fn facets_of_paths(rt: HostRuntime) -> Result<(), Fail> {
     for (path, encoded) in [
         ("/", ""),
         ("/electronics", "electronics"),
@@ -168,19 +216,27 @@ fn facets(rt: HostRuntime) -> Result<(), Fail> {
         ("/日本/ä", "日本\0ä"),
         ("/a\\/b", "a\\\0b"),
     ] {
-        let facet = Facet::from_text(alloc, path)?;
-        assert_eq!(rt; facet.encoded_str(), encoded, "{path}");
-        assert_eq!(rt; facet.to_path_string(alloc)?.as_str(), path);
+        assert!(rt; is_encoded(rt.alloc(), path, encoded)?, "{path}");
     }
+    Ok(())
+}
+
+#[test]
+fn texts_that_are_no_path(rt: HostRuntime) {
     for malformed in ["", "a", "a/b", "//", "//a", "/a/", "/a//b", "/a\0b"] {
-        let refusal = Facet::from_text(alloc, malformed).err();
-        assert_eq!(rt; refusal, Some(ValueError::Malformed), "{malformed}");
+        let refusal = Facet::from_text(rt.alloc(), malformed).err();
+        assert!(rt; refusal == Some(ValueError::Malformed), "{malformed}");
     }
+}
+
+#[test]
+fn facets_of_encoded_texts(rt: HostRuntime) -> Result<(), Fail> {
+    let alloc = rt.alloc();
+    assert!(rt; has_path(alloc, &Facet::root(alloc), "/")?);
     let mut facet = Facet::from_encoded_string(String::from_str(alloc, "a/\0b")?);
-    assert_eq!(rt; facet.to_path_string(alloc)?.as_str(), "/a//b");
+    assert!(rt; has_path(alloc, &facet, "/a//b")?);
     facet.set_encoded_str("c")?;
-    assert_eq!(rt; facet.encoded_str(), "c");
-    assert_eq!(rt; Facet::root(alloc).to_path_string(alloc)?.as_str(), "/");
+    assert!(rt; facet.encoded_str() == "c");
     Ok(())
 }
 
@@ -193,9 +249,8 @@ fn has_bytes(term: Result<Term, ValueError>, expected: &[u8]) -> bool {
 }
 
 #[test]
-fn terms(rt: HostRuntime) -> Result<(), Fail> {
-    let alloc = rt.alloc();
-    let field = Field::from_field_id(3);
+fn terms_of_signed_numbers(rt: HostRuntime) {
+    let (alloc, field) = (rt.alloc(), Field::from_field_id(3));
     for (value, expected) in [
         (i64::MIN, b"\0\0\0\0\0\0\0\0"),
         (-1, b"\x7f\xff\xff\xff\xff\xff\xff\xff"),
@@ -203,6 +258,11 @@ fn terms(rt: HostRuntime) -> Result<(), Fail> {
     ] {
         assert!(rt; has_bytes(Term::from_field_i64(alloc, field, value), expected));
     }
+}
+
+#[test]
+fn terms_of_other_kinds(rt: HostRuntime) -> Result<(), Fail> {
+    let (alloc, field) = (rt.alloc(), Field::from_field_id(3));
     let moment = DateTime::from_timestamp_nanos(-1_999_999_999);
     let cut = b"\x7f\xff\xff\xff\xc4\x65\x36\0";
     assert!(rt; has_bytes(Term::from_field_date(alloc, field, moment), cut));
@@ -222,16 +282,24 @@ fn terms(rt: HostRuntime) -> Result<(), Fail> {
 
 fn schema_with_dots(alloc: Global) -> Result<Schema, TantivyError> {
     let mut builder = SchemaBuilder::new(alloc);
-    let _ = builder.add_field(entry(alloc, "a", FieldKind::Json)?)?;
-    let _ = builder.add_field(entry(alloc, "a.b", FieldKind::Json)?)?;
-    let _ = builder.add_field(entry(alloc, "c\\.d", FieldKind::Json)?)?;
+    builder.add_field(entry(alloc, "a", FieldKind::Json)?)?;
+    builder.add_field(entry(alloc, "a.b", FieldKind::Json)?)?;
+    builder.add_field(entry(alloc, "c\\.d", FieldKind::Json)?)?;
     Ok(builder.build())
+}
+
+/// Whether a name leads to this path of this field; field 9 is the default.
+fn leads_to(schema: &Schema, name: &str, field: u32, path: &str) -> bool {
+    let default = Field::from_field_id(9);
+    match schema.find_field_with_default(name, Some(default)) {
+        Some((found, found_path)) => found.field_id() == field && found_path == path,
+        None => false,
+    }
 }
 
 #[test]
 fn names_with_paths(rt: HostRuntime) -> Result<(), Fail> {
     let schema = schema_with_dots(rt.alloc())?;
-    let default = Field::from_field_id(9);
     for (name, field, path) in [
         ("a", 0, ""),
         ("a.b", 1, ""),
@@ -242,27 +310,13 @@ fn names_with_paths(rt: HostRuntime) -> Result<(), Fail> {
         ("c\\.d.e\\.f", 2, "e\\.f"),
         ("b.a", 9, "b.a"),
     ] {
-        match schema.find_field_with_default(name, Some(default)) {
-            Some(found) => {
-                assert_eq!(rt; found.0.field_id(), field, "{name}");
-                assert_eq!(rt; found.1, path, "{name}");
-            }
-            None => panic!(rt; "{name}"),
-        }
+        assert!(rt; leads_to(&schema, name, field, path), "{name}");
     }
     assert!(rt; schema.find_field_with_default("b.a", None).is_none());
     Ok(())
 }
 
 #[test]
-fn a_document(rt: HostRuntime) -> Result<(), Fail> {
-    let field = Field::from_field_id(0);
-    let mut document = TantivyDocument::new(rt.alloc());
-    document.add_text(field, "a text")?;
-    assert_eq!(rt; document.len(), 1);
-    let (found, value) = document.pair(0);
-    assert_eq!(rt; found, field);
-    assert!(rt; matches!(value, OwnedValue::Str(text) if text.as_str() == "a text"));
-    assert_eq!(rt; FieldType::from(FieldKind::Text), FieldType::Str);
-    Ok(())
+fn types_of_kinds(rt: HostRuntime) {
+    assert!(rt; FieldType::from(FieldKind::Text) == FieldType::Str);
 }

@@ -64,14 +64,22 @@ fn document(alloc: Global, field: u32, value: OwnedValue) -> Result<TantivyDocum
     Ok(document)
 }
 
+/// Whether two of the values are equal just where they are one.
+fn equals_itself_alone(alloc: Global, at: u64, other_at: u64) -> Result<bool, AllocError> {
+    let one = value(alloc, at)?;
+    one.texts_are_utf8();
+    let other = value(alloc, other_at)?;
+    Ok((one == other) == (at == other_at))
+}
+
 #[test]
 fn each_value_equals_itself_alone(rt: HostRuntime) -> Result<(), Fail> {
     for at in 0..16 {
-        let one = value(rt.alloc(), at)?;
-        one.texts_are_utf8();
         for other_at in 0..16 {
-            let other = value(rt.alloc(), other_at)?;
-            assert!(rt; (one == other) == (at == other_at), "{at} and {other_at}");
+            assert!(rt;
+                equals_itself_alone(rt.alloc(), at, other_at)?,
+                "{at} and {other_at}"
+            );
         }
     }
     Ok(())
