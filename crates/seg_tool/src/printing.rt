@@ -34,13 +34,8 @@ pub(crate) fn push_segment(
 ) -> Result<(), AllocError>
     ensures { OnOk result (out.new.items ≡ out.old.items ++ segment_text reader.now.schema (read_segment label.now id reader.now)) }
 {
-    push_header(
-        out,
-        label,
-        id,
-        reader.max_doc() as usize,
-        reader.max_doc() as usize,
-    )?;
+    let documents = reader.max_doc() as usize;
+    push_header(out, label, id, documents, documents)?;
     push_fields(out, alloc, reader)?;
     push_documents(out, alloc, reader.schema(), reader.store_reader())
 }
