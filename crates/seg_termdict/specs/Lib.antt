@@ -1,7 +1,9 @@
 pub mod Building
 pub mod Dictionary
+pub mod DictionaryTypes
 pub mod LookUps
 pub mod Merging
 pub mod Ranges
+pub mod StreamEnds
 pub mod Streaming
 pub mod Writing

@@ -79,6 +79,10 @@ before_all terms = record { terms = terms; taken = 0 }
 abbrev pub no_ranked : RankedTerm TermInfo
 no_ranked = record { ord = 0; key = no_term.0; info = no_term.1 }
 
+-- a term apart from its ordinal
+abbrev pub without_ord : RankedTerm TermInfo → Term
+without_ord t = (t.key, t.info)
+
 -- the term that a streamer has come to last
 abbrev pub current : RangeStream → RankedTerm TermInfo
 current s = get_or (no_ranked ∷ s.terms) s.taken no_ranked

@@ -18,10 +18,10 @@ use crate::streamer::TermStreamer;
 use crate::streamer_builder::TermStreamerBuilder;
 use crate::tables::{ends_table, info_table, key_bytes};
 use seg_common::{OwnedBytes, TermInfo};
-use std::alloc::Global;
+use std::alloc::{AllocError, Global};
 use std::marker::Model;
 
-/// The terms of a field in the order of their keys, in the bytes that they were written to.
+/// The terms of a field in the order of their keys, in the bytes that they were written to. A copy takes no memory.
 #[derive(Drop)]
 pub struct TermDictionary {
     bytes: OwnedBytes,
@@ -168,5 +168,19 @@ impl TermDictionary {
             self.count,
             key,
         )
+    }
+}
+
+/// Shares the bytes, and never fails.
+impl Clone for TermDictionary {
+    ghost is_clone = { λ dictionary copy. copy ≡ dictionary };
+
+    ghost is_infallible = { λ _. Unit {0} };
+
+    fn clone(&self) -> Result<TermDictionary, AllocError> {
+        Ok(TermDictionary {
+            bytes: self.bytes.share(),
+            count: self.count,
+        })
     }
 }

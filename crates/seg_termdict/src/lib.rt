@@ -6,13 +6,14 @@
 //! streamer goes over what `streamed` of `seg_model` has of them. A merger is seen as what is left of the
 //! `merged_terms` of its streamers, and the term that it has come to; as nothing, once memory was lacking.
 //!
-//! To be read in this order: `error`, `format`; `written_terms`, `builder`; `tables`, `keys`, `infos`, `check`,
-//! `dictionary`; `streamer`; `kept_key`, `streamer_builder`, `range_streamer`; `head`, `merger`.
+//! To be read in this order: `error`, `format`, `dictionary_type`; `written_terms`, `builder`; `tables`, `keys`, `infos`,
+//! `check`, `dictionary`; `streamer`; `kept_key`, `streamer_builder`, `range_streamer`; `head`, `merger`.
 #![tactic(auto)]
 
 mod builder;
 mod check;
 mod dictionary;
+mod dictionary_type;
 mod error;
 mod format;
 mod head;
@@ -28,6 +29,7 @@ mod written_terms;
 
 pub use builder::TermDictionaryBuilder;
 pub use dictionary::TermDictionary;
+pub use dictionary_type::DictionaryType;
 pub use error::TermDictError;
 pub use format::TermOrdinal;
 pub use merger::TermMerger;

@@ -1,6 +1,7 @@
 //! The terms of a range, one after another.
-ghost use Rattle.std.specs.Prelude.{◌≡◌, ◌+◌, ◌<◌, ◌≤◌, nat_lt, length};
-ghost use Rattle.seg_termdict.specs.Ranges.{before_all, between, place_of, current, advanced};
+ghost use Rattle.std.specs.Prelude.{◌≡◌, ◌+◌, ◌<◌, ◌≤◌, nat_lt, length, option_map, slice_get};
+ghost use Rattle.std.specs.Borrow.{sem};
+ghost use Rattle.seg_termdict.specs.Ranges.{before_all, between, place_of, without_ord, current, advanced};
 
 use crate::dictionary::TermDictionary;
 use crate::format::TermOrdinal;
@@ -31,6 +32,8 @@ impl<'a> Model for RangeStreamer<'a> {
 }
 
 impl<'a> RangeStreamer<'a> {
+    ghost use Rattle.seg_termdict.specs.StreamEnds.{EndsRangeAdvanced};
+
     /// Stands before the terms from one place up to another.
     pub(crate) fn new(
         dictionary: &'a TermDictionary,
@@ -66,6 +69,17 @@ impl<'a> RangeStreamer<'a> {
         true
     }
 
+    /// Goes on to the next term, and lends its key and what is known of it; at the end it stays at the last.
+    pub fn next(&mut self) -> Option<(&[u8], &TermInfo)>
+        ensures term { option_map (λ t. (t.0.now, t.1.now)) result ≡ option_map without_ord (slice_get self.old.terms self.old.taken) }
+        ensures* place { sem 𝓛 (EndsRangeAdvanced self.entry) }
+    {
+        if !self.advance() {
+            return None;
+        }
+        Some(self.term())
+    }
+
     /// The place of the term among all of the dictionary; 0 before the first `advance`.
     pub fn term_ord(&self) -> TermOrdinal
         ensures { result ≡ (current self.now).ord }
@@ -94,6 +108,13 @@ impl<'a> RangeStreamer<'a> {
         ensures { result.now ≡ (current self.now).info }
     {
         &self.info
+    }
+
+    /// `key` and `value`, lent at once.
+    fn term(&self) -> (&[u8], &TermInfo)
+        ensures { (result.0.now, result.1.now) ≡ without_ord (current self.now) }
+    {
+        (self.key(), self.value())
     }
 }
 

@@ -1,5 +1,6 @@
 //! The terms of a dictionary, one after another.
-ghost use Rattle.std.specs.Prelude.{◌≡◌, ◌-◌, ◌<◌, nat_lt, length, map};
+ghost use Rattle.std.specs.Prelude.{◌≡◌, ◌-◌, ◌<◌, nat_lt, length, map, option_map, slice_get};
+ghost use Rattle.std.specs.Borrow.{sem};
 ghost use Rattle.std.specs.Cmp.Lexicographic.{slice_cmp};
 ghost use Rattle.std.specs.List.Sorted.{IsStrictlySortedBy};
 ghost use Rattle.std.specs.Ordering.{nat_cmp};
@@ -32,6 +33,8 @@ impl<'a> Model for TermStreamer<'a> {
 }
 
 impl<'a> TermStreamer<'a> {
+    ghost use Rattle.seg_termdict.specs.StreamEnds.{EndsAdvanced};
+
     /// Stands before the first term.
     pub(crate) fn new(dictionary: &'a TermDictionary) -> TermStreamer<'a>
         ensures { result ≡ all_terms dictionary.now }
@@ -61,6 +64,17 @@ impl<'a> TermStreamer<'a> {
         self.info = self.dictionary.term_info_from_ord(self.taken as u64);
         self.taken += 1;
         true
+    }
+
+    /// Goes on to the next term, and lends its key and what is known of it; at the end it stays at the last.
+    pub fn next(&mut self) -> Option<(&[u8], &TermInfo)>
+        ensures term { option_map (λ t. (t.0.now, t.1.now)) result ≡ slice_get self.old.terms self.old.taken }
+        ensures* place { sem 𝓛 (EndsAdvanced self.entry) }
+    {
+        if !self.advance() {
+            return None;
+        }
+        Some(self.term())
     }
 
     /// The place of the term; 0 before the first `advance`.
@@ -95,5 +109,12 @@ impl<'a> TermStreamer<'a> {
         ensures { result.now ≡ (current self.now).1 }
     {
         &self.info
+    }
+
+    /// `key` and `value`, lent at once.
+    fn term(&self) -> (&[u8], &TermInfo)
+        ensures { (result.0.now, result.1.now) ≡ current self.now }
+    {
+        (self.key(), self.value())
     }
 }

@@ -2,13 +2,13 @@
 
 use seg_common::{OwnedBytes, TermInfo};
 use seg_termdict::{
-    TermDictError, TermDictionary, TermDictionaryBuilder, TermOrdinal, TermStreamer,
+    DictionaryType, TermDictError, TermDictionary, TermDictionaryBuilder, TermOrdinal, TermStreamer,
 };
 use std::alloc::Global;
 use std::test::Fail;
 
 /// The terms `a`, of one document, and `b`, of two.
-const TWO: &[u8] = &[
+pub(crate) const TWO: &[u8] = &[
     2, 0, 0, 0, 0, 0, 0, 0, // two keys
     1, 0, 0, 0, 0, 0, 0, 0, // the end of the first
     2, 0, 0, 0, 0, 0, 0, 0, // the end of the second
@@ -26,7 +26,7 @@ const TWO: &[u8] = &[
     1, 0, 0, 0, 3, 0, 0, 0, // version and type
 ];
 
-const FIRST: TermInfo = TermInfo {
+pub(crate) const FIRST: TermInfo = TermInfo {
     doc_freq: 1,
     postings_start: 0,
     postings_end: 3,
@@ -34,7 +34,7 @@ const FIRST: TermInfo = TermInfo {
     positions_end: 1,
 };
 
-const SECOND: TermInfo = TermInfo {
+pub(crate) const SECOND: TermInfo = TermInfo {
     doc_freq: 2,
     postings_start: 3,
     postings_end: 3,
@@ -42,7 +42,7 @@ const SECOND: TermInfo = TermInfo {
     positions_end: 4,
 };
 
-fn open(alloc: Global, bytes: &[u8]) -> Result<TermDictionary, TermDictError> {
+pub(crate) fn open(alloc: Global, bytes: &[u8]) -> Result<TermDictionary, TermDictError> {
     let Ok(bytes) = OwnedBytes::new(alloc, bytes) else {
         return Err(TermDictError::OutOfMemory);
     };
@@ -93,6 +93,39 @@ fn terms_are_streamed(rt: HostRuntime) -> Result<(), Fail> {
     assert!(rt; !stream.advance());
     assert!(rt; is_at(&stream, b"b", 1, SECOND));
     Ok(())
+}
+
+/// Keys with one long front, of which the first is the front of the second.
+fn long_keys(alloc: Global) -> Result<TermDictionary, TermDictError> {
+    let mut builder = TermDictionaryBuilder::create(alloc)?;
+    builder.insert(b"abcdefghijklmnopqrstuvwxy", &FIRST)?;
+    builder.insert(b"abcdefghijklmnopqrstuvwxyz", &SECOND)?;
+    open(alloc, &builder.finish()?)
+}
+
+#[test]
+fn keys_with_one_front_are_told_apart(rt: HostRuntime) -> Result<(), Fail> {
+    let dictionary = long_keys(rt.alloc())?;
+    let mut stream = dictionary.stream();
+    assert!(rt; stream.advance() && is_at(&stream, b"abcdefghijklmnopqrstuvwxy", 0, FIRST));
+    assert!(rt; stream.advance() && is_at(&stream, b"abcdefghijklmnopqrstuvwxyz", 1, SECOND));
+    assert!(rt; dictionary.term_ord(b"abcdefghijklmnopqrstuvwx").is_none());
+    Ok(())
+}
+
+#[test]
+fn a_copy_answers_alike(rt: HostRuntime) -> Result<(), Fail> {
+    let copy = open(rt.alloc(), TWO)?.clone()?;
+    assert!(rt; copy.num_terms() == 2 && copy.term_ord(b"b") == Some(1));
+    Ok(())
+}
+
+#[test]
+fn types_have_their_numbers(rt: HostRuntime) {
+    let wrong = Err(TermDictError::WrongType);
+    assert!(rt; DictionaryType::try_from(1) == Ok(DictionaryType::Fst));
+    assert!(rt; DictionaryType::try_from(2) == Ok(DictionaryType::SSTable));
+    assert!(rt; DictionaryType::try_from(0) == wrong && DictionaryType::try_from(3) == wrong);
 }
 
 #[test]

@@ -2,10 +2,16 @@
 #![tactic(auto)]
 
 #[cfg(test)]
+mod bounds;
+#[cfg(test)]
 mod builder;
 #[cfg(test)]
 mod dictionary;
 #[cfg(test)]
 mod merger;
 #[cfg(test)]
+mod next;
+#[cfg(test)]
 mod ranges;
+#[cfg(test)]
+mod words;

@@ -2,37 +2,12 @@
 ghost use Rattle.std.specs.Prelude.{◌≡◌, ◌∷◌, [], ◌++◌, OnOk};
 ghost use Rattle.seg_termdict.specs.Streaming.{all_terms};
 
-use seg_common::{OwnedBytes, TermInfo};
+use crate::words::{INFO, four_words, opened};
 use seg_termdict::{
     TermDictError, TermDictionary, TermDictionaryBuilder, TermMerger, TermOrdinal, TermStreamer,
 };
 use std::alloc::{AllocError, Global};
 use std::test::Fail;
-
-/// What is known of each word.
-const INFO: TermInfo = TermInfo {
-    doc_freq: 1,
-    postings_start: 0,
-    postings_end: 0,
-    positions_start: 0,
-    positions_end: 0,
-};
-
-fn opened(alloc: Global, bytes: Vec<u8>) -> Result<TermDictionary, TermDictError> {
-    let Ok(bytes) = OwnedBytes::from_vec(alloc, bytes) else {
-        return Err(TermDictError::OutOfMemory);
-    };
-    TermDictionary::open(bytes)
-}
-
-fn four_words(alloc: Global) -> Result<TermDictionary, TermDictError> {
-    let mut builder = TermDictionaryBuilder::create(alloc)?;
-    builder.insert(b"abba", &INFO)?;
-    builder.insert(b"bjork", &INFO)?;
-    builder.insert(b"blur", &INFO)?;
-    builder.insert(b"donovan", &INFO)?;
-    opened(alloc, builder.finish()?)
-}
 
 fn two_words(alloc: Global) -> Result<TermDictionary, TermDictError> {
     let mut builder = TermDictionaryBuilder::create(alloc)?;
@@ -97,5 +72,32 @@ fn each_key_comes_once(rt: HostRuntime) -> Result<(), Fail> {
     let one = four_words(rt.alloc())?;
     let two = two_words(rt.alloc())?;
     assert!(rt; comes_to_each(rt.alloc(), &one, &two)?);
+    Ok(())
+}
+
+/// Whether a merger of an empty dictionary and one of `blur` and `cap` gives these, and then none.
+fn comes_to_two<'a>(
+    alloc: Global,
+    empty: &'a TermDictionary,
+    two: &'a TermDictionary,
+) -> Result<bool, TermDictError> {
+    let mut merger = merger_of(alloc, empty, two)?;
+    let blur = comes_to(&mut merger, b"blur", &[(1, 0)])?;
+    let cap = comes_to(&mut merger, b"cap", &[(1, 1)])?;
+    Ok(blur && cap && !merger.advance()?)
+}
+
+#[test]
+fn an_empty_dictionary_adds_nothing(rt: HostRuntime) -> Result<(), Fail> {
+    let empty = TermDictionary::empty(rt.alloc())?;
+    let two = two_words(rt.alloc())?;
+    assert!(rt; comes_to_two(rt.alloc(), &empty, &two)?);
+    Ok(())
+}
+
+#[test]
+fn nothing_is_merged(rt: HostRuntime) -> Result<(), Fail> {
+    let mut merger = TermMerger::new(rt.alloc(), Vec::new(rt.alloc()))?;
+    assert!(rt; !merger.advance()? && !merger.advance()?);
     Ok(())
 }

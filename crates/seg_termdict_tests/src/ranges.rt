@@ -1,32 +1,9 @@
 //! Ranges of the terms of a dictionary.
 
-use seg_common::{OwnedBytes, TermInfo};
-use seg_termdict::{
-    RangeStreamer, TermDictError, TermDictionary, TermDictionaryBuilder, TermOrdinal,
-};
-use std::alloc::Global;
+use crate::words::{INFO, four_words};
+use seg_common::TermInfo;
+use seg_termdict::{RangeStreamer, TermDictionary, TermOrdinal};
 use std::test::Fail;
-
-/// What is known of each word.
-const INFO: TermInfo = TermInfo {
-    doc_freq: 1,
-    postings_start: 0,
-    postings_end: 0,
-    positions_start: 0,
-    positions_end: 0,
-};
-
-fn dictionary(alloc: Global) -> Result<TermDictionary, TermDictError> {
-    let mut builder = TermDictionaryBuilder::create(alloc)?;
-    builder.insert(b"abba", &INFO)?;
-    builder.insert(b"bjork", &INFO)?;
-    builder.insert(b"blur", &INFO)?;
-    builder.insert(b"donovan", &INFO)?;
-    let Ok(bytes) = OwnedBytes::from_vec(alloc, builder.finish()?) else {
-        return Err(TermDictError::OutOfMemory);
-    };
-    TermDictionary::open(bytes)
-}
 
 /// Whether a streamer goes on to a term with this key, at this place.
 fn comes_to(stream: &mut RangeStreamer<'_>, key: &[u8], ord: TermOrdinal) -> bool {
@@ -45,7 +22,7 @@ fn nothing_is_in_an_empty_dictionary(rt: HostRuntime) -> Result<(), Fail> {
 
 #[test]
 fn all_terms(rt: HostRuntime) -> Result<(), Fail> {
-    let words = dictionary(rt.alloc())?;
+    let words = four_words(rt.alloc())?;
     let mut stream = words.range(rt.alloc()).into_stream();
     assert!(rt; stream.key().is_empty());
     assert_eq!(rt; *stream.value(), TermInfo::default());
@@ -60,7 +37,7 @@ fn all_terms(rt: HostRuntime) -> Result<(), Fail> {
 
 #[test]
 fn bounds_that_no_term_has(rt: HostRuntime) -> Result<(), Fail> {
-    let words = dictionary(rt.alloc())?;
+    let words = four_words(rt.alloc())?;
     let mut stream = words.range(rt.alloc()).ge(b"b")?.lt(b"d")?.into_stream();
     assert!(rt; comes_to(&mut stream, b"bjork", 1));
     assert!(rt; comes_to(&mut stream, b"blur", 2));
@@ -70,7 +47,7 @@ fn bounds_that_no_term_has(rt: HostRuntime) -> Result<(), Fail> {
 
 #[test]
 fn backward(rt: HostRuntime) -> Result<(), Fail> {
-    let words = dictionary(rt.alloc())?;
+    let words = four_words(rt.alloc())?;
     let range = words.range(rt.alloc()).ge(b"b")?.lt(b"d")?;
     let mut stream = range.backward().backward().into_stream();
     assert!(rt; comes_to(&mut stream, b"blur", 2));
@@ -82,7 +59,7 @@ fn backward(rt: HostRuntime) -> Result<(), Fail> {
 
 #[test]
 fn reversed_bounds(rt: HostRuntime) -> Result<(), Fail> {
-    let words = dictionary(rt.alloc())?;
+    let words = four_words(rt.alloc())?;
     let mut stream = words.range(rt.alloc()).ge(b"d")?.lt(b"b")?.into_stream();
     assert!(rt; !stream.advance());
     assert!(rt; stream.key().is_empty());
@@ -91,7 +68,7 @@ fn reversed_bounds(rt: HostRuntime) -> Result<(), Fail> {
 
 #[test]
 fn strict_bounds(rt: HostRuntime) -> Result<(), Fail> {
-    let words = dictionary(rt.alloc())?;
+    let words = four_words(rt.alloc())?;
     let mut stream = words
         .range(rt.alloc())
         .gt(b"abba")?
@@ -104,7 +81,7 @@ fn strict_bounds(rt: HostRuntime) -> Result<(), Fail> {
 
 #[test]
 fn the_last_bounds_count(rt: HostRuntime) -> Result<(), Fail> {
-    let words = dictionary(rt.alloc())?;
+    let words = four_words(rt.alloc())?;
     let range = words.range(rt.alloc()).gt(b"donovan")?.ge(b"blur")?;
     let mut stream = range.lt(b"abba")?.le(b"donovan")?.into_stream();
     assert!(rt; comes_to(&mut stream, b"blur", 2));
