@@ -17,7 +17,7 @@ use Rattle.seg_model.specs.Reading.{Posting, term_option}
 use Rattle.seg_model.specs.Shape.{ArePostings, IsTermWith}
 use Rattle.seg_termdict.specs.Dictionary.{Term, terms_of}
 use Rattle.seg_termdict.proofs.SortedKeys.{dictionary_sorted}
-use Rattle.seg_postings.specs.Postings.{TermPostings, term_postings}
+use Rattle.seg_postings.specs.Postings.{term_postings}
 use Rattle.seg_postings.specs.Field.{term_at, terms_at}
 use Rattle.seg_postings.specs.FieldWriting.{TermWritten}
 use Rattle.seg_postings.specs.HeldTerms.{TermsReadHaveShape}

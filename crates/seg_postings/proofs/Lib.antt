@@ -1,4 +1,6 @@
+mod AliveLeft
 mod DictionaryRanges
+mod FewLeft
 mod FieldGoals
 mod FieldMap
 mod FieldRead

@@ -6,7 +6,7 @@ use Rattle.std.proofs.lemmas.Bool.{leb-true}
 use Rattle.seg_common.specs.Varint.{varint_at}
 use Rattle.seg_values.specs.declared.schema.IndexOption.{IndexOption}
 use Rattle.seg_values.specs.declared.schema.IndexOption.TheVariants as options
-use Rattle.seg_model.specs.Reading.{presence, frequency, positions, Posting}
+use Rattle.seg_model.specs.Reading.{presence, frequency, Posting}
 use Rattle.seg_model.specs.Shape.{IsRecordOf, ArePostings}
 use Rattle.seg_postings.specs.declared.record_kind.RecordKind.{RecordKind}
 use Rattle.seg_postings.specs.declared.record_kind.RecordKind.TheVariants.{Documents, Counts, Positions}
@@ -40,7 +40,7 @@ abbrev Rise : ℕ → ℕ → List Counted → Type 0
 Rise before least [] = Unit {0}
 Rise before least (c ∷ cs) = (before + least ≤ c.document) × (1 ≤ c.count) × Rise c.document 1 cs
 
-bounded : (least limit : ℕ) (bytes : List ℕ) (n : ℕ × List ℕ) → number_at least limit bytes ≡ Some n → least ≤ n.0
+pub bounded : (least limit : ℕ) (bytes : List ℕ) (n : ℕ × List ℕ) → number_at least limit bytes ≡ Some n → least ≤ n.0
 bounded least limit bytes n e =
     let read = after (in_bounds least limit) (varint_at bytes) n e in
     by read.value (nat_le least read.value.0) (nat_lt read.value.0 limit) refl refl read.next

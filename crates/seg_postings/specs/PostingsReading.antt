@@ -1,5 +1,6 @@
 -- The postings of a term while they are read.
-use Rattle.std.specs.Prelude.{ℕ, ◌-◌, ◌^◌, Bool, true, List, [], ◌∷◌, length, Option, Some, None, is_some, option_map, unwrap_or}
+use Rattle.std.specs.Prelude.{ℕ, ◌-◌, ◌^◌, Bool, true, false, List, [], ◌∷◌, length, get_or, Option, Some, None, is_some, option_map, unwrap_or}
+use Rattle.std.specs.List.{count_by}
 use Rattle.seg_model.specs.Reading.{Recorded, presence, frequency, positions, Posting}
 use Rattle.seg_postings.specs.declared.documents.CountedDocument.{CountedDocument}
 use Rattle.seg_postings.specs.declared.record_kind.RecordKind.{RecordKind}
@@ -63,3 +64,7 @@ kind_kept (positions ps) = Positions
 abbrev pub kept_kind_of : List Posting → Option RecordKind
 kept_kind_of [] = None
 kept_kind_of (p ∷ ps) = Some (kind_kept p.recorded)
+
+-- how many of the documents are alive; one beyond the set isn't
+abbrev pub alive_count : List Bool → List Posting → ℕ
+alive_count alive ps = count_by (λ p. get_or alive p.document false) ps

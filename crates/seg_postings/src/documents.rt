@@ -12,7 +12,7 @@ use crate::record_kind::RecordKind;
 use seg_common::VInt;
 
 /// No document has this id or a greater one.
-pub(crate) const TERMINATED: u32 = u32::MAX;
+pub const TERMINATED: u32 = u32::MAX;
 
 /// A document, and how often a term occurs in it: 1 where that isn't kept.
 #[derive(Clone, Copy)]

@@ -1,14 +1,16 @@
 //! A field that is open.
-ghost use Rattle.std.specs.Prelude.{◌≡◌, map, length};
+ghost use Rattle.std.specs.Prelude.{◌≡◌, [], map, length, IfOk, IfErr};
 ghost use Rattle.std.specs.FinMap.{entries};
 ghost use Rattle.std.specs.List.{AllByRecursion, Any};
 ghost use Rattle.seg_postings.specs.FieldReading.{IsReadable, read_term, dictionary_terms, written_terms};
 ghost use Rattle.seg_postings.specs.HeldTerms.{terms_held};
 
+use crate::error::PostingsError;
 use crate::range::bytes_in;
 use crate::segment_postings::SegmentPostings;
 use seg_common::{OwnedBytes, TermInfo};
 use seg_termdict::TermDictionary;
+use std::alloc::Global;
 use std::marker::Model;
 
 /// The terms of a field with their postings, in the bytes that they were written to. It is seen as the total of the
@@ -34,6 +36,21 @@ impl Model for InvertedIndexReader {
 }
 
 impl InvertedIndexReader {
+    /// A field without terms.
+    pub fn empty(alloc: Global) -> Result<InvertedIndexReader, PostingsError>
+        ensures terms { IfOk result (λ reader. reader.terms ≡ []) }
+        ensures total { IfOk result (λ reader. reader.total ≡ 0) }
+        ensures err { IfErr result (λ e. e ≡ PostingsError.OutOfMemory) }
+    {
+        let Ok(terms) = TermDictionary::empty(alloc) else {
+            return Err(PostingsError::OutOfMemory);
+        };
+        let Ok(bytes) = OwnedBytes::new(alloc, &[]) else {
+            return Err(PostingsError::OutOfMemory);
+        };
+        Ok(InvertedIndexReader::new(terms, 0, bytes.share(), bytes))
+    }
+
     /// Of the postings behind the total.
     pub(crate) fn new(
         terms: TermDictionary,

@@ -40,6 +40,7 @@ mod record_kind;
 mod segment_postings;
 mod terms_check;
 
+pub use documents::TERMINATED;
 pub use error::PostingsError;
 pub use field_norm_reader::FieldNormReader;
 pub use field_norm_readers::FieldNormReaders;

@@ -1,13 +1,14 @@
 //! The postings of a term, one after another.
-ghost use Rattle.std.specs.Prelude.{◌≡◌, ◌<◌, ◌-◌, ◌++◌, ℕ, true, is_some, drop, option_map, unwrap_or, [], Some, None, IfErr, OnOk, MatchOption};
+ghost use Rattle.std.specs.Prelude.{◌≡◌, ◌<◌, ◌-◌, ◌^◌, ◌++◌, ℕ, true, is_some, drop, length, option_map, unwrap_or, [], Some, None, IfErr, OnOk, MatchOption};
 ghost use Rattle.seg_postings.specs.Postings.{positions_at, term_postings};
 ghost use Rattle.seg_postings.specs.PostingsLeft.{postings_from};
-ghost use Rattle.seg_postings.specs.PostingsReading.{kind_at, left_from, can_be_read, document_of, kept_kind_of, term_freq_of, positions_of};
+ghost use Rattle.seg_postings.specs.PostingsReading.{kind_at, left_from, can_be_read, document_of, kept_kind_of, term_freq_of, positions_of, alive_count};
 ghost use Rattle.seg_postings.specs.Written.{Rise};
 
 use crate::documents::{CountedDocument, TERMINATED, pass_recorded, take_document, take_number};
 use crate::error::PostingsError;
 use crate::record_kind::RecordKind;
+use seg_fastfield::ReadOnlyBitSet;
 use std::alloc::AllocError;
 use std::marker::Model;
 
@@ -136,6 +137,42 @@ impl<'a> SegmentPostings<'a> {
     {
         self.doc_freq
     }
+
+    /// How many of the documents from the current one on are alive: at the first, of all documents with the term. One
+    /// beyond the set isn't. It goes over them once, and takes no memory.
+    pub fn doc_freq_given_deletes(&self, alive: &ReadOnlyBitSet) -> u32
+        ensures { result ≡ alive_count alive.now self.now.left }
+    {
+        count_alive(self.share(), alive)
+    }
+
+    /// Another reader of the same postings, at the same document.
+    fn share(&self) -> SegmentPostings<'a>
+        ensures same { result ≡ self.now }
+        ensures few { length self.now.left < 2 ^ 32 }
+    {
+        SegmentPostings {
+            kind: self.kind,
+            doc_freq: self.doc_freq,
+            current: self.current,
+            left: self.left,
+            postings: self.postings,
+            positions: self.positions,
+        }
+    }
+}
+
+/// How many of the documents that are left are alive.
+fn count_alive(mut postings: SegmentPostings<'_>, alive: &ReadOnlyBitSet) -> u32
+    requires { length postings.left < 2 ^ 32 }
+    ensures { result ≡ alive_count alive.now postings.entry.left }
+{
+    let mut count = 0;
+    while let Some(_kind) = postings.record_kind() {
+        count += u32::from(alive.contains(postings.doc()));
+        postings.advance();
+    }
+    count
 }
 
 /// Takes the kind with which postings begin.

@@ -2,6 +2,8 @@
 #![tactic(auto)]
 
 #[cfg(test)]
+mod alive;
+#[cfg(test)]
 mod damage;
 #[cfg(test)]
 mod fields;
@@ -11,3 +13,5 @@ mod norms;
 mod reading;
 #[cfg(test)]
 mod walk;
+#[cfg(test)]
+mod writing;

@@ -37,6 +37,16 @@ fn lengths_in_one_byte(rt: HostRuntime) {
     }
 }
 
+#[test]
+fn each_id_stands_for_its_least_length(rt: HostRuntime) {
+    for id in 1..=u8::MAX {
+        let length = FieldNormReader::id_to_fieldnorm(id);
+        assert!(rt; FieldNormReader::fieldnorm_to_id(length) == id, "{id}");
+        let shorter = FieldNormReader::fieldnorm_to_id(length.saturating_sub(1));
+        assert!(rt; shorter == id - 1, "{id}");
+    }
+}
+
 fn entry(alloc: Global, name: &str, norms: bool) -> Result<FieldEntry, AllocError>
     ensures { IfOk result (λ e. is_allowed e.kind e.index ≡ true) }
 {
