@@ -1,5 +1,5 @@
 -- How many documents a store has.
-use Rattle.std.proofs.Common.{◌≡◌, ℕ, suc, ◌+◌, Bool, true, false, List, [], ◌∷◌, ◌++◌, length, map, Option, Some, None, refl, sym, ap, ◌∙◌, length-append, arith}
+use Rattle.std.proofs.Common.{◌≡◌, ℕ, suc, ◌+◌, true, List, [], ◌∷◌, length, map, Option, Some, None, refl, sym, ap, ◌∙◌, length-append, arith}
 use Rattle.std.specs.Prelude.{is_some}
 use Rattle.std.specs.List.{list_all, flat_map}
 use Rattle.std.specs.Option.{option_to_list}
@@ -7,7 +7,7 @@ use Rattle.std.proofs.lemmas.Bool.{and_parts, false≢true}
 use Rattle.seg_values.specs.Tree.{Document}
 use Rattle.seg_store.specs.StoredDocument.{stored_document_of, is_stored_document}
 use Rattle.seg_store.specs.Block.{Block, documents_in, is_block}
-use Rattle.seg_store.specs.Store.{is_store, blocks_of, store_parts, document_count, documents_of}
+use Rattle.seg_store.specs.Store.{is_store, blocks_of, store_parts, document_count, raw_documents, documents_of}
 use Rattle.seg_store.proofs.DocumentPlaces.{block_facts, store_facts, blocks_cut}
 
 one_of : (o : Option Document) → is_some o ≡ true → length (option_to_list o) ≡ 1
@@ -35,3 +35,8 @@ in_parts (p ∷ ps) h =
 pub number_of_documents : (bytes : List ℕ) → is_store bytes ≡ true → length (documents_of (blocks_of bytes)) ≡ document_count (blocks_of bytes)
 number_of_documents bytes h =
     ap (λ bs. length (documents_of bs)) (blocks_cut bytes) ∙ in_parts (store_parts bytes) (store_facts bytes h).blocks ∙ ap document_count (sym (blocks_cut bytes))
+
+-- each document has its bytes
+pub number_of_raw : (bs : List Block) → length (raw_documents bs) ≡ document_count bs
+number_of_raw [] = refl
+number_of_raw (b ∷ bs) = length-append b (raw_documents bs) ∙ ap (λ n. length b + n) (number_of_raw bs)

@@ -156,7 +156,7 @@ block_at bytes i start end h lt start_is end_is =
 -- ---- documents of a store
 
 -- a document, by the block that it is in
-pub raw_at : (bs : List Block) (i doc : ℕ) (b : Block) → slice_get bs i ≡ Some b → document_count (take i bs) ≤ doc → doc < document_count (take (suc i) bs) → (slice_get (raw_documents bs) doc ≡ slice_get b (doc - document_count (take i bs))) × (doc - document_count (take i bs) < length b)
+raw_at : (bs : List Block) (i doc : ℕ) (b : Block) → slice_get bs i ≡ Some b → document_count (take i bs) ≤ doc → doc < document_count (take (suc i) bs) → (slice_get (raw_documents bs) doc ≡ slice_get b (doc - document_count (take i bs))) × (doc - document_count (take i bs) < length b)
 raw_at [] i doc b is from to = absurd (none-some b is)
 raw_at (x ∷ xs) zero doc b is from to =
     let same = same_Some x b is in
@@ -170,6 +170,14 @@ raw_at (x ∷ xs) (suc i) doc b is from to =
     let p = raw_at xs i (doc - length x) b is (omega (arith, lower)) (omega (arith, lower, to)) in
     let same : doc - length x - before ≡ doc - (length x + before) = omega arith in
     (get-right x (raw_documents xs) (doc - length x) doc rest ∙ p.0 ∙ ap (slice_get b) same, omega (arith, p.1, same))
+
+-- a document in its block, whose first document has a number
+pub raw_in_block : (bs : List Block) (block : List ℕ) (number first doc : ℕ) → slice_get bs number ≡ Some (documents_in block) → first ≡ document_count (take number bs) → document_count (take number bs) ≤ doc → doc < document_count (take (number + 1) bs) → (slice_get (raw_documents bs) doc ≡ slice_get (documents_in block) (doc - first)) × (doc - first < length (documents_in block))
+raw_in_block bs block number first doc is first_is from to =
+    let next = ap (λ n. document_count (take n bs)) (add-one number) in
+    let r = raw_at bs number doc (documents_in block) is from (omega (arith, to, next)) in
+    let same : doc - document_count (take number bs) ≡ doc - first = omega (arith, first_is) in
+    (r.0 ∙ ap (slice_get (documents_in block)) same, omega (arith, r.1, same))
 
 pub all_stored : (parts : List (List ℕ)) → list_all is_block parts ≡ true → list_all is_stored_document (raw_documents (map documents_in parts)) ≡ true
 all_stored [] h = refl
@@ -213,7 +221,7 @@ first_below : (bytes : List ℕ) (doc index : ℕ) → is_store bytes ≡ true �
 first_below bytes doc zero h le before = omega arith
 first_below bytes doc (suc i) h le before = omega (arith, doc_end_at bytes i h (omega (arith, le)), before i (add-one i))
 
-first_number : (bytes : List ℕ) (index first : ℕ) → is_store bytes ≡ true → index ≤ store_count bytes → (index ≡ 0 → first ≡ 0) → ((i : ℕ) → index ≡ i + 1 → first ≡ u32_at (store_table bytes) (12 * i)) → first ≡ document_count (take index (blocks_of bytes))
+pub first_number : (bytes : List ℕ) (index first : ℕ) → is_store bytes ≡ true → index ≤ store_count bytes → (index ≡ 0 → first ≡ 0) → ((i : ℕ) → index ≡ i + 1 → first ≡ u32_at (store_table bytes) (12 * i)) → first ≡ document_count (take index (blocks_of bytes))
 first_number bytes zero first h le at_first after = at_first refl
 first_number bytes (suc i) first h le at_first after = after i (sym (add-one i)) ∙ doc_end_at bytes i h (omega (arith, le))
 
@@ -234,44 +242,32 @@ below bytes table doc index f =
     first_below bytes doc index f.store (omega (arith, f.within, size bytes table doc index f))
     (λ i is. let same = ap (λ t. u32_at t (12 * i)) f.table_is in omega (arith, f.before i is, same))
 
-index_below : (n index : ℕ) (bs : List Block) (doc : ℕ) → length bs ≡ n → doc < document_count bs → document_count (take index bs) ≤ doc → (n ≤ index → ⊥)
+pub index_below : (n index : ℕ) (bs : List Block) (doc : ℕ) → length bs ≡ n → doc < document_count bs → document_count (take index bs) ≤ doc → (n ≤ index → ⊥)
 index_below n index bs doc len lt le past =
     let all = ap document_count (take_all index bs (omega (arith, len, past))) in
     omega (arith, all, lt, le)
 
-pub found_within : (bytes table : List ℕ) (doc index : ℕ) → IsFound bytes table doc index → index < store_count bytes
+found_within : (bytes table : List ℕ) (doc index : ℕ) → IsFound bytes table doc index → index < store_count bytes
 found_within bytes table doc index f =
     let not_past : store_count bytes ≤ index → ⊥ = index_below (store_count bytes) index (blocks_of bytes) doc (block_number bytes) f.doc_within (below bytes table doc index f) in
     omega (arith, not_past)
 
-pub found_room : (bytes table : List ℕ) (doc index : ℕ) → IsFound bytes table doc index → 12 * (index + 1) ≤ length table
+found_room : (bytes table : List ℕ) (doc index : ℕ) → IsFound bytes table doc index → 12 * (index + 1) ≤ length table
 found_room bytes table doc index f = omega (arith, found_within bytes table doc index f, size bytes table doc index f)
 
-pub record IsPlaced (bytes : List ℕ) (doc start end first : ℕ) : Type 0 where
-  pub from : start ≤ end
-  pub within : end ≤ length bytes
-  pub block : is_block (slice_range bytes start end) ≡ true
-  pub lower : first ≤ doc
-  pub document : doc - first < length (documents_in (slice_range bytes start end))
-  pub is : slice_get (raw_documents (blocks_of bytes)) doc ≡ slice_get (documents_in (slice_range bytes start end)) (doc - first)
+-- the block that was found has the document
+pub record HasDocument (bytes : List ℕ) (doc number : ℕ) : Type 0 where
+  pub within : number < length (blocks_of bytes)
+  pub from : document_count (take number (blocks_of bytes)) ≤ doc
+  pub to : doc < document_count (take (suc number) (blocks_of bytes))
 
-pub placed : (bytes table : List ℕ) (doc index start end first : ℕ) → IsFound bytes table doc index → start ≡ start_of 0 (map (λ c. c.1) (checkpoints_of (store_count bytes) table)) index → end ≡ u64_at table (12 * index + 4) → (index ≡ 0 → first ≡ 0) → ((i : ℕ) → index ≡ i + 1 → first ≡ u32_at table (12 * i)) → IsPlaced bytes doc start end first
-placed bytes table doc index start end first f start_is end_is at_first after =
+pub has_document : (bytes table : List ℕ) (doc index : ℕ) → IsFound bytes table doc index → HasDocument bytes doc index
+has_document bytes table doc index f =
     let lt = found_within bytes table doc index f in
-    let t = f.table_is in
-    let b = block_at bytes index start end f.store lt (start_is ∙ ap (λ l. start_of 0 (map (λ c. c.1) (checkpoints_of (store_count bytes) l)) index) t) (end_is ∙ ap (λ l. u64_at l (12 * index + 4)) t) in
-    let lower = below bytes table doc index f in
-    let number : first ≡ document_count (take index (blocks_of bytes)) = first_number bytes index first f.store (omega (arith, lt)) at_first (λ i is. after i is ∙ ap (λ l. u32_at l (12 * i)) t) in
-    let upper : doc < document_count (take (suc index) (blocks_of bytes)) = omega (arith, f.past (found_room bytes table doc index f), ap (λ l. u32_at l (12 * index)) t, doc_end_at bytes index f.store lt) in
-    let r = raw_at (blocks_of bytes) index doc (documents_in (slice_range bytes start end)) b.is lower upper in
-    let same : doc - document_count (take index (blocks_of bytes)) ≡ doc - first = omega (arith, number) in
     record {
-      from = b.from;
-      within = b.within;
-      block = b.block;
-      lower = omega (arith, number, lower);
-      document = omega (arith, r.1, same);
-      is = r.0 ∙ ap (slice_get (documents_in (slice_range bytes start end))) same;
+      within = omega (arith, lt, block_number bytes);
+      from = below bytes table doc index f;
+      to = omega (arith, f.past (found_room bytes table doc index f), ap (λ l. u32_at l (12 * index)) f.table_is, doc_end_at bytes index f.store lt);
     }
 
 -- ---- how many documents there are
@@ -313,3 +309,21 @@ byte_end_at bytes i h lt =
     let found : slice_get es i ≡ Some (u64_at (store_table bytes) (12 * i + 4)) = slice_get-map (λ c. c.1) (store_checkpoints bytes) i ∙ ap (option_map (λ c. c.1)) (checkpoint_found (store_count bytes) (store_table bytes) i lt) in
     let cut = ap (λ bs. stored_size (take (suc i) bs)) (blocks_cut bytes) in
     omega (arith, byte_end_from 0 es (store_body bytes) i (u64_at (store_table bytes) (12 * i + 4)) f.ends f.blocks found, cut)
+
+-- ---- how many bytes there are
+
+size_from : (start : ℕ) (ends bytes : List ℕ) → are_ends start (length bytes) ends ≡ true → list_all is_block (cut_from start ends bytes) ≡ true → length bytes ≡ start + stored_size (map documents_in (cut_from start ends bytes))
+size_from start [] bytes h all = omega (arith, eqb-true start (length bytes) h)
+size_from start (x ∷ xs) bytes h all =
+    let n = ends-next start (length bytes) x xs h in
+    let p = and_parts (is_block (slice_range bytes start x)) (list_all is_block (cut_from x xs bytes)) all in
+    let part = length-range bytes start x n.from n.within in
+    omega (arith, n.from, part, block_size_is (slice_range bytes start x) p.0, size_from x xs bytes n.others p.1)
+
+pub file_size : (bytes : List ℕ) → is_store bytes ≡ true → length bytes ≡ stored_size (blocks_of bytes) + 12 * length (blocks_of bytes) + 9
+file_size bytes h =
+    let f = store_facts bytes h in
+    let body = size_from 0 (map (λ c. c.1) (store_checkpoints bytes)) (store_body bytes) f.ends f.blocks in
+    let front = length-take (length bytes - 9) bytes in
+    let size = length-take (length (but_last 9 bytes) - 12 * store_count bytes) (but_last 9 bytes) in
+    omega (arith, f.room, body, front, size, block_number bytes, ap stored_size (blocks_cut bytes))

@@ -1,4 +1,8 @@
+pub mod AliveDocuments
+pub mod BlockNumbers
 pub mod Blocks
+pub mod CacheEntries
+pub mod CacheUses
 pub mod Cases
 pub mod CutParts
 pub mod Cutting

@@ -2,10 +2,9 @@
 use Rattle.std.proofs.Common.{◌≡◌, ℕ, zero, suc, true, false, List, length, [], ◌∷◌, ◌++◌, Option, Some, None, refl, sym, ap, ◌∙◌}
 use Rattle.std.specs.Prelude.{is_some, nat_eq}
 use Rattle.std.specs.List.{slice_get, list_all, flat_map}
-use Rattle.std.specs.Option.{option_to_list}
+use Rattle.std.specs.Option.{option_to_list, option_and_then}
 use Rattle.std.proofs.lemmas.Bool.{and_parts, false≢true}
 use Rattle.std.proofs.lemmas.Grind.{flat_map-append}
-use Rattle.std.proofs.lemmas.Option.{none-some, same_Some}
 use Rattle.seg_values.specs.Tree.{Document}
 use Rattle.seg_store.specs.Block.{Block}
 use Rattle.seg_store.specs.Store.{store_parts, raw_documents, documents_of, blocks_of, is_store}
@@ -25,25 +24,29 @@ others_read (Some d) others i some = refl
 abbrev read_all : List (List ℕ) → List Document
 read_all raws = flat_map (λ d. option_to_list (stored_document_of d)) raws
 
-read_at : (raws : List (List ℕ)) (i : ℕ) (x : List ℕ) → list_all is_stored_document raws ≡ true → slice_get raws i ≡ Some x → slice_get (read_all raws) i ≡ stored_document_of x
-read_at [] i x all is = absurd (none-some x is)
-read_at (y ∷ ys) zero x all is =
-    first_read (stored_document_of y) (read_all ys) (and_parts (is_stored_document y) (list_all is_stored_document ys) all).0
-    ∙ ap stored_document_of (same_Some y x is)
-read_at (y ∷ ys) (suc i) x all is =
-    let p = and_parts (is_stored_document y) (list_all is_stored_document ys) all in
-    others_read (stored_document_of y) (read_all ys) i p.0 ∙ read_at ys i x p.1 is
-
 documents_are_read : (bs : List Block) → documents_of bs ≡ read_all (raw_documents bs)
 documents_are_read [] = refl
 documents_are_read (b ∷ bs) =
     ap (λ ds. read_all b ++ ds) (documents_are_read bs) ∙ sym (flat_map-append (λ d. option_to_list (stored_document_of d)) b (raw_documents bs))
 
+read_any : (raws : List (List ℕ)) (i : ℕ) → list_all is_stored_document raws ≡ true → slice_get (read_all raws) i ≡ option_and_then stored_document_of (slice_get raws i)
+read_any [] i all = refl
+read_any (y ∷ ys) zero all = first_read (stored_document_of y) (read_all ys) (and_parts (is_stored_document y) (list_all is_stored_document ys) all).0
+read_any (y ∷ ys) (suc i) all =
+    let p = and_parts (is_stored_document y) (list_all is_stored_document ys) all in
+    others_read (stored_document_of y) (read_all ys) i p.0 ∙ read_any ys i p.1
+
+-- a document of stored ones is what its bytes read as
+pub stored_read : (bs : List Block) (doc : ℕ) → list_all is_stored_document (raw_documents bs) ≡ true → slice_get (documents_of bs) doc ≡ option_and_then stored_document_of (slice_get (raw_documents bs) doc)
+stored_read bs doc all = ap (λ ds. slice_get ds doc) (documents_are_read bs) ∙ read_any (raw_documents bs) doc all
+
+pub all_are_stored : (bytes : List ℕ) → is_store bytes ≡ true → list_all is_stored_document (raw_documents (blocks_of bytes)) ≡ true
+all_are_stored bytes h = ap (λ bs. list_all is_stored_document (raw_documents bs)) (blocks_cut bytes) ∙ all_stored (store_parts bytes) (store_facts bytes h).blocks
+
 -- the document whose stored form is at a place
 pub document_read : (bytes : List ℕ) (doc : ℕ) (x : List ℕ) → is_store bytes ≡ true → slice_get (raw_documents (blocks_of bytes)) doc ≡ Some x → slice_get (documents_of (blocks_of bytes)) doc ≡ stored_document_of x
 document_read bytes doc x h is =
-    let stored : list_all is_stored_document (raw_documents (blocks_of bytes)) ≡ true = ap (λ bs. list_all is_stored_document (raw_documents bs)) (blocks_cut bytes) ∙ all_stored (store_parts bytes) ((store_facts bytes h).blocks) in
-    ap (λ ds. slice_get ds doc) (documents_are_read (blocks_of bytes)) ∙ read_at (raw_documents (blocks_of bytes)) doc x stored is
+    stored_read (blocks_of bytes) doc (all_are_stored bytes h) ∙ ap (option_and_then stored_document_of) is
 
 -- ---- a document by its pairs
 

@@ -1,6 +1,9 @@
+pub mod Alive
 pub mod Block
 pub mod BlockLaw
 pub mod Buffers
+pub mod Cache
+pub mod CachedBlocks
 pub mod Checkpoints
 pub mod Ends
 pub mod Making

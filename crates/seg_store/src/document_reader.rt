@@ -1,12 +1,16 @@
 //! Documents out of their stored bytes.
-ghost use Rattle.std.specs.Prelude.{◌≡◌, ℕ, List, Some, None, IfOk, MatchOption};
+ghost use Rattle.std.specs.Prelude.{◌≡◌, ◌<◌, ℕ, List, true, length, Some, None, IfOk, IfErr, MatchOption, slice_get};
+ghost use Rattle.std.specs.Option.{option_and_then};
 ghost use Rattle.seg_values.specs.Tree.{Document};
 ghost use Rattle.seg_values.specs.View.{tree_of};
+ghost use Rattle.seg_store.specs.Block.{is_block, documents_in};
 ghost use Rattle.seg_store.specs.Making.{Makes};
 ghost use Rattle.seg_store.specs.Reader as read;
 ghost use Rattle.seg_store.specs.StoredDocument as documents;
 
 use crate::document_check::MOST_LEVELS;
+use crate::error::StoreError;
+use crate::locating::place_in_block;
 use crate::pieces::{take_small, take_varint};
 use crate::tree_reader::read_tree;
 use seg_values::{Field, OwnedValue, TantivyDocument};
@@ -27,6 +31,24 @@ pub(crate) fn document_of(
         return Ok(None);
     }
     Ok(Some(document))
+}
+
+/// A document of a block.
+pub(crate) fn document_in_block(
+    alloc: Global,
+    block: &[u8],
+    index: usize,
+) -> Result<TantivyDocument, StoreError>
+    requires block { is_block block.now ≡ true }
+    requires within { index < length (documents_in block.now) }
+    ensures ok { IfOk result (λ d. option_and_then documents.stored_document_of (slice_get (documents_in block.now) index) ≡ Some d) }
+    ensures err { IfErr result (λ e. e ≡ StoreError.OutOfMemory) }
+{
+    let (start, end) = place_in_block(block, index);
+    let Some(document) = document_of(alloc, &block[start..end])? else {
+        return Err(StoreError::Malformed);
+    };
+    Ok(document)
 }
 
 /// Pairs behind their number.

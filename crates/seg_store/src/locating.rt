@@ -1,8 +1,9 @@
 //! Where documents lie in a store: the block by a search in the checkpoints, and the document by the ends in that block.
-ghost use Rattle.std.specs.Prelude.{◌≡◌, ◌≤◌, ◌<◌, ◌+◌, ◌-◌, ◌*◌, ℕ, true, length, map, slice_range, Some};
+ghost use Rattle.std.specs.Prelude.{◌≡◌, ◌≤◌, ◌<◌, ◌+◌, ◌*◌, ℕ, true, length, take, map, slice_range, Some};
 ghost use Rattle.std.specs.List.{slice_get};
 ghost use Rattle.seg_common.specs.LittleEndian as numbers;
 ghost use Rattle.seg_store.specs.Block.{block_table, is_block, documents_in};
+ghost use Rattle.seg_store.specs.Cache.{block_of};
 ghost use Rattle.seg_store.specs.Ends.{numbers_of, start_of};
 ghost use Rattle.seg_store.specs.Store.{store_table, checkpoints_of, is_store, blocks_of, raw_documents, document_count};
 
@@ -18,27 +19,51 @@ pub(crate) fn document_place(bytes: &[u8], doc: u32) -> (usize, usize)
     ensures within { result.1 ≤ length bytes.now }
     ensures is { slice_get (raw_documents (blocks_of bytes.now)) doc ≡ Some (slice_range bytes.now result.0 result.1) }
 {
-    let (start, end, first) = block_place(bytes, doc);
+    let number = block_number(bytes, doc);
+    place_in_store(bytes, number, doc)
+}
+
+/// Where a document of a block starts and ends in a store.
+pub(crate) fn place_in_store(bytes: &[u8], number: usize, doc: u32) -> (usize, usize)
+    requires store { is_store bytes.now ≡ true }
+    requires number { number < length (blocks_of bytes.now) }
+    requires from { document_count (take number (blocks_of bytes.now)) ≤ doc }
+    requires to { doc < document_count (take (number + 1) (blocks_of bytes.now)) }
+    ensures order { result.0 ≤ result.1 }
+    ensures within { result.1 ≤ length bytes.now }
+    ensures is { slice_get (raw_documents (blocks_of bytes.now)) doc ≡ Some (slice_range bytes.now result.0 result.1) }
+{
+    let (start, end) = block_place(bytes, number);
+    let first = first_document(checkpoint_table(bytes), number);
     let (from, to) = place_in_block(&bytes[start..end], (doc - first) as usize);
     (start + from, start + to)
 }
 
-/// Where the block of a document starts and ends in a store, and the number of its first document.
-fn block_place(bytes: &[u8], doc: u32) -> (usize, usize, u32)
+/// The number of the block that has a document.
+pub(crate) fn block_number(bytes: &[u8], doc: u32) -> usize
     requires store { is_store bytes.now ≡ true }
     requires within { doc < document_count (blocks_of bytes.now) }
+    ensures is { result ≡ block_of (blocks_of bytes.now) doc }
+    ensures number { result < length (blocks_of bytes.now) }
+    ensures from { document_count (take result (blocks_of bytes.now)) ≤ doc }
+    ensures to { doc < document_count (take (result + 1) (blocks_of bytes.now)) }
+{
+    first_past(checkpoint_table(bytes), doc)
+}
+
+/// Where a block starts and ends in a store.
+pub(crate) fn block_place(bytes: &[u8], number: usize) -> (usize, usize)
+    requires store { is_store bytes.now ≡ true }
+    requires number { number < length (blocks_of bytes.now) }
     ensures order { result.0 ≤ result.1 }
     ensures within { result.1 ≤ length bytes.now }
     ensures block { is_block (slice_range bytes.now result.0 result.1) ≡ true }
-    ensures first { result.2 ≤ doc }
-    ensures document { doc - result.2 < length (documents_in (slice_range bytes.now result.0 result.1)) }
-    ensures is { slice_get (raw_documents (blocks_of bytes.now)) doc ≡ slice_get (documents_in (slice_range bytes.now result.0 result.1)) (doc - result.2) }
+    ensures is { slice_get (blocks_of bytes.now) number ≡ Some (documents_in (slice_range bytes.now result.0 result.1)) }
 {
     let table = checkpoint_table(bytes);
-    let index = first_past(table, doc);
-    let start = block_start(table, index);
-    let end = checkpoint_at(table, index).byte_end as usize;
-    (start, end, first_document(table, index))
+    let start = block_start(table, number);
+    let end = checkpoint_at(table, number).byte_end as usize;
+    (start, end)
 }
 
 /// The table of checkpoints.
@@ -82,7 +107,7 @@ fn block_start(table: &[u8], index: usize) -> usize
 }
 
 /// The number of the first document of a block.
-fn first_document(table: &[u8], index: usize) -> u32
+pub(crate) fn first_document(table: &[u8], index: usize) -> u32
     requires { 12 * index ≤ length table.now }
     ensures first { index ≡ 0 → result ≡ 0 }
     ensures after { (i : ℕ) → index ≡ i + 1 → result ≡ numbers.u32_at table.now (12 * i) }
@@ -94,7 +119,7 @@ fn first_document(table: &[u8], index: usize) -> u32
 }
 
 /// Where a document starts and ends in a block.
-fn place_in_block(block: &[u8], index: usize) -> (usize, usize)
+pub(crate) fn place_in_block(block: &[u8], index: usize) -> (usize, usize)
     requires block { is_block block.now ≡ true }
     requires within { index < length (documents_in block.now) }
     ensures order { result.0 ≤ result.1 }

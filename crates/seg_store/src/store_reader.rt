@@ -1,6 +1,9 @@
 //! The reader of stores.
-ghost use Rattle.std.specs.Prelude.{◌≡◌, ◌<◌, ◌+◌, true, length, take, Some, None, IfOk, IfErr, MatchResult};
+ghost use Rattle.std.specs.Prelude.{◌≡◌, ◌<◌, ◌≤◌, ◌+◌, ◌*◌, true, length, take, Some, None, option_map, IfOk, IfErr, MatchResult};
 ghost use Rattle.std.specs.List.{slice_get};
+ghost use Rattle.seg_store.specs.Alive.{alive_behind};
+ghost use Rattle.seg_store.specs.Block.{is_block, documents_in};
+ghost use Rattle.seg_store.specs.Cache.{block_of};
 ghost use Rattle.seg_store.specs.Checkpoints.{stored_size};
 ghost use Rattle.seg_store.specs.StoredDocument.{is_stored_document};
 ghost use Rattle.seg_store.specs.Store.{store_of, document_count, raw_documents, documents_of};
@@ -8,9 +11,11 @@ ghost use Rattle.seg_store.specs.Store.{store_of, document_count, raw_documents,
 use crate::checkpoint::{CHECKPOINT_BYTES, Checkpoint, checkpoint_at};
 use crate::document_reader::document_of;
 use crate::error::StoreError;
-use crate::locating::{checkpoint_table, document_place};
+use crate::locating::{self, block_place, checkpoint_table, document_place, first_document};
+use crate::raw_docs::RawDocs;
 use crate::store_check::is_store;
-use seg_common::{OwnedBytes, u32_at};
+use seg_common::{ByteCount, OwnedBytes, u32_at};
+use seg_fastfield::ReadOnlyBitSet;
 use seg_values::TantivyDocument;
 use std::alloc::Global;
 use std::marker::Model;
@@ -91,5 +96,48 @@ impl StoreReader {
             return Err(StoreError::Malformed);
         };
         Ok(document)
+    }
+
+    /// The number of the block that has a document.
+    pub(crate) fn block_number(&self, doc: u32) -> usize
+        requires { doc < document_count self.now }
+        ensures is { result ≡ block_of self.now doc }
+        ensures number { result < length self.now }
+        ensures from { document_count (take result self.now) ≤ doc }
+        ensures to { doc < document_count (take (result + 1) self.now) }
+    {
+        locating::block_number(self.bytes.as_slice(), doc)
+    }
+
+    /// The number of the first document of a block.
+    pub(crate) fn first_document(&self, number: usize) -> u32
+        requires { number < length self.now }
+        ensures { result ≡ document_count (take number self.now) }
+    {
+        first_document(checkpoint_table(self.bytes.as_slice()), number)
+    }
+
+    /// The bytes of a block.
+    pub(crate) fn block(&self, number: usize) -> OwnedBytes
+        requires { number < length self.now }
+        ensures block { is_block result ≡ true }
+        ensures is { slice_get self.now number ≡ Some (documents_in result) }
+    {
+        let (start, end) = block_place(self.bytes.as_slice(), number);
+        self.bytes.slice(start, end)
+    }
+
+    /// The bytes of the documents that are alive in a set, of all without one, in order. One past the set's size is dead.
+    pub fn iter_raw<'a>(&'a self, alive: Option<&'a ReadOnlyBitSet>) -> RawDocs<'a>
+        ensures { result ≡ alive_behind 0 (option_map (λ set. set.now) alive.entry) (raw_documents self.now) }
+    {
+        RawDocs::new(&self.bytes, alive, self.num_docs())
+    }
+
+    /// How many bytes the file has.
+    pub fn space_usage(&self) -> ByteCount
+        ensures { result.0 ≡ stored_size self.now + 12 * length self.now + 9 }
+    {
+        ByteCount(self.bytes.len() as u64)
     }
 }

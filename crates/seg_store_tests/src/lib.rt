@@ -2,7 +2,11 @@
 #![tactic(auto)]
 
 #[cfg(test)]
+mod caching;
+#[cfg(test)]
 mod damage;
+#[cfg(test)]
+mod raw_documents;
 #[cfg(test)]
 mod read_back;
 #[cfg(test)]

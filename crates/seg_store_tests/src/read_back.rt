@@ -146,6 +146,45 @@ fn a_text_with_tokens_is_read_as_its_text(rt: HostRuntime) -> Result<(), Fail> {
     Ok(())
 }
 
+/// A text with tokens, and a text without.
+fn texts_with_tokens(alloc: Global) -> Result<TantivyDocument, AllocError>
+    ensures { IfOk result AreShallow }
+{
+    let mut document = TantivyDocument::new(alloc);
+    let value = OwnedValue::PreTokStr(pre_tokenized(alloc)?);
+    document.add_field_value(Field::from_field_id(0), value)?;
+    document.add_text(Field::from_field_id(0), "title")?;
+    Ok(document)
+}
+
+/// The texts alone.
+fn texts(alloc: Global) -> Result<TantivyDocument, AllocError> {
+    let mut document = TantivyDocument::new(alloc);
+    document.add_text(Field::from_field_id(0), "ab")?;
+    document.add_text(Field::from_field_id(0), "title")?;
+    Ok(document)
+}
+
+/// Whether the texts are read as they are without tokens.
+fn are_read_as_texts(alloc: Global) -> Result<bool, StoreError> {
+    let schema = schema_of(alloc).ok_or(StoreError::OutOfMemory)?;
+    let document = texts_with_tokens(alloc)?;
+    let mut writer = StoreWriter::new(alloc, Compressor::None, 0, false)?;
+    writer.store(&document, &schema)?;
+    let reader = reopened(alloc, writer)?;
+    if reader.num_docs() != 1 {
+        return Ok(false);
+    }
+    Ok(reader.get(alloc, 0)? == texts(alloc)?)
+}
+
+#[test]
+fn tokens_are_left_out_among_texts(rt: HostRuntime) -> Result<(), Fail> {
+    let alloc = rt.alloc();
+    assert!(rt; are_read_as_texts(alloc)?);
+    Ok(())
+}
+
 /// The value `{"a": [1, null]}`.
 fn json(alloc: Global) -> Result<OwnedValue, AllocError>
     ensures { IfOk result (λ v. levels (tree_of v) ≤ 3) }

@@ -1,6 +1,6 @@
 //! Stores that were written by hand, read.
 
-use seg_common::{CommonError, OwnedBytes};
+use seg_common::{ByteCount, CommonError, OwnedBytes};
 use seg_store::{Checkpoint, StoreError, StoreReader};
 use std::alloc::Global;
 use std::test::Fail;
@@ -22,6 +22,18 @@ const THREE: &[u8] = &[
     2, 0, 0, 0, 25, 0, 0, 0, 0, 0, 0, 0, // two documents, 25 bytes
     3, 0, 0, 0, 40, 0, 0, 0, 0, 0, 0, 0, // three documents, 40 bytes
     2, 0, 0, 0, 3, 0, 0, 0, 0, // two blocks, three documents, no compression
+];
+
+/// The same blocks, and one with a null in field 8.
+pub(crate) const FOUR: &[u8] = &[
+    0, 1, 0, 6, 1, // the documents of the first block
+    1, 0, 0, 0, 0, 0, 0, 0, 5, 0, 0, 0, 0, 0, 0, 0, 2, 0, 0, 0, // they end at 1 and at 5
+    1, 7, 0, 3, 0, 0, 0, 0, 0, 0, 0, 1, 0, 0, 0, // the second block
+    1, 8, 0, 3, 0, 0, 0, 0, 0, 0, 0, 1, 0, 0, 0, // the third block
+    2, 0, 0, 0, 25, 0, 0, 0, 0, 0, 0, 0, // two documents, 25 bytes
+    3, 0, 0, 0, 40, 0, 0, 0, 0, 0, 0, 0, // three documents, 40 bytes
+    4, 0, 0, 0, 55, 0, 0, 0, 0, 0, 0, 0, // four documents, 55 bytes
+    3, 0, 0, 0, 4, 0, 0, 0, 0, // three blocks, four documents, no compression
 ];
 
 /// A store without a block.
@@ -94,5 +106,15 @@ fn a_store_may_be_empty(rt: HostRuntime) -> Result<(), Fail> {
     let reader = open(rt.alloc(), NONE)?;
     assert!(rt; reader.num_docs() == 0);
     assert!(rt; reader.block_count() == 0);
+    Ok(())
+}
+
+#[test]
+fn space_is_that_of_the_file(rt: HostRuntime) -> Result<(), Fail> {
+    let alloc = rt.alloc();
+    for (bytes, size) in [(NONE, 9), (THREE, 73), (FOUR, 100)] {
+        let reader = open(alloc, bytes)?;
+        assert!(rt; reader.space_usage() == ByteCount(size), "{size}");
+    }
     Ok(())
 }
