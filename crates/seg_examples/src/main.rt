@@ -10,7 +10,15 @@ use std::fs;
 use std::rt::Files;
 
 fn main(rt: HostRuntime) -> Result<()> {
-    for name in ["notes", "mail", "catalogue", "options"] {
+    for name in [
+        "notes",
+        "mail",
+        "catalogue",
+        "options",
+        "deletes",
+        "filters",
+        "log",
+    ] {
         compare(&rt, name)?;
         println!(rt; "{name}: as expected")?;
     }

@@ -1,109 +1,113 @@
 -- The calls that write an index, all in turn.
-use Rattle.std.proofs.Common.{◌≡◌, ◌≢◌, ℕ, List, [], ◌∷◌, sym, ap, ◌∙◌, subst, Result, Ok, Err, Bool, None}
-use Rattle.std.specs.Prelude.{IsTrue, OnOk}
-use Rattle.std.specs.FinMap.{get, len, empty_of_len, get-empty}
+use Rattle.std.proofs.Common.{◌≡◌, ◌≢◌, ◌<◌, ℕ, List, [], ◌∷◌, ◌++◌, map, sym, ap, ◌∙◌, subst, append_assoc, Result, Ok, Err, Bool, arith}
+use Rattle.std.specs.Prelude.{IsTrue}
 use Rattle.std.specs.List.{AllByRecursion}
-use Rattle.seg_common.specs.Names.{name_cmp}
+use Rattle.std.proofs.lemmas.List.{map-append}
 use Rattle.seg_common.specs.declared.name.FileName.{FileName}
-use Rattle.seg_common.specs.declared.name.FileName.TheVariants.{Meta, Part}
-use Rattle.seg_common.specs.declared.name.SegmentComponent.{SegmentComponent}
-use Rattle.seg_common.specs.declared.name.SegmentComponent.TheVariants as component
+use Rattle.seg_common.specs.declared.name.FileName.TheVariants.{Meta}
 use Rattle.seg_values.specs.declared.error.TantivyError.{TantivyError}
-use Rattle.seg_directory.specs.Files.{NamedFiles}
+use Rattle.seg_values.specs.declared.error.TantivyError.TheVariants.{IndexAlreadyExists}
 use Rattle.seg_directory.specs.declared.answer.Answer.{Answer}
 use Rattle.seg_directory.specs.declared.answer.Answer.TheVariants as answer
-use Rattle.seg_build.specs.SegmentFiles.{AreAbsent, HasFiles, KeepsAllBut, segment_names, wrote}
-use Rattle.seg_build.specs.declared.segment_files.SegmentBytes.{SegmentBytes}
-use Rattle.seg_open.specs.SegmentRead as segment
-use Rattle.seg_open.specs.declared.segment_files.SegmentFiles.{SegmentFiles}
-use Rattle.seg_merge.specs.Calls.{DirectoryState, Does}
+use Rattle.seg_meta.specs.Saving.{CreatingCounts}
+use Rattle.seg_model.specs.IndexOfFiles.{ListedSegment}
+use Rattle.seg_build.specs.SegmentFiles.{wrote}
+use Rattle.seg_batches.specs.Calls.{DirectoryState, Does}
+use Rattle.seg_batches.specs.Segments.{six_files, alive_files}
+use Rattle.seg_batches.proofs.Calls.{does-then, does-stop, does-among}
 use Rattle.seg_merge.specs.IndexFiles.{begun_answers, filled_answers, index_answers, index_names}
-use Rattle.seg_merge.proofs.Calls.{does-then, does-stop, does-among}
 
 abbrev pub Outcome : Type 0
 Outcome = Result (Unit {0}) TantivyError
 
-among-meta : (id : ℕ) (other : FileName) → AllByRecursion (λ name. other ≢ name) (index_names id) → AllByRecursion (λ name. other ≢ name) (Meta ∷ [])
-among-meta id other all = (all.0, tt)
+-- ---- names among others
 
-among-segment : (id : ℕ) (other : FileName) → AllByRecursion (λ name. other ≢ name) (index_names id) → AllByRecursion (λ name. other ≢ name) (segment_names id)
-among-segment id other all = all.1
+pub all-left : {X : Type 0} (P : X → Type 0) (xs ys : List X) → AllByRecursion P (xs ++ ys) → AllByRecursion P xs
+all-left P [] ys all = tt
+all-left P (x ∷ xs) ys all = (all.0, all-left P xs ys all.1)
 
-abbrev pub saved : List Answer
-saved = answer.Wrote Meta ∷ []
+pub all-right : {X : Type 0} (P : X → Type 0) (xs ys : List X) → AllByRecursion P (xs ++ ys) → AllByRecursion P ys
+all-right P [] ys all = all
+all-right P (x ∷ xs) ys all = all-right P xs ys all.1
 
--- an index is begun, among its files
-pub begun-among : (id : ℕ) (r : Outcome) (a b : DirectoryState) → Does begun_answers (Meta ∷ []) r a b → Does begun_answers (index_names id) r a b
-begun-among id r a b d = does-among r begun_answers (Meta ∷ []) (index_names id) a b (among-meta id) d
+-- a call that touches the meta, the six files of each segment, or the alive files alone
+abbrev pub Among : List FileName → List FileName → Type 0
+Among names more = (other : FileName) → AllByRecursion (λ name. other ≢ name) more → AllByRecursion (λ name. other ≢ name) names
 
--- the filling stops in the files of the segment
-pub stops-make : (id : ℕ) (e : TantivyError) (a b : DirectoryState) → Does {T = Unit {0}} (wrote (segment_names id)) (segment_names id) (Err e) a b → Does {T = Unit {0}} (filled_answers id) (index_names id) (Err e) a b
-stops-make id e a b d = does-stop e (wrote (segment_names id)) saved (index_names id) a b (does-among (Err e) (wrote (segment_names id)) (segment_names id) (index_names id) a b (among-segment id) d)
+module _ (segments : List ListedSegment) where
+  abbrev pub six : List FileName
+  six = six_files (map (λ s. s.id) segments)
 
--- it comes to the meta
-pub comes-to-save : (id : ℕ) (r : Outcome) (a b c : DirectoryState) → Does {T = Unit {0}} (wrote (segment_names id)) (segment_names id) (Ok tt) a b → Does saved (Meta ∷ []) r b c → Does (filled_answers id) (index_names id) r a c
-comes-to-save id r a b c files last =
-    does-then tt r (wrote (segment_names id)) saved (index_names id) a b c (does-among (Ok tt) (wrote (segment_names id)) (segment_names id) (index_names id) a b (among-segment id) files)
-    (does-among r saved (Meta ∷ []) (index_names id) b c (among-meta id) last)
+  abbrev pub alive : List FileName
+  alive = alive_files segments
 
--- an index that is not begun
-pub stops-create : (id : ℕ) (e : TantivyError) (a b : DirectoryState) → Does {T = Unit {0}} begun_answers (Meta ∷ []) (Err e) a b → Does {T = Unit {0}} (index_answers id) (index_names id) (Err e) a b
-stops-create id e a b d = does-stop e begun_answers (filled_answers id) (index_names id) a b (begun-among id (Err e) a b d)
+  abbrev pub saved : List Answer
+  saved = answer.Wrote Meta ∷ []
 
--- it comes to the filling
-pub comes-to-fill : (id : ℕ) (r : Outcome) (a b c : DirectoryState) → Does {T = Unit {0}} begun_answers (Meta ∷ []) (Ok tt) a b → Does (filled_answers id) (index_names id) r b c → Does (index_answers id) (index_names id) r a c
-comes-to-fill id r a b c begun filled = does-then tt r begun_answers (filled_answers id) (index_names id) a b c (begun-among id (Ok tt) a b begun) filled
+  pub among-meta : Among (Meta ∷ []) (index_names segments)
+  among-meta other all = (all.0, tt)
 
--- ---- files
+  pub among-six : Among six (index_names segments)
+  among-six other all = all-left (λ name. other ≢ name) six alive all.1
 
-not-meta : (id : ℕ) (which : SegmentComponent) → AllByRecursion (λ name. Part id which ≢ name) (Meta ∷ [])
-not-meta id which = ((λ is. cc), tt)
+  pub among-alive : Among alive (index_names segments)
+  among-alive other all = all-right (λ name. other ≢ name) six alive all.1
 
--- the files of the segment stay behind a new meta
-has-files-kept : (id : ℕ) (bytes : SegmentBytes) (old new : NamedFiles) → KeepsAllBut (Meta ∷ []) old new → HasFiles id bytes old → HasFiles id bytes new
-has-files-kept id bytes old new kept h = record {
-  norm_file = kept _ (not-meta id component.FieldNorms) ∙ h.norm_file;
-  fast_file = kept _ (not-meta id component.FastFields) ∙ h.fast_file;
-  term_file = kept _ (not-meta id component.Terms) ∙ h.term_file;
-  posting_file = kept _ (not-meta id component.Postings) ∙ h.posting_file;
-  position_file = kept _ (not-meta id component.Positions) ∙ h.position_file;
-  store_file = kept _ (not-meta id component.Store) ∙ h.store_file;
-}
+  -- the answers, file by file
+  pub filled-is : wrote six ++ (wrote alive ++ saved) ≡ filled_answers segments
+  filled-is = sym (append_assoc (wrote six) (wrote alive) saved) ∙ ap (λ xs. xs ++ saved) (sym (map-append answer.Wrote six alive))
 
-pub files-kept : (r : Outcome) (id : ℕ) (bytes : SegmentBytes) (old new : NamedFiles) → KeepsAllBut (Meta ∷ []) old new → HasFiles id bytes old → OnOk r (HasFiles id bytes new)
-files-kept (Ok x) id bytes old new kept h = has-files-kept id bytes old new kept h
-files-kept (Err e) id bytes old new kept h = tt
+  does-as : {T : Type 0} (r : Result T TantivyError) (a b : DirectoryState) → Does (wrote six ++ (wrote alive ++ saved)) (index_names segments) r a b → Does (filled_answers segments) (index_names segments) r a b
+  does-as r a b d = subst (λ answers. Does answers (index_names segments) r a b) filled-is d
 
--- and so do files that were read
-pub read-files-kept : (r : Outcome) (id : ℕ) (read : SegmentFiles) (old new : NamedFiles) → KeepsAllBut (Meta ∷ []) old new → segment.HasFiles old id read → OnOk r (segment.HasFiles new id read)
-read-files-kept (Ok x) id read old new kept (t, (s, (p, (q, (f, (n, _)))))) = (
-  kept _ (not-meta id component.Terms) ∙ t,
-  (
-    kept _ (not-meta id component.Store) ∙ s,
-    (
-      kept _ (not-meta id component.Postings) ∙ p,
-      (kept _ (not-meta id component.Positions) ∙ q, (kept _ (not-meta id component.FastFields) ∙ f, (kept _ (not-meta id component.FieldNorms) ∙ n, tt))),
-    ),
-  ),
-)
-read-files-kept (Err e) id read old new kept h = tt
+  -- ---- the work index is filled
 
--- in a directory without files a segment has none, also behind a new meta
-absent-part : (id : ℕ) (which : SegmentComponent) (old new : NamedFiles) → len old ≡ 0 → KeepsAllBut (Meta ∷ []) old new → get new (Part id which) ≡ None
-absent-part id which old new none kept = kept _ (not-meta id which) ∙ ap (λ (fs : NamedFiles). get fs (Part id which)) (empty_of_len old none) ∙ get-empty name_cmp (Part id which)
+  -- it stops in the files of the segments
+  pub stops-in-six : (e : TantivyError) (a b : DirectoryState) → Does {T = Unit {0}} (wrote six) six (Err e) a b → Does {T = Unit {0}} (filled_answers segments) (index_names segments) (Err e) a b
+  stops-in-six e a b d = does-as (Err e) a b (does-stop e (wrote six) (wrote alive ++ saved) (index_names segments) a b (does-among (Err e) (wrote six) six (index_names segments) a b among-six d))
 
-pub absent-parts : (id : ℕ) (old new : NamedFiles) → len old ≡ 0 → KeepsAllBut (Meta ∷ []) old new → AreAbsent (segment_names id) new
-absent-parts id old new none kept = (
-  absent-part id component.FieldNorms old new none kept,
-  (
-    absent-part id component.FastFields old new none kept,
-    (
-      absent-part id component.Terms old new none kept,
-      (absent-part id component.Postings old new none kept, (absent-part id component.Positions old new none kept, (absent-part id component.Store old new none kept, tt))),
-    ),
-  ),
-)
+  -- behind them
+  pub behind-six : (r : Outcome) (a b c : DirectoryState) → Does {T = Unit {0}} (wrote six) six (Ok tt) a b → Does (wrote alive ++ saved) (index_names segments) r b c → Does (filled_answers segments) (index_names segments) r a c
+  behind-six r a b c d e = does-as r a c (does-then tt r (wrote six) (wrote alive ++ saved) (index_names segments) a b c (does-among (Ok tt) (wrote six) six (index_names segments) a b among-six d) e)
+
+  -- in an alive file
+  pub stops-in-alive : (e : TantivyError) (a b : DirectoryState) → Does {T = Unit {0}} (wrote alive) alive (Err e) a b → Does {T = Unit {0}} (wrote alive ++ saved) (index_names segments) (Err e) a b
+  stops-in-alive e a b d = does-stop e (wrote alive) saved (index_names segments) a b (does-among (Err e) (wrote alive) alive (index_names segments) a b among-alive d)
+
+  -- or it comes to the meta
+  pub behind-alive : (r : Outcome) (a b c : DirectoryState) → Does {T = Unit {0}} (wrote alive) alive (Ok tt) a b → Does saved (Meta ∷ []) r b c → Does (wrote alive ++ saved) (index_names segments) r a c
+  behind-alive r a b c d e =
+      does-then tt r (wrote alive) saved (index_names segments) a b c
+      (does-among (Ok tt) (wrote alive) alive (index_names segments) a b among-alive d)
+      (does-among r saved (Meta ∷ []) (index_names segments) b c among-meta e)
+
+  -- ---- an index is begun and filled
+
+  pub begun-among : (r : Outcome) (a b : DirectoryState) → Does begun_answers (Meta ∷ []) r a b → Does begun_answers (index_names segments) r a b
+  begun-among r a b d = does-among r begun_answers (Meta ∷ []) (index_names segments) a b among-meta d
+
+  pub stops-create : (e : TantivyError) (a b : DirectoryState) → Does {T = Unit {0}} begun_answers (Meta ∷ []) (Err e) a b → Does {T = Unit {0}} (index_answers segments) (index_names segments) (Err e) a b
+  stops-create e a b d = does-stop e begun_answers (filled_answers segments) (index_names segments) a b (begun-among (Err e) a b d)
+
+  pub comes-to-fill : (r : Outcome) (a b c : DirectoryState) → Does {T = Unit {0}} begun_answers (Meta ∷ []) (Ok tt) a b → Does (filled_answers segments) (index_names segments) r b c → Does (index_answers segments) (index_names segments) r a c
+  comes-to-fill r a b c begun filled = does-then tt r begun_answers (filled_answers segments) (index_names segments) a b c (begun-among (Ok tt) a b begun) filled
+
+-- ---- what stays
 
 -- what is told is told still
 pub tells-still : (old new : Bool) → new ≡ old → IsTrue old → IsTrue new
 tells-still old new same told = subst (λ (b : Bool). IsTrue b) (sym same) told
+
+-- in a directory without files an index isn't there
+abbrev failed : TantivyError → Outcome
+failed e = Err e
+
+abbrev pub error_in : {T : Type 0} → Result T TantivyError → TantivyError
+error_in (Ok x) = IndexAlreadyExists
+error_in (Err e) = e
+
+pub never-there : (n : ℕ) (e : TantivyError) → CreatingCounts {T = Unit {0}} n (Err e) → n ≡ 0 → failed e ≢ Err IndexAlreadyExists
+never-there n e counts none is = no (subst (λ (x : TantivyError). CreatingCounts {T = Unit {0}} n (Err x)) (ap error_in is) counts)
+  where
+    no : 0 < n → ⊥
+    no some = omega (arith, some, none)

@@ -1,10 +1,17 @@
-mod Added
-mod AsAsked
-mod Both
-mod Calls
-mod FirstErrors
+mod FillCalls
+mod FillSteps
+mod FilteredSegments
 mod IndexSteps
-mod OneBatch
-mod ReadBackSteps
+mod JoinedIds
+mod MergedFiles
+mod OutputSteps
+pub mod ReadErrors
 mod Steps
-mod WorkRead
+mod WholeCalls
+mod WholeExits
+mod WholeIds
+mod WholeInput
+mod WholeJoined
+mod WholeRead
+mod WholeRefused
+mod WholeWork

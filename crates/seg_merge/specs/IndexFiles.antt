@@ -1,6 +1,6 @@
 -- The files of the indexes that are built.
-use Rattle.std.specs.Prelude.{ℕ, ◌≡◌, List, [], ◌∷◌, ◌++◌, map, length, Bool, not, true, false, Option, None, Some, codes, if◌then◌else◌}
-use Rattle.std.specs.List.{list_all, count_by, join_with_byte}
+use Rattle.std.specs.Prelude.{ℕ, ◌≡◌, List, [], ◌∷◌, ◌++◌, map, length, Option, Some, None, codes}
+use Rattle.std.specs.List.{join_with_byte}
 use Rattle.seg_common.specs.SegmentIds.{id_text}
 use Rattle.seg_common.specs.declared.name.FileName.{FileName}
 use Rattle.seg_common.specs.declared.name.FileName.TheVariants.{Meta as meta_name}
@@ -8,12 +8,13 @@ use Rattle.seg_directory.specs.declared.answer.Answer.{Answer}
 use Rattle.seg_directory.specs.declared.answer.Answer.TheVariants as answer
 use Rattle.seg_directory.specs.Files.{NamedFiles}
 use Rattle.seg_model.specs.Fields.{Schema, Analyzer}
-use Rattle.seg_model.specs.IndexOfFiles.{Deletes, ListedSegment, Meta}
+use Rattle.seg_model.specs.IndexOfFiles.{ListedSegment, Meta}
 use Rattle.seg_model.specs.IndexOfFiles as index
 use Rattle.seg_model.specs.Input.{Settings, Input, input_batches, input_survivors}
-use Rattle.seg_model.specs.Operations.{Batch}
+use Rattle.seg_model.specs.Operations.{Operation, batches}
 use Rattle.seg_build.specs.Forms.{segment_forms}
-use Rattle.seg_build.specs.SegmentFiles.{segment_names, wrote}
+use Rattle.seg_build.specs.SegmentFiles.{wrote}
+use Rattle.seg_batches.specs.Segments.{WrittenSegment, segments_of, all_listed, six_files, alive_files, AllStand, AllTellAlive}
 
 -- ---- ids
 
@@ -29,103 +30,90 @@ output_id [] = 0
 output_id (id ∷ []) = id
 output_id (id ∷ other ∷ ids) = output_id (other ∷ ids)
 
--- the first id
-abbrev pub first_id : List ℕ → ℕ
-first_id [] = 0
-first_id (id ∷ ids) = id
-
 -- ---- metas
 
 -- what an index says of itself whose segment was merged from these
 abbrev pub merge_payload : List ℕ → List ℕ
 merge_payload ids = codes "Segments Merge: [" ++ (join_with_byte 32 (map id_text ids) ++ codes "]")
 
--- the deletes of a segment: none where all its documents are alive
-abbrev pub deletes_of : ℕ → List Bool → Option Deletes
-deletes_of stamp alive = if list_all (λ b. b) alive then None else Some (record { number = count_by not alive; stamp = stamp })
+-- the segments of operations that are cut in batches, each under its id
+abbrev pub written_of : Schema → Analyzer → List ℕ → List ℕ → List Operation → List WrittenSegment
+written_of schema analyzer ids cuts operations = segments_of ids (batches schema analyzer cuts operations)
 
--- a batch, as its segment is listed
-abbrev pub listed : ℕ → ℕ → Batch → ListedSegment
-listed stamp id batch = record { id = id; documents = length batch.documents; deletes = deletes_of stamp batch.alive }
+-- as a meta lists them: deletes count up to the number of operations
+abbrev pub listed_of : Schema → Analyzer → List ℕ → List ℕ → List Operation → List ListedSegment
+listed_of schema analyzer ids cuts operations = all_listed (length operations) (written_of schema analyzer ids cuts operations)
 
--- and each
-abbrev pub all_listed : ℕ → List ℕ → List Batch → List ListedSegment
-all_listed stamp [] batches = []
-all_listed stamp (id ∷ ids) [] = []
-all_listed stamp (id ∷ ids) (batch ∷ batches) = listed stamp id batch ∷ all_listed stamp ids batches
+-- those of an input
+abbrev pub work_segments : Analyzer → Input → List WrittenSegment
+work_segments analyzer input = written_of input.schema analyzer (work_ids input.ids) input.cuts input.operations
+
+-- as its meta lists them
+abbrev pub work_listed : Analyzer → Input → List ListedSegment
+work_listed analyzer input = listed_of input.schema analyzer (work_ids input.ids) input.cuts input.operations
+
+-- an index of segments with deletes
+abbrev pub segments_meta : Settings → Schema → ℕ → List ListedSegment → Meta
+segments_meta settings schema stamp segments = record { settings = settings; schema = schema; stamp = stamp; payload = None; segments = segments }
+
+-- a segment without deletes
+abbrev pub undeleted : ℕ → ℕ → ListedSegment
+undeleted id documents = record { id = id; documents = documents; deletes = None }
+
+-- an index of one segment of so many documents, which was merged from the segments with these ids
+abbrev pub merged_meta : Settings → Schema → List ℕ → ℕ → ℕ → Meta
+merged_meta settings schema ids id documents = record {
+  settings = settings;
+  schema = schema;
+  stamp = 0;
+  payload = Some (merge_payload ids);
+  segments = undeleted id documents ∷ [];
+}
 
 -- the meta of the work index: one segment a batch, and the number of operations as its stamp
 abbrev pub work_meta : Analyzer → Input → Meta
-work_meta analyzer input = record {
-  settings = input.settings;
-  schema = input.schema;
-  stamp = length input.operations;
-  payload = None;
-  segments = all_listed (length input.operations) (work_ids input.ids) (input_batches analyzer input);
-}
+work_meta analyzer input = segments_meta input.settings input.schema (length input.operations) (work_listed analyzer input)
 
 -- the meta of the output index: one segment, of the survivors
 abbrev pub output_meta : Analyzer → Input → Meta
-output_meta analyzer input = record {
-  settings = input.settings;
-  schema = input.schema;
-  stamp = 0;
-  payload = Some (merge_payload (work_ids input.ids));
-  segments = record { id = output_id input.ids; documents = length (input_survivors analyzer input); deletes = None } ∷ [];
-}
+output_meta analyzer input = merged_meta input.settings input.schema (work_ids input.ids) (output_id input.ids) (length (input_survivors analyzer input))
 
 -- ---- files
 
--- something that need not hold where a test passes
-abbrev pub Unless : Bool → Type 0 → Type 0
-Unless true P = Unit {0}
-Unless false P = P
-
--- the alive file of a segment says which documents of its batch are alive; where all are, there is nothing to say
-abbrev pub TellsAlive : NamedFiles → ℕ → ℕ → Batch → Type 0
-TellsAlive files stamp id batch = Unless (list_all (λ b. b) batch.alive) (segment_forms.HoldsAlive files id stamp (length batch.documents) batch.alive)
-
--- each segment stands for the documents of its batch
-abbrev pub AllStand : Schema → Analyzer → NamedFiles → ℕ → List ℕ → List Batch → Type 0
-AllStand schema analyzer files stamp [] batches = Unit {0}
-AllStand schema analyzer files stamp (id ∷ ids) [] = Unit {0}
-AllStand schema analyzer files stamp (id ∷ ids) (batch ∷ batches) =
-    index.StandsFor segment_forms files schema analyzer id batch.documents × TellsAlive files stamp id batch × AllStand schema analyzer files stamp ids batches
-
--- the files are the work index of an input
+-- the files are the work index of an input: each segment stands for the documents of its batch, and an alive file tells what deletes leave of it, where they remove some
 pub record IsWorkIndexOf (analyzer : Analyzer) (input : Input) (files : NamedFiles) : Type 0 where
   pub index_of : index.index_of segment_forms files ≡ Some (work_meta analyzer input)
-  pub stand : AllStand input.schema analyzer files (length input.operations) (work_ids input.ids) (input_batches analyzer input)
+  pub stand : AllStand input.schema analyzer files (work_ids input.ids) (input_batches analyzer input)
+  pub alive : AllTellAlive files (length input.operations) (work_segments analyzer input)
 
 -- the files are the output index of an input
 pub record IsOutputIndexOf (analyzer : Analyzer) (input : Input) (files : NamedFiles) : Type 0 where
   pub index_of : index.index_of segment_forms files ≡ Some (output_meta analyzer input)
   pub stands : index.StandsFor segment_forms files input.schema analyzer (output_id input.ids) (input_survivors analyzer input)
 
+-- the files are an index of one segment that was merged from those of an input, of so many documents
+abbrev pub IsMergedIndexOf : Input → ℕ → NamedFiles → Type 0
+IsMergedIndexOf input documents files =
+    index.index_of segment_forms files ≡ Some (merged_meta input.settings input.schema (work_ids input.ids) (output_id input.ids) documents)
+
 -- ---- while they are written
 
--- one segment without deletes
-abbrev pub index_meta : (settings : Settings) (schema : Schema) (id stamp : ℕ) (payload : Option (List ℕ)) (documents : ℕ) → Meta
-index_meta settings schema id stamp payload documents = record {
-  settings = settings;
-  schema = schema;
-  stamp = stamp;
-  payload = payload;
-  segments = record { id = id; documents = documents; deletes = None } ∷ [];
-}
+-- the files of listed segments, in the order in which they are made: the six files of each, and then the alive files
+abbrev pub segments_files : List ListedSegment → List FileName
+segments_files segments = six_files (map (λ s. s.id) segments) ++ alive_files segments
 
--- the files that are made: the meta, and the six files of the segment
-abbrev pub index_names : ℕ → List FileName
-index_names id = meta_name ∷ segment_names id
+-- with the meta
+abbrev pub index_names : List ListedSegment → List FileName
+index_names segments = meta_name ∷ segments_files segments
 
 -- the answers when an index is begun: no file, and its meta
 abbrev pub begun_answers : List Answer
 begun_answers = answer.Listed 0 ∷ answer.Wrote meta_name ∷ []
 
--- and when it is filled: the six files of the segment, and the meta
-abbrev pub filled_answers : ℕ → List Answer
-filled_answers id = wrote (segment_names id) ++ answer.Wrote meta_name ∷ []
+-- and when it is filled: the files of the segments, and the meta
+abbrev pub filled_answers : List ListedSegment → List Answer
+filled_answers segments = wrote (segments_files segments) ++ answer.Wrote meta_name ∷ []
 
 -- and both
-abbrev pub index_answers : ℕ → List Answer
-index_answers id = begun_answers ++ filled_answers id
+abbrev pub index_answers : List ListedSegment → List Answer
+index_answers segments = begun_answers ++ filled_answers segments

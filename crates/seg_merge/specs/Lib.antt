@@ -1,6 +1,4 @@
-pub mod Calls
 pub mod DirectoryCalls
+pub mod Filling
 pub mod IndexFiles
-pub mod Inputs
-pub mod Refusals
-pub mod Steps
+pub mod Joining

@@ -1,97 +1,102 @@
 //! The two indexes that are built: one in the work directory, and one in the output directory.
-ghost use Rattle.std.specs.Prelude.{◌≡◌, ◌≢◌, ◌<◌, ◌^◌, ◌∷◌, ◌⊎◌, [], List, true, map, length, Err, IfOk, IfErr, IsTrue, None, OnOk, Some};
+ghost use Rattle.std.specs.Prelude.{◌≡◌, ◌≢◌, ◌<◌, ◌≤◌, ◌+◌, ◌^◌, ◌⊎◌, ◌∷◌, [], None, Some, true, length, map, Ok, Err, IfOk, IfErr, IsTrue, OnOk};
 ghost use Rattle.std.specs.FinMap.{len};
-ghost use Rattle.std.specs.List.{list_all};
-ghost use Rattle.seg_directory.specs.declared.answer.Answer.TheVariants as answer;
+ghost use Rattle.std.specs.List.{list_all, AllByRecursion};
 ghost use Rattle.seg_meta.specs.Saving.{IsMetaList};
 ghost use Rattle.seg_meta.specs.View.{meta_of, settings_of};
 ghost use Rattle.seg_model.specs.Built.{is_taken};
 ghost use Rattle.seg_model.specs.Contents.{full_reading};
-ghost use Rattle.seg_model.specs.Fields as model;
 ghost use Rattle.seg_model.specs.IndexOfFiles as index;
-ghost use Rattle.seg_model.specs.Operations.{additions};
-ghost use Rattle.seg_values.specs.Tree as tree;
+ghost use Rattle.seg_model.specs.Input.{input_batches, input_survivors};
+ghost use Rattle.seg_model.specs.Laws.{AreReadingsOf};
+ghost use Rattle.seg_model.specs.Operations.{Batch, additions, batches};
+ghost use Rattle.seg_model.specs.Valid.{Known, are_distinct, cuts_fit};
 ghost use Rattle.seg_build.specs.Built.{is_built_schema};
 ghost use Rattle.seg_build.specs.Forms.{segment_forms};
-ghost use Rattle.seg_build.specs.SegmentFiles.{AreAbsent, HasFiles, segment_names};
-ghost use Rattle.seg_build.specs.SegmentWriting.{Writes};
-ghost use Rattle.seg_build.specs.Standing.{StandFor};
+ghost use Rattle.seg_build.specs.Holds.{Holds};
+ghost use Rattle.seg_build.specs.SegmentFiles.{AreAbsent};
 ghost use Rattle.seg_build.specs.View.{operation_of};
+ghost use Rattle.seg_build.specs.WriterStart.{Tests, start_refusal};
 ghost use Rattle.seg_open.specs.OpenSegment.{contents_of};
 ghost use Rattle.seg_open.specs.SegmentOpened.{IsNoDamage};
-ghost use Rattle.seg_merge.specs.Calls.{state_of};
-ghost use Rattle.seg_merge.specs.DirectoryCalls.{Directories, BeginsUpTo, FillsBoth, FillStops, Lists, StopsIn, WritesBoth};
-ghost use Rattle.seg_merge.specs.IndexFiles.{index_meta, merge_payload};
-ghost use Rattle.seg_merge.specs.Inputs.{is_addition};
-ghost use Rattle.seg_merge.specs.Refusals.{IfRefusal, batch_error};
+ghost use Rattle.seg_open.specs.SegmentRead as segment;
+ghost use Rattle.seg_join.specs.KeptSegment.{IsOfSchema, part_of};
+ghost use Rattle.seg_batches.specs.Calls.{state_of};
+ghost use Rattle.seg_batches.specs.Segments.{AllStand, AllTellAlive};
+ghost use Rattle.seg_refusals.specs.Admitted.{Fits};
+ghost use Rattle.seg_refusals.specs.Inputs.{input_of};
+ghost use Rattle.seg_refusals.specs.Refusals.{IfRefusal, batches_error, first_error, refusal_error};
+ghost use Rattle.seg_merge.specs.DirectoryCalls.{Directories, StopsIn, WritesBoth, asked_of};
+ghost use Rattle.seg_merge.specs.Filling.{BeginsUpTo, FillStops, FillsThenReads, FiltersFit, OutputStops, ProceedsAs, WritesOne};
+ghost use Rattle.seg_merge.specs.IndexFiles.{IsMergedIndexOf, IsOutputIndexOf, IsWorkIndexOf, listed_of, merged_meta, output_id, segments_files, segments_meta, undeleted, work_ids, written_of};
+ghost use Rattle.seg_merge.specs.Joining.{filtered_segments, joined};
+ghost use Rattle.seg_values.specs.declared.error.ArgumentCause.TheVariants.{Documents};
 
-use crate::additions::index_operations;
-use crate::index_files::{begin_index, fill_index, index_metas, write_index};
-use crate::payload::merge_payload;
-use crate::reading_back::read_back;
-use seg_build::{SegmentBytes, SegmentWriter, UserOperation, files_hold_one_contents};
+use crate::index_files::{begin_index, refuse_files};
+use crate::merging::{MergedSegment, merge_segments};
+use crate::metas::output_metas;
+use crate::output_index::write_output_index;
+use crate::work_index::fill_work_index;
+use seg_batches::{ReadSegment, read_segments};
+use seg_build::{UserOperation, built_schemas_have_no_columns, files_hold_one_contents};
 use seg_common::SegmentId;
-use seg_directory::{Directory, list_files};
+use seg_directory::Directory;
+use seg_fastfield::AliveBitSet;
+use seg_join::built_parts_join;
 use seg_meta::{IndexMeta, IndexSettings};
-use seg_open::SegmentReader;
+use seg_model::joining_is_invisible;
+use seg_open::{SegmentReader, spelled_files_hold};
 use seg_values::{Analyzers, Schema, TResult, TantivyDocument, TantivyError};
-use std::alloc::{AllocError, Global};
+use std::alloc::Global;
 
-/// The metas of both indexes.
+/// What is built: the meta of the output index, the work segments as they were read back, and the output segment.
 #[derive(Drop)]
-struct BothMetas {
-    work: IndexMeta,
-    output: IndexMeta,
-}
-
-/// What is built: the meta of the output index, and the segment that was read back for it.
-#[derive(Drop)]
-pub(crate) struct BuiltSegment {
+pub(crate) struct BuiltSegments {
     pub metas: IndexMeta,
-    pub reader: SegmentReader,
+    pub segments: Vec<ReadSegment>,
+    pub output: SegmentReader,
 }
 
-/// Writes the index of a batch of additions into both directories, neither of which has files: into the work directory
-/// with the number of the operations as its stamp; and into the output directory, as one that was merged from it, what the
-/// work directory answers when its segment is read back.
+/// Writes both indexes into directories that have no files: into the work directory a segment a batch; and into the output
+/// directory what these segments, as the work directory answers them, are merged into.
 pub(crate) fn write_indexes<Z: Analyzers, W: Directory, O: Directory>(
     alloc: Global,
     schema: &Schema,
     settings: &IndexSettings,
+    analyzers: &Z,
     operations: &[UserOperation<TantivyDocument>],
-    work_id: SegmentId,
-    output_id: SegmentId,
-    writer: SegmentWriter<'_, Z>,
+    cuts: &[usize],
+    filters: &[Option<AliveBitSet>],
+    ids: &[SegmentId],
     work: &mut W,
     output: &mut O,
-) -> TResult<BuiltSegment>
-    requires additions { list_all is_addition (map operation_of operations.now) ≡ true }
-    requires unused { Writes (Z.tokens_of writer.0) [] [] writer.1 }
-    requires schema { writer.1.schema ≡ schema.now }
-    requires built { is_built_schema schema.now ≡ true }
-    ensures read { IsTrue (W.tells work.old) → IfOk result (λ built. full_reading schema.now (Z.tokens_of writer.entry.0) (additions (map operation_of operations.now))
-        ≡ Some (contents_of built.reader)) }
-    ensures few { OnOk result (length (additions (map operation_of operations.now)) < 2 ^ 31) }
-    ensures taken { OnOk result (list_all (is_taken schema.now (Z.tokens_of writer.entry.0)) (additions (map operation_of operations.now)) ≡ true) }
+) -> TResult<BuiltSegments>
+    requires fits { Fits (Z.tokens_of analyzers.now) (input_of schema.now settings.now operations.now cuts.now filters.now ids.now) }
+    ensures readings { IsTrue (W.tells work.old) → IfOk result (λ built. AreReadingsOf schema.now (Z.tokens_of analyzers.now)
+        (input_batches (Z.tokens_of analyzers.now) (input_of schema.now settings.now operations.now cuts.now filters.now ids.now)) (map part_of built.segments.items)) }
+    ensures survivors { IsTrue (W.tells work.old) → IfOk result (λ built. full_reading schema.now (Z.tokens_of analyzers.now)
+        (input_survivors (Z.tokens_of analyzers.now) (input_of schema.now settings.now operations.now cuts.now filters.now ids.now)) ≡ Some (contents_of built.output)) }
+    ensures few { IfOk result (λ built. built.output.documents < 2 ^ 31) }
+    ensures small { OnOk result (AllByRecursion (λ (b : Batch). length b.documents < 2 ^ 31) (input_batches (Z.tokens_of analyzers.now) (input_of schema.now settings.now operations.now cuts.now filters.now ids.now))) }
+    ensures taken { OnOk result (list_all (is_taken schema.now (Z.tokens_of analyzers.now)) (additions (map operation_of operations.now)) ≡ true) }
     ensures meta { IfOk result (λ built. meta_of built.metas
-        ≡ index_meta (settings_of settings.now) schema.now output_id 0 (Some (merge_payload (work_id ∷ []))) (length (additions (map operation_of operations.now)))) }
+        ≡ merged_meta (settings_of settings.now) schema.now (work_ids ids.now) (output_id ids.now) built.output.documents) }
     ensures list { IfOk result (λ built. IsMetaList built.metas.segments) }
-    ensures work_index { IsTrue (W.tells work.old) → OnOk result (index.index_of segment_forms (W.files work.new)
-        ≡ Some (index_meta (settings_of settings.now) schema.now work_id (length operations.now) None (length (additions (map operation_of operations.now))))) }
-    ensures work_stands { IsTrue (W.tells work.old) → OnOk result (index.StandsFor
-        segment_forms (W.files work.new) schema.now (Z.tokens_of writer.entry.0) work_id (additions (map operation_of operations.now))) }
+    ensures work_index { IsTrue (W.tells work.old) → OnOk result (IsWorkIndexOf (Z.tokens_of analyzers.now) (input_of schema.now settings.now operations.now cuts.now filters.now ids.now) (W.files work.new)) }
     ensures work_was_empty { IsTrue (W.tells work.old) → OnOk result (len (W.files work.old) ≡ 0) }
-    ensures output_index { IsTrue (O.tells output.old) → OnOk result (index.index_of segment_forms (O.files output.new)
-        ≡ Some (index_meta (settings_of settings.now) schema.now output_id 0 (Some (merge_payload (work_id ∷ []))) (length (additions (map operation_of operations.now))))) }
-    ensures output_stands { IsTrue (W.tells work.old) → IsTrue (O.tells output.old) → OnOk result (index.StandsFor
-        segment_forms (O.files output.new) schema.now (Z.tokens_of writer.entry.0) output_id (additions (map operation_of operations.now))) }
+    ensures output_meta { IsTrue (O.tells output.old) → IfOk result (λ built. IsMergedIndexOf (input_of schema.now settings.now operations.now cuts.now filters.now ids.now) built.output.documents (O.files output.new)) }
+    ensures output_index { IsTrue (W.tells work.old) → IsTrue (O.tells output.old) → OnOk result (IsOutputIndexOf (Z.tokens_of analyzers.now) (input_of schema.now settings.now operations.now cuts.now filters.now ids.now) (O.files output.new)) }
     ensures output_was_empty { IsTrue (O.tells output.old) → OnOk result (len (O.files output.old) ≡ 0) }
     ensures fresh { IsTrue (W.tells work.old) → len (W.files work.old) ≡ 0
         → IsTrue (O.tells output.old) → len (O.files output.old) ≡ 0
         → result ≢ Err TantivyError.IndexAlreadyExists }
-    ensures refused { IfErr result (IfRefusal (λ e. batch_error schema.now (Z.tokens_of writer.entry.0) (map operation_of operations.now) ≡ Some e)) }
+    ensures refused { (known : Known) → Tests known (Z.knows analyzers.now) → first_error known (Z.tokens_of analyzers.now) (input_of schema.now settings.now operations.now cuts.now filters.now ids.now) ≡ None → IsTrue (W.tells work.old)
+        → IfErr result (IfRefusal (λ e. refusal_error known (Z.tokens_of analyzers.now) (input_of schema.now settings.now operations.now cuts.now filters.now ids.now) ≡ Some e)) }
+    ensures refused_untold { (known : Known) → Tests known (Z.knows analyzers.now) → first_error known (Z.tokens_of analyzers.now) (input_of schema.now settings.now operations.now cuts.now filters.now ids.now) ≡ None
+        → IfErr result (IfRefusal (λ e. (refusal_error known (Z.tokens_of analyzers.now) (input_of schema.now settings.now operations.now cuts.now filters.now ids.now) ≡ Some e)
+        ⊎ (e ≡ TantivyError.InvalidArgument Documents))) }
     ensures whole { IsTrue (W.tells work.old) → IfErr result IsNoDamage }
-    ensures written { IfOk result (λ built. WritesBoth work_id output_id schema.now (length (additions (map operation_of operations.now))) built.reader
+    ensures written { IfOk result (λ built. WritesBoth (asked_of (Z.tokens_of analyzers.now) (input_of schema.now settings.now operations.now cuts.now filters.now ids.now)) built.segments.items built.output
         (record {
           work = state_of (W.tells work.old) (W.files work.old) (W.seen work.old) (W.faults work.old);
           output = state_of (O.tells output.old) (O.files output.old) (O.seen output.old) (O.faults output.old);
@@ -100,7 +105,7 @@ pub(crate) fn write_indexes<Z: Analyzers, W: Directory, O: Directory>(
           work = state_of (W.tells work.new) (W.files work.new) (W.seen work.new) (W.faults work.new);
           output = state_of (O.tells output.new) (O.files output.new) (O.seen output.new) (O.faults output.new);
         })) }
-    ensures stops { IfErr result (λ e. StopsIn work_id output_id schema.now (length (additions (map operation_of operations.now))) e
+    ensures stops { IfErr result (λ e. StopsIn (asked_of (Z.tokens_of analyzers.now) (input_of schema.now settings.now operations.now cuts.now filters.now ids.now)) e
         (record {
           work = state_of (W.tells work.old) (W.files work.old) (W.seen work.old) (W.faults work.old);
           output = state_of (O.tells output.old) (O.files output.old) (O.seen output.old) (O.faults output.old);
@@ -110,40 +115,21 @@ pub(crate) fn write_indexes<Z: Analyzers, W: Directory, O: Directory>(
           output = state_of (O.tells output.new) (O.files output.new) (O.seen output.new) (O.faults output.new);
         })) }
 {
-    files_hold_one_contents();
-    match begin_indexes(alloc, schema, settings, work, output) {
-        Ok(()) => {}
-        Err(e) => return Err(e),
-    }
-    let segment = match index_operations(operations, writer) {
-        Ok(segment) => segment,
-        Err(e) => return Err(e),
-    };
-    let documents = segment.stamps.len();
-    let stamp = operations.len() as u64;
-    let Ok(metas) = both_metas(
-        alloc, schema, settings, work_id, output_id, documents, stamp,
-    ) else {
-        return Err(TantivyError::OutOfMemory);
-    };
-    let reader = match fill_indexes(
-        alloc,
-        schema,
-        &metas,
-        documents,
-        work_id,
-        output_id,
-        &segment.bytes,
-        work,
-        output,
-    ) {
-        Ok(reader) => reader,
-        Err(e) => return Err(e),
-    };
-    let BothMetas { work: _, output } = metas;
-    Ok(BuiltSegment {
-        metas: output,
-        reader,
+    joining_is_invisible();
+    built_parts_join();
+    built_schemas_have_no_columns();
+    begin_indexes(alloc, schema, settings, work, output)?;
+    let (work_ids, output_id) = split_ids(ids);
+    let segments = write_work(
+        alloc, schema, settings, analyzers, operations, cuts, work_ids, work,
+    )?;
+    let written = write_output(
+        alloc, schema, settings, filters, work_ids, output_id, &segments, output,
+    )?;
+    Ok(BuiltSegments {
+        metas: written.metas,
+        segments,
+        output: written.reader,
     })
 }
 
@@ -171,122 +157,143 @@ fn begin_indexes<W: Directory, O: Directory>(
           output = state_of (O.tells output.new) (O.files output.new) (O.seen output.new) (O.faults output.new);
         }) }
 {
-    match refuse_files(alloc, work) {
-        Ok(()) => {}
-        Err(e) => return Err(e),
-    }
-    match refuse_files(alloc, output) {
-        Ok(()) => {}
-        Err(e) => return Err(e),
-    }
+    refuse_files(alloc, work)?;
+    refuse_files(alloc, output)?;
     begin_index(alloc, schema, settings, work)
 }
 
-/// Fills the work index, reads its segment back, and writes the output index of what was read.
-fn fill_indexes<W: Directory, O: Directory>(
-    alloc: Global,
-    schema: &Schema,
-    metas: &BothMetas,
-    documents: usize,
-    work_id: SegmentId,
-    output_id: SegmentId,
-    bytes: &SegmentBytes,
-    work: &mut W,
-    output: &mut O,
-) -> TResult<SegmentReader>
-    requires built { is_built_schema schema.now ≡ true }
-    requires few { documents < 2 ^ 31 }
-    requires work_list { IsMetaList metas.now.work.segments }
-    requires output_list { IsMetaList metas.now.output.segments }
-    ensures work_index { IsTrue (W.tells work.old) → OnOk result
-        (index.index_of segment_forms (W.files work.new) ≡ Some (meta_of metas.now.work)) }
-    ensures work_files { IsTrue (W.tells work.old) → OnOk result (HasFiles work_id bytes.now (W.files work.new)) }
-    ensures output_index { IsTrue (O.tells output.old) → OnOk result
-        (index.index_of segment_forms (O.files output.new) ≡ Some (meta_of metas.now.output)) }
-    ensures fresh { IsTrue (W.tells work.old) → AreAbsent (segment_names work_id) (W.files work.old)
-        → IsTrue (O.tells output.old) → len (O.files output.old) ≡ 0
-        → result ≢ Err TantivyError.IndexAlreadyExists }
-    ensures whole { (analyzer : model.Analyzer) (ds : List tree.Document) → StandFor schema.now analyzer ds bytes.now
-        → length ds ≡ documents → IsTrue (W.tells work.old) → IfErr result IsNoDamage }
-    ensures filled { IfOk result (λ reader. FillsBoth work_id output_id schema.now documents reader
-        (record {
-          work = state_of (W.tells work.old) (W.files work.old) (W.seen work.old) (W.faults work.old);
-          output = state_of (O.tells output.old) (O.files output.old) (O.seen output.old) (O.faults output.old);
-        })
-        (record {
-          work = state_of (W.tells work.new) (W.files work.new) (W.seen work.new) (W.faults work.new);
-          output = state_of (O.tells output.new) (O.files output.new) (O.seen output.new) (O.faults output.new);
-        })) }
-    ensures stops { IfErr result (λ e. FillStops work_id output_id schema.now documents e
-        (record {
-          work = state_of (W.tells work.old) (W.files work.old) (W.seen work.old) (W.faults work.old);
-          output = state_of (O.tells output.old) (O.files output.old) (O.seen output.old) (O.faults output.old);
-        })
-        (record {
-          work = state_of (W.tells work.new) (W.files work.new) (W.seen work.new) (W.faults work.new);
-          output = state_of (O.tells output.new) (O.files output.new) (O.seen output.new) (O.faults output.new);
-        })) }
+/// The ids of the work segments, and the last id, of the output segment.
+fn split_ids(ids: &[SegmentId]) -> (&[SegmentId], SegmentId)
+    requires { 2 ≤ length ids.now }
+    ensures work { result.0.now ≡ work_ids ids.now }
+    ensures output { result.1 ≡ output_id ids.now }
 {
-    match fill_index(alloc, &metas.work, work_id, bytes, work) {
-        Ok(()) => {}
-        Err(e) => return Err(e),
-    }
-    let back = match read_back(alloc, schema, work_id, documents as u32, work) {
-        Ok(back) => back,
-        Err(e) => return Err(e),
-    };
-    match write_index(alloc, &metas.output, output_id, &back.files, output) {
-        Ok(()) => Ok(back.reader),
-        Err(e) => Err(e),
-    }
+    let last = ids.len() - 1;
+    (&ids[..last], ids[last])
 }
 
-/// Refuses a directory that has files.
-fn refuse_files<W: Directory>(alloc: Global, directory: &mut W) -> TResult<()>
-    ensures empty { IsTrue (W.tells directory.old) → OnOk result (len (W.files directory.old) ≡ 0) }
-    ensures fresh { IsTrue (W.tells directory.old) → len (W.files directory.old) ≡ 0
-        → result ≢ Err TantivyError.IndexAlreadyExists }
-    ensures files { W.files directory.new ≡ W.files directory.old }
-    ensures calls { Lists result
-        (state_of (W.tells directory.old) (W.files directory.old) (W.seen directory.old) (W.faults directory.old))
-        (state_of (W.tells directory.new) (W.files directory.new) (W.seen directory.new) (W.faults directory.new)) }
-{
-    match list_files(alloc, directory) {
-        Ok(0) => Ok(()),
-        Ok(_) => Err(TantivyError::IndexAlreadyExists),
-        Err(e) => Err(e),
-    }
-}
-
-/// The metas of both indexes, each with a schema of its own. Too many documents are answered as memory that is lacking.
-fn both_metas(
+/// Fills the work index, and reads its segments back.
+fn write_work<Z: Analyzers, W: Directory>(
     alloc: Global,
     schema: &Schema,
     settings: &IndexSettings,
-    work_id: SegmentId,
-    output_id: SegmentId,
-    documents: usize,
-    stamp: u64,
-) -> Result<BothMetas, AllocError>
-    requires few { documents < 2 ^ 31 }
-    ensures work { IfOk result (λ metas. meta_of metas.work ≡ index_meta (settings_of settings.now) schema.now work_id stamp None documents) }
-    ensures work_list { IfOk result (λ metas. IsMetaList metas.work.segments) }
-    ensures output { IfOk result (λ metas. meta_of metas.output ≡ index_meta (settings_of settings.now) schema.now output_id 0 (Some (merge_payload (work_id ∷ []))) documents) }
-    ensures output_list { IfOk result (λ metas. IsMetaList metas.output.segments) }
+    analyzers: &Z,
+    operations: &[UserOperation<TantivyDocument>],
+    cuts: &[usize],
+    ids: &[SegmentId],
+    work: &mut W,
+) -> TResult<Vec<ReadSegment>>
+    requires built { is_built_schema schema.now ≡ true }
+    requires cuts { cuts_fit (map operation_of operations.now) cuts.now ≡ true }
+    requires ids { length ids.now ≡ length cuts.now + 1 }
+    requires few { length ids.now < 2 ^ 32 }
+    requires distinct { are_distinct ids.now ≡ true }
+    ensures index { IsTrue (W.tells work.old) → OnOk result (index.index_of segment_forms (W.files work.new) ≡ Some (segments_meta (settings_of settings.now) schema.now (length operations.now)
+        (listed_of schema.now (Z.tokens_of analyzers.now) ids.now cuts.now (map operation_of operations.now)))) }
+    ensures stand { IsTrue (W.tells work.old) → OnOk result (AllStand schema.now (Z.tokens_of analyzers.now) (W.files work.new) ids.now
+        (batches schema.now (Z.tokens_of analyzers.now) cuts.now (map operation_of operations.now))) }
+    ensures alive { IsTrue (W.tells work.old) → OnOk result (AllTellAlive (W.files work.new) (length operations.now)
+        (written_of schema.now (Z.tokens_of analyzers.now) ids.now cuts.now (map operation_of operations.now))) }
+    ensures small { OnOk result (AllByRecursion (λ (b : Batch). length b.documents < 2 ^ 31)
+        (batches schema.now (Z.tokens_of analyzers.now) cuts.now (map operation_of operations.now))) }
+    ensures taken { OnOk result (list_all (is_taken schema.now (Z.tokens_of analyzers.now)) (additions (map operation_of operations.now)) ≡ true) }
+    ensures readings { IsTrue (W.tells work.old) → IfOk result (λ segments. AreReadingsOf schema.now (Z.tokens_of analyzers.now)
+        (batches schema.now (Z.tokens_of analyzers.now) cuts.now (map operation_of operations.now)) (map part_of segments.items)) }
+    ensures fresh { IsTrue (W.tells work.old)
+        → AreAbsent (segments_files (listed_of schema.now (Z.tokens_of analyzers.now) ids.now cuts.now (map operation_of operations.now))) (W.files work.old)
+        → result ≢ Err TantivyError.IndexAlreadyExists }
+    ensures refused { (known : Known) → Tests known (Z.knows analyzers.now) → start_refusal known 15000 schema.now settings.now ≡ None
+        → IfErr result (IfRefusal (λ e. batches_error schema.now (Z.tokens_of analyzers.now) 0 cuts.now (map operation_of operations.now) ≡ Some e)) }
+    ensures whole { IsTrue (W.tells work.old) → IfErr result IsNoDamage }
+    ensures reads { IfOk result (λ segments. FillsThenReads schema.now (listed_of schema.now (Z.tokens_of analyzers.now) ids.now cuts.now (map operation_of operations.now)) segments.items
+        (state_of (W.tells work.old) (W.files work.old) (W.seen work.old) (W.faults work.old))
+        (state_of (W.tells work.new) (W.files work.new) (W.seen work.new) (W.faults work.new))) }
+    ensures stops { IfErr result (λ e. FillStops schema.now (listed_of schema.now (Z.tokens_of analyzers.now) ids.now cuts.now (map operation_of operations.now)) e
+        (state_of (W.tells work.old) (W.files work.old) (W.seen work.old) (W.faults work.old))
+        (state_of (W.tells work.new) (W.files work.new) (W.seen work.new) (W.faults work.new))) }
 {
-    let documents = documents as u32;
-    let copy = schema.copy(alloc)?;
-    let work = index_metas(alloc, copy, *settings, work_id, stamp, None, documents)?;
-    let payload = merge_payload(alloc, work_id)?;
-    let copy = schema.copy(alloc)?;
-    let output = index_metas(
-        alloc,
-        copy,
-        *settings,
-        output_id,
-        0,
-        Some(payload),
-        documents,
+    files_hold_one_contents();
+    let metas = fill_work_index(
+        alloc, schema, settings, analyzers, operations, cuts, ids, work,
     )?;
-    Ok(BothMetas { work, output })
+    read_segments(alloc, schema, metas.segments.as_slice(), work)
+}
+
+/// The output index that was written: its meta, and what its segment holds.
+#[derive(Drop)]
+struct WrittenOutput {
+    metas: IndexMeta,
+    reader: SegmentReader,
+}
+
+/// Writes the output index of what segments are merged into, each under its filter.
+fn write_output<O: Directory>(
+    alloc: Global,
+    schema: &Schema,
+    settings: &IndexSettings,
+    filters: &[Option<AliveBitSet>],
+    work_ids: &[SegmentId],
+    output_id: SegmentId,
+    segments: &[ReadSegment],
+    output: &mut O,
+) -> TResult<WrittenOutput>
+    requires built { is_built_schema schema.now ≡ true }
+    requires parts { AllByRecursion (IsOfSchema schema.now) segments.now }
+    requires filters { FiltersFit filters.now segments.now }
+    ensures few { IfOk result (λ written. written.reader.documents < 2 ^ 31) }
+    ensures schema { IfOk result (λ written. written.reader.schema ≡ schema.now) }
+    ensures joined { IfOk result (λ written. contents_of written.reader ≡ joined schema.now filters.now segments.now) }
+    ensures meta { IfOk result (λ written. meta_of written.metas
+        ≡ merged_meta (settings_of settings.now) schema.now work_ids.now output_id written.reader.documents) }
+    ensures list { IfOk result (λ written. IsMetaList written.metas.segments) }
+    ensures index { IsTrue (O.tells output.old) → IfOk result (λ written. index.index_of segment_forms (O.files output.new) ≡ Some (meta_of written.metas)) }
+    ensures held { IsTrue (O.tells output.old) → IfOk result (λ written. Holds (O.files output.new) output_id schema.now (contents_of written.reader)) }
+    ensures fresh { IsTrue (O.tells output.old) → len (O.files output.old) ≡ 0
+        → result ≢ Err TantivyError.IndexAlreadyExists }
+    ensures writes { IfOk result (λ written. WritesOne output_id written.reader.documents (Ok tt)
+        (state_of (O.tells output.old) (O.files output.old) (O.seen output.old) (O.faults output.old))
+        (state_of (O.tells output.new) (O.files output.new) (O.seen output.new) (O.faults output.new))) }
+    ensures stops { IfErr result (λ e. OutputStops output_id (filtered_segments filters.now segments.now) e
+        (state_of (O.tells output.old) (O.files output.old) (O.seen output.old) (O.faults output.old))
+        (state_of (O.tells output.new) (O.files output.new) (O.seen output.new) (O.faults output.new))) }
+{
+    spelled_files_hold();
+    let merged = merge_segments(alloc, schema, settings, filters, segments)?;
+    let metas = write_merged(
+        alloc, schema, settings, work_ids, output_id, &merged, output,
+    )?;
+    Ok(WrittenOutput {
+        metas,
+        reader: merged.reader,
+    })
+}
+
+/// Writes the output index of a merged segment, and answers its meta.
+fn write_merged<O: Directory>(
+    alloc: Global,
+    schema: &Schema,
+    settings: &IndexSettings,
+    work_ids: &[SegmentId],
+    output_id: SegmentId,
+    merged: &MergedSegment,
+    output: &mut O,
+) -> TResult<IndexMeta>
+    requires few { merged.now.reader.documents < 2 ^ 31 }
+    ensures meta { IfOk result (λ metas. meta_of metas
+        ≡ merged_meta (settings_of settings.now) schema.now work_ids.now output_id merged.now.reader.documents) }
+    ensures list { IfOk result (λ metas. IsMetaList metas.segments) }
+    ensures index { IsTrue (O.tells output.old) → IfOk result (λ metas. index.index_of segment_forms (O.files output.new) ≡ Some (meta_of metas)) }
+    ensures files { IsTrue (O.tells output.old) → OnOk result (segment.HasFiles (O.files output.new) output_id merged.now.files) }
+    ensures fresh { IsTrue (O.tells output.old) → len (O.files output.old) ≡ 0
+        → result ≢ Err TantivyError.IndexAlreadyExists }
+    ensures calls { ProceedsAs (undeleted output_id merged.now.reader.documents ∷ []) result
+        (state_of (O.tells output.old) (O.files output.old) (O.seen output.old) (O.faults output.old))
+        (state_of (O.tells output.new) (O.files output.new) (O.seen output.new) (O.faults output.new)) }
+{
+    let documents = merged.reader.max_doc();
+    let Ok(metas) = output_metas(alloc, schema, settings, work_ids, output_id, documents) else {
+        return Err(TantivyError::OutOfMemory);
+    };
+    write_output_index(alloc, &metas, output_id, documents, &merged.files, output)?;
+    Ok(metas)
 }

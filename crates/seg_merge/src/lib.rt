@@ -1,19 +1,20 @@
 //! Builds an index from operations on documents.
 //!
-//! `build_index` checks what it is handed in, adds the documents of the one batch that is built so far to a segment, and
-//! writes two indexes: one with that segment into a work directory, and one with the segment that it is merged into, into an
-//! output directory. What is merged is what the work directory answers when its segment is read back. It is seen as what an `Input` gives: its batches, its survivors, and why it is refused.
+//! `build_index` checks what it is handed in, writes a segment a batch into a work directory, reads these segments back, and
+//! writes what they are merged into, into an output directory.
 //!
-//! To be read in this order: `shape` (what is refused by its shape), `additions` (documents are added), `payload` and
-//! `index_files` (one index), `reading_back` (its segment, read back), `indexes` (both), `building`.
+//! To be read in this order: `payload` and `metas` (what an index says of itself), `index_files` (an index is begun, and its
+//! meta saved), `work_index` (the segments of the batches), `merging` (what was read, merged), `output_index`, `indexes`
+//! (both in turn), `building`.
 #![tactic(auto)]
 
-mod additions;
 mod building;
 mod index_files;
 mod indexes;
+mod merging;
+mod metas;
+mod output_index;
 mod payload;
-mod reading_back;
-mod shape;
+mod work_index;
 
-pub use building::{BuiltIndex, build_index, build_index_with_reader};
+pub use building::{BuiltIndex, build_index, build_index_with_readers};

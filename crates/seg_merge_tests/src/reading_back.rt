@@ -4,7 +4,7 @@ use crate::tests::{add, analyzers, entry, no_filters, two_texts};
 use seg_build::UserOperation;
 use seg_common::{FileName, OwnedBytes, SegmentComponent, SegmentId};
 use seg_directory::{Directory, MemoryDirectory, read_file};
-use seg_merge::{BuiltIndex, build_index_with_reader};
+use seg_merge::{BuiltIndex, build_index_with_readers};
 use seg_meta::{Compressor, IndexSettings};
 use seg_odd_directory::OddDirectory;
 use seg_values::{
@@ -69,7 +69,7 @@ fn build<W: Directory>(
     };
     let schema = stored(alloc)?;
     let ids = [SegmentId::from_u128(1), SegmentId::from_u128(2)];
-    build_index_with_reader(
+    build_index_with_readers(
         alloc,
         &schema,
         &settings,
@@ -92,7 +92,7 @@ fn store_of(alloc: Global, other: Vec<u8>) -> TResult<OwnedBytes> {
     };
     let mut output = memory(alloc)?;
     let built = build(alloc, &two_texts(alloc)?, &mut work, &mut output)?;
-    if built.reader.max_doc() != 2 {
+    if built.output.max_doc() != 2 {
         return Err(TantivyError::SystemError);
     }
     let name = FileName::Part(SegmentId::from_u128(2), SegmentComponent::Store);

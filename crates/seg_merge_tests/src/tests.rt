@@ -216,12 +216,6 @@ fn says_what_is_not_built(rt: HostRuntime) -> Result<(), Fail> {
     let alloc = rt.alloc();
     let added = two_texts(alloc)?;
     let later = argument(ArgumentCause::Later);
-    let schema = texts(alloc, "title", "default", false)?;
-    let plan = Plan {
-        is_cut: true,
-        ..PLAIN
-    };
-    assert_eq!(rt; built(alloc, &schema, &added, plan), later);
     let schema = texts(alloc, "title", "default", true)?;
     assert_eq!(rt; built(alloc, &schema, &added, PLAIN), later);
     let schema = numbers(alloc, IndexOption::Basic)?;

@@ -1,56 +1,45 @@
 -- What was built, or why not, as a status.
-use Rattle.std.proofs.Common.{◌≡◌, ℕ, Bool, true, false, cond, List, Option, None, Some, Result, Ok, Err, inl, inr, refl, sym, ap, ◌∙◌, subst}
+use Rattle.std.proofs.Common.{◌≡◌, Bool, true, false, cond, List, Option, None, Some, Result, Ok, Err, inl, inr, refl, sym, ap, ◌∙◌, subst}
 use Rattle.std.specs.Prelude.{◌⊎◌, IfSome}
 use Rattle.std.specs.Option.{option_map}
 use Rattle.seg_common.specs.declared.name.FileName.{FileName}
 use Rattle.seg_values.specs.declared.error.TantivyError.{TantivyError}
 use Rattle.seg_values.specs.declared.error.TantivyError.TheVariants.{SchemaError, InvalidArgument, IndexAlreadyExists, OpenReadError, OpenWriteError, IoError, DataCorruption, SystemError, FieldNotFound, OutOfMemory}
-use Rattle.seg_model.specs.Fields.{Schema, Analyzer}
-use Rattle.seg_directory.specs.declared.answer.Answer.{Answer}
-use Rattle.seg_open.specs.SegmentOpened.{IsNoDamage, OpeningSeen}
-use Rattle.seg_open.specs.SegmentRead.{IsWhyUnread}
-use Rattle.seg_merge.specs.Calls.{IsWhy}
-use Rattle.seg_merge.specs.DirectoryCalls.{Directories, IsRefusal, StopsIn, at_once, work_listing, output_listing, documents, work_index, reading_back, output_index}
-use Rattle.seg_merge.specs.Inputs.{is_built_input}
-use Rattle.seg_merge.specs.Refusals.{IfRefusal, first_error, input_error}
+use Rattle.seg_values.specs.declared.error.ArgumentCause.TheVariants.{Later}
+use Rattle.seg_model.specs.Fields.{Analyzer}
 use Rattle.seg_model.specs.Input.{Input}
 use Rattle.seg_model.specs.Valid.{Known, InputRefusal, bad_cuts, too_many_batches, bad_filters, bad_segment_ids, bad_field_name, unsupported_settings, unknown_tokenizer, unknown_fast_tokenizer, unindexed_delete, input_refusal}
-use Rattle.seg_values.specs.declared.error.ArgumentCause.TheVariants.{Later}
+use Rattle.seg_directory.specs.declared.answer.Answer.{Answer}
+use Rattle.seg_open.specs.SegmentOpened.{IsNoDamage}
+use Rattle.seg_batches.specs.Calls.{IsWhy}
+use Rattle.seg_refusals.specs.Inputs.{is_built_input}
+use Rattle.seg_refusals.specs.Refusals.{IfRefusal, IsRefusal, first_error, input_error}
+use Rattle.seg_merge.specs.DirectoryCalls.{Asked, Directories, StopsIn, at_once, work_listing, output_listing, documents, work_index, reading_back, too_many, output_index}
 use Rattle.seg_tool.specs.DirectoryCalls.{BuildDoes, Stopped}
 use Rattle.seg_tool.specs.Statuses.{IfRefused, status_of}
 use Rattle.seg_tool.specs.declared.status.Status.{Status}
 use Rattle.seg_tool.specs.declared.status.Status.TheVariants.{Refused, Damaged, Memory}
+use Rattle.seg_merge.proofs.ReadErrors.{IsReadError, stops_so}
 
 -- ---- statuses
 
--- such an error is not told of a file that can't be read
-no_system : (name : FileName) → IsWhyUnread name SystemError → ⊥
-no_system name (inl is) = cc is
-no_system name (inr (inl is)) = cc is
-no_system name (inr (inr is)) = cc is
-
-no_field : (name : FileName) → IsWhyUnread name FieldNotFound → ⊥
-no_field name (inl is) = cc is
-no_field name (inr (inl is)) = cc is
-no_field name (inr (inr is)) = cc is
-
 -- no directory gives such an error, no refusal, and no reading back
-stops-why : (w o : ℕ) (schema : Schema) (number : ℕ) (e : TantivyError) (a b : Directories) → StopsIn w o schema number e a b → ((why : List Answer) → IsWhy e why → ⊥) → (IsRefusal e → ⊥)
-    → ((old new : List Answer) → OpeningSeen w schema number old (Err e) new → ⊥) → ⊥
-stops-why w o schema number e a b (at_once r same) no_why no_refusal no_read = no_refusal r
-stops-why w o schema number e a b (work_listing d same) no_why no_refusal no_read = no_why d.seen.why d.seen.is_why
-stops-why w o schema number e a b (output_listing x d) no_why no_refusal no_read = no_why d.seen.why d.seen.is_why
-stops-why w o schema number e a b (documents r x y) no_why no_refusal no_read = no_refusal r
-stops-why w o schema number e a b (work_index d x) no_why no_refusal no_read = no_why d.seen.why d.seen.is_why
-stops-why w o schema number e a b (reading_back d x) no_why no_refusal no_read = no_read d.filled.seen b.work.seen d.read.seen
-stops-why w o schema number e a b (output_index reader x d) no_why no_refusal no_read = no_why d.seen.why d.seen.is_why
+stops-why : (asked : Asked) (e : TantivyError) (a b : Directories) → StopsIn asked e a b → ((why : List Answer) → IsWhy e why → ⊥) → (IsRefusal e → ⊥) → (IsReadError e → ⊥) → ⊥
+stops-why asked e a b (at_once r same) no_why no_refusal no_read = no_refusal r
+stops-why asked e a b (work_listing d same) no_why no_refusal no_read = no_why d.seen.why d.seen.is_why
+stops-why asked e a b (output_listing x d) no_why no_refusal no_read = no_why d.seen.why d.seen.is_why
+stops-why asked e a b (documents made r x y) no_why no_refusal no_read = no_refusal r
+stops-why asked e a b (work_index d x) no_why no_refusal no_read = no_why d.seen.why d.seen.is_why
+stops-why asked e a b (reading_back w x) no_why no_refusal no_read = no_read (stops_so asked.schema asked.segments e w.filled b.work w.stops)
+stops-why asked e a b (too_many read is many w x) no_why no_refusal no_read = no_refusal (subst IsRefusal (sym is) tt)
+stops-why asked e a b (output_index read number w d) no_why no_refusal no_read = no_why d.seen.why d.seen.is_why
 
-module _ (w o : ℕ) (schema : Schema) (number : ℕ) (a b : Directories) where
-  stopped : (e : TantivyError) → StopsIn w o schema number e a b → Stopped e a b
-  stopped e s = record { work_id = w; output_id = o; schema = schema; number = number; stops = s }
+module _ (asked : Asked) (a b : Directories) where
+  stopped : (e : TantivyError) → StopsIn asked e a b → Stopped e a b
+  stopped e s = record { asked = asked; stops = s }
 
   -- the status of the error with which it stops
-  pub ends-as : (e : TantivyError) → StopsIn w o schema number e a b → BuildDoes (status_of e) a b
+  pub ends-as : (e : TantivyError) → StopsIn asked e a b → BuildDoes (status_of e) a b
   ends-as IndexAlreadyExists s = (refl, stopped _ s)
   ends-as OpenReadError s = (inl refl, stopped _ s)
   ends-as OpenWriteError s = (inr (inl refl), stopped _ s)
@@ -59,8 +48,8 @@ module _ (w o : ℕ) (schema : Schema) (number : ℕ) (a b : Directories) where
   ends-as (SchemaError cause) s = inr (stopped _ s)
   ends-as (InvalidArgument cause) s = inr (stopped _ s)
   ends-as (DataCorruption name) s = stopped _ s
-  ends-as SystemError s = absurd (stops-why w o schema number _ a b s (λ why h. h) (λ h. h) (λ old new seen. no_system _ seen.why))
-  ends-as FieldNotFound s = absurd (stops-why w o schema number _ a b s (λ why h. h) (λ h. h) (λ old new seen. no_field _ seen.why))
+  ends-as SystemError s = absurd (stops-why asked _ a b s (λ why h. h) (λ h. h) (λ h. h))
+  ends-as FieldNotFound s = absurd (stops-why asked _ a b s (λ why h. h) (λ h. h) (λ h. h))
 
 -- no damage is told where there is none
 undamaged_as : (e : TantivyError) → IsNoDamage e → (name : FileName) → status_of e ≡ Damaged name → ⊥
@@ -122,9 +111,24 @@ first_as A B None e r answer made is statuses h both = tt
 first_as A B (Some x) e r answer made is statuses (inl k) both = (inl (is ∙ ap (λ (y : TantivyError). Err (status_of y)) (ap error_in (sym made ∙ k)) ∙ ap Err statuses), both.0, both.1)
 first_as A B (Some x) e r answer made is statuses (inr k) both = (inr (is ∙ ap (λ (y : TantivyError). Err (status_of y)) (ap error_in (sym made ∙ k))), both.0, both.1)
 
+-- what was built, nothing refused
+none_first : {T : Type 0} (o : Option TantivyError) (x : T) → IfSome o (λ e. (Ok x ≡ Err e) ⊎ (Ok x ≡ Err OutOfMemory)) → o ≡ None
+none_first None x h = refl
+none_first (Some e) x (inl is) = absurd (cc is)
+none_first (Some e) x (inr is) = absurd (cc is)
+
+-- and it is of what is built so far
+pub built_is : {T : Type 0} (known : Known) (analyzer : Analyzer) (given input : Input) (x : T) → given ≡ input → IfSome (first_error known analyzer given) (λ e. (Ok x ≡ Err e) ⊎ (Ok x ≡ Err OutOfMemory)) → is_built_input input ≡ true
+built_is known analyzer given input x same h =
+    subst (λ (s : Input). is_built_input s ≡ true) same (by (is_built_input given) (input_refusal known analyzer given) (none_first (first_error known analyzer given) x h))
+  where
+    by : (b : Bool) (o : Option InputRefusal) → cond b (option_map input_error o) (Some (InvalidArgument Later)) ≡ None → b ≡ true
+    by true o none = refl
+    by false o none = absurd (cc none)
+
 -- of the same input
 pub first_of_same : (known : Known) (analyzer : Analyzer) (given input : Input) → given ≡ input → (P : TantivyError → Type 0) → IfSome (first_error known analyzer given) P → IfSome (first_error known analyzer input) P
 first_of_same known analyzer given input same P h = subst (λ (s : Input). IfSome (first_error known analyzer s) P) same h
 
-pub ends-with : (status : Status) (w o : ℕ) (schema : Schema) (number : ℕ) (e : TantivyError) (a b : Directories) → status ≡ status_of e → StopsIn w o schema number e a b → BuildDoes status a b
-ends-with status w o schema number e a b is stops = subst (λ (s : Status). BuildDoes s a b) (sym is) (ends-as w o schema number a b e stops)
+pub ends-with : (status : Status) (asked : Asked) (e : TantivyError) (a b : Directories) → status ≡ status_of e → StopsIn asked e a b → BuildDoes status a b
+ends-with status asked e a b is stops = subst (λ (s : Status). BuildDoes s a b) (sym is) (ends-as asked a b e stops)

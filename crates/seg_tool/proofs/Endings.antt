@@ -9,25 +9,28 @@ use Rattle.seg_common.specs.Streams.{IsAllOf}
 use Rattle.seg_common.specs.declared.name.FileName.{FileName}
 use Rattle.seg_values.specs.declared.error.ArgumentCause.TheVariants.{Later}
 use Rattle.seg_values.specs.declared.error.TantivyError.{TantivyError}
-use Rattle.seg_values.specs.declared.error.TantivyError.TheVariants.{InvalidArgument, OpenWriteError, IoError, OutOfMemory}
+use Rattle.seg_values.specs.declared.error.TantivyError.TheVariants.{InvalidArgument, OpenReadError, OutOfMemory}
 use Rattle.seg_directory.specs.declared.answer.Answer.{Answer}
 use Rattle.seg_directory.specs.declared.answer.Answer.TheVariants as answer
 use Rattle.seg_meta.specs.Reads.{given}
-use Rattle.seg_model.specs.Fields.{Schema, Analyzer}
+use Rattle.seg_model.specs.Fields.{Analyzer}
 use Rattle.seg_model.specs.Laws.{ValidInputsAreNotRefused}
 use Rattle.seg_model.specs.Refused.{build_refusal}
-use Rattle.seg_model.specs.Valid.{Known}
-use Rattle.seg_merge.specs.Calls.{DirectoryState, HasRisen, Does}
-use Rattle.seg_merge.specs.DirectoryCalls.{Directories, IsRefusal, ReadsBehind, StopsIn, at_once, work_listing, output_listing, documents, work_index, reading_back, output_index}
-use Rattle.seg_open.specs.SegmentOpened.{OpeningSeen}
-use Rattle.seg_open.specs.SegmentRead.{IsWhyUnread}
-use Rattle.seg_merge.specs.Refusals.{build_error}
+use Rattle.seg_model.specs.Input.{Input}
+use Rattle.seg_model.specs.Valid.{Known, IsValid}
+use Rattle.seg_batches.specs.Calls.{DirectoryState, HasRisen, Does}
+use Rattle.seg_batches.specs.Reading.{StopsReading}
+use Rattle.seg_merge.specs.DirectoryCalls.{Asked, Directories, WritesThenStops, StopsIn, at_once, work_listing, output_listing, documents, work_index, reading_back, too_many, output_index}
+use Rattle.seg_refusals.specs.Admitted.{IsValidIf}
+use Rattle.seg_refusals.specs.Refusals.{IsRefusal, build_error}
 use Rattle.seg_script.specs.Script.{json_of, script, script_from}
 use Rattle.seg_tool.specs.DirectoryCalls.{Stopped, IsFault, BuildDoes}
 use Rattle.seg_tool.specs.Run.{max_script, first_of, refusal_of, IsAdmitted, IsNoScript, IsValidScript, IsWhyRefused}
 use Rattle.seg_tool.specs.Statuses.{IfRefused, IfWritten, RefusedFor}
 use Rattle.seg_tool.specs.declared.status.Status.{Status}
 use Rattle.seg_tool.specs.declared.status.Status.TheVariants.{Done, Words, Script, Refused, Exists, Directory, Damaged, Stream, Memory}
+use Rattle.seg_merge.proofs.ReadErrors.{IsReadError, stops_so}
+use Rattle.seg_tool.proofs.ReadBack.{rose_before, stops_rose}
 
 -- ---- before any call
 
@@ -42,7 +45,7 @@ does-nothing a = record {
 
 -- no memory, before a directory is called
 pub stopped-before : (a : Directories) → Stopped OutOfMemory a a
-stopped-before a = record { work_id = 0; output_id = 0; schema = []; number = 0; stops = work_listing (does-nothing a.work) refl }
+stopped-before a = record { asked = record { schema = []; segments = []; filters = []; output_id = 0 }; stops = work_listing (does-nothing a.work) refl }
 
 -- ---- the bytes of the source
 
@@ -111,20 +114,24 @@ at-all A B known analyzer r bytes all is first =
 
 -- ---- what ends well
 
+-- what is asked of the survivors is told
+valid_told : (known : Known) (analyzer : Analyzer) (input : Input) → IsValidIf (Unit {0}) known analyzer input → IsValid known analyzer input
+valid_told known analyzer input v = record { accepted = v.accepted; taken = v.taken; batches = v.batches; survivors = v.survivors tt }
+
 -- a valid script is not refused
-not-refused : (known : Known) (analyzer : Analyzer) (bytes : List ℕ) (e : TantivyError) → ValidInputsAreNotRefused → IsValidScript known analyzer bytes → IsWhyRefused known analyzer bytes e → ⊥
+not-refused : (known : Known) (analyzer : Analyzer) (bytes : List ℕ) (e : TantivyError) → ValidInputsAreNotRefused → IsValidScript (Unit {0}) known analyzer bytes → IsWhyRefused known analyzer bytes e → ⊥
 not-refused known analyzer bytes e law v why =
     let none : refusal_of known analyzer (script bytes) ≡ None =
     ap (refusal_of known analyzer) v.is_script
     ∙ ap (λ b. if b then option_map build_error (build_refusal known analyzer v.meant) else Some (InvalidArgument Later)) v.built
-    ∙ ap (option_map build_error) ((law known analyzer v.meant).0 v.valid) in
+    ∙ ap (option_map build_error) ((law known analyzer v.meant).0 (valid_told known analyzer v.meant v.valid)) in
     true≢false (ap is_some (sym why ∙ none))
 
 -- no JSON text is a script
 no-script : (bytes : List ℕ) → json_of bytes ≡ None → script bytes ≡ None
 no-script bytes none = ap (λ o. given o script_from) none
 
-not-script : (known : Known) (analyzer : Analyzer) (bytes : List ℕ) → length bytes ≤ max_script → IsValidScript known analyzer bytes → IsNoScript bytes → ⊥
+not-script : (known : Known) (analyzer : Analyzer) (bytes : List ℕ) → length bytes ≤ max_script → IsValidScript (Unit {0}) known analyzer bytes → IsNoScript bytes → ⊥
 not-script known analyzer bytes short v (inl none) = true≢false (ap is_some (sym v.is_script ∙ no-script bytes none))
 not-script known analyzer bytes short v (inr long) = omega (arith, short, long)
 
@@ -140,38 +147,23 @@ no-refusal e (inl is) refusal = subst IsRefusal is refusal
 no-refusal e (inr (inl is)) refusal = subst IsRefusal is refusal
 no-refusal e (inr (inr is)) refusal = subst IsRefusal is refusal
 
--- such a fault is not told of a file that can't be read
-no-write : (name : FileName) → IsWhyUnread name OpenWriteError → ⊥
-no-write name (inl is) = cc is
-no-write name (inr (inl is)) = cc is
-no-write name (inr (inr is)) = cc is
+-- nor do segments that are written and read back
+no-read-fault : (asked : Asked) (e : TantivyError) (a b : DirectoryState) → IsFault e → (Rose a.faults b.faults → ⊥) → WritesThenStops asked.schema asked.segments e a b → ⊥
+no-read-fault asked e a b (inl is) sound w =
+    let stops : StopsReading asked.schema asked.segments OpenReadError w.filled b = subst (λ (x : TantivyError). StopsReading asked.schema asked.segments x w.filled b) is w.stops in
+    sound (rose_before a.faults w.filled.faults b.faults w.writes.later (stops_rose asked.schema asked.segments w.filled b stops))
+no-read-fault asked e a b (inr (inl is)) sound w = subst IsReadError is (stops_so asked.schema asked.segments e w.filled b w.stops)
+no-read-fault asked e a b (inr (inr is)) sound w = subst IsReadError is (stops_so asked.schema asked.segments e w.filled b w.stops)
 
-no-io : (name : FileName) → IsWhyUnread name IoError → ⊥
-no-io name (inl is) = cc is
-no-io name (inr (inl is)) = cc is
-no-io name (inr (inr is)) = cc is
-
-rose-before : (a b c : ℕ) → a ≤ b → Rose b c → Rose a c
-rose-before a b c le rose = omega (arith, le, rose)
-
--- nor do files that are made and read back
-no-read-fault : (answers : List Answer) (id : ℕ) (schema : Schema) (number : ℕ) (e : TantivyError) (a b : DirectoryState) → IsFault e → (Rose a.faults b.faults → ⊥) → ReadsBehind answers id schema number (Err e) a b → ⊥
-no-read-fault answers id schema number e a b (inl is) sound r = sound (rose-before a.faults r.filled.faults b.faults r.made.later (r.read.cause.failed (ap Err is)))
-no-read-fault answers id schema number e a b (inr (inl is)) sound r =
-    let seen : OpeningSeen id schema number r.filled.seen (Err OpenWriteError) b.seen = subst (λ (x : TantivyError). OpeningSeen id schema number r.filled.seen (Err x) b.seen) is r.read.seen in
-    no-write _ seen.why
-no-read-fault answers id schema number e a b (inr (inr is)) sound r =
-    let seen : OpeningSeen id schema number r.filled.seen (Err IoError) b.seen = subst (λ (x : TantivyError). OpeningSeen id schema number r.filled.seen (Err x) b.seen) is r.read.seen in
-    no-io _ seen.why
-
-never-stops : (w o : ℕ) (schema : Schema) (number : ℕ) (e : TantivyError) (a b : Directories) → IsFault e → (Rose a.work.faults b.work.faults → ⊥) → (Rose a.output.faults b.output.faults → ⊥) → StopsIn w o schema number e a b → ⊥
-never-stops w o schema number e a b fault work output (at_once refusal same) = no-refusal e fault refusal
-never-stops w o schema number e a b fault work output (work_listing d same) = no-fault _ _ e _ _ fault work d
-never-stops w o schema number e a b fault work output (output_listing d f) = no-fault _ _ e _ _ fault output f
-never-stops w o schema number e a b fault work output (documents refusal d f) = no-refusal e fault refusal
-never-stops w o schema number e a b fault work output (work_index d f) = no-fault _ _ e _ _ fault work d
-never-stops w o schema number e a b fault work output (reading_back d f) = no-read-fault _ w schema number e a.work b.work fault work d
-never-stops w o schema number e a b fault work output (output_index reader d f) = no-fault _ _ e _ _ fault output f
+never-stops : (asked : Asked) (e : TantivyError) (a b : Directories) → IsFault e → (Rose a.work.faults b.work.faults → ⊥) → (Rose a.output.faults b.output.faults → ⊥) → StopsIn asked e a b → ⊥
+never-stops asked e a b fault work output (at_once refusal same) = no-refusal e fault refusal
+never-stops asked e a b fault work output (work_listing d same) = no-fault _ _ e _ _ fault work d
+never-stops asked e a b fault work output (output_listing d f) = no-fault _ _ e _ _ fault output f
+never-stops asked e a b fault work output (documents made refusal d f) = no-refusal e fault refusal
+never-stops asked e a b fault work output (work_index d f) = no-fault _ _ e _ _ fault work d
+never-stops asked e a b fault work output (reading_back d f) = no-read-fault asked e a.work b.work fault work d
+never-stops asked e a b fault work output (too_many read is many d f) = no-refusal e fault (subst IsRefusal (sym is) tt)
+never-stops asked e a b fault work output (output_index read number d f) = no-fault _ _ e _ _ fault output f
 
 -- neither the source nor the sink fails
 pub no-stream : {A B C D : Type 0} → (A → ⊥) → (C → ⊥) → (A × B) ⊎ (C × D) → ⊥
@@ -183,7 +175,7 @@ at-left : (P : List ℕ → Type 0) (left : Option (List ℕ)) (bytes : List ℕ
 at-left P left bytes is p = subst (λ (o : Option (List ℕ)). IfSome o P) is p
 
 pub completes : (s : Status) (known : Known) (analyzer : Analyzer) (left : Option (List ℕ)) (bytes : List ℕ) (a b : Directories)
-    → ValidInputsAreNotRefused → left ≡ Some bytes → length bytes ≤ max_script → IsValidScript known analyzer bytes
+    → ValidInputsAreNotRefused → left ≡ Some bytes → length bytes ≤ max_script → IsValidScript (Unit {0}) known analyzer bytes
     → s ≢ Words → s ≢ Stream → ((e : TantivyError) → s ≢ Exists e) → ((name : FileName) → s ≢ Damaged name)
     → (s ≡ Script → IfSome left IsNoScript)
     → IfRefused s (λ e. IfSome left (λ all. IsWhyRefused known analyzer all e))
@@ -200,4 +192,4 @@ completes Script known analyzer left bytes a b law is short v words stream exist
 completes (Refused e) known analyzer left bytes a b law is short v words stream exists whole script refused does work output =
     absurd (not-refused known analyzer bytes e law v (at-left (λ all. IsWhyRefused known analyzer all e) left bytes is refused))
 completes (Directory e) known analyzer left bytes a b law is short v words stream exists whole script refused does work output =
-    absurd (never-stops does.1.work_id does.1.output_id does.1.schema does.1.number e a b does.0 work output does.1.stops)
+    absurd (never-stops does.1.asked e a b does.0 work output does.1.stops)

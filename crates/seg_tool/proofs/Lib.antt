@@ -2,7 +2,9 @@ mod Built
 mod CauseText
 mod Endings
 mod Faults
+mod Kept
 mod OfScript
 mod Parts
 mod Printed
+mod ReadBack
 mod ReadText

@@ -1,14 +1,19 @@
 -- What is known of an input is known of the script that it stands in.
 use Rattle.std.proofs.Common.{◌≡◌, ◌⊎◌, ℕ, List, Option, None, Some, refl, sym, ap, subst, ◌∙◌, inl, inr}
 use Rattle.std.specs.Prelude.{Result, Ok, Err, IfErr, IfSome, OnOk, true}
+use Rattle.seg_values.specs.declared.error.ArgumentCause.TheVariants.{Documents}
 use Rattle.seg_values.specs.declared.error.TantivyError.{TantivyError}
+use Rattle.seg_values.specs.declared.error.TantivyError.TheVariants.{InvalidArgument}
+use Rattle.seg_directory.specs.Files.{NamedFiles}
 use Rattle.seg_model.specs.Fields.{Analyzer}
 use Rattle.seg_model.specs.Input.{Input}
-use Rattle.seg_model.specs.Valid.{Known, IsValid}
-use Rattle.seg_merge.specs.Inputs.{is_built_input}
-use Rattle.seg_merge.specs.Refusals.{first_error, refusal_error}
+use Rattle.seg_model.specs.Valid.{Known}
+use Rattle.seg_refusals.specs.Admitted.{IsValidIf}
+use Rattle.seg_refusals.specs.Inputs.{is_built_input}
+use Rattle.seg_refusals.specs.Refusals.{first_error, refusal_error}
+use Rattle.seg_merge.specs.IndexFiles.{IsMergedIndexOf}
 use Rattle.seg_script.specs.Script.{script}
-use Rattle.seg_tool.specs.Run.{first_of, refusal_of, IsValidScript, IsWhyRefused}
+use Rattle.seg_tool.specs.Run.{first_of, refusal_of, HasMergedIndex, IsValidScript, IsWhyRefused, IsWhyRefusedUntold}
 use Rattle.seg_tool.specs.Statuses.{IfRefused, IfWritten}
 use Rattle.seg_tool.specs.declared.status.Status.{Status}
 use Rattle.seg_tool.specs.declared.status.Status.TheVariants.{Done, Words, Script, Refused, Exists, Directory, Damaged, Stream, Memory}
@@ -17,14 +22,19 @@ use Rattle.seg_tool.specs.declared.status.Status.TheVariants.{Done, Words, Scrip
 pub says : (bytes : List ℕ) (said made : Input) → script bytes ≡ Some said → made ≡ said → script bytes ≡ Some made
 says bytes said made is same = is ∙ ap Some (sym same)
 
-pub valid-script : {T : Type 0} (r : Result T Status) (known : Known) (analyzer : Analyzer) (bytes : List ℕ) (input : Input) → script bytes ≡ Some input
-    → OnOk r (is_built_input input ≡ true) → OnOk r (IsValid known analyzer input) → OnOk r (IsValidScript known analyzer bytes)
-valid-script (Ok x) known analyzer bytes input is built valid = record { meant = input; is_script = is; built = built; valid = valid }
-valid-script (Err s) known analyzer bytes input is built valid = tt
+pub valid-script : {T : Type 0} (told : Type 0) (r : Result T Status) (known : Known) (analyzer : Analyzer) (bytes : List ℕ) (input : Input) → script bytes ≡ Some input
+    → OnOk r (is_built_input input ≡ true) → OnOk r (IsValidIf told known analyzer input) → OnOk r (IsValidScript told known analyzer bytes)
+valid-script told (Ok x) known analyzer bytes input is built valid = record { meant = input; is_script = is; built = built; valid = valid }
+valid-script told (Err s) known analyzer bytes input is built valid = tt
 
 pub refused-script : {T : Type 0} (r : Result T Status) (known : Known) (analyzer : Analyzer) (bytes : List ℕ) (input : Input) → script bytes ≡ Some input
     → IfErr r (λ s. IfRefused s (λ e. refusal_error known analyzer input ≡ Some e)) → IfErr r (λ s. IfRefused s (IsWhyRefused known analyzer bytes))
 refused-script r known analyzer bytes input is refused = subst (λ (o : Option Input). IfErr r (λ s. IfRefused s (λ e. refusal_of known analyzer o ≡ Some e))) (sym is) refused
+
+-- or more documents were read back than one segment can hold
+pub untold-script : {T : Type 0} (r : Result T Status) (known : Known) (analyzer : Analyzer) (bytes : List ℕ) (input : Input) → script bytes ≡ Some input
+    → IfErr r (λ s. IfRefused s (λ e. (refusal_error known analyzer input ≡ Some e) ⊎ (e ≡ InvalidArgument Documents))) → IfErr r (λ s. IfRefused s (IsWhyRefusedUntold known analyzer bytes))
+untold-script r known analyzer bytes input is refused = subst (λ (o : Option Input). IfErr r (λ s. IfRefused s (λ e. (refusal_of known analyzer o ≡ Some e) ⊎ (e ≡ InvalidArgument Documents)))) (sym is) refused
 
 pub first-script : (A B : Type 0) {T : Type 0} (r : Result T Status) (known : Known) (analyzer : Analyzer) (bytes : List ℕ) (input : Input) → script bytes ≡ Some input
     → IfSome (first_error known analyzer input) (λ e. ((r ≡ Err (Refused e)) ⊎ (r ≡ Err Memory)) × A × B)
@@ -59,3 +69,8 @@ pub admitted-script : (A B : Type 0) {T : Type 0} (r : Result T Status) (known :
     → IfSome (first_error known analyzer input) (λ e. ((r ≡ Err (Refused e)) ⊎ (r ≡ Err Memory)) × A × B)
     → IfErr r (λ s. IfWritten s (λ _. first_of known analyzer (script bytes) ≡ None))
 admitted-script A B r known analyzer bytes input is first = subst (λ (o : Option Input). IfErr r (λ s. IfWritten s (λ _. first_of known analyzer o ≡ None))) (sym is) (nothing-refused A B r (first_error known analyzer input) first)
+
+-- an index of one segment that was merged
+pub merged-script : {T : Type 0} (r : Result T Status) (bytes : List ℕ) (input : Input) (files : NamedFiles) → script bytes ≡ Some input → OnOk r ((number : ℕ) × IsMergedIndexOf input number files) → OnOk r (HasMergedIndex bytes files)
+merged-script (Ok x) bytes input files is merged = record { meant = input; is_script = is; documents = merged.0; is_index = merged.1 }
+merged-script (Err s) bytes input files is merged = tt

@@ -1,10 +1,11 @@
 -- The text of what is read, one term, one field or one document more, and of a segment, part by part.
-use Rattle.std.proofs.Common.{◌≡◌, ℕ, zero, suc, ◌+◌, ◌<◌, List, [], ◌∷◌, ◌++◌, map, drop, length, Option, Some, None, true, sym, ap, ◌∙◌, append_assoc, arith, add-one, get_or}
-use Rattle.std.specs.Prelude.{is_some, nat_lt, if◌then◌else◌, replicate, Result, OnOk}
+use Rattle.std.proofs.Common.{◌≡◌, ℕ, zero, suc, ◌+◌, ◌<◌, List, [], ◌∷◌, ◌++◌, map, drop, length, Option, Some, None, true, refl, sym, ap, ◌∙◌, append_assoc, arith, add-one, get_or}
+use Rattle.std.specs.Prelude.{Bool, count_by, is_some, nat_lt, if◌then◌else◌, replicate, Result, OnOk}
+use Rattle.std.specs.Borrow.{Bor}
 use Rattle.std.specs.FinMap.{entries}
 use Rattle.std.specs.List.{slice_get, flat_map, AllByRecursion}
 use Rattle.std.proofs.lemmas.Bool.{ltb-true}
-use Rattle.std.proofs.lemmas.List.{length-map}
+use Rattle.std.proofs.lemmas.List.{append-nil, length-map}
 use Rattle.std.proofs.lemmas.Result.{on_ok_weaker}
 use Rattle.seg_common.specs.declared.term_info.TermInfo.{TermInfo}
 use Rattle.seg_values.specs.Tree.{Document}
@@ -18,10 +19,11 @@ use Rattle.seg_postings.specs.FieldReading.{ReadTerm, OpenField, dictionary_term
 use Rattle.seg_open.specs.OpenSegment.{terms_in}
 use Rattle.seg_text.specs.DocumentText.{document_line, documents_from, documents_text}
 use Rattle.seg_text.specs.FieldText.{field_text, fields_text, term_line}
-use Rattle.seg_text.specs.HeaderText.{header_text}
+use Rattle.seg_text.specs.HeaderText.{dead_text, header_text}
 use Rattle.seg_text.specs.SegmentText.{segment_text}
-use Rattle.seg_text.proofs.AllAlive.{segment_text-replicate}
+use Rattle.seg_text.proofs.AllAlive.{count_by-replicate, dead_text-replicate}
 use Rattle.seg_text.proofs.Places.{drop-slice_get}
+use Rattle.seg_join.specs.KeptSegment.{marks_of}
 use Rattle.seg_tool.specs.Printing.{opened_text}
 
 -- ---- fields
@@ -111,21 +113,37 @@ documents_more before schema documents i d is =
 
 -- ---- the segment
 
--- the first line, the fields and the documents make it
-pub segment_read : {T E : Type 0} (r : Result T E) (label : List ℕ) (id : ℕ) (schema same : Schema) (reading : Reading) (documents : List Document) (n : ℕ) (out one two three : List ℕ)
+-- without a set all are alive, and no line tells of deleted documents
+pub all_head : {T E : Type 0} (r : Result T E) (label : List ℕ) (id n : ℕ) (out new : List ℕ) → OnOk r (new ≡ out ++ header_text label id n n)
+    → OnOk r (new ≡ out ++ (header_text label id n (count_by (λ b. b) (replicate n true)) ++ dead_text (replicate n true)))
+all_head r label id n out new =
+    on_ok_weaker r (λ e.
+    e
+    ∙ ap (λ k. out ++ header_text label id n k) (sym (count_by-replicate n))
+    ∙ ap (λ xs. out ++ xs) (sym (append-nil (header_text label id n (count_by (λ b. b) (replicate n true)))))
+    ∙ ap (λ xs. out ++ (header_text label id n (count_by (λ b. b) (replicate n true)) ++ xs)) (sym (dead_text-replicate n)))
+
+pub unset_head : {T E : Type 0} (r : Result T E) (label : List ℕ) (id n : ℕ) (alive : Option (Bor (List Bool))) (out new : List ℕ) → ((set : Bor (List Bool)) → alive ≡ Some set → ⊥) → OnOk r (new ≡ out ++ header_text label id n n)
+    → OnOk r (new ≡ out ++ (header_text label id n (count_by (λ b. b) (marks_of n alive)) ++ dead_text (marks_of n alive)))
+unset_head r label id n None out new unset head = all_head r label id n out new head
+unset_head r label id n (Some set) out new unset head = absurd (unset set refl)
+
+-- the first lines, the fields and the documents make it
+pub segment_read : {T E : Type 0} (r : Result T E) (label : List ℕ) (id : ℕ) (schema same : Schema) (reading : Reading) (documents : List Document) (n : ℕ) (alive : Option (Bor (List Bool))) (out one two three : List ℕ)
     → n ≡ reading.documents → same ≡ schema → documents ≡ reading.stored
-    → one ≡ out ++ header_text label id n n → two ≡ one ++ fields_text schema reading.terms
+    → one ≡ out ++ (header_text label id n (count_by (λ b. b) (marks_of n alive)) ++ dead_text (marks_of n alive)) → two ≡ one ++ fields_text schema reading.terms
     → OnOk r (three ≡ two ++ documents_text same documents)
-    → OnOk r (three ≡ out ++ segment_text schema (record { label = label; id = id; alive = replicate reading.documents true; reading = reading }))
-segment_read r label id schema same reading documents n out one two three number schema_is stored header fields =
-    let line = header_text label id reading.documents reading.documents in
+    → OnOk r (three ≡ out ++ segment_text schema (record { label = label; id = id; alive = marks_of reading.documents alive; reading = reading }))
+segment_read r label id schema same reading documents n alive out one two three number schema_is stored header fields =
+    let line = header_text label id reading.documents (count_by (λ b. b) (marks_of reading.documents alive)) in
+    let dead = dead_text (marks_of reading.documents alive) in
     let texts = fields_text schema reading.terms in
     let lines = documents_text schema reading.stored in
     on_ok_weaker r (λ e.
     e
     ∙ ap (λ s. two ++ documents_text s documents) schema_is
     ∙ ap (λ ds. two ++ documents_text schema ds) stored
-    ∙ ap (λ xs. xs ++ lines) (fields ∙ ap (λ xs. xs ++ texts) (header ∙ ap (λ k. out ++ header_text label id k k) number))
-    ∙ append_assoc (out ++ line) texts lines
-    ∙ append_assoc out line (texts ++ lines)
-    ∙ ap (λ xs. out ++ xs) (sym (segment_text-replicate schema label id reading)))
+    ∙ ap (λ xs. xs ++ lines) (fields ∙ ap (λ xs. xs ++ texts) (header ∙ ap (λ k. out ++ (header_text label id k (count_by (λ b. b) (marks_of k alive)) ++ dead_text (marks_of k alive))) number))
+    ∙ append_assoc (out ++ (line ++ dead)) texts lines
+    ∙ append_assoc out (line ++ dead) (texts ++ lines)
+    ∙ ap (λ xs. out ++ xs) (append_assoc line dead (texts ++ lines)))

@@ -1,32 +1,27 @@
 -- What a run of `build` does to the work directory and to the output directory, by its status.
-use Rattle.std.specs.Prelude.{ℕ, ◌≡◌, ◌⊎◌, IsTrue}
+use Rattle.std.specs.Prelude.{◌≡◌, ◌⊎◌, List, IsTrue}
 use Rattle.std.specs.FinMap.{len}
 use Rattle.seg_common.specs.Causes.{Rose}
 use Rattle.seg_values.specs.declared.error.TantivyError.{TantivyError}
 use Rattle.seg_values.specs.declared.error.TantivyError.TheVariants.{IndexAlreadyExists, OpenReadError, OpenWriteError, IoError, DataCorruption, OutOfMemory}
-use Rattle.seg_model.specs.Fields.{Schema}
 use Rattle.seg_open.specs.OpenSegment.{OpenSegment}
-use Rattle.seg_merge.specs.Calls.{DirectoryState}
-use Rattle.seg_merge.specs.DirectoryCalls.{Directories, StopsIn, WritesBoth}
+use Rattle.seg_join.specs.KeptSegment.{KeptSegment}
+use Rattle.seg_batches.specs.Calls.{DirectoryState}
+use Rattle.seg_merge.specs.DirectoryCalls.{Asked, Directories, StopsIn, WritesBoth}
 use Rattle.seg_tool.specs.declared.status.Status.{Status}
 use Rattle.seg_tool.specs.declared.status.Status.TheVariants.{Done, Refused, Exists, Directory, Damaged, Stream, Memory}
 
--- both indexes were written, the second of what a reader had of the first
+-- both indexes were written, the second of what was read of the first
 pub record Wrote (before after : Directories) : Type 0 where
-  pub work_id : ℕ
-  pub output_id : ℕ
-  pub schema : Schema
-  pub number : ℕ
-  pub reader : OpenSegment
-  pub writes : WritesBoth work_id output_id schema number reader before after
+  pub asked : Asked
+  pub read : List KeptSegment
+  pub output : OpenSegment
+  pub writes : WritesBoth asked read output before after
 
 -- it stopped with an error
 pub record Stopped (e : TantivyError) (before after : Directories) : Type 0 where
-  pub work_id : ℕ
-  pub output_id : ℕ
-  pub schema : Schema
-  pub number : ℕ
-  pub stops : StopsIn work_id output_id schema number e before after
+  pub asked : Asked
+  pub stops : StopsIn asked e before after
 
 -- an error of a directory that failed
 abbrev pub IsFault : TantivyError → Type 0

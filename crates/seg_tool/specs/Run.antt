@@ -4,7 +4,7 @@ use Rattle.std.specs.declared.alloc.Global.{Global}
 use Rattle.std.specs.Io.KnownBytes.{Appends}
 use Rattle.std.specs.Str.{bytes_eq}
 use Rattle.seg_common.specs.Streams.{AppendsPart}
-use Rattle.seg_values.specs.declared.error.ArgumentCause.TheVariants.{Later}
+use Rattle.seg_values.specs.declared.error.ArgumentCause.TheVariants.{Documents, Later}
 use Rattle.seg_values.specs.declared.error.TantivyError.{TantivyError}
 use Rattle.seg_values.specs.declared.error.TantivyError.TheVariants.{InvalidArgument}
 use Rattle.seg_values.specs.Tree.{Document}
@@ -12,15 +12,15 @@ use Rattle.seg_directory.specs.Files.{NamedFiles}
 use Rattle.seg_model.specs.Contents.{reading}
 use Rattle.seg_model.specs.Fields.{Schema, Analyzer}
 use Rattle.seg_model.specs.Input.{Input, input_batches, input_survivors}
-use Rattle.seg_model.specs.IndexOfFiles as index
-use Rattle.seg_model.specs.Operations.{Batch, additions}
-use Rattle.seg_model.specs.Valid.{Known, IsValid}
-use Rattle.seg_build.specs.Forms.{segment_forms}
+use Rattle.seg_model.specs.Operations.{Batch}
+use Rattle.seg_model.specs.Valid.{Known}
 use Rattle.seg_open.specs.OpenSegment.{OpenSegment}
-use Rattle.seg_merge.specs.DirectoryCalls.{Directories, WritesBoth}
-use Rattle.seg_merge.specs.IndexFiles.{IsOutputIndexOf, IsWorkIndexOf, first_id, output_id, output_meta, work_ids}
-use Rattle.seg_merge.specs.Inputs.{is_built_input}
-use Rattle.seg_merge.specs.Refusals.{first_error, refusal_error}
+use Rattle.seg_join.specs.KeptSegment.{KeptSegment}
+use Rattle.seg_refusals.specs.Admitted.{IsValidIf}
+use Rattle.seg_refusals.specs.Inputs.{is_built_input}
+use Rattle.seg_refusals.specs.Refusals.{first_error, refusal_error}
+use Rattle.seg_merge.specs.DirectoryCalls.{Directories, WritesBoth, asked_of}
+use Rattle.seg_merge.specs.IndexFiles.{IsMergedIndexOf, IsOutputIndexOf, IsWorkIndexOf, output_id, work_ids}
 use Rattle.seg_script.specs.Script.{json_of, script}
 use Rattle.seg_text.specs.SegmentText.{PrintedSegment, segment_text}
 use Rattle.seg_tool.specs.Printing.{read_text}
@@ -68,18 +68,19 @@ IsJson bytes = IsSome (json_of bytes) × (length bytes ≤ max_script)
 abbrev pub IsNoScript : List ℕ → Type 0
 IsNoScript bytes = (json_of bytes ≡ None) ⊎ (max_script < length bytes)
 
--- the bytes are a script of what is built so far, and valid
-pub record IsValidScript (known : Known) (analyzer : Analyzer) (bytes : List ℕ) : Type 0 where
+-- the bytes are a script of what is built so far, and valid, with what is asked of the survivors where it is told what they are
+pub record IsValidScript (told : Type 0) (known : Known) (analyzer : Analyzer) (bytes : List ℕ) : Type 0 where
   pub meant : Input
   pub is_script : script bytes ≡ Some meant
   pub built : is_built_input meant ≡ true
-  pub valid : IsValid known analyzer meant
+  pub valid : IsValidIf told known analyzer meant
 
--- both indexes of an input were written, and this is the text of the segment that was read back for the second: where the work directory tells, it is that of the reading of the documents
+-- both indexes of an input were written, and this is the text of the segments: of the work segments as they were read back, and of the output segment that these were merged into; where the work directory tells, it is that of the readings of the documents
 pub record IsTextOfInput (analyzer : Analyzer) (input : Input) (before after : Directories) (text : List ℕ) : Type 0 where
-  pub reader : OpenSegment
-  pub writes : WritesBoth (first_id input.ids) (output_id input.ids) input.schema (length (additions input.operations)) reader before after
-  pub printed : text ≡ read_text input.ids reader
+  pub read : List KeptSegment
+  pub output : OpenSegment
+  pub writes : WritesBoth (asked_of analyzer input) read output before after
+  pub printed : text ≡ read_text input.ids read output
   pub told : IsTrue before.work.tells → text ≡ build_text analyzer input
 
 -- the bytes are a script, and this is the text of its indexes
@@ -100,11 +101,12 @@ pub record HasOutputIndex (analyzer : Analyzer) (bytes : List ℕ) (files : Name
   pub is_script : script bytes ≡ Some meant
   pub is_index : IsOutputIndexOf analyzer meant files
 
--- the bytes are a script, and the files are an index with the meta of its output index
-pub record HasOutputMeta (analyzer : Analyzer) (bytes : List ℕ) (files : NamedFiles) : Type 0 where
+-- the bytes are a script, and the files are an index of one segment that was merged from its work segments
+pub record HasMergedIndex (bytes : List ℕ) (files : NamedFiles) : Type 0 where
   pub meant : Input
   pub is_script : script bytes ≡ Some meant
-  pub is_meta : index.index_of segment_forms files ≡ Some (output_meta analyzer meant)
+  pub documents : ℕ
+  pub is_index : IsMergedIndexOf meant documents files
 
 -- ---- refusals
 
@@ -116,6 +118,10 @@ refusal_of known analyzer (Some input) = refusal_error known analyzer input
 -- an error tells why these bytes are refused
 abbrev pub IsWhyRefused : Known → Analyzer → List ℕ → TantivyError → Type 0
 IsWhyRefused known analyzer bytes e = refusal_of known analyzer (script bytes) ≡ Some e
+
+-- or more documents were read back than one segment can hold
+abbrev pub IsWhyRefusedUntold : Known → Analyzer → List ℕ → TantivyError → Type 0
+IsWhyRefusedUntold known analyzer bytes e = IsWhyRefused known analyzer bytes e ⊎ (e ≡ InvalidArgument Documents)
 
 -- the first of them, before a directory is called
 abbrev pub first_of : Known → Analyzer → Option Input → Option TantivyError

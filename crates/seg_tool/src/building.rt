@@ -1,28 +1,28 @@
 //! From the bytes of a script to its indexes and the text of their segments.
-ghost use Rattle.std.specs.Prelude.{◌≡◌, ◌≢◌, ◌⊎◌, true, Some, None, Err, IfErr, IfOk, IfSome, IsErrOf, IsSome, IsTrue, OnOk, length};
+ghost use Rattle.std.specs.Prelude.{◌≡◌, ◌≢◌, ◌≤◌, ◌⊎◌, ◌++◌, ℕ, true, Some, None, Err, IfErr, IfOk, IfSome, IsErrOf, IsSome, IsTrue, OnOk, length};
 ghost use Rattle.std.specs.FinMap.{len};
-ghost use Rattle.seg_model.specs.IndexOfFiles as index;
-ghost use Rattle.seg_model.specs.Valid.{Known, IsValid};
-ghost use Rattle.seg_build.specs.Forms.{segment_forms};
+ghost use Rattle.seg_model.specs.Valid.{Known};
 ghost use Rattle.seg_build.specs.WriterStart.{Tests};
-ghost use Rattle.seg_merge.specs.Calls.{state_of};
+ghost use Rattle.seg_batches.specs.Calls.{state_of};
+ghost use Rattle.seg_refusals.specs.Admitted.{IsValidIf};
+ghost use Rattle.seg_refusals.specs.Inputs.{is_built_input};
+ghost use Rattle.seg_refusals.specs.Refusals.{first_error, refusal_error};
 ghost use Rattle.seg_merge.specs.DirectoryCalls.{Directories};
-ghost use Rattle.seg_merge.specs.IndexFiles.{IsOutputIndexOf, IsWorkIndexOf, output_meta};
-ghost use Rattle.seg_merge.specs.Inputs.{is_built_input};
-ghost use Rattle.seg_merge.specs.Refusals.{first_error, refusal_error};
+ghost use Rattle.seg_merge.specs.IndexFiles.{IsMergedIndexOf, IsOutputIndexOf, IsWorkIndexOf, output_id, work_ids};
 ghost use Rattle.seg_script.specs.Script.{json_of, script};
 ghost use Rattle.seg_tool.specs.BuildInput.{input_of};
 ghost use Rattle.seg_tool.specs.DirectoryCalls.{BuildDoes, Wrote};
-ghost use Rattle.seg_tool.specs.Printing.{read_text};
-ghost use Rattle.seg_tool.specs.Run.{HasOutputIndex, HasOutputMeta, HasWorkIndex, IsTextOf, IsTextOfInput, IsValidScript, IsWhyRefused, first_of};
+ghost use Rattle.seg_tool.specs.Printing.{read_text, read_work_text};
+ghost use Rattle.seg_tool.specs.Run.{HasMergedIndex, HasOutputIndex, HasWorkIndex, IsTextOf, IsTextOfInput, IsValidScript, IsWhyRefused, IsWhyRefusedUntold, first_of};
 ghost use Rattle.seg_tool.specs.Statuses.{IfRefused, IfWritten, IsOfErrors, status_of};
 
-use crate::input::{BuildInput, InputError, build_input};
+use crate::input::{BuildInput, build_input};
 use crate::printing::push_segment;
 use crate::status::Status;
-use seg_common::FileName;
+use seg_batches::ReadSegment;
+use seg_common::{FileName, SegmentId};
 use seg_directory::Directory;
-use seg_merge::{BuiltIndex, build_index_with_reader};
+use seg_merge::{BuiltIndex, build_index_with_readers};
 use seg_open::SegmentReader;
 use seg_script::{Script, ScriptError, read_script};
 use seg_values::{Analyzers, ArgumentCause, TantivyError};
@@ -49,11 +49,13 @@ pub(crate) fn build<Z: Analyzers, W: Directory, O: Directory>(
           output = state_of (O.tells output.new) (O.files output.new) (O.seen output.new) (O.faults output.new);
         }) t.items) }
     ensures valid { (known : Known) → Tests known (Z.knows analyzers.now)
-        → OnOk result (IsValidScript known (Z.tokens_of analyzers.now) bytes.items) }
+        → OnOk result (IsValidScript (IsTrue (W.tells work.old)) known (Z.tokens_of analyzers.now) bytes.items) }
     ensures script { IsErrOf result Status.Script → json_of bytes.items ≡ None }
     ensures json { IfErr result (λ status. IfRefused status (λ _. IsSome (json_of bytes.items))) }
-    ensures refused { (known : Known) → Tests known (Z.knows analyzers.now)
+    ensures refused { (known : Known) → Tests known (Z.knows analyzers.now) → IsTrue (W.tells work.old)
         → IfErr result (λ status. IfRefused status (IsWhyRefused known (Z.tokens_of analyzers.now) bytes.items)) }
+    ensures refused_untold { (known : Known) → Tests known (Z.knows analyzers.now)
+        → IfErr result (λ status. IfRefused status (IsWhyRefusedUntold known (Z.tokens_of analyzers.now) bytes.items)) }
     ensures first { (known : Known) → Tests known (Z.knows analyzers.now) → IsSome (json_of bytes.items)
         → IfSome (first_of known (Z.tokens_of analyzers.now) (script bytes.items))
         (λ e. ((result ≡ Err (Status.Refused e)) ⊎ (result ≡ Err Status.Memory)) × (work.new ≡ work.old) × (output.new ≡ output.old)) }
@@ -68,7 +70,7 @@ pub(crate) fn build<Z: Analyzers, W: Directory, O: Directory>(
     ensures output_index { IsTrue (W.tells work.old) → IsTrue (O.tells output.old) → OnOk result
         (HasOutputIndex (Z.tokens_of analyzers.now) bytes.items (O.files output.new)) }
     ensures output_meta { IsTrue (O.tells output.old) → OnOk result
-        (HasOutputMeta (Z.tokens_of analyzers.now) bytes.items (O.files output.new)) }
+        (HasMergedIndex bytes.items (O.files output.new)) }
     ensures output_was_empty { IsTrue (O.tells output.old) → OnOk result (len (O.files output.old) ≡ 0) }
     ensures fresh { IsTrue (W.tells work.old) → len (W.files work.old) ≡ 0
         → IsTrue (O.tells output.old) → len (O.files output.old) ≡ 0
@@ -100,10 +102,8 @@ pub(crate) fn build<Z: Analyzers, W: Directory, O: Directory>(
         Err(ScriptError::Later) => return Err(Status::Refused(LATER)),
         Err(ScriptError::OutOfMemory) => return Err(Status::Memory),
     };
-    let input = match build_input(alloc, script) {
-        Ok(input) => input,
-        Err(InputError::Filtered) => return Err(Status::Refused(LATER)),
-        Err(InputError::OutOfMemory) => return Err(Status::Memory),
+    let Ok(input) = build_input(alloc, script) else {
+        return Err(Status::Memory);
     };
     build_and_print(alloc, analyzers, &input, work, output)
 }
@@ -126,10 +126,14 @@ fn build_and_print<Z: Analyzers, W: Directory, O: Directory>(
           output = state_of (O.tells output.new) (O.files output.new) (O.seen output.new) (O.faults output.new);
         }) t.items) }
     ensures valid { (known : Known) → Tests known (Z.knows analyzers.now)
-        → OnOk result (IsValid known (Z.tokens_of analyzers.now) (input_of input.now)) }
-    ensures built { OnOk result (is_built_input (input_of input.now) ≡ true) }
-    ensures refused { (known : Known) → Tests known (Z.knows analyzers.now)
+        → OnOk result (IsValidIf (IsTrue (W.tells work.old)) known (Z.tokens_of analyzers.now) (input_of input.now)) }
+    ensures built { (known : Known) → Tests known (Z.knows analyzers.now)
+        → OnOk result (is_built_input (input_of input.now) ≡ true) }
+    ensures refused { (known : Known) → Tests known (Z.knows analyzers.now) → IsTrue (W.tells work.old)
         → IfErr result (λ status. IfRefused status (λ e. refusal_error known (Z.tokens_of analyzers.now) (input_of input.now) ≡ Some e)) }
+    ensures refused_untold { (known : Known) → Tests known (Z.knows analyzers.now)
+        → IfErr result (λ status. IfRefused status (λ e. (refusal_error known (Z.tokens_of analyzers.now) (input_of input.now) ≡ Some e)
+        ⊎ (e ≡ TantivyError.InvalidArgument ArgumentCause.Documents))) }
     ensures first { (known : Known) → Tests known (Z.knows analyzers.now)
         → IfSome (first_error known (Z.tokens_of analyzers.now) (input_of input.now))
         (λ e. ((result ≡ Err (Status.Refused e)) ⊎ (result ≡ Err Status.Memory)) × (work.new ≡ work.old) × (output.new ≡ output.old)) }
@@ -139,8 +143,8 @@ fn build_and_print<Z: Analyzers, W: Directory, O: Directory>(
     ensures work_was_empty { IsTrue (W.tells work.old) → OnOk result (len (W.files work.old) ≡ 0) }
     ensures output_index { IsTrue (W.tells work.old) → IsTrue (O.tells output.old) → OnOk result
         (IsOutputIndexOf (Z.tokens_of analyzers.now) (input_of input.now) (O.files output.new)) }
-    ensures output_meta { IsTrue (O.tells output.old) → OnOk result (index.index_of segment_forms (O.files output.new)
-        ≡ Some (output_meta (Z.tokens_of analyzers.now) (input_of input.now))) }
+    ensures output_meta { IsTrue (O.tells output.old) → OnOk result
+        ((documents : ℕ) × IsMergedIndexOf (input_of input.now) documents (O.files output.new)) }
     ensures output_was_empty { IsTrue (O.tells output.old) → OnOk result (len (O.files output.old) ≡ 0) }
     ensures fresh { IsTrue (W.tells work.old) → len (W.files work.old) ≡ 0
         → IsTrue (O.tells output.old) → len (O.files output.old) ≡ 0
@@ -165,7 +169,7 @@ fn build_and_print<Z: Analyzers, W: Directory, O: Directory>(
           output = state_of (O.tells output.new) (O.files output.new) (O.seen output.new) (O.faults output.new);
         })) }
 {
-    let built = build_index_with_reader(
+    let built = build_index_with_readers(
         alloc,
         &input.schema,
         &input.settings,
@@ -186,27 +190,61 @@ fn build_and_print<Z: Analyzers, W: Directory, O: Directory>(
     }
 }
 
-/// The text of both segments of an index that was built.
+/// The text of the segments of an index that was built.
 fn built_text(alloc: Global, input: &BuildInput, built: BuiltIndex) -> Result<Vec<u8>, AllocError>
-    requires ids { length input.now.ids.items ≡ 2 }
-    ensures { IfOk result (λ t. t.items ≡ read_text input.now.ids.items built.reader) }
+    requires { length built.segments.items ≤ length (work_ids input.now.ids.items) }
+    ensures { IfOk result (λ t. t.items ≡ read_text input.now.ids.items built.segments.items built.output) }
 {
-    segments_text(alloc, input, &built.reader)
+    segments_text(alloc, &input.ids, &built.segments, &built.output)
 }
 
-/// The text of both segments, which hold what was read.
+/// The text of the work segments that were read back, and of the output segment.
 fn segments_text(
     alloc: Global,
-    input: &BuildInput,
-    reader: &SegmentReader,
+    ids: &[SegmentId],
+    segments: &[ReadSegment],
+    output: &SegmentReader,
 ) -> Result<Vec<u8>, AllocError>
-    requires ids { length input.now.ids.items ≡ 2 }
-    ensures { IfOk result (λ t. t.items ≡ read_text input.now.ids.items reader.now) }
+    requires { length segments.now ≤ length (work_ids ids.now) }
+    ensures { IfOk result (λ t. t.items ≡ read_text ids.now segments.now output.now) }
 {
     let mut out = Vec::new(alloc);
-    push_segment(&mut out, alloc, "work", input.ids[0], reader)?;
-    push_segment(&mut out, alloc, "output", input.ids[1], reader)?;
+    push_work_segments(&mut out, alloc, ids, segments)?;
+    push_segment(&mut out, alloc, "output", output_id(ids), output, None)?;
     Ok(out)
+}
+
+/// The id of the output segment: the last. Where there is no id it is that of zeros.
+fn output_id(ids: &[SegmentId]) -> SegmentId
+    ensures { result ≡ output_id ids.now }
+{
+    match ids.last() {
+        Some(id) => *id,
+        None => SegmentId::from_u128(0),
+    }
+}
+
+/// The text of the work segments, each under its id.
+fn push_work_segments(
+    out: &mut Vec<u8>,
+    alloc: Global,
+    ids: &[SegmentId],
+    segments: &[ReadSegment],
+) -> Result<(), AllocError>
+    requires { length segments.now ≤ length (work_ids ids.now) }
+    ensures { OnOk result (out.new.items ≡ out.old.items ++ read_work_text (work_ids ids.now) segments.now) }
+{
+    for (place, segment) in segments.iter().enumerate() {
+        push_segment(
+            out,
+            alloc,
+            "work",
+            ids[place],
+            segment.reader(),
+            segment.alive(),
+        )?;
+    }
+    Ok(())
 }
 
 /// The status of an error of the indexes that are written.

@@ -4,10 +4,10 @@ ghost use Rattle.std.specs.Io.KnownBytes.{Appends, IsAtEnd};
 ghost use Rattle.seg_common.specs.Causes.{Rose};
 ghost use Rattle.seg_common.specs.Idle.{OnlyLastIsIdle};
 ghost use Rattle.seg_common.specs.Streams.{AppendsPart, TakesAtMost};
-ghost use Rattle.seg_tool.specs.Run.{is_build, max_script, first_of, HasOutputIndex, HasOutputMeta, HasWorkIndex, IsAdmitted, IsJson, IsNoScript, IsTextOf, IsValidScript, IsWhyRefused, Gains, GainsPart};
+ghost use Rattle.seg_tool.specs.Run.{is_build, max_script, first_of, HasMergedIndex, HasOutputIndex, HasWorkIndex, IsAdmitted, IsJson, IsNoScript, IsTextOf, IsValidScript, IsWhyRefused, IsWhyRefusedUntold, Gains, GainsPart};
 ghost use Rattle.seg_tool.specs.Statuses.{IfRefused, IfWritten, RefusedFor, status_line};
 ghost use Rattle.seg_build.specs.WriterStart.{Tests};
-ghost use Rattle.seg_merge.specs.Calls.{state_of};
+ghost use Rattle.seg_batches.specs.Calls.{state_of};
 ghost use Rattle.seg_merge.specs.DirectoryCalls.{Directories};
 ghost use Rattle.seg_model.specs.Valid.{Known};
 ghost use Rattle.seg_script.specs.Script.{json_of, script};
@@ -28,10 +28,11 @@ const MAX_SCRIPT: usize = 67_108_864;
 
 /// Does what the words say, and answers how it went.
 ///
-/// `build` reads the source to its end as a script and writes an index of its documents into the directory `work`. It reads
-/// the segment of that index back, each of its files once, writes what was read as the index that it is merged into, into the
-/// directory `output`, and writes the text of both segments, of what was read, to the sink. On any status but `Done` one line
-/// is written to `faults`; a failing write there changes nothing. What is written to a directory before it fails stays there.
+/// `build` reads the source to its end as a script and writes an index of its documents into the directory `work`, a segment
+/// a batch. It reads the segments of that index back, each of their files once, merges what was read into the one segment of
+/// an index in the directory `output`, and writes the text of all these segments, of what was read, to the sink. On any
+/// status but `Done` one line is written to `faults`; a failing write there changes nothing. What is written to a directory
+/// before it fails stays there.
 pub fn run<S: Source, K: Sink, F: Sink, Z: Analyzers, W: Directory, O: Directory>(
     alloc: Global,
     words: &[String],
@@ -46,9 +47,12 @@ pub fn run<S: Source, K: Sink, F: Sink, Z: Analyzers, W: Directory, O: Directory
 
     // What each status says of the bytes that the source had left.
     ensures script { result ≡ Status.Script → IfSome (S.left source.old) IsNoScript }
-    ensures refused { (known : Known) → Tests known (Z.knows analyzers.now)
+    ensures refused { (known : Known) → Tests known (Z.knows analyzers.now) → IsTrue (W.tells work.old)
         → IfRefused result (λ e. IfSome (S.left source.old)
         (λ bytes. IsWhyRefused known (Z.tokens_of analyzers.now) bytes e)) }
+    ensures refused_untold { (known : Known) → Tests known (Z.knows analyzers.now)
+        → IfRefused result (λ e. IfSome (S.left source.old)
+        (λ bytes. IsWhyRefusedUntold known (Z.tokens_of analyzers.now) bytes e)) }
     ensures json { IfRefused result (λ _. IfSome (S.left source.old) IsJson) }
     ensures first { (known : Known) → Tests known (Z.knows analyzers.now)
         → (bytes : List ℕ) → is_build words.now ≡ true → S.left source.old ≡ Some bytes → length bytes ≤ max_script
@@ -58,9 +62,9 @@ pub fn run<S: Source, K: Sink, F: Sink, Z: Analyzers, W: Directory, O: Directory
     ensures written { (known : Known) → Tests known (Z.knows analyzers.now)
         → IfWritten result (λ _. IfSome (S.left source.old) (IsAdmitted known (Z.tokens_of analyzers.now))) }
     ensures valid { (known : Known) → Tests known (Z.knows analyzers.now) → result ≡ Status.Done
-        → IfSome (S.left source.old) (IsValidScript known (Z.tokens_of analyzers.now)) }
+        → IfSome (S.left source.old) (IsValidScript (IsTrue (W.tells work.old)) known (Z.tokens_of analyzers.now)) }
 
-    // What goes to the sink: the text of the segment that was read back.
+    // What goes to the sink: the text of the segments that were read back, and of what they were merged into.
     ensures done { result ≡ Status.Done → IfSome (S.left source.old)
         (λ bytes. (length bytes ≤ max_script)
         × Gains (IsTextOf (Z.tokens_of analyzers.now) bytes
@@ -95,7 +99,7 @@ pub fn run<S: Source, K: Sink, F: Sink, Z: Analyzers, W: Directory, O: Directory
     ensures output_index { result ≡ Status.Done → IsTrue (W.tells work.old) → IsTrue (O.tells output.old) → IfSome (S.left source.old)
         (λ bytes. HasOutputIndex (Z.tokens_of analyzers.now) bytes (O.files output.new)) }
     ensures output_meta { result ≡ Status.Done → IsTrue (O.tells output.old) → IfSome (S.left source.old)
-        (λ bytes. HasOutputMeta (Z.tokens_of analyzers.now) bytes (O.files output.new)) }
+        (λ bytes. HasMergedIndex bytes (O.files output.new)) }
     ensures output_was_empty { result ≡ Status.Done → IsTrue (O.tells output.old) → len (O.files output.old) ≡ 0 }
     ensures fresh { IsTrue (W.tells work.old) → len (W.files work.old) ≡ 0
         → IsTrue (O.tells output.old) → len (O.files output.old) ≡ 0
@@ -133,7 +137,7 @@ pub fn run<S: Source, K: Sink, F: Sink, Z: Analyzers, W: Directory, O: Directory
     // What ends well: a valid script, over empty directories that tell, where nothing fails.
     ensures complete { (known : Known) → Tests known (Z.knows analyzers.now) → (bytes : List ℕ) → is_build words.now ≡ true → S.left source.old ≡ Some bytes
         → length bytes ≤ max_script
-        → IsValidScript known (Z.tokens_of analyzers.now) bytes
+        → IsValidScript (Unit {0}) known (Z.tokens_of analyzers.now) bytes
         → IsReady (state_of (W.tells work.old) (W.files work.old) (W.seen work.old) (W.faults work.old))
         (state_of (W.tells work.new) (W.files work.new) (W.seen work.new) (W.faults work.new))
         → IsReady (state_of (O.tells output.old) (O.files output.old) (O.seen output.old) (O.faults output.old))
@@ -166,9 +170,12 @@ fn execute<S: Source, K: Sink, Z: Analyzers, W: Directory, O: Directory>(
 ) -> Status
     ensures words { result ≡ Status.Words ↔ (is_build words.now ≡ false) }
     ensures script { result ≡ Status.Script → IfSome (S.left source.old) IsNoScript }
-    ensures refused { (known : Known) → Tests known (Z.knows analyzers.now)
+    ensures refused { (known : Known) → Tests known (Z.knows analyzers.now) → IsTrue (W.tells work.old)
         → IfRefused result (λ e. IfSome (S.left source.old)
         (λ bytes. IsWhyRefused known (Z.tokens_of analyzers.now) bytes e)) }
+    ensures refused_untold { (known : Known) → Tests known (Z.knows analyzers.now)
+        → IfRefused result (λ e. IfSome (S.left source.old)
+        (λ bytes. IsWhyRefusedUntold known (Z.tokens_of analyzers.now) bytes e)) }
     ensures json { IfRefused result (λ _. IfSome (S.left source.old) IsJson) }
     ensures first { (known : Known) → Tests known (Z.knows analyzers.now)
         → (bytes : List ℕ) → is_build words.now ≡ true → S.left source.old ≡ Some bytes → length bytes ≤ max_script
@@ -177,7 +184,7 @@ fn execute<S: Source, K: Sink, Z: Analyzers, W: Directory, O: Directory>(
     ensures written { (known : Known) → Tests known (Z.knows analyzers.now)
         → IfWritten result (λ _. IfSome (S.left source.old) (IsAdmitted known (Z.tokens_of analyzers.now))) }
     ensures valid { (known : Known) → Tests known (Z.knows analyzers.now) → result ≡ Status.Done
-        → IfSome (S.left source.old) (IsValidScript known (Z.tokens_of analyzers.now)) }
+        → IfSome (S.left source.old) (IsValidScript (IsTrue (W.tells work.old)) known (Z.tokens_of analyzers.now)) }
     ensures done { result ≡ Status.Done → IfSome (S.left source.old)
         (λ bytes. (length bytes ≤ max_script)
         × Gains (IsTextOf (Z.tokens_of analyzers.now) bytes
@@ -210,7 +217,7 @@ fn execute<S: Source, K: Sink, Z: Analyzers, W: Directory, O: Directory>(
     ensures output_index { result ≡ Status.Done → IsTrue (W.tells work.old) → IsTrue (O.tells output.old) → IfSome (S.left source.old)
         (λ bytes. HasOutputIndex (Z.tokens_of analyzers.now) bytes (O.files output.new)) }
     ensures output_meta { result ≡ Status.Done → IsTrue (O.tells output.old) → IfSome (S.left source.old)
-        (λ bytes. HasOutputMeta (Z.tokens_of analyzers.now) bytes (O.files output.new)) }
+        (λ bytes. HasMergedIndex bytes (O.files output.new)) }
     ensures output_was_empty { result ≡ Status.Done → IsTrue (O.tells output.old) → len (O.files output.old) ≡ 0 }
     ensures fresh { IsTrue (W.tells work.old) → len (W.files work.old) ≡ 0
         → IsTrue (O.tells output.old) → len (O.files output.old) ≡ 0
@@ -250,7 +257,7 @@ fn execute<S: Source, K: Sink, Z: Analyzers, W: Directory, O: Directory>(
     }
 }
 
-/// Writes the index of the script in the source, and answers its text.
+/// Writes the indexes of the script in the source, and answers their text.
 fn read_and_build<S: Source, Z: Analyzers, W: Directory, O: Directory>(
     alloc: Global,
     source: &mut S,
@@ -273,9 +280,12 @@ fn read_and_build<S: Source, Z: Analyzers, W: Directory, O: Directory>(
     ensures end_refused { IfErr result (λ status. IfRefused status
         (λ _. IsAtEnd (S.left source.new))) }
     ensures script { IsErrOf result Status.Script → IfSome (S.left source.old) IsNoScript }
-    ensures refused { (known : Known) → Tests known (Z.knows analyzers.now)
+    ensures refused { (known : Known) → Tests known (Z.knows analyzers.now) → IsTrue (W.tells work.old)
         → IfErr result (λ status. IfRefused status (λ e. IfSome (S.left source.old)
         (λ bytes. IsWhyRefused known (Z.tokens_of analyzers.now) bytes e))) }
+    ensures refused_untold { (known : Known) → Tests known (Z.knows analyzers.now)
+        → IfErr result (λ status. IfRefused status (λ e. IfSome (S.left source.old)
+        (λ bytes. IsWhyRefusedUntold known (Z.tokens_of analyzers.now) bytes e))) }
     ensures first { (known : Known) → Tests known (Z.knows analyzers.now)
         → (bytes : List ℕ) → S.left source.old ≡ Some bytes → length bytes ≤ max_script → IsSome (json_of bytes)
         → IfSome (first_of known (Z.tokens_of analyzers.now) (script bytes))
@@ -283,7 +293,7 @@ fn read_and_build<S: Source, Z: Analyzers, W: Directory, O: Directory>(
     ensures written { (known : Known) → Tests known (Z.knows analyzers.now)
         → IfErr result (λ status. IfWritten status (λ _. IfSome (S.left source.old) (IsAdmitted known (Z.tokens_of analyzers.now)))) }
     ensures valid { (known : Known) → Tests known (Z.knows analyzers.now) → OnOk result (IfSome (S.left source.old)
-        (IsValidScript known (Z.tokens_of analyzers.now))) }
+        (IsValidScript (IsTrue (W.tells work.old)) known (Z.tokens_of analyzers.now))) }
     ensures json { IfErr result (λ status. IfRefused status
         (λ _. IfSome (S.left source.old) IsJson)) }
     ensures stream { IsErrOf result Status.Stream → Rose (S.faults source.old) (S.faults source.new)
@@ -294,7 +304,7 @@ fn read_and_build<S: Source, Z: Analyzers, W: Directory, O: Directory>(
     ensures output_index { IsTrue (W.tells work.old) → IsTrue (O.tells output.old) → OnOk result (IfSome (S.left source.old)
         (λ bytes. HasOutputIndex (Z.tokens_of analyzers.now) bytes (O.files output.new))) }
     ensures output_meta { IsTrue (O.tells output.old) → OnOk result (IfSome (S.left source.old)
-        (λ bytes. HasOutputMeta (Z.tokens_of analyzers.now) bytes (O.files output.new))) }
+        (λ bytes. HasMergedIndex bytes (O.files output.new))) }
     ensures output_was_empty { IsTrue (O.tells output.old) → OnOk result (len (O.files output.old) ≡ 0) }
     ensures fresh { IsTrue (W.tells work.old) → len (W.files work.old) ≡ 0
         → IsTrue (O.tells output.old) → len (O.files output.old) ≡ 0

@@ -1,16 +1,16 @@
 //! What a script hands in to build its index.
-ghost use Rattle.std.specs.Prelude.{◌≡◌, [], ◌∷◌, ◌++◌, false, map, is_none, Err, IfOk, OnOk};
-ghost use Rattle.std.specs.List.{list_all};
+ghost use Rattle.std.specs.Prelude.{◌≡◌, map, IfOk};
 ghost use Rattle.seg_build.specs.View.{operation_of};
 ghost use Rattle.seg_script.specs.Meaning as meaning;
 ghost use Rattle.seg_script.specs.View as scripted;
 ghost use Rattle.seg_tool.specs.BuildInput.{input_of};
 
+use crate::filters::alive_sets;
 use seg_build::UserOperation;
 use seg_common::SegmentId;
 use seg_fastfield::AliveBitSet;
 use seg_meta::IndexSettings;
-use seg_script::{BatchFilter, Cuts, Operation, Operations, Script, SegmentIds};
+use seg_script::{Cuts, Operation, Operations, Script, SegmentIds};
 use seg_values::{Schema, TantivyDocument};
 use std::alloc::{AllocError, Global};
 
@@ -25,29 +25,9 @@ pub(crate) struct BuildInput {
     pub ids: Vec<SegmentId>,
 }
 
-/// Why a script can't be handed on.
-#[derive(Clone, Copy)]
-pub(crate) enum InputError {
-    /// It has a filter, which isn't built yet.
-    Filtered,
-    OutOfMemory,
-}
-
-impl From<AllocError> for InputError {
-    ghost use Rattle.std.specs.Prelude.{◌≡◌};
-    ghost use Rattle.seg_tool.specs.declared.input.InputError.TheVariants.{OutOfMemory};
-
-    ghost from_gives = { λ _ e. e ≡ OutOfMemory };
-
-    fn from(_e: AllocError) -> InputError {
-        InputError::OutOfMemory
-    }
-}
-
 /// What a script hands in; its documents are moved.
-pub(crate) fn build_input(alloc: Global, script: Script) -> Result<BuildInput, InputError>
-    ensures ok { IfOk result (λ input. input_of input ≡ meaning.input_of script) }
-    ensures filtered { result ≡ Err InputError.Filtered → list_all is_none script.filters ≡ false }
+pub(crate) fn build_input(alloc: Global, script: Script) -> Result<BuildInput, AllocError>
+    ensures { IfOk result (λ input. input_of input ≡ meaning.input_of script) }
 {
     let Script {
         schema,
@@ -62,7 +42,7 @@ pub(crate) fn build_input(alloc: Global, script: Script) -> Result<BuildInput, I
         settings,
         operations: user_operations(alloc, operations)?,
         cuts: places(alloc, &cuts)?,
-        filters: no_filters(alloc, filters.as_slice())?,
+        filters: alive_sets(alloc, filters.as_slice())?,
         ids: copied_ids(alloc, &ids)?,
     })
 }
@@ -97,31 +77,6 @@ fn places(alloc: Global, cuts: &Cuts) -> Result<Vec<usize>, AllocError>
         places.push(*cut as usize)?;
     }
     Ok(places)
-}
-
-/// As many filters, of which there is none.
-fn no_filters(
-    alloc: Global,
-    filters: &[Option<BatchFilter>],
-) -> Result<Vec<Option<AliveBitSet>>, InputError>
-    ensures ok { IfOk result (λ none. none.items ≡ filters.now) }
-    ensures filtered { result ≡ Err InputError.Filtered → list_all is_none filters.now ≡ false }
-{
-    let mut none = Vec::new(alloc);
-    for filter in filters {
-        if filter.is_some() {
-            return Err(InputError::Filtered);
-        }
-        push_none(&mut none)?;
-    }
-    Ok(none)
-}
-
-fn push_none(filters: &mut Vec<Option<AliveBitSet>>) -> Result<(), AllocError>
-    ensures { OnOk result (filters.new.items ≡ filters.old.items ++ None ∷ []) }
-{
-    filters.push(None)?;
-    Ok(())
 }
 
 fn copied_ids(alloc: Global, ids: &SegmentIds) -> Result<Vec<SegmentId>, AllocError>

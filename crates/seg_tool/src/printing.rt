@@ -1,29 +1,32 @@
 //! The text of a segment, out of the bytes of its files.
-ghost use Rattle.std.specs.Prelude.{◌≡◌, ◌<◌, ◌-◌, ◌^◌, ◌++◌, map, length, take, replicate, true, is_some, slice_get, Some, OnOk};
+ghost use Rattle.std.specs.Prelude.{◌≡◌, ◌<◌, ◌-◌, ◌^◌, ◌++◌, map, length, take, count_by, is_some, slice_get, Some, OnOk};
 ghost use Rattle.std.specs.FinMap.{entries};
 ghost use Rattle.std.specs.List.{flat_map};
-ghost use Rattle.seg_model.specs.Contents.{reading_part};
 ghost use Rattle.seg_model.specs.Fields.{is_indexed};
 ghost use Rattle.seg_store.specs.Store.{documents_of};
 ghost use Rattle.seg_postings.specs.FieldReading.{written_terms};
 ghost use Rattle.seg_postings.specs.HeldTerms.{terms_held};
 ghost use Rattle.seg_postings.specs.PostingsReading.{kept_kind_of};
-ghost use Rattle.seg_open.specs.OpenSegment.{terms_in, contents_of};
+ghost use Rattle.seg_open.specs.OpenSegment.{terms_in};
 ghost use Rattle.seg_text.specs.DocumentText.{documents_text};
 ghost use Rattle.seg_text.specs.FieldText.{field_text, fields_text, term_line};
 ghost use Rattle.seg_text.specs.PostingText.{posting_text};
-ghost use Rattle.seg_text.specs.SegmentText.{segment_text};
-ghost use Rattle.seg_tool.specs.Printing.{opened_text, read_segment};
+ghost use Rattle.seg_text.specs.HeaderText.{dead_text, header_text};
+ghost use Rattle.seg_join.specs.KeptSegment.{KeptSegment, marks_of};
+ghost use Rattle.seg_tool.specs.Printing.{opened_text, read_segment_text};
 
 use seg_common::SegmentId;
+use seg_fastfield::AliveBitSet;
 use seg_open::SegmentReader;
 use seg_postings::{InvertedIndexReader, RecordKind, SegmentPostings};
 use seg_store::StoreReader;
-use seg_text::{RecordedRef, push_document, push_field, push_header, push_posting, push_term};
+use seg_text::{
+    RecordedRef, push_dead, push_document, push_field, push_header, push_posting, push_term,
+};
 use seg_values::{Field, FieldEntry, Schema};
 use std::alloc::{AllocError, Global};
 
-/// Appends the text of a segment that is open, whose documents are all alive.
+/// Appends the text of a segment that is open, of whose documents those in the set are alive, and without a set all.
 /// After an error it is open what `out` holds.
 pub(crate) fn push_segment(
     out: &mut Vec<u8>,
@@ -31,13 +34,34 @@ pub(crate) fn push_segment(
     label: &str,
     id: SegmentId,
     reader: &SegmentReader,
+    alive: Option<&AliveBitSet>,
 ) -> Result<(), AllocError>
-    ensures { OnOk result (out.new.items ≡ out.old.items ++ segment_text reader.now.schema (read_segment label.now id reader.now)) }
+    requires size { length (marks_of reader.now.documents alive) ≡ reader.now.documents }
+    ensures { OnOk result (out.new.items ≡ out.old.items
+        ++ read_segment_text label.now id (record { segment = reader.now; alive = marks_of reader.now.documents alive.entry })) }
 {
-    let documents = reader.max_doc() as usize;
-    push_header(out, label, id, documents, documents)?;
+    push_head(out, label, id, reader.max_doc(), alive)?;
     push_fields(out, alloc, reader)?;
     push_documents(out, alloc, reader.schema(), reader.store_reader())
+}
+
+/// Appends the first line, and the line of the deleted documents.
+fn push_head(
+    out: &mut Vec<u8>,
+    label: &str,
+    id: SegmentId,
+    max_doc: u32,
+    alive: Option<&AliveBitSet>,
+) -> Result<(), AllocError>
+    ensures { OnOk result (out.new.items ≡ out.old.items
+        ++ (header_text label.now id max_doc (count_by (λ b. b) (marks_of max_doc alive.entry))
+        ++ dead_text (marks_of max_doc alive.entry))) }
+{
+    let Some(alive) = alive else {
+        return push_header(out, label, id, max_doc as usize, max_doc as usize);
+    };
+    push_header(out, label, id, max_doc as usize, alive.num_alive_docs())?;
+    push_dead(out, alive)
 }
 
 /// Appends a line for each document of the store.

@@ -20,7 +20,7 @@ pub enum Status {
     Exists(TantivyError),
     /// A directory failed.
     Directory(TantivyError),
-    /// A file of the work segment was missing when it was read back, or didn't agree with those read before it.
+    /// A file of a work segment was missing when it was read back, or didn't agree with those read before it.
     Damaged(FileName),
     /// The source or the sink failed.
     Stream,

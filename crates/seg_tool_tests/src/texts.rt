@@ -158,12 +158,16 @@ fn prints_line(alloc: Global, script: &str, line: &str) -> Result<bool, AllocErr
 fn longest_tokens_of_raw(rt: HostRuntime) -> Result<(), Fail> {
     let alloc = rt.alloc();
     let schema = r#"{"name": "t", "kind": "text", "index": "freqs", "tokenizer": "raw"}"#;
-    for (letters, terms) in [(65530, 1), (65531, 0)] {
+    for (letters, lines) in [
+        (65530, "docs 1 alive 0\ndead 0\nfield \"t\" terms 1\n"),
+        (65531, "docs 1 alive 1\nfield \"t\" terms 0\n"),
+    ] {
         let word = word_of(alloc, letters)?;
-        let operations = format!(in alloc; r#"{{"add": [["t", "{word}"], ["t", ""]]}}"#)?;
+        let operations = format!(in alloc;
+            r#"{{"add": [["t", "{word}"], ["t", ""]]}}, {{"delete": ["t", "{word}"]}}"#
+        )?;
         let script = script_with(alloc, schema, &operations)?;
-        let line = format!(in alloc; "docs 1 alive 1\nfield \"t\" terms {terms}\n")?;
-        assert!(rt; prints_line(alloc, &script, &line)?, "{letters}");
+        assert!(rt; prints_line(alloc, &script, lines)?, "{letters}");
     }
     Ok(())
 }
@@ -176,14 +180,28 @@ fn refuses_by_cause(rt: HostRuntime) -> Result<(), Fail> {
     let one = "\"00000000000000000000000000000001\"";
     let equal = format!(in alloc; r#""operations": [], "ids": [{one}, {one}]"#)?;
     for (schema, rest, cause) in [
-        (plain, r#""operations": [], "cuts": [0]"#, "Later"),
+        (plain, r#""operations": [], "cuts": [1]"#, "Cuts"),
         (
             plain,
-            r#""operations": [], "filters": [{"size": 0, "drop": []}]"#,
-            "Later",
+            r#""operations": [], "filters": [{"size": 1, "drop": []}]"#,
+            "Filters",
         ),
-        (plain, r#""operations": [{"delete": ["t", "a"]}]"#, "Later"),
+        (
+            plain,
+            r#""operations": [{"delete": ["u", "a"]}]"#,
+            "DeleteField 0",
+        ),
         (plain, r#""operations": [], "filters": []"#, "Filters"),
+        (
+            plain,
+            r#""operations": [], "cuts": [0], "filters": [null]"#,
+            "Filters",
+        ),
+        (
+            plain,
+            r#""operations": [{"add": []}, {"add": []}], "cuts": [2, 1]"#,
+            "Cuts",
+        ),
         (plain, equal.as_str(), "SegmentIds"),
         (r#"{"name": "a\u0001", "kind": "text"}"#, none, "FieldName"),
         (

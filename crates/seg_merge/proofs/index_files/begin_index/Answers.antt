@@ -1,8 +1,8 @@
 use Rattle.std.proofs.Common.{[], ◌∷◌}
 use Rattle.seg_common.specs.declared.name.FileName.TheVariants.{Meta}
 use Rattle.seg_merge.specs.IndexFiles.{begun_answers}
-use Rattle.seg_merge.proofs.Both.{never-there}
-use Rattle.seg_merge.proofs.Calls.{does-nothing}
+use Rattle.seg_merge.proofs.IndexSteps.{never-there}
+use Rattle.seg_batches.proofs.Calls.{does-nothing}
 use Rattle.seg_merge.proofs.Steps.{does-create-failed}
 use Rattle.seg_merge.proofs.index_files.begin_index.Goals as goal
 

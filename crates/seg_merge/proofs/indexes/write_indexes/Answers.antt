@@ -1,103 +1,200 @@
-use Rattle.std.proofs.Common.{◌≡◌, ◌∙◌, ap, arith, length, map, subst, sym, Err}
-use Rattle.std.specs.FinMap.{len}
-use Rattle.seg_directory.specs.Files.{NamedFiles}
-use Rattle.seg_model.specs.Fields.{Schema}
-use Rattle.seg_model.specs.Operations.{additions}
+use Rattle.std.proofs.Common.{◌≡◌, ◌∙◌, ◌<◌, ◌^◌, ℕ, List, ap, subst, sym, length, map, Err, Some}
+use Rattle.std.proofs.lemmas.List.{length-map}
+use Rattle.seg_values.specs.declared.error.TantivyError.{TantivyError}
+use Rattle.seg_values.specs.declared.error.TantivyError.TheVariants.{IndexAlreadyExists}
+use Rattle.seg_model.specs.IndexOfFiles as index
+use Rattle.seg_model.specs.Valid.{are_distinct}
 use Rattle.seg_build.specs.View.{operation_of}
+use Rattle.seg_batches.specs.Calls.{DirectoryState, state_of}
+use Rattle.seg_refusals.specs.Inputs.{input_of}
 use Rattle.seg_open.specs.OpenSegment.{contents_of}
-use Rattle.seg_merge.specs.IndexFiles.{filled_answers}
-use Rattle.seg_merge.specs.Steps.{IsOfDocuments}
-use Rattle.seg_merge.proofs.Both.{stops-beginning, stops-begun, stops-refused, stops-filling, stops-counted, both-written, written-counted, error_in}
-use Rattle.seg_merge.proofs.IndexSteps.{absent-parts, tells-still}
-use Rattle.seg_merge.proofs.WorkRead.{begin_undamaged, batch_undamaged, reads_documents}
+use Rattle.seg_merge.specs.DirectoryCalls.{Directories, asked_of}
+use Rattle.seg_merge.specs.IndexFiles.{listed_of}
+use Rattle.seg_merge.proofs.IndexSteps.{tells-still}
+use Rattle.seg_merge.proofs.WholeCalls.{stops-beginning}
+use Rattle.seg_merge.proofs.WholeExits.{given_on, never_exists}
+use Rattle.seg_merge.proofs.WholeIds.{work_distinct, work_few, work_many}
+use Rattle.seg_merge.proofs.WholeInput.{as_output_index, as_work_index, both_in_turn, output_refused, read_fits, read_of_schema, stops_in_output, stops_in_work, survivors_as}
+use Rattle.seg_merge.proofs.WholeWork.{segments_absent}
 use Rattle.seg_merge.proofs.indexes.write_indexes.Goals as goal
 
-pub returns-in-Err-clause-whole : goal.returns-in-Err-clause-whole
-returns-in-Err-clause-whole g c told = begin_undamaged c.in-Err.e _ _ c.in-Err.ensures.calls
+pub returns-in_err-begin_indexes-clause-stops : goal.returns-in_err-begin_indexes-clause-stops
+returns-in_err-begin_indexes-clause-stops g c =
+    let input = input_of c.args.schema.now c.args.settings.now c.args.operations.now c.args.cuts.now c.args.filters.now c.args.ids.now in
+    let F = g.Z.Analyzers.tokens_of c.args.analyzers.now in
+    given_on _ c.in_err-begin_indexes.field-0.0 c.from_residual.result c.from_residual.ensures.1 (stops-beginning (asked_of F input) c.in_err-begin_indexes.field-0.0 _ _ c.in_err-begin_indexes.ensures.calls)
 
-pub returns-in-Err-clause-stops : goal.returns-in-Err-clause-stops
-returns-in-Err-clause-stops g c =
-    stops-beginning c.args.work_id c.args.output_id c.args.schema.now (length (additions (map operation_of c.args.operations.now))) c.in-Err.e _ _ c.in-Err.ensures.calls
+pub write_work-requires-clause-ids : goal.write_work-requires-clause-ids
+write_work-requires-clause-ids g c =
+    let ids = c.split_ids-output_id.result.0.now in
+    let last = c.split_ids-output_id.result.1 in
+    let is = c.split_ids-output_id.ensures.work in
+    let same = c.split_ids-output_id.ensures.output in
+    ap length is ∙ work_many c.args.cuts.now c.args.ids.now c.requires.fits.ids
 
-pub returns-in-Err-index_operations-clause-whole : goal.returns-in-Err-index_operations-clause-whole
-returns-in-Err-index_operations-clause-whole g c told =
-    batch_undamaged c.in-Err-index_operations.e c.args.writer.1.schema (g.Z.Analyzers.tokens_of c.args.writer.0) (map operation_of c.args.operations.now) c.in-Err-index_operations.ensures.err
+pub write_work-requires-clause-few : goal.write_work-requires-clause-few
+write_work-requires-clause-few g c =
+    let ids = c.split_ids-output_id.result.0.now in
+    let last = c.split_ids-output_id.result.1 in
+    let is = c.split_ids-output_id.ensures.work in
+    let same = c.split_ids-output_id.ensures.output in
+    subst (λ (l : List ℕ). length l < 2 ^ 32) (sym is) (work_few c.args.cuts.now c.args.ids.now c.requires.fits.batches c.requires.fits.ids)
 
-pub returns-in-Err-index_operations-clause-stops : goal.returns-in-Err-index_operations-clause-stops
-returns-in-Err-index_operations-clause-stops g c =
-    let begun = c.in-Ok.ensures.calls in
-    stops-refused c.args.work_id c.args.output_id c.args.schema.now (length (additions (map operation_of c.args.operations.now))) c.in-Err-index_operations.e c.args.writer.1.schema (g.Z.Analyzers.tokens_of c.args.writer.0) (map operation_of c.args.operations.now) _ _ begun.0 begun.1 c.in-Err-index_operations.ensures.err
+pub write_work-requires-clause-distinct : goal.write_work-requires-clause-distinct
+write_work-requires-clause-distinct g c =
+    let ids = c.split_ids-output_id.result.0.now in
+    let last = c.split_ids-output_id.result.1 in
+    let is = c.split_ids-output_id.ensures.work in
+    let same = c.split_ids-output_id.ensures.output in
+    ap are_distinct is ∙ work_distinct c.args.cuts.now c.args.ids.now c.requires.fits.ids
 
-pub returns-in_default-clause-stops : goal.returns-in_default-clause-stops
-returns-in_default-clause-stops g c =
-    let begun = c.in-Ok.ensures.calls in
-    stops-begun c.args.work_id c.args.output_id c.args.schema.now (length (additions (map operation_of c.args.operations.now))) _ _ begun.0 begun.1
+pub returns-in_err-segments-clause-fresh : goal.returns-in_err-segments-clause-fresh
+returns-in_err-segments-clause-fresh g c told none told_output none_output =
+    let input = input_of c.args.schema.now c.args.settings.now c.args.operations.now c.args.cuts.now c.args.filters.now c.args.ids.now in
+    let F = g.Z.Analyzers.tokens_of c.args.analyzers.now in
+    let ids = c.split_ids-output_id.result.0.now in
+    let last = c.split_ids-output_id.result.1 in
+    let is = c.split_ids-output_id.ensures.work in
+    let same = c.split_ids-output_id.ensures.output in
+    let before : Directories = record { work = state_of (g.W.Directory.tells c.args.work.now) (g.W.Directory.files c.args.work.now) (g.W.Directory.seen c.args.work.now) (g.W.Directory.faults c.args.work.now); output = state_of (g.O.Directory.tells c.args.output.now) (g.O.Directory.files c.args.output.now) (g.O.Directory.seen c.args.output.now) (g.O.Directory.faults c.args.output.now) } in
+    let begun : Directories = record { work = state_of (g.W.Directory.tells c.begin_indexes.new.work) (g.W.Directory.files c.begin_indexes.new.work) (g.W.Directory.seen c.begin_indexes.new.work) (g.W.Directory.faults c.begin_indexes.new.work); output = state_of (g.O.Directory.tells c.begin_indexes.new.output) (g.O.Directory.files c.begin_indexes.new.output) (g.O.Directory.seen c.begin_indexes.new.output) (g.O.Directory.faults c.begin_indexes.new.output) } in
+    let began = c.in_ok-begin_indexes.ensures.calls in
+    let still = tells-still _ _ c.in_ok-begin_indexes.ensures.calls.0.tells told in
+    never_exists c.from_residual-in_err-segments.result (given_on (λ (e : TantivyError). e ≡ IndexAlreadyExists → ⊥) c.in_err-segments.field-0.0 c.from_residual-in_err-segments.result c.from_residual-in_err-segments.ensures.1
+    (λ exists. c.in_err-segments.ensures.fresh still (segments_absent _ _ none began.0.others (listed_of c.args.schema.now F ids c.args.cuts.now (map operation_of c.args.operations.now))) (ap Err exists)))
 
-pub returns-in-Err-fill_indexes-clause-fresh : goal.returns-in-Err-fill_indexes-clause-fresh
-returns-in-Err-fill_indexes-clause-fresh g c told none told' none' is =
-    let begun = c.in-Ok.ensures.calls in
-    c.in-Err-fill_indexes.ensures.fresh (tells-still _ _ begun.0.tells told) (absent-parts c.args.work_id _ _ none begun.0.others) (tells-still _ _ begun.1.tells told') (ap (λ (fs : NamedFiles). len fs) c.in-Ok.ensures.output_files ∙ none')
-    (ap Err (ap error_in is))
+pub returns-in_err-segments-clause-stops : goal.returns-in_err-segments-clause-stops
+returns-in_err-segments-clause-stops g c =
+    let input = input_of c.args.schema.now c.args.settings.now c.args.operations.now c.args.cuts.now c.args.filters.now c.args.ids.now in
+    let F = g.Z.Analyzers.tokens_of c.args.analyzers.now in
+    let ids = c.split_ids-output_id.result.0.now in
+    let last = c.split_ids-output_id.result.1 in
+    let is = c.split_ids-output_id.ensures.work in
+    let same = c.split_ids-output_id.ensures.output in
+    let before : Directories = record { work = state_of (g.W.Directory.tells c.args.work.now) (g.W.Directory.files c.args.work.now) (g.W.Directory.seen c.args.work.now) (g.W.Directory.faults c.args.work.now); output = state_of (g.O.Directory.tells c.args.output.now) (g.O.Directory.files c.args.output.now) (g.O.Directory.seen c.args.output.now) (g.O.Directory.faults c.args.output.now) } in
+    let begun : Directories = record { work = state_of (g.W.Directory.tells c.begin_indexes.new.work) (g.W.Directory.files c.begin_indexes.new.work) (g.W.Directory.seen c.begin_indexes.new.work) (g.W.Directory.faults c.begin_indexes.new.work); output = state_of (g.O.Directory.tells c.begin_indexes.new.output) (g.O.Directory.files c.begin_indexes.new.output) (g.O.Directory.seen c.begin_indexes.new.output) (g.O.Directory.faults c.begin_indexes.new.output) } in
+    let began = c.in_ok-begin_indexes.ensures.calls in
+    let worked : DirectoryState = state_of (g.W.Directory.tells c.write_work.new.work) (g.W.Directory.files c.write_work.new.work) (g.W.Directory.seen c.write_work.new.work) (g.W.Directory.faults c.write_work.new.work) in
+    given_on _ c.in_err-segments.field-0.0 c.from_residual-in_err-segments.result c.from_residual-in_err-segments.ensures.1
+    (stops_in_work F input ids is last same before begun began.0 began.1 c.in_err-segments.field-0.0 worked c.in_err-segments.ensures.stops)
 
-pub returns-in-Err-fill_indexes-clause-whole : goal.returns-in-Err-fill_indexes-clause-whole
-returns-in-Err-fill_indexes-clause-whole g c told =
-    let F = g.Z.Analyzers.tokens_of c.args.writer.0 in
-    let documents = additions (map operation_of c.args.operations.now) in
-    let begun = c.in-Ok.ensures.calls in
-    let is = subst (λ (s : Schema). IsOfDocuments s F documents c.in-Ok-index_operations.segment) c.requires.schema c.in-Ok-index_operations.ensures.segment in
-    let many : c.len-documents.result ≡ length c.in-Ok-index_operations.segment.stamps.items = omega (arith, c.len-documents.ensures) in
-    c.in-Err-fill_indexes.ensures.whole F documents is.stand (sym (many ∙ is.counted)) (tells-still _ _ begun.0.tells told)
+pub write_output-requires-clause-parts : goal.write_output-requires-clause-parts
+write_output-requires-clause-parts g c =
+    let input = input_of c.args.schema.now c.args.settings.now c.args.operations.now c.args.cuts.now c.args.filters.now c.args.ids.now in
+    let F = g.Z.Analyzers.tokens_of c.args.analyzers.now in
+    let ids = c.split_ids-output_id.result.0.now in
+    let last = c.split_ids-output_id.result.1 in
+    let is = c.split_ids-output_id.ensures.work in
+    let same = c.split_ids-output_id.ensures.output in
+    let begun : DirectoryState = state_of (g.W.Directory.tells c.begin_indexes.new.work) (g.W.Directory.files c.begin_indexes.new.work) (g.W.Directory.seen c.begin_indexes.new.work) (g.W.Directory.faults c.begin_indexes.new.work) in
+    let worked : DirectoryState = state_of (g.W.Directory.tells c.write_work.new.work) (g.W.Directory.files c.write_work.new.work) (g.W.Directory.seen c.write_work.new.work) (g.W.Directory.faults c.write_work.new.work) in
+    let filled = c.in_ok-segments.ensures.reads in
+    let read = c.in_ok-segments.segments.items in
+    read_of_schema F input ids read c.deref.result.now begun worked c.deref.ensures.value filled
 
-pub returns-in-Err-fill_indexes-clause-stops : goal.returns-in-Err-fill_indexes-clause-stops
-returns-in-Err-fill_indexes-clause-stops g c =
-    let F = g.Z.Analyzers.tokens_of c.args.writer.0 in
-    let documents = additions (map operation_of c.args.operations.now) in
-    let begun = c.in-Ok.ensures.calls in
-    let is = subst (λ (s : Schema). IsOfDocuments s F documents c.in-Ok-index_operations.segment) c.requires.schema c.in-Ok-index_operations.ensures.segment in
-    let many : c.len-documents.result ≡ length c.in-Ok-index_operations.segment.stamps.items = omega (arith, c.len-documents.ensures) in
-    stops-counted c.args.work_id c.args.output_id c.args.schema.now c.len-documents.result (length documents) c.in-Err-fill_indexes.e _ _ (many ∙ is.counted)
-    (stops-filling c.args.work_id c.args.output_id c.args.schema.now c.len-documents.result c.in-Err-fill_indexes.e _ _ _ begun.0 begun.1 c.in-Err-fill_indexes.ensures.stops)
+pub write_output-requires-clause-filters : goal.write_output-requires-clause-filters
+write_output-requires-clause-filters g c =
+    let input = input_of c.args.schema.now c.args.settings.now c.args.operations.now c.args.cuts.now c.args.filters.now c.args.ids.now in
+    let F = g.Z.Analyzers.tokens_of c.args.analyzers.now in
+    let ids = c.split_ids-output_id.result.0.now in
+    let last = c.split_ids-output_id.result.1 in
+    let is = c.split_ids-output_id.ensures.work in
+    let same = c.split_ids-output_id.ensures.output in
+    let begun : DirectoryState = state_of (g.W.Directory.tells c.begin_indexes.new.work) (g.W.Directory.files c.begin_indexes.new.work) (g.W.Directory.seen c.begin_indexes.new.work) (g.W.Directory.faults c.begin_indexes.new.work) in
+    let worked : DirectoryState = state_of (g.W.Directory.tells c.write_work.new.work) (g.W.Directory.files c.write_work.new.work) (g.W.Directory.seen c.write_work.new.work) (g.W.Directory.faults c.write_work.new.work) in
+    let filled = c.in_ok-segments.ensures.reads in
+    let read = c.in_ok-segments.segments.items in
+    read_fits F input ids read c.deref.result.now begun worked c.deref.ensures.value is c.requires.fits filled
 
-pub returns-clause-read : goal.returns-clause-read
-returns-clause-read g c told =
-    let F = g.Z.Analyzers.tokens_of c.args.writer.0 in
-    let documents = additions (map operation_of c.args.operations.now) in
-    let begun = c.in-Ok.ensures.calls in
-    let is = subst (λ (s : Schema). IsOfDocuments s F documents c.in-Ok-index_operations.segment) c.requires.schema c.in-Ok-index_operations.ensures.segment in
-    let told_still = tells-still _ _ begun.0.tells told in
-    let filled = c.in-Ok-fill_indexes.ensures in
-    reads_documents c.files_hold_one_contents.ensures (filled_answers c.args.work_id) c.args.work_id c.args.schema.now F documents c.len-documents.result c.in-Ok-fill_indexes.reader _ _ filled.filled.work told_still
-    (is.stand _ c.args.work_id (filled.work_files told_still))
+pub returns-in_err-written-clause-refused : goal.returns-in_err-written-clause-refused
+returns-in_err-written-clause-refused g c known tests none told =
+    let input = input_of c.args.schema.now c.args.settings.now c.args.operations.now c.args.cuts.now c.args.filters.now c.args.ids.now in
+    let F = g.Z.Analyzers.tokens_of c.args.analyzers.now in
+    let ids = c.split_ids-output_id.result.0.now in
+    let last = c.split_ids-output_id.result.1 in
+    let is = c.split_ids-output_id.ensures.work in
+    let same = c.split_ids-output_id.ensures.output in
+    let before : Directories = record { work = state_of (g.W.Directory.tells c.args.work.now) (g.W.Directory.files c.args.work.now) (g.W.Directory.seen c.args.work.now) (g.W.Directory.faults c.args.work.now); output = state_of (g.O.Directory.tells c.args.output.now) (g.O.Directory.files c.args.output.now) (g.O.Directory.seen c.args.output.now) (g.O.Directory.faults c.args.output.now) } in
+    let begun : Directories = record { work = state_of (g.W.Directory.tells c.begin_indexes.new.work) (g.W.Directory.files c.begin_indexes.new.work) (g.W.Directory.seen c.begin_indexes.new.work) (g.W.Directory.faults c.begin_indexes.new.work); output = state_of (g.O.Directory.tells c.begin_indexes.new.output) (g.O.Directory.files c.begin_indexes.new.output) (g.O.Directory.seen c.begin_indexes.new.output) (g.O.Directory.faults c.begin_indexes.new.output) } in
+    let began = c.in_ok-begin_indexes.ensures.calls in
+    let worked : DirectoryState = state_of (g.W.Directory.tells c.write_work.new.work) (g.W.Directory.files c.write_work.new.work) (g.W.Directory.seen c.write_work.new.work) (g.W.Directory.faults c.write_work.new.work) in
+    let filled = c.in_ok-segments.ensures.reads in
+    let read = c.in_ok-segments.segments.items in
+    let still = tells-still _ _ c.in_ok-begin_indexes.ensures.calls.0.tells told in
+    let written : DirectoryState = state_of (g.O.Directory.tells c.write_output.new.output) (g.O.Directory.files c.write_output.new.output) (g.O.Directory.seen c.write_output.new.output) (g.O.Directory.faults c.write_output.new.output) in
+    given_on _ c.in_err-written.field-0.0 c.from_residual-in_err-written.result c.from_residual-in_err-written.ensures.1
+    (output_refused F input known last read c.deref.result.now c.in_err-written.field-0.0 begun.output written c.deref.ensures.value c.requires.fits (c.in_ok-segments.ensures.readings still) c.built_schemas_have_no_columns.ensures
+    (record { built = c.requires.fits.built; small = c.in_ok-segments.ensures.small; taken = c.in_ok-segments.ensures.taken }) none c.in_err-written.ensures.stops)
 
-pub returns-clause-work_stands : goal.returns-clause-work_stands
-returns-clause-work_stands g c told =
-    let F = g.Z.Analyzers.tokens_of c.args.writer.0 in
-    let documents = additions (map operation_of c.args.operations.now) in
-    let begun = c.in-Ok.ensures.calls in
-    let is = subst (λ (s : Schema). IsOfDocuments s F documents c.in-Ok-index_operations.segment) c.requires.schema c.in-Ok-index_operations.ensures.segment in
-    is.stand _ c.args.work_id (c.in-Ok-fill_indexes.ensures.work_files (tells-still _ _ begun.0.tells told))
+pub returns-in_err-written-clause-stops : goal.returns-in_err-written-clause-stops
+returns-in_err-written-clause-stops g c =
+    let input = input_of c.args.schema.now c.args.settings.now c.args.operations.now c.args.cuts.now c.args.filters.now c.args.ids.now in
+    let F = g.Z.Analyzers.tokens_of c.args.analyzers.now in
+    let ids = c.split_ids-output_id.result.0.now in
+    let last = c.split_ids-output_id.result.1 in
+    let is = c.split_ids-output_id.ensures.work in
+    let same = c.split_ids-output_id.ensures.output in
+    let before : Directories = record { work = state_of (g.W.Directory.tells c.args.work.now) (g.W.Directory.files c.args.work.now) (g.W.Directory.seen c.args.work.now) (g.W.Directory.faults c.args.work.now); output = state_of (g.O.Directory.tells c.args.output.now) (g.O.Directory.files c.args.output.now) (g.O.Directory.seen c.args.output.now) (g.O.Directory.faults c.args.output.now) } in
+    let begun : Directories = record { work = state_of (g.W.Directory.tells c.begin_indexes.new.work) (g.W.Directory.files c.begin_indexes.new.work) (g.W.Directory.seen c.begin_indexes.new.work) (g.W.Directory.faults c.begin_indexes.new.work); output = state_of (g.O.Directory.tells c.begin_indexes.new.output) (g.O.Directory.files c.begin_indexes.new.output) (g.O.Directory.seen c.begin_indexes.new.output) (g.O.Directory.faults c.begin_indexes.new.output) } in
+    let began = c.in_ok-begin_indexes.ensures.calls in
+    let worked : DirectoryState = state_of (g.W.Directory.tells c.write_work.new.work) (g.W.Directory.files c.write_work.new.work) (g.W.Directory.seen c.write_work.new.work) (g.W.Directory.faults c.write_work.new.work) in
+    let filled = c.in_ok-segments.ensures.reads in
+    let read = c.in_ok-segments.segments.items in
+    let written : DirectoryState = state_of (g.O.Directory.tells c.write_output.new.output) (g.O.Directory.files c.write_output.new.output) (g.O.Directory.seen c.write_output.new.output) (g.O.Directory.faults c.write_output.new.output) in
+    given_on _ c.in_err-written.field-0.0 c.from_residual-in_err-written.result c.from_residual-in_err-written.ensures.1
+    (stops_in_output F input ids is last same before begun began.0 began.1 read c.deref.result.now c.deref.ensures.value worked written filled c.in_err-written.field-0.0 c.in_err-written.ensures.stops)
 
-pub returns-clause-output_stands : goal.returns-clause-output_stands
-returns-clause-output_stands g c told told' =
-    let F = g.Z.Analyzers.tokens_of c.args.writer.0 in
-    let documents = additions (map operation_of c.args.operations.now) in
-    let begun = c.in-Ok.ensures.calls in
-    let is = subst (λ (s : Schema). IsOfDocuments s F documents c.in-Ok-index_operations.segment) c.requires.schema c.in-Ok-index_operations.ensures.segment in
-    let told_still = tells-still _ _ begun.0.tells told in
-    let filled = c.in-Ok-fill_indexes.ensures in
-    record {
-      contents = contents_of c.in-Ok-fill_indexes.reader;
-      read = reads_documents c.files_hold_one_contents.ensures (filled_answers c.args.work_id) c.args.work_id c.args.schema.now F documents c.len-documents.result c.in-Ok-fill_indexes.reader _ _ filled.filled.work told_still
-          (is.stand _ c.args.work_id (filled.work_files told_still));
-      held = filled.filled.held (tells-still _ _ begun.1.tells told');
-    }
+pub returns-clause-survivors : goal.returns-clause-survivors
+returns-clause-survivors g c told =
+    let input = input_of c.args.schema.now c.args.settings.now c.args.operations.now c.args.cuts.now c.args.filters.now c.args.ids.now in
+    let F = g.Z.Analyzers.tokens_of c.args.analyzers.now in
+    let worked : DirectoryState = state_of (g.W.Directory.tells c.write_work.new.work) (g.W.Directory.files c.write_work.new.work) (g.W.Directory.seen c.write_work.new.work) (g.W.Directory.faults c.write_work.new.work) in
+    let filled = c.in_ok-segments.ensures.reads in
+    let read = c.in_ok-segments.segments.items in
+    let still = tells-still _ _ c.in_ok-begin_indexes.ensures.calls.0.tells told in
+    survivors_as F input c.joining_is_invisible.ensures c.built_parts_join.ensures read c.deref.result.now (contents_of c.in_ok-written.written.reader) c.deref.ensures.value c.requires.fits.built (c.in_ok-segments.ensures.readings still) c.in_ok-written.ensures.joined
+
+pub returns-clause-work_index : goal.returns-clause-work_index
+returns-clause-work_index g c told =
+    let input = input_of c.args.schema.now c.args.settings.now c.args.operations.now c.args.cuts.now c.args.filters.now c.args.ids.now in
+    let F = g.Z.Analyzers.tokens_of c.args.analyzers.now in
+    let ids = c.split_ids-output_id.result.0.now in
+    let last = c.split_ids-output_id.result.1 in
+    let is = c.split_ids-output_id.ensures.work in
+    let same = c.split_ids-output_id.ensures.output in
+    let still = tells-still _ _ c.in_ok-begin_indexes.ensures.calls.0.tells told in
+    as_work_index F input ids is (length c.args.operations.now) _ (sym (length-map c.args.operations.now operation_of)) (c.in_ok-segments.ensures.index still) (c.in_ok-segments.ensures.stand still) (c.in_ok-segments.ensures.alive still)
+
+pub returns-clause-output_index : goal.returns-clause-output_index
+returns-clause-output_index g c told told_output =
+    let input = input_of c.args.schema.now c.args.settings.now c.args.operations.now c.args.cuts.now c.args.filters.now c.args.ids.now in
+    let F = g.Z.Analyzers.tokens_of c.args.analyzers.now in
+    let ids = c.split_ids-output_id.result.0.now in
+    let last = c.split_ids-output_id.result.1 in
+    let is = c.split_ids-output_id.ensures.work in
+    let same = c.split_ids-output_id.ensures.output in
+    let worked : DirectoryState = state_of (g.W.Directory.tells c.write_work.new.work) (g.W.Directory.files c.write_work.new.work) (g.W.Directory.seen c.write_work.new.work) (g.W.Directory.faults c.write_work.new.work) in
+    let filled = c.in_ok-segments.ensures.reads in
+    let read = c.in_ok-segments.segments.items in
+    let still = tells-still _ _ c.in_ok-begin_indexes.ensures.calls.0.tells told in
+    let still_output = tells-still _ _ c.in_ok-begin_indexes.ensures.calls.1.tells told_output in
+    as_output_index F input ids is last same _ c.in_ok-written.written.reader
+    (survivors_as F input c.joining_is_invisible.ensures c.built_parts_join.ensures read c.deref.result.now (contents_of c.in_ok-written.written.reader) c.deref.ensures.value c.requires.fits.built (c.in_ok-segments.ensures.readings still) c.in_ok-written.ensures.joined)
+    (c.in_ok-written.ensures.index still_output ∙ ap (λ (m : index.Meta). Some m) c.in_ok-written.ensures.meta) (c.in_ok-written.ensures.held still_output)
 
 pub returns-clause-written : goal.returns-clause-written
 returns-clause-written g c =
-    let F = g.Z.Analyzers.tokens_of c.args.writer.0 in
-    let documents = additions (map operation_of c.args.operations.now) in
-    let begun = c.in-Ok.ensures.calls in
-    let is = subst (λ (s : Schema). IsOfDocuments s F documents c.in-Ok-index_operations.segment) c.requires.schema c.in-Ok-index_operations.ensures.segment in
-    let many : c.len-documents.result ≡ length c.in-Ok-index_operations.segment.stamps.items = omega (arith, c.len-documents.ensures) in
-    written-counted c.args.work_id c.args.output_id c.args.schema.now c.len-documents.result (length documents) c.in-Ok-fill_indexes.reader _ _ (many ∙ is.counted)
-    (both-written c.args.work_id c.args.output_id c.args.schema.now c.len-documents.result c.in-Ok-fill_indexes.reader _ _ _ begun.0 begun.1 c.in-Ok-fill_indexes.ensures.filled)
+    let input = input_of c.args.schema.now c.args.settings.now c.args.operations.now c.args.cuts.now c.args.filters.now c.args.ids.now in
+    let F = g.Z.Analyzers.tokens_of c.args.analyzers.now in
+    let ids = c.split_ids-output_id.result.0.now in
+    let last = c.split_ids-output_id.result.1 in
+    let is = c.split_ids-output_id.ensures.work in
+    let same = c.split_ids-output_id.ensures.output in
+    let before : Directories = record { work = state_of (g.W.Directory.tells c.args.work.now) (g.W.Directory.files c.args.work.now) (g.W.Directory.seen c.args.work.now) (g.W.Directory.faults c.args.work.now); output = state_of (g.O.Directory.tells c.args.output.now) (g.O.Directory.files c.args.output.now) (g.O.Directory.seen c.args.output.now) (g.O.Directory.faults c.args.output.now) } in
+    let begun : Directories = record { work = state_of (g.W.Directory.tells c.begin_indexes.new.work) (g.W.Directory.files c.begin_indexes.new.work) (g.W.Directory.seen c.begin_indexes.new.work) (g.W.Directory.faults c.begin_indexes.new.work); output = state_of (g.O.Directory.tells c.begin_indexes.new.output) (g.O.Directory.files c.begin_indexes.new.output) (g.O.Directory.seen c.begin_indexes.new.output) (g.O.Directory.faults c.begin_indexes.new.output) } in
+    let began = c.in_ok-begin_indexes.ensures.calls in
+    let worked : DirectoryState = state_of (g.W.Directory.tells c.write_work.new.work) (g.W.Directory.files c.write_work.new.work) (g.W.Directory.seen c.write_work.new.work) (g.W.Directory.faults c.write_work.new.work) in
+    let filled = c.in_ok-segments.ensures.reads in
+    let read = c.in_ok-segments.segments.items in
+    let written : DirectoryState = state_of (g.O.Directory.tells c.write_output.new.output) (g.O.Directory.files c.write_output.new.output) (g.O.Directory.seen c.write_output.new.output) (g.O.Directory.faults c.write_output.new.output) in
+    both_in_turn F input ids is last same before begun began.0 began.1 read c.deref.result.now c.deref.ensures.value worked written filled c.in_ok-written.written.reader c.in_ok-written.ensures.writes c.in_ok-written.ensures.schema c.in_ok-written.ensures.joined c.in_ok-written.ensures.held

@@ -1,5 +1,5 @@
 use Rattle.std.proofs.Common.{inl}
-use Rattle.seg_tool.specs.Run.{HasOutputIndex, IsWhyRefused, first_of}
+use Rattle.seg_tool.specs.Run.{HasOutputIndex, IsWhyRefused, IsWhyRefusedUntold, first_of}
 use Rattle.seg_script.specs.Script.{script}
 use Rattle.seg_tool.proofs.Endings.{stopped-before, refused-of, all-is, first-is, at-all, admitted-of, on-all}
 use Rattle.seg_tool.proofs.command.read_and_build.Goals as goal
@@ -8,8 +8,12 @@ pub returns-in-Err-OutOfMemory-clause-calls_ended : goal.returns-in-Err-OutOfMem
 returns-in-Err-OutOfMemory-clause-calls_ended g c = inl (stopped-before _)
 
 pub returns-clause-refused : goal.returns-clause-refused
-returns-clause-refused g c known tests =
-    refused-of c.build.result _ c.in-Ok.bytes.items (IsWhyRefused known (g.Z.Analyzers.tokens_of c.args.analyzers.now)) c.in-Ok.ensures.ok.0 (c.build.ensures.refused known tests)
+returns-clause-refused g c known tests told =
+    refused-of c.build.result _ c.in-Ok.bytes.items (IsWhyRefused known (g.Z.Analyzers.tokens_of c.args.analyzers.now)) c.in-Ok.ensures.ok.0 (c.build.ensures.refused known tests told)
+
+pub returns-clause-refused_untold : goal.returns-clause-refused_untold
+returns-clause-refused_untold g c known tests =
+    refused-of c.build.result _ c.in-Ok.bytes.items (IsWhyRefusedUntold known (g.Z.Analyzers.tokens_of c.args.analyzers.now)) c.in-Ok.ensures.ok.0 (c.build.ensures.refused_untold known tests)
 
 pub returns-clause-first : goal.returns-clause-first
 returns-clause-first g c known tests bytes left short json =

@@ -9,4 +9,4 @@ returns-then-ne-clause-complete g c known tests bytes build left short valid wor
     completes c.execute-status.result known (g.Z.Analyzers.tokens_of c.args.analyzers.now) _ bytes _ _
     c.valid_inputs_are_not_refused.ensures left short valid
     (λ is. true≢false (sym build ∙ e.words.0 is)) (λ is. no-stream source sink (e.stream is))
-    (e.fresh work.tells work.empty output.tells output.empty) (e.whole work.tells) e.script (e.refused known tests) e.calls work.sound output.sound
+    (e.fresh work.tells work.empty output.tells output.empty) (e.whole work.tells) e.script (e.refused known tests work.tells) e.calls work.sound output.sound

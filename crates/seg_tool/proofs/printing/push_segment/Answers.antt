@@ -8,6 +8,6 @@ use Rattle.seg_tool.proofs.printing.push_segment.Goals as goal
 pub returns : goal.returns
 returns c =
     let reader = c.args.reader.now in
-    segment_read c.push_documents.result c.args.label.now c.args.id reader.schema c.schema.result.now (reading_part (contents_of reader)) (documents_of c.store_reader.result.now) c.max_doc-documents.result
-    c.args.out.now.items c.push_header.new.out.items c.push_fields.new.out.items c.push_documents.new.out.items
-    c.max_doc-documents.ensures c.schema.ensures (ap documents_of c.store_reader.ensures) c.in_ok-push_header.ensures c.in_ok-push_fields.ensures c.push_documents.ensures
+    segment_read c.push_documents.result c.args.label.now c.args.id reader.schema c.schema.result.now (reading_part (contents_of reader)) (documents_of c.store_reader.result.now) c.max_doc.result c.args.alive
+    c.args.out.now.items c.push_head.new.out.items c.push_fields.new.out.items c.push_documents.new.out.items
+    c.max_doc.ensures c.schema.ensures (ap documents_of c.store_reader.ensures) c.in_ok-push_head.ensures c.in_ok-push_fields.ensures c.push_documents.ensures

@@ -1,0 +1,73 @@
+//! The output index.
+ghost use Rattle.std.specs.Prelude.{◌≡◌, ◌≢◌, ◌∷◌, [], Err, IsTrue, OnOk, Some};
+ghost use Rattle.std.specs.FinMap.{len};
+ghost use Rattle.seg_meta.specs.Saving.{IsMetaList};
+ghost use Rattle.seg_meta.specs.View.{meta_of};
+ghost use Rattle.seg_model.specs.IndexOfFiles as index;
+ghost use Rattle.seg_build.specs.Forms.{segment_forms};
+ghost use Rattle.seg_build.specs.SegmentFiles.{AreAbsent, segment_names};
+ghost use Rattle.seg_open.specs.SegmentRead as segment;
+ghost use Rattle.seg_batches.specs.Calls.{Does, state_of};
+ghost use Rattle.seg_merge.specs.IndexFiles.{filled_answers, index_answers, index_names, undeleted};
+
+use crate::index_files::{begin_index, save_index};
+use seg_common::SegmentId;
+use seg_directory::Directory;
+use seg_meta::IndexMeta;
+use seg_open::SegmentFiles;
+use seg_values::{TResult, TantivyError};
+use std::alloc::Global;
+
+/// Writes an index into a directory without files: its meta, and the files of its one segment.
+pub(crate) fn write_output_index<O: Directory>(
+    alloc: Global,
+    metas: &IndexMeta,
+    id: SegmentId,
+    documents: u32,
+    files: &SegmentFiles,
+    output: &mut O,
+) -> TResult<()>
+    requires list { IsMetaList metas.now.segments }
+    ensures index { IsTrue (O.tells output.old) → OnOk result
+        (index.index_of segment_forms (O.files output.new) ≡ Some (meta_of metas.now)) }
+    ensures files { IsTrue (O.tells output.old) → OnOk result
+        (segment.HasFiles (O.files output.new) id files.now) }
+    ensures fresh { IsTrue (O.tells output.old) → len (O.files output.old) ≡ 0
+        → result ≢ Err TantivyError.IndexAlreadyExists }
+    ensures calls { Does (index_answers (undeleted id documents ∷ [])) (index_names (undeleted id documents ∷ [])) result
+        (state_of (O.tells output.old) (O.files output.old) (O.seen output.old) (O.faults output.old))
+        (state_of (O.tells output.new) (O.files output.new) (O.seen output.new) (O.faults output.new)) }
+{
+    match begin_index(alloc, &metas.schema, &metas.index_settings, output) {
+        Ok(()) => {}
+        Err(e) => return Err(e),
+    }
+    fill_output_index(alloc, metas, id, documents, files, output)
+}
+
+/// Fills an index that was begun: the files of its one segment, and then the meta.
+fn fill_output_index<O: Directory>(
+    alloc: Global,
+    metas: &IndexMeta,
+    id: SegmentId,
+    documents: u32,
+    files: &SegmentFiles,
+    output: &mut O,
+) -> TResult<()>
+    requires list { IsMetaList metas.now.segments }
+    ensures index { IsTrue (O.tells output.old) → OnOk result
+        (index.index_of segment_forms (O.files output.new) ≡ Some (meta_of metas.now)) }
+    ensures files { IsTrue (O.tells output.old) → OnOk result
+        (segment.HasFiles (O.files output.new) id files.now) }
+    ensures fresh { IsTrue (O.tells output.old) → AreAbsent (segment_names id) (O.files output.old)
+        → result ≢ Err TantivyError.IndexAlreadyExists }
+    ensures calls { Does (filled_answers (undeleted id documents ∷ [])) (index_names (undeleted id documents ∷ [])) result
+        (state_of (O.tells output.old) (O.files output.old) (O.seen output.old) (O.faults output.old))
+        (state_of (O.tells output.new) (O.files output.new) (O.seen output.new) (O.faults output.new)) }
+{
+    match files.write(alloc, id, output) {
+        Ok(()) => {}
+        Err(e) => return Err(e),
+    }
+    save_index(alloc, metas, output)
+}
