@@ -204,6 +204,19 @@ def check_lengths(entry, terms, norms):
         check(list(norms) == [bisect_right(LENGTHS, n) - 1 for n in lengths], 'a length id is not that of the tokens')
 
 
+# ---- alive documents
+
+def alive_set(data):
+    """For each document whether it is alive."""
+    reader = Reader(data)
+    documents = reader.u32()
+    words = [reader.u64() for _ in range((documents + 63) // 64)]
+    reader.end()
+    bits = [word >> bit & 1 for word in words for bit in range(64)]
+    check(not any(bits[documents:]), 'a bit behind the last document is set')
+    return [bit == 1 for bit in bits[:documents]]
+
+
 # ---- columns and the store
 
 def number_of_rows(data):

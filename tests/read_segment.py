@@ -123,11 +123,10 @@ def meta_of(data):
 # ---- a whole segment
 
 class Segment:
-    """What the six files of a segment hold, all of it checked."""
+    """What the six files of a segment hold, and which of its documents are alive, all of it checked."""
 
     def __init__(self, read, schema, listed):
         self.read, self.schema, self.id, self.max_doc = read, schema, listed['segment_id'], listed['max_doc']
-        check(listed['deletes'] is None, f'{self.id}: deletes are not read yet')
         check(not any(e['fast'] and e['kind'] != 'json' for e in schema), f'{self.id}: columns are not read yet')
         indexed = [at for at, entry in enumerate(schema) if entry['index'] != 'no']
         self.norms = self.parts('fieldnorm', [at for at in indexed if schema[at]['norms']])
@@ -137,6 +136,7 @@ class Segment:
         self.totals = self.read_postings(self.parts('idx', indexed))
         self.read_positions(self.parts('pos', indexed))
         self.stored = self.read_store()
+        self.alive = self.read_alive(listed['deletes'])
 
     def name(self, extension):
         return f'{self.id}.{extension}'
@@ -184,6 +184,15 @@ class Segment:
             check(len(stored) == self.max_doc, 'the number of documents is not max_doc')
             return [formats.stored_document(data, self.schema) for data in stored]
 
+    def read_alive(self, deletes):
+        if deletes is None:
+            return [True] * self.max_doc
+        with reading(self.name(f'{deletes["opstamp"]}.del')):
+            alive = formats.alive_set(self.bytes_of(f'{deletes["opstamp"]}.del'))
+            check(len(alive) == self.max_doc, 'the number of documents is not max_doc')
+            check(alive.count(False) == deletes['num_deleted_docs'], 'the meta tells another number of deletes')
+            return alive
+
     def check_from_documents(self):
         """What holds besides where the segment was written from documents: the token totals and the lengths."""
         for at, terms in self.terms.items():
@@ -223,7 +232,10 @@ def posting_text(term, place):
 
 
 def segment_text(segment, label):
-    lines = [f'{label} {segment.id} docs {segment.max_doc} alive {segment.max_doc}']
+    lines = [f'{label} {segment.id} docs {segment.max_doc} alive {segment.alive.count(True)}']
+    dead = [document for document, is_alive in enumerate(segment.alive) if not is_alive]
+    if dead:
+        lines.append('dead ' + ' '.join(map(str, dead)))
     for at, terms in segment.terms.items():
         lines.append(f'field {json_text(segment.schema[at]["name"])} terms {len(terms)}')
         for term in terms:

@@ -114,6 +114,17 @@ POSTINGS = [
 ]
 
 
+# the bytes of an alive set, and the documents that are alive
+ALIVE_SETS = [
+    ('07000000' + '3200000000000000', [1, 4, 5]), ('00000000', []), ('40000000' + 'ff' * 8, list(range(64))), ('41000000' + '00' * 8 + '01' + '00' * 7, [64]),
+    ('07000000' + '8000000000000000', None), ('07000000', None), ('07000000' + '00' * 16, None), ('0700', None),
+]
+
+
+def alive_of(data):
+    return [document for document, is_alive in enumerate(formats.alive_set(data)) if is_alive]
+
+
 def value_text(data):
     reader = Reader(data)
     value = formats.value(reader, 1)
@@ -146,6 +157,8 @@ def run():
         at %= len(files[name])
         said = refusal(read_with, files, name, with_byte(files[name], at, byte))
         expect(said == f'{name}: {rule}', f'{name} with byte {at} set to {byte}: {said}')
+    for form, alive in ALIVE_SETS:
+        expect(or_none(alive_of, bytes.fromhex(form)) == alive, f'the alive set {form}')
     for form, number in VARINTS:
         expect(or_none(Reader(bytes.fromhex(form)).varint) == number, f'the varint {form}')
     for form, shown in VALUES:
