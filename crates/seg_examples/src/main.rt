@@ -6,6 +6,7 @@ use seg_common::{MemorySink, MemorySource};
 use seg_directory::MemoryDirectory;
 use seg_tool::{Status, run};
 use seg_values::{DefaultTokenizer, RawTokenizer, TokenizerManager, WhitespaceTokenizer};
+use std::alloc::{AllocError, Global};
 use std::fs;
 use std::rt::Files;
 
@@ -30,27 +31,56 @@ fn compare<R: Files + AllocGlobal>(rt: &R, name: &str) -> Result<()> {
     let alloc = rt.alloc();
     let script = fs::read(rt, format!(in alloc; "{name}.json")?)?;
     let text = fs::read(rt, format!(in alloc; "{name}.txt")?)?;
-    let mut analyzers = TokenizerManager::new(alloc);
-    analyzers.register("default", Box::new(alloc, DefaultTokenizer)?)?;
-    analyzers.register("raw", Box::new(alloc, RawTokenizer)?)?;
-    analyzers.register("whitespace", Box::new(alloc, WhitespaceTokenizer)?)?;
-    let words = vec![in alloc; String::from_str(alloc, "build")?]?;
-    let mut source = MemorySource::new(alloc, &script, Vec::new(alloc))?;
+    ensure!(
+        prints(alloc, &script, &text)?,
+        "{name} isn't done, or has another text"
+    );
+    Ok(())
+}
+
+/// Whether a run over a script is done, and prints this text.
+fn prints(alloc: Global, script: &[u8], text: &[u8]) -> Result<bool, AllocError> {
+    let mut source = MemorySource::new(alloc, script, Vec::new(alloc))?;
     let mut sink = MemorySink::new(alloc, text.len(), Vec::new(alloc))?;
+    let status = build(alloc, &mut source, &mut sink)?;
+    Ok(status == Status::Done && sink.bytes() == text)
+}
+
+/// Runs `build` over directories in memory.
+fn build(
+    alloc: Global,
+    source: &mut MemorySource,
+    sink: &mut MemorySink,
+) -> Result<Status, AllocError> {
+    let words = vec![in alloc; String::from_str(alloc, "build")?]?;
+    let analyzers = analyzers(alloc)?;
     let mut faults = MemorySink::new(alloc, 100, Vec::new(alloc))?;
-    let mut work = MemoryDirectory::new(alloc, Vec::new(alloc))?;
-    let mut output = MemoryDirectory::new(alloc, Vec::new(alloc))?;
-    let status = run(
+    let mut work = directory(alloc)?;
+    let mut output = directory(alloc)?;
+    Ok(run(
         alloc,
         &words,
-        &mut source,
-        &mut sink,
+        source,
+        sink,
         &mut faults,
         &analyzers,
         &mut work,
         &mut output,
-    );
-    ensure!(status == Status::Done, "{name} ends with another status");
-    ensure!(sink.bytes() == text.as_slice(), "{name} has another text");
-    Ok(())
+    ))
+}
+
+/// The tokenizers of the program.
+fn analyzers(alloc: Global) -> Result<TokenizerManager, AllocError> {
+    let mut analyzers = TokenizerManager::new(alloc);
+    analyzers.register("default", Box::new(alloc, DefaultTokenizer)?)?;
+    analyzers.register("raw", Box::new(alloc, RawTokenizer)?)?;
+    analyzers.register("whitespace", Box::new(alloc, WhitespaceTokenizer)?)?;
+    Ok(analyzers)
+}
+
+fn directory(alloc: Global) -> Result<MemoryDirectory, AllocError> {
+    match MemoryDirectory::new(alloc, Vec::new(alloc)) {
+        Ok(directory) => Ok(directory),
+        Err(_) => Err(AllocError),
+    }
 }
