@@ -32,7 +32,7 @@ class Picture:
 
     def save(self, name):
         head = f'<svg xmlns="http://www.w3.org/2000/svg" width="{self.width}" height="{self.height}" viewBox="0 0 {self.width} {self.height}">'
-        marker = f'<defs><marker id="head" markerWidth="9" markerHeight="9" refX="8" refY="3.5" orient="auto"><path d="M0,0 L8,3.5 L0,7 z" fill="{INK}"/></marker></defs>'
+        marker = f'<defs><marker id="head" markerWidth="9" markerHeight="9" refX="8" refY="3.5" orient="auto"><path d="M0,0 l8,3.5 l-8,3.5 z" fill="{INK}"/></marker></defs>'
         paper = f'<rect width="{self.width}" height="{self.height}" fill="{PAPER}"/>'
         (HERE / name).write_text('\n'.join([head, marker, paper, *self.parts, '</svg>', '']))
 
