@@ -1,11 +1,7 @@
--- What is indexed so far: stored texts with their positions. What lies outside of this is refused as not built yet.
-use Rattle.std.specs.Prelude.{List, length, Bool, true, false, ◌&&◌, nat_lt, is_none}
-use Rattle.std.specs.List.{list_all}
-use Rattle.seg_values.specs.declared.schema.FieldEntry.{FieldEntry}
-use Rattle.seg_values.specs.declared.schema.IndexOption.{IndexOption}
-use Rattle.seg_values.specs.declared.schema.IndexOption.TheVariants.{Positions}
+-- Documents of texts, and documents that pass their check.
+use Rattle.std.specs.Prelude.{Bool, true, false, is_none}
 use Rattle.seg_values.specs.Tree.{Leaf, text, Tree, leaf, array, object, Document}
-use Rattle.seg_model.specs.Fields.{Schema, Analyzer, is_text}
+use Rattle.seg_model.specs.Fields.{Schema, Analyzer}
 use Rattle.seg_model.specs.Checked.{document_refusal}
 
 -- a text that is not cut yet
