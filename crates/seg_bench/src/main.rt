@@ -1,0 +1,77 @@
+//! Works the layers below the program as often as it is told, so that `bench/layers.py` can measure what a call costs.
+//!
+//! ```text
+//! seg_bench look-up TIMES TERMS           looks so many keys up in a term dictionary, which has about half of them
+//! seg_bench merge TIMES TERMS..           merges term dictionaries
+//! seg_bench get TIMES STORE               reads so many documents of a store
+//! seg_bench open-terms TIMES TERMS        opens a term dictionary
+//! seg_bench open-field TIMES TERMS POSTINGS POSITIONS
+//!                                         opens a field of texts, whose documents are below 1,000
+//! seg_bench open-store TIMES STORE        opens a store
+//! ```
+//!
+//! It prints one number: how many keys were found, terms merged, pairs read, or terms and documents opened.
+#![tactic(auto)]
+
+mod documents;
+mod drawing;
+mod merging;
+mod terms;
+#[cfg(test)]
+mod tests;
+
+use anyhow::{Context, Result, bail};
+use seg_common::OwnedBytes;
+use std::alloc::Global;
+use std::env::Env;
+use std::rt::Files;
+use std::{env, fs, io};
+
+fn main(rt: HostRuntime) -> Result<()> {
+    let words = program_words(&rt)?;
+    let [task, times, names @ ..] = words.as_slice() else {
+        bail!("a task, how often, and files");
+    };
+    let times = times
+        .as_str()
+        .parse::<u32>()
+        .context("the second word is how often")?;
+    let files = files(&rt, names)?;
+    let count = work(rt.alloc(), task.as_str(), times, &files)?;
+    println!(rt; "{count}")?;
+    Ok(())
+}
+
+/// The words behind the program's name.
+fn program_words(rt: &(impl Env + AllocGlobal)) -> io::Result<Vec<String>> {
+    let mut words = Vec::new(rt.alloc());
+    for word in env::args(rt)?.skip(1) {
+        words.push(word)?;
+    }
+    Ok(words)
+}
+
+/// The bytes of these files.
+fn files<R: Files + AllocGlobal>(rt: &R, names: &[String]) -> Result<Vec<OwnedBytes>> {
+    let mut files = Vec::new(rt.alloc());
+    for name in names {
+        let bytes = fs::read(rt, name.as_str())?;
+        files.push(OwnedBytes::from_vec(rt.alloc(), bytes)?)?;
+    }
+    Ok(files)
+}
+
+/// Does a task so often over these files.
+fn work(alloc: Global, task: &str, times: u32, files: &[OwnedBytes]) -> Result<u64> {
+    match (task, files) {
+        ("look-up", [file]) => terms::count_found(file, times),
+        ("open-terms", [file]) => terms::count_opened(file, times),
+        ("open-field", [terms, postings, positions]) => {
+            terms::count_in_fields(alloc, terms, postings, positions, times)
+        }
+        ("open-store", [file]) => documents::count_opened(file, times),
+        ("merge", files) => Ok(merging::count_merged(alloc, files, times)?),
+        ("get", [file]) => documents::count_read(alloc, file, times),
+        _ => bail!("no such task over so many files"),
+    }
+}
