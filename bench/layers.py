@@ -23,14 +23,6 @@ PROGRAM = HERE.parent / 'crates' / 'seg_bench' / 'out' / 'seg_bench'
 
 # ---- files
 
-def ends_of(pieces):
-    end, ends = 0, []
-    for piece in pieces:
-        end += len(piece)
-        ends.append(end)
-    return b''.join(struct.pack('<Q', end) for end in ends)
-
-
 def dictionary(numbers):
     """A term dictionary of these numbers, ascending, each in four bytes; each has 3 bytes of postings and one of positions."""
     count = len(numbers)
