@@ -1,6 +1,8 @@
 //! Runs whose work directory answers other bytes than it was given.
 
-use crate::streams::{NEVER, Streams, both_segments, build_over, script_of_titles, streams_over};
+use crate::streams::{
+    NEVER, Streams, both_segments, build_over, directory_with, script_of_titles, streams_over,
+};
 use seg_common::{FileName, OwnedBytes, SegmentComponent, SegmentId};
 use seg_directory::{Directory, MemoryDirectory};
 use seg_odd_directory::OddDirectory;
@@ -13,16 +15,14 @@ fn store_name(id: u128) -> FileName {
 }
 
 /// The number of a run over one document, whose work directory answers these bytes for its store.
-fn run_with_store(alloc: Global, streams: &mut Streams, other: Vec<u8>) -> Result<u8, Fail> {
-    let Ok(inner) = MemoryDirectory::new(alloc, Vec::new(alloc)) else {
-        return Err("no directory".into());
-    };
+fn run_with_store(alloc: Global, streams: &mut Streams, other: Vec<u8>) -> Result<u8, AllocError> {
+    let inner = directory_with(alloc, Vec::new(alloc), false)?;
     let mut work = OddDirectory {
         inner,
         name: store_name(1),
         other,
     };
-    Ok(build_over(alloc, streams, &mut work)?)
+    build_over(alloc, streams, &mut work)
 }
 
 /// Streams over a script of one document with this text.
@@ -37,32 +37,53 @@ fn store_of(alloc: Global, directory: &mut MemoryDirectory, id: u128) -> Option<
     directory.open_read(alloc, &store_name(id)).ok()
 }
 
-/// The store of an index of one document with this text.
-fn other_store(alloc: Global, text: &str) -> Result<Vec<u8>, Fail> {
-    let mut streams = streams_of(alloc, text)?;
-    let Ok(mut work) = MemoryDirectory::new(alloc, Vec::new(alloc)) else {
-        return Err("no directory".into());
-    };
-    let number = build_over(alloc, &mut streams, &mut work)?;
-    let store = store_of(alloc, &mut work, 1).ok_or("no store")?;
-    if number != 0 {
-        return Err("not built".into());
+/// The store of a run that is done; nothing where it isn't.
+fn built_store(
+    alloc: Global,
+    streams: &mut Streams,
+    work: &mut MemoryDirectory,
+) -> Result<Vec<u8>, AllocError> {
+    let number = build_over(alloc, streams, work)?;
+    match store_of(alloc, work, 1) {
+        Some(store) if number == 0 => Vec::from_slice(alloc, store.as_slice()),
+        _ => Ok(Vec::new(alloc)),
     }
-    Ok(Vec::from_slice(alloc, store.as_slice())?)
+}
+
+/// The store of an index of one document with this text.
+fn other_store(alloc: Global, text: &str) -> Result<Vec<u8>, AllocError> {
+    let mut streams = streams_of(alloc, text)?;
+    let mut work = directory_with(alloc, Vec::new(alloc), false)?;
+    built_store(alloc, &mut streams, &mut work)
+}
+
+/// Whether this is the text of two segments of the other document.
+fn is_text_of_other(alloc: Global, text: &[u8]) -> Result<bool, AllocError> {
+    let lines = "field \"title\" terms 2\na 0x1@0\nb 0x1@1\ndoc 0 [[\"title\",\"other\"]]\n";
+    let expected = both_segments(alloc, 1, lines)?;
+    Ok(text == expected.as_bytes())
+}
+
+/// Whether a run whose work directory answers the store of the other document prints it, and writes this store.
+fn prints_and_writes(
+    alloc: Global,
+    streams: &mut Streams,
+    other: &[u8],
+) -> Result<bool, AllocError> {
+    let answered = Vec::from_slice(alloc, other)?;
+    let number = run_with_store(alloc, streams, answered)?;
+    let is_printed = is_text_of_other(alloc, streams.sink.bytes())?;
+    match store_of(alloc, &mut streams.output, 2) {
+        Some(store) => Ok(number == 0 && is_printed && store.as_slice() == other),
+        None => Ok(false),
+    }
 }
 
 #[test]
 fn what_was_read_is_printed_and_written(rt: HostRuntime) -> Result<(), Fail> {
-    let alloc = rt.alloc();
-    let mut streams = streams_of(alloc, "a b")?;
-    let other = other_store(alloc, "other")?;
-    let answered = Vec::from_slice(alloc, other.as_slice())?;
-    assert_eq!(rt; run_with_store(alloc, &mut streams, answered)?, 0);
-    let lines = "field \"title\" terms 2\na 0x1@0\nb 0x1@1\ndoc 0 [[\"title\",\"other\"]]\n";
-    let text = both_segments(alloc, 1, lines)?;
-    assert_eq!(rt; streams.sink.bytes(), text.as_bytes());
-    let output = store_of(alloc, &mut streams.output, 2).ok_or("no output")?;
-    assert_eq!(rt; output.as_slice(), other.as_slice());
+    let mut streams = streams_of(rt.alloc(), "a b")?;
+    let other = other_store(rt.alloc(), "other")?;
+    assert!(rt; prints_and_writes(rt.alloc(), &mut streams, &other)?);
     Ok(())
 }
 

@@ -8,125 +8,173 @@ use seg_directory::{CallKind, Directory, FailingCall, MemoryDirectory};
 use std::alloc::{AllocError, Global};
 use std::test::Fail;
 
+/// Whether bytes are the first so many of the text of an index without documents.
+fn are_front(alloc: Global, bytes: &[u8], length: usize) -> Result<bool, AllocError> {
+    let text = both_segments(alloc, 0, "field \"title\" terms 0\n")?;
+    Ok(bytes.len() == length && text.as_bytes().starts_with(bytes))
+}
+
+/// Whether a run of which some reads, writes or lines fail ends with `Stream`, says this, and has printed so many bytes.
+fn stream_fails(
+    alloc: Global,
+    fails: (u64, u64, u64),
+    room: usize,
+    said: &str,
+    written: usize,
+) -> Result<bool, AllocError> {
+    let script = script_of_titles(alloc, "")?;
+    let (at_read, at_write, at_fault) = fails;
+    let mut streams = streams_over(alloc, &script, room, at_read, at_write, at_fault)?;
+    let number = run_over(alloc, &["build"], &mut streams, true)?;
+    let is_said = streams.faults.bytes() == said.as_bytes();
+    Ok(number == 8 && is_said && are_front(alloc, streams.sink.bytes(), written)?)
+}
+
 #[test]
 fn says_which_stream_failed(rt: HostRuntime) -> Result<(), Fail> {
-    let alloc = rt.alloc();
-    let script = script_of_titles(alloc, "")?;
-    let text = both_segments(alloc, 0, "field \"title\" terms 0\n")?;
     let line = "stream: read or write failed\n";
-    for (at_read, at_write, at_fault, room, written, said) in [
-        (0, NEVER, NEVER, 2000, 0, line),
-        (1, NEVER, NEVER, 2000, 0, line),
-        (NEVER, 0, NEVER, 2000, 0, line),
-        (NEVER, NEVER, NEVER, 10, 10, line),
-        (NEVER, 1, NEVER, 50, 50, line),
-        (0, NEVER, 0, 2000, 0, ""),
+    for (fails, room, said, written) in [
+        ((0, NEVER, NEVER), 2000, line, 0),
+        ((1, NEVER, NEVER), 2000, line, 0),
+        ((NEVER, 0, NEVER), 2000, line, 0),
+        ((NEVER, NEVER, NEVER), 10, line, 10),
+        ((NEVER, 1, NEVER), 50, line, 50),
+        ((0, NEVER, 0), 2000, "", 0),
     ] {
-        let mut streams = streams_over(alloc, &script, room, at_read, at_write, at_fault)?;
-        let number = run_over(alloc, &["build"], &mut streams, true)?;
-        assert_eq!(rt; number, 8, "{at_read} {at_write} {room}");
-        assert!(rt; text.as_bytes().starts_with(streams.sink.bytes()));
-        assert_eq!(rt; streams.sink.bytes().len(), written);
-        assert_eq!(rt; streams.faults.bytes(), said.as_bytes());
+        assert!(rt;
+            stream_fails(rt.alloc(), fails, room, said, written)?,
+            "{room} {written}"
+        );
     }
     Ok(())
 }
 
-/// A run over directories of which some calls fail, or that have a file: its number.
-fn run_in(
-    alloc: Global,
-    streams: &mut Streams,
-    work: MemoryDirectory,
-    output: MemoryDirectory,
-) -> Result<u8, AllocError> {
-    streams.work = work;
-    streams.output = output;
-    run_over(alloc, &["build"], streams, true)
-}
-
-/// The number and the line of a run of which one call of a directory fails, of the output directory or of the other one;
-/// and how many files the output directory then has.
+/// The number of a run over one document, of which one call of a directory fails, of the output directory or of the other
+/// one, and the streams behind it.
 fn run_failing(
     alloc: Global,
     fails_output: bool,
     kind: CallKind,
     number: u64,
-) -> Result<(u8, Streams, Option<u64>), AllocError> {
-    let script = script_of_titles(alloc, r#"{"add": [["title", "a"]]}"#)?;
-    let mut streams = streams_over(alloc, &script, 2000, NEVER, NEVER, NEVER)?;
+) -> Result<(u8, Streams), AllocError> {
     let failing = directory_with(alloc, vec![in alloc; FailingCall { kind, number }]?, false)?;
-    let sound = directory_with(alloc, Vec::new(alloc), false)?;
-    let (work, output) = if fails_output {
-        (sound, failing)
+    let mut streams = streams_of_one(alloc)?;
+    put(&mut streams, fails_output, failing);
+    let ended = run_over(alloc, &["build"], &mut streams, true)?;
+    Ok((ended, streams))
+}
+
+/// Streams over a script of one document.
+fn streams_of_one(alloc: Global) -> Result<Streams, AllocError> {
+    let script = script_of_titles(alloc, r#"{"add": [["title", "a"]]}"#)?;
+    streams_over(alloc, &script, 2000, NEVER, NEVER, NEVER)
+}
+
+/// Puts a directory in the place of the one of the output, or of the other one.
+fn put(streams: &mut Streams, is_output: bool, directory: MemoryDirectory) {
+    if is_output {
+        streams.output = directory;
     } else {
-        (failing, sound)
-    };
-    let ended = run_in(alloc, &mut streams, work, output)?;
-    let files = streams.output.list(alloc).ok();
-    Ok((ended, streams, files))
+        streams.work = directory;
+    }
+}
+
+/// Whether such a run ends with `Directory` and this line, and without a file in an output directory that doesn't fail; or
+/// with `Done` where it comes to fewer calls.
+fn call_fails(
+    alloc: Global,
+    fails_output: bool,
+    kind: CallKind,
+    number: u64,
+    calls: u64,
+    line: &str,
+) -> Result<bool, AllocError> {
+    let (ended, mut streams) = run_failing(alloc, fails_output, kind, number)?;
+    let (expected, said) = if number < calls { (6, line) } else { (0, "") };
+    let is_told = ended == expected && streams.faults.bytes() == said.as_bytes();
+    let may_have_files = fails_output || number >= calls;
+    Ok(is_told && (may_have_files || streams.output.list(alloc).ok() == Some(0)))
+}
+
+/// Whether each of so many calls may fail, and no further one comes.
+fn each_call_fails(
+    alloc: Global,
+    fails_output: bool,
+    kind: CallKind,
+    calls: u64,
+    line: &str,
+) -> Result<bool, AllocError> {
+    for number in 0..=calls {
+        if !call_fails(alloc, fails_output, kind, number, calls, line)? {
+            return Ok(false);
+        }
+    }
+    Ok(true)
 }
 
 #[test]
 fn says_which_call_of_a_directory_failed(rt: HostRuntime) -> Result<(), Fail> {
     let alloc = rt.alloc();
+    let list = "directory: list or read failed\n";
+    let write = "directory: write failed\n";
     let sync = "directory: meta or sync failed\n";
     for (kind, in_work, in_output, line) in [
-        (
-            CallKind::List,
-            2u64,
-            2u64,
-            "directory: list or read failed\n",
-        ),
-        (CallKind::OpenRead, 6, 0, "directory: list or read failed\n"),
-        (CallKind::WriteNew, 6, 6, "directory: write failed\n"),
+        (CallKind::List, 2, 2, list),
+        (CallKind::OpenRead, 6, 0, list),
+        (CallKind::WriteNew, 6, 6, write),
         (CallKind::SyncDirectory, 3, 3, sync),
         (CallKind::AtomicWrite, 2, 2, sync),
     ] {
-        for (fails_output, calls) in [(false, in_work), (true, in_output)] {
-            for number in 0..=calls {
-                let (ended, streams, files) = run_failing(alloc, fails_output, kind, number)?;
-                let (expected, said) = if number < calls { (6, line) } else { (0, "") };
-                assert_eq!(rt; ended, expected, "{fails_output} {line} {number}");
-                assert_eq!(rt; streams.faults.bytes(), said.as_bytes(), "{line} {number}");
-                if !fails_output && number < calls {
-                    assert_eq!(rt; files, Some(0), "{line} {number}");
-                }
-            }
-        }
+        assert!(rt;
+            each_call_fails(alloc, false, kind, in_work, line)?,
+            "{in_work} {line}"
+        );
+        assert!(rt;
+            each_call_fails(alloc, true, kind, in_output, line)?,
+            "{in_output} {line}"
+        );
     }
     Ok(())
 }
 
+/// The number of a run over one document, and directories that may have a file, and the streams behind it.
+fn run_beside_files(
+    alloc: Global,
+    in_work: bool,
+    in_output: bool,
+) -> Result<(u8, Streams), AllocError> {
+    let mut streams = streams_of_one(alloc)?;
+    streams.work = directory_with(alloc, Vec::new(alloc), in_work)?;
+    streams.output = directory_with(alloc, Vec::new(alloc), in_output)?;
+    let ended = run_over(alloc, &["build"], &mut streams, true)?;
+    Ok((ended, streams))
+}
+
+/// Whether a run over directories that may have a file is refused, or done where none has one.
+fn is_refused_beside_files(
+    alloc: Global,
+    in_work: bool,
+    in_output: bool,
+) -> Result<bool, AllocError> {
+    let (ended, mut streams) = run_beside_files(alloc, in_work, in_output)?;
+    let (expected, said, files) = if in_work || in_output {
+        (5, "exists: a directory is not empty\n", 0)
+    } else {
+        (0, "", 7)
+    };
+    let is_told = ended == expected && streams.faults.bytes() == said.as_bytes();
+    let is_printed = !streams.sink.bytes().is_empty();
+    let work = streams.work.list(alloc).ok() == Some(files + u64::from(in_work));
+    let output = streams.output.list(alloc).ok() == Some(files + u64::from(in_output));
+    Ok(is_told && is_printed == (files > 0) && work && output)
+}
+
 #[test]
 fn refuses_a_directory_with_files(rt: HostRuntime) -> Result<(), Fail> {
-    let alloc = rt.alloc();
-    let script = script_of_titles(alloc, r#"{"add": [["title", "a"]]}"#)?;
-    for (in_work, in_output, expected) in [
-        (true, false, 5),
-        (false, true, 5),
-        (true, true, 5),
-        (false, false, 0),
-    ] {
-        let mut streams = streams_over(alloc, &script, 2000, NEVER, NEVER, NEVER)?;
-        let work = directory_with(alloc, Vec::new(alloc), in_work)?;
-        let output = directory_with(alloc, Vec::new(alloc), in_output)?;
-        let ended = run_in(alloc, &mut streams, work, output)?;
-        assert_eq!(rt; ended, expected);
-        let line = if expected == 5 {
-            "exists: a directory is not empty\n"
-        } else {
-            ""
-        };
-        assert_eq!(rt; streams.faults.bytes(), line.as_bytes());
-        assert_eq!(rt; streams.sink.bytes().is_empty(), expected == 5);
-        let files = if expected == 0 { 7 } else { 0 };
-        assert_eq!(rt;
-            streams.work.list(alloc).ok(),
-            Some(files + u64::from(in_work))
-        );
-        assert_eq!(rt;
-            streams.output.list(alloc).ok(),
-            Some(files + u64::from(in_output))
+    for (in_work, in_output) in [(true, false), (false, true), (true, true), (false, false)] {
+        assert!(rt;
+            is_refused_beside_files(rt.alloc(), in_work, in_output)?,
+            "{in_work} {in_output}"
         );
     }
     Ok(())
@@ -135,6 +183,29 @@ fn refuses_a_directory_with_files(rt: HostRuntime) -> Result<(), Fail> {
 /// The bytes of a file.
 fn file_of(alloc: Global, directory: &mut MemoryDirectory, name: FileName) -> Option<OwnedBytes> {
     directory.open_read(alloc, &name).ok()
+}
+
+/// Whether a file of the work segment has bytes, and the same as that of the output segment.
+fn are_alike(alloc: Global, streams: &mut Streams, component: SegmentComponent) -> bool {
+    let name = FileName::Part(SegmentId::from_u128(1), component);
+    let Some(work) = file_of(alloc, &mut streams.work, name) else {
+        return false;
+    };
+    let name = FileName::Part(SegmentId::from_u128(2), component);
+    let Some(output) = file_of(alloc, &mut streams.output, name) else {
+        return false;
+    };
+    !work.as_slice().is_empty() && work.as_slice() == output.as_slice()
+}
+
+/// Whether a meta tells an index that the first segment was merged into, as the second.
+fn is_merged_meta(bytes: &[u8]) -> bool {
+    let Ok(text) = str::from_utf8(bytes) else {
+        return false;
+    };
+    text.contains("\"payload\": \"Segments Merge: [00000000000000000000000000000001]\"")
+        && text.contains("\"opstamp\": 0")
+        && text.contains("00000000000000000000000000000002")
 }
 
 #[test]
@@ -154,18 +225,9 @@ fn the_output_is_the_work_index_but_for_ids_and_meta(rt: HostRuntime) -> Result<
         SegmentComponent::Positions,
         SegmentComponent::Store,
     ] {
-        let name = FileName::Part(SegmentId::from_u128(1), component);
-        let work = file_of(alloc, &mut streams.work, name).ok_or("work")?;
-        let name = FileName::Part(SegmentId::from_u128(2), component);
-        let output = file_of(alloc, &mut streams.output, name).ok_or("output")?;
-        assert!(rt; !work.as_slice().is_empty());
-        assert_eq!(rt; work.as_slice(), output.as_slice());
+        assert!(rt; are_alike(alloc, &mut streams, component));
     }
     let meta = file_of(alloc, &mut streams.output, FileName::Meta).ok_or("meta")?;
-    let text = str::from_utf8(meta.as_slice()).ok().ok_or("text")?;
-    let payload = "\"payload\": \"Segments Merge: [00000000000000000000000000000001]\"";
-    assert!(rt; text.contains(payload), "{text}");
-    assert!(rt; text.contains("\"opstamp\": 0"), "{text}");
-    assert!(rt; text.contains("00000000000000000000000000000002"), "{text}");
+    assert!(rt; is_merged_meta(meta.as_slice()));
     Ok(())
 }

@@ -31,15 +31,40 @@ pub(crate) fn streams_over(
     at_write: u64,
     at_fault: u64,
 ) -> Result<Streams, AllocError> {
-    let work = directory_with(alloc, Vec::new(alloc), false)?;
-    let output = directory_with(alloc, Vec::new(alloc), false)?;
+    let source = source_of(alloc, script, at_read)?;
+    let (sink, faults) = sinks(alloc, room, at_write, at_fault)?;
+    let (work, output) = directories(alloc)?;
     Ok(Streams {
-        source: MemorySource::new(alloc, script.as_bytes(), vec![in alloc; at_read]?)?,
-        sink: MemorySink::new(alloc, room, vec![in alloc; at_write]?)?,
-        faults: MemorySink::new(alloc, 200, vec![in alloc; at_fault]?)?,
+        source,
+        sink,
+        faults,
         work,
         output,
     })
+}
+
+/// A source of which one call fails.
+fn source_of(alloc: Global, script: &str, fails: u64) -> Result<MemorySource, AllocError> {
+    MemorySource::new(alloc, script.as_bytes(), vec![in alloc; fails]?)
+}
+
+/// The sinks of the text and of the line on its status, of which each fails at one call.
+fn sinks(
+    alloc: Global,
+    room: usize,
+    at_write: u64,
+    at_fault: u64,
+) -> Result<(MemorySink, MemorySink), AllocError> {
+    let sink = MemorySink::new(alloc, room, vec![in alloc; at_write]?)?;
+    let faults = MemorySink::new(alloc, 200, vec![in alloc; at_fault]?)?;
+    Ok((sink, faults))
+}
+
+/// Two directories without files, of which no call fails.
+fn directories(alloc: Global) -> Result<(MemoryDirectory, MemoryDirectory), AllocError> {
+    let work = directory_with(alloc, Vec::new(alloc), false)?;
+    let output = directory_with(alloc, Vec::new(alloc), false)?;
+    Ok((work, output))
 }
 
 /// A directory of which some calls fail, and that may have a file.
