@@ -1,5 +1,5 @@
 //! Term dictionaries that are read from their bytes.
-ghost use Rattle.std.specs.Prelude.{◌≡◌, ◌≤◌, ◌<◌, [], length, map, slice_get, Contains, IfOk, IfErr, IsSomeAnd, MatchBool, MatchOption, MatchResult};
+ghost use Rattle.std.specs.Prelude.{◌≡◌, ◌≤◌, ◌<◌, [], length, map, slice_get, Contains, IfOk, IfErr, IsSomeAnd, OnErr, MatchBool, MatchOption, MatchResult};
 ghost use Rattle.std.specs.Cmp.Lexicographic.{slice_cmp};
 ghost use Rattle.std.specs.List.Sorted.{IsStrictlySortedBy};
 ghost use Rattle.std.specs.Ordering.{nat_cmp};
@@ -104,10 +104,12 @@ impl TermDictionary {
         info_at(info_table(self.bytes.as_slice(), self.count), ord as usize)
     }
 
-    /// Copies the key at a place into `out`, in place of what it held; nothing and `false` where there is no such place.
+    /// Copies the key at a place into `out`, in place of what it held; nothing and `false` where there is no such place,
+    /// and nothing where memory is lacking.
     pub fn ord_to_term(&self, ord: TermOrdinal, out: &mut Vec<u8>) -> Result<bool, TermDictError>
         ensures ok { IfOk result (λ found. MatchBool found (HasKeyAt self.now ord out.new.items) ((length self.now ≤ ord) × (out.new.items ≡ []))) }
         ensures err { IfErr result (λ e. e ≡ TermDictError.OutOfMemory) }
+        ensures cleared { OnErr result (out.new.items ≡ []) }
     {
         out.clear();
         if ord >= self.count as u64 {

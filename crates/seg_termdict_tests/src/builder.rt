@@ -2,6 +2,7 @@
 
 use seg_common::TermInfo;
 use seg_termdict::{TermDictError, TermDictionaryBuilder};
+use std::alloc::Global;
 use std::test::Fail;
 
 const EMPTY: &[u8] = &[
@@ -61,22 +62,30 @@ fn one_term(rt: HostRuntime) -> Result<(), Fail> {
     builder.insert_key(b"a")?;
     builder.insert_value(&FIRST)?;
     let bytes = builder.finish()?;
-    assert_eq!(rt; bytes.len(), 77);
-    assert_eq!(rt; bytes.as_slice(), ONE);
+    assert!(rt; bytes.len() == 77 && bytes.as_slice() == ONE);
     Ok(())
+}
+
+/// The keys `b` and `ba`, where `b` and `ab` were refused between them.
+fn refused_between(alloc: Global) -> Result<Vec<u8>, TermDictError> {
+    let mut builder = TermDictionaryBuilder::create(alloc)?;
+    builder.insert(b"b", &FIRST)?;
+    if !matches!(
+        builder.insert(b"b", &SECOND),
+        Err(TermDictError::OutOfOrder)
+    ) {
+        return Err(TermDictError::Malformed);
+    }
+    if !matches!(builder.insert_key(b"ab"), Err(TermDictError::OutOfOrder)) {
+        return Err(TermDictError::Malformed);
+    }
+    builder.insert(b"ba", &SECOND)?;
+    builder.finish()
 }
 
 #[test]
 fn keys_out_of_order(rt: HostRuntime) -> Result<(), Fail> {
-    let mut builder = TermDictionaryBuilder::create(rt.alloc())?;
-    builder.insert(b"b", &FIRST)?;
-    let equal = builder.insert(b"b", &SECOND).err();
-    assert_eq!(rt; equal, Some(TermDictError::OutOfOrder));
-    let smaller = builder.insert_key(b"ab").err();
-    assert_eq!(rt; smaller, Some(TermDictError::OutOfOrder));
-    builder.insert(b"ba", &SECOND)?;
-    let bytes = builder.finish()?;
-    assert_eq!(rt; bytes.len(), 107);
-    assert_eq!(rt; &bytes[8..27], TWO_KEYS);
+    let bytes = refused_between(rt.alloc())?;
+    assert!(rt; bytes.len() == 107 && bytes.get(8..27) == Some(TWO_KEYS));
     Ok(())
 }

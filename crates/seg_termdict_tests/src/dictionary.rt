@@ -61,18 +61,39 @@ fn refusal(alloc: Global, at: usize) -> Result<Option<TermDictError>, Fail> {
 #[test]
 fn terms_are_found(rt: HostRuntime) -> Result<(), Fail> {
     let dictionary = open(rt.alloc(), TWO)?;
-    assert_eq!(rt; dictionary.num_terms(), 2);
-    assert_eq!(rt; dictionary.term_ord(b"b"), Some(1));
-    assert_eq!(rt; dictionary.term_ord(b"ab"), None);
-    assert_eq!(rt; dictionary.get(b"b"), Some(SECOND));
-    assert_eq!(rt; dictionary.get(b""), None);
-    if dictionary.num_terms() > 1 {
-        assert_eq!(rt; dictionary.term_info_from_ord(1), SECOND);
+    assert!(rt; dictionary.term_ord(b"b") == Some(1) && dictionary.term_ord(b"ab").is_none());
+    assert!(rt; dictionary.get(b"b") == Some(SECOND) && dictionary.get(b"").is_none());
+    Ok(())
+}
+
+#[test]
+fn infos_by_their_places(rt: HostRuntime) -> Result<(), Fail> {
+    let dictionary = open(rt.alloc(), TWO)?;
+    if dictionary.num_terms() == 2 {
+        assert!(rt; dictionary.term_info_from_ord(1) == SECOND);
+        return Ok(());
     }
-    let mut key = Vec::new(rt.alloc());
-    assert!(rt; dictionary.ord_to_term(0, &mut key)?);
-    assert_eq!(rt; key.as_slice(), b"a".as_slice());
-    assert!(rt; !dictionary.ord_to_term(2, &mut key)?);
+    Err(Fail::from("not two terms"))
+}
+
+/// Whether the term at a place has this key; nothing where there is no such term.
+fn has_key_at(
+    alloc: Global,
+    dictionary: &TermDictionary,
+    ord: TermOrdinal,
+    wanted: Option<&[u8]>,
+) -> Result<bool, TermDictError> {
+    let mut key = Vec::new(alloc);
+    let found = dictionary.ord_to_term(ord, &mut key)?;
+    Ok(found == wanted.is_some() && key.as_slice() == wanted.unwrap_or(&[]))
+}
+
+#[test]
+fn keys_by_their_places(rt: HostRuntime) -> Result<(), Fail> {
+    let dictionary = open(rt.alloc(), TWO)?;
+    for (ord, wanted) in [(0, Some(b"a".as_slice())), (1, Some(b"b")), (2, None)] {
+        assert!(rt; has_key_at(rt.alloc(), &dictionary, ord, wanted)?);
+    }
     Ok(())
 }
 

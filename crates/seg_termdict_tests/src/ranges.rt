@@ -5,43 +5,69 @@ use seg_common::TermInfo;
 use seg_termdict::{RangeStreamer, TermDictionary, TermOrdinal};
 use std::test::Fail;
 
-/// Whether a streamer goes on to a term with this key, at this place.
-fn comes_to(stream: &mut RangeStreamer<'_>, key: &[u8], ord: TermOrdinal) -> bool {
-    stream.advance() && stream.key() == key && stream.term_ord() == ord && *stream.value() == INFO
+/// Whether a streamer goes on to just these keys, at these places.
+fn gives(mut stream: RangeStreamer<'_>, terms: &[(&[u8], TermOrdinal)]) -> bool {
+    for (key, ord) in terms {
+        if !stream.advance() || stream.key() != *key || stream.term_ord() != *ord {
+            return false;
+        }
+        if *stream.value() != INFO {
+            return false;
+        }
+    }
+    !stream.advance()
 }
 
 #[test]
 fn nothing_is_in_an_empty_dictionary(rt: HostRuntime) -> Result<(), Fail> {
     let empty = TermDictionary::empty(rt.alloc())?;
-    assert_eq!(rt; empty.num_terms(), 0);
-    assert_eq!(rt; empty.get(b"abba"), None);
-    let mut stream = empty.range(rt.alloc()).into_stream();
-    assert!(rt; !stream.advance());
+    assert!(rt; empty.num_terms() == 0 && empty.get(b"abba").is_none());
+    assert!(rt; gives(empty.range(rt.alloc()).into_stream(), &[]));
     Ok(())
 }
 
 #[test]
 fn all_terms(rt: HostRuntime) -> Result<(), Fail> {
     let words = four_words(rt.alloc())?;
-    let mut stream = words.range(rt.alloc()).into_stream();
-    assert!(rt; stream.key().is_empty());
-    assert_eq!(rt; *stream.value(), TermInfo::default());
-    assert!(rt; comes_to(&mut stream, b"abba", 0));
-    assert!(rt; comes_to(&mut stream, b"bjork", 1));
-    assert!(rt; comes_to(&mut stream, b"blur", 2));
-    assert!(rt; comes_to(&mut stream, b"donovan", 3));
-    assert!(rt; !stream.advance());
-    assert!(rt; stream.key() == b"donovan".as_slice());
+    let wanted: &[(&[u8], TermOrdinal)] = &[
+        (b"abba", 0),
+        (b"bjork", 1),
+        (b"blur", 2),
+        (b"donovan", 3),
+    ];
+    assert!(rt; gives(words.range(rt.alloc()).into_stream(), wanted));
+    Ok(())
+}
+
+#[test]
+fn no_term_before_the_first(rt: HostRuntime) -> Result<(), Fail> {
+    let words = four_words(rt.alloc())?;
+    let stream = words.range(rt.alloc()).into_stream();
+    assert!(rt; stream.key().is_empty() && *stream.value() == TermInfo::default());
+    Ok(())
+}
+
+/// Passes all terms, and whether the streamer then stays at this key, with this place.
+fn ends_at(mut stream: RangeStreamer<'_>, key: &[u8], ord: TermOrdinal) -> bool {
+    for _ in 0..10 {
+        let _ = stream.advance();
+    }
+    stream.key() == key && stream.term_ord() == ord
+}
+
+#[test]
+fn stays_at_the_last_term(rt: HostRuntime) -> Result<(), Fail> {
+    let words = four_words(rt.alloc())?;
+    assert!(rt; ends_at(words.range(rt.alloc()).into_stream(), b"donovan", 3));
+    assert!(rt; ends_at(words.range(rt.alloc()).backward().into_stream(), b"abba", 0));
     Ok(())
 }
 
 #[test]
 fn bounds_that_no_term_has(rt: HostRuntime) -> Result<(), Fail> {
     let words = four_words(rt.alloc())?;
-    let mut stream = words.range(rt.alloc()).ge(b"b")?.lt(b"d")?.into_stream();
-    assert!(rt; comes_to(&mut stream, b"bjork", 1));
-    assert!(rt; comes_to(&mut stream, b"blur", 2));
-    assert!(rt; !stream.advance());
+    let range = words.range(rt.alloc()).ge(b"b")?.lt(b"d")?;
+    assert!(rt; gives(range.into_stream(), &[(b"bjork", 1), (b"blur", 2)]));
     Ok(())
 }
 
@@ -49,33 +75,24 @@ fn bounds_that_no_term_has(rt: HostRuntime) -> Result<(), Fail> {
 fn backward(rt: HostRuntime) -> Result<(), Fail> {
     let words = four_words(rt.alloc())?;
     let range = words.range(rt.alloc()).ge(b"b")?.lt(b"d")?;
-    let mut stream = range.backward().backward().into_stream();
-    assert!(rt; comes_to(&mut stream, b"blur", 2));
-    assert!(rt; comes_to(&mut stream, b"bjork", 1));
-    assert!(rt; !stream.advance());
-    assert_eq!(rt; stream.term_ord(), 1);
+    let range = range.backward().backward();
+    assert!(rt; gives(range.into_stream(), &[(b"blur", 2), (b"bjork", 1)]));
     Ok(())
 }
 
 #[test]
 fn reversed_bounds(rt: HostRuntime) -> Result<(), Fail> {
     let words = four_words(rt.alloc())?;
-    let mut stream = words.range(rt.alloc()).ge(b"d")?.lt(b"b")?.into_stream();
-    assert!(rt; !stream.advance());
-    assert!(rt; stream.key().is_empty());
+    let range = words.range(rt.alloc()).ge(b"d")?.lt(b"b")?;
+    assert!(rt; ends_at(range.into_stream(), b"", 0));
     Ok(())
 }
 
 #[test]
 fn strict_bounds(rt: HostRuntime) -> Result<(), Fail> {
     let words = four_words(rt.alloc())?;
-    let mut stream = words
-        .range(rt.alloc())
-        .gt(b"abba")?
-        .lt(b"blur")?
-        .into_stream();
-    assert!(rt; comes_to(&mut stream, b"bjork", 1));
-    assert!(rt; !stream.advance());
+    let range = words.range(rt.alloc()).gt(b"abba")?.lt(b"blur")?;
+    assert!(rt; gives(range.into_stream(), &[(b"bjork", 1)]));
     Ok(())
 }
 
@@ -83,9 +100,7 @@ fn strict_bounds(rt: HostRuntime) -> Result<(), Fail> {
 fn the_last_bounds_count(rt: HostRuntime) -> Result<(), Fail> {
     let words = four_words(rt.alloc())?;
     let range = words.range(rt.alloc()).gt(b"donovan")?.ge(b"blur")?;
-    let mut stream = range.lt(b"abba")?.le(b"donovan")?.into_stream();
-    assert!(rt; comes_to(&mut stream, b"blur", 2));
-    assert!(rt; comes_to(&mut stream, b"donovan", 3));
-    assert!(rt; !stream.advance());
+    let range = range.lt(b"abba")?.le(b"donovan")?;
+    assert!(rt; gives(range.into_stream(), &[(b"blur", 2), (b"donovan", 3)]));
     Ok(())
 }

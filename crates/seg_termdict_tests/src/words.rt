@@ -99,9 +99,12 @@ fn lacks_place(
 #[test]
 fn there_are_four_places(rt: HostRuntime) -> Result<(), Fail> {
     let words = four_words(rt.alloc())?;
-    assert!(rt; !lacks_place(rt.alloc(), &words, 3)?);
-    assert!(rt; lacks_place(rt.alloc(), &words, 4)?);
-    assert!(rt; lacks_place(rt.alloc(), &words, u64::MAX)?);
+    for (place, is_lacking) in [(3, false), (4, true), (u64::MAX, true)] {
+        assert!(rt;
+            lacks_place(rt.alloc(), &words, place)? == is_lacking,
+            "{place}"
+        );
+    }
     Ok(())
 }
 
