@@ -13,6 +13,7 @@ use Rattle.seg_model.specs.Fields.{Schema, Analyzer}
 use Rattle.seg_model.specs.Occurrences.{occurrences}
 use Rattle.seg_model.specs.Reading.{stored_document}
 use Rattle.seg_model.specs.StoredForm.{stored_form}
+use Rattle.seg_store.specs.BlockLaw.{AreTakenLast}
 use Rattle.seg_store.specs.Writing.{taken_count}
 use Rattle.seg_build.specs.Batch.{kept_norms}
 use Rattle.seg_build.specs.Built.{is_built_schema}
@@ -98,7 +99,7 @@ module _ (schema : Schema) (analyzer : Analyzer) (entries : is_built_schema sche
     store = if_some _ old.store (weaker (Stores schema documents) (λ w. taken_count w < 2 ^ 31 - 1) old.store (λ w s. omega (arith, s.count, few)) are.store);
   }
 
-  module _ (texts : List (ℕ × List Token)) (texts_are : texts ≡ document_texts schema analyzer d) (new : Kept) (took : HasTaken schema d texts stamp old new) where
+  module _ (in_order : AreTakenLast) (texts : List (ℕ × List Token)) (texts_are : texts ≡ document_texts schema analyzer d) (new : Kept) (took : HasTaken schema d texts stamp old new) where
     now : old.fields ≡ with_documents schema analyzer 0 (map (λ _. fresh) schema) (take many all)
     now = are.fields ∙ ap (with_documents schema analyzer 0 (map (λ _. fresh) schema)) (sym before)
 
@@ -109,7 +110,7 @@ module _ (schema : Schema) (analyzer : Analyzer) (entries : is_built_schema sche
     here = drop-front documents d
 
     stored : IsSomeAnd new.store (HasStored schema all (many + 1))
-    stored = stored_turn schema all many d (omega (arith, more)) (get_or-last documents d) (stored_form schema d) old.store new.store took.store refl took.reads
+    stored = stored_turn in_order schema all many d (omega (arith, more)) (get_or-last documents d) (stored_form schema d) old.store new.store took.store refl took.reads
         (weaker (Stores schema documents) (HasStored schema all many) old.store (λ w s. record { read = s.read ∙ ap (map (stored_document schema)) (sym before); taken = s.count; forms = s.forms ∙ ap (map (stored_form schema)) (sym before) }) are.store)
 
     fields_now : new.fields ≡ with_documents schema analyzer 0 (map (λ _. fresh) schema) all
@@ -155,7 +156,7 @@ module _ (schema : Schema) (analyzer : Analyzer) (entries : is_built_schema sche
   pub room_of : IfSome parts (λ p. IsUnderWay schema analyzer (kept_of p)) → HasRoom d (kept_of p)
   room_of h = let u = under h in has_room schema analyzer entries u.documents d taken utf8 u.stamps stamp (kept_of p) u.are place
 
-  module _ (texts : List (ℕ × List Token)) (texts_are : texts ≡ document_texts schema analyzer d) (new : WriterParts) (took : HasTaken schema d texts stamp (kept_of p) (kept_of new)) where
+  module _ (in_order : AreTakenLast) (texts : List (ℕ × List Token)) (texts_are : texts ≡ document_texts schema analyzer d) (new : WriterParts) (took : HasTaken schema d texts stamp (kept_of p) (kept_of new)) where
     -- is under way behind it
     pub still_under_way : IfSome parts (λ p. IsUnderWay schema analyzer (kept_of p)) → IsUnderWay schema analyzer (kept_of new)
     still_under_way h =
@@ -163,7 +164,7 @@ module _ (schema : Schema) (analyzer : Analyzer) (entries : is_built_schema sche
         record {
           documents = u.documents ++ d ∷ [];
           stamps = u.stamps ++ stamp ∷ [];
-          are = one_more schema analyzer entries u.documents d taken utf8 u.stamps stamp (kept_of p) u.are place texts texts_are (kept_of new) took;
+          are = one_more schema analyzer entries u.documents d taken utf8 u.stamps stamp (kept_of p) u.are place in_order texts texts_are (kept_of new) took;
         }
 
     -- and has added it
@@ -171,5 +172,5 @@ module _ (schema : Schema) (analyzer : Analyzer) (entries : is_built_schema sche
     adds id = record {
       place = to_parts HasPlace parts p is place;
       taken = taken;
-      behind = λ documents stamps h. one_more schema analyzer entries documents d taken utf8 stamps stamp (kept_of p) (of_parts (IsKeptOf schema analyzer documents stamps) parts p is h) place texts texts_are (kept_of new) took;
+      behind = λ documents stamps h. one_more schema analyzer entries documents d taken utf8 stamps stamp (kept_of p) (of_parts (IsKeptOf schema analyzer documents stamps) parts p is h) place in_order texts texts_are (kept_of new) took;
     }

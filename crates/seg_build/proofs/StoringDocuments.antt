@@ -12,12 +12,11 @@ use Rattle.seg_model.specs.Fields.{Schema}
 use Rattle.seg_model.specs.Reading.{stored_document}
 use Rattle.seg_model.specs.StoredForm.{stored_form}
 use Rattle.seg_store.specs.Block.{Block}
-use Rattle.seg_store.specs.BlockLaw.{all_documents}
+use Rattle.seg_store.specs.BlockLaw.{all_documents, AreTakenLast}
 use Rattle.seg_store.specs.Store.{documents_of}
 use Rattle.seg_store.specs.StoredDocument.{stored_document_of, most_levels_read}
 use Rattle.seg_store.specs.StoredLaw.{AreShallow}
 use Rattle.seg_store.specs.Writing.{Taken, with_document, all_blocks, taken_count}
-use Rattle.seg_store.proofs.TakenLast.{are_taken_last}
 use Rattle.seg_build.proofs.BuiltEntries.{both_true}
 
 low_enough : (n : ℕ) → nat_le n 200 ≡ true → n ≤ most_levels_read
@@ -45,7 +44,7 @@ pub record HasStored (schema : Schema) (documents : List Document) (count : ℕ)
   pub taken : taken_count w ≡ count
   pub forms : all_documents w ≡ map (stored_form schema) (take count documents)
 
-module _ (schema : Schema) (documents : List Document) (i : ℕ) (document : Document) (lt : i < length documents) (is : document ≡ get_or documents i document) where
+module _ (in_order : AreTakenLast) (schema : Schema) (documents : List Document) (i : ℕ) (document : Document) (lt : i < length documents) (is : document ≡ get_or documents i document) where
   more_of : {A : Type 0} (f : Document → A) → map f (take (i + 1) documents) ≡ map f (take i documents) ++ f document ∷ []
   more_of f = ap (map f) ((take_at_read documents i document lt).1 ∙ ap (λ d. take i documents ++ d ∷ []) (sym is)) ∙ map-append f (take i documents) (document ∷ [])
 
@@ -55,13 +54,13 @@ module _ (schema : Schema) (documents : List Document) (i : ℕ) (document : Doc
   taken_more : (form : List ℕ) (w : Taken) → form ≡ stored_form schema document → stored_document_of form ≡ Some (stored_document schema document) → HasStored schema documents i w → HasStored schema documents (i + 1) (with_document form w)
   taken_more form w formed reads so = record {
     read =
-        read_in_order (all_blocks (with_document form w)) ∙ ap (flat_map reading) (are_taken_last form w).order
+        read_in_order (all_blocks (with_document form w)) ∙ ap (flat_map reading) (in_order form w).order
         ∙ flat_map-append reading (all_documents w) (form ∷ [])
         ∙ (λ j. sym (read_in_order (all_blocks w)) j ++ (option_to_list (reads j) ++ []))
         ∙ ap (λ ds. ds ++ stored_document schema document ∷ []) so.read
         ∙ sym one_more;
-    taken = (are_taken_last form w).count ∙ ap (λ n. n + 1) so.taken;
-    forms = (are_taken_last form w).order ∙ ap (λ fs. fs ++ form ∷ []) so.forms ∙ ap (λ f. map (stored_form schema) (take i documents) ++ f ∷ []) formed ∙ sym (more_of (stored_form schema));
+    taken = (in_order form w).count ∙ ap (λ n. n + 1) so.taken;
+    forms = (in_order form w).order ∙ ap (λ fs. fs ++ form ∷ []) so.forms ∙ ap (λ f. map (stored_form schema) (take i documents) ++ f ∷ []) formed ∙ sym (more_of (stored_form schema));
   }
 
   -- and is then stored

@@ -24,6 +24,7 @@ use crate::writer_start::start_refusal;
 use seg_common::{FileName, SegmentComponent};
 use seg_directory::Directory;
 use seg_meta::{IndexSettings, Segment};
+use seg_store::documents_stay_in_order;
 use seg_values::{Analyzers, ArgumentCause, TResult, TantivyDocument, TantivyError};
 use std::alloc::{AllocError, Global};
 use std::marker::Model;
@@ -166,6 +167,7 @@ impl<'a, Z: Analyzers> SegmentWriter<'a, Z> {
             return Err(TantivyError::InvalidArgument(ArgumentCause::Documents));
         }
         document.texts_are_utf8();
+        documents_stay_in_order();
         let alloc = self.alloc;
         let schema = self.segment.schema();
         match checked_texts(alloc, self.analyzers, schema, document, &mut self.reached) {

@@ -8,11 +8,10 @@ use Rattle.std.proofs.lemmas.List.Concat.{flat_map-append}
 use Rattle.seg_common.specs.Growing.{HasGrown}
 use Rattle.seg_values.specs.Tree.{Document}
 use Rattle.seg_model.specs.Operations.{kept}
-use Rattle.seg_store.specs.BlockLaw.{all_documents}
+use Rattle.seg_store.specs.BlockLaw.{all_documents, AreTakenLast}
 use Rattle.seg_store.specs.Store.{documents_of}
 use Rattle.seg_store.specs.StoredDocument.{stored_document_of}
 use Rattle.seg_store.specs.Writing.{Taken, with_document, all_blocks, taken_count}
-use Rattle.seg_store.proofs.TakenLast.{are_taken_last}
 use Rattle.seg_join.specs.KeptSegment.{KeptSegment}
 use Rattle.seg_join.specs.JoinedStore.{kept_bytes, joined_bytes, joined_documents, with_documents, taken_documents}
 use Rattle.seg_join.proofs.KeptLists.{kept_next, kept_marked, kept_unmarked, marked_counted}
@@ -23,15 +22,15 @@ pub with_more : (ds es : List (List ℕ)) (w : Taken) → with_documents (ds ++ 
 with_more [] es w = refl
 with_more (d ∷ ds) es w = with_more ds es (with_document d w)
 
-with_counted : (ds : List (List ℕ)) (w : Taken) → taken_count (with_documents ds w) ≡ taken_count w + length ds
-with_counted [] w = omega arith
-with_counted (d ∷ ds) w = with_counted ds (with_document d w) ∙ (let one = (are_taken_last d w).count in omega (arith, one))
+with_counted : AreTakenLast → (ds : List (List ℕ)) (w : Taken) → taken_count (with_documents ds w) ≡ taken_count w + length ds
+with_counted in_order [] w = omega arith
+with_counted in_order (d ∷ ds) w = with_counted in_order ds (with_document d w) ∙ (let one = (in_order d w).count in omega (arith, one))
 
-with_in_order : (ds : List (List ℕ)) (w : Taken) → all_documents (with_documents ds w) ≡ all_documents w ++ ds
-with_in_order [] w = sym (append-nil (all_documents w))
-with_in_order (d ∷ ds) w =
-    with_in_order ds (with_document d w)
-    ∙ ap (λ xs. xs ++ ds) (are_taken_last d w).order
+with_in_order : AreTakenLast → (ds : List (List ℕ)) (w : Taken) → all_documents (with_documents ds w) ≡ all_documents w ++ ds
+with_in_order in_order [] w = sym (append-nil (all_documents w))
+with_in_order in_order (d ∷ ds) w =
+    with_in_order in_order ds (with_document d w)
+    ∙ ap (λ xs. xs ++ ds) (in_order d w).order
     ∙ append_assoc (all_documents w) (d ∷ []) ds
 
 -- a writer that takes documents has then taken some, and others are left
@@ -42,11 +41,11 @@ left_taken ds es all (Some w) now split is =
     ∙ ap Some (sym (with_more ds es w) ∙ ap (λ xs. with_documents xs w) (sym split))
 
 -- and its count still leaves room
-pub room_left : (n rest all : ℕ) (ds : List (List ℕ)) (before now : Option Taken) → length ds + rest ≡ all → now ≡ option_map (with_documents ds) before
+pub room_left : AreTakenLast → (n rest all : ℕ) (ds : List (List ℕ)) (before now : Option Taken) → length ds + rest ≡ all → now ≡ option_map (with_documents ds) before
     → IfSome before (λ w. taken_count w + all < n) → IfSome now (λ w. taken_count w + rest < n)
-room_left n rest all ds None now many is room = subst (λ o. IfSome o (λ w. taken_count w + rest < n)) (sym is) tt
-room_left n rest all ds (Some w) now many is room =
-    let counted = with_counted ds w in
+room_left in_order n rest all ds None now many is room = subst (λ o. IfSome o (λ w. taken_count w + rest < n)) (sym is) tt
+room_left in_order n rest all ds (Some w) now many is room =
+    let counted = with_counted in_order ds w in
     let fits : taken_count (with_documents ds w) + rest < n = omega (arith, counted, many, room) in
     subst (λ o. IfSome o (λ w. taken_count w + rest < n)) (sym is) fits
 
@@ -109,14 +108,14 @@ both_read bs cs ds es first second =
     ∙ sym (map-append Some ds es)
 
 -- what a writer has taken, with documents more
-pub taken_read : (bytes : List (List ℕ)) (ds : List Document) (before now : Option Taken) → map stored_document_of bytes ≡ map Some ds → now ≡ option_map (with_documents bytes) before
+pub taken_read : AreTakenLast → (bytes : List (List ℕ)) (ds : List Document) (before now : Option Taken) → map stored_document_of bytes ≡ map Some ds → now ≡ option_map (with_documents bytes) before
     → option_map taken_documents now ≡ option_map (λ w. taken_documents w ++ ds) before
-taken_read bytes ds None now reads is = ap (option_map taken_documents) is
-taken_read bytes ds (Some w) now reads is =
+taken_read in_order bytes ds None now reads is = ap (option_map taken_documents) is
+taken_read in_order bytes ds (Some w) now reads is =
     ap (option_map taken_documents) is
     ∙ ap Some (
     documents_are_read (all_blocks (with_documents bytes w))
-    ∙ ap read_all (with_in_order bytes w)
+    ∙ ap read_all (with_in_order in_order bytes w)
     ∙ flat_map-append (λ (d : List ℕ). option_to_list (stored_document_of d)) (all_documents w) bytes
     ∙ ap (λ xs. read_all (all_documents w) ++ xs) (read_as bytes ds reads)
     ∙ ap (λ xs. xs ++ ds) (sym (documents_are_read (all_blocks w))))

@@ -7,7 +7,7 @@ ghost use Rattle.seg_store.specs.Writing.{taken_count};
 ghost use Rattle.seg_join.specs.JoinedStore.{joined_bytes, joined_documents, kept_bytes, taken_documents, with_documents};
 
 use crate::merge_part::MergePart;
-use seg_store::{StoreError, StoreWriter};
+use seg_store::{StoreError, StoreWriter, documents_stay_in_order};
 
 /// Adds the kept documents of segments, one segment after another. Their stored bytes are copied, and nothing is decoded.
 pub fn join_stores(parts: &[MergePart<'_>], writer: &mut StoreWriter) -> Result<(), StoreError>
@@ -17,6 +17,7 @@ pub fn join_stores(parts: &[MergePart<'_>], writer: &mut StoreWriter) -> Result<
     ensures documents { OnOk result (option_map taken_documents writer.new ≡ option_map (λ w. taken_documents w ++ joined_documents parts.now) writer.old) }
     ensures err { IfErr result (λ e. (e ≡ StoreError.OutOfMemory) × (writer.new ≡ None)) }
 {
+    documents_stay_in_order();
     for part in parts {
         add_part(part, writer)?;
     }
@@ -30,6 +31,7 @@ fn add_part(part: &MergePart<'_>, writer: &mut StoreWriter) -> Result<(), StoreE
     ensures reads { OnOk result (map stored_document_of (kept_bytes part.now) ≡ map Some (kept part.now.alive (documents_of part.now.segment.blocks))) }
     ensures err { IfErr result (λ e. (e ≡ StoreError.OutOfMemory) × (writer.new ≡ None)) }
 {
+    documents_stay_in_order();
     let count = stored_count(part);
     for doc in 0..count {
         add_document(part, doc, writer)?;

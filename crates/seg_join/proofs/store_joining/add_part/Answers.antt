@@ -36,7 +36,7 @@ loop-doc-preserved c =
     let split = kept_next part.alive raw i in
     record {
       added = left_taken here rest all c.loop-doc.writer c.add_document.new.writer split c.in_ok-add_document.ensures.ok ∙ c.loop-doc.invariant.added;
-      room = room_left 2147483648 (length rest) (length all) here c.loop-doc.writer c.add_document.new.writer (sym (ap length split ∙ length-append here rest)) c.in_ok-add_document.ensures.ok c.loop-doc.invariant.room;
+      room = room_left c.documents_stay_in_order.ensures 2147483648 (length rest) (length all) here c.loop-doc.writer c.add_document.new.writer (sym (ap length split ∙ length-append here rest)) c.in_ok-add_document.ensures.ok c.loop-doc.invariant.room;
     }
 
 pub returns-clause-ok : goal.returns-clause-ok

@@ -32,7 +32,7 @@ loop-part-preserved c =
     let many = as_many bytes first c.in_ok-add_part.ensures.reads in
     record {
       added = left_taken bytes (joined_bytes (drop (i + 1) parts)) (joined_bytes (drop i parts)) c.loop-part.writer c.add_part.new.writer cut c.in_ok-add_part.ensures.ok ∙ c.loop-part.invariant.added;
-      room = room_left 2147483648 (length rest) (length (joined_documents (drop i parts))) bytes c.loop-part.writer c.add_part.new.writer
+      room = room_left c.documents_stay_in_order.ensures 2147483648 (length rest) (length (joined_documents (drop i parts))) bytes c.loop-part.writer c.add_part.new.writer
           (ap (λ n. n + length rest) many ∙ sym (ap length split ∙ length-append first rest)) c.in_ok-add_part.ensures.ok c.loop-part.invariant.room;
       reads = λ h. c.loop-part.invariant.reads (ap (map stored_document_of) cut ∙ both_read bytes (joined_bytes (drop (i + 1) parts)) first rest c.in_ok-add_part.ensures.reads h ∙ sym (ap (map Some) split));
     }
@@ -48,4 +48,4 @@ returns-clause-reads c =
     c.loop-part.invariant.reads (ap (λ ps. map stored_document_of (joined_bytes ps)) none ∙ sym (ap (λ ps. map Some (joined_documents ps)) none))
 
 pub returns-clause-documents : goal.returns-clause-documents
-returns-clause-documents c = taken_read (joined_bytes c.args.parts.now) (joined_documents c.args.parts.now) c.args.writer.now c.loop-part.writer (returns-clause-reads c) (returns-clause-ok c)
+returns-clause-documents c = taken_read c.documents_stay_in_order.ensures (joined_bytes c.args.parts.now) (joined_documents c.args.parts.now) c.args.writer.now c.loop-part.writer (returns-clause-reads c) (returns-clause-ok c)

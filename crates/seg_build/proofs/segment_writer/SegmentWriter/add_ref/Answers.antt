@@ -28,7 +28,7 @@ invariant_of-self-in-Ok g c =
     let found : map (text_in d) c.in-Ok-Some.texts.items ≡ document_texts c.schema-schema.result.now F d = subst (λ o. IfSome o (λ (ts : Vec FieldText Global). map (text_in d) ts.items ≡ document_texts c.schema-schema.result.now F d)) c.in-Ok-Some.field-0-is c.in-Ok-Some.ensures.texts in
     let are : texts ≡ document_texts schema F d = ap (map (text_in d)) c.deref.ensures.value ∙ found ∙ ap (λ s. document_texts s F d) c.schema-schema.ensures in
     let took : HasTaken schema d texts c.args.opstamp (kept_of c.in-Some.parts) (kept_of c.in-Ok.parts) = subst (λ s. HasTaken s d texts c.args.opstamp (kept_of c.in-Some.parts) (kept_of c.in-Ok.parts)) c.schema-schema.ensures c.in-Ok.ensures in
-    (c.self.invariant.0, c.self.invariant.1, still_under_way schema F c.self.invariant.0 d taken c.texts_are_utf8.ensures c.args.opstamp c.self.inside.parts c.in-Some.parts (sym c.take.ensures.value ∙ c.in-Some.is) place texts are c.in-Ok.parts took c.self.invariant.2)
+    (c.self.invariant.0, c.self.invariant.1, still_under_way schema F c.self.invariant.0 d taken c.texts_are_utf8.ensures c.args.opstamp c.self.inside.parts c.in-Some.parts (sym c.take.ensures.value ∙ c.in-Some.is) place c.documents_stay_in_order.ensures texts are c.in-Ok.parts took c.self.invariant.2)
 
 pub returns-in-Ok-clause-ok : goal.returns-in-Ok-clause-ok
 returns-in-Ok-clause-ok g c =
@@ -42,4 +42,4 @@ returns-in-Ok-clause-ok g c =
     let are : texts ≡ document_texts schema F d = ap (map (text_in d)) c.deref.ensures.value ∙ found ∙ ap (λ s. document_texts s F d) c.schema-schema.ensures in
     let took : HasTaken schema d texts c.args.opstamp (kept_of c.in-Some.parts) (kept_of c.in-Ok.parts) = subst (λ s. HasTaken s d texts c.args.opstamp (kept_of c.in-Some.parts) (kept_of c.in-Ok.parts)) c.schema-schema.ensures c.in-Ok.ensures in
     subst (λ v. Adds (g.Z.Analyzers.tokens_of v.0) d c.args.opstamp v.1 (record { schema = schema; id = c.self.inside.segment.meta.id; kept = Some (kept_of c.in-Ok.parts) })) c.self.view_is
-    (adds schema F c.self.invariant.0 d taken c.texts_are_utf8.ensures c.args.opstamp c.self.inside.parts c.in-Some.parts (sym c.take.ensures.value ∙ c.in-Some.is) place texts are c.in-Ok.parts took c.self.inside.segment.meta.id)
+    (adds schema F c.self.invariant.0 d taken c.texts_are_utf8.ensures c.args.opstamp c.self.inside.parts c.in-Some.parts (sym c.take.ensures.value ∙ c.in-Some.is) place c.documents_stay_in_order.ensures texts are c.in-Ok.parts took c.self.inside.segment.meta.id)
