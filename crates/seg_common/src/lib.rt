@@ -23,8 +23,6 @@ mod segment_id;
 mod sink;
 mod source;
 mod term_info;
-#[cfg(test)]
-mod tests;
 mod varint;
 mod writer_sink;
 

@@ -10,9 +10,6 @@ use std::alloc::{AllocError, Global};
 use std::fmt::{self, Debug, Formatter, Write};
 use std::marker::Model;
 
-#[cfg(test)]
-mod tests;
-
 /// Immutable bytes. A copy or a part takes no memory.
 #[derive(Drop)]
 pub struct OwnedBytes {

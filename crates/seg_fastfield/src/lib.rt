@@ -14,8 +14,6 @@ mod intersect;
 mod laws;
 mod look_up;
 mod read_only_bit_set;
-#[cfg(test)]
-mod tests;
 mod words;
 mod write;
 

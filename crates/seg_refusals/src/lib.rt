@@ -11,7 +11,5 @@ mod checking;
 mod deletes;
 mod filters;
 mod ids;
-#[cfg(test)]
-mod tests;
 
 pub use checking::check_input;

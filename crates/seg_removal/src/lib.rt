@@ -4,7 +4,5 @@
 #![tactic(auto)]
 
 mod laws;
-#[cfg(test)]
-mod tests;
 
 pub use laws::{alive_by_postings, alive_by_stamps, deletes_clear_in_turn, postings_tell_terms};

@@ -18,8 +18,6 @@ mod posting;
 mod pre_tokenized;
 mod quoted;
 mod term;
-#[cfg(test)]
-mod tests;
 mod value;
 
 pub use document::push_document;

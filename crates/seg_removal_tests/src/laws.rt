@@ -1,5 +1,5 @@
 //! Each law called once.
-use crate::{alive_by_postings, alive_by_stamps, deletes_clear_in_turn, postings_tell_terms};
+use seg_removal::{alive_by_postings, alive_by_stamps, deletes_clear_in_turn, postings_tell_terms};
 
 #[test]
 fn laws_can_be_called() {

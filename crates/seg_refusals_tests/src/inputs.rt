@@ -2,11 +2,11 @@
 ghost use Rattle.std.specs.Prelude.{◌≡◌, IfOk};
 ghost use Rattle.seg_values.specs.declared.schema.FieldKind.TheVariants.{Text as text_kind};
 
-use crate::check_input;
 use seg_build::UserOperation;
 use seg_common::{CommonError, DateTimePrecision, MemorySink, OwnedBytes, SegmentId};
 use seg_fastfield::{AliveBitSet, BitSet, write_alive_bitset};
 use seg_meta::{Compressor, IndexSettings};
+use seg_refusals::check_input;
 use seg_values::{
     ArgumentCause, DefaultTokenizer, Field, FieldEntry, FieldKind, IndexOption, Schema,
     SchemaBuilder, SchemaCause, TResult, TantivyDocument, TantivyError, Term, Text,

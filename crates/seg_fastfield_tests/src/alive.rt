@@ -1,7 +1,9 @@
 //! Alive sets, against bytes that were worked out by hand.
 
-use crate::{AliveBitSet, BitSet, ReadOnlyBitSet, intersect_alive_bitsets, write_alive_bitset};
 use seg_common::{ByteCount, CommonError, MemorySink, OwnedBytes};
+use seg_fastfield::{
+    AliveBitSet, BitSet, ReadOnlyBitSet, intersect_alive_bitsets, write_alive_bitset,
+};
 use std::alloc::Global;
 use std::test::Fail;
 

@@ -1,8 +1,8 @@
 //! Each call once, against texts written by hand.
 
-use crate::{RecordedRef, push_dead, push_field, push_header, push_posting, push_term};
 use seg_common::{OwnedBytes, SegmentId};
 use seg_fastfield::AliveBitSet;
+use seg_text::{RecordedRef, push_dead, push_field, push_header, push_posting, push_term};
 use std::test::Fail;
 
 #[test]

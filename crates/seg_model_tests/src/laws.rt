@@ -1,5 +1,5 @@
 //! Each law called once, the generic ones at a type: infos and names as numbers.
-use crate::{
+use seg_model::{
     alive_sets_meet, batches_play_no_part, columns_are_known_by_their_answers,
     contents_grow_by_documents, full_readings_have_the_reading, images_of_a_disk,
     joining_is_invisible, joins_group_in_order, joins_have_full_shape,
