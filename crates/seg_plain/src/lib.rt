@@ -59,6 +59,7 @@ pub use length::{field_norms, length_id, length_of_id};
 pub use occurrence::Occurrences;
 pub use operation::{Operation, TermKey, alive_after};
 pub use part_column::ColumnsPart;
+pub use path::{PlacedLeaf, joined_path, push_leaves};
 pub use posting::{Posting, Postings, Recorded};
 pub use stored::{StoredPair, StoredValue, stored_document};
 pub use survivor::survivors;

@@ -10,14 +10,14 @@ use std::alloc::{AllocError, Global};
 
 /// A leaf: the keys above it, its level below the first object, and the leaf itself.
 #[derive(Drop)]
-pub(crate) struct PlacedLeaf<'a> {
+pub struct PlacedLeaf<'a> {
     pub keys: Vec<Text>,
     pub level: u64,
     pub leaf: &'a OwnedValue,
 }
 
 /// Adds the leaves of a value below some keys, from left to right.
-pub(crate) fn push_leaves<'a>(
+pub fn push_leaves<'a>(
     out: &mut Vec<PlacedLeaf<'a>>,
     alloc: Global,
     keys: &[Text],
@@ -54,11 +54,7 @@ pub(crate) fn push_leaves<'a>(
 }
 
 /// The keys from the root with a byte 1 between each two, and for each dot too where dots are expanded.
-pub(crate) fn joined_path(
-    alloc: Global,
-    expand_dots: bool,
-    keys: &[Text],
-) -> Result<Vec<u8>, AllocError>
+pub fn joined_path(alloc: Global, expand_dots: bool, keys: &[Text]) -> Result<Vec<u8>, AllocError>
     ensures { IfOk result (λ path. path.items ≡ leaves.joined_path expand_dots keys.now) }
 {
     let path = joined(alloc, keys)?;

@@ -2,7 +2,6 @@ pub mod Builds
 pub mod EstimateParts
 pub mod Images
 pub mod Inputs
-pub mod Leaf
 pub mod Merged
 pub mod Pairs
 pub mod Parts

@@ -1,7 +1,7 @@
 //! The leaves and keys of JSON fields.
 ghost use Rattle.std.specs.Prelude.{◌≡◌};
 ghost use Rattle.seg_model.specs.Checked as checked;
-ghost use Rattle.seg_plain_checks.specs.Leaf.{leaf_in};
+ghost use Rattle.seg_plain.specs.Leaf.{leaf_in};
 ghost use Rattle.seg_plain_checks.specs.Refusals.{told};
 ghost use Rattle.seg_values.specs.View.{tree_of};
 

@@ -3,12 +3,11 @@
 //! Each public function returns what a definition of `seg_model` says of its arguments, and contracts see its results
 //! as that definition's own values. Counts are `u64`, and one that passes `u64` is answered as memory that is lacking.
 //!
-//! To be read in this order: `pair`, `entry`, `path` (the leaves of a value); `stored_bytes` (the stored form). The
-//! check of a document: `refusal`; `takes` (the first pass), `json_check` (the second), `counted`, `texts` and
-//! `position_check` (the third), `limits` (the fourth), and `document`. The check of an input: `index_input`, `part` and
-//! `input_check`; with its documents and columns: `build_check`. The estimate of tokens after a merge: `token_estimate`.
-//! Ordinals and ranges of terms: `term_list`; the terms of segments merged: `merged`. What a crash may leave of a disk:
-//! `image`.
+//! To be read in this order: `pair`, `entry`; `stored_bytes` (the stored form). The check of a document: `refusal`; `takes`
+//! (the first pass), `json_check` (the second), `counted`, `texts` and `position_check` (the third), `limits` (the fourth),
+//! and `document`. The check of an input: `index_input`, `part` and `input_check`; with its documents and columns:
+//! `build_check`. The estimate of tokens after a merge: `token_estimate`. Ordinals and ranges of terms: `term_list`; the
+//! terms of segments merged: `merged`. What a crash may leave of a disk: `image`.
 #![tactic(auto)]
 
 mod build_check;
@@ -23,7 +22,6 @@ mod limits;
 mod merged;
 mod pair;
 mod part;
-mod path;
 mod position_check;
 mod refusal;
 mod stored_bytes;

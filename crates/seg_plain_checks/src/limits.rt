@@ -4,7 +4,7 @@ ghost use Rattle.std.specs.List.{flat_map, list_all, AllByRecursion};
 ghost use Rattle.seg_model.specs.Checked as checked;
 ghost use Rattle.seg_model.specs.Fields as fields;
 ghost use Rattle.seg_model.specs.Leaves as leaves;
-ghost use Rattle.seg_plain_checks.specs.Leaf.{placed_leaf};
+ghost use Rattle.seg_plain.specs.Leaf.{placed_leaf};
 ghost use Rattle.seg_plain_checks.specs.Pairs.{pair_of, trees_of};
 ghost use Rattle.seg_values.specs.Tree.{levels};
 ghost use Rattle.seg_values.specs.View.{tree_of};
@@ -12,8 +12,8 @@ ghost use Rattle.seg_values.specs.View.{tree_of};
 use crate::counted::{count_of, start_after_all};
 use crate::entry::is_indexed;
 use crate::pair::{Pair, values_of};
-use crate::path::{PlacedLeaf, joined_path, push_leaves};
 use crate::texts::{push_texts, texts_at};
+use seg_plain::{PlacedLeaf, joined_path, push_leaves};
 use seg_values::{Analyzers, FieldEntry, FieldKind, OwnedValue, Schema, Tokens};
 use std::alloc::{AllocError, Global};
 

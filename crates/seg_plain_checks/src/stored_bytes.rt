@@ -4,7 +4,7 @@ ghost use Rattle.std.specs.Int.{w64, to_le_bytes};
 ghost use Rattle.seg_common.specs.Varint.{varint};
 ghost use Rattle.seg_model.specs.StoredForm as stored;
 ghost use Rattle.seg_plain.specs.StoredPairs.{stored_pair};
-ghost use Rattle.seg_plain_checks.specs.Leaf.{leaf_in};
+ghost use Rattle.seg_plain.specs.Leaf.{leaf_in};
 ghost use Rattle.seg_values.specs.Tree.{pre_tokenized};
 ghost use Rattle.seg_values.specs.View.{tree_of};
 

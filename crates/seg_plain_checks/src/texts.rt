@@ -5,11 +5,11 @@ ghost use Rattle.seg_model.specs.Checked as checked;
 ghost use Rattle.seg_model.specs.Fields as fields;
 ghost use Rattle.seg_model.specs.Leaves as leaves;
 ghost use Rattle.seg_model.specs.Occurrences as occurrences;
-ghost use Rattle.seg_plain_checks.specs.Leaf.{leaf_in, placed_leaf};
+ghost use Rattle.seg_plain.specs.Leaf.{leaf_in, placed_leaf};
 ghost use Rattle.seg_values.specs.View.{tree_of};
 
 use crate::entry::indexing_tokenizer;
-use crate::path::{PlacedLeaf, joined_path, push_leaves};
+use seg_plain::{PlacedLeaf, joined_path, push_leaves};
 use seg_values::{Analyzers, FieldEntry, FieldKind, OwnedValue, Text, Token, Tokens};
 use std::alloc::{AllocError, Global};
 

@@ -8,6 +8,8 @@ mod fast;
 #[cfg(test)]
 mod join;
 #[cfg(test)]
+mod path;
+#[cfg(test)]
 mod stored;
 #[cfg(test)]
 mod survivor;

@@ -1,6 +1,6 @@
 use Rattle.std.proofs.Common.{◌≡◌, ◌++◌, map, drop}
 use Rattle.seg_model.specs.Leaves.{leaves_of}
-use Rattle.seg_plain_checks.specs.Leaf.{placed_leaf}
+use Rattle.seg_plain.specs.Leaf.{placed_leaf}
 use Rattle.seg_plain_checks.specs.Pairs.{trees_of}
 use Rattle.seg_plain_checks.proofs.limits.all_leaves.Given as goal
 

@@ -1,6 +1,6 @@
 use Rattle.std.proofs.Common.{◌≡◌, ◌≤◌, ◌+◌, length, map, drop}
 use Rattle.seg_model.specs.Checked.{leaves_with_path}
-use Rattle.seg_plain_checks.specs.Leaf.{placed_leaf}
+use Rattle.seg_plain.specs.Leaf.{placed_leaf}
 use Rattle.seg_plain_checks.proofs.limits.leaves_fit.Given as goal
 
 -- what is so far, with what is left, is all

@@ -3,7 +3,7 @@ use Rattle.std.specs.List.{list_all}
 use Rattle.seg_model.specs.Checked.{path_fits}
 use Rattle.seg_model.specs.Fields.{indexing_tokenizer}
 use Rattle.seg_model.specs.Leaves.{PlacedLeaf, joined_path}
-use Rattle.seg_plain_checks.specs.Leaf.{placed_leaf}
+use Rattle.seg_plain.specs.Leaf.{placed_leaf}
 use Rattle.seg_plain_checks.proofs.limits.paths_fit.Given as goal
 
 -- what is left decides

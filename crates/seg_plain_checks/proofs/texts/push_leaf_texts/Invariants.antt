@@ -2,7 +2,7 @@ use Rattle.std.proofs.Common.{◌≡◌, ◌++◌, map, drop}
 use Rattle.std.specs.List.{flat_map}
 use Rattle.seg_model.specs.Leaves.{PlacedLeaf}
 use Rattle.seg_model.specs.Occurrences.{leaf_text}
-use Rattle.seg_plain_checks.specs.Leaf.{placed_leaf}
+use Rattle.seg_plain.specs.Leaf.{placed_leaf}
 use Rattle.seg_plain_checks.proofs.texts.push_leaf_texts.Given as goal
 
 -- what is so far, with what is left, is all

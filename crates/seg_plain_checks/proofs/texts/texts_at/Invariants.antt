@@ -1,7 +1,7 @@
 use Rattle.std.proofs.Common.{◌≡◌, ◌++◌, map, drop}
 use Rattle.seg_model.specs.Fields.{indexing_tokenizer}
 use Rattle.seg_model.specs.Occurrences.{texts_at}
-use Rattle.seg_plain_checks.specs.Leaf.{placed_leaf}
+use Rattle.seg_plain.specs.Leaf.{placed_leaf}
 use Rattle.seg_plain_checks.proofs.texts.texts_at.Given as goal
 
 -- what is so far, with what is left, is all
