@@ -2,6 +2,8 @@
 #![tactic(auto)]
 
 #[cfg(test)]
+mod laws;
+#[cfg(test)]
 mod segment_files;
 #[cfg(test)]
 mod segment_writer;

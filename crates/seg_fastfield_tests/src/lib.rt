@@ -3,3 +3,5 @@
 
 #[cfg(test)]
 mod alive;
+#[cfg(test)]
+mod laws;

@@ -6,6 +6,8 @@ mod caching;
 #[cfg(test)]
 mod damage;
 #[cfg(test)]
+mod laws;
+#[cfg(test)]
 mod raw_documents;
 #[cfg(test)]
 mod read_back;
