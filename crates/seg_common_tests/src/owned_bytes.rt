@@ -29,7 +29,14 @@ fn copy(alloc: Global) -> Result<OwnedBytes, CommonError> {
 fn copies_outlive_the_whole(rt: HostRuntime) -> Result<(), Fail> {
     let copy = copy(rt.alloc())?;
     assert!(rt; copy.len() == 13 && copy.as_slice() == b"segment.store".as_slice());
-    assert!(rt; copy.clone()?.slice(0, 0).is_empty());
+    assert!(rt; copy.clone()?.as_slice() == b"segment.store".as_slice());
+    Ok(())
+}
+
+#[test]
+fn nothing_is_at_the_end(rt: HostRuntime) -> Result<(), Fail> {
+    let whole = OwnedBytes::new(rt.alloc(), b"segment.store")?;
+    assert!(rt; whole.slice(13, 13).is_empty());
     Ok(())
 }
 

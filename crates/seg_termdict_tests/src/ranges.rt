@@ -47,19 +47,28 @@ fn no_term_before_the_first(rt: HostRuntime) -> Result<(), Fail> {
     Ok(())
 }
 
-/// Passes all terms, and whether the streamer then stays at this key, with this place.
-fn ends_at(mut stream: RangeStreamer<'_>, key: &[u8], ord: TermOrdinal) -> bool {
-    for _ in 0..10 {
-        let _ = stream.advance();
+/// Passes so many terms, and whether the streamer then has no other, and stays at this key, with this place.
+fn ends_at(mut stream: RangeStreamer<'_>, terms: usize, key: &[u8], ord: TermOrdinal) -> bool {
+    for _ in 0..terms {
+        if !stream.advance() {
+            return false;
+        }
     }
-    stream.key() == key && stream.term_ord() == ord
+    !stream.advance() && !stream.advance() && stream.key() == key && stream.term_ord() == ord
 }
 
 #[test]
 fn stays_at_the_last_term(rt: HostRuntime) -> Result<(), Fail> {
     let words = four_words(rt.alloc())?;
-    assert!(rt; ends_at(words.range(rt.alloc()).into_stream(), b"donovan", 3));
-    assert!(rt; ends_at(words.range(rt.alloc()).backward().into_stream(), b"abba", 0));
+    assert!(rt; ends_at(words.range(rt.alloc()).into_stream(), 4, b"donovan", 3));
+    assert!(rt;
+        ends_at(
+            words.range(rt.alloc()).backward().into_stream(),
+            4,
+            b"abba",
+            0
+        )
+    );
     Ok(())
 }
 
@@ -84,7 +93,7 @@ fn backward(rt: HostRuntime) -> Result<(), Fail> {
 fn reversed_bounds(rt: HostRuntime) -> Result<(), Fail> {
     let words = four_words(rt.alloc())?;
     let range = words.range(rt.alloc()).ge(b"d")?.lt(b"b")?;
-    assert!(rt; ends_at(range.into_stream(), b"", 0));
+    assert!(rt; ends_at(range.into_stream(), 0, b"", 0));
     Ok(())
 }
 
