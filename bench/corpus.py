@@ -6,7 +6,7 @@ usage: corpus.py DOCUMENTS [--seed 7] [--deletes N]    DOCUMENTS may be `max`: a
 Each document has an id (a text field, stored, `basic`, without lengths) and a body of 50 words (stored, `positions`).
 Words are drawn from 200,000 by Zipf's law (weight 1 / rank); there are some upper case letters, commas and full stops.
 Behind each 20th document stands a delete by id, of which three in four name a document before it, and one in four an id
-that comes later or never; `--deletes N` puts N deletes of documents drawn at random behind all of them instead. There are
+that comes later or never; `--deletes N` puts N deletes of documents drawn at random after all of them instead. There are
 8 cuts, so 9 batches of about as many operations.
 """
 import argparse

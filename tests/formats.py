@@ -86,7 +86,7 @@ def cut(data, ends):
 
 
 def split_table(data, tail, width):
-    """The bytes before a table, and the table; its number of rows stands first in the tail behind it."""
+    """The bytes before a table, and the table; its number of rows is first in the tail after it."""
     check(len(data) >= tail, 'the bytes end too early')
     count = int.from_bytes(data[len(data) - tail:][:4], 'little')
     start = len(data) - tail - width * count
@@ -213,7 +213,7 @@ def alive_set(data):
     words = [reader.u64() for _ in range((documents + 63) // 64)]
     reader.end()
     bits = [word >> bit & 1 for word in words for bit in range(64)]
-    check(not any(bits[documents:]), 'a bit behind the last document is set')
+    check(not any(bits[documents:]), 'a bit after the last document is set')
     return [bit == 1 for bit in bits[:documents]]
 
 
