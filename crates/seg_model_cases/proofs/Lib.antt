@@ -1,2 +1,7 @@
+pub mod Columns
+pub mod Dictionaries
+pub mod Documents
 pub mod Json
+pub mod Operations
+pub mod Refusals
 pub mod Texts
