@@ -1,6 +1,8 @@
 pub mod Columns
+pub mod Contents
 pub mod Dictionaries
 pub mod Documents
+pub mod Files
 pub mod Given
 pub mod Json
 pub mod Operations
