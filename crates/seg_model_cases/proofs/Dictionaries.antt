@@ -1,5 +1,5 @@
 -- Cases of terms in order: ordinals, ranges, and merged terms.
-use Rattle.std.proofs.Common.{◌≡◌, ℕ, List, [], ◌∷◌, map, refl}
+use Rattle.std.proofs.Common.{ℕ, [], ◌∷◌, refl}
 use Rattle.std.specs.Prelude.{codes}
 use Rattle.std.specs.FinMap.{entries-from_sorted}
 use Rattle.seg_model.specs.SortedTerms.{key_cmp}

@@ -1,8 +1,8 @@
 -- Cases of texts.
 use Rattle.std.proofs.Common.{◌≡◌, ℕ, ◌+◌, List, [], ◌∷◌, ◌++◌, map, length, cond, refl, ap, ◌∙◌}
-use Rattle.std.specs.Prelude.{codes, nat_le, max}
+use Rattle.std.specs.Prelude.{codes, nat_le}
 use Rattle.seg_values.specs.declared.token.Token.{Token}
-use Rattle.seg_model.specs.Occurrences.{Occurrence, counted, placed_from, reach}
+use Rattle.seg_model.specs.Occurrences.{counted, placed_from, reach}
 use Rattle.seg_model.specs.Norms.{length_id}
 use Rattle.seg_model_cases.specs.Given.{token, at}
 use Rattle.seg_model_cases.specs.Texts.{AreLongest, LongTokens, TextCases}

@@ -1,12 +1,12 @@
 -- Cases of columns.
-use Rattle.std.specs.Prelude.{◌≡◌, pos, negsuc, ℕ, List, [], ◌∷◌, map, replicate, codes, true, Option, Some, None}
+use Rattle.std.specs.Prelude.{◌≡◌, pos, negsuc, List, [], ◌∷◌, map, replicate, codes, true, Some, None}
 use Rattle.seg_common.specs.declared.date.DateTimePrecision.TheVariants.{Seconds, Milliseconds, Microseconds, Nanoseconds}
 use Rattle.seg_common.specs.declared.column_type.ColumnType.TheVariants as types
 use Rattle.seg_values.specs.declared.schema.FieldEntry.{FieldEntry}
 use Rattle.seg_values.specs.declared.schema.FieldKind.TheVariants.{Text, Date, Facet, Json}
 use Rattle.seg_values.specs.declared.schema.IndexOption.TheVariants.{No, Basic}
 use Rattle.seg_values.specs.Tree.{null, unsigned, signed, boolean, date, facet, byte_string, ip, Tree, leaf, Document}
-use Rattle.seg_model.specs.Columns.{ColumnKey, ColumnValue, number, bytes_value, text_value, boolean_value, ip_value, date_value, leaf_values, fast_values, declared_columns, column_at, columns}
+use Rattle.seg_model.specs.Columns.{ColumnKey, ColumnValue, number, bytes_value, text_value, boolean_value, ip_value, date_value, leaf_values, fast_values, declared_columns, column_at}
 use Rattle.seg_model.specs.Laws.{recorded_values}
 use Rattle.seg_model_cases.specs.Given.{analyzer, entry, only, one, said, token, cut, keyed}
 

@@ -1,13 +1,13 @@
 -- Cases of the check of documents, and of what is stored of them.
-use Rattle.std.specs.Prelude.{◌≡◌, pos, negsuc, ℕ, ◌^◌, ◌-◌, List, [], ◌∷◌, map, length, replicate, codes, true, false, Option, Some, None}
+use Rattle.std.specs.Prelude.{◌≡◌, pos, negsuc, ◌^◌, ◌-◌, List, [], ◌∷◌, map, replicate, codes, true, false, Option, Some, None}
 use Rattle.seg_values.specs.declared.schema.FieldKind.TheVariants.{Text, Json}
 use Rattle.seg_values.specs.declared.schema.IndexOption.TheVariants.{No, Positions}
-use Rattle.seg_values.specs.Tree.{null, text, unsigned, signed, boolean, date, facet, byte_string, ip, Tree, leaf, array, tree, no_trees, object, member, no_members, Document}
+use Rattle.seg_values.specs.Tree.{null, unsigned, signed, boolean, date, facet, byte_string, ip, Tree, leaf, array, tree, no_trees, Document}
 use Rattle.seg_model.specs.Fields.{Schema}
 use Rattle.seg_model.specs.Reading.{stored_document}
 use Rattle.seg_model.specs.StoredForm.{tree_form, stored_form}
 use Rattle.seg_model.specs.Checked.{Refusal, document_refusal, unknown_field, wrong_value, json_leaf, json_key, positions_fall, past_limit, is_u32}
-use Rattle.seg_model_cases.specs.Given.{analyzer, entry, only, one, said, token, cut, keyed, in_arrays}
+use Rattle.seg_model_cases.specs.Given.{analyzer, entry, only, said, token, cut, keyed, in_arrays}
 
 -- field 0 has texts, field 1 JSON
 abbrev pub two_fields : Schema

@@ -1,9 +1,9 @@
 -- Cases of JSON fields.
-use Rattle.std.specs.Prelude.{◌≡◌, ℤ, pos, negsuc, ℕ, List, [], ◌∷◌, ◌++◌, map, codes, true}
+use Rattle.std.specs.Prelude.{◌≡◌, pos, negsuc, ℕ, List, [], ◌∷◌, ◌++◌, map, codes, true}
 use Rattle.seg_values.specs.declared.schema.FieldEntry.{FieldEntry}
 use Rattle.seg_values.specs.declared.schema.FieldKind.TheVariants.{Json}
 use Rattle.seg_values.specs.declared.schema.IndexOption.TheVariants.{Basic, Freqs, Positions}
-use Rattle.seg_values.specs.Tree.{Leaf, unsigned, signed, boolean, date, Tree, leaf, object, member, no_members, Document}
+use Rattle.seg_values.specs.Tree.{unsigned, signed, boolean, date, Tree, leaf, object, member, no_members, Document}
 use Rattle.seg_model.specs.Fields.{Analyzer}
 use Rattle.seg_model.specs.Occurrences.{Occurrence, occurrences}
 use Rattle.seg_model.specs.Reading.{presence, frequency, positions}

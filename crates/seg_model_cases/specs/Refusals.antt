@@ -1,14 +1,13 @@
 -- Cases of inputs of which nothing is built.
-use Rattle.std.specs.Prelude.{◌≡◌, pos, negsuc, ℕ, ◌^◌, ◌-◌, List, [], ◌∷◌, map, length, codes, true, false, Bool, Option, Some, None}
+use Rattle.std.specs.Prelude.{◌≡◌, negsuc, ℕ, ◌^◌, ◌-◌, List, [], ◌∷◌, map, length, codes, true, false, Bool, Option, Some, None}
 use Rattle.std.specs.Str.{bytes_eq}
-use Rattle.seg_values.specs.declared.schema.FieldEntry.{FieldEntry}
 use Rattle.seg_values.specs.declared.schema.FieldKind.TheVariants.{Text, Json}
 use Rattle.seg_values.specs.declared.schema.IndexOption.TheVariants.{No, Positions}
 use Rattle.seg_values.specs.Tree.{unsigned, signed, Tree, leaf, Document}
 use Rattle.seg_model.specs.Operations.{Operation, add, delete}
 use Rattle.seg_model.specs.Checked.{unknown_field}
 use Rattle.seg_model.specs.Input.{Input, uncompressed, lz4}
-use Rattle.seg_model.specs.Valid.{Known, batches_fit, bad_cuts, bad_filters, bad_segment_ids, bad_field_name, unsupported_settings, unknown_tokenizer, unknown_fast_tokenizer, unindexed_delete, InputRefusal, input_refusal}
+use Rattle.seg_model.specs.Valid.{Known, batches_fit, bad_cuts, bad_filters, bad_segment_ids, bad_field_name, unsupported_settings, unknown_tokenizer, unknown_fast_tokenizer, unindexed_delete, input_refusal}
 use Rattle.seg_model.specs.Refused.{BuildRefusal, input_refused, document_refused, too_many_documents, mixed_numbers, count_refusal, build_refusal}
 use Rattle.seg_model_cases.specs.Given.{analyzer, entry, only, one, keyed}
 

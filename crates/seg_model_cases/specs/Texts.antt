@@ -1,5 +1,5 @@
 -- Cases of texts.
-use Rattle.std.specs.Prelude.{◌≡◌, ℕ, List, [], ◌∷◌, ◌++◌, map, length, replicate, codes}
+use Rattle.std.specs.Prelude.{◌≡◌, ℕ, List, [], ◌∷◌, map, length, replicate, codes}
 use Rattle.std.specs.List.{flat_map}
 use Rattle.seg_values.specs.declared.schema.FieldKind.TheVariants.{Text}
 use Rattle.seg_values.specs.declared.schema.IndexOption.TheVariants.{Basic, Freqs, Positions}
