@@ -8,7 +8,7 @@ use Rattle.std.specs.Ordering.{nat_cmp, eq_by_cmp}
 use Rattle.std.specs.FinMap.{get, get-empty, get-from_sorted}
 use Rattle.seg_model.specs.Disk.{IsImage, may_hold}
 use Rattle.seg_model.specs.IndexOfFiles.{ListedSegment, Meta, index_of, OpensWith}
-use Rattle.seg_model_cases.specs.Files.{file, disk, DiskCases, settings, segments_of, meta, forms, two, OpeningCases}
+use Rattle.seg_model_cases.specs.Files.{file, disk, DiskCases, settings, segments_of, meta, forms, three, OpeningCases}
 
 got : (bytes : List ℕ) (name : ℕ) → get (file bytes) name ≡ cond (eq_by_cmp nat_cmp name 0) (Some bytes) None
 got bytes name = get-from_sorted nat_cmp ((0, bytes) ∷ []) name tt
@@ -62,6 +62,6 @@ opening_cases = record {
   whole = record { id = 7; opens = opens (1 ∷ []); held = refl };
   not_whole = λ h. true≢false (ap are_none (opened [] _ h.opens));
   with_deletes = λ h. true≢false (ap first_has_deletes (opened (1 ∷ 2 ∷ []) _ h.opens));
-  whole_segments = (record { contents = two; held = refl; number = refl; deletes_agree = tt }, record { contents = two; held = refl; number = refl; deletes_agree = (true ∷ false ∷ [], refl, refl, refl) });
+  whole_segments = (record { contents = three; held = refl; number = refl; deletes_agree = tt }, record { contents = three; held = refl; number = refl; deletes_agree = (true ∷ true ∷ false ∷ [], refl, refl, refl) });
   other_number = λ h. omega (arith, sym (ap (count_by not) h.deletes_agree.1) ∙ h.deletes_agree.3);
 }

@@ -11,6 +11,7 @@ json_cases = record {
   empty_key_terms = refl;
   empty_key_columns = refl;
   arrays_above = refl;
+  deep_term = refl;
   moments = refl;
   moment_terms = refl;
 }

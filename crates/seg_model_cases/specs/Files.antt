@@ -25,15 +25,15 @@ pub record DiskCases : Type 0 where
   pub other : ¬ IsImage disk (file (3 ∷ []))
   pub none : ¬ IsImage disk empty
 
--- two documents without terms
-abbrev pub two : Contents
-two = record { documents = 2; terms = []; stored = []; norms = []; columns = empty }
+-- three documents without terms
+abbrev pub three : Contents
+three = record { documents = 3; terms = []; stored = []; norms = []; columns = empty }
 
 abbrev pub settings : Settings
 settings = record { compression = uncompressed; block_size = 1; dedicated_thread = false }
 
 abbrev pub segment : Option Deletes → ListedSegment
-segment deletes = record { id = 7; documents = 2; deletes = deletes }
+segment deletes = record { id = 7; documents = 3; deletes = deletes }
 
 abbrev pub segments_of : List ℕ → List ListedSegment
 segments_of [] = []
@@ -43,13 +43,13 @@ segments_of (b ∷ c ∷ bytes) = segment (Some (record { number = 1; stamp = 3 
 abbrev pub meta : List ℕ → Meta
 meta bytes = record { settings = settings; schema = []; stamp = 0; payload = None; segments = segments_of bytes }
 
--- the file 0 is the meta, whose number of bytes tells its segments; each id holds two documents, of which the first is alive
+-- the file 0 is the meta, whose number of bytes tells its segments; each id holds three documents, of which the last is dead
 abbrev pub forms : Forms nat_cmp
 forms = record {
   meta_name = 0;
   meta_of = λ bytes. Some (meta bytes);
-  Holds = λ _ _ _ contents. contents ≡ two;
-  HoldsAlive = λ _ _ _ _ alive. alive ≡ true ∷ false ∷ [];
+  Holds = λ _ _ _ contents. contents ≡ three;
+  HoldsAlive = λ _ _ _ _ alive. alive ≡ true ∷ true ∷ false ∷ [];
 }
 
 pub record OpeningCases : Type 0 where
@@ -57,10 +57,10 @@ pub record OpeningCases : Type 0 where
   pub an_index : ¬ OpensAsNoIndex forms (file [])
   pub empty_index : OpensAsEmpty forms (file []) settings []
   pub not_empty : ¬ OpensAsEmpty forms (file (1 ∷ [])) settings []
-  pub whole : OpensAsWhole forms (file (1 ∷ [])) settings [] two
-  pub not_whole : ¬ OpensAsWhole forms (file []) settings [] two
+  pub whole : OpensAsWhole forms (file (1 ∷ [])) settings [] three
+  pub not_whole : ¬ OpensAsWhole forms (file []) settings [] three
   -- the whole has no deletes
-  pub with_deletes : ¬ OpensAsWhole forms (file (1 ∷ 2 ∷ [])) settings [] two
+  pub with_deletes : ¬ OpensAsWhole forms (file (1 ∷ 2 ∷ [])) settings [] three
   -- a segment's deletes are as many as its alive file has dead documents
   pub whole_segments : IsWhole forms empty [] (segment None) × IsWhole forms empty [] (segment (Some (record { number = 1; stamp = 3 })))
   pub other_number : ¬ IsWhole forms empty [] (segment (Some (record { number = 2; stamp = 3 })))

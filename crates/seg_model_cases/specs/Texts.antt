@@ -1,12 +1,12 @@
--- Cases of texts.
-use Rattle.std.specs.Prelude.{◌≡◌, ℕ, List, [], ◌∷◌, map, length, replicate, codes}
+-- Cases of texts and lengths, and of terms of other kinds.
+use Rattle.std.specs.Prelude.{◌≡◌, ℕ, List, [], ◌∷◌, map, length, replicate, codes, ◌++◌, ◌^◌, ◌-◌, true, false}
 use Rattle.std.specs.List.{flat_map}
-use Rattle.seg_values.specs.declared.schema.FieldKind.TheVariants.{Text}
+use Rattle.seg_values.specs.declared.schema.FieldKind.TheVariants.{Text, Bool, Bytes}
 use Rattle.seg_values.specs.declared.schema.IndexOption.TheVariants.{Basic, Freqs, Positions}
-use Rattle.seg_values.specs.Tree.{Tree}
+use Rattle.seg_values.specs.Tree.{boolean, byte_string, Tree, leaf}
 use Rattle.seg_model.specs.Occurrences.{occurrences}
 use Rattle.seg_model.specs.Reading.{presence, frequency, positions}
-use Rattle.seg_model.specs.Norms.{field_length, field_norms}
+use Rattle.seg_model.specs.Norms.{length_id, length_of_id, field_length, field_norms}
 use Rattle.seg_model_cases.specs.Given.{analyzer, entry, only, one, said, token, cut, at, posting, recorded_of}
 
 -- so many words
@@ -34,3 +34,8 @@ pub record TextCases : Type 0 where
       ∷ []
   -- 41 has no id of its own
   pub lengths : field_norms analyzer (map (λ n. one (words n)) (40 ∷ 41 ∷ 42 ∷ [])) (0, entry Text Basic) ≡ 40 ∷ 40 ∷ 41 ∷ []
+  pub last_length : length_of_id 255 ≡ 2013265944
+  pub last_id : length_id (2 ^ 64 - 1) ≡ 255
+  -- fields of bytes and of truth values
+  pub bytes : occurrences (only Bytes Basic) analyzer (one (leaf (byte_string (codes "xy")))) 0 ≡ at (codes "xy") 0 ∷ []
+  pub truth : occurrences (only Bool Basic) analyzer ((0, leaf (boolean true)) ∷ (0, leaf (boolean false)) ∷ []) 0 ≡ at (replicate 7 0 ++ 1 ∷ []) 0 ∷ at (replicate 8 0) 0 ∷ []

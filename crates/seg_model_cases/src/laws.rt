@@ -9,7 +9,7 @@ ghost use Rattle.seg_model_cases.specs.Operations.{OperationCases};
 ghost use Rattle.seg_model_cases.specs.Refusals.{RefusalCases};
 ghost use Rattle.seg_model_cases.specs.Texts.{TextCases};
 
-/// What texts record, which tokens are too long, and what lengths there are.
+/// What texts record, which tokens are too long, what lengths there are, and terms of other kinds.
 pub fn cases_of_texts()
     ensures { TextCases }
 {}
