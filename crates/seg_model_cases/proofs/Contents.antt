@@ -80,7 +80,7 @@ postings_in (Some c) = get (terms_at c 0) (codes "a")
 often_found : (often : ℕ) → postings_in (Some (contents often 3 documents)) ≡ Some (posting 0 (frequency often) ∷ [])
 often_found often = get-from_sorted key_cmp (term_entries often) (codes "a") tt
 
--- three is not four
+-- the first number, and how often the first posting has its term
 abbrev first : List ℕ → ℕ
 first [] = 0
 first (n ∷ ns) = n

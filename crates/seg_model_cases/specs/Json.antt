@@ -64,11 +64,11 @@ pub record JsonCases : Type 0 where
   pub empty_key_columns : map fast (five ∷ keyed [] five ∷ keyed [] (keyed [] five) ∷ []) ≡ (named (number (pos 5)) ∷ []) ∷ (below [] (number (pos 5)) ∷ []) ∷ (below (1 ∷ []) (number (pos 5)) ∷ []) ∷ []
   -- arrays above the first object have no level, those below it have one each, and level 20 is the last that is recorded
   pub arrays_above : map fast (in_arrays 30 five ∷ in_arrays 30 (keyed (codes "o") (in_arrays 19 five)) ∷ in_arrays 30 (keyed (codes "o") (in_arrays 20 five)) ∷ []) ≡ (named (number (pos 5)) ∷ []) ∷ (below (codes "o") (number (pos 5)) ∷ []) ∷ [] ∷ []
-  -- a term has no level
+  -- a term is recorded at every level
   pub deep_term : occurring (one (keyed (codes "o") (in_arrays 20 five))) ≡ at (codes "o" ++ small 5) 0 ∷ []
   -- a column has a moment cut to seconds outside any object, in arrays too, and whole below one
   pub moments : map fast (after ∷ before ∷ in_arrays 2 after ∷ keyed (codes "n") after ∷ in_arrays 1 (keyed (codes "n") before) ∷ []) ≡
       (named (date_value (pos 1000000000)) ∷ []) ∷ (named (date_value (negsuc 999999999)) ∷ []) ∷ (named (date_value (pos 1000000000)) ∷ [])
       ∷ (below (codes "n") (date_value (pos 1500000000)) ∷ []) ∷ (below (codes "n") (date_value (negsuc 1499999999)) ∷ []) ∷ []
-  -- a term has it cut wherever it stands
+  -- a term has its moment cut wherever it is
   pub moment_terms : occurring ((0, after) ∷ (0, keyed (codes "n") after) ∷ []) ≡ at second_one 0 ∷ at (codes "n" ++ second_one) 0 ∷ []
