@@ -1,0 +1,10 @@
+pub mod Columns
+pub mod Contents
+pub mod Dictionaries
+pub mod Documents
+pub mod Files
+pub mod Given
+pub mod Json
+pub mod Operations
+pub mod Refusals
+pub mod Texts

@@ -1,0 +1,11 @@
+//! Worked cases of the definitions of `seg_model`, as theorems.
+//!
+//! Each law says what the definitions answer on small inputs that were worked out by hand. No other crate stands on it.
+#![tactic(auto)]
+
+mod laws;
+
+pub use laws::{
+    cases_of_columns, cases_of_contents, cases_of_dictionaries, cases_of_disks, cases_of_documents,
+    cases_of_json, cases_of_opening, cases_of_operations, cases_of_refusals, cases_of_texts,
+};

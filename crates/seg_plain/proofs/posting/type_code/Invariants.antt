@@ -1,7 +1,0 @@
-use Rattle.std.proofs.Common.{◌≡◌, drop}
-use Rattle.seg_model.specs.Reading as reading
-use Rattle.seg_plain.proofs.posting.type_code.Given as goal
-
--- what is left decides
-abbrev pub invariant-loop-at : goal.invariant-loop-at
-invariant-loop-at l = reading.type_code (drop l.at l.bytes) ≡ reading.type_code l.bytes

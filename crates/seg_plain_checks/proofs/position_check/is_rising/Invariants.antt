@@ -1,9 +1,0 @@
-use Rattle.std.proofs.Common.{◌≡◌, drop}
-use Rattle.seg_model.specs.Checked.{is_rising}
-use Rattle.seg_model.specs.Occurrences.{counted}
-use Rattle.seg_plain_checks.proofs.Rising.{rises}
-use Rattle.seg_plain_checks.proofs.position_check.is_rising.Given as goal
-
--- what is left decides
-abbrev pub invariant-loop-token : goal.invariant-loop-token
-invariant-loop-token l = rises l.last (counted (drop l.token-index l.tokens)) ≡ is_rising (counted l.tokens)

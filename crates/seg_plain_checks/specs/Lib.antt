@@ -1,9 +1,0 @@
-pub mod Builds
-pub mod EstimateParts
-pub mod Images
-pub mod Inputs
-pub mod Merged
-pub mod Pairs
-pub mod Parts
-pub mod Refusals
-pub mod TermEntries

@@ -1,2 +1,0 @@
-pub mod FileTables
-pub mod IndexMetas
