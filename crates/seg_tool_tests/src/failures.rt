@@ -25,7 +25,7 @@ fn stream_fails(
     let script = script_of_titles(alloc, "")?;
     let (at_read, at_write, at_fault) = fails;
     let mut streams = streams_over(alloc, &script, room, at_read, at_write, at_fault)?;
-    let number = run_over(alloc, &["build"], &mut streams, true)?;
+    let number = run_over(alloc, &mut streams)?;
     let is_said = streams.faults.bytes() == said.as_bytes();
     Ok(number == 8 && is_said && are_front(alloc, streams.sink.bytes(), written)?)
 }
@@ -57,10 +57,10 @@ fn run_failing(
     kind: CallKind,
     number: u64,
 ) -> Result<(u8, Streams), AllocError> {
-    let failing = directory_with(alloc, vec![in alloc; FailingCall { kind, number }]?, false)?;
+    let failing = directory_with(alloc, vec![in alloc; FailingCall { kind, number }]?)?;
     let mut streams = streams_of_one(alloc)?;
     put(&mut streams, fails_output, failing);
-    let ended = run_over(alloc, &["build"], &mut streams, true)?;
+    let ended = run_over(alloc, &mut streams)?;
     Ok((ended, streams))
 }
 
@@ -137,49 +137,6 @@ fn says_which_call_of_a_directory_failed(rt: HostRuntime) -> Result<(), Fail> {
     Ok(())
 }
 
-/// The number of a run over one document, and directories that may have a file, and the streams behind it.
-fn run_beside_files(
-    alloc: Global,
-    in_work: bool,
-    in_output: bool,
-) -> Result<(u8, Streams), AllocError> {
-    let mut streams = streams_of_one(alloc)?;
-    streams.work = directory_with(alloc, Vec::new(alloc), in_work)?;
-    streams.output = directory_with(alloc, Vec::new(alloc), in_output)?;
-    let ended = run_over(alloc, &["build"], &mut streams, true)?;
-    Ok((ended, streams))
-}
-
-/// Whether a run over directories that may have a file is refused, or done where none has one.
-fn is_refused_beside_files(
-    alloc: Global,
-    in_work: bool,
-    in_output: bool,
-) -> Result<bool, AllocError> {
-    let (ended, mut streams) = run_beside_files(alloc, in_work, in_output)?;
-    let (expected, said, files) = if in_work || in_output {
-        (5, "exists: a directory is not empty\n", 0)
-    } else {
-        (0, "", 7)
-    };
-    let is_told = ended == expected && streams.faults.bytes() == said.as_bytes();
-    let is_printed = !streams.sink.bytes().is_empty();
-    let work = streams.work.list(alloc).ok() == Some(files + u64::from(in_work));
-    let output = streams.output.list(alloc).ok() == Some(files + u64::from(in_output));
-    Ok(is_told && is_printed == (files > 0) && work && output)
-}
-
-#[test]
-fn refuses_a_directory_with_files(rt: HostRuntime) -> Result<(), Fail> {
-    for (in_work, in_output) in [(true, false), (false, true), (true, true), (false, false)] {
-        assert!(rt;
-            is_refused_beside_files(rt.alloc(), in_work, in_output)?,
-            "{in_work} {in_output}"
-        );
-    }
-    Ok(())
-}
-
 /// The bytes of a file.
 fn file_of(alloc: Global, directory: &mut MemoryDirectory, name: FileName) -> Option<OwnedBytes> {
     directory.open_read(alloc, &name).ok()
@@ -216,7 +173,7 @@ fn the_output_is_the_work_index_but_for_ids_and_meta(rt: HostRuntime) -> Result<
         r#"{"add": [["title", "a b"]]}, {"add": [["title", "b b"]]}"#,
     )?;
     let mut streams = streams_over(alloc, &script, 2000, NEVER, NEVER, NEVER)?;
-    assert_eq!(rt; run_over(alloc, &["build"], &mut streams, true)?, 0);
+    assert_eq!(rt; run_over(alloc, &mut streams)?, 0);
     for component in [
         SegmentComponent::FieldNorms,
         SegmentComponent::FastFields,
