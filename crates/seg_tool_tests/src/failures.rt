@@ -8,13 +8,13 @@ use seg_directory::{CallKind, Directory, FailingCall, MemoryDirectory};
 use std::alloc::{AllocError, Global};
 use std::test::Fail;
 
-/// Whether bytes are the first so many of the text of an index without documents.
+/// Whether bytes are the first ones, this many, of the text of an index without documents.
 fn are_front(alloc: Global, bytes: &[u8], length: usize) -> Result<bool, AllocError> {
     let text = both_segments(alloc, 0, "field \"title\" terms 0\n")?;
     Ok(bytes.len() == length && text.as_bytes().starts_with(bytes))
 }
 
-/// Whether a run of which some reads, writes or lines fail ends with `Stream`, says this, and has printed so many bytes.
+/// Whether a run of which some reads, writes or lines fail ends with `Stream`, says this, and has printed this many bytes.
 fn stream_fails(
     alloc: Global,
     fails: (u64, u64, u64),
@@ -50,7 +50,7 @@ fn says_which_stream_failed(rt: HostRuntime) -> Result<(), Fail> {
 }
 
 /// The number of a run over one document, of which one call of a directory fails, of the output directory or of the other
-/// one, and the streams behind it.
+/// one, and the streams after it.
 fn run_failing(
     alloc: Global,
     fails_output: bool,
@@ -96,7 +96,7 @@ fn call_fails(
     Ok(is_told && (may_have_files || streams.output.list(alloc).ok() == Some(0)))
 }
 
-/// Whether each of so many calls may fail, and no further one comes.
+/// Whether each of this many calls may fail, and no further one comes.
 fn each_call_fails(
     alloc: Global,
     fails_output: bool,

@@ -22,7 +22,7 @@ pub(crate) struct Streams {
     pub output: MemoryDirectory,
 }
 
-/// Streams of which each fails at one call; the sink has room for so many bytes.
+/// Streams of which each fails at one call; the sink has room for this many bytes.
 pub(crate) fn streams_over(
     alloc: Global,
     script: &str,
@@ -125,7 +125,7 @@ pub(crate) fn script_of_titles(alloc: Global, operations: &str) -> Result<String
     )
 }
 
-/// The text of two segments with so many documents and the same lines.
+/// The text of two segments with this many documents and the same lines.
 pub(crate) fn both_segments(
     alloc: Global,
     documents: usize,
