@@ -8,7 +8,7 @@ use seg_directory::{CallKind, Directory, FailingCall, MemoryDirectory};
 use std::alloc::{AllocError, Global};
 use std::test::Fail;
 
-/// Whether bytes are the first ones, this many, of the text of an index without documents.
+/// Whether bytes are the front, of this length, of the text of an index without documents.
 fn are_front(alloc: Global, bytes: &[u8], length: usize) -> Result<bool, AllocError> {
     let text = both_segments(alloc, 0, "field \"title\" terms 0\n")?;
     Ok(bytes.len() == length && text.as_bytes().starts_with(bytes))
