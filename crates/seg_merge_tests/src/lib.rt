@@ -2,6 +2,4 @@
 #![tactic(auto)]
 
 #[cfg(test)]
-mod reading_back;
-#[cfg(test)]
-mod tests;
+mod inputs;

@@ -16,7 +16,7 @@ fn store_name(id: u128) -> FileName {
 
 /// The number of a run over one document, whose work directory answers these bytes for its store.
 fn run_with_store(alloc: Global, streams: &mut Streams, other: Vec<u8>) -> Result<u8, AllocError> {
-    let inner = directory_with(alloc, Vec::new(alloc), false)?;
+    let inner = directory_with(alloc, Vec::new(alloc))?;
     let mut work = OddDirectory {
         inner,
         name: store_name(1),
@@ -53,7 +53,7 @@ fn built_store(
 /// The store of an index of one document with this text.
 fn other_store(alloc: Global, text: &str) -> Result<Vec<u8>, AllocError> {
     let mut streams = streams_of(alloc, text)?;
-    let mut work = directory_with(alloc, Vec::new(alloc), false)?;
+    let mut work = directory_with(alloc, Vec::new(alloc))?;
     built_store(alloc, &mut streams, &mut work)
 }
 

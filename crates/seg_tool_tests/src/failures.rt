@@ -8,13 +8,13 @@ use seg_directory::{CallKind, Directory, FailingCall, MemoryDirectory};
 use std::alloc::{AllocError, Global};
 use std::test::Fail;
 
-/// Whether bytes are the first so many of the text of an index without documents.
+/// Whether bytes are the front, of this length, of the text of an index without documents.
 fn are_front(alloc: Global, bytes: &[u8], length: usize) -> Result<bool, AllocError> {
     let text = both_segments(alloc, 0, "field \"title\" terms 0\n")?;
     Ok(bytes.len() == length && text.as_bytes().starts_with(bytes))
 }
 
-/// Whether a run of which some reads, writes or lines fail ends with `Stream`, says this, and has printed so many bytes.
+/// Whether a run of which some reads, writes or lines fail ends with `Stream`, says this, and has printed this many bytes.
 fn stream_fails(
     alloc: Global,
     fails: (u64, u64, u64),
@@ -25,7 +25,7 @@ fn stream_fails(
     let script = script_of_titles(alloc, "")?;
     let (at_read, at_write, at_fault) = fails;
     let mut streams = streams_over(alloc, &script, room, at_read, at_write, at_fault)?;
-    let number = run_over(alloc, &["build"], &mut streams, true)?;
+    let number = run_over(alloc, &mut streams)?;
     let is_said = streams.faults.bytes() == said.as_bytes();
     Ok(number == 8 && is_said && are_front(alloc, streams.sink.bytes(), written)?)
 }
@@ -50,17 +50,17 @@ fn says_which_stream_failed(rt: HostRuntime) -> Result<(), Fail> {
 }
 
 /// The number of a run over one document, of which one call of a directory fails, of the output directory or of the other
-/// one, and the streams behind it.
+/// one, and the streams after it.
 fn run_failing(
     alloc: Global,
     fails_output: bool,
     kind: CallKind,
     number: u64,
 ) -> Result<(u8, Streams), AllocError> {
-    let failing = directory_with(alloc, vec![in alloc; FailingCall { kind, number }]?, false)?;
+    let failing = directory_with(alloc, vec![in alloc; FailingCall { kind, number }]?)?;
     let mut streams = streams_of_one(alloc)?;
     put(&mut streams, fails_output, failing);
-    let ended = run_over(alloc, &["build"], &mut streams, true)?;
+    let ended = run_over(alloc, &mut streams)?;
     Ok((ended, streams))
 }
 
@@ -96,7 +96,7 @@ fn call_fails(
     Ok(is_told && (may_have_files || streams.output.list(alloc).ok() == Some(0)))
 }
 
-/// Whether each of so many calls may fail, and no further one comes.
+/// Whether each of this many calls may fail, and no further one comes.
 fn each_call_fails(
     alloc: Global,
     fails_output: bool,
@@ -137,75 +137,27 @@ fn says_which_call_of_a_directory_failed(rt: HostRuntime) -> Result<(), Fail> {
     Ok(())
 }
 
-/// The number of a run over one document, and directories that may have a file, and the streams behind it.
-fn run_beside_files(
+/// The bytes of a file of a segment.
+fn file_of(
     alloc: Global,
-    in_work: bool,
-    in_output: bool,
-) -> Result<(u8, Streams), AllocError> {
-    let mut streams = streams_of_one(alloc)?;
-    streams.work = directory_with(alloc, Vec::new(alloc), in_work)?;
-    streams.output = directory_with(alloc, Vec::new(alloc), in_output)?;
-    let ended = run_over(alloc, &["build"], &mut streams, true)?;
-    Ok((ended, streams))
-}
-
-/// Whether a run over directories that may have a file is refused, or done where none has one.
-fn is_refused_beside_files(
-    alloc: Global,
-    in_work: bool,
-    in_output: bool,
-) -> Result<bool, AllocError> {
-    let (ended, mut streams) = run_beside_files(alloc, in_work, in_output)?;
-    let (expected, said, files) = if in_work || in_output {
-        (5, "exists: a directory is not empty\n", 0)
-    } else {
-        (0, "", 7)
-    };
-    let is_told = ended == expected && streams.faults.bytes() == said.as_bytes();
-    let is_printed = !streams.sink.bytes().is_empty();
-    let work = streams.work.list(alloc).ok() == Some(files + u64::from(in_work));
-    let output = streams.output.list(alloc).ok() == Some(files + u64::from(in_output));
-    Ok(is_told && is_printed == (files > 0) && work && output)
-}
-
-#[test]
-fn refuses_a_directory_with_files(rt: HostRuntime) -> Result<(), Fail> {
-    for (in_work, in_output) in [(true, false), (false, true), (true, true), (false, false)] {
-        assert!(rt;
-            is_refused_beside_files(rt.alloc(), in_work, in_output)?,
-            "{in_work} {in_output}"
-        );
-    }
-    Ok(())
-}
-
-/// The bytes of a file.
-fn file_of(alloc: Global, directory: &mut MemoryDirectory, name: FileName) -> Option<OwnedBytes> {
+    directory: &mut MemoryDirectory,
+    id: u128,
+    component: SegmentComponent,
+) -> Option<OwnedBytes> {
+    let name = FileName::Part(SegmentId::from_u128(id), component);
     directory.open_read(alloc, &name).ok()
 }
 
 /// Whether a file of the work segment has bytes, and the same as that of the output segment.
 fn are_alike(alloc: Global, streams: &mut Streams, component: SegmentComponent) -> bool {
-    let name = FileName::Part(SegmentId::from_u128(1), component);
-    let Some(work) = file_of(alloc, &mut streams.work, name) else {
-        return false;
-    };
-    let name = FileName::Part(SegmentId::from_u128(2), component);
-    let Some(output) = file_of(alloc, &mut streams.output, name) else {
-        return false;
-    };
-    !work.as_slice().is_empty() && work.as_slice() == output.as_slice()
-}
-
-/// Whether a meta tells an index that the first segment was merged into, as the second.
-fn is_merged_meta(bytes: &[u8]) -> bool {
-    let Ok(text) = str::from_utf8(bytes) else {
-        return false;
-    };
-    text.contains("\"payload\": \"Segments Merge: [00000000000000000000000000000001]\"")
-        && text.contains("\"opstamp\": 0")
-        && text.contains("00000000000000000000000000000002")
+    let work = file_of(alloc, &mut streams.work, 1, component);
+    let output = file_of(alloc, &mut streams.output, 2, component);
+    match (work, output) {
+        (Some(work), Some(output)) => {
+            !work.as_slice().is_empty() && work.as_slice() == output.as_slice()
+        }
+        _ => false,
+    }
 }
 
 #[test]
@@ -216,7 +168,7 @@ fn the_output_is_the_work_index_but_for_ids_and_meta(rt: HostRuntime) -> Result<
         r#"{"add": [["title", "a b"]]}, {"add": [["title", "b b"]]}"#,
     )?;
     let mut streams = streams_over(alloc, &script, 2000, NEVER, NEVER, NEVER)?;
-    assert_eq!(rt; run_over(alloc, &["build"], &mut streams, true)?, 0);
+    assert_eq!(rt; run_over(alloc, &mut streams)?, 0);
     for component in [
         SegmentComponent::FieldNorms,
         SegmentComponent::FastFields,
@@ -227,7 +179,5 @@ fn the_output_is_the_work_index_but_for_ids_and_meta(rt: HostRuntime) -> Result<
     ] {
         assert!(rt; are_alike(alloc, &mut streams, component));
     }
-    let meta = file_of(alloc, &mut streams.output, FileName::Meta).ok_or("meta")?;
-    assert!(rt; is_merged_meta(meta.as_slice()));
     Ok(())
 }

@@ -2,8 +2,6 @@
 #![tactic(auto)]
 
 #[cfg(test)]
-mod batches;
-#[cfg(test)]
 mod damage;
 #[cfg(test)]
 mod failures;
@@ -11,5 +9,3 @@ mod failures;
 mod reporting;
 #[cfg(test)]
 mod streams;
-#[cfg(test)]
-mod texts;

@@ -1,12 +1,12 @@
 //! What a run reads and writes, in memory, and the scripts that it reads.
 
-use seg_common::{FileName, MemorySink, MemorySource, SegmentComponent, SegmentId};
+use seg_common::{MemorySink, MemorySource};
 use seg_directory::{Directory, FailingCall, MemoryDirectory};
 use seg_tool::run;
-use seg_values::{DefaultTokenizer, RawTokenizer, TokenizerManager, WhitespaceTokenizer};
+use seg_values::{DefaultTokenizer, TokenizerManager};
 use std::alloc::{AllocError, Global};
 
-pub(crate) const ENTRY: &str =
+const ENTRY: &str =
     r#""kind": "text", "stored": true, "index": "positions", "tokenizer": "default""#;
 
 /// A call that no run comes to.
@@ -22,7 +22,7 @@ pub(crate) struct Streams {
     pub output: MemoryDirectory,
 }
 
-/// Streams of which each fails at one call; the sink has room for so many bytes.
+/// Streams of which each fails at one call; the sink has room for this many bytes.
 pub(crate) fn streams_over(
     alloc: Global,
     script: &str,
@@ -62,55 +62,30 @@ fn sinks(
 
 /// Two directories without files, of which no call fails.
 fn directories(alloc: Global) -> Result<(MemoryDirectory, MemoryDirectory), AllocError> {
-    let work = directory_with(alloc, Vec::new(alloc), false)?;
-    let output = directory_with(alloc, Vec::new(alloc), false)?;
+    let work = directory_with(alloc, Vec::new(alloc))?;
+    let output = directory_with(alloc, Vec::new(alloc))?;
     Ok((work, output))
 }
 
-/// A directory of which some calls fail, and that may have a file.
+/// A directory of which some calls fail.
 pub(crate) fn directory_with(
     alloc: Global,
     fails: Vec<FailingCall>,
-    has_file: bool,
 ) -> Result<MemoryDirectory, AllocError> {
-    let Ok(mut directory) = MemoryDirectory::new(alloc, fails) else {
-        return Err(AllocError);
-    };
-    if has_file {
-        let name = FileName::Part(SegmentId::from_u128(7), SegmentComponent::Store);
-        if directory.put(name, b"old").is_err() {
-            return Err(AllocError);
-        }
+    match MemoryDirectory::new(alloc, fails) {
+        Ok(directory) => Ok(directory),
+        Err(_) => Err(AllocError),
     }
-    Ok(directory)
 }
 
-/// The program's tokenizers, or none.
-fn analyzers(alloc: Global, knows_tokenizers: bool) -> Result<TokenizerManager, AllocError> {
+/// The number of a run of `build` over the streams.
+pub(crate) fn run_over(alloc: Global, streams: &mut Streams) -> Result<u8, AllocError> {
     let mut analyzers = TokenizerManager::new(alloc);
-    if knows_tokenizers {
-        analyzers.register("default", Box::new(alloc, DefaultTokenizer)?)?;
-        analyzers.register("raw", Box::new(alloc, RawTokenizer)?)?;
-        analyzers.register("whitespace", Box::new(alloc, WhitespaceTokenizer)?)?;
-    }
-    Ok(analyzers)
-}
-
-/// The number of a run of the words over the streams, where the program's tokenizers may be known.
-pub(crate) fn run_over(
-    alloc: Global,
-    words: &[&str],
-    streams: &mut Streams,
-    knows_tokenizers: bool,
-) -> Result<u8, AllocError> {
-    let analyzers = analyzers(alloc, knows_tokenizers)?;
-    let mut owned = Vec::new(alloc);
-    for word in words {
-        owned.push(String::from_str(alloc, word)?)?;
-    }
+    analyzers.register("default", Box::new(alloc, DefaultTokenizer)?)?;
+    let words = vec![in alloc; String::from_str(alloc, "build")?]?;
     let status = run(
         alloc,
-        &owned,
+        &words,
         &mut streams.source,
         &mut streams.sink,
         &mut streams.faults,
@@ -127,9 +102,9 @@ pub(crate) fn build_over<W: Directory>(
     streams: &mut Streams,
     work: &mut W,
 ) -> Result<u8, AllocError> {
-    let analyzers = analyzers(alloc, true)?;
-    let mut words = Vec::new(alloc);
-    words.push(String::from_str(alloc, "build")?)?;
+    let mut analyzers = TokenizerManager::new(alloc);
+    analyzers.register("default", Box::new(alloc, DefaultTokenizer)?)?;
+    let words = vec![in alloc; String::from_str(alloc, "build")?]?;
     let status = run(
         alloc,
         &words,
@@ -150,7 +125,7 @@ pub(crate) fn script_of_titles(alloc: Global, operations: &str) -> Result<String
     )
 }
 
-/// The text of two segments with so many documents and the same lines.
+/// The text of two segments with this many documents and the same lines.
 pub(crate) fn both_segments(
     alloc: Global,
     documents: usize,

@@ -1,0 +1,125 @@
+//! Inputs that no script says: fields of numbers, and columns.
+ghost use Rattle.std.specs.Prelude.{◌≡◌, true, IfOk};
+ghost use Rattle.seg_values.specs.Names.{is_allowed};
+
+use seg_build::UserOperation;
+use seg_common::{DateTimePrecision, SegmentId};
+use seg_directory::{MemoryDirectory, list_files};
+use seg_merge::build_index;
+use seg_meta::{Compressor, IndexSettings};
+use seg_values::{
+    ArgumentCause, DefaultTokenizer, Field, FieldEntry, FieldKind, IndexOption, OwnedValue, Schema,
+    SchemaBuilder, SchemaCause, TResult, TantivyDocument, TantivyError, Text, TokenizerManager,
+};
+use std::alloc::{AllocError, Global};
+use std::test::Fail;
+
+const SETTINGS: IndexSettings = IndexSettings {
+    docstore_compression: Compressor::None,
+    docstore_blocksize: 16384,
+    docstore_compress_dedicated_thread: false,
+};
+
+/// A field that is not stored.
+fn entry(
+    alloc: Global,
+    kind: FieldKind,
+    index: IndexOption,
+    fast: bool,
+) -> Result<FieldEntry, AllocError>
+    ensures { IfOk result (λ e. (e.kind ≡ kind) × (e.index ≡ index)) }
+{
+    Ok(FieldEntry {
+        name: Text::copy_of(alloc, "n")?,
+        kind,
+        stored: false,
+        index,
+        tokenizer: None,
+        norms: false,
+        fast,
+        fast_tokenizer: None,
+        precision: DateTimePrecision::Seconds,
+        expand_dots: false,
+    })
+}
+
+/// A schema of one field.
+fn schema(
+    alloc: Global,
+    kind: FieldKind,
+    index: IndexOption,
+    fast: bool,
+) -> Result<Schema, AllocError>
+    requires { is_allowed kind index ≡ true }
+{
+    let mut builder = SchemaBuilder::new(alloc);
+    let _ = builder.add_field(entry(alloc, kind, index, fast)?).is_ok();
+    Ok(builder.build())
+}
+
+/// The addition of a document with the number 5 in the field.
+fn operations(alloc: Global) -> Result<Vec<UserOperation<TantivyDocument>>, AllocError> {
+    let mut document = TantivyDocument::new(alloc);
+    document.add_field_value(Field::from_field_id(0), OwnedValue::U64(5))?;
+    let mut operations = Vec::new(alloc);
+    operations.push(UserOperation::Add(document))?;
+    Ok(operations)
+}
+
+fn analyzers(alloc: Global) -> Result<TokenizerManager, AllocError> {
+    let mut analyzers = TokenizerManager::new(alloc);
+    analyzers.register("default", Box::new(alloc, DefaultTokenizer)?)?;
+    Ok(analyzers)
+}
+
+fn directory(alloc: Global) -> TResult<MemoryDirectory> {
+    match MemoryDirectory::new(alloc, Vec::new(alloc)) {
+        Ok(directory) => Ok(directory),
+        Err(_) => Err(TantivyError::OutOfMemory),
+    }
+}
+
+/// Builds an index of that document, and says how many files the output directory has then.
+fn built(alloc: Global, schema: &Schema) -> TResult<u64> {
+    let mut work = directory(alloc)?;
+    let mut output = directory(alloc)?;
+    let index = build_index(
+        alloc,
+        schema,
+        &SETTINGS,
+        &analyzers(alloc)?,
+        &operations(alloc)?,
+        &[],
+        &[None],
+        &[SegmentId::from_u128(1), SegmentId::from_u128(2)],
+        &mut work,
+        &mut output,
+    );
+    match index {
+        Ok(_) => list_files(alloc, &mut output),
+        Err(e) => Err(e),
+    }
+}
+
+#[test]
+fn numbers_and_columns(rt: HostRuntime) -> Result<(), Fail> {
+    let alloc = rt.alloc();
+    let unindexed = schema(alloc, FieldKind::U64, IndexOption::No, false)?;
+    assert_eq!(rt; built(alloc, &unindexed), Ok(7));
+    let later = Err(TantivyError::InvalidArgument(ArgumentCause::Later));
+    let indexed = schema(alloc, FieldKind::U64, IndexOption::Basic, false)?;
+    assert_eq!(rt; built(alloc, &indexed), later);
+    let with_column = schema(alloc, FieldKind::Text, IndexOption::Freqs, true)?;
+    assert_eq!(rt; built(alloc, &with_column), later);
+    Ok(())
+}
+
+#[test]
+fn a_number_for_a_text(rt: HostRuntime) -> Result<(), Fail> {
+    let alloc = rt.alloc();
+    let texts = schema(alloc, FieldKind::Text, IndexOption::Freqs, false)?;
+    let field = Field::from_field_id(0);
+    let wrong = Err(TantivyError::SchemaError(SchemaCause::WrongValue { at: 0, field }));
+    assert_eq!(rt; built(alloc, &texts), wrong);
+    Ok(())
+}
