@@ -7,7 +7,7 @@ use seg_directory::{Directory, MemoryDirectory};
 use seg_odd_directory::OddDirectory;
 use seg_tool::run;
 use seg_values::{DefaultTokenizer, RawTokenizer, TokenizerManager};
-use std::alloc::{AllocError, Global};
+use std::alloc::Global;
 
 /// The id of the work segment, as scripts give it.
 const ID: &str = "00000000000000000000000000000001";
@@ -75,6 +75,9 @@ fn run_over(
     work: &mut OddDirectory,
 ) -> Result<u8> {
     let words = vec![in alloc; String::from_str(alloc, "build")?]?;
+    let mut analyzers = TokenizerManager::new(alloc);
+    analyzers.register("default", Box::new(alloc, DefaultTokenizer)?)?;
+    analyzers.register("raw", Box::new(alloc, RawTokenizer)?)?;
     let mut source = MemorySource::new(alloc, script, Vec::new(alloc))?;
     let mut output = MemoryDirectory::new(alloc, Vec::new(alloc))?;
     let status = run(
@@ -83,7 +86,7 @@ fn run_over(
         &mut source,
         sink,
         faults,
-        &analyzers(alloc)?,
+        &analyzers,
         work,
         &mut output,
     );
@@ -93,11 +96,4 @@ fn run_over(
         "status {number}, and another output"
     );
     Ok(number)
-}
-
-fn analyzers(alloc: Global) -> Result<TokenizerManager, AllocError> {
-    let mut analyzers = TokenizerManager::new(alloc);
-    analyzers.register("default", Box::new(alloc, DefaultTokenizer)?)?;
-    analyzers.register("raw", Box::new(alloc, RawTokenizer)?)?;
-    Ok(analyzers)
 }
