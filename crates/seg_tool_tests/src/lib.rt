@@ -2,8 +2,6 @@
 #![tactic(auto)]
 
 #[cfg(test)]
-mod damage;
-#[cfg(test)]
 mod failures;
 #[cfg(test)]
 mod reporting;
