@@ -12,7 +12,8 @@ use Rattle.seg_directory.specs.Files.{NamedFiles}
 use Rattle.seg_fastfield.specs.BitSets.{set_of}
 use Rattle.seg_model.specs.IndexOfFiles.{Deletes}
 use Rattle.seg_build.specs.SegmentFiles.{wrote}
-use Rattle.seg_batches.specs.Calls.{DirectoryState, Does}
+use Rattle.seg_batches.specs.Calls.{Does}
+use Rattle.seg_directory.specs.State.{DirectoryState}
 use Rattle.seg_batches.specs.Segments.{TellsAlive, alive_file}
 use Rattle.seg_batches.proofs.FilesTurn.{AllMade, none_made}
 

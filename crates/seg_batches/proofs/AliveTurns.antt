@@ -9,7 +9,7 @@ use Rattle.seg_directory.specs.Files.{NamedFiles}
 use Rattle.seg_model.specs.IndexOfFiles.{ListedSegment}
 use Rattle.seg_model.specs.Valid.{are_distinct}
 use Rattle.seg_build.specs.SegmentFiles.{AreAbsent, KeepsAllBut}
-use Rattle.seg_batches.specs.Calls.{DirectoryState}
+use Rattle.seg_directory.specs.State.{DirectoryState}
 use Rattle.seg_batches.specs.Segments.{AllTellAlive, TellsAlive, WrittenSegment, alive_file, alive_files, all_listed, deletes_of, listed}
 use Rattle.seg_batches.proofs.Apart.{alive_files_apart, files_apart, others_before, others_behind}
 use Rattle.seg_batches.proofs.FilesTurn.{AllMade, NotMade, turn_made, turn_stops, absent_here, absent_behind}

@@ -31,7 +31,7 @@ use Rattle.seg_build.specs.declared.user_operation.UserOperation.{UserOperation}
 use Rattle.seg_open.specs.SegmentRead.{HasFiles}
 use Rattle.seg_open.specs.declared.segment_files.SegmentFiles.{SegmentFiles}
 use Rattle.seg_open.proofs.Opened.{spelled_holds}
-use Rattle.seg_batches.specs.Calls.{DirectoryState}
+use Rattle.seg_directory.specs.State.{DirectoryState}
 use Rattle.seg_batches.specs.Making.{IsMadeOf}
 use Rattle.seg_refusals.specs.Refusals.{IfRefusal, IsRefusal}
 use Rattle.seg_batches.specs.Segments.{LacksSome, WrittenSegment, alive_of, segment_of, six_files}

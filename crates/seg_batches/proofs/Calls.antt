@@ -8,7 +8,8 @@ use Rattle.seg_common.specs.declared.name.FileName.{FileName}
 use Rattle.seg_values.specs.declared.error.TantivyError.{TantivyError}
 use Rattle.seg_values.specs.declared.error.TantivyError.TheVariants.{SchemaError, InvalidArgument, IndexAlreadyExists, OpenReadError, OpenWriteError, IoError, DataCorruption, SystemError, FieldNotFound, OutOfMemory}
 use Rattle.seg_directory.specs.declared.answer.Answer.{Answer}
-use Rattle.seg_batches.specs.Calls.{DirectoryState, Stops, Proceeds, HasRisen, Does}
+use Rattle.seg_batches.specs.Calls.{Stops, Proceeds, HasRisen, Does}
+use Rattle.seg_directory.specs.State.{DirectoryState}
 
 -- a count that rose had risen from any count before
 rose-before : (a b c : ℕ) → a ≤ b → Rose b c → Rose a c

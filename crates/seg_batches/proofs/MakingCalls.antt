@@ -13,7 +13,8 @@ use Rattle.seg_directory.specs.declared.answer.Answer.{Answer}
 use Rattle.seg_directory.specs.declared.answer.Answer.TheVariants as answer
 use Rattle.seg_directory.specs.declared.answer.CallKind.TheVariants as kind
 use Rattle.seg_build.specs.SegmentFiles.{KeepsAllBut, EndsAt, MakingSeen, wrote}
-use Rattle.seg_batches.specs.Calls.{DirectoryState, IsWhy, Stops, HasRisen, Does}
+use Rattle.seg_batches.specs.Calls.{IsWhy, Stops, HasRisen, Does}
+use Rattle.seg_directory.specs.State.{DirectoryState}
 
 -- the errors with which it ends
 abbrev pub MakingErrors : TantivyError → Type 0

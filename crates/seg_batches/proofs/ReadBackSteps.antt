@@ -14,7 +14,7 @@ use Rattle.seg_open.specs.declared.open_error.OpenError.TheVariants.{Damaged}
 use Rattle.seg_open.specs.declared.open_error.OpenError.TheVariants as open_error
 use Rattle.seg_open.specs.declared.segment_files.SegmentFiles.{SegmentFiles}
 use Rattle.seg_open.proofs.Opened.{spelled_holds, not_damaged, not_missing, unread_seen, unopened_seen, whole_seen}
-use Rattle.seg_batches.specs.Calls.{DirectoryState}
+use Rattle.seg_directory.specs.State.{DirectoryState}
 use Rattle.seg_batches.specs.Reading.{ReadsBack}
 
 abbrev error_in : {T : Type 0} → Result T TantivyError → TantivyError

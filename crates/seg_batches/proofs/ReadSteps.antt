@@ -7,7 +7,7 @@ use Rattle.seg_model.specs.Fields.{Schema}
 use Rattle.seg_model.specs.IndexOfFiles.{Deletes, ListedSegment}
 use Rattle.seg_open.specs.OpenSegment.{OpenSegment}
 use Rattle.seg_join.specs.KeptSegment.{KeptSegment}
-use Rattle.seg_batches.specs.Calls.{DirectoryState}
+use Rattle.seg_directory.specs.State.{DirectoryState}
 use Rattle.seg_batches.specs.Reading.{ReadsAll, ReadsBack, ReadsDeletes, ReadsSegment, StopsInSegment, StopsReading, in_alive, in_files}
 use Rattle.seg_batches.proofs.Members.{left_from, one_more}
 

@@ -1,5 +1,5 @@
 -- What calls of a directory do in turn, up to the first that fails.
-use Rattle.std.specs.Prelude.{ℕ, ◌≡◌, ◌<◌, ◌≤◌, ◌⊎◌, List, [], ◌∷◌, ◌++◌, Bool, Result, Ok, Err, IfErr}
+use Rattle.std.specs.Prelude.{ℕ, ◌≡◌, ◌<◌, ◌≤◌, ◌⊎◌, List, [], ◌∷◌, ◌++◌, Result, Ok, Err, IfErr}
 use Rattle.seg_common.specs.Causes.{Rose}
 use Rattle.seg_common.specs.declared.name.FileName.{FileName}
 use Rattle.seg_values.specs.declared.error.TantivyError.{TantivyError}
@@ -7,19 +7,8 @@ use Rattle.seg_values.specs.declared.error.TantivyError.TheVariants.{IndexAlread
 use Rattle.seg_directory.specs.declared.answer.Answer.{Answer}
 use Rattle.seg_directory.specs.declared.answer.Answer.TheVariants as answer
 use Rattle.seg_directory.specs.declared.answer.CallKind.TheVariants as kind
-use Rattle.seg_directory.specs.Files.{NamedFiles}
+use Rattle.seg_directory.specs.State.{DirectoryState}
 use Rattle.seg_build.specs.SegmentFiles.{KeepsAllBut}
-
--- what a directory has and has answered: its files, where it tells them; its answers; and how many of them were faults
-pub record DirectoryState : Type 0 where
-  pub tells : Bool
-  pub files : NamedFiles
-  pub seen : List Answer
-  pub faults : ℕ
-
--- such a state, part by part
-abbrev pub state_of : Bool → NamedFiles → List Answer → ℕ → DirectoryState
-state_of tells files seen faults = record { tells = tells; files = files; seen = seen; faults = faults }
 
 -- the last answers are why there is this error: a listing of files or a file that is there, a failed call of its kind, or none
 abbrev pub IsWhy : TantivyError → List Answer → Type 0

@@ -17,7 +17,7 @@ use Rattle.seg_build.specs.HoldsAlive.{HoldsAlive}
 use Rattle.seg_open.specs.OpenSegment.{OpenSegment, contents_of}
 use Rattle.seg_open.specs.SegmentOpened.{IsNoDamage, OpeningSeen}
 use Rattle.seg_join.specs.KeptSegment.{KeptSegment}
-use Rattle.seg_batches.specs.Calls.{DirectoryState}
+use Rattle.seg_directory.specs.State.{DirectoryState}
 
 -- ---- the six files
 

@@ -3,7 +3,6 @@ ghost use Rattle.std.specs.Prelude.{◌≡◌, Some, Ok, Err, not, length, optio
 ghost use Rattle.std.specs.List.{count_by};
 ghost use Rattle.seg_fastfield.specs.BitSets.{set_of};
 ghost use Rattle.seg_meta.specs.Metas.{deletes_of};
-ghost use Rattle.seg_batches.specs.Calls.{state_of};
 ghost use Rattle.seg_batches.specs.Reading.{AgreesWith, IsNoSuchSet, ReadsAlive, ReadsDeletes};
 ghost use Rattle.seg_batches.specs.Segments.{alive_of};
 
@@ -24,11 +23,11 @@ pub(crate) fn read_deletes<W: Directory>(
 ) -> TResult<Option<AliveBitSet>>
     ensures size { IfOk result (λ alive. length (alive_of max_doc alive) ≡ max_doc) }
     ensures read { IfOk result (λ alive. ReadsDeletes id max_doc (option_map deletes_of deletes) (Ok (alive_of max_doc alive))
-        (state_of (W.tells directory.old) (W.files directory.old) (W.seen directory.old) (W.faults directory.old))
-        (state_of (W.tells directory.new) (W.files directory.new) (W.seen directory.new) (W.faults directory.new))) }
+        (W.state directory.old)
+        (W.state directory.new)) }
     ensures stops { IfErr result (λ e. ReadsDeletes id max_doc (option_map deletes_of deletes) (Err e)
-        (state_of (W.tells directory.old) (W.files directory.old) (W.seen directory.old) (W.faults directory.old))
-        (state_of (W.tells directory.new) (W.files directory.new) (W.seen directory.new) (W.faults directory.new))) }
+        (W.state directory.old)
+        (W.state directory.new)) }
 {
     let Some(deletes) = deletes else {
         return Ok(None);
@@ -48,8 +47,8 @@ fn read_alive_file<W: Directory>(
     directory: &mut W,
 ) -> TResult<AliveBitSet>
     ensures { ReadsAlive id max_doc (deletes_of deletes) result
-        (state_of (W.tells directory.old) (W.files directory.old) (W.seen directory.old) (W.faults directory.old))
-        (state_of (W.tells directory.new) (W.files directory.new) (W.seen directory.new) (W.faults directory.new)) }
+        (W.state directory.old)
+        (W.state directory.new) }
 {
     let opstamp = deletes.opstamp;
     let bytes = match read_file(alloc, directory, FileName::Alive(id, opstamp)) {

@@ -3,7 +3,7 @@ ghost use Rattle.std.specs.Prelude.{◌≡◌, ◌≢◌, true, map, Some, Err, 
 ghost use Rattle.seg_build.specs.SegmentFiles.{AreAbsent, wrote};
 ghost use Rattle.seg_fastfield.specs.BitSets.{set_of};
 ghost use Rattle.seg_model.specs.Valid.{are_distinct};
-ghost use Rattle.seg_batches.specs.Calls.{Does, state_of};
+ghost use Rattle.seg_batches.specs.Calls.{Does};
 ghost use Rattle.seg_batches.specs.Segments.{AllTellAlive, TellsAlive, alive_file, alive_files, all_listed, deletes_of};
 
 use crate::written_segment::WrittenSegment;
@@ -23,14 +23,14 @@ pub fn write_alive_files<W: Directory>(
     directory: &mut W,
 ) -> TResult<()>
     requires distinct { are_distinct (map (λ s. s.id) segments.now) ≡ true }
-    ensures tell { IsTrue (W.tells directory.old) → OnOk result
-        (AllTellAlive (W.files directory.new) stamp segments.now) }
-    ensures fresh { IsTrue (W.tells directory.old)
-        → AreAbsent (alive_files (all_listed stamp segments.now)) (W.files directory.old)
+    ensures tell { IsTrue (W.state directory.old).tells → OnOk result
+        (AllTellAlive (W.state directory.new).files stamp segments.now) }
+    ensures fresh { IsTrue (W.state directory.old).tells
+        → AreAbsent (alive_files (all_listed stamp segments.now)) (W.state directory.old).files
         → result ≢ Err TantivyError.IndexAlreadyExists }
     ensures calls { Does (wrote (alive_files (all_listed stamp segments.now))) (alive_files (all_listed stamp segments.now)) result
-        (state_of (W.tells directory.old) (W.files directory.old) (W.seen directory.old) (W.faults directory.old))
-        (state_of (W.tells directory.new) (W.files directory.new) (W.seen directory.new) (W.faults directory.new)) }
+        (W.state directory.old)
+        (W.state directory.new) }
 {
     for segment in segments {
         match write_alive_file(alloc, stamp, segment, directory) {
@@ -48,14 +48,14 @@ fn write_alive_file<W: Directory>(
     segment: &WrittenSegment,
     directory: &mut W,
 ) -> TResult<()>
-    ensures tells { IsTrue (W.tells directory.old) → OnOk result
-        (TellsAlive (W.files directory.new) segment.now.id segment.now.documents segment.now.alive (deletes_of stamp segment.now.alive)) }
-    ensures fresh { IsTrue (W.tells directory.old)
-        → AreAbsent (alive_file segment.now.id (deletes_of stamp segment.now.alive)) (W.files directory.old)
+    ensures tells { IsTrue (W.state directory.old).tells → OnOk result
+        (TellsAlive (W.state directory.new).files segment.now.id segment.now.documents segment.now.alive (deletes_of stamp segment.now.alive)) }
+    ensures fresh { IsTrue (W.state directory.old).tells
+        → AreAbsent (alive_file segment.now.id (deletes_of stamp segment.now.alive)) (W.state directory.old).files
         → result ≢ Err TantivyError.IndexAlreadyExists }
     ensures calls { Does (wrote (alive_file segment.now.id (deletes_of stamp segment.now.alive))) (alive_file segment.now.id (deletes_of stamp segment.now.alive)) result
-        (state_of (W.tells directory.old) (W.files directory.old) (W.seen directory.old) (W.faults directory.old))
-        (state_of (W.tells directory.new) (W.files directory.new) (W.seen directory.new) (W.faults directory.new)) }
+        (W.state directory.old)
+        (W.state directory.new) }
 {
     let Some(alive) = segment.alive() else {
         return Ok(());

@@ -14,7 +14,7 @@ ghost use Rattle.seg_model.specs.Refused.{batch_refusal, cut_from, first_of};
 ghost use Rattle.seg_model.specs.Valid.{Known, are_distinct, cuts_fit};
 ghost use Rattle.seg_open.specs.SegmentRead.{HasFiles};
 ghost use Rattle.seg_removal.specs.Stamps.{stamped_deletes};
-ghost use Rattle.seg_batches.specs.Calls.{Does, state_of};
+ghost use Rattle.seg_batches.specs.Calls.{Does};
 ghost use Rattle.seg_batches.specs.Making.{passed_below};
 ghost use Rattle.seg_refusals.specs.Refusals.{IfRefusal, build_error};
 ghost use Rattle.seg_batches.specs.Segments.{AllStand, LacksSome, alive_of, segment_of, segments_of, six_files};
@@ -53,13 +53,13 @@ pub fn write_batches<Z: Analyzers, W: Directory>(
     ensures segments { IfOk result (λ ws. ws.items ≡ segments_of ids.now (batches schema.now (Z.tokens_of analyzers.now) cuts.now (map operation_of operations.now))) }
     ensures few { OnOk result (AllByRecursion (λ (b : Batch). length b.documents < 2 ^ 31) (batches schema.now (Z.tokens_of analyzers.now) cuts.now (map operation_of operations.now))) }
     ensures taken { OnOk result (list_all (is_taken schema.now (Z.tokens_of analyzers.now)) (additions (map operation_of operations.now)) ≡ true) }
-    ensures stand { IsTrue (W.tells directory.old) → OnOk result
-        (AllStand schema.now (Z.tokens_of analyzers.now) (W.files directory.new) ids.now (batches schema.now (Z.tokens_of analyzers.now) cuts.now (map operation_of operations.now))) }
-    ensures fresh { IsTrue (W.tells directory.old) → AreAbsent (six_files ids.now) (W.files directory.old)
+    ensures stand { IsTrue (W.state directory.old).tells → OnOk result
+        (AllStand schema.now (Z.tokens_of analyzers.now) (W.state directory.new).files ids.now (batches schema.now (Z.tokens_of analyzers.now) cuts.now (map operation_of operations.now))) }
+    ensures fresh { IsTrue (W.state directory.old).tells → AreAbsent (six_files ids.now) (W.state directory.old).files
         → result ≢ Err TantivyError.IndexAlreadyExists }
     ensures calls { WritesBatches ids.now result
-        (state_of (W.tells directory.old) (W.files directory.old) (W.seen directory.old) (W.faults directory.old))
-        (state_of (W.tells directory.new) (W.files directory.new) (W.seen directory.new) (W.faults directory.new)) }
+        (W.state directory.old)
+        (W.state directory.new) }
     ensures refused { (known : Known) → Tests known (Z.knows analyzers.now) → IfErr result (IfRefusal (λ e.
         (start_refusal known 15000 schema.now settings.now ≡ Some e)
         ⊎ (option_map build_error (first_of (batch_refusal schema.now (Z.tokens_of analyzers.now)) (cut_from 0 cuts.now (enumerate_from 0 (map operation_of operations.now)))) ≡ Some e))) }
@@ -137,13 +137,13 @@ fn write_batch<Z: Analyzers, W: Directory>(
     ensures few { OnOk result (length (additions (slice_range (map operation_of operations.now) first end)) < 2 ^ 31) }
     ensures taken { OnOk result (list_all (is_taken schema.now (Z.tokens_of analyzers.now)) (additions (slice_range (map operation_of operations.now) first end)) ≡ true) }
     ensures accepted { OnOk result (batch_refusal schema.now (Z.tokens_of analyzers.now) (enumerate_from first (slice_range (map operation_of operations.now) first end)) ≡ None) }
-    ensures stands { IsTrue (W.tells directory.old) → OnOk result
-        (index.StandsFor segment_forms (W.files directory.new) schema.now (Z.tokens_of analyzers.now) id (additions (slice_range (map operation_of operations.now) first end))) }
-    ensures fresh { IsTrue (W.tells directory.old) → AreAbsent (segment_names id) (W.files directory.old)
+    ensures stands { IsTrue (W.state directory.old).tells → OnOk result
+        (index.StandsFor segment_forms (W.state directory.new).files schema.now (Z.tokens_of analyzers.now) id (additions (slice_range (map operation_of operations.now) first end))) }
+    ensures fresh { IsTrue (W.state directory.old).tells → AreAbsent (segment_names id) (W.state directory.old).files
         → result ≢ Err TantivyError.IndexAlreadyExists }
     ensures calls { WritesBatches (id ∷ []) result
-        (state_of (W.tells directory.old) (W.files directory.old) (W.seen directory.old) (W.faults directory.old))
-        (state_of (W.tells directory.new) (W.files directory.new) (W.seen directory.new) (W.faults directory.new)) }
+        (W.state directory.old)
+        (W.state directory.new) }
     ensures refused { (known : Known) → Tests known (Z.knows analyzers.now) → IfErr result (IfRefusal (λ e.
         (start_refusal known 15000 schema.now settings.now ≡ Some e)
         ⊎ (option_map build_error (batch_refusal schema.now (Z.tokens_of analyzers.now) (enumerate_from first (slice_range (map operation_of operations.now) first end))) ≡ Some e))) }
@@ -179,12 +179,12 @@ fn write_made<W: Directory>(
     requires few { made.max_doc < 2 ^ 31 }
     requires set { LacksSome made.max_doc made.alive }
     ensures segment { IfOk result (λ s. s ≡ record { id = id; documents = made.max_doc; alive = alive_of made.max_doc made.alive }) }
-    ensures files { IsTrue (W.tells directory.old) → OnOk result (HasFiles (W.files directory.new) id made.files) }
-    ensures fresh { IsTrue (W.tells directory.old) → AreAbsent (segment_names id) (W.files directory.old)
+    ensures files { IsTrue (W.state directory.old).tells → OnOk result (HasFiles (W.state directory.new).files id made.files) }
+    ensures fresh { IsTrue (W.state directory.old).tells → AreAbsent (segment_names id) (W.state directory.old).files
         → result ≢ Err TantivyError.IndexAlreadyExists }
     ensures calls { Does (wrote (segment_names id)) (segment_names id) result
-        (state_of (W.tells directory.old) (W.files directory.old) (W.seen directory.old) (W.faults directory.old))
-        (state_of (W.tells directory.new) (W.files directory.new) (W.seen directory.new) (W.faults directory.new)) }
+        (W.state directory.old)
+        (W.state directory.new) }
 {
     let MadeBatch {
         files,

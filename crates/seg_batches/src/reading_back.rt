@@ -1,7 +1,6 @@
 //! The six files of a segment, read back.
 ghost use Rattle.std.specs.Prelude.{◌≡◌, true};
 ghost use Rattle.seg_build.specs.Built.{is_built_schema};
-ghost use Rattle.seg_batches.specs.Calls.{state_of};
 ghost use Rattle.seg_batches.specs.Reading.{ReadsBack};
 
 use seg_common::SegmentId;
@@ -20,8 +19,8 @@ pub(crate) fn read_back<W: Directory>(
 ) -> TResult<SegmentReader>
     requires built { is_built_schema schema.now ≡ true }
     ensures { ReadsBack id schema.now max_doc result
-        (state_of (W.tells directory.old) (W.files directory.old) (W.seen directory.old) (W.faults directory.old))
-        (state_of (W.tells directory.new) (W.files directory.new) (W.seen directory.new) (W.faults directory.new)) }
+        (W.state directory.old)
+        (W.state directory.new) }
 {
     let Ok(copy) = schema.copy(alloc) else {
         return Err(TantivyError::OutOfMemory);

@@ -2,7 +2,6 @@
 ghost use Rattle.std.specs.Prelude.{◌≡◌, ◌<◌, ◌∷◌, ◌++◌, [], true, vec_len, vec_capacity, Ok, Err, IfOk, IfErr, OnOk};
 ghost use Rattle.seg_build.specs.Built.{is_built_schema};
 ghost use Rattle.seg_join.specs.KeptSegment.{KeptSegment};
-ghost use Rattle.seg_batches.specs.Calls.{state_of};
 ghost use Rattle.seg_batches.specs.Reading.{ReadsSegment, ReadsUpTo, StopsInSegment};
 
 use crate::alive_reading::read_deletes;
@@ -26,11 +25,11 @@ pub fn read_segments<W: Directory>(
 ) -> TResult<Vec<ReadSegment>>
     requires built { is_built_schema schema.now ≡ true }
     ensures read { IfOk result (λ read. ReadsUpTo schema.now segments.now (Ok read.items)
-        (state_of (W.tells directory.old) (W.files directory.old) (W.seen directory.old) (W.faults directory.old))
-        (state_of (W.tells directory.new) (W.files directory.new) (W.seen directory.new) (W.faults directory.new))) }
+        (W.state directory.old)
+        (W.state directory.new)) }
     ensures stops { IfErr result (λ e. ReadsUpTo schema.now segments.now (Err e)
-        (state_of (W.tells directory.old) (W.files directory.old) (W.seen directory.old) (W.faults directory.old))
-        (state_of (W.tells directory.new) (W.files directory.new) (W.seen directory.new) (W.faults directory.new))) }
+        (W.state directory.old)
+        (W.state directory.new)) }
 {
     let mut read = Vec::new(alloc);
     for segment in segments {
@@ -52,11 +51,11 @@ fn read_next<W: Directory>(
 ) -> TResult<()>
     requires built { is_built_schema schema.now ≡ true }
     ensures read { OnOk result ((next : KeptSegment) × (read.new.items ≡ read.old.items ++ next ∷ []) × ReadsSegment schema.now segment.now next
-        (state_of (W.tells directory.old) (W.files directory.old) (W.seen directory.old) (W.faults directory.old))
-        (state_of (W.tells directory.new) (W.files directory.new) (W.seen directory.new) (W.faults directory.new))) }
+        (W.state directory.old)
+        (W.state directory.new)) }
     ensures stops { IfErr result (λ e. StopsInSegment schema.now segment.now e
-        (state_of (W.tells directory.old) (W.files directory.old) (W.seen directory.old) (W.faults directory.old))
-        (state_of (W.tells directory.new) (W.files directory.new) (W.seen directory.new) (W.faults directory.new))) }
+        (W.state directory.old)
+        (W.state directory.new)) }
 {
     if read.reserve(1).is_err() {
         return Err(TantivyError::OutOfMemory);
@@ -89,11 +88,11 @@ fn read_segment<W: Directory>(
 ) -> TResult<ReadSegment>
     requires built { is_built_schema schema.now ≡ true }
     ensures read { IfOk result (λ read. ReadsSegment schema.now segment.now read
-        (state_of (W.tells directory.old) (W.files directory.old) (W.seen directory.old) (W.faults directory.old))
-        (state_of (W.tells directory.new) (W.files directory.new) (W.seen directory.new) (W.faults directory.new))) }
+        (W.state directory.old)
+        (W.state directory.new)) }
     ensures stops { IfErr result (λ e. StopsInSegment schema.now segment.now e
-        (state_of (W.tells directory.old) (W.files directory.old) (W.seen directory.old) (W.faults directory.old))
-        (state_of (W.tells directory.new) (W.files directory.new) (W.seen directory.new) (W.faults directory.new))) }
+        (W.state directory.old)
+        (W.state directory.new)) }
 {
     let id = segment.id();
     let max_doc = segment.max_doc();

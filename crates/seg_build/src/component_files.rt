@@ -17,18 +17,18 @@ pub(crate) fn write_components<W: Directory>(
     bytes: &SegmentBytes,
     components: &[SegmentComponent],
 ) -> TResult<()>
-    ensures file { IsTrue (W.tells directory.old) → OnOk result (W.files directory.new
-        ≡ with_files (component_files id bytes.now components.now) (W.files directory.old)) }
-    ensures fresh { IsTrue (W.tells directory.old)
-        → AreNew (component_names id components.now) (W.files directory.old)
+    ensures file { IsTrue (W.state directory.old).tells → OnOk result ((W.state directory.new).files
+        ≡ with_files (component_files id bytes.now components.now) (W.state directory.old).files) }
+    ensures fresh { IsTrue (W.state directory.old).tells
+        → AreNew (component_names id components.now) (W.state directory.old).files
         → result ≢ Err TantivyError.IndexAlreadyExists }
     ensures others { KeepsAllBut
-        (component_names id components.now) (W.files directory.old) (W.files directory.new) }
-    ensures tells { W.tells directory.new ≡ W.tells directory.old }
+        (component_names id components.now) (W.state directory.old).files (W.state directory.new).files }
+    ensures tells { (W.state directory.new).tells ≡ (W.state directory.old).tells }
     ensures seen { MakingSeen
-        (component_names id components.now) (W.seen directory.old) result (W.seen directory.new) }
+        (component_names id components.now) (W.state directory.old).seen result (W.state directory.new).seen }
     ensures cause { FaultHasCause
-        TantivyError.OpenWriteError (W.faults directory.old) (W.faults directory.new) result }
+        TantivyError.OpenWriteError (W.state directory.old).faults (W.state directory.new).faults result }
     ensures errors { IfErr result
         (λ e. (e ≡ TantivyError.IndexAlreadyExists)
         ⊎ (e ≡ TantivyError.OpenWriteError) ⊎ (e ≡ TantivyError.OutOfMemory)) }

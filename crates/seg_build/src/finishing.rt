@@ -33,22 +33,22 @@ pub(crate) fn finish<W: Directory>(
 ) -> TResult<Vec<Opstamp>>
     requires entries { is_built_schema segment.schema ≡ true }
     requires under_way { (analyzer : Analyzer) × IsUnderWay segment.schema analyzer (kept_of parts) }
-    ensures stands { IsTrue (W.tells directory.old) → OnOk result ((analyzer : Analyzer) (documents : List Document) (stamps : List ℕ)
+    ensures stands { IsTrue (W.state directory.old).tells → OnOk result ((analyzer : Analyzer) (documents : List Document) (stamps : List ℕ)
         → IsKeptOf segment.schema analyzer documents stamps (kept_of parts)
-        → index.StandsFor segment_forms (W.files directory.new) segment.schema analyzer segment.meta.id documents) }
-    ensures totals { IsTrue (W.tells directory.old) → OnOk result ((analyzer : Analyzer) (documents : List Document) (stamps : List ℕ)
+        → index.StandsFor segment_forms (W.state directory.new).files segment.schema analyzer segment.meta.id documents) }
+    ensures totals { IsTrue (W.state directory.old).tells → OnOk result ((analyzer : Analyzer) (documents : List Document) (stamps : List ℕ)
         → IsKeptOf segment.schema analyzer documents stamps (kept_of parts)
-        → (postings : List ℕ) → get (W.files directory.new) (FileName.Part segment.meta.id SegmentComponent.Postings) ≡ Some postings
+        → (postings : List ℕ) → get (W.state directory.new).files (FileName.Part segment.meta.id SegmentComponent.Postings) ≡ Some postings
         → TotalsAreCounts postings (fields_of segment.schema analyzer documents)) }
     ensures stamps { IfOk result (λ stamps. stamps.items ≡ parts.stamps.items) }
-    ensures fresh { IsTrue (W.tells directory.old)
-        → AreAbsent (segment_names segment.meta.id) (W.files directory.old)
+    ensures fresh { IsTrue (W.state directory.old).tells
+        → AreAbsent (segment_names segment.meta.id) (W.state directory.old).files
         → result ≢ Err TantivyError.IndexAlreadyExists }
-    ensures others { KeepsAllBut (segment_names segment.meta.id) (W.files directory.old) (W.files directory.new) }
-    ensures tells { W.tells directory.new ≡ W.tells directory.old }
-    ensures seen { MakingSeen (segment_names segment.meta.id) (W.seen directory.old) result (W.seen directory.new) }
+    ensures others { KeepsAllBut (segment_names segment.meta.id) (W.state directory.old).files (W.state directory.new).files }
+    ensures tells { (W.state directory.new).tells ≡ (W.state directory.old).tells }
+    ensures seen { MakingSeen (segment_names segment.meta.id) (W.state directory.old).seen result (W.state directory.new).seen }
     ensures cause { FaultHasCause
-        TantivyError.OpenWriteError (W.faults directory.old) (W.faults directory.new) result }
+        TantivyError.OpenWriteError (W.state directory.old).faults (W.state directory.new).faults result }
     ensures errors { IfErr result
         (λ e. (e ≡ TantivyError.IndexAlreadyExists)
         ⊎ (e ≡ TantivyError.OpenWriteError) ⊎ (e ≡ TantivyError.OutOfMemory)) }

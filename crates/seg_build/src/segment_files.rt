@@ -28,16 +28,16 @@ impl SegmentBytes {
         id: SegmentId,
         directory: &mut W,
     ) -> TResult<()>
-        ensures files { IsTrue (W.tells directory.old) → OnOk result
-            (HasFiles id self.now (W.files directory.new)) }
-        ensures fresh { IsTrue (W.tells directory.old)
-            → AreAbsent (segment_names id) (W.files directory.old)
+        ensures files { IsTrue (W.state directory.old).tells → OnOk result
+            (HasFiles id self.now (W.state directory.new).files) }
+        ensures fresh { IsTrue (W.state directory.old).tells
+            → AreAbsent (segment_names id) (W.state directory.old).files
             → result ≢ Err TantivyError.IndexAlreadyExists }
-        ensures others { KeepsAllBut (segment_names id) (W.files directory.old) (W.files directory.new) }
-        ensures tells { W.tells directory.new ≡ W.tells directory.old }
-        ensures seen { MakingSeen (segment_names id) (W.seen directory.old) result (W.seen directory.new) }
+        ensures others { KeepsAllBut (segment_names id) (W.state directory.old).files (W.state directory.new).files }
+        ensures tells { (W.state directory.new).tells ≡ (W.state directory.old).tells }
+        ensures seen { MakingSeen (segment_names id) (W.state directory.old).seen result (W.state directory.new).seen }
         ensures cause { FaultHasCause
-            TantivyError.OpenWriteError (W.faults directory.old) (W.faults directory.new) result }
+            TantivyError.OpenWriteError (W.state directory.old).faults (W.state directory.new).faults result }
         ensures errors { IfErr result
             (λ e. (e ≡ TantivyError.IndexAlreadyExists)
             ⊎ (e ≡ TantivyError.OpenWriteError) ⊎ (e ≡ TantivyError.OutOfMemory)) }

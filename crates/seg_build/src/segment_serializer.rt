@@ -138,16 +138,16 @@ impl SegmentSerializer {
     /// Writes the six files, in the order field norms, fast fields, terms, postings, positions, store. Lengths that were
     /// not put are a composite without parts.
     pub fn close<W: Directory>(self, directory: &mut W) -> TResult<()>
-        ensures files { IsTrue (W.tells directory.old) → OnOk result
-            (AreLeft self (W.files directory.new)) }
-        ensures fresh { IsTrue (W.tells directory.old)
-            → AreAbsent (segment_names self.segment.meta.id) (W.files directory.old)
+        ensures files { IsTrue (W.state directory.old).tells → OnOk result
+            (AreLeft self (W.state directory.new).files) }
+        ensures fresh { IsTrue (W.state directory.old).tells
+            → AreAbsent (segment_names self.segment.meta.id) (W.state directory.old).files
             → result ≢ Err TantivyError.IndexAlreadyExists }
-        ensures others { KeepsAllBut (segment_names self.segment.meta.id) (W.files directory.old) (W.files directory.new) }
-        ensures tells { W.tells directory.new ≡ W.tells directory.old }
-        ensures seen { MakingSeen (segment_names self.segment.meta.id) (W.seen directory.old) result (W.seen directory.new) }
+        ensures others { KeepsAllBut (segment_names self.segment.meta.id) (W.state directory.old).files (W.state directory.new).files }
+        ensures tells { (W.state directory.new).tells ≡ (W.state directory.old).tells }
+        ensures seen { MakingSeen (segment_names self.segment.meta.id) (W.state directory.old).seen result (W.state directory.new).seen }
         ensures cause { FaultHasCause
-            TantivyError.OpenWriteError (W.faults directory.old) (W.faults directory.new) result }
+            TantivyError.OpenWriteError (W.state directory.old).faults (W.state directory.new).faults result }
         ensures errors { IfErr result
             (λ e. (e ≡ TantivyError.IndexAlreadyExists)
             ⊎ (e ≡ TantivyError.OpenWriteError) ⊎ (e ≡ TantivyError.OutOfMemory)) }

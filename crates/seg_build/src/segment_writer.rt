@@ -191,23 +191,23 @@ impl<'a, Z: Analyzers> SegmentWriter<'a, Z> {
 
     /// Makes the six files of the segment, which then stands for the documents that were added, and answers their stamps.
     pub fn finalize<W: Directory>(self, directory: &mut W) -> TResult<Vec<Opstamp>>
-        ensures stands { IsTrue (W.tells directory.old) → OnOk result ((documents : List Document) (stamps : List ℕ)
+        ensures stands { IsTrue (W.state directory.old).tells → OnOk result ((documents : List Document) (stamps : List ℕ)
             → Writes (Z.tokens_of self.entry.0) documents stamps self.entry.1
-            → index.StandsFor segment_forms (W.files directory.new) self.entry.1.schema (Z.tokens_of self.entry.0) self.entry.1.id documents) }
-        ensures totals { IsTrue (W.tells directory.old) → OnOk result ((documents : List Document) (stamps : List ℕ)
+            → index.StandsFor segment_forms (W.state directory.new).files self.entry.1.schema (Z.tokens_of self.entry.0) self.entry.1.id documents) }
+        ensures totals { IsTrue (W.state directory.old).tells → OnOk result ((documents : List Document) (stamps : List ℕ)
             → Writes (Z.tokens_of self.entry.0) documents stamps self.entry.1
-            → (postings : List ℕ) → get (W.files directory.new) (FileName.Part self.entry.1.id SegmentComponent.Postings) ≡ Some postings
+            → (postings : List ℕ) → get (W.state directory.new).files (FileName.Part self.entry.1.id SegmentComponent.Postings) ≡ Some postings
             → TotalsAreCounts postings (fields_of self.entry.1.schema (Z.tokens_of self.entry.0) documents)) }
         ensures stamps { IfOk result (λ answer. (documents : List Document) (stamps : List ℕ) → Writes (Z.tokens_of self.entry.0) documents stamps self.entry.1 → answer.items ≡ stamps) }
         ensures lacking { self.entry.1.kept ≡ None → result ≡ Err TantivyError.SystemError }
-        ensures fresh { IsTrue (W.tells directory.old)
-            → AreAbsent (segment_names self.entry.1.id) (W.files directory.old)
+        ensures fresh { IsTrue (W.state directory.old).tells
+            → AreAbsent (segment_names self.entry.1.id) (W.state directory.old).files
             → result ≢ Err TantivyError.IndexAlreadyExists }
-        ensures others { KeepsAllBut (segment_names self.entry.1.id) (W.files directory.old) (W.files directory.new) }
-        ensures tells { W.tells directory.new ≡ W.tells directory.old }
-        ensures seen { MakingSeen (segment_names self.entry.1.id) (W.seen directory.old) result (W.seen directory.new) }
+        ensures others { KeepsAllBut (segment_names self.entry.1.id) (W.state directory.old).files (W.state directory.new).files }
+        ensures tells { (W.state directory.new).tells ≡ (W.state directory.old).tells }
+        ensures seen { MakingSeen (segment_names self.entry.1.id) (W.state directory.old).seen result (W.state directory.new).seen }
         ensures cause { FaultHasCause
-            TantivyError.OpenWriteError (W.faults directory.old) (W.faults directory.new) result }
+            TantivyError.OpenWriteError (W.state directory.old).faults (W.state directory.new).faults result }
         ensures errors { IfErr result
             (λ e. ((e ≡ TantivyError.SystemError) × (self.entry.1.kept ≡ None)) ⊎ (e ≡ TantivyError.IndexAlreadyExists)
             ⊎ (e ≡ TantivyError.OpenWriteError) ⊎ (e ≡ TantivyError.OutOfMemory)) }

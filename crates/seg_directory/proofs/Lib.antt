@@ -4,3 +4,6 @@ mod CompositeSpelled
 mod CompositeTables
 pub mod Entries
 pub mod OtherFiles
+pub mod Doing
+pub mod WorkSteps
+pub mod WorkLaws

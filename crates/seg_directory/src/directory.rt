@@ -1,11 +1,6 @@
 //! A directory of files.
-ghost use Rattle.std.specs.Prelude.{◌≡◌, ◌++◌, List, ℕ, Bool, IsTrue, IfOk, IsErrOf};
-ghost use Rattle.std.specs.FinMap.{get, len};
-ghost use Rattle.seg_directory.specs.declared.answer.Answer.{Answer};
-ghost use Rattle.seg_directory.specs.Files.{NamedFiles};
-ghost use Rattle.seg_directory.specs.Answers.{listed, opened, wrote_new, replaced, synced};
-ghost use Rattle.seg_directory.specs.Changes.{KeepsOthers, Opens, WritesNew, Replaces};
-ghost use Rattle.seg_directory.specs.Faults.{FaultHasCause};
+ghost use Rattle.seg_directory.specs.CallResults.{Lists, Reads, Makes, Replaces, Syncs};
+ghost use Rattle.seg_directory.specs.State.{DirectoryState};
 
 use crate::DirectoryError;
 use seg_common::{FileName, OwnedBytes};
@@ -13,36 +8,16 @@ use std::alloc::Global;
 
 /// What keeps the files of an index by their names.
 pub trait Directory {
-    /// Whether the directory tells its files.
-    ghost tells: { Self → Bool };
-
-    /// The files, where they are told.
-    ghost files: { Self → NamedFiles };
-
-    /// How often the directory has failed. It stops at `u64::MAX`.
-    ghost faults: { Self → ℕ };
-
-    /// The answers so far.
-    ghost seen: { Self → List Answer };
+    /// What it has and has answered. A call fails only where the count of faults rose, which stops at `u64::MAX`.
+    ghost state: { Self → DirectoryState };
 
     /// How many files there are.
     fn list(&mut self, alloc: Global) -> Result<u64, DirectoryError>
-        ensures number { IfOk result (λ n. IsTrue (tells self.old) → n ≡ len (files self.old)) }
-        ensures files { files self.new ≡ files self.old }
-        ensures tells { tells self.new ≡ tells self.old }
-        ensures seen { seen self.new ≡ seen self.old ++ listed result }
-        ensures cause { FaultHasCause DirectoryError.Fault (faults self.old) (faults self.new) result }
-        ensures never_missing { IsErrOf result DirectoryError.Missing → ⊥ }
-        ensures never_exists { IsErrOf result DirectoryError.Exists → ⊥ };
+        ensures { Lists result (state self.old) (state self.new) };
 
-    /// The bytes of a file, shared with those that are kept in `seen`.
+    /// The bytes of a file, shared with those that are kept among the answers.
     fn open_read(&mut self, alloc: Global, name: &FileName) -> Result<OwnedBytes, DirectoryError>
-        ensures file { IsTrue (tells self.old) → Opens (get (files self.old) name.now) result }
-        ensures files { files self.new ≡ files self.old }
-        ensures tells { tells self.new ≡ tells self.old }
-        ensures seen { seen self.new ≡ seen self.old ++ opened name.now result }
-        ensures cause { FaultHasCause DirectoryError.Fault (faults self.old) (faults self.new) result }
-        ensures never_exists { IsErrOf result DirectoryError.Exists → ⊥ };
+        ensures { Reads name.now result (state self.old) (state self.new) };
 
     /// Makes a file with these bytes, and has them reach the disk.
     fn write_new(
@@ -51,13 +26,7 @@ pub trait Directory {
         name: &FileName,
         bytes: &[u8],
     ) -> Result<(), DirectoryError>
-        ensures file { IsTrue (tells self.old)
-            → WritesNew name.now bytes.now result (files self.old) (files self.new) }
-        ensures others { KeepsOthers name.now (files self.old) (files self.new) }
-        ensures tells { tells self.new ≡ tells self.old }
-        ensures seen { seen self.new ≡ seen self.old ++ wrote_new name.now result }
-        ensures cause { FaultHasCause DirectoryError.Fault (faults self.old) (faults self.new) result }
-        ensures never_missing { IsErrOf result DirectoryError.Missing → ⊥ };
+        ensures { Makes name.now bytes.now result (state self.old) (state self.new) };
 
     /// Gives a file these bytes, whether it is there or not: at each moment it has its old content or the new one.
     fn atomic_write(
@@ -66,21 +35,9 @@ pub trait Directory {
         name: &FileName,
         bytes: &[u8],
     ) -> Result<(), DirectoryError>
-        ensures file { IsTrue (tells self.old)
-            → Replaces name.now bytes.now result (files self.old) (files self.new) }
-        ensures others { KeepsOthers name.now (files self.old) (files self.new) }
-        ensures tells { tells self.new ≡ tells self.old }
-        ensures seen { seen self.new ≡ seen self.old ++ replaced name.now result }
-        ensures cause { FaultHasCause DirectoryError.Fault (faults self.old) (faults self.new) result }
-        ensures never_missing { IsErrOf result DirectoryError.Missing → ⊥ }
-        ensures never_exists { IsErrOf result DirectoryError.Exists → ⊥ };
+        ensures { Replaces name.now bytes.now result (state self.old) (state self.new) };
 
     /// Has the names of all files reach the disk, so that no crash undoes what was written before.
     fn sync_directory(&mut self, alloc: Global) -> Result<(), DirectoryError>
-        ensures files { files self.new ≡ files self.old }
-        ensures tells { tells self.new ≡ tells self.old }
-        ensures seen { seen self.new ≡ seen self.old ++ synced result }
-        ensures cause { FaultHasCause DirectoryError.Fault (faults self.old) (faults self.new) result }
-        ensures never_missing { IsErrOf result DirectoryError.Missing → ⊥ }
-        ensures never_exists { IsErrOf result DirectoryError.Exists → ⊥ };
+        ensures { Syncs result (state self.old) (state self.new) };
 }

@@ -2,7 +2,7 @@
 ghost use Rattle.std.specs.Prelude.{◌≡◌, ◌≢◌, ◌++◌, ◌<◌, ◌≤◌, [], false, IfOk};
 ghost use Rattle.std.specs.FinMap.{empty};
 ghost use Rattle.seg_common.specs.Causes.{Rose};
-ghost use Rattle.seg_directory.specs.Answers.{failed};
+ghost use Rattle.seg_directory.specs.Log.{noted_failure};
 
 use crate::answer_log::AnswerLog;
 use crate::folder::{count_files, make_file, path_in, replace_file, sync_folder};
@@ -44,13 +44,7 @@ impl<R: Files + AllocGlobal + Clone + Drop> FileDirectory<R> {
 }
 
 impl<R: Files + AllocGlobal + Clone + Drop> Directory for FileDirectory<R> {
-    ghost tells = { λ _. false };
-
-    ghost files = { λ _. empty };
-
-    ghost faults = { λ d. d.faults };
-
-    ghost seen = { λ d. d.answers };
+    ghost state = { λ d. record { tells = false; files = empty; seen = d.answers; faults = d.faults } };
 
     fn list(&mut self, _alloc: Global) -> Result<u64, DirectoryError> {
         self.log.make_room()?;
@@ -148,7 +142,7 @@ fn owned(alloc: Global, bytes: Vec<u8>) -> Result<OwnedBytes, AllocError>
 /// Notes an error of the system: a fault, unless it is want of memory.
 fn failure(log: &mut AnswerLog, kind: CallKind, error: ErrorKind) -> DirectoryError
     requires { 0 < log.old.room }
-    ensures seen { log.new.kept.answers ≡ log.old.kept.answers ++ failed kind result }
+    ensures seen { log.new.kept.answers ≡ log.old.kept.answers ++ noted_failure kind result }
     ensures later { log.old.kept.faults ≤ log.new.kept.faults }
     ensures fault { result ≡ DirectoryError.Fault → Rose log.old.kept.faults log.new.kept.faults }
     ensures not_missing { result ≢ DirectoryError.Missing }

@@ -1,18 +1,19 @@
 //! Where the files of an index lie: a directory as a trait, one in memory, and one over a folder of the system; and
 //! composite files, which have a part for each of several fields.
 //!
-//! A directory is seen as its files, where it tells them, a count of its faults, and the answers that it gave so far.
-//! A call fails only where that count rose, and each answer that says something of a file or a fault is kept. A
-//! composite file is seen as its parts, each a field and bytes.
+//! A directory is seen as one state: its files, where it tells them, a count of its faults, and the answers that it gave
+//! so far. What is done with it is said by one relation from state to state: steps in turn, each a call or a test, up to
+//! the first that breaks off (`Works`). A composite file is seen as its parts, each a field and bytes.
 //!
 //! To be read in this order: `error`, `answer`, `directory`; `answer_log`; `failing_call`, `call_counts`, `call_record`,
-//! `stored_files`, `memory_directory`; `folder`, `file_directory`; `calls`, by which all that stands above calls a
+//! `stored_files`, `memory_directory`; `folder`, `file_directory`; `call_error`, `calls`, by which all that stands above calls a
 //! directory; `composite_file`, `composite_law`, `written_parts`, `composite_writer`.
 #![tactic(auto)]
 
 mod answer;
 mod answer_log;
 mod call_counts;
+mod call_error;
 mod call_record;
 mod calls;
 mod composite_file;
@@ -28,7 +29,7 @@ mod stored_files;
 mod written_parts;
 
 pub use answer::{Answer, CallKind};
-pub use calls::{list_files, read_file, rewrite_file, sync_files, write_file};
+pub use calls::{expect_no_files, list_files, read_file, rewrite_file, sync_files, write_file};
 pub use composite_file::CompositeFile;
 pub use composite_law::composite_files_are_spelled;
 pub use composite_writer::CompositeWriter;

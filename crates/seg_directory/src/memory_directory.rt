@@ -1,10 +1,9 @@
 //! A directory in memory.
-ghost use Rattle.std.specs.Prelude.{◌≡◌, ◌++◌, true, IfOk, IfErr, IsErrOf, OnOk};
-ghost use Rattle.std.specs.FinMap.{get, insert, len};
-ghost use Rattle.seg_directory.specs.Answers.{listed, opened, wrote_new, replaced, synced};
-ghost use Rattle.seg_directory.specs.Changes.{KeepsOthers, Opens, WritesNew, Replaces};
-ghost use Rattle.seg_directory.specs.Faults.{FaultHasCause};
-ghost use Rattle.seg_directory.specs.Memory.{new_memory, FailsAsListed, memory_after};
+ghost use Rattle.std.specs.Prelude.{◌≡◌, [], IfOk, IfErr, OnOk};
+ghost use Rattle.std.specs.FinMap.{insert};
+ghost use Rattle.seg_directory.specs.Calls.{listed, read, made, replaced, synced};
+ghost use Rattle.seg_directory.specs.CallResults.{Lists, Reads, Makes, Replaces, Syncs};
+ghost use Rattle.seg_directory.specs.Memory.{new_memory, memory_state, FailsAsListed, memory_after};
 
 use crate::call_record::CallRecord;
 use crate::stored_files::StoredFiles;
@@ -59,24 +58,12 @@ impl MemoryDirectory {
 }
 
 impl Directory for MemoryDirectory {
-    ghost tells = { λ _. true };
-
-    ghost files = { λ d. d.files };
-
-    ghost faults = { λ d. d.calls.faults };
-
-    ghost seen = { λ d. d.calls.answers };
+    ghost state = { λ d. memory_state d };
 
     fn list(&mut self, _alloc: Global) -> Result<u64, DirectoryError>
-        ensures number { IfOk result (λ n. n ≡ len self.old.files) }
-        ensures files { self.new.files ≡ self.old.files }
-        ensures seen { self.new.calls.answers ≡ self.old.calls.answers ++ listed result }
-        ensures cause { FaultHasCause DirectoryError.Fault self.old.calls.faults self.new.calls.faults result }
-        ensures never_missing { IsErrOf result DirectoryError.Missing → ⊥ }
-        ensures never_exists { IsErrOf result DirectoryError.Exists → ⊥ }
+        ensures does { Lists result (memory_state self.old) (memory_state self.new) }
         ensures fails { FailsAsListed self.old CallKind.List result }
-        ensures after { self.new
-            ≡ memory_after self.old CallKind.List result (listed result) self.old.files }
+        ensures after { self.new ≡ memory_after listed (listed 0) result self.old }
     {
         if self.calls.begin(CallKind::List)? {
             return Err(DirectoryError::Fault);
@@ -87,15 +74,9 @@ impl Directory for MemoryDirectory {
     }
 
     fn open_read(&mut self, _alloc: Global, name: &FileName) -> Result<OwnedBytes, DirectoryError>
-        ensures file { Opens (get self.old.files name.now) result }
-        ensures files { self.new.files ≡ self.old.files }
-        ensures seen { self.new.calls.answers ≡ self.old.calls.answers ++ opened name.now result }
-        ensures cause { FaultHasCause DirectoryError.Fault self.old.calls.faults self.new.calls.faults result }
-        ensures never_exists { IsErrOf result DirectoryError.Exists → ⊥ }
+        ensures does { Reads name.now result (memory_state self.old) (memory_state self.new) }
         ensures fails { FailsAsListed self.old CallKind.OpenRead result }
-        ensures after { self.new
-            ≡ memory_after self.old CallKind.OpenRead result
-            (opened name.now result) self.old.files }
+        ensures after { self.new ≡ memory_after (read name.now) (read name.now []) result self.old }
     {
         if self.calls.begin(CallKind::OpenRead)? {
             return Err(DirectoryError::Fault);
@@ -121,15 +102,9 @@ impl Directory for MemoryDirectory {
         name: &FileName,
         bytes: &[u8],
     ) -> Result<(), DirectoryError>
-        ensures file { WritesNew name.now bytes.now result self.old.files self.new.files }
-        ensures others { KeepsOthers name.now self.old.files self.new.files }
-        ensures seen { self.new.calls.answers ≡ self.old.calls.answers ++ wrote_new name.now result }
-        ensures cause { FaultHasCause DirectoryError.Fault self.old.calls.faults self.new.calls.faults result }
-        ensures never_missing { IsErrOf result DirectoryError.Missing → ⊥ }
+        ensures does { Makes name.now bytes.now result (memory_state self.old) (memory_state self.new) }
         ensures fails { FailsAsListed self.old CallKind.WriteNew result }
-        ensures after { self.new
-            ≡ memory_after self.old CallKind.WriteNew result
-            (wrote_new name.now result) (insert self.old.files name.now bytes.now) }
+        ensures after { self.new ≡ memory_after (λ _. made name.now bytes.now) (made name.now bytes.now) result self.old }
     {
         if self.calls.begin(CallKind::WriteNew)? {
             return Err(DirectoryError::Fault);
@@ -150,16 +125,9 @@ impl Directory for MemoryDirectory {
         name: &FileName,
         bytes: &[u8],
     ) -> Result<(), DirectoryError>
-        ensures file { Replaces name.now bytes.now result self.old.files self.new.files }
-        ensures others { KeepsOthers name.now self.old.files self.new.files }
-        ensures seen { self.new.calls.answers ≡ self.old.calls.answers ++ replaced name.now result }
-        ensures cause { FaultHasCause DirectoryError.Fault self.old.calls.faults self.new.calls.faults result }
-        ensures never_missing { IsErrOf result DirectoryError.Missing → ⊥ }
-        ensures never_exists { IsErrOf result DirectoryError.Exists → ⊥ }
+        ensures does { Replaces name.now bytes.now result (memory_state self.old) (memory_state self.new) }
         ensures fails { FailsAsListed self.old CallKind.AtomicWrite result }
-        ensures after { self.new
-            ≡ memory_after self.old CallKind.AtomicWrite result
-            (replaced name.now result) (insert self.old.files name.now bytes.now) }
+        ensures after { self.new ≡ memory_after (λ _. replaced name.now bytes.now) (replaced name.now bytes.now) result self.old }
     {
         if self.calls.begin(CallKind::AtomicWrite)? {
             return Err(DirectoryError::Fault);
@@ -170,14 +138,9 @@ impl Directory for MemoryDirectory {
     }
 
     fn sync_directory(&mut self, _alloc: Global) -> Result<(), DirectoryError>
-        ensures files { self.new.files ≡ self.old.files }
-        ensures seen { self.new.calls.answers ≡ self.old.calls.answers ++ synced result }
-        ensures cause { FaultHasCause DirectoryError.Fault self.old.calls.faults self.new.calls.faults result }
-        ensures never_missing { IsErrOf result DirectoryError.Missing → ⊥ }
-        ensures never_exists { IsErrOf result DirectoryError.Exists → ⊥ }
+        ensures does { Syncs result (memory_state self.old) (memory_state self.new) }
         ensures fails { FailsAsListed self.old CallKind.SyncDirectory result }
-        ensures after { self.new
-            ≡ memory_after self.old CallKind.SyncDirectory result (synced result) self.old.files }
+        ensures after { self.new ≡ memory_after (λ _. synced) synced result self.old }
     {
         if self.calls.begin(CallKind::SyncDirectory)? {
             return Err(DirectoryError::Fault);

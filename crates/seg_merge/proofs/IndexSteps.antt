@@ -12,7 +12,8 @@ use Rattle.seg_directory.specs.declared.answer.Answer.TheVariants as answer
 use Rattle.seg_meta.specs.Saving.{CreatingCounts}
 use Rattle.seg_model.specs.IndexOfFiles.{ListedSegment}
 use Rattle.seg_build.specs.SegmentFiles.{wrote}
-use Rattle.seg_batches.specs.Calls.{DirectoryState, Does}
+use Rattle.seg_batches.specs.Calls.{Does}
+use Rattle.seg_directory.specs.State.{DirectoryState}
 use Rattle.seg_batches.specs.Segments.{six_files, alive_files}
 use Rattle.seg_batches.proofs.Calls.{does-then, does-stop, does-among}
 use Rattle.seg_merge.specs.IndexFiles.{begun_answers, filled_answers, index_answers, index_names}

@@ -14,7 +14,8 @@ use Rattle.seg_model.specs.IndexOfFiles.{ListedSegment}
 use Rattle.seg_build.specs.SegmentFiles.{AreAbsent, KeepsAllBut, segment_names, wrote}
 use Rattle.seg_open.specs.SegmentRead as segment
 use Rattle.seg_open.specs.declared.segment_files.SegmentFiles.{SegmentFiles}
-use Rattle.seg_batches.specs.Calls.{DirectoryState, Does}
+use Rattle.seg_batches.specs.Calls.{Does}
+use Rattle.seg_directory.specs.State.{DirectoryState}
 use Rattle.seg_batches.proofs.Calls.{does-among}
 use Rattle.seg_merge.specs.IndexFiles.{filled_answers, index_names, undeleted}
 use Rattle.seg_merge.proofs.IndexSteps.{Outcome, among-meta, behind-six, stops-in-six}

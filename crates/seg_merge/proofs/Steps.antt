@@ -22,7 +22,8 @@ use Rattle.seg_meta.specs.Saving.{CreatingSeen, SavingSeen}
 use Rattle.seg_model.specs.IndexOfFiles as index
 use Rattle.seg_build.specs.Forms.{segment_forms}
 use Rattle.seg_build.specs.SegmentFiles.{KeepsAllBut, EndsAt, MakingSeen, wrote}
-use Rattle.seg_batches.specs.Calls.{DirectoryState, IsWhy, Stops, HasRisen, Does}
+use Rattle.seg_batches.specs.Calls.{IsWhy, Stops, HasRisen, Does}
+use Rattle.seg_directory.specs.State.{DirectoryState}
 use Rattle.seg_batches.proofs.Calls.{does-then, does-among}
 
 -- ---- answers

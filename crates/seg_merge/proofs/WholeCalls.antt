@@ -9,7 +9,8 @@ use Rattle.seg_build.specs.Holds.{Holds}
 use Rattle.seg_build.specs.SegmentFiles.{wrote}
 use Rattle.seg_open.specs.OpenSegment.{OpenSegment, contents_of}
 use Rattle.seg_join.specs.KeptSegment.{KeptSegment}
-use Rattle.seg_batches.specs.Calls.{DirectoryState, Does}
+use Rattle.seg_batches.specs.Calls.{Does}
+use Rattle.seg_directory.specs.State.{DirectoryState}
 use Rattle.seg_batches.specs.Segments.{six_files}
 use Rattle.seg_batches.proofs.Calls.{does-then, does-stop, does-among}
 use Rattle.seg_merge.specs.DirectoryCalls.{Asked, Directories, Ends, Lists, Writes, Begins, WritesThenReads, WritesBoth, StopsIn, work_listing, output_listing, documents, work_index, reading_back, too_many, output_index}

@@ -17,7 +17,7 @@ use Rattle.seg_build.specs.Laws.{BuiltHaveNoColumns}
 use Rattle.seg_open.specs.OpenSegment.{OpenSegment, contents_of}
 use Rattle.seg_join.specs.KeptSegment.{IsOfSchema, KeptSegment, kept_count, part_of}
 use Rattle.seg_join.specs.Laws.{BuiltPartsJoin}
-use Rattle.seg_batches.specs.Calls.{DirectoryState}
+use Rattle.seg_directory.specs.State.{DirectoryState}
 use Rattle.seg_batches.specs.Segments.{AllStand, AllTellAlive}
 use Rattle.seg_refusals.specs.Admitted.{Fits}
 use Rattle.seg_refusals.specs.Refusals.{IfRefusal, first_error, refusal_error}

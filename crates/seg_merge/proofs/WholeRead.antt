@@ -25,7 +25,7 @@ use Rattle.seg_build.specs.Laws.{HoldsOneContents}
 use Rattle.seg_open.specs.OpenSegment.{contents_of}
 use Rattle.seg_open.specs.SegmentOpened.{IsNoDamage}
 use Rattle.seg_join.specs.KeptSegment.{IsOfSchema, KeptSegment, part_of}
-use Rattle.seg_batches.specs.Calls.{DirectoryState}
+use Rattle.seg_directory.specs.State.{DirectoryState}
 use Rattle.seg_batches.specs.Reading.{ReadsDeletes, ReadsSegment, ReadsAll, StopsInSegment, in_files, in_alive, StopsReading}
 use Rattle.seg_batches.specs.Segments.{AllStand, AllTellAlive, TellsAlive, all_listed, deletes_of, listed, segment_of, segments_of}
 use Rattle.seg_merge.specs.Filling.{FilterFits, FiltersFit}

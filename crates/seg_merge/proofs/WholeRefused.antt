@@ -27,7 +27,8 @@ use Rattle.seg_build.specs.Built.{is_built_schema}
 use Rattle.seg_build.specs.Laws.{BuiltHaveNoColumns}
 use Rattle.seg_build.specs.WriterStart as start
 use Rattle.seg_open.specs.SegmentOpened.{IsNoDamage}
-use Rattle.seg_batches.specs.Calls.{DirectoryState, IsWhy, Does}
+use Rattle.seg_batches.specs.Calls.{IsWhy, Does}
+use Rattle.seg_directory.specs.State.{DirectoryState}
 use Rattle.seg_refusals.specs.Admitted.{IsValidIf}
 use Rattle.seg_refusals.specs.Inputs.{is_built_input}
 use Rattle.seg_refusals.specs.Refusals.{IfRefusal, IsRefusal, batches_error, build_error, first_error, input_error, refusal_error}

@@ -20,7 +20,7 @@ use Rattle.seg_build.specs.Laws.{HoldsOneContents}
 use Rattle.seg_build.specs.SegmentFiles.{AreAbsent, KeepsAllBut}
 use Rattle.seg_open.specs.SegmentOpened.{IsNoDamage}
 use Rattle.seg_join.specs.KeptSegment.{KeptSegment, kept_count, part_of}
-use Rattle.seg_batches.specs.Calls.{DirectoryState}
+use Rattle.seg_directory.specs.State.{DirectoryState}
 use Rattle.seg_batches.specs.Reading.{ReadsAll, StopsReading}
 use Rattle.seg_batches.specs.Segments.{AllStand, AllTellAlive, alive_file, alive_files, six_files}
 use Rattle.seg_batches.proofs.Calls.{does-nothing}

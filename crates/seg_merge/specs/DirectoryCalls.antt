@@ -12,7 +12,8 @@ use Rattle.seg_build.specs.Holds.{Holds}
 use Rattle.seg_build.specs.SegmentFiles.{wrote}
 use Rattle.seg_open.specs.OpenSegment.{OpenSegment, contents_of}
 use Rattle.seg_join.specs.KeptSegment.{KeptSegment, kept_count}
-use Rattle.seg_batches.specs.Calls.{DirectoryState, Does}
+use Rattle.seg_batches.specs.Calls.{Does}
+use Rattle.seg_directory.specs.State.{DirectoryState}
 use Rattle.seg_batches.specs.Reading.{ReadsAll, StopsReading}
 use Rattle.seg_batches.specs.Segments.{six_files}
 use Rattle.seg_refusals.specs.Refusals.{IsRefusal}

@@ -10,7 +10,8 @@ use Rattle.seg_model.specs.IndexOfFiles.{ListedSegment}
 use Rattle.seg_model.specs.Input.{Filter}
 use Rattle.seg_build.specs.SegmentFiles.{wrote}
 use Rattle.seg_join.specs.KeptSegment.{KeptSegment, kept_count}
-use Rattle.seg_batches.specs.Calls.{DirectoryState, Does}
+use Rattle.seg_batches.specs.Calls.{Does}
+use Rattle.seg_directory.specs.State.{DirectoryState}
 use Rattle.seg_batches.specs.Reading.{ReadsAll, StopsReading}
 use Rattle.seg_batches.specs.Segments.{six_files}
 use Rattle.seg_refusals.specs.Refusals.{IsRefusal}

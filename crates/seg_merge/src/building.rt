@@ -13,7 +13,6 @@ ghost use Rattle.seg_build.specs.WriterStart.{Tests};
 ghost use Rattle.seg_open.specs.OpenSegment.{contents_of};
 ghost use Rattle.seg_open.specs.SegmentOpened.{IsNoDamage};
 ghost use Rattle.seg_join.specs.KeptSegment.{part_of};
-ghost use Rattle.seg_batches.specs.Calls.{state_of};
 ghost use Rattle.seg_refusals.specs.Admitted.{IsValidIf};
 ghost use Rattle.seg_refusals.specs.Inputs.{input_of};
 ghost use Rattle.seg_refusals.specs.Refusals.{IfRefusal, first_error, refusal_error};
@@ -70,33 +69,33 @@ pub fn build_index<Z: Analyzers, W: Directory, O: Directory>(
     ensures untouched { (known : Known) → Tests known (Z.knows analyzers.now)
         → IfSome (first_error known (Z.tokens_of analyzers.now) (input_of schema.now settings.now operations.now cuts.now filters.now ids.now))
         (λ _. (work.new ≡ work.old) × (output.new ≡ output.old)) }
-    ensures refused { (known : Known) → Tests known (Z.knows analyzers.now) → IsTrue (W.tells work.old)
+    ensures refused { (known : Known) → Tests known (Z.knows analyzers.now) → IsTrue (W.state work.old).tells
         → IfErr result (IfRefusal (λ e. refusal_error known (Z.tokens_of analyzers.now) (input_of schema.now settings.now operations.now cuts.now filters.now ids.now) ≡ Some e)) }
     ensures refused_untold { (known : Known) → Tests known (Z.knows analyzers.now)
         → IfErr result (IfRefusal (λ e. (refusal_error known (Z.tokens_of analyzers.now) (input_of schema.now settings.now operations.now cuts.now filters.now ids.now) ≡ Some e)
         ⊎ (e ≡ TantivyError.InvalidArgument ArgumentCause.Documents))) }
     ensures valid { (known : Known) → Tests known (Z.knows analyzers.now)
-        → OnOk result (IsValidIf (IsTrue (W.tells work.old)) known (Z.tokens_of analyzers.now) (input_of schema.now settings.now operations.now cuts.now filters.now ids.now)) }
-    ensures index { IsTrue (W.tells work.old) → IfOk result (λ built. meta_of built ≡ output_meta (Z.tokens_of analyzers.now) (input_of schema.now settings.now operations.now cuts.now filters.now ids.now)) }
+        → OnOk result (IsValidIf (IsTrue (W.state work.old).tells) known (Z.tokens_of analyzers.now) (input_of schema.now settings.now operations.now cuts.now filters.now ids.now)) }
+    ensures index { IsTrue (W.state work.old).tells → IfOk result (λ built. meta_of built ≡ output_meta (Z.tokens_of analyzers.now) (input_of schema.now settings.now operations.now cuts.now filters.now ids.now)) }
     ensures meta { IfOk result (λ built. (documents : ℕ) × (meta_of built
         ≡ merged_meta (settings_of settings.now) schema.now (work_ids ids.now) (output_id ids.now) documents)) }
-    ensures work_index { IsTrue (W.tells work.old) → OnOk result (IsWorkIndexOf (Z.tokens_of analyzers.now) (input_of schema.now settings.now operations.now cuts.now filters.now ids.now) (W.files work.new)) }
-    ensures work_was_empty { IsTrue (W.tells work.old) → OnOk result (len (W.files work.old) ≡ 0) }
-    ensures output_index { IsTrue (W.tells work.old) → IsTrue (O.tells output.old) → OnOk result (IsOutputIndexOf (Z.tokens_of analyzers.now) (input_of schema.now settings.now operations.now cuts.now filters.now ids.now) (O.files output.new)) }
-    ensures output_meta { IsTrue (O.tells output.old) → IfOk result (λ built. index.index_of segment_forms (O.files output.new) ≡ Some (meta_of built)) }
-    ensures output_was_empty { IsTrue (O.tells output.old) → OnOk result (len (O.files output.old) ≡ 0) }
-    ensures fresh { IsTrue (W.tells work.old) → len (W.files work.old) ≡ 0
-        → IsTrue (O.tells output.old) → len (O.files output.old) ≡ 0
+    ensures work_index { IsTrue (W.state work.old).tells → OnOk result (IsWorkIndexOf (Z.tokens_of analyzers.now) (input_of schema.now settings.now operations.now cuts.now filters.now ids.now) (W.state work.new).files) }
+    ensures work_was_empty { IsTrue (W.state work.old).tells → OnOk result (len (W.state work.old).files ≡ 0) }
+    ensures output_index { IsTrue (W.state work.old).tells → IsTrue (O.state output.old).tells → OnOk result (IsOutputIndexOf (Z.tokens_of analyzers.now) (input_of schema.now settings.now operations.now cuts.now filters.now ids.now) (O.state output.new).files) }
+    ensures output_meta { IsTrue (O.state output.old).tells → IfOk result (λ built. index.index_of segment_forms (O.state output.new).files ≡ Some (meta_of built)) }
+    ensures output_was_empty { IsTrue (O.state output.old).tells → OnOk result (len (O.state output.old).files ≡ 0) }
+    ensures fresh { IsTrue (W.state work.old).tells → len (W.state work.old).files ≡ 0
+        → IsTrue (O.state output.old).tells → len (O.state output.old).files ≡ 0
         → result ≢ Err TantivyError.IndexAlreadyExists }
-    ensures whole { IsTrue (W.tells work.old) → IfErr result IsNoDamage }
+    ensures whole { IsTrue (W.state work.old).tells → IfErr result IsNoDamage }
     ensures calls { WritesUpTo (asked_of (Z.tokens_of analyzers.now) (input_of schema.now settings.now operations.now cuts.now filters.now ids.now)) result
         (record {
-          work = state_of (W.tells work.old) (W.files work.old) (W.seen work.old) (W.faults work.old);
-          output = state_of (O.tells output.old) (O.files output.old) (O.seen output.old) (O.faults output.old);
+          work = W.state work.old;
+          output = O.state output.old;
         })
         (record {
-          work = state_of (W.tells work.new) (W.files work.new) (W.seen work.new) (W.faults work.new);
-          output = state_of (O.tells output.new) (O.files output.new) (O.seen output.new) (O.faults output.new);
+          work = W.state work.new;
+          output = O.state output.new;
         }) }
 {
     let built = build_index_with_readers(
@@ -127,45 +126,45 @@ pub fn build_index_with_readers<Z: Analyzers, W: Directory, O: Directory>(
     ensures untouched { (known : Known) → Tests known (Z.knows analyzers.now)
         → IfSome (first_error known (Z.tokens_of analyzers.now) (input_of schema.now settings.now operations.now cuts.now filters.now ids.now))
         (λ _. (work.new ≡ work.old) × (output.new ≡ output.old)) }
-    ensures refused { (known : Known) → Tests known (Z.knows analyzers.now) → IsTrue (W.tells work.old)
+    ensures refused { (known : Known) → Tests known (Z.knows analyzers.now) → IsTrue (W.state work.old).tells
         → IfErr result (IfRefusal (λ e. refusal_error known (Z.tokens_of analyzers.now) (input_of schema.now settings.now operations.now cuts.now filters.now ids.now) ≡ Some e)) }
     ensures refused_untold { (known : Known) → Tests known (Z.knows analyzers.now)
         → IfErr result (IfRefusal (λ e. (refusal_error known (Z.tokens_of analyzers.now) (input_of schema.now settings.now operations.now cuts.now filters.now ids.now) ≡ Some e)
         ⊎ (e ≡ TantivyError.InvalidArgument ArgumentCause.Documents))) }
     ensures valid { (known : Known) → Tests known (Z.knows analyzers.now)
-        → OnOk result (IsValidIf (IsTrue (W.tells work.old)) known (Z.tokens_of analyzers.now) (input_of schema.now settings.now operations.now cuts.now filters.now ids.now)) }
+        → OnOk result (IsValidIf (IsTrue (W.state work.old).tells) known (Z.tokens_of analyzers.now) (input_of schema.now settings.now operations.now cuts.now filters.now ids.now)) }
     ensures meta { IfOk result (λ built. meta_of built.index
         ≡ merged_meta (settings_of settings.now) schema.now (work_ids ids.now) (output_id ids.now) built.output.documents) }
-    ensures work_index { IsTrue (W.tells work.old) → OnOk result (IsWorkIndexOf (Z.tokens_of analyzers.now) (input_of schema.now settings.now operations.now cuts.now filters.now ids.now) (W.files work.new)) }
-    ensures work_was_empty { IsTrue (W.tells work.old) → OnOk result (len (W.files work.old) ≡ 0) }
-    ensures output_index { IsTrue (W.tells work.old) → IsTrue (O.tells output.old) → OnOk result (IsOutputIndexOf (Z.tokens_of analyzers.now) (input_of schema.now settings.now operations.now cuts.now filters.now ids.now) (O.files output.new)) }
-    ensures output_meta { IsTrue (O.tells output.old) → IfOk result (λ built. index.index_of segment_forms (O.files output.new) ≡ Some (meta_of built.index)) }
-    ensures output_was_empty { IsTrue (O.tells output.old) → OnOk result (len (O.files output.old) ≡ 0) }
-    ensures fresh { IsTrue (W.tells work.old) → len (W.files work.old) ≡ 0
-        → IsTrue (O.tells output.old) → len (O.files output.old) ≡ 0
+    ensures work_index { IsTrue (W.state work.old).tells → OnOk result (IsWorkIndexOf (Z.tokens_of analyzers.now) (input_of schema.now settings.now operations.now cuts.now filters.now ids.now) (W.state work.new).files) }
+    ensures work_was_empty { IsTrue (W.state work.old).tells → OnOk result (len (W.state work.old).files ≡ 0) }
+    ensures output_index { IsTrue (W.state work.old).tells → IsTrue (O.state output.old).tells → OnOk result (IsOutputIndexOf (Z.tokens_of analyzers.now) (input_of schema.now settings.now operations.now cuts.now filters.now ids.now) (O.state output.new).files) }
+    ensures output_meta { IsTrue (O.state output.old).tells → IfOk result (λ built. index.index_of segment_forms (O.state output.new).files ≡ Some (meta_of built.index)) }
+    ensures output_was_empty { IsTrue (O.state output.old).tells → OnOk result (len (O.state output.old).files ≡ 0) }
+    ensures fresh { IsTrue (W.state work.old).tells → len (W.state work.old).files ≡ 0
+        → IsTrue (O.state output.old).tells → len (O.state output.old).files ≡ 0
         → result ≢ Err TantivyError.IndexAlreadyExists }
-    ensures whole { IsTrue (W.tells work.old) → IfErr result IsNoDamage }
+    ensures whole { IsTrue (W.state work.old).tells → IfErr result IsNoDamage }
     ensures calls { WritesUpTo (asked_of (Z.tokens_of analyzers.now) (input_of schema.now settings.now operations.now cuts.now filters.now ids.now)) result
         (record {
-          work = state_of (W.tells work.old) (W.files work.old) (W.seen work.old) (W.faults work.old);
-          output = state_of (O.tells output.old) (O.files output.old) (O.seen output.old) (O.faults output.old);
+          work = W.state work.old;
+          output = O.state output.old;
         })
         (record {
-          work = state_of (W.tells work.new) (W.files work.new) (W.seen work.new) (W.faults work.new);
-          output = state_of (O.tells output.new) (O.files output.new) (O.seen output.new) (O.faults output.new);
+          work = W.state work.new;
+          output = O.state output.new;
         }) }
     ensures written { IfOk result (λ built. WritesBoth (asked_of (Z.tokens_of analyzers.now) (input_of schema.now settings.now operations.now cuts.now filters.now ids.now)) built.segments.items built.output
         (record {
-          work = state_of (W.tells work.old) (W.files work.old) (W.seen work.old) (W.faults work.old);
-          output = state_of (O.tells output.old) (O.files output.old) (O.seen output.old) (O.faults output.old);
+          work = W.state work.old;
+          output = O.state output.old;
         })
         (record {
-          work = state_of (W.tells work.new) (W.files work.new) (W.seen work.new) (W.faults work.new);
-          output = state_of (O.tells output.new) (O.files output.new) (O.seen output.new) (O.faults output.new);
+          work = W.state work.new;
+          output = O.state output.new;
         })) }
-    ensures readings { IsTrue (W.tells work.old) → IfOk result (λ built. AreReadingsOf schema.now (Z.tokens_of analyzers.now)
+    ensures readings { IsTrue (W.state work.old).tells → IfOk result (λ built. AreReadingsOf schema.now (Z.tokens_of analyzers.now)
         (input_batches (Z.tokens_of analyzers.now) (input_of schema.now settings.now operations.now cuts.now filters.now ids.now)) (map part_of built.segments.items)) }
-    ensures survivors { IsTrue (W.tells work.old) → IfOk result (λ built. full_reading schema.now (Z.tokens_of analyzers.now)
+    ensures survivors { IsTrue (W.state work.old).tells → IfOk result (λ built. full_reading schema.now (Z.tokens_of analyzers.now)
         (input_survivors (Z.tokens_of analyzers.now) (input_of schema.now settings.now operations.now cuts.now filters.now ids.now)) ≡ Some (contents_of built.output)) }
 {
     built_schemas_have_no_columns();

@@ -6,7 +6,7 @@ ghost use Rattle.seg_meta.specs.Saving.{IsMetaList};
 ghost use Rattle.seg_meta.specs.View.{meta_of};
 ghost use Rattle.seg_model.specs.IndexOfFiles as index;
 ghost use Rattle.seg_build.specs.Forms.{segment_forms};
-ghost use Rattle.seg_batches.specs.Calls.{Does, state_of};
+ghost use Rattle.seg_batches.specs.Calls.{Does};
 ghost use Rattle.seg_merge.specs.DirectoryCalls.{Lists};
 ghost use Rattle.seg_merge.specs.IndexFiles.{begun_answers};
 
@@ -18,13 +18,13 @@ use std::alloc::Global;
 
 /// Refuses a directory that has files.
 pub(crate) fn refuse_files<W: Directory>(alloc: Global, directory: &mut W) -> TResult<()>
-    ensures empty { IsTrue (W.tells directory.old) → OnOk result (len (W.files directory.old) ≡ 0) }
-    ensures fresh { IsTrue (W.tells directory.old) → len (W.files directory.old) ≡ 0
+    ensures empty { IsTrue (W.state directory.old).tells → OnOk result (len (W.state directory.old).files ≡ 0) }
+    ensures fresh { IsTrue (W.state directory.old).tells → len (W.state directory.old).files ≡ 0
         → result ≢ Err TantivyError.IndexAlreadyExists }
-    ensures files { W.files directory.new ≡ W.files directory.old }
+    ensures files { (W.state directory.new).files ≡ (W.state directory.old).files }
     ensures calls { Lists result
-        (state_of (W.tells directory.old) (W.files directory.old) (W.seen directory.old) (W.faults directory.old))
-        (state_of (W.tells directory.new) (W.files directory.new) (W.seen directory.new) (W.faults directory.new)) }
+        (W.state directory.old)
+        (W.state directory.new) }
 {
     match list_files(alloc, directory) {
         Ok(0) => Ok(()),
@@ -40,11 +40,11 @@ pub(crate) fn begin_index<W: Directory>(
     settings: &IndexSettings,
     directory: &mut W,
 ) -> TResult<()>
-    ensures fresh { IsTrue (W.tells directory.old) → len (W.files directory.old) ≡ 0
+    ensures fresh { IsTrue (W.state directory.old).tells → len (W.state directory.old).files ≡ 0
         → result ≢ Err TantivyError.IndexAlreadyExists }
     ensures calls { Does begun_answers (FileName.Meta ∷ []) result
-        (state_of (W.tells directory.old) (W.files directory.old) (W.seen directory.old) (W.faults directory.old))
-        (state_of (W.tells directory.new) (W.files directory.new) (W.seen directory.new) (W.faults directory.new)) }
+        (W.state directory.old)
+        (W.state directory.new) }
 {
     let Ok(schema) = schema.copy(alloc) else {
         return Err(TantivyError::OutOfMemory);
@@ -63,12 +63,12 @@ pub(crate) fn save_index<W: Directory>(
     directory: &mut W,
 ) -> TResult<()>
     requires list { IsMetaList metas.now.segments }
-    ensures index { IsTrue (W.tells directory.old) → OnOk result
-        (index.index_of segment_forms (W.files directory.new) ≡ Some (meta_of metas.now)) }
+    ensures index { IsTrue (W.state directory.old).tells → OnOk result
+        (index.index_of segment_forms (W.state directory.new).files ≡ Some (meta_of metas.now)) }
     ensures fresh { result ≢ Err TantivyError.IndexAlreadyExists }
     ensures calls { Does (answer.Wrote FileName.Meta ∷ []) (FileName.Meta ∷ []) result
-        (state_of (W.tells directory.old) (W.files directory.old) (W.seen directory.old) (W.faults directory.old))
-        (state_of (W.tells directory.new) (W.files directory.new) (W.seen directory.new) (W.faults directory.new)) }
+        (W.state directory.old)
+        (W.state directory.new) }
 {
     metas_read_back(metas);
     match save_metas(alloc, metas, directory) {

@@ -21,7 +21,6 @@ ghost use Rattle.seg_open.specs.OpenSegment.{contents_of};
 ghost use Rattle.seg_open.specs.SegmentOpened.{IsNoDamage};
 ghost use Rattle.seg_open.specs.SegmentRead as segment;
 ghost use Rattle.seg_join.specs.KeptSegment.{IsOfSchema, part_of};
-ghost use Rattle.seg_batches.specs.Calls.{state_of};
 ghost use Rattle.seg_batches.specs.Segments.{AllStand, AllTellAlive};
 ghost use Rattle.seg_refusals.specs.Admitted.{Fits};
 ghost use Rattle.seg_refusals.specs.Inputs.{input_of};
@@ -72,9 +71,9 @@ pub(crate) fn write_indexes<Z: Analyzers, W: Directory, O: Directory>(
     output: &mut O,
 ) -> TResult<BuiltSegments>
     requires fits { Fits (Z.tokens_of analyzers.now) (input_of schema.now settings.now operations.now cuts.now filters.now ids.now) }
-    ensures readings { IsTrue (W.tells work.old) → IfOk result (λ built. AreReadingsOf schema.now (Z.tokens_of analyzers.now)
+    ensures readings { IsTrue (W.state work.old).tells → IfOk result (λ built. AreReadingsOf schema.now (Z.tokens_of analyzers.now)
         (input_batches (Z.tokens_of analyzers.now) (input_of schema.now settings.now operations.now cuts.now filters.now ids.now)) (map part_of built.segments.items)) }
-    ensures survivors { IsTrue (W.tells work.old) → IfOk result (λ built. full_reading schema.now (Z.tokens_of analyzers.now)
+    ensures survivors { IsTrue (W.state work.old).tells → IfOk result (λ built. full_reading schema.now (Z.tokens_of analyzers.now)
         (input_survivors (Z.tokens_of analyzers.now) (input_of schema.now settings.now operations.now cuts.now filters.now ids.now)) ≡ Some (contents_of built.output)) }
     ensures few { IfOk result (λ built. built.output.documents < 2 ^ 31) }
     ensures small { OnOk result (AllByRecursion (λ (b : Batch). length b.documents < 2 ^ 31) (input_batches (Z.tokens_of analyzers.now) (input_of schema.now settings.now operations.now cuts.now filters.now ids.now))) }
@@ -82,37 +81,37 @@ pub(crate) fn write_indexes<Z: Analyzers, W: Directory, O: Directory>(
     ensures meta { IfOk result (λ built. meta_of built.metas
         ≡ merged_meta (settings_of settings.now) schema.now (work_ids ids.now) (output_id ids.now) built.output.documents) }
     ensures list { IfOk result (λ built. IsMetaList built.metas.segments) }
-    ensures work_index { IsTrue (W.tells work.old) → OnOk result (IsWorkIndexOf (Z.tokens_of analyzers.now) (input_of schema.now settings.now operations.now cuts.now filters.now ids.now) (W.files work.new)) }
-    ensures work_was_empty { IsTrue (W.tells work.old) → OnOk result (len (W.files work.old) ≡ 0) }
-    ensures output_meta { IsTrue (O.tells output.old) → IfOk result (λ built. IsMergedIndexOf (input_of schema.now settings.now operations.now cuts.now filters.now ids.now) built.output.documents (O.files output.new)) }
-    ensures output_index { IsTrue (W.tells work.old) → IsTrue (O.tells output.old) → OnOk result (IsOutputIndexOf (Z.tokens_of analyzers.now) (input_of schema.now settings.now operations.now cuts.now filters.now ids.now) (O.files output.new)) }
-    ensures output_was_empty { IsTrue (O.tells output.old) → OnOk result (len (O.files output.old) ≡ 0) }
-    ensures fresh { IsTrue (W.tells work.old) → len (W.files work.old) ≡ 0
-        → IsTrue (O.tells output.old) → len (O.files output.old) ≡ 0
+    ensures work_index { IsTrue (W.state work.old).tells → OnOk result (IsWorkIndexOf (Z.tokens_of analyzers.now) (input_of schema.now settings.now operations.now cuts.now filters.now ids.now) (W.state work.new).files) }
+    ensures work_was_empty { IsTrue (W.state work.old).tells → OnOk result (len (W.state work.old).files ≡ 0) }
+    ensures output_meta { IsTrue (O.state output.old).tells → IfOk result (λ built. IsMergedIndexOf (input_of schema.now settings.now operations.now cuts.now filters.now ids.now) built.output.documents (O.state output.new).files) }
+    ensures output_index { IsTrue (W.state work.old).tells → IsTrue (O.state output.old).tells → OnOk result (IsOutputIndexOf (Z.tokens_of analyzers.now) (input_of schema.now settings.now operations.now cuts.now filters.now ids.now) (O.state output.new).files) }
+    ensures output_was_empty { IsTrue (O.state output.old).tells → OnOk result (len (O.state output.old).files ≡ 0) }
+    ensures fresh { IsTrue (W.state work.old).tells → len (W.state work.old).files ≡ 0
+        → IsTrue (O.state output.old).tells → len (O.state output.old).files ≡ 0
         → result ≢ Err TantivyError.IndexAlreadyExists }
-    ensures refused { (known : Known) → Tests known (Z.knows analyzers.now) → first_error known (Z.tokens_of analyzers.now) (input_of schema.now settings.now operations.now cuts.now filters.now ids.now) ≡ None → IsTrue (W.tells work.old)
+    ensures refused { (known : Known) → Tests known (Z.knows analyzers.now) → first_error known (Z.tokens_of analyzers.now) (input_of schema.now settings.now operations.now cuts.now filters.now ids.now) ≡ None → IsTrue (W.state work.old).tells
         → IfErr result (IfRefusal (λ e. refusal_error known (Z.tokens_of analyzers.now) (input_of schema.now settings.now operations.now cuts.now filters.now ids.now) ≡ Some e)) }
     ensures refused_untold { (known : Known) → Tests known (Z.knows analyzers.now) → first_error known (Z.tokens_of analyzers.now) (input_of schema.now settings.now operations.now cuts.now filters.now ids.now) ≡ None
         → IfErr result (IfRefusal (λ e. (refusal_error known (Z.tokens_of analyzers.now) (input_of schema.now settings.now operations.now cuts.now filters.now ids.now) ≡ Some e)
         ⊎ (e ≡ TantivyError.InvalidArgument Documents))) }
-    ensures whole { IsTrue (W.tells work.old) → IfErr result IsNoDamage }
+    ensures whole { IsTrue (W.state work.old).tells → IfErr result IsNoDamage }
     ensures written { IfOk result (λ built. WritesBoth (asked_of (Z.tokens_of analyzers.now) (input_of schema.now settings.now operations.now cuts.now filters.now ids.now)) built.segments.items built.output
         (record {
-          work = state_of (W.tells work.old) (W.files work.old) (W.seen work.old) (W.faults work.old);
-          output = state_of (O.tells output.old) (O.files output.old) (O.seen output.old) (O.faults output.old);
+          work = W.state work.old;
+          output = O.state output.old;
         })
         (record {
-          work = state_of (W.tells work.new) (W.files work.new) (W.seen work.new) (W.faults work.new);
-          output = state_of (O.tells output.new) (O.files output.new) (O.seen output.new) (O.faults output.new);
+          work = W.state work.new;
+          output = O.state output.new;
         })) }
     ensures stops { IfErr result (λ e. StopsIn (asked_of (Z.tokens_of analyzers.now) (input_of schema.now settings.now operations.now cuts.now filters.now ids.now)) e
         (record {
-          work = state_of (W.tells work.old) (W.files work.old) (W.seen work.old) (W.faults work.old);
-          output = state_of (O.tells output.old) (O.files output.old) (O.seen output.old) (O.faults output.old);
+          work = W.state work.old;
+          output = O.state output.old;
         })
         (record {
-          work = state_of (W.tells work.new) (W.files work.new) (W.seen work.new) (W.faults work.new);
-          output = state_of (O.tells output.new) (O.files output.new) (O.seen output.new) (O.faults output.new);
+          work = W.state work.new;
+          output = O.state output.new;
         })) }
 {
     joining_is_invisible();
@@ -141,20 +140,20 @@ fn begin_indexes<W: Directory, O: Directory>(
     work: &mut W,
     output: &mut O,
 ) -> TResult<()>
-    ensures work_was_empty { IsTrue (W.tells work.old) → OnOk result (len (W.files work.old) ≡ 0) }
-    ensures output_was_empty { IsTrue (O.tells output.old) → OnOk result (len (O.files output.old) ≡ 0) }
-    ensures fresh { IsTrue (W.tells work.old) → len (W.files work.old) ≡ 0
-        → IsTrue (O.tells output.old) → len (O.files output.old) ≡ 0
+    ensures work_was_empty { IsTrue (W.state work.old).tells → OnOk result (len (W.state work.old).files ≡ 0) }
+    ensures output_was_empty { IsTrue (O.state output.old).tells → OnOk result (len (O.state output.old).files ≡ 0) }
+    ensures fresh { IsTrue (W.state work.old).tells → len (W.state work.old).files ≡ 0
+        → IsTrue (O.state output.old).tells → len (O.state output.old).files ≡ 0
         → result ≢ Err TantivyError.IndexAlreadyExists }
-    ensures output_files { O.files output.new ≡ O.files output.old }
+    ensures output_files { (O.state output.new).files ≡ (O.state output.old).files }
     ensures calls { BeginsUpTo result
         (record {
-          work = state_of (W.tells work.old) (W.files work.old) (W.seen work.old) (W.faults work.old);
-          output = state_of (O.tells output.old) (O.files output.old) (O.seen output.old) (O.faults output.old);
+          work = W.state work.old;
+          output = O.state output.old;
         })
         (record {
-          work = state_of (W.tells work.new) (W.files work.new) (W.seen work.new) (W.faults work.new);
-          output = state_of (O.tells output.new) (O.files output.new) (O.seen output.new) (O.faults output.new);
+          work = W.state work.new;
+          output = O.state output.new;
         }) }
 {
     refuse_files(alloc, work)?;
@@ -188,29 +187,29 @@ fn write_work<Z: Analyzers, W: Directory>(
     requires ids { length ids.now ≡ length cuts.now + 1 }
     requires few { length ids.now < 2 ^ 32 }
     requires distinct { are_distinct ids.now ≡ true }
-    ensures index { IsTrue (W.tells work.old) → OnOk result (index.index_of segment_forms (W.files work.new) ≡ Some (segments_meta (settings_of settings.now) schema.now (length operations.now)
+    ensures index { IsTrue (W.state work.old).tells → OnOk result (index.index_of segment_forms (W.state work.new).files ≡ Some (segments_meta (settings_of settings.now) schema.now (length operations.now)
         (listed_of schema.now (Z.tokens_of analyzers.now) ids.now cuts.now (map operation_of operations.now)))) }
-    ensures stand { IsTrue (W.tells work.old) → OnOk result (AllStand schema.now (Z.tokens_of analyzers.now) (W.files work.new) ids.now
+    ensures stand { IsTrue (W.state work.old).tells → OnOk result (AllStand schema.now (Z.tokens_of analyzers.now) (W.state work.new).files ids.now
         (batches schema.now (Z.tokens_of analyzers.now) cuts.now (map operation_of operations.now))) }
-    ensures alive { IsTrue (W.tells work.old) → OnOk result (AllTellAlive (W.files work.new) (length operations.now)
+    ensures alive { IsTrue (W.state work.old).tells → OnOk result (AllTellAlive (W.state work.new).files (length operations.now)
         (written_of schema.now (Z.tokens_of analyzers.now) ids.now cuts.now (map operation_of operations.now))) }
     ensures small { OnOk result (AllByRecursion (λ (b : Batch). length b.documents < 2 ^ 31)
         (batches schema.now (Z.tokens_of analyzers.now) cuts.now (map operation_of operations.now))) }
     ensures taken { OnOk result (list_all (is_taken schema.now (Z.tokens_of analyzers.now)) (additions (map operation_of operations.now)) ≡ true) }
-    ensures readings { IsTrue (W.tells work.old) → IfOk result (λ segments. AreReadingsOf schema.now (Z.tokens_of analyzers.now)
+    ensures readings { IsTrue (W.state work.old).tells → IfOk result (λ segments. AreReadingsOf schema.now (Z.tokens_of analyzers.now)
         (batches schema.now (Z.tokens_of analyzers.now) cuts.now (map operation_of operations.now)) (map part_of segments.items)) }
-    ensures fresh { IsTrue (W.tells work.old)
-        → AreAbsent (segments_files (listed_of schema.now (Z.tokens_of analyzers.now) ids.now cuts.now (map operation_of operations.now))) (W.files work.old)
+    ensures fresh { IsTrue (W.state work.old).tells
+        → AreAbsent (segments_files (listed_of schema.now (Z.tokens_of analyzers.now) ids.now cuts.now (map operation_of operations.now))) (W.state work.old).files
         → result ≢ Err TantivyError.IndexAlreadyExists }
     ensures refused { (known : Known) → Tests known (Z.knows analyzers.now) → start_refusal known 15000 schema.now settings.now ≡ None
         → IfErr result (IfRefusal (λ e. batches_error schema.now (Z.tokens_of analyzers.now) 0 cuts.now (map operation_of operations.now) ≡ Some e)) }
-    ensures whole { IsTrue (W.tells work.old) → IfErr result IsNoDamage }
+    ensures whole { IsTrue (W.state work.old).tells → IfErr result IsNoDamage }
     ensures reads { IfOk result (λ segments. FillsThenReads schema.now (listed_of schema.now (Z.tokens_of analyzers.now) ids.now cuts.now (map operation_of operations.now)) segments.items
-        (state_of (W.tells work.old) (W.files work.old) (W.seen work.old) (W.faults work.old))
-        (state_of (W.tells work.new) (W.files work.new) (W.seen work.new) (W.faults work.new))) }
+        (W.state work.old)
+        (W.state work.new)) }
     ensures stops { IfErr result (λ e. FillStops schema.now (listed_of schema.now (Z.tokens_of analyzers.now) ids.now cuts.now (map operation_of operations.now)) e
-        (state_of (W.tells work.old) (W.files work.old) (W.seen work.old) (W.faults work.old))
-        (state_of (W.tells work.new) (W.files work.new) (W.seen work.new) (W.faults work.new))) }
+        (W.state work.old)
+        (W.state work.new)) }
 {
     files_hold_one_contents();
     let metas = fill_work_index(
@@ -246,16 +245,16 @@ fn write_output<O: Directory>(
     ensures meta { IfOk result (λ written. meta_of written.metas
         ≡ merged_meta (settings_of settings.now) schema.now work_ids.now output_id written.reader.documents) }
     ensures list { IfOk result (λ written. IsMetaList written.metas.segments) }
-    ensures index { IsTrue (O.tells output.old) → IfOk result (λ written. index.index_of segment_forms (O.files output.new) ≡ Some (meta_of written.metas)) }
-    ensures held { IsTrue (O.tells output.old) → IfOk result (λ written. Holds (O.files output.new) output_id schema.now (contents_of written.reader)) }
-    ensures fresh { IsTrue (O.tells output.old) → len (O.files output.old) ≡ 0
+    ensures index { IsTrue (O.state output.old).tells → IfOk result (λ written. index.index_of segment_forms (O.state output.new).files ≡ Some (meta_of written.metas)) }
+    ensures held { IsTrue (O.state output.old).tells → IfOk result (λ written. Holds (O.state output.new).files output_id schema.now (contents_of written.reader)) }
+    ensures fresh { IsTrue (O.state output.old).tells → len (O.state output.old).files ≡ 0
         → result ≢ Err TantivyError.IndexAlreadyExists }
     ensures writes { IfOk result (λ written. WritesOne output_id written.reader.documents (Ok tt)
-        (state_of (O.tells output.old) (O.files output.old) (O.seen output.old) (O.faults output.old))
-        (state_of (O.tells output.new) (O.files output.new) (O.seen output.new) (O.faults output.new))) }
+        (O.state output.old)
+        (O.state output.new)) }
     ensures stops { IfErr result (λ e. OutputStops output_id (filtered_segments filters.now segments.now) e
-        (state_of (O.tells output.old) (O.files output.old) (O.seen output.old) (O.faults output.old))
-        (state_of (O.tells output.new) (O.files output.new) (O.seen output.new) (O.faults output.new))) }
+        (O.state output.old)
+        (O.state output.new)) }
 {
     spelled_files_hold();
     let merged = merge_segments(alloc, schema, settings, filters, segments)?;
@@ -282,13 +281,13 @@ fn write_merged<O: Directory>(
     ensures meta { IfOk result (λ metas. meta_of metas
         ≡ merged_meta (settings_of settings.now) schema.now work_ids.now output_id merged.now.reader.documents) }
     ensures list { IfOk result (λ metas. IsMetaList metas.segments) }
-    ensures index { IsTrue (O.tells output.old) → IfOk result (λ metas. index.index_of segment_forms (O.files output.new) ≡ Some (meta_of metas)) }
-    ensures files { IsTrue (O.tells output.old) → OnOk result (segment.HasFiles (O.files output.new) output_id merged.now.files) }
-    ensures fresh { IsTrue (O.tells output.old) → len (O.files output.old) ≡ 0
+    ensures index { IsTrue (O.state output.old).tells → IfOk result (λ metas. index.index_of segment_forms (O.state output.new).files ≡ Some (meta_of metas)) }
+    ensures files { IsTrue (O.state output.old).tells → OnOk result (segment.HasFiles (O.state output.new).files output_id merged.now.files) }
+    ensures fresh { IsTrue (O.state output.old).tells → len (O.state output.old).files ≡ 0
         → result ≢ Err TantivyError.IndexAlreadyExists }
     ensures calls { ProceedsAs (undeleted output_id merged.now.reader.documents ∷ []) result
-        (state_of (O.tells output.old) (O.files output.old) (O.seen output.old) (O.faults output.old))
-        (state_of (O.tells output.new) (O.files output.new) (O.seen output.new) (O.faults output.new)) }
+        (O.state output.old)
+        (O.state output.new) }
 {
     let documents = merged.reader.max_doc();
     let Ok(metas) = output_metas(alloc, schema, settings, work_ids, output_id, documents) else {

@@ -7,7 +7,7 @@ ghost use Rattle.seg_model.specs.IndexOfFiles as index;
 ghost use Rattle.seg_build.specs.Forms.{segment_forms};
 ghost use Rattle.seg_build.specs.SegmentFiles.{AreAbsent, segment_names};
 ghost use Rattle.seg_open.specs.SegmentRead as segment;
-ghost use Rattle.seg_batches.specs.Calls.{Does, state_of};
+ghost use Rattle.seg_batches.specs.Calls.{Does};
 ghost use Rattle.seg_merge.specs.IndexFiles.{filled_answers, index_answers, index_names, undeleted};
 
 use crate::index_files::{begin_index, save_index};
@@ -28,15 +28,15 @@ pub(crate) fn write_output_index<O: Directory>(
     output: &mut O,
 ) -> TResult<()>
     requires list { IsMetaList metas.now.segments }
-    ensures index { IsTrue (O.tells output.old) → OnOk result
-        (index.index_of segment_forms (O.files output.new) ≡ Some (meta_of metas.now)) }
-    ensures files { IsTrue (O.tells output.old) → OnOk result
-        (segment.HasFiles (O.files output.new) id files.now) }
-    ensures fresh { IsTrue (O.tells output.old) → len (O.files output.old) ≡ 0
+    ensures index { IsTrue (O.state output.old).tells → OnOk result
+        (index.index_of segment_forms (O.state output.new).files ≡ Some (meta_of metas.now)) }
+    ensures files { IsTrue (O.state output.old).tells → OnOk result
+        (segment.HasFiles (O.state output.new).files id files.now) }
+    ensures fresh { IsTrue (O.state output.old).tells → len (O.state output.old).files ≡ 0
         → result ≢ Err TantivyError.IndexAlreadyExists }
     ensures calls { Does (index_answers (undeleted id documents ∷ [])) (index_names (undeleted id documents ∷ [])) result
-        (state_of (O.tells output.old) (O.files output.old) (O.seen output.old) (O.faults output.old))
-        (state_of (O.tells output.new) (O.files output.new) (O.seen output.new) (O.faults output.new)) }
+        (O.state output.old)
+        (O.state output.new) }
 {
     match begin_index(alloc, &metas.schema, &metas.index_settings, output) {
         Ok(()) => {}
@@ -55,15 +55,15 @@ fn fill_output_index<O: Directory>(
     output: &mut O,
 ) -> TResult<()>
     requires list { IsMetaList metas.now.segments }
-    ensures index { IsTrue (O.tells output.old) → OnOk result
-        (index.index_of segment_forms (O.files output.new) ≡ Some (meta_of metas.now)) }
-    ensures files { IsTrue (O.tells output.old) → OnOk result
-        (segment.HasFiles (O.files output.new) id files.now) }
-    ensures fresh { IsTrue (O.tells output.old) → AreAbsent (segment_names id) (O.files output.old)
+    ensures index { IsTrue (O.state output.old).tells → OnOk result
+        (index.index_of segment_forms (O.state output.new).files ≡ Some (meta_of metas.now)) }
+    ensures files { IsTrue (O.state output.old).tells → OnOk result
+        (segment.HasFiles (O.state output.new).files id files.now) }
+    ensures fresh { IsTrue (O.state output.old).tells → AreAbsent (segment_names id) (O.state output.old).files
         → result ≢ Err TantivyError.IndexAlreadyExists }
     ensures calls { Does (filled_answers (undeleted id documents ∷ [])) (index_names (undeleted id documents ∷ [])) result
-        (state_of (O.tells output.old) (O.files output.old) (O.seen output.old) (O.faults output.old))
-        (state_of (O.tells output.new) (O.files output.new) (O.seen output.new) (O.faults output.new)) }
+        (O.state output.old)
+        (O.state output.new) }
 {
     match files.write(alloc, id, output) {
         Ok(()) => {}

@@ -12,7 +12,7 @@ ghost use Rattle.seg_build.specs.Forms.{segment_forms};
 ghost use Rattle.seg_build.specs.SegmentFiles.{AreAbsent, wrote};
 ghost use Rattle.seg_build.specs.View.{operation_of};
 ghost use Rattle.seg_build.specs.WriterStart.{Tests, start_refusal};
-ghost use Rattle.seg_batches.specs.Calls.{Does, state_of};
+ghost use Rattle.seg_batches.specs.Calls.{Does};
 ghost use Rattle.seg_batches.specs.Segments.{AllStand, AllTellAlive, alive_files, all_listed};
 ghost use Rattle.seg_refusals.specs.Refusals.{IfRefusal, batches_error};
 ghost use Rattle.seg_merge.specs.Filling.{FillsUpTo};
@@ -47,22 +47,22 @@ pub(crate) fn fill_work_index<Z: Analyzers, W: Directory>(
     requires distinct { are_distinct ids.now ≡ true }
     ensures meta { IfOk result (λ metas. meta_of metas ≡ segments_meta (settings_of settings.now) schema.now (length operations.now)
         (listed_of schema.now (Z.tokens_of analyzers.now) ids.now cuts.now (map operation_of operations.now))) }
-    ensures index { IsTrue (W.tells work.old) → IfOk result (λ metas. index.index_of segment_forms (W.files work.new) ≡ Some (meta_of metas)) }
-    ensures stand { IsTrue (W.tells work.old) → OnOk result (AllStand schema.now (Z.tokens_of analyzers.now) (W.files work.new) ids.now
+    ensures index { IsTrue (W.state work.old).tells → IfOk result (λ metas. index.index_of segment_forms (W.state work.new).files ≡ Some (meta_of metas)) }
+    ensures stand { IsTrue (W.state work.old).tells → OnOk result (AllStand schema.now (Z.tokens_of analyzers.now) (W.state work.new).files ids.now
         (batches schema.now (Z.tokens_of analyzers.now) cuts.now (map operation_of operations.now))) }
-    ensures alive { IsTrue (W.tells work.old) → OnOk result (AllTellAlive (W.files work.new) (length operations.now)
+    ensures alive { IsTrue (W.state work.old).tells → OnOk result (AllTellAlive (W.state work.new).files (length operations.now)
         (written_of schema.now (Z.tokens_of analyzers.now) ids.now cuts.now (map operation_of operations.now))) }
     ensures small { OnOk result (AllByRecursion (λ (b : Batch). length b.documents < 2 ^ 31)
         (batches schema.now (Z.tokens_of analyzers.now) cuts.now (map operation_of operations.now))) }
     ensures taken { OnOk result (list_all (is_taken schema.now (Z.tokens_of analyzers.now)) (additions (map operation_of operations.now)) ≡ true) }
-    ensures fresh { IsTrue (W.tells work.old)
-        → AreAbsent (segments_files (listed_of schema.now (Z.tokens_of analyzers.now) ids.now cuts.now (map operation_of operations.now))) (W.files work.old)
+    ensures fresh { IsTrue (W.state work.old).tells
+        → AreAbsent (segments_files (listed_of schema.now (Z.tokens_of analyzers.now) ids.now cuts.now (map operation_of operations.now))) (W.state work.old).files
         → result ≢ Err TantivyError.IndexAlreadyExists }
     ensures refused { (known : Known) → Tests known (Z.knows analyzers.now) → start_refusal known 15000 schema.now settings.now ≡ None
         → IfErr result (IfRefusal (λ e. batches_error schema.now (Z.tokens_of analyzers.now) 0 cuts.now (map operation_of operations.now) ≡ Some e)) }
     ensures calls { FillsUpTo (listed_of schema.now (Z.tokens_of analyzers.now) ids.now cuts.now (map operation_of operations.now)) result
-        (state_of (W.tells work.old) (W.files work.old) (W.seen work.old) (W.faults work.old))
-        (state_of (W.tells work.new) (W.files work.new) (W.seen work.new) (W.faults work.new)) }
+        (W.state work.old)
+        (W.state work.new) }
 {
     let segments = match write_batches(
         alloc, schema, settings, analyzers, operations, cuts, ids, work,
@@ -86,14 +86,14 @@ fn finish_work_index<W: Directory>(
     requires few { length segments.now < 2 ^ 32 }
     requires distinct { are_distinct (map (λ s. s.id) segments.now) ≡ true }
     ensures meta { IfOk result (λ metas. meta_of metas ≡ segments_meta (settings_of settings.now) schema.now stamp (all_listed stamp segments.now)) }
-    ensures index { IsTrue (W.tells work.old) → IfOk result (λ metas. index.index_of segment_forms (W.files work.new) ≡ Some (meta_of metas)) }
-    ensures alive { IsTrue (W.tells work.old) → OnOk result (AllTellAlive (W.files work.new) stamp segments.now) }
-    ensures fresh { IsTrue (W.tells work.old) → AreAbsent (alive_files (all_listed stamp segments.now)) (W.files work.old)
+    ensures index { IsTrue (W.state work.old).tells → IfOk result (λ metas. index.index_of segment_forms (W.state work.new).files ≡ Some (meta_of metas)) }
+    ensures alive { IsTrue (W.state work.old).tells → OnOk result (AllTellAlive (W.state work.new).files stamp segments.now) }
+    ensures fresh { IsTrue (W.state work.old).tells → AreAbsent (alive_files (all_listed stamp segments.now)) (W.state work.old).files
         → result ≢ Err TantivyError.IndexAlreadyExists }
     ensures calls { Does (wrote (alive_files (all_listed stamp segments.now)) ++ answer.Wrote FileName.Meta ∷ [])
         (FileName.Meta ∷ alive_files (all_listed stamp segments.now)) result
-        (state_of (W.tells work.old) (W.files work.old) (W.seen work.old) (W.faults work.old))
-        (state_of (W.tells work.new) (W.files work.new) (W.seen work.new) (W.faults work.new)) }
+        (W.state work.old)
+        (W.state work.new) }
 {
     match write_alive_files(alloc, stamp, segments, work) {
         Ok(()) => {}
@@ -114,11 +114,11 @@ fn save_work_index<W: Directory>(
     requires few { length segments.now < 2 ^ 32 }
     requires distinct { are_distinct (map (λ s. s.id) segments.now) ≡ true }
     ensures meta { IfOk result (λ metas. meta_of metas ≡ segments_meta (settings_of settings.now) schema.now stamp (all_listed stamp segments.now)) }
-    ensures index { IsTrue (W.tells work.old) → IfOk result (λ metas. index.index_of segment_forms (W.files work.new) ≡ Some (meta_of metas)) }
+    ensures index { IsTrue (W.state work.old).tells → IfOk result (λ metas. index.index_of segment_forms (W.state work.new).files ≡ Some (meta_of metas)) }
     ensures fresh { result ≢ Err TantivyError.IndexAlreadyExists }
     ensures calls { Does (answer.Wrote FileName.Meta ∷ []) (FileName.Meta ∷ []) result
-        (state_of (W.tells work.old) (W.files work.old) (W.seen work.old) (W.faults work.old))
-        (state_of (W.tells work.new) (W.files work.new) (W.seen work.new) (W.faults work.new)) }
+        (W.state work.old)
+        (W.state work.new) }
 {
     let Ok(listed) = list_segments(alloc, stamp, segments) else {
         return Err(TantivyError::OutOfMemory);

@@ -42,16 +42,16 @@ impl Index {
         directory: &mut O,
     ) -> TResult<Index>
         ensures ok { IfOk result (λ index. meta_of index ≡ empty_meta (settings_of settings) schema) }
-        ensures number { IsTrue (O.tells directory.old) → CreatingCounts (len (O.files directory.old)) result }
-        ensures file { IsTrue (O.tells directory.old) → CreatingFiles (meta_text (empty_meta (settings_of settings) schema))
-            result (O.files directory.old) (O.files directory.new) }
-        ensures others { KeepsOthers FileName.Meta (O.files directory.old) (O.files directory.new) }
-        ensures tells { O.tells directory.new ≡ O.tells directory.old }
-        ensures seen { CreatingSeen (O.seen directory.old) result (O.seen directory.new) }
+        ensures number { IsTrue (O.state directory.old).tells → CreatingCounts (len (O.state directory.old).files) result }
+        ensures file { IsTrue (O.state directory.old).tells → CreatingFiles (meta_text (empty_meta (settings_of settings) schema))
+            result (O.state directory.old).files (O.state directory.new).files }
+        ensures others { KeepsOthers FileName.Meta (O.state directory.old).files (O.state directory.new).files }
+        ensures tells { (O.state directory.new).tells ≡ (O.state directory.old).tells }
+        ensures seen { CreatingSeen (O.state directory.old).seen result (O.state directory.new).seen }
         ensures listing { FaultHasCause
-            TantivyError.OpenReadError (O.faults directory.old) (O.faults directory.new) result }
+            TantivyError.OpenReadError (O.state directory.old).faults (O.state directory.new).faults result }
         ensures saving { FaultHasCause
-            TantivyError.IoError (O.faults directory.old) (O.faults directory.new) result }
+            TantivyError.IoError (O.state directory.old).faults (O.state directory.new).faults result }
         ensures errors { IfErr result
             (λ e. (e ≡ TantivyError.IndexAlreadyExists) ⊎ (e ≡ TantivyError.OpenReadError)
             ⊎ (e ≡ TantivyError.IoError) ⊎ (e ≡ TantivyError.OutOfMemory)) }
@@ -76,12 +76,12 @@ impl Index {
 
     /// Opens the index that a directory has.
     pub fn open<W: Directory>(alloc: Global, directory: &mut W) -> TResult<Index>
-        ensures file { IsTrue (W.tells directory.old) → LoadsMeta (get (W.files directory.old) FileName.Meta) result }
-        ensures files { W.files directory.new ≡ W.files directory.old }
-        ensures tells { W.tells directory.new ≡ W.tells directory.old }
-        ensures seen { LoadingSeen (W.seen directory.old) result (W.seen directory.new) }
+        ensures file { IsTrue (W.state directory.old).tells → LoadsMeta (get (W.state directory.old).files FileName.Meta) result }
+        ensures files { (W.state directory.new).files ≡ (W.state directory.old).files }
+        ensures tells { (W.state directory.new).tells ≡ (W.state directory.old).tells }
+        ensures seen { LoadingSeen (W.state directory.old).seen result (W.state directory.new).seen }
         ensures cause { FaultHasCause
-            TantivyError.OpenReadError (W.faults directory.old) (W.faults directory.new) result }
+            TantivyError.OpenReadError (W.state directory.old).faults (W.state directory.new).faults result }
         ensures errors { IfErr result
             (λ e. (e ≡ TantivyError.DataCorruption FileName.Meta)
             ⊎ (e ≡ TantivyError.OpenReadError) ⊎ (e ≡ TantivyError.OutOfMemory)) }

@@ -13,13 +13,13 @@ use std::alloc::Global;
 
 /// Loads the meta that the directory has, in one reading. Where it is missing or can't be read, the index is damaged.
 pub fn load_metas<W: Directory>(alloc: Global, directory: &mut W) -> TResult<IndexMeta>
-    ensures file { IsTrue (W.tells directory.old) → LoadsMeta (get (W.files directory.old) FileName.Meta) result }
+    ensures file { IsTrue (W.state directory.old).tells → LoadsMeta (get (W.state directory.old).files FileName.Meta) result }
     ensures list { IfOk result (λ m. IsMetaList m.segments) }
-    ensures files { W.files directory.new ≡ W.files directory.old }
-    ensures tells { W.tells directory.new ≡ W.tells directory.old }
-    ensures seen { LoadingSeen (W.seen directory.old) result (W.seen directory.new) }
+    ensures files { (W.state directory.new).files ≡ (W.state directory.old).files }
+    ensures tells { (W.state directory.new).tells ≡ (W.state directory.old).tells }
+    ensures seen { LoadingSeen (W.state directory.old).seen result (W.state directory.new).seen }
     ensures cause { FaultHasCause
-        TantivyError.OpenReadError (W.faults directory.old) (W.faults directory.new) result }
+        TantivyError.OpenReadError (W.state directory.old).faults (W.state directory.new).faults result }
     ensures errors { IfErr result
         (λ e. (e ≡ TantivyError.DataCorruption FileName.Meta)
         ⊎ (e ≡ TantivyError.OpenReadError) ⊎ (e ≡ TantivyError.OutOfMemory)) }

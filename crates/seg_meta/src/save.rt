@@ -15,13 +15,13 @@ use std::alloc::Global;
 /// Saves a meta: has the files of its segments reach the disk, and then replaces the file of the meta in one step.
 pub fn save_metas<O: Directory>(alloc: Global, metas: &IndexMeta, directory: &mut O) -> TResult<()>
     requires { IsMetaList metas.now.segments }
-    ensures file { IsTrue (O.tells directory.old) → Replaces FileName.Meta
-        (meta_text (meta_of metas.now)) result (O.files directory.old) (O.files directory.new) }
-    ensures others { KeepsOthers FileName.Meta (O.files directory.old) (O.files directory.new) }
-    ensures tells { O.tells directory.new ≡ O.tells directory.old }
-    ensures seen { SavingSeen (O.seen directory.old) result (O.seen directory.new) }
+    ensures file { IsTrue (O.state directory.old).tells → Replaces FileName.Meta
+        (meta_text (meta_of metas.now)) result (O.state directory.old).files (O.state directory.new).files }
+    ensures others { KeepsOthers FileName.Meta (O.state directory.old).files (O.state directory.new).files }
+    ensures tells { (O.state directory.new).tells ≡ (O.state directory.old).tells }
+    ensures seen { SavingSeen (O.state directory.old).seen result (O.state directory.new).seen }
     ensures cause { FaultHasCause
-        TantivyError.IoError (O.faults directory.old) (O.faults directory.new) result }
+        TantivyError.IoError (O.state directory.old).faults (O.state directory.new).faults result }
     ensures errors { IfErr result
         (λ e. (e ≡ TantivyError.IoError) ⊎ (e ≡ TantivyError.OutOfMemory)) }
 {

@@ -17,13 +17,7 @@ pub struct OddDirectory {
 }
 
 impl Directory for OddDirectory {
-    ghost tells = { λ _. false };
-
-    ghost files = { λ _. empty };
-
-    ghost faults = { λ d. d.inner.calls.faults };
-
-    ghost seen = { λ d. d.inner.calls.answers };
+    ghost state = { λ d. record { tells = false; files = empty; seen = d.inner.calls.answers; faults = d.inner.calls.faults } };
 
     fn list(&mut self, alloc: Global) -> Result<u64, DirectoryError> {
         self.inner.list(alloc)

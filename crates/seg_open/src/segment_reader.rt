@@ -56,18 +56,18 @@ impl SegmentReader {
     ) -> TResult<SegmentReader>
         requires built { is_built_schema segment.now.schema ≡ true }
         ensures of { IfOk result (λ r. (r.schema ≡ segment.now.schema) × (r.documents ≡ segment.now.meta.documents)) }
-        ensures holds { IsTrue (W.tells directory.old) → IfOk result
-            (λ r. Holds (W.files directory.new) segment.now.meta.id segment.now.schema (contents_of r)) }
-        ensures whole { IsTrue (W.tells directory.old) → (contents : Contents)
-            → Holds (W.files directory.old) segment.now.meta.id segment.now.schema contents
+        ensures holds { IsTrue (W.state directory.old).tells → IfOk result
+            (λ r. Holds (W.state directory.new).files segment.now.meta.id segment.now.schema (contents_of r)) }
+        ensures whole { IsTrue (W.state directory.old).tells → (contents : Contents)
+            → Holds (W.state directory.old).files segment.now.meta.id segment.now.schema contents
             → contents.documents ≡ segment.now.meta.documents
             → IfErr result IsNoDamage }
-        ensures files { W.files directory.new ≡ W.files directory.old }
-        ensures tells { W.tells directory.new ≡ W.tells directory.old }
+        ensures files { (W.state directory.new).files ≡ (W.state directory.old).files }
+        ensures tells { (W.state directory.new).tells ≡ (W.state directory.old).tells }
         ensures seen { OpeningSeen segment.now.meta.id segment.now.schema segment.now.meta.documents
-            (W.seen directory.old) result (W.seen directory.new) }
+            (W.state directory.old).seen result (W.state directory.new).seen }
         ensures cause { FaultHasCause
-            TantivyError.OpenReadError (W.faults directory.old) (W.faults directory.new) result }
+            TantivyError.OpenReadError (W.state directory.old).faults (W.state directory.new).faults result }
     {
         let Ok(schema) = segment.schema().copy(alloc) else {
             return Err(TantivyError::OutOfMemory);

@@ -18,7 +18,8 @@ use Rattle.seg_model.specs.Laws.{ValidInputsAreNotRefused}
 use Rattle.seg_model.specs.Refused.{build_refusal}
 use Rattle.seg_model.specs.Input.{Input}
 use Rattle.seg_model.specs.Valid.{Known, IsValid}
-use Rattle.seg_batches.specs.Calls.{DirectoryState, HasRisen, Does}
+use Rattle.seg_batches.specs.Calls.{HasRisen, Does}
+use Rattle.seg_directory.specs.State.{DirectoryState}
 use Rattle.seg_batches.specs.Reading.{StopsReading}
 use Rattle.seg_merge.specs.DirectoryCalls.{Asked, Directories, WritesThenStops, StopsIn, at_once, work_listing, output_listing, documents, work_index, reading_back, too_many, output_index}
 use Rattle.seg_refusals.specs.Admitted.{IsValidIf}

@@ -7,7 +7,7 @@ use Rattle.seg_values.specs.declared.error.TantivyError.TheVariants.{OpenReadErr
 use Rattle.seg_model.specs.Fields.{Schema}
 use Rattle.seg_model.specs.IndexOfFiles.{Deletes, ListedSegment}
 use Rattle.seg_join.specs.KeptSegment.{KeptSegment}
-use Rattle.seg_batches.specs.Calls.{DirectoryState}
+use Rattle.seg_directory.specs.State.{DirectoryState}
 use Rattle.seg_batches.specs.Reading.{ReadsDeletes, ReadsSegment, ReadsAll, StopsInSegment, in_files, in_alive, StopsReading}
 
 -- ---- faults

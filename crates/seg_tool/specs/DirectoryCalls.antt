@@ -6,7 +6,7 @@ use Rattle.seg_values.specs.declared.error.TantivyError.{TantivyError}
 use Rattle.seg_values.specs.declared.error.TantivyError.TheVariants.{IndexAlreadyExists, OpenReadError, OpenWriteError, IoError, DataCorruption, OutOfMemory}
 use Rattle.seg_open.specs.OpenSegment.{OpenSegment}
 use Rattle.seg_join.specs.KeptSegment.{KeptSegment}
-use Rattle.seg_batches.specs.Calls.{DirectoryState}
+use Rattle.seg_directory.specs.State.{DirectoryState}
 use Rattle.seg_merge.specs.DirectoryCalls.{Asked, Directories, StopsIn, WritesBoth}
 use Rattle.seg_tool.specs.declared.status.Status.{Status}
 use Rattle.seg_tool.specs.declared.status.Status.TheVariants.{Done, Refused, Exists, Directory, Damaged, Stream, Memory}

@@ -3,7 +3,6 @@ ghost use Rattle.std.specs.Prelude.{◌≡◌, ◌≢◌, ◌≤◌, ◌⊎◌, 
 ghost use Rattle.std.specs.FinMap.{len};
 ghost use Rattle.seg_model.specs.Valid.{Known};
 ghost use Rattle.seg_build.specs.WriterStart.{Tests};
-ghost use Rattle.seg_batches.specs.Calls.{state_of};
 ghost use Rattle.seg_refusals.specs.Admitted.{IsValidIf};
 ghost use Rattle.seg_refusals.specs.Inputs.{is_built_input};
 ghost use Rattle.seg_refusals.specs.Refusals.{first_error, refusal_error};
@@ -41,18 +40,18 @@ pub(crate) fn build<Z: Analyzers, W: Directory, O: Directory>(
 ) -> Result<Vec<u8>, Status>
     ensures ok { IfOk result (λ t. IsTextOf (Z.tokens_of analyzers.now) bytes.items
         (record {
-          work = state_of (W.tells work.old) (W.files work.old) (W.seen work.old) (W.faults work.old);
-          output = state_of (O.tells output.old) (O.files output.old) (O.seen output.old) (O.faults output.old);
+          work = W.state work.old;
+          output = O.state output.old;
         })
         (record {
-          work = state_of (W.tells work.new) (W.files work.new) (W.seen work.new) (W.faults work.new);
-          output = state_of (O.tells output.new) (O.files output.new) (O.seen output.new) (O.faults output.new);
+          work = W.state work.new;
+          output = O.state output.new;
         }) t.items) }
     ensures valid { (known : Known) → Tests known (Z.knows analyzers.now)
-        → OnOk result (IsValidScript (IsTrue (W.tells work.old)) known (Z.tokens_of analyzers.now) bytes.items) }
+        → OnOk result (IsValidScript (IsTrue (W.state work.old).tells) known (Z.tokens_of analyzers.now) bytes.items) }
     ensures script { IsErrOf result Status.Script → json_of bytes.items ≡ None }
     ensures json { IfErr result (λ status. IfRefused status (λ _. IsSome (json_of bytes.items))) }
-    ensures refused { (known : Known) → Tests known (Z.knows analyzers.now) → IsTrue (W.tells work.old)
+    ensures refused { (known : Known) → Tests known (Z.knows analyzers.now) → IsTrue (W.state work.old).tells
         → IfErr result (λ status. IfRefused status (IsWhyRefused known (Z.tokens_of analyzers.now) bytes.items)) }
     ensures refused_untold { (known : Known) → Tests known (Z.knows analyzers.now)
         → IfErr result (λ status. IfRefused status (IsWhyRefusedUntold known (Z.tokens_of analyzers.now) bytes.items)) }
@@ -64,35 +63,35 @@ pub(crate) fn build<Z: Analyzers, W: Directory, O: Directory>(
     ensures never_done { IsErrOf result Status.Done → ⊥ }
     ensures never_words { IsErrOf result Status.Words → ⊥ }
     ensures never_stream { IsErrOf result Status.Stream → ⊥ }
-    ensures work_index { IsTrue (W.tells work.old) → OnOk result
-        (HasWorkIndex (Z.tokens_of analyzers.now) bytes.items (W.files work.new)) }
-    ensures work_was_empty { IsTrue (W.tells work.old) → OnOk result (len (W.files work.old) ≡ 0) }
-    ensures output_index { IsTrue (W.tells work.old) → IsTrue (O.tells output.old) → OnOk result
-        (HasOutputIndex (Z.tokens_of analyzers.now) bytes.items (O.files output.new)) }
-    ensures output_meta { IsTrue (O.tells output.old) → OnOk result
-        (HasMergedIndex bytes.items (O.files output.new)) }
-    ensures output_was_empty { IsTrue (O.tells output.old) → OnOk result (len (O.files output.old) ≡ 0) }
-    ensures fresh { IsTrue (W.tells work.old) → len (W.files work.old) ≡ 0
-        → IsTrue (O.tells output.old) → len (O.files output.old) ≡ 0
+    ensures work_index { IsTrue (W.state work.old).tells → OnOk result
+        (HasWorkIndex (Z.tokens_of analyzers.now) bytes.items (W.state work.new).files) }
+    ensures work_was_empty { IsTrue (W.state work.old).tells → OnOk result (len (W.state work.old).files ≡ 0) }
+    ensures output_index { IsTrue (W.state work.old).tells → IsTrue (O.state output.old).tells → OnOk result
+        (HasOutputIndex (Z.tokens_of analyzers.now) bytes.items (O.state output.new).files) }
+    ensures output_meta { IsTrue (O.state output.old).tells → OnOk result
+        (HasMergedIndex bytes.items (O.state output.new).files) }
+    ensures output_was_empty { IsTrue (O.state output.old).tells → OnOk result (len (O.state output.old).files ≡ 0) }
+    ensures fresh { IsTrue (W.state work.old).tells → len (W.state work.old).files ≡ 0
+        → IsTrue (O.state output.old).tells → len (O.state output.old).files ≡ 0
         → IfErr result (λ status. (e : TantivyError) → status ≢ Status.Exists e) }
-    ensures whole { IsTrue (W.tells work.old) → IfErr result (λ status. (name : FileName) → status ≢ Status.Damaged name) }
+    ensures whole { IsTrue (W.state work.old).tells → IfErr result (λ status. (name : FileName) → status ≢ Status.Damaged name) }
     ensures calls { OnOk result (BuildDoes Status.Done
         (record {
-          work = state_of (W.tells work.old) (W.files work.old) (W.seen work.old) (W.faults work.old);
-          output = state_of (O.tells output.old) (O.files output.old) (O.seen output.old) (O.faults output.old);
+          work = W.state work.old;
+          output = O.state output.old;
         })
         (record {
-          work = state_of (W.tells work.new) (W.files work.new) (W.seen work.new) (W.faults work.new);
-          output = state_of (O.tells output.new) (O.files output.new) (O.seen output.new) (O.faults output.new);
+          work = W.state work.new;
+          output = O.state output.new;
         })) }
     ensures calls_ended { IfErr result (λ status. BuildDoes status
         (record {
-          work = state_of (W.tells work.old) (W.files work.old) (W.seen work.old) (W.faults work.old);
-          output = state_of (O.tells output.old) (O.files output.old) (O.seen output.old) (O.faults output.old);
+          work = W.state work.old;
+          output = O.state output.old;
         })
         (record {
-          work = state_of (W.tells work.new) (W.files work.new) (W.seen work.new) (W.faults work.new);
-          output = state_of (O.tells output.new) (O.files output.new) (O.seen output.new) (O.faults output.new);
+          work = W.state work.new;
+          output = O.state output.new;
         })) }
     ensures untouched_script { IsErrOf result Status.Script → (work.new ≡ work.old) × (output.new ≡ output.old) }
 {
@@ -118,18 +117,18 @@ fn build_and_print<Z: Analyzers, W: Directory, O: Directory>(
 ) -> Result<Vec<u8>, Status>
     ensures ok { IfOk result (λ t. IsTextOfInput (Z.tokens_of analyzers.now) (input_of input.now)
         (record {
-          work = state_of (W.tells work.old) (W.files work.old) (W.seen work.old) (W.faults work.old);
-          output = state_of (O.tells output.old) (O.files output.old) (O.seen output.old) (O.faults output.old);
+          work = W.state work.old;
+          output = O.state output.old;
         })
         (record {
-          work = state_of (W.tells work.new) (W.files work.new) (W.seen work.new) (W.faults work.new);
-          output = state_of (O.tells output.new) (O.files output.new) (O.seen output.new) (O.faults output.new);
+          work = W.state work.new;
+          output = O.state output.new;
         }) t.items) }
     ensures valid { (known : Known) → Tests known (Z.knows analyzers.now)
-        → OnOk result (IsValidIf (IsTrue (W.tells work.old)) known (Z.tokens_of analyzers.now) (input_of input.now)) }
+        → OnOk result (IsValidIf (IsTrue (W.state work.old).tells) known (Z.tokens_of analyzers.now) (input_of input.now)) }
     ensures built { (known : Known) → Tests known (Z.knows analyzers.now)
         → OnOk result (is_built_input (input_of input.now) ≡ true) }
-    ensures refused { (known : Known) → Tests known (Z.knows analyzers.now) → IsTrue (W.tells work.old)
+    ensures refused { (known : Known) → Tests known (Z.knows analyzers.now) → IsTrue (W.state work.old).tells
         → IfErr result (λ status. IfRefused status (λ e. refusal_error known (Z.tokens_of analyzers.now) (input_of input.now) ≡ Some e)) }
     ensures refused_untold { (known : Known) → Tests known (Z.knows analyzers.now)
         → IfErr result (λ status. IfRefused status (λ e. (refusal_error known (Z.tokens_of analyzers.now) (input_of input.now) ≡ Some e)
@@ -138,35 +137,35 @@ fn build_and_print<Z: Analyzers, W: Directory, O: Directory>(
         → IfSome (first_error known (Z.tokens_of analyzers.now) (input_of input.now))
         (λ e. ((result ≡ Err (Status.Refused e)) ⊎ (result ≡ Err Status.Memory)) × (work.new ≡ work.old) × (output.new ≡ output.old)) }
     ensures never { IfErr result IsOfErrors }
-    ensures work_index { IsTrue (W.tells work.old) → OnOk result
-        (IsWorkIndexOf (Z.tokens_of analyzers.now) (input_of input.now) (W.files work.new)) }
-    ensures work_was_empty { IsTrue (W.tells work.old) → OnOk result (len (W.files work.old) ≡ 0) }
-    ensures output_index { IsTrue (W.tells work.old) → IsTrue (O.tells output.old) → OnOk result
-        (IsOutputIndexOf (Z.tokens_of analyzers.now) (input_of input.now) (O.files output.new)) }
-    ensures output_meta { IsTrue (O.tells output.old) → OnOk result
-        ((documents : ℕ) × IsMergedIndexOf (input_of input.now) documents (O.files output.new)) }
-    ensures output_was_empty { IsTrue (O.tells output.old) → OnOk result (len (O.files output.old) ≡ 0) }
-    ensures fresh { IsTrue (W.tells work.old) → len (W.files work.old) ≡ 0
-        → IsTrue (O.tells output.old) → len (O.files output.old) ≡ 0
+    ensures work_index { IsTrue (W.state work.old).tells → OnOk result
+        (IsWorkIndexOf (Z.tokens_of analyzers.now) (input_of input.now) (W.state work.new).files) }
+    ensures work_was_empty { IsTrue (W.state work.old).tells → OnOk result (len (W.state work.old).files ≡ 0) }
+    ensures output_index { IsTrue (W.state work.old).tells → IsTrue (O.state output.old).tells → OnOk result
+        (IsOutputIndexOf (Z.tokens_of analyzers.now) (input_of input.now) (O.state output.new).files) }
+    ensures output_meta { IsTrue (O.state output.old).tells → OnOk result
+        ((documents : ℕ) × IsMergedIndexOf (input_of input.now) documents (O.state output.new).files) }
+    ensures output_was_empty { IsTrue (O.state output.old).tells → OnOk result (len (O.state output.old).files ≡ 0) }
+    ensures fresh { IsTrue (W.state work.old).tells → len (W.state work.old).files ≡ 0
+        → IsTrue (O.state output.old).tells → len (O.state output.old).files ≡ 0
         → IfErr result (λ status. (e : TantivyError) → status ≢ Status.Exists e) }
-    ensures whole { IsTrue (W.tells work.old) → IfErr result (λ status. (name : FileName) → status ≢ Status.Damaged name) }
+    ensures whole { IsTrue (W.state work.old).tells → IfErr result (λ status. (name : FileName) → status ≢ Status.Damaged name) }
     ensures calls { OnOk result (Wrote
         (record {
-          work = state_of (W.tells work.old) (W.files work.old) (W.seen work.old) (W.faults work.old);
-          output = state_of (O.tells output.old) (O.files output.old) (O.seen output.old) (O.faults output.old);
+          work = W.state work.old;
+          output = O.state output.old;
         })
         (record {
-          work = state_of (W.tells work.new) (W.files work.new) (W.seen work.new) (W.faults work.new);
-          output = state_of (O.tells output.new) (O.files output.new) (O.seen output.new) (O.faults output.new);
+          work = W.state work.new;
+          output = O.state output.new;
         })) }
     ensures calls_ended { IfErr result (λ status. BuildDoes status
         (record {
-          work = state_of (W.tells work.old) (W.files work.old) (W.seen work.old) (W.faults work.old);
-          output = state_of (O.tells output.old) (O.files output.old) (O.seen output.old) (O.faults output.old);
+          work = W.state work.old;
+          output = O.state output.old;
         })
         (record {
-          work = state_of (W.tells work.new) (W.files work.new) (W.seen work.new) (W.faults work.new);
-          output = state_of (O.tells output.new) (O.files output.new) (O.seen output.new) (O.faults output.new);
+          work = W.state work.new;
+          output = O.state output.new;
         })) }
 {
     let built = build_index_with_readers(

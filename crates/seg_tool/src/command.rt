@@ -7,7 +7,6 @@ ghost use Rattle.seg_common.specs.Streams.{AppendsPart, TakesAtMost};
 ghost use Rattle.seg_tool.specs.Run.{is_build, max_script, first_of, HasMergedIndex, HasOutputIndex, HasWorkIndex, IsAdmitted, IsJson, IsNoScript, IsTextOf, IsValidScript, IsWhyRefused, IsWhyRefusedUntold, Gains, GainsPart};
 ghost use Rattle.seg_tool.specs.Statuses.{IfRefused, IfWritten, RefusedFor, status_line};
 ghost use Rattle.seg_build.specs.WriterStart.{Tests};
-ghost use Rattle.seg_batches.specs.Calls.{state_of};
 ghost use Rattle.seg_merge.specs.DirectoryCalls.{Directories};
 ghost use Rattle.seg_model.specs.Valid.{Known};
 ghost use Rattle.seg_script.specs.Script.{json_of, script};
@@ -47,7 +46,7 @@ pub fn run<S: Source, K: Sink, F: Sink, Z: Analyzers, W: Directory, O: Directory
 
     // What each status says of the bytes that the source had left.
     ensures script { result ≡ Status.Script → IfSome (S.left source.old) IsNoScript }
-    ensures refused { (known : Known) → Tests known (Z.knows analyzers.now) → IsTrue (W.tells work.old)
+    ensures refused { (known : Known) → Tests known (Z.knows analyzers.now) → IsTrue (W.state work.old).tells
         → IfRefused result (λ e. IfSome (S.left source.old)
         (λ bytes. IsWhyRefused known (Z.tokens_of analyzers.now) bytes e)) }
     ensures refused_untold { (known : Known) → Tests known (Z.knows analyzers.now)
@@ -62,19 +61,19 @@ pub fn run<S: Source, K: Sink, F: Sink, Z: Analyzers, W: Directory, O: Directory
     ensures written { (known : Known) → Tests known (Z.knows analyzers.now)
         → IfWritten result (λ _. IfSome (S.left source.old) (IsAdmitted known (Z.tokens_of analyzers.now))) }
     ensures valid { (known : Known) → Tests known (Z.knows analyzers.now) → result ≡ Status.Done
-        → IfSome (S.left source.old) (IsValidScript (IsTrue (W.tells work.old)) known (Z.tokens_of analyzers.now)) }
+        → IfSome (S.left source.old) (IsValidScript (IsTrue (W.state work.old).tells) known (Z.tokens_of analyzers.now)) }
 
     // What goes to the sink: the text of the segments that were read back, and of what they were merged into.
     ensures done { result ≡ Status.Done → IfSome (S.left source.old)
         (λ bytes. (length bytes ≤ max_script)
         × Gains (IsTextOf (Z.tokens_of analyzers.now) bytes
         (record {
-          work = state_of (W.tells work.old) (W.files work.old) (W.seen work.old) (W.faults work.old);
-          output = state_of (O.tells output.old) (O.files output.old) (O.seen output.old) (O.faults output.old);
+          work = W.state work.old;
+          output = O.state output.old;
         })
         (record {
-          work = state_of (W.tells work.new) (W.files work.new) (W.seen work.new) (W.faults work.new);
-          output = state_of (O.tells output.new) (O.files output.new) (O.seen output.new) (O.faults output.new);
+          work = W.state work.new;
+          output = O.state output.new;
         }))
         (K.written sink.old) (K.written sink.new)) }
     ensures untouched { result ≢ Status.Done → result ≢ Status.Stream → sink.new ≡ sink.old }
@@ -83,36 +82,36 @@ pub fn run<S: Source, K: Sink, F: Sink, Z: Analyzers, W: Directory, O: Directory
         ⊎ (Rose (K.faults sink.old) (K.faults sink.new) × IfSome (S.left source.old)
         (λ bytes. GainsPart (IsTextOf (Z.tokens_of analyzers.now) bytes
         (record {
-          work = state_of (W.tells work.old) (W.files work.old) (W.seen work.old) (W.faults work.old);
-          output = state_of (O.tells output.old) (O.files output.old) (O.seen output.old) (O.faults output.old);
+          work = W.state work.old;
+          output = O.state output.old;
         })
         (record {
-          work = state_of (W.tells work.new) (W.files work.new) (W.seen work.new) (W.faults work.new);
-          output = state_of (O.tells output.new) (O.files output.new) (O.seen output.new) (O.faults output.new);
+          work = W.state work.new;
+          output = O.state output.new;
         }))
         (K.written sink.old) (K.written sink.new))) }
 
     // What becomes of the directories.
-    ensures work_index { result ≡ Status.Done → IsTrue (W.tells work.old) → IfSome (S.left source.old)
-        (λ bytes. HasWorkIndex (Z.tokens_of analyzers.now) bytes (W.files work.new)) }
-    ensures work_was_empty { result ≡ Status.Done → IsTrue (W.tells work.old) → len (W.files work.old) ≡ 0 }
-    ensures output_index { result ≡ Status.Done → IsTrue (W.tells work.old) → IsTrue (O.tells output.old) → IfSome (S.left source.old)
-        (λ bytes. HasOutputIndex (Z.tokens_of analyzers.now) bytes (O.files output.new)) }
-    ensures output_meta { result ≡ Status.Done → IsTrue (O.tells output.old) → IfSome (S.left source.old)
-        (λ bytes. HasMergedIndex bytes (O.files output.new)) }
-    ensures output_was_empty { result ≡ Status.Done → IsTrue (O.tells output.old) → len (O.files output.old) ≡ 0 }
-    ensures fresh { IsTrue (W.tells work.old) → len (W.files work.old) ≡ 0
-        → IsTrue (O.tells output.old) → len (O.files output.old) ≡ 0
+    ensures work_index { result ≡ Status.Done → IsTrue (W.state work.old).tells → IfSome (S.left source.old)
+        (λ bytes. HasWorkIndex (Z.tokens_of analyzers.now) bytes (W.state work.new).files) }
+    ensures work_was_empty { result ≡ Status.Done → IsTrue (W.state work.old).tells → len (W.state work.old).files ≡ 0 }
+    ensures output_index { result ≡ Status.Done → IsTrue (W.state work.old).tells → IsTrue (O.state output.old).tells → IfSome (S.left source.old)
+        (λ bytes. HasOutputIndex (Z.tokens_of analyzers.now) bytes (O.state output.new).files) }
+    ensures output_meta { result ≡ Status.Done → IsTrue (O.state output.old).tells → IfSome (S.left source.old)
+        (λ bytes. HasMergedIndex bytes (O.state output.new).files) }
+    ensures output_was_empty { result ≡ Status.Done → IsTrue (O.state output.old).tells → len (O.state output.old).files ≡ 0 }
+    ensures fresh { IsTrue (W.state work.old).tells → len (W.state work.old).files ≡ 0
+        → IsTrue (O.state output.old).tells → len (O.state output.old).files ≡ 0
         → (e : TantivyError) → result ≢ Status.Exists e }
-    ensures whole { IsTrue (W.tells work.old) → (name : FileName) → result ≢ Status.Damaged name }
+    ensures whole { IsTrue (W.state work.old).tells → (name : FileName) → result ≢ Status.Damaged name }
     ensures calls { BuildDoes result
         (record {
-          work = state_of (W.tells work.old) (W.files work.old) (W.seen work.old) (W.faults work.old);
-          output = state_of (O.tells output.old) (O.files output.old) (O.seen output.old) (O.faults output.old);
+          work = W.state work.old;
+          output = O.state output.old;
         })
         (record {
-          work = state_of (W.tells work.new) (W.files work.new) (W.seen work.new) (W.faults work.new);
-          output = state_of (O.tells output.new) (O.files output.new) (O.seen output.new) (O.faults output.new);
+          work = W.state work.new;
+          output = O.state output.new;
         }) }
     ensures unwritten_script { result ≡ Status.Script → work.new ≡ work.old }
     ensures unwritten_words { result ≡ Status.Words → work.new ≡ work.old }
@@ -138,10 +137,10 @@ pub fn run<S: Source, K: Sink, F: Sink, Z: Analyzers, W: Directory, O: Directory
     ensures complete { (known : Known) → Tests known (Z.knows analyzers.now) → (bytes : List ℕ) → is_build words.now ≡ true → S.left source.old ≡ Some bytes
         → length bytes ≤ max_script
         → IsValidScript (Unit {0}) known (Z.tokens_of analyzers.now) bytes
-        → IsReady (state_of (W.tells work.old) (W.files work.old) (W.seen work.old) (W.faults work.old))
-        (state_of (W.tells work.new) (W.files work.new) (W.seen work.new) (W.faults work.new))
-        → IsReady (state_of (O.tells output.old) (O.files output.old) (O.seen output.old) (O.faults output.old))
-        (state_of (O.tells output.new) (O.files output.new) (O.seen output.new) (O.faults output.new))
+        → IsReady (W.state work.old)
+        (W.state work.new)
+        → IsReady (O.state output.old)
+        (O.state output.new)
         → ¬ (Rose (S.faults source.old) (S.faults source.new))
         → ¬ (Rose (K.faults sink.old) (K.faults sink.new))
         → (result ≡ Status.Done) ⊎ (result ≡ Status.Memory) }
@@ -170,7 +169,7 @@ fn execute<S: Source, K: Sink, Z: Analyzers, W: Directory, O: Directory>(
 ) -> Status
     ensures words { result ≡ Status.Words ↔ (is_build words.now ≡ false) }
     ensures script { result ≡ Status.Script → IfSome (S.left source.old) IsNoScript }
-    ensures refused { (known : Known) → Tests known (Z.knows analyzers.now) → IsTrue (W.tells work.old)
+    ensures refused { (known : Known) → Tests known (Z.knows analyzers.now) → IsTrue (W.state work.old).tells
         → IfRefused result (λ e. IfSome (S.left source.old)
         (λ bytes. IsWhyRefused known (Z.tokens_of analyzers.now) bytes e)) }
     ensures refused_untold { (known : Known) → Tests known (Z.knows analyzers.now)
@@ -184,17 +183,17 @@ fn execute<S: Source, K: Sink, Z: Analyzers, W: Directory, O: Directory>(
     ensures written { (known : Known) → Tests known (Z.knows analyzers.now)
         → IfWritten result (λ _. IfSome (S.left source.old) (IsAdmitted known (Z.tokens_of analyzers.now))) }
     ensures valid { (known : Known) → Tests known (Z.knows analyzers.now) → result ≡ Status.Done
-        → IfSome (S.left source.old) (IsValidScript (IsTrue (W.tells work.old)) known (Z.tokens_of analyzers.now)) }
+        → IfSome (S.left source.old) (IsValidScript (IsTrue (W.state work.old).tells) known (Z.tokens_of analyzers.now)) }
     ensures done { result ≡ Status.Done → IfSome (S.left source.old)
         (λ bytes. (length bytes ≤ max_script)
         × Gains (IsTextOf (Z.tokens_of analyzers.now) bytes
         (record {
-          work = state_of (W.tells work.old) (W.files work.old) (W.seen work.old) (W.faults work.old);
-          output = state_of (O.tells output.old) (O.files output.old) (O.seen output.old) (O.faults output.old);
+          work = W.state work.old;
+          output = O.state output.old;
         })
         (record {
-          work = state_of (W.tells work.new) (W.files work.new) (W.seen work.new) (W.faults work.new);
-          output = state_of (O.tells output.new) (O.files output.new) (O.seen output.new) (O.faults output.new);
+          work = W.state work.new;
+          output = O.state output.new;
         }))
         (K.written sink.old) (K.written sink.new)) }
     ensures untouched { result ≢ Status.Done → result ≢ Status.Stream → sink.new ≡ sink.old }
@@ -203,34 +202,34 @@ fn execute<S: Source, K: Sink, Z: Analyzers, W: Directory, O: Directory>(
         ⊎ (Rose (K.faults sink.old) (K.faults sink.new) × IfSome (S.left source.old)
         (λ bytes. GainsPart (IsTextOf (Z.tokens_of analyzers.now) bytes
         (record {
-          work = state_of (W.tells work.old) (W.files work.old) (W.seen work.old) (W.faults work.old);
-          output = state_of (O.tells output.old) (O.files output.old) (O.seen output.old) (O.faults output.old);
+          work = W.state work.old;
+          output = O.state output.old;
         })
         (record {
-          work = state_of (W.tells work.new) (W.files work.new) (W.seen work.new) (W.faults work.new);
-          output = state_of (O.tells output.new) (O.files output.new) (O.seen output.new) (O.faults output.new);
+          work = W.state work.new;
+          output = O.state output.new;
         }))
         (K.written sink.old) (K.written sink.new))) }
-    ensures work_index { result ≡ Status.Done → IsTrue (W.tells work.old) → IfSome (S.left source.old)
-        (λ bytes. HasWorkIndex (Z.tokens_of analyzers.now) bytes (W.files work.new)) }
-    ensures work_was_empty { result ≡ Status.Done → IsTrue (W.tells work.old) → len (W.files work.old) ≡ 0 }
-    ensures output_index { result ≡ Status.Done → IsTrue (W.tells work.old) → IsTrue (O.tells output.old) → IfSome (S.left source.old)
-        (λ bytes. HasOutputIndex (Z.tokens_of analyzers.now) bytes (O.files output.new)) }
-    ensures output_meta { result ≡ Status.Done → IsTrue (O.tells output.old) → IfSome (S.left source.old)
-        (λ bytes. HasMergedIndex bytes (O.files output.new)) }
-    ensures output_was_empty { result ≡ Status.Done → IsTrue (O.tells output.old) → len (O.files output.old) ≡ 0 }
-    ensures fresh { IsTrue (W.tells work.old) → len (W.files work.old) ≡ 0
-        → IsTrue (O.tells output.old) → len (O.files output.old) ≡ 0
+    ensures work_index { result ≡ Status.Done → IsTrue (W.state work.old).tells → IfSome (S.left source.old)
+        (λ bytes. HasWorkIndex (Z.tokens_of analyzers.now) bytes (W.state work.new).files) }
+    ensures work_was_empty { result ≡ Status.Done → IsTrue (W.state work.old).tells → len (W.state work.old).files ≡ 0 }
+    ensures output_index { result ≡ Status.Done → IsTrue (W.state work.old).tells → IsTrue (O.state output.old).tells → IfSome (S.left source.old)
+        (λ bytes. HasOutputIndex (Z.tokens_of analyzers.now) bytes (O.state output.new).files) }
+    ensures output_meta { result ≡ Status.Done → IsTrue (O.state output.old).tells → IfSome (S.left source.old)
+        (λ bytes. HasMergedIndex bytes (O.state output.new).files) }
+    ensures output_was_empty { result ≡ Status.Done → IsTrue (O.state output.old).tells → len (O.state output.old).files ≡ 0 }
+    ensures fresh { IsTrue (W.state work.old).tells → len (W.state work.old).files ≡ 0
+        → IsTrue (O.state output.old).tells → len (O.state output.old).files ≡ 0
         → (e : TantivyError) → result ≢ Status.Exists e }
-    ensures whole { IsTrue (W.tells work.old) → (name : FileName) → result ≢ Status.Damaged name }
+    ensures whole { IsTrue (W.state work.old).tells → (name : FileName) → result ≢ Status.Damaged name }
     ensures calls { BuildDoes result
         (record {
-          work = state_of (W.tells work.old) (W.files work.old) (W.seen work.old) (W.faults work.old);
-          output = state_of (O.tells output.old) (O.files output.old) (O.seen output.old) (O.faults output.old);
+          work = W.state work.old;
+          output = O.state output.old;
         })
         (record {
-          work = state_of (W.tells work.new) (W.files work.new) (W.seen work.new) (W.faults work.new);
-          output = state_of (O.tells output.new) (O.files output.new) (O.seen output.new) (O.faults output.new);
+          work = W.state work.new;
+          output = O.state output.new;
         }) }
     ensures unwritten_script { result ≡ Status.Script → work.new ≡ work.old }
     ensures unwritten_words { result ≡ Status.Words → work.new ≡ work.old }
@@ -269,18 +268,18 @@ fn read_and_build<S: Source, Z: Analyzers, W: Directory, O: Directory>(
         (λ bytes. (length bytes ≤ max_script)
         × IsTextOf (Z.tokens_of analyzers.now) bytes
         (record {
-          work = state_of (W.tells work.old) (W.files work.old) (W.seen work.old) (W.faults work.old);
-          output = state_of (O.tells output.old) (O.files output.old) (O.seen output.old) (O.faults output.old);
+          work = W.state work.old;
+          output = O.state output.old;
         })
         (record {
-          work = state_of (W.tells work.new) (W.files work.new) (W.seen work.new) (W.faults work.new);
-          output = state_of (O.tells output.new) (O.files output.new) (O.seen output.new) (O.faults output.new);
+          work = W.state work.new;
+          output = O.state output.new;
         }) t.items)) }
     ensures end { OnOk result (IsAtEnd (S.left source.new)) }
     ensures end_refused { IfErr result (λ status. IfRefused status
         (λ _. IsAtEnd (S.left source.new))) }
     ensures script { IsErrOf result Status.Script → IfSome (S.left source.old) IsNoScript }
-    ensures refused { (known : Known) → Tests known (Z.knows analyzers.now) → IsTrue (W.tells work.old)
+    ensures refused { (known : Known) → Tests known (Z.knows analyzers.now) → IsTrue (W.state work.old).tells
         → IfErr result (λ status. IfRefused status (λ e. IfSome (S.left source.old)
         (λ bytes. IsWhyRefused known (Z.tokens_of analyzers.now) bytes e))) }
     ensures refused_untold { (known : Known) → Tests known (Z.knows analyzers.now)
@@ -293,41 +292,41 @@ fn read_and_build<S: Source, Z: Analyzers, W: Directory, O: Directory>(
     ensures written { (known : Known) → Tests known (Z.knows analyzers.now)
         → IfErr result (λ status. IfWritten status (λ _. IfSome (S.left source.old) (IsAdmitted known (Z.tokens_of analyzers.now)))) }
     ensures valid { (known : Known) → Tests known (Z.knows analyzers.now) → OnOk result (IfSome (S.left source.old)
-        (IsValidScript (IsTrue (W.tells work.old)) known (Z.tokens_of analyzers.now))) }
+        (IsValidScript (IsTrue (W.state work.old).tells) known (Z.tokens_of analyzers.now))) }
     ensures json { IfErr result (λ status. IfRefused status
         (λ _. IfSome (S.left source.old) IsJson)) }
     ensures stream { IsErrOf result Status.Stream → Rose (S.faults source.old) (S.faults source.new)
         × (work.new ≡ work.old) × (output.new ≡ output.old) }
-    ensures work_index { IsTrue (W.tells work.old) → OnOk result (IfSome (S.left source.old)
-        (λ bytes. HasWorkIndex (Z.tokens_of analyzers.now) bytes (W.files work.new))) }
-    ensures work_was_empty { IsTrue (W.tells work.old) → OnOk result (len (W.files work.old) ≡ 0) }
-    ensures output_index { IsTrue (W.tells work.old) → IsTrue (O.tells output.old) → OnOk result (IfSome (S.left source.old)
-        (λ bytes. HasOutputIndex (Z.tokens_of analyzers.now) bytes (O.files output.new))) }
-    ensures output_meta { IsTrue (O.tells output.old) → OnOk result (IfSome (S.left source.old)
-        (λ bytes. HasMergedIndex bytes (O.files output.new))) }
-    ensures output_was_empty { IsTrue (O.tells output.old) → OnOk result (len (O.files output.old) ≡ 0) }
-    ensures fresh { IsTrue (W.tells work.old) → len (W.files work.old) ≡ 0
-        → IsTrue (O.tells output.old) → len (O.files output.old) ≡ 0
+    ensures work_index { IsTrue (W.state work.old).tells → OnOk result (IfSome (S.left source.old)
+        (λ bytes. HasWorkIndex (Z.tokens_of analyzers.now) bytes (W.state work.new).files)) }
+    ensures work_was_empty { IsTrue (W.state work.old).tells → OnOk result (len (W.state work.old).files ≡ 0) }
+    ensures output_index { IsTrue (W.state work.old).tells → IsTrue (O.state output.old).tells → OnOk result (IfSome (S.left source.old)
+        (λ bytes. HasOutputIndex (Z.tokens_of analyzers.now) bytes (O.state output.new).files)) }
+    ensures output_meta { IsTrue (O.state output.old).tells → OnOk result (IfSome (S.left source.old)
+        (λ bytes. HasMergedIndex bytes (O.state output.new).files)) }
+    ensures output_was_empty { IsTrue (O.state output.old).tells → OnOk result (len (O.state output.old).files ≡ 0) }
+    ensures fresh { IsTrue (W.state work.old).tells → len (W.state work.old).files ≡ 0
+        → IsTrue (O.state output.old).tells → len (O.state output.old).files ≡ 0
         → IfErr result (λ status. (e : TantivyError) → status ≢ Status.Exists e) }
-    ensures whole { IsTrue (W.tells work.old) → IfErr result (λ status. (name : FileName) → status ≢ Status.Damaged name) }
+    ensures whole { IsTrue (W.state work.old).tells → IfErr result (λ status. (name : FileName) → status ≢ Status.Damaged name) }
     ensures end_written { IfErr result (λ status. IfWritten status (λ _. IsAtEnd (S.left source.new))) }
     ensures calls { OnOk result (BuildDoes Status.Done
         (record {
-          work = state_of (W.tells work.old) (W.files work.old) (W.seen work.old) (W.faults work.old);
-          output = state_of (O.tells output.old) (O.files output.old) (O.seen output.old) (O.faults output.old);
+          work = W.state work.old;
+          output = O.state output.old;
         })
         (record {
-          work = state_of (W.tells work.new) (W.files work.new) (W.seen work.new) (W.faults work.new);
-          output = state_of (O.tells output.new) (O.files output.new) (O.seen output.new) (O.faults output.new);
+          work = W.state work.new;
+          output = O.state output.new;
         })) }
     ensures calls_ended { IfErr result (λ status. BuildDoes status
         (record {
-          work = state_of (W.tells work.old) (W.files work.old) (W.seen work.old) (W.faults work.old);
-          output = state_of (O.tells output.old) (O.files output.old) (O.seen output.old) (O.faults output.old);
+          work = W.state work.old;
+          output = O.state output.old;
         })
         (record {
-          work = state_of (W.tells work.new) (W.files work.new) (W.seen work.new) (W.faults work.new);
-          output = state_of (O.tells output.new) (O.files output.new) (O.seen output.new) (O.faults output.new);
+          work = W.state work.new;
+          output = O.state output.new;
         })) }
     ensures unwritten_script { IsErrOf result Status.Script → work.new ≡ work.old }
     ensures output_unwritten_script { IsErrOf result Status.Script → output.new ≡ output.old }

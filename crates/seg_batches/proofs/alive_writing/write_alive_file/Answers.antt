@@ -11,7 +11,7 @@ use Rattle.seg_batches.proofs.alive_writing.write_alive_file.Goals as goal
 pub returns-in_default-clause-tells : goal.returns-in_default-clause-tells
 returns-in_default-clause-tells g c tells =
     let s = c.args.segment.now in
-    nothing_told (g.W.Directory.files c.args.directory.now) s.id s.documents s.alive (deletes_of c.args.stamp s.alive) (all_listed_alive s.documents c.args.stamp s.alive c.in_default.ensures)
+    nothing_told (g.W.Directory.state c.args.directory.now).files s.id s.documents s.alive (deletes_of c.args.stamp s.alive) (all_listed_alive s.documents c.args.stamp s.alive c.in_default.ensures)
 
 pub returns-in_default-clause-calls : goal.returns-in_default-clause-calls
 returns-in_default-clause-calls g c =

@@ -1,6 +1,5 @@
 use Rattle.std.proofs.Common.{IsTrue, take, drop}
 use Rattle.seg_build.specs.SegmentFiles.{AreAbsent}
-use Rattle.seg_batches.specs.Calls.{state_of}
 use Rattle.seg_batches.specs.Segments.{AllTellAlive, alive_files, all_listed}
 use Rattle.seg_batches.proofs.FilesTurn.{AllMade}
 use Rattle.seg_batches.proofs.alive_writing.write_alive_files.Given as goal
@@ -13,8 +12,8 @@ invariant-loop-segment g l =
     let now = l.directory in
     record {
       made : AllMade (alive_files (take l.segment-index listed)) (alive_files listed)
-          (state_of (g.W.Directory.tells before) (g.W.Directory.files before) (g.W.Directory.seen before) (g.W.Directory.faults before))
-          (state_of (g.W.Directory.tells now) (g.W.Directory.files now) (g.W.Directory.seen now) (g.W.Directory.faults now));
-      tell : IsTrue (g.W.Directory.tells before) → AllTellAlive (g.W.Directory.files now) l.stamp (take l.segment-index l.segments);
-      fresh : IsTrue (g.W.Directory.tells before) → AreAbsent (alive_files listed) (g.W.Directory.files before) → AreAbsent (alive_files (drop l.segment-index listed)) (g.W.Directory.files now);
+          (g.W.Directory.state before)
+          (g.W.Directory.state now);
+      tell : IsTrue (g.W.Directory.state before).tells → AllTellAlive (g.W.Directory.state now).files l.stamp (take l.segment-index l.segments);
+      fresh : IsTrue (g.W.Directory.state before).tells → AreAbsent (alive_files listed) (g.W.Directory.state before).files → AreAbsent (alive_files (drop l.segment-index listed)) (g.W.Directory.state now).files;
     }

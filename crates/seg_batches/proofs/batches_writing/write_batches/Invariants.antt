@@ -7,7 +7,6 @@ use Rattle.seg_removal.specs.Stamps.{stamped_deletes}
 use Rattle.seg_alive.specs.Laws.{as_operations}
 use Rattle.seg_build.specs.SegmentFiles.{AreAbsent}
 use Rattle.seg_build.specs.View.{operation_of}
-use Rattle.seg_batches.specs.Calls.{state_of}
 use Rattle.seg_batches.specs.Making.{passed_below}
 use Rattle.seg_batches.specs.Segments.{AllStand, segments_of, six_files}
 use Rattle.seg_batches.specs.Writing.{MakesFiles}
@@ -33,9 +32,9 @@ invariant-loop-at g l =
       taken : list_all (is_taken l.schema analyzer) (additions (take l.first operations)) ≡ true;
       behind : l.at ≤ length l.cuts → drop l.at all ≡ batches_left l.schema analyzer operations l.cuts l.at l.first;
       unrefused : l.at ≤ length l.cuts → refused_left l.schema analyzer operations l.cuts l.at l.first ≡ first_of (batch_refusal l.schema analyzer) (cut_from 0 l.cuts (enumerate_from 0 operations));
-      stand : IsTrue (g.W.Directory.tells before) → AllStand l.schema analyzer (g.W.Directory.files now) (take l.at l.ids) all;
-      fresh : IsTrue (g.W.Directory.tells before) → AreAbsent (six_files l.ids) (g.W.Directory.files before) → AreAbsent (six_files (drop l.at l.ids)) (g.W.Directory.files now);
+      stand : IsTrue (g.W.Directory.state before).tells → AllStand l.schema analyzer (g.W.Directory.state now).files (take l.at l.ids) all;
+      fresh : IsTrue (g.W.Directory.state before).tells → AreAbsent (six_files l.ids) (g.W.Directory.state before).files → AreAbsent (six_files (drop l.at l.ids)) (g.W.Directory.state now).files;
       made : MakesFiles (Ok tt) (take l.at l.ids) l.ids
-          (state_of (g.W.Directory.tells before) (g.W.Directory.files before) (g.W.Directory.seen before) (g.W.Directory.faults before))
-          (state_of (g.W.Directory.tells now) (g.W.Directory.files now) (g.W.Directory.seen now) (g.W.Directory.faults now));
+          (g.W.Directory.state before)
+          (g.W.Directory.state now);
     }

@@ -2,7 +2,6 @@ use Rattle.std.proofs.Common.{rules, ◌≡◌, Err, sym, ◌∙◌, subst}
 use Rattle.seg_model.specs.Fields.{Schema}
 use Rattle.seg_open.specs.OpenSegment.{contents_of}
 use Rattle.seg_open.specs.Spelling.{Spell, IsWhyNotOpen}
-use Rattle.seg_batches.specs.Calls.{state_of}
 use Rattle.seg_batches.specs.Reading.{ReadsBack}
 use Rattle.seg_batches.proofs.ReadBackSteps.{back-nothing, back-unread, back-damaged, back-whole}
 use Rattle.seg_batches.proofs.reading_back.read_back.Goals as goal
@@ -22,7 +21,7 @@ returns-in-Err-open_files g c =
     let same : c.in-Ok.copy ≡ c.args.schema.now = search rules in
     let why : IsWhyNotOpen c.args.schema.now c.args.max_doc read c.in-Err-open_files.e =
     subst (λ (s : Schema). IsWhyNotOpen s c.args.max_doc read c.in-Err-open_files.e) same c.in-Err-open_files.ensures.err in
-    subst (λ e. ReadsBack c.args.id c.args.schema.now c.args.max_doc (Err e) (state_of (g.W.Directory.tells c.args.directory.now) (g.W.Directory.files c.args.directory.now) (g.W.Directory.seen c.args.directory.now) (g.W.Directory.faults c.args.directory.now)) (state_of (g.W.Directory.tells c.read.new.directory) (g.W.Directory.files c.read.new.directory) (g.W.Directory.seen c.read.new.directory) (g.W.Directory.faults c.read.new.directory))) (sym c.of_segment.ensures)
+    subst (λ e. ReadsBack c.args.id c.args.schema.now c.args.max_doc (Err e) (g.W.Directory.state c.args.directory.now) (g.W.Directory.state c.read.new.directory)) (sym c.of_segment.ensures)
     (back-damaged c.args.id c.args.schema.now c.args.max_doc _ _ c.in-Ok-read.ensures.files c.in-Ok-read.ensures.tells read c.in-Ok-read.ensures.seen c.in-Ok-read.ensures.read c.in-Ok-read.ensures.cause.later c.in-Err-open_files.e why)
 
 pub returns-in_default : goal.returns-in_default

@@ -1,5 +1,4 @@
 use Rattle.std.proofs.Common.{take}
-use Rattle.seg_batches.specs.Calls.{state_of}
 use Rattle.seg_batches.specs.Reading.{ReadsAll}
 use Rattle.seg_batches.proofs.segments_reading.read_segments.Given as goal
 
@@ -9,5 +8,5 @@ invariant-loop-segment g l =
     let before = l.fn.directory in
     let now = l.directory in
     ReadsAll l.schema (take l.segment-index l.segments) l.read.items
-    (state_of (g.W.Directory.tells before) (g.W.Directory.files before) (g.W.Directory.seen before) (g.W.Directory.faults before))
-    (state_of (g.W.Directory.tells now) (g.W.Directory.files now) (g.W.Directory.seen now) (g.W.Directory.faults now))
+    (g.W.Directory.state before)
+    (g.W.Directory.state now)

@@ -6,10 +6,10 @@ use Rattle.seg_build.proofs.component_files.write_components.Given as goal
 abbrev pub invariant-loop-component : goal.invariant-loop-component
 invariant-loop-component g l =
     record {
-      made : IsTrue (g.W.Directory.tells l.initial.directory) → with_files (component_files l.id l.bytes (drop l.component-index l.components)) (g.W.Directory.files l.directory) ≡ with_files (component_files l.id l.bytes l.components) (g.W.Directory.files l.initial.directory);
-      fresh : IsTrue (g.W.Directory.tells l.initial.directory) → AreNew (component_names l.id l.components) (g.W.Directory.files l.initial.directory) → AreNew (component_names l.id (drop l.component-index l.components)) (g.W.Directory.files l.directory);
-      others : KeepsAllBut (component_names l.id l.components) (g.W.Directory.files l.initial.directory) (g.W.Directory.files l.directory);
-      tells : g.W.Directory.tells l.directory ≡ g.W.Directory.tells l.initial.directory;
-      seen : g.W.Directory.seen l.directory ≡ g.W.Directory.seen l.initial.directory ++ wrote (component_names l.id (take l.component-index l.components));
-      later : g.W.Directory.faults l.initial.directory ≤ g.W.Directory.faults l.directory;
+      made : IsTrue (g.W.Directory.state l.initial.directory).tells → with_files (component_files l.id l.bytes (drop l.component-index l.components)) (g.W.Directory.state l.directory).files ≡ with_files (component_files l.id l.bytes l.components) (g.W.Directory.state l.initial.directory).files;
+      fresh : IsTrue (g.W.Directory.state l.initial.directory).tells → AreNew (component_names l.id l.components) (g.W.Directory.state l.initial.directory).files → AreNew (component_names l.id (drop l.component-index l.components)) (g.W.Directory.state l.directory).files;
+      others : KeepsAllBut (component_names l.id l.components) (g.W.Directory.state l.initial.directory).files (g.W.Directory.state l.directory).files;
+      tells : (g.W.Directory.state l.directory).tells ≡ (g.W.Directory.state l.initial.directory).tells;
+      seen : (g.W.Directory.state l.directory).seen ≡ (g.W.Directory.state l.initial.directory).seen ++ wrote (component_names l.id (take l.component-index l.components));
+      later : (g.W.Directory.state l.initial.directory).faults ≤ (g.W.Directory.state l.directory).faults;
     }

@@ -49,7 +49,7 @@ returns-clause-valid g c known tests =
     let input = input_of c.args.schema.now c.args.settings.now c.args.operations.now c.args.cuts.now c.args.filters.now c.args.ids.now in
     let F = g.Z.Analyzers.tokens_of c.args.analyzers.now in
     let built = c.in_ok-built.ensures in
-    is_valid_if known F input (IsTrue (g.W.Directory.tells c.args.work.now)) c.built_schemas_have_no_columns.ensures
+    is_valid_if known F input (IsTrue (g.W.Directory.state c.args.work.now).tells) c.built_schemas_have_no_columns.ensures
     (record { built = c.in_ok-check_input.ensures.fits.built; small = built.small; taken = built.taken }) (c.in_ok-check_input.ensures.admitted known tests)
     (λ told. subst (λ n. n < 2 ^ 31) (counts_survivors F input (contents_of c.in_ok-built.built.output) (built.survivors told)) built.few)
 

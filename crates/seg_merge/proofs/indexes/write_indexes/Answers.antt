@@ -5,7 +5,7 @@ use Rattle.seg_values.specs.declared.error.TantivyError.TheVariants.{IndexAlread
 use Rattle.seg_model.specs.IndexOfFiles as index
 use Rattle.seg_model.specs.Valid.{are_distinct}
 use Rattle.seg_build.specs.View.{operation_of}
-use Rattle.seg_batches.specs.Calls.{DirectoryState, state_of}
+use Rattle.seg_directory.specs.State.{DirectoryState}
 use Rattle.seg_refusals.specs.Inputs.{input_of}
 use Rattle.seg_open.specs.OpenSegment.{contents_of}
 use Rattle.seg_merge.specs.DirectoryCalls.{Directories, asked_of}
@@ -56,8 +56,8 @@ returns-in_err-segments-clause-fresh g c told none told_output none_output =
     let last = c.split_ids-output_id.result.1 in
     let is = c.split_ids-output_id.ensures.work in
     let same = c.split_ids-output_id.ensures.output in
-    let before : Directories = record { work = state_of (g.W.Directory.tells c.args.work.now) (g.W.Directory.files c.args.work.now) (g.W.Directory.seen c.args.work.now) (g.W.Directory.faults c.args.work.now); output = state_of (g.O.Directory.tells c.args.output.now) (g.O.Directory.files c.args.output.now) (g.O.Directory.seen c.args.output.now) (g.O.Directory.faults c.args.output.now) } in
-    let begun : Directories = record { work = state_of (g.W.Directory.tells c.begin_indexes.new.work) (g.W.Directory.files c.begin_indexes.new.work) (g.W.Directory.seen c.begin_indexes.new.work) (g.W.Directory.faults c.begin_indexes.new.work); output = state_of (g.O.Directory.tells c.begin_indexes.new.output) (g.O.Directory.files c.begin_indexes.new.output) (g.O.Directory.seen c.begin_indexes.new.output) (g.O.Directory.faults c.begin_indexes.new.output) } in
+    let before : Directories = record { work = g.W.Directory.state c.args.work.now; output = g.O.Directory.state c.args.output.now } in
+    let begun : Directories = record { work = g.W.Directory.state c.begin_indexes.new.work; output = g.O.Directory.state c.begin_indexes.new.output } in
     let began = c.in_ok-begin_indexes.ensures.calls in
     let still = tells-still _ _ c.in_ok-begin_indexes.ensures.calls.0.tells told in
     never_exists c.from_residual-in_err-segments.result (given_on (λ (e : TantivyError). e ≡ IndexAlreadyExists → ⊥) c.in_err-segments.field-0.0 c.from_residual-in_err-segments.result c.from_residual-in_err-segments.ensures.1
@@ -71,10 +71,10 @@ returns-in_err-segments-clause-stops g c =
     let last = c.split_ids-output_id.result.1 in
     let is = c.split_ids-output_id.ensures.work in
     let same = c.split_ids-output_id.ensures.output in
-    let before : Directories = record { work = state_of (g.W.Directory.tells c.args.work.now) (g.W.Directory.files c.args.work.now) (g.W.Directory.seen c.args.work.now) (g.W.Directory.faults c.args.work.now); output = state_of (g.O.Directory.tells c.args.output.now) (g.O.Directory.files c.args.output.now) (g.O.Directory.seen c.args.output.now) (g.O.Directory.faults c.args.output.now) } in
-    let begun : Directories = record { work = state_of (g.W.Directory.tells c.begin_indexes.new.work) (g.W.Directory.files c.begin_indexes.new.work) (g.W.Directory.seen c.begin_indexes.new.work) (g.W.Directory.faults c.begin_indexes.new.work); output = state_of (g.O.Directory.tells c.begin_indexes.new.output) (g.O.Directory.files c.begin_indexes.new.output) (g.O.Directory.seen c.begin_indexes.new.output) (g.O.Directory.faults c.begin_indexes.new.output) } in
+    let before : Directories = record { work = g.W.Directory.state c.args.work.now; output = g.O.Directory.state c.args.output.now } in
+    let begun : Directories = record { work = g.W.Directory.state c.begin_indexes.new.work; output = g.O.Directory.state c.begin_indexes.new.output } in
     let began = c.in_ok-begin_indexes.ensures.calls in
-    let worked : DirectoryState = state_of (g.W.Directory.tells c.write_work.new.work) (g.W.Directory.files c.write_work.new.work) (g.W.Directory.seen c.write_work.new.work) (g.W.Directory.faults c.write_work.new.work) in
+    let worked : DirectoryState = g.W.Directory.state c.write_work.new.work in
     given_on _ c.in_err-segments.field-0.0 c.from_residual-in_err-segments.result c.from_residual-in_err-segments.ensures.1
     (stops_in_work F input ids is last same before begun began.0 began.1 c.in_err-segments.field-0.0 worked c.in_err-segments.ensures.stops)
 
@@ -86,8 +86,8 @@ write_output-requires-clause-parts g c =
     let last = c.split_ids-output_id.result.1 in
     let is = c.split_ids-output_id.ensures.work in
     let same = c.split_ids-output_id.ensures.output in
-    let begun : DirectoryState = state_of (g.W.Directory.tells c.begin_indexes.new.work) (g.W.Directory.files c.begin_indexes.new.work) (g.W.Directory.seen c.begin_indexes.new.work) (g.W.Directory.faults c.begin_indexes.new.work) in
-    let worked : DirectoryState = state_of (g.W.Directory.tells c.write_work.new.work) (g.W.Directory.files c.write_work.new.work) (g.W.Directory.seen c.write_work.new.work) (g.W.Directory.faults c.write_work.new.work) in
+    let begun : DirectoryState = g.W.Directory.state c.begin_indexes.new.work in
+    let worked : DirectoryState = g.W.Directory.state c.write_work.new.work in
     let filled = c.in_ok-segments.ensures.reads in
     let read = c.in_ok-segments.segments.items in
     read_of_schema F input ids read c.deref.result.now begun worked c.deref.ensures.value filled
@@ -100,8 +100,8 @@ write_output-requires-clause-filters g c =
     let last = c.split_ids-output_id.result.1 in
     let is = c.split_ids-output_id.ensures.work in
     let same = c.split_ids-output_id.ensures.output in
-    let begun : DirectoryState = state_of (g.W.Directory.tells c.begin_indexes.new.work) (g.W.Directory.files c.begin_indexes.new.work) (g.W.Directory.seen c.begin_indexes.new.work) (g.W.Directory.faults c.begin_indexes.new.work) in
-    let worked : DirectoryState = state_of (g.W.Directory.tells c.write_work.new.work) (g.W.Directory.files c.write_work.new.work) (g.W.Directory.seen c.write_work.new.work) (g.W.Directory.faults c.write_work.new.work) in
+    let begun : DirectoryState = g.W.Directory.state c.begin_indexes.new.work in
+    let worked : DirectoryState = g.W.Directory.state c.write_work.new.work in
     let filled = c.in_ok-segments.ensures.reads in
     let read = c.in_ok-segments.segments.items in
     read_fits F input ids read c.deref.result.now begun worked c.deref.ensures.value is c.requires.fits filled
@@ -114,14 +114,14 @@ returns-in_err-written-clause-refused g c known tests none told =
     let last = c.split_ids-output_id.result.1 in
     let is = c.split_ids-output_id.ensures.work in
     let same = c.split_ids-output_id.ensures.output in
-    let before : Directories = record { work = state_of (g.W.Directory.tells c.args.work.now) (g.W.Directory.files c.args.work.now) (g.W.Directory.seen c.args.work.now) (g.W.Directory.faults c.args.work.now); output = state_of (g.O.Directory.tells c.args.output.now) (g.O.Directory.files c.args.output.now) (g.O.Directory.seen c.args.output.now) (g.O.Directory.faults c.args.output.now) } in
-    let begun : Directories = record { work = state_of (g.W.Directory.tells c.begin_indexes.new.work) (g.W.Directory.files c.begin_indexes.new.work) (g.W.Directory.seen c.begin_indexes.new.work) (g.W.Directory.faults c.begin_indexes.new.work); output = state_of (g.O.Directory.tells c.begin_indexes.new.output) (g.O.Directory.files c.begin_indexes.new.output) (g.O.Directory.seen c.begin_indexes.new.output) (g.O.Directory.faults c.begin_indexes.new.output) } in
+    let before : Directories = record { work = g.W.Directory.state c.args.work.now; output = g.O.Directory.state c.args.output.now } in
+    let begun : Directories = record { work = g.W.Directory.state c.begin_indexes.new.work; output = g.O.Directory.state c.begin_indexes.new.output } in
     let began = c.in_ok-begin_indexes.ensures.calls in
-    let worked : DirectoryState = state_of (g.W.Directory.tells c.write_work.new.work) (g.W.Directory.files c.write_work.new.work) (g.W.Directory.seen c.write_work.new.work) (g.W.Directory.faults c.write_work.new.work) in
+    let worked : DirectoryState = g.W.Directory.state c.write_work.new.work in
     let filled = c.in_ok-segments.ensures.reads in
     let read = c.in_ok-segments.segments.items in
     let still = tells-still _ _ c.in_ok-begin_indexes.ensures.calls.0.tells told in
-    let written : DirectoryState = state_of (g.O.Directory.tells c.write_output.new.output) (g.O.Directory.files c.write_output.new.output) (g.O.Directory.seen c.write_output.new.output) (g.O.Directory.faults c.write_output.new.output) in
+    let written : DirectoryState = g.O.Directory.state c.write_output.new.output in
     given_on _ c.in_err-written.field-0.0 c.from_residual-in_err-written.result c.from_residual-in_err-written.ensures.1
     (output_refused F input known last read c.deref.result.now c.in_err-written.field-0.0 begun.output written c.deref.ensures.value c.requires.fits (c.in_ok-segments.ensures.readings still) c.built_schemas_have_no_columns.ensures
     (record { built = c.requires.fits.built; small = c.in_ok-segments.ensures.small; taken = c.in_ok-segments.ensures.taken }) none c.in_err-written.ensures.stops)
@@ -134,13 +134,13 @@ returns-in_err-written-clause-stops g c =
     let last = c.split_ids-output_id.result.1 in
     let is = c.split_ids-output_id.ensures.work in
     let same = c.split_ids-output_id.ensures.output in
-    let before : Directories = record { work = state_of (g.W.Directory.tells c.args.work.now) (g.W.Directory.files c.args.work.now) (g.W.Directory.seen c.args.work.now) (g.W.Directory.faults c.args.work.now); output = state_of (g.O.Directory.tells c.args.output.now) (g.O.Directory.files c.args.output.now) (g.O.Directory.seen c.args.output.now) (g.O.Directory.faults c.args.output.now) } in
-    let begun : Directories = record { work = state_of (g.W.Directory.tells c.begin_indexes.new.work) (g.W.Directory.files c.begin_indexes.new.work) (g.W.Directory.seen c.begin_indexes.new.work) (g.W.Directory.faults c.begin_indexes.new.work); output = state_of (g.O.Directory.tells c.begin_indexes.new.output) (g.O.Directory.files c.begin_indexes.new.output) (g.O.Directory.seen c.begin_indexes.new.output) (g.O.Directory.faults c.begin_indexes.new.output) } in
+    let before : Directories = record { work = g.W.Directory.state c.args.work.now; output = g.O.Directory.state c.args.output.now } in
+    let begun : Directories = record { work = g.W.Directory.state c.begin_indexes.new.work; output = g.O.Directory.state c.begin_indexes.new.output } in
     let began = c.in_ok-begin_indexes.ensures.calls in
-    let worked : DirectoryState = state_of (g.W.Directory.tells c.write_work.new.work) (g.W.Directory.files c.write_work.new.work) (g.W.Directory.seen c.write_work.new.work) (g.W.Directory.faults c.write_work.new.work) in
+    let worked : DirectoryState = g.W.Directory.state c.write_work.new.work in
     let filled = c.in_ok-segments.ensures.reads in
     let read = c.in_ok-segments.segments.items in
-    let written : DirectoryState = state_of (g.O.Directory.tells c.write_output.new.output) (g.O.Directory.files c.write_output.new.output) (g.O.Directory.seen c.write_output.new.output) (g.O.Directory.faults c.write_output.new.output) in
+    let written : DirectoryState = g.O.Directory.state c.write_output.new.output in
     given_on _ c.in_err-written.field-0.0 c.from_residual-in_err-written.result c.from_residual-in_err-written.ensures.1
     (stops_in_output F input ids is last same before begun began.0 began.1 read c.deref.result.now c.deref.ensures.value worked written filled c.in_err-written.field-0.0 c.in_err-written.ensures.stops)
 
@@ -148,7 +148,7 @@ pub returns-clause-survivors : goal.returns-clause-survivors
 returns-clause-survivors g c told =
     let input = input_of c.args.schema.now c.args.settings.now c.args.operations.now c.args.cuts.now c.args.filters.now c.args.ids.now in
     let F = g.Z.Analyzers.tokens_of c.args.analyzers.now in
-    let worked : DirectoryState = state_of (g.W.Directory.tells c.write_work.new.work) (g.W.Directory.files c.write_work.new.work) (g.W.Directory.seen c.write_work.new.work) (g.W.Directory.faults c.write_work.new.work) in
+    let worked : DirectoryState = g.W.Directory.state c.write_work.new.work in
     let filled = c.in_ok-segments.ensures.reads in
     let read = c.in_ok-segments.segments.items in
     let still = tells-still _ _ c.in_ok-begin_indexes.ensures.calls.0.tells told in
@@ -173,7 +173,7 @@ returns-clause-output_index g c told told_output =
     let last = c.split_ids-output_id.result.1 in
     let is = c.split_ids-output_id.ensures.work in
     let same = c.split_ids-output_id.ensures.output in
-    let worked : DirectoryState = state_of (g.W.Directory.tells c.write_work.new.work) (g.W.Directory.files c.write_work.new.work) (g.W.Directory.seen c.write_work.new.work) (g.W.Directory.faults c.write_work.new.work) in
+    let worked : DirectoryState = g.W.Directory.state c.write_work.new.work in
     let filled = c.in_ok-segments.ensures.reads in
     let read = c.in_ok-segments.segments.items in
     let still = tells-still _ _ c.in_ok-begin_indexes.ensures.calls.0.tells told in
@@ -190,11 +190,11 @@ returns-clause-written g c =
     let last = c.split_ids-output_id.result.1 in
     let is = c.split_ids-output_id.ensures.work in
     let same = c.split_ids-output_id.ensures.output in
-    let before : Directories = record { work = state_of (g.W.Directory.tells c.args.work.now) (g.W.Directory.files c.args.work.now) (g.W.Directory.seen c.args.work.now) (g.W.Directory.faults c.args.work.now); output = state_of (g.O.Directory.tells c.args.output.now) (g.O.Directory.files c.args.output.now) (g.O.Directory.seen c.args.output.now) (g.O.Directory.faults c.args.output.now) } in
-    let begun : Directories = record { work = state_of (g.W.Directory.tells c.begin_indexes.new.work) (g.W.Directory.files c.begin_indexes.new.work) (g.W.Directory.seen c.begin_indexes.new.work) (g.W.Directory.faults c.begin_indexes.new.work); output = state_of (g.O.Directory.tells c.begin_indexes.new.output) (g.O.Directory.files c.begin_indexes.new.output) (g.O.Directory.seen c.begin_indexes.new.output) (g.O.Directory.faults c.begin_indexes.new.output) } in
+    let before : Directories = record { work = g.W.Directory.state c.args.work.now; output = g.O.Directory.state c.args.output.now } in
+    let begun : Directories = record { work = g.W.Directory.state c.begin_indexes.new.work; output = g.O.Directory.state c.begin_indexes.new.output } in
     let began = c.in_ok-begin_indexes.ensures.calls in
-    let worked : DirectoryState = state_of (g.W.Directory.tells c.write_work.new.work) (g.W.Directory.files c.write_work.new.work) (g.W.Directory.seen c.write_work.new.work) (g.W.Directory.faults c.write_work.new.work) in
+    let worked : DirectoryState = g.W.Directory.state c.write_work.new.work in
     let filled = c.in_ok-segments.ensures.reads in
     let read = c.in_ok-segments.segments.items in
-    let written : DirectoryState = state_of (g.O.Directory.tells c.write_output.new.output) (g.O.Directory.files c.write_output.new.output) (g.O.Directory.seen c.write_output.new.output) (g.O.Directory.faults c.write_output.new.output) in
+    let written : DirectoryState = g.O.Directory.state c.write_output.new.output in
     both_in_turn F input ids is last same before begun began.0 began.1 read c.deref.result.now c.deref.ensures.value worked written filled c.in_ok-written.written.reader c.in_ok-written.ensures.writes c.in_ok-written.ensures.schema c.in_ok-written.ensures.joined c.in_ok-written.ensures.held

@@ -9,7 +9,6 @@ use Rattle.seg_model.specs.IndexOfFiles.{ListedSegment}
 use Rattle.seg_model.specs.Operations.{batches}
 use Rattle.seg_build.specs.Forms.{segment_forms}
 use Rattle.seg_build.specs.View.{operation_of}
-use Rattle.seg_batches.specs.Calls.{state_of}
 use Rattle.seg_batches.specs.Reading.{ReadsAll, StopsReading}
 use Rattle.seg_batches.specs.Segments.{AllStand, AllTellAlive}
 use Rattle.seg_refusals.specs.Refusals.{IfRefusal, batches_error}
@@ -34,8 +33,8 @@ returns-in_err-metas-clause-stops g c =
 
 pub returns-clause-index : goal.returns-clause-index
 returns-clause-index g c told =
-    let mid = state_of (g.W.Directory.tells c.fill_work_index.new.work) (g.W.Directory.files c.fill_work_index.new.work) (g.W.Directory.seen c.fill_work_index.new.work) (g.W.Directory.faults c.fill_work_index.new.work) in
-    let last = state_of (g.W.Directory.tells c.read_segments.new.directory) (g.W.Directory.files c.read_segments.new.directory) (g.W.Directory.seen c.read_segments.new.directory) (g.W.Directory.faults c.read_segments.new.directory) in
+    let mid = g.W.Directory.state c.fill_work_index.new.work in
+    let last = g.W.Directory.state c.read_segments.new.directory in
     let F = g.Z.Analyzers.tokens_of c.args.analyzers.now in
     let operations = map operation_of c.args.operations.now in
     let filled = c.in_ok-metas.ensures in
@@ -44,8 +43,8 @@ returns-clause-index g c told =
 
 pub returns-clause-stand : goal.returns-clause-stand
 returns-clause-stand g c told =
-    let mid = state_of (g.W.Directory.tells c.fill_work_index.new.work) (g.W.Directory.files c.fill_work_index.new.work) (g.W.Directory.seen c.fill_work_index.new.work) (g.W.Directory.faults c.fill_work_index.new.work) in
-    let last = state_of (g.W.Directory.tells c.read_segments.new.directory) (g.W.Directory.files c.read_segments.new.directory) (g.W.Directory.seen c.read_segments.new.directory) (g.W.Directory.faults c.read_segments.new.directory) in
+    let mid = g.W.Directory.state c.fill_work_index.new.work in
+    let last = g.W.Directory.state c.read_segments.new.directory in
     let F = g.Z.Analyzers.tokens_of c.args.analyzers.now in
     let operations = map operation_of c.args.operations.now in
     let filled = c.in_ok-metas.ensures in
@@ -54,8 +53,8 @@ returns-clause-stand g c told =
 
 pub returns-clause-alive : goal.returns-clause-alive
 returns-clause-alive g c told =
-    let mid = state_of (g.W.Directory.tells c.fill_work_index.new.work) (g.W.Directory.files c.fill_work_index.new.work) (g.W.Directory.seen c.fill_work_index.new.work) (g.W.Directory.faults c.fill_work_index.new.work) in
-    let last = state_of (g.W.Directory.tells c.read_segments.new.directory) (g.W.Directory.files c.read_segments.new.directory) (g.W.Directory.seen c.read_segments.new.directory) (g.W.Directory.faults c.read_segments.new.directory) in
+    let mid = g.W.Directory.state c.fill_work_index.new.work in
+    let last = g.W.Directory.state c.read_segments.new.directory in
     let F = g.Z.Analyzers.tokens_of c.args.analyzers.now in
     let operations = map operation_of c.args.operations.now in
     let filled = c.in_ok-metas.ensures in
@@ -64,8 +63,8 @@ returns-clause-alive g c told =
 
 pub returns-clause-small : goal.returns-clause-small
 returns-clause-small g c =
-    let mid = state_of (g.W.Directory.tells c.fill_work_index.new.work) (g.W.Directory.files c.fill_work_index.new.work) (g.W.Directory.seen c.fill_work_index.new.work) (g.W.Directory.faults c.fill_work_index.new.work) in
-    let last = state_of (g.W.Directory.tells c.read_segments.new.directory) (g.W.Directory.files c.read_segments.new.directory) (g.W.Directory.seen c.read_segments.new.directory) (g.W.Directory.faults c.read_segments.new.directory) in
+    let mid = g.W.Directory.state c.fill_work_index.new.work in
+    let last = g.W.Directory.state c.read_segments.new.directory in
     let F = g.Z.Analyzers.tokens_of c.args.analyzers.now in
     let operations = map operation_of c.args.operations.now in
     let filled = c.in_ok-metas.ensures in
@@ -74,8 +73,8 @@ returns-clause-small g c =
 
 pub returns-clause-taken : goal.returns-clause-taken
 returns-clause-taken g c =
-    let mid = state_of (g.W.Directory.tells c.fill_work_index.new.work) (g.W.Directory.files c.fill_work_index.new.work) (g.W.Directory.seen c.fill_work_index.new.work) (g.W.Directory.faults c.fill_work_index.new.work) in
-    let last = state_of (g.W.Directory.tells c.read_segments.new.directory) (g.W.Directory.files c.read_segments.new.directory) (g.W.Directory.seen c.read_segments.new.directory) (g.W.Directory.faults c.read_segments.new.directory) in
+    let mid = g.W.Directory.state c.fill_work_index.new.work in
+    let last = g.W.Directory.state c.read_segments.new.directory in
     let F = g.Z.Analyzers.tokens_of c.args.analyzers.now in
     let operations = map operation_of c.args.operations.now in
     let filled = c.in_ok-metas.ensures in
@@ -84,8 +83,8 @@ returns-clause-taken g c =
 
 pub returns-clause-readings : goal.returns-clause-readings
 returns-clause-readings g c told =
-    let mid = state_of (g.W.Directory.tells c.fill_work_index.new.work) (g.W.Directory.files c.fill_work_index.new.work) (g.W.Directory.seen c.fill_work_index.new.work) (g.W.Directory.faults c.fill_work_index.new.work) in
-    let last = state_of (g.W.Directory.tells c.read_segments.new.directory) (g.W.Directory.files c.read_segments.new.directory) (g.W.Directory.seen c.read_segments.new.directory) (g.W.Directory.faults c.read_segments.new.directory) in
+    let mid = g.W.Directory.state c.fill_work_index.new.work in
+    let last = g.W.Directory.state c.read_segments.new.directory in
     let F = g.Z.Analyzers.tokens_of c.args.analyzers.now in
     let operations = map operation_of c.args.operations.now in
     let filled = c.in_ok-metas.ensures in
@@ -96,8 +95,8 @@ returns-clause-readings g c told =
 
 pub returns-clause-fresh : goal.returns-clause-fresh
 returns-clause-fresh g c told absent =
-    let mid = state_of (g.W.Directory.tells c.fill_work_index.new.work) (g.W.Directory.files c.fill_work_index.new.work) (g.W.Directory.seen c.fill_work_index.new.work) (g.W.Directory.faults c.fill_work_index.new.work) in
-    let last = state_of (g.W.Directory.tells c.read_segments.new.directory) (g.W.Directory.files c.read_segments.new.directory) (g.W.Directory.seen c.read_segments.new.directory) (g.W.Directory.faults c.read_segments.new.directory) in
+    let mid = g.W.Directory.state c.fill_work_index.new.work in
+    let last = g.W.Directory.state c.read_segments.new.directory in
     let F = g.Z.Analyzers.tokens_of c.args.analyzers.now in
     let operations = map operation_of c.args.operations.now in
     let filled = c.in_ok-metas.ensures in
@@ -106,8 +105,8 @@ returns-clause-fresh g c told absent =
 
 pub returns-clause-refused : goal.returns-clause-refused
 returns-clause-refused g c known tests none =
-    let mid = state_of (g.W.Directory.tells c.fill_work_index.new.work) (g.W.Directory.files c.fill_work_index.new.work) (g.W.Directory.seen c.fill_work_index.new.work) (g.W.Directory.faults c.fill_work_index.new.work) in
-    let last = state_of (g.W.Directory.tells c.read_segments.new.directory) (g.W.Directory.files c.read_segments.new.directory) (g.W.Directory.seen c.read_segments.new.directory) (g.W.Directory.faults c.read_segments.new.directory) in
+    let mid = g.W.Directory.state c.fill_work_index.new.work in
+    let last = g.W.Directory.state c.read_segments.new.directory in
     let F = g.Z.Analyzers.tokens_of c.args.analyzers.now in
     let operations = map operation_of c.args.operations.now in
     let filled = c.in_ok-metas.ensures in
@@ -116,8 +115,8 @@ returns-clause-refused g c known tests none =
 
 pub returns-clause-whole : goal.returns-clause-whole
 returns-clause-whole g c told =
-    let mid = state_of (g.W.Directory.tells c.fill_work_index.new.work) (g.W.Directory.files c.fill_work_index.new.work) (g.W.Directory.seen c.fill_work_index.new.work) (g.W.Directory.faults c.fill_work_index.new.work) in
-    let last = state_of (g.W.Directory.tells c.read_segments.new.directory) (g.W.Directory.files c.read_segments.new.directory) (g.W.Directory.seen c.read_segments.new.directory) (g.W.Directory.faults c.read_segments.new.directory) in
+    let mid = g.W.Directory.state c.fill_work_index.new.work in
+    let last = g.W.Directory.state c.read_segments.new.directory in
     let F = g.Z.Analyzers.tokens_of c.args.analyzers.now in
     let operations = map operation_of c.args.operations.now in
     let filled = c.in_ok-metas.ensures in
@@ -128,8 +127,8 @@ returns-clause-whole g c told =
 
 pub returns-clause-reads : goal.returns-clause-reads
 returns-clause-reads g c =
-    let mid = state_of (g.W.Directory.tells c.fill_work_index.new.work) (g.W.Directory.files c.fill_work_index.new.work) (g.W.Directory.seen c.fill_work_index.new.work) (g.W.Directory.faults c.fill_work_index.new.work) in
-    let last = state_of (g.W.Directory.tells c.read_segments.new.directory) (g.W.Directory.files c.read_segments.new.directory) (g.W.Directory.seen c.read_segments.new.directory) (g.W.Directory.faults c.read_segments.new.directory) in
+    let mid = g.W.Directory.state c.fill_work_index.new.work in
+    let last = g.W.Directory.state c.read_segments.new.directory in
     let F = g.Z.Analyzers.tokens_of c.args.analyzers.now in
     let operations = map operation_of c.args.operations.now in
     let filled = c.in_ok-metas.ensures in
@@ -139,8 +138,8 @@ returns-clause-reads g c =
 
 pub returns-clause-stops : goal.returns-clause-stops
 returns-clause-stops g c =
-    let mid = state_of (g.W.Directory.tells c.fill_work_index.new.work) (g.W.Directory.files c.fill_work_index.new.work) (g.W.Directory.seen c.fill_work_index.new.work) (g.W.Directory.faults c.fill_work_index.new.work) in
-    let last = state_of (g.W.Directory.tells c.read_segments.new.directory) (g.W.Directory.files c.read_segments.new.directory) (g.W.Directory.seen c.read_segments.new.directory) (g.W.Directory.faults c.read_segments.new.directory) in
+    let mid = g.W.Directory.state c.fill_work_index.new.work in
+    let last = g.W.Directory.state c.read_segments.new.directory in
     let F = g.Z.Analyzers.tokens_of c.args.analyzers.now in
     let operations = map operation_of c.args.operations.now in
     let filled = c.in_ok-metas.ensures in

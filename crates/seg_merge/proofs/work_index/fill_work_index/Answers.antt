@@ -50,7 +50,7 @@ returns-clause-fresh g c told absent =
     let is = listed_is c.args.schema.now (g.Z.Analyzers.tokens_of c.args.analyzers.now) c.args.ids.now c.args.cuts.now operations (length c.args.operations.now) c.deref.result.now (sym (length-map c.args.operations.now operation_of)) (c.deref.ensures.value ∙ c.in-Ok.ensures.segments) in
     c.finish_work_index.ensures.fresh (tells-still _ _ c.in-Ok.ensures.calls.tells told)
     (alive_absent list c.args.ids.now _ _ c.in-Ok.ensures.calls.others
-    (subst (λ (l : List ListedSegment). AreAbsent (alive_files l) (g.W.Directory.files c.args.work.now)) (sym is) (no_alive_file _ _ absent)))
+    (subst (λ (l : List ListedSegment). AreAbsent (alive_files l) (g.W.Directory.state c.args.work.now).files) (sym is) (no_alive_file _ _ absent)))
 
 pub returns-clause-calls : goal.returns-clause-calls
 returns-clause-calls g c =

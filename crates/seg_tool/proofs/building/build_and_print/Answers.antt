@@ -29,7 +29,7 @@ pub returns-in-Ok-built_text-clause-valid : goal.returns-in-Ok-built_text-clause
 returns-in-Ok-built_text-clause-valid g c known tests =
     let F = g.Z.Analyzers.tokens_of c.args.analyzers.now in
     let same : handed.input_of c.args.input.now.schema c.args.input.now.settings c.deref.result.now c.deref-2.result.now c.deref-3.result.now c.deref-4.result.now ≡ input_of c.args.input.now = λ i. handed.input_of c.args.input.now.schema c.args.input.now.settings (c.deref.ensures.value i) (c.deref-2.ensures.value i) (c.deref-3.ensures.value i) (c.deref-4.ensures.value i) in
-    subst (λ (s : Input). IsValidIf (IsTrue (g.W.Directory.tells c.args.work.now)) known F s) same (c.in-Ok.ensures.valid known tests)
+    subst (λ (s : Input). IsValidIf (IsTrue (g.W.Directory.state c.args.work.now).tells) known F s) same (c.in-Ok.ensures.valid known tests)
 
 pub returns-in-Ok-built_text-clause-built : goal.returns-in-Ok-built_text-clause-built
 returns-in-Ok-built_text-clause-built g c known tests =
@@ -41,19 +41,19 @@ pub returns-in-Ok-built_text-clause-work_index : goal.returns-in-Ok-built_text-c
 returns-in-Ok-built_text-clause-work_index g c told =
     let F = g.Z.Analyzers.tokens_of c.args.analyzers.now in
     let same : handed.input_of c.args.input.now.schema c.args.input.now.settings c.deref.result.now c.deref-2.result.now c.deref-3.result.now c.deref-4.result.now ≡ input_of c.args.input.now = λ i. handed.input_of c.args.input.now.schema c.args.input.now.settings (c.deref.ensures.value i) (c.deref-2.ensures.value i) (c.deref-3.ensures.value i) (c.deref-4.ensures.value i) in
-    subst (λ (s : Input). IsWorkIndexOf F s (g.W.Directory.files c.build_index_with_readers-built.new.work)) same (c.in-Ok.ensures.work_index told)
+    subst (λ (s : Input). IsWorkIndexOf F s (g.W.Directory.state c.build_index_with_readers-built.new.work).files) same (c.in-Ok.ensures.work_index told)
 
 pub returns-in-Ok-built_text-clause-output_index : goal.returns-in-Ok-built_text-clause-output_index
 returns-in-Ok-built_text-clause-output_index g c told told' =
     let F = g.Z.Analyzers.tokens_of c.args.analyzers.now in
     let same : handed.input_of c.args.input.now.schema c.args.input.now.settings c.deref.result.now c.deref-2.result.now c.deref-3.result.now c.deref-4.result.now ≡ input_of c.args.input.now = λ i. handed.input_of c.args.input.now.schema c.args.input.now.settings (c.deref.ensures.value i) (c.deref-2.ensures.value i) (c.deref-3.ensures.value i) (c.deref-4.ensures.value i) in
-    subst (λ (s : Input). IsOutputIndexOf F s (g.O.Directory.files c.build_index_with_readers-built.new.output)) same (c.in-Ok.ensures.output_index told told')
+    subst (λ (s : Input). IsOutputIndexOf F s (g.O.Directory.state c.build_index_with_readers-built.new.output).files) same (c.in-Ok.ensures.output_index told told')
 
 pub returns-in-Ok-built_text-clause-output_meta : goal.returns-in-Ok-built_text-clause-output_meta
 returns-in-Ok-built_text-clause-output_meta g c told =
     let F = g.Z.Analyzers.tokens_of c.args.analyzers.now in
     let same : handed.input_of c.args.input.now.schema c.args.input.now.settings c.deref.result.now c.deref-2.result.now c.deref-3.result.now c.deref-4.result.now ≡ input_of c.args.input.now = λ i. handed.input_of c.args.input.now.schema c.args.input.now.settings (c.deref.ensures.value i) (c.deref-2.ensures.value i) (c.deref-3.ensures.value i) (c.deref-4.ensures.value i) in
-    subst (λ (s : Input). (number : ℕ) × IsMergedIndexOf s number (g.O.Directory.files c.build_index_with_readers-built.new.output)) same (c.in-Ok.built.output.documents, c.in-Ok.ensures.output_meta told ∙ ap Some c.in-Ok.ensures.meta)
+    subst (λ (s : Input). (number : ℕ) × IsMergedIndexOf s number (g.O.Directory.state c.build_index_with_readers-built.new.output).files) same (c.in-Ok.built.output.documents, c.in-Ok.ensures.output_meta told ∙ ap Some c.in-Ok.ensures.meta)
 
 pub returns-in-Ok-built_text-clause-calls : goal.returns-in-Ok-built_text-clause-calls
 returns-in-Ok-built_text-clause-calls g c = record { asked = _; read = c.in-Ok.built.segments.items; output = c.in-Ok.built.output; writes = c.in-Ok.ensures.written }

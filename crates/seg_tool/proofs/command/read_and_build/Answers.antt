@@ -27,4 +27,4 @@ returns-clause-written g c known tests =
 
 pub returns-clause-output_index : goal.returns-clause-output_index
 returns-clause-output_index g c told told' =
-    on-all c.build.result _ c.in-Ok.bytes.items (λ bytes. HasOutputIndex (g.Z.Analyzers.tokens_of c.args.analyzers.now) bytes (g.O.Directory.files c.build.new.output)) c.in-Ok.ensures.ok.0 (c.build.ensures.output_index told told')
+    on-all c.build.result _ c.in-Ok.bytes.items (λ bytes. HasOutputIndex (g.Z.Analyzers.tokens_of c.args.analyzers.now) bytes (g.O.Directory.state c.build.new.output).files) c.in-Ok.ensures.ok.0 (c.build.ensures.output_index told told')

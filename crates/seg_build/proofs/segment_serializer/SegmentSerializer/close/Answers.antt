@@ -6,7 +6,7 @@ use Rattle.seg_build.proofs.NoneMade.{none_made}
 use Rattle.seg_build.proofs.segment_serializer.SegmentSerializer.close.Goals as goal
 
 pub returns-in_default-clause-seen : goal.returns-in_default-clause-seen
-returns-in_default-clause-seen g c = none_made c.args.self.segment.meta.id (g.W.Directory.seen c.args.directory.now)
+returns-in_default-clause-seen g c = none_made c.args.self.segment.meta.id (g.W.Directory.state c.args.directory.now).seen
 
 pub returns-clause-files : goal.returns-clause-files
 returns-clause-files g c told =
@@ -14,10 +14,10 @@ returns-clause-files g c told =
     on_ok_weaker c.write.result (λ has. record {
       bytes = c.in-Ok.bytes;
       laid = c.in-Ok.ensures;
-      there = subst (λ (id : ℕ). HasFiles id c.in-Ok.bytes (g.W.Directory.files c.write.new.directory)) same has;
+      there = subst (λ (id : ℕ). HasFiles id c.in-Ok.bytes (g.W.Directory.state c.write.new.directory).files) same has;
     }) (c.write.ensures.files told)
 
 pub returns-clause-others : goal.returns-clause-others
 returns-clause-others g c =
     let same : c.id-id.result ≡ c.args.self.segment.meta.id = c.id-id.ensures ∙ ap (λ (s : Serializing). s.segment.meta.id) c.self.view_is in
-    subst (λ (id : ℕ). KeepsAllBut (segment_names id) (g.W.Directory.files c.args.directory.now) (g.W.Directory.files c.write.new.directory)) same c.write.ensures.others
+    subst (λ (id : ℕ). KeepsAllBut (segment_names id) (g.W.Directory.state c.args.directory.now).files (g.W.Directory.state c.write.new.directory).files) same c.write.ensures.others

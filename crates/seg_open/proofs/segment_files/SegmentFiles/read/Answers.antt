@@ -38,4 +38,4 @@ returns-in_err-field_norms-clause-seen g c =
 pub returns-in_err-field_norms-clause-read : goal.returns-in_err-field_norms-clause-read
 returns-in_err-field_norms-clause-read g c = λ told.
     not_read c.args.id FieldNorms c.in_err-field_norms.field-0.0 c.in_err-field_norms.ensures.errors c.from_residual-in_err-field_norms.result c.from_residual-in_err-field_norms.ensures.1
-    (g.W.Directory.files c.args.directory.now) (g.W.Directory.files c.read_file-5.new.directory) (search rules) (c.in_err-field_norms.ensures.file (search rules))
+    (g.W.Directory.state c.args.directory.now).files (g.W.Directory.state c.read_file-5.new.directory).files (search rules) (c.in_err-field_norms.ensures.file (search rules))

@@ -15,20 +15,20 @@ returns-in-Err-open_files-clause-whole g c = λ told contents held number.
     let id_is : c.id-id.result ≡ c.args.segment.now.meta.id = search rules in
     let schema_is : c.in-Ok.schema ≡ c.args.segment.now.schema = search rules in
     let count_is : c.max_doc.result ≡ c.args.segment.now.meta.documents = search rules in
-    let has : HasFiles (g.W.Directory.files c.args.directory.now) id c.in-Ok-read.files =
-    subst (λ i. HasFiles (g.W.Directory.files c.args.directory.now) i c.in-Ok-read.files) id_is (c.in-Ok-read.ensures.read told) in
+    let has : HasFiles (g.W.Directory.state c.args.directory.now).files id c.in-Ok-read.files =
+    subst (λ i. HasFiles (g.W.Directory.state c.args.directory.now).files i c.in-Ok-read.files) id_is (c.in-Ok-read.ensures.read told) in
     subst IsNoDamage (sym (c.of_segment.ensures ∙ ap (λ i. error_of i c.in-Err-open_files.e) id_is))
-    (not_damaged (g.W.Directory.files c.args.directory.now) id c.args.segment.now.schema c.args.segment.now.meta.documents contents held number c.in-Ok-read.files has c.in-Err-open_files.e
+    (not_damaged (g.W.Directory.state c.args.directory.now).files id c.args.segment.now.schema c.args.segment.now.meta.documents contents held number c.in-Ok-read.files has c.in-Err-open_files.e
     (why_as _ _ _ _ c.in-Ok-read.files c.in-Err-open_files.e schema_is count_is c.in-Err-open_files.ensures.err))
 
 pub returns-in-Err-open_files-clause-seen : goal.returns-in-Err-open_files-clause-seen
 returns-in-Err-open_files-clause-seen g c =
     let id = c.args.segment.now.meta.id in
-    let old = g.W.Directory.seen c.args.directory.now in
+    let old = (g.W.Directory.state c.args.directory.now).seen in
     let id_is : c.id-id.result ≡ c.args.segment.now.meta.id = search rules in
     let schema_is : c.in-Ok.schema ≡ c.args.segment.now.schema = search rules in
     let count_is : c.max_doc.result ≡ c.args.segment.now.meta.documents = search rules in
-    subst (λ e. OpeningSeen id c.args.segment.now.schema c.args.segment.now.meta.documents old (Err e) (g.W.Directory.seen c.read.new.directory)) (sym (c.of_segment.ensures ∙ ap (λ i. error_of i c.in-Err-open_files.e) id_is))
-    (unopened_seen id c.args.segment.now.schema c.args.segment.now.meta.documents old (g.W.Directory.seen c.read.new.directory) c.in-Ok-read.files c.in-Err-open_files.e
+    subst (λ e. OpeningSeen id c.args.segment.now.schema c.args.segment.now.meta.documents old (Err e) (g.W.Directory.state c.read.new.directory).seen) (sym (c.of_segment.ensures ∙ ap (λ i. error_of i c.in-Err-open_files.e) id_is))
+    (unopened_seen id c.args.segment.now.schema c.args.segment.now.meta.documents old (g.W.Directory.state c.read.new.directory).seen c.in-Ok-read.files c.in-Err-open_files.e
     (c.in-Ok-read.ensures.seen ∙ ap (λ i. old ++ reads i c.in-Ok-read.files read_order) id_is)
     (why_as _ _ _ _ c.in-Ok-read.files c.in-Err-open_files.e schema_is count_is c.in-Err-open_files.ensures.err))
