@@ -1,0 +1,132 @@
+//! Facets, terms and names with paths: the calls on values that no program runs.
+ghost use Rattle.std.specs.Prelude.{◌≡◌, true, IfOk};
+ghost use Rattle.seg_values.specs.Names.{is_allowed};
+
+use seg_common::{DateTime, DateTimePrecision};
+use seg_values::{
+    Facet, Field, FieldEntry, FieldKind, IndexOption, Schema, SchemaBuilder, TantivyError, Term,
+    Text, ValueError,
+};
+use std::alloc::{AllocError, Global};
+use std::net::Ipv6Addr;
+use std::test::Fail;
+
+/// Whether a path is encoded so, and told again.
+fn is_encoded(alloc: Global, path: &str, encoded: &str) -> Result<bool, ValueError> {
+    let facet = Facet::from_text(alloc, path)?;
+    let mut copy = Facet::root(alloc);
+    copy.set_encoded_str(facet.encoded_str())?;
+    Ok(facet.encoded_str() == encoded && copy.to_path_string(alloc)?.as_str() == path)
+}
+
+#[test]
+fn facets_of_paths(rt: HostRuntime) -> Result<(), Fail> {
+    for (path, encoded) in [
+        ("/", ""),
+        ("/small cameras/日本/x", "small cameras\0日本\0x"),
+        ("/a\\/b", "a\\\0b"),
+    ] {
+        assert!(rt; is_encoded(rt.alloc(), path, encoded)?, "{path}");
+    }
+    Ok(())
+}
+
+#[test]
+fn texts_that_are_no_path(rt: HostRuntime) {
+    for malformed in ["", "a", "//", "/a/", "/a//b", "/a\0b"] {
+        let refusal = Facet::from_text(rt.alloc(), malformed).err();
+        assert!(rt; refusal == Some(ValueError::Malformed), "{malformed}");
+    }
+}
+
+/// A term of each kind but JSON.
+fn term(alloc: Global, field: Field, kind: FieldKind) -> Result<Term, ValueError> {
+    match kind {
+        FieldKind::Text => Term::from_field_text(alloc, field, "ä"),
+        FieldKind::U64 => Term::from_field_u64(alloc, field, 258),
+        FieldKind::I64 => Term::from_field_i64(alloc, field, -1),
+        FieldKind::Bool => Term::from_field_bool(alloc, field, true),
+        FieldKind::Date => {
+            let moment = DateTime::from_timestamp_nanos(-1_999_999_999);
+            Term::from_field_date(alloc, field, moment)
+        }
+        FieldKind::IpAddr => Term::from_field_ip_addr(alloc, field, Ipv6Addr::LOCALHOST),
+        FieldKind::Facet => Term::from_facet(alloc, field, &Facet::from_text(alloc, "/a/b")?),
+        FieldKind::Bytes | FieldKind::Json => Term::from_field_bytes(alloc, field, b"\0\xff"),
+    }
+}
+
+/// Whether the term of a kind has these bytes.
+fn has_bytes(alloc: Global, kind: FieldKind, expected: &[u8]) -> Result<bool, ValueError> {
+    let term = term(alloc, Field::from_field_id(3), kind)?;
+    Ok(term.field().field_id() == 3 && term.serialized_value_bytes() == expected)
+}
+
+#[test]
+fn bytes_of_terms(rt: HostRuntime) -> Result<(), Fail> {
+    let table: [(FieldKind, &[u8]); 8] = [
+        (FieldKind::Text, b"\xc3\xa4"),
+        (FieldKind::U64, b"\0\0\0\0\0\0\x01\x02"),
+        (FieldKind::I64, b"\x7f\xff\xff\xff\xff\xff\xff\xff"),
+        (FieldKind::Bool, b"\0\0\0\0\0\0\0\x01"),
+        (FieldKind::Date, b"\x7f\xff\xff\xff\xc4\x65\x36\0"),
+        (FieldKind::IpAddr, b"\0\0\0\0\0\0\0\0\0\0\0\0\0\0\0\x01"),
+        (FieldKind::Facet, b"a\0b"),
+        (FieldKind::Bytes, b"\0\xff"),
+    ];
+    for (kind, bytes) in table {
+        assert!(rt; has_bytes(rt.alloc(), kind, bytes)?, "{kind:?}");
+    }
+    Ok(())
+}
+
+fn json_field(alloc: Global, name: &str) -> Result<FieldEntry, AllocError>
+    ensures { IfOk result (λ e. is_allowed e.kind e.index ≡ true) }
+{
+    Ok(FieldEntry {
+        name: Text::copy_of(alloc, name)?,
+        kind: FieldKind::Json,
+        stored: true,
+        index: IndexOption::No,
+        tokenizer: None,
+        norms: true,
+        fast: false,
+        fast_tokenizer: None,
+        precision: DateTimePrecision::Seconds,
+        expand_dots: false,
+    })
+}
+
+/// The fields `a`, `a.b` and `c\.d`.
+fn schema(alloc: Global) -> Result<Schema, TantivyError> {
+    let mut builder = SchemaBuilder::new(alloc);
+    builder.add_field(json_field(alloc, "a")?)?;
+    builder.add_field(json_field(alloc, "a.b")?)?;
+    builder.add_field(json_field(alloc, "c\\.d")?)?;
+    Ok(builder.build())
+}
+
+/// Whether a name leads to this path of this field; field 9 is the default.
+fn leads_to(schema: &Schema, name: &str, field: u32, path: &str) -> bool {
+    let default = Field::from_field_id(9);
+    match schema.find_field_with_default(name, Some(default)) {
+        Some((found, found_path)) => found.field_id() == field && found_path == path,
+        None => false,
+    }
+}
+
+#[test]
+fn names_with_paths(rt: HostRuntime) -> Result<(), Fail> {
+    let schema = schema(rt.alloc())?;
+    for (name, field, path) in [
+        ("a.b", 1, ""),
+        ("a.b.c", 1, "c"),
+        ("a.c.d", 0, "c.d"),
+        ("a\\.b", 9, "a\\.b"),
+        ("c\\.d.e\\.f", 2, "e\\.f"),
+    ] {
+        assert!(rt; leads_to(&schema, name, field, path), "{name}");
+    }
+    assert!(rt; schema.find_field_with_default("b.a", None).is_none());
+    Ok(())
+}
