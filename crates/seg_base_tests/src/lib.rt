@@ -7,6 +7,8 @@ mod bytes;
 #[cfg(test)]
 mod deletes;
 #[cfg(test)]
+mod documents;
+#[cfg(test)]
 mod names;
 #[cfg(test)]
 mod sets;

@@ -61,7 +61,6 @@ const TABLE: [(&str, &str, &[Expected]); 8] = [
 fn tokens_by_the_name_of_the_tokenizer(rt: HostRuntime) -> Result<(), Fail> {
     let alloc = rt.alloc();
     let mut manager = TokenizerManager::new(alloc);
-    manager.register("raw", Box::new(alloc, WhitespaceTokenizer)?)?;
     manager.register("default", Box::new(alloc, DefaultTokenizer)?)?;
     manager.register("whitespace", Box::new(alloc, WhitespaceTokenizer)?)?;
     manager.register("raw", Box::new(alloc, RawTokenizer)?)?;

@@ -1,22 +1,22 @@
 //! Facets, terms and names with paths: the calls on values that no program runs.
-ghost use Rattle.std.specs.Prelude.{◌≡◌, true, IfOk};
-ghost use Rattle.seg_values.specs.Names.{is_allowed};
 
-use seg_common::{DateTime, DateTimePrecision};
-use seg_values::{
-    Facet, Field, FieldEntry, FieldKind, IndexOption, Schema, SchemaBuilder, TantivyError, Term,
-    Text, ValueError,
-};
-use std::alloc::{AllocError, Global};
+use crate::documents::entry;
+use seg_common::DateTime;
+use seg_values::{Facet, Field, FieldKind, Schema, SchemaBuilder, TantivyError, Term, ValueError};
+use std::alloc::Global;
 use std::net::Ipv6Addr;
 use std::test::Fail;
 
-/// Whether a path is encoded so, and told again.
+/// Whether a path is encoded so.
 fn is_encoded(alloc: Global, path: &str, encoded: &str) -> Result<bool, ValueError> {
-    let facet = Facet::from_text(alloc, path)?;
-    let mut copy = Facet::root(alloc);
-    copy.set_encoded_str(facet.encoded_str())?;
-    Ok(facet.encoded_str() == encoded && copy.to_path_string(alloc)?.as_str() == path)
+    Ok(Facet::from_text(alloc, path)?.encoded_str() == encoded)
+}
+
+/// Whether an encoded text is told as this path.
+fn is_told(alloc: Global, encoded: &str, path: &str) -> Result<bool, ValueError> {
+    let mut facet = Facet::root(alloc);
+    facet.set_encoded_str(encoded)?;
+    Ok(facet.to_path_string(alloc)?.as_str() == path)
 }
 
 #[test]
@@ -27,6 +27,7 @@ fn facets_of_paths(rt: HostRuntime) -> Result<(), Fail> {
         ("/a\\/b", "a\\\0b"),
     ] {
         assert!(rt; is_encoded(rt.alloc(), path, encoded)?, "{path}");
+        assert!(rt; is_told(rt.alloc(), encoded, path)?, "{path}");
     }
     Ok(())
 }
@@ -80,29 +81,12 @@ fn bytes_of_terms(rt: HostRuntime) -> Result<(), Fail> {
     Ok(())
 }
 
-fn json_field(alloc: Global, name: &str) -> Result<FieldEntry, AllocError>
-    ensures { IfOk result (λ e. is_allowed e.kind e.index ≡ true) }
-{
-    Ok(FieldEntry {
-        name: Text::copy_of(alloc, name)?,
-        kind: FieldKind::Json,
-        stored: true,
-        index: IndexOption::No,
-        tokenizer: None,
-        norms: true,
-        fast: false,
-        fast_tokenizer: None,
-        precision: DateTimePrecision::Seconds,
-        expand_dots: false,
-    })
-}
-
 /// The fields `a`, `a.b` and `c\.d`.
 fn schema(alloc: Global) -> Result<Schema, TantivyError> {
     let mut builder = SchemaBuilder::new(alloc);
-    builder.add_field(json_field(alloc, "a")?)?;
-    builder.add_field(json_field(alloc, "a.b")?)?;
-    builder.add_field(json_field(alloc, "c\\.d")?)?;
+    builder.add_field(entry(alloc, "a", FieldKind::Json)?)?;
+    builder.add_field(entry(alloc, "a.b", FieldKind::Json)?)?;
+    builder.add_field(entry(alloc, "c\\.d", FieldKind::Json)?)?;
     Ok(builder.build())
 }
 

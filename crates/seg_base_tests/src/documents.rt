@@ -1,4 +1,4 @@
-//! Documents that are taken, and documents that are refused, by each cause and at their place.
+//! Documents that are refused, by each cause and at their place.
 ghost use Rattle.std.specs.Prelude.{◌≡◌, [], true, IfOk};
 ghost use Rattle.seg_values.specs.Names.{is_allowed};
 
@@ -53,11 +53,11 @@ fn token_at(alloc: Global, position: u32) -> Result<Token, AllocError>
     })
 }
 
-fn entry_of(alloc: Global, kind: FieldKind, expand_dots: bool) -> Result<FieldEntry, AllocError>
+pub(crate) fn entry(alloc: Global, name: &str, kind: FieldKind) -> Result<FieldEntry, AllocError>
     ensures { IfOk result (λ e. is_allowed e.kind e.index ≡ true) }
 {
     Ok(FieldEntry {
-        name: Text::copy_of(alloc, "field")?,
+        name: Text::copy_of(alloc, name)?,
         kind,
         stored: true,
         index: IndexOption::Basic,
@@ -66,12 +66,13 @@ fn entry_of(alloc: Global, kind: FieldKind, expand_dots: bool) -> Result<FieldEn
         fast: false,
         fast_tokenizer: None,
         precision: DateTimePrecision::Seconds,
-        expand_dots,
+        expand_dots: false,
     })
 }
 
-fn schema_of(alloc: Global, kind: FieldKind, expand_dots: bool) -> Result<Schema, AllocError> {
-    let entry = entry_of(alloc, kind, expand_dots)?;
+fn one_field(alloc: Global, kind: FieldKind, expand_dots: bool) -> Result<Schema, AllocError> {
+    let mut entry = entry(alloc, "field", kind)?;
+    entry.expand_dots = expand_dots;
     let mut builder = SchemaBuilder::new(alloc);
     let _ = builder.add_field(entry).is_ok();
     Ok(builder.build())
@@ -79,23 +80,19 @@ fn schema_of(alloc: Global, kind: FieldKind, expand_dots: bool) -> Result<Schema
 
 /// The check of a document that stands at place 5, in a schema of one field.
 fn check(alloc: Global, kind: FieldKind, document: &TantivyDocument) -> TResult<()> {
-    let schema = schema_of(alloc, kind, false)?;
+    let schema = one_field(alloc, kind, false)?;
     check_document(alloc, &schema, &OneToken { position: 0 }, document, 5)
 }
 
-fn document_of(
-    alloc: Global,
-    field: u32,
-    value: OwnedValue,
-) -> Result<TantivyDocument, AllocError> {
+fn document_of(alloc: Global, value: OwnedValue) -> Result<TantivyDocument, AllocError> {
     let mut document = TantivyDocument::new(alloc);
-    document.add_field_value(Field::from_field_id(field), value)?;
+    document.add_field_value(Field::from_field_id(0), value)?;
     Ok(document)
 }
 
 /// The same, of a document with one value.
-fn check_value(alloc: Global, kind: FieldKind, field: u32, value: OwnedValue) -> TResult<()> {
-    let document = document_of(alloc, field, value)?;
+fn check_value(alloc: Global, kind: FieldKind, value: OwnedValue) -> TResult<()> {
+    let document = document_of(alloc, value)?;
     check(alloc, kind, &document)
 }
 
@@ -129,79 +126,70 @@ fn bytes_value(alloc: Global) -> OwnedValue {
     OwnedValue::Bytes(Bytes::from_vec(Vec::new(alloc)))
 }
 
-fn text_value(alloc: Global) -> Result<OwnedValue, AllocError> {
-    Ok(OwnedValue::Str(Text::copy_of(alloc, "a")?))
+#[test]
+fn causes_of_json_values(rt: HostRuntime) -> Result<(), Fail> {
+    let (alloc, json) = (rt.alloc(), FieldKind::Json);
+    let leaf = check_value(alloc, json, bytes_value(alloc));
+    assert!(rt; leaf == Err(TantivyError::InvalidArgument(ArgumentCause::JsonLeaf { at: 5 })));
+    let key = check_value(alloc, json, with_key(alloc, "\0", OwnedValue::Null)?);
+    assert!(rt; key == Err(TantivyError::InvalidArgument(ArgumentCause::JsonKey { at: 5 })));
+    let deep = check_value(alloc, json, nested(alloc, 200)?);
+    assert!(rt; deep == Err(TantivyError::InvalidArgument(ArgumentCause::Limit { at: 5 })));
+    assert!(rt; check_value(alloc, json, nested(alloc, 199)?) == Ok(()));
+    Ok(())
 }
 
 #[test]
-fn each_cause_is_told_at_its_place(rt: HostRuntime) -> Result<(), Fail> {
-    let alloc = rt.alloc();
-    let unknown = check_value(alloc, FieldKind::Text, 1, OwnedValue::Null);
-    assert!(rt; unknown == Err(TantivyError::SchemaError(SchemaCause::UnknownField { at: 5 })));
-    let number = check_value(alloc, FieldKind::Text, 0, OwnedValue::U64(7));
-    let field = Field::from_field_id(0);
+fn causes_of_text_values(rt: HostRuntime) -> Result<(), Fail> {
+    let (alloc, field) = (rt.alloc(), Field::from_field_id(0));
+    let number = check_value(alloc, FieldKind::Text, OwnedValue::U64(7));
     assert!(rt; number == Err(TantivyError::SchemaError(SchemaCause::WrongValue { at: 5, field })));
-    let leaf = check_value(alloc, FieldKind::Json, 0, bytes_value(alloc));
-    assert!(rt; leaf == Err(TantivyError::InvalidArgument(ArgumentCause::JsonLeaf { at: 5 })));
-    let zero = with_key(alloc, "\0", bytes_value(alloc))?;
-    let key = check_value(alloc, FieldKind::Json, 0, zero);
-    assert!(rt; key == Err(TantivyError::InvalidArgument(ArgumentCause::JsonKey { at: 5 })));
-    let falls = check_value(alloc, FieldKind::Text, 0, two_tokens(alloc, 1, 0)?);
+    let falls = check_value(alloc, FieldKind::Text, two_tokens(alloc, 1, 0)?);
     assert!(rt; falls == Err(TantivyError::InvalidArgument(ArgumentCause::Positions { at: 5 })));
-    let deep = check_value(alloc, FieldKind::Json, 0, nested(alloc, 200)?);
-    assert!(rt; deep == Err(TantivyError::InvalidArgument(ArgumentCause::Limit { at: 5 })));
-    assert!(rt; check_value(alloc, FieldKind::Json, 0, nested(alloc, 199)?) == Ok(()));
     Ok(())
 }
 
 #[test]
 fn the_first_pass_comes_first(rt: HostRuntime) -> Result<(), Fail> {
-    let alloc = rt.alloc();
-    let mut document = document_of(alloc, 0, bytes_value(alloc))?;
+    let mut document = document_of(rt.alloc(), bytes_value(rt.alloc()))?;
     document.add_field_value(Field::from_field_id(1), OwnedValue::Null)?;
-    let refused = check(alloc, FieldKind::Json, &document);
+    let refused = check(rt.alloc(), FieldKind::Json, &document);
     assert!(rt; refused == Err(TantivyError::SchemaError(SchemaCause::UnknownField { at: 5 })));
     Ok(())
 }
 
-/// A text ends at 2, and one more begins there, since there is a gap between values.
+/// The check of a text that ends at 2, and one more whose last token is at this position.
+fn check_two_texts(alloc: Global, last: u32) -> TResult<()> {
+    let mut document = document_of(alloc, two_tokens(alloc, 0, 0)?)?;
+    document.add_field_value(Field::from_field_id(0), two_tokens(alloc, 0, last)?)?;
+    check(alloc, FieldKind::Text, &document)
+}
+
+/// The second text begins at 2, since there is a gap between values.
 #[test]
-fn positions_go_on_behind_a_gap(rt: HostRuntime) -> Result<(), Fail> {
-    let alloc = rt.alloc();
-    let mut taken = document_of(alloc, 0, text_value(alloc)?)?;
-    taken.add_field_value(
-        Field::from_field_id(0),
-        two_tokens(alloc, 0, 4_294_967_291)?,
-    )?;
-    assert!(rt; check(alloc, FieldKind::Text, &taken) == Ok(()));
-    let mut past = document_of(alloc, 0, text_value(alloc)?)?;
-    past.add_field_value(
-        Field::from_field_id(0),
-        two_tokens(alloc, 0, 4_294_967_292)?,
-    )?;
-    let refused = check(alloc, FieldKind::Text, &past);
+fn positions_go_on_after_a_gap(rt: HostRuntime) {
+    assert!(rt; check_two_texts(rt.alloc(), 4_294_967_291) == Ok(()));
+    let refused = check_two_texts(rt.alloc(), 4_294_967_292);
     assert!(rt; refused == Err(TantivyError::InvalidArgument(ArgumentCause::Limit { at: 5 })));
-    Ok(())
 }
 
 /// The check of texts below `a.b` and below `a` and `b`, each of which reaches over half of what a path may.
 fn check_two_paths(alloc: Global, expand_dots: bool) -> TResult<()> {
-    let schema = schema_of(alloc, FieldKind::Json, expand_dots)?;
-    let dotted = with_key(alloc, "a.b", text_value(alloc)?)?;
-    let below = with_key(alloc, "b", text_value(alloc)?)?;
-    let mut document = document_of(alloc, 0, dotted)?;
+    let text = OwnedValue::Str(Text::copy_of(alloc, "a")?);
+    let mut document = document_of(alloc, with_key(alloc, "a.b", text)?)?;
+    let text = OwnedValue::Str(Text::copy_of(alloc, "a")?);
+    let below = with_key(alloc, "b", text)?;
     document.add_field_value(Field::from_field_id(0), with_key(alloc, "a", below)?)?;
+    let schema = one_field(alloc, FieldKind::Json, expand_dots)?;
     let analyzers = OneToken {
         position: 2_147_483_648,
     };
-    check_document(alloc, &schema, &analyzers, &document, 0)
+    check_document(alloc, &schema, &analyzers, &document, 5)
 }
 
 #[test]
-fn texts_of_one_joined_path_share_positions(rt: HostRuntime) -> Result<(), Fail> {
-    let alloc = rt.alloc();
-    assert!(rt; check_two_paths(alloc, false) == Ok(()));
-    let refused = check_two_paths(alloc, true);
-    assert!(rt; refused == Err(TantivyError::InvalidArgument(ArgumentCause::Limit { at: 0 })));
-    Ok(())
+fn texts_of_one_joined_path_share_positions(rt: HostRuntime) {
+    assert!(rt; check_two_paths(rt.alloc(), false) == Ok(()));
+    let refused = check_two_paths(rt.alloc(), true);
+    assert!(rt; refused == Err(TantivyError::InvalidArgument(ArgumentCause::Limit { at: 5 })));
 }
