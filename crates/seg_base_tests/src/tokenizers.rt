@@ -1,13 +1,26 @@
-//! Texts, and the tokens that the tokenizers of the program cut them into.
+//! Texts, and the tokens that they are cut into.
 
-use seg_values::{
-    Analyzers, DefaultTokenizer, RawTokenizer, TokenizerManager, Tokens, WhitespaceTokenizer,
-};
+use seg_values::{DefaultTokenizer, RawTokenizer, Tokenizer, Tokens, WhitespaceTokenizer};
 use std::alloc::{AllocError, Global};
 use std::test::Fail;
 
 /// A token as its byte range and its text; its index is its position.
 type Expected = (usize, usize, &'static str);
+
+const DEFAULT: [(&str, &[Expected]); 5] = [
+    ("", &[]),
+    (" .,\n", &[]),
+    ("Hello, wörld", &[(0, 5, "hello"), (7, 13, "wörld")]),
+    ("ÄÖ日本", &[(0, 10, "ÄÖ日本")]),
+    ("Room--101B ", &[(0, 4, "room"), (6, 10, "101b")]),
+];
+
+const RAW: [(&str, &[Expected]); 2] = [("", &[]), ("Hello, wörld", &[(0, 13, "Hello, wörld")])];
+
+const WHITESPACE: [(&str, &[Expected]); 1] = [(
+    " Hello,\twörld\r\n1.5\u{a0}x",
+    &[(1, 7, "Hello,"), (8, 14, "wörld"), (16, 22, "1.5\u{a0}x")],
+)];
 
 /// Whether the tokens are these, each at its index.
 fn are(tokens: &Tokens, expected: &[Expected]) -> bool {
@@ -22,54 +35,26 @@ fn are(tokens: &Tokens, expected: &[Expected]) -> bool {
         })
 }
 
-/// Whether the analyzer of a name cuts a text into these tokens.
-fn cuts<A: Analyzers>(
-    analyzers: &A,
+/// Whether a tokenizer cuts each text into its tokens.
+fn cuts<T: Tokenizer>(
+    tokenizer: &T,
     alloc: Global,
-    name: &str,
-    text: &str,
-    expected: &[Expected],
+    table: &[(&str, &[Expected])],
 ) -> Result<bool, AllocError> {
-    if !analyzers.known(name) {
-        return Ok(false);
+    for (text, expected) in table {
+        let mut tokens = Tokens::new(alloc);
+        tokenizer.tokens(alloc, text, &mut tokens)?;
+        if !are(&tokens, expected) {
+            return Ok(false);
+        }
     }
-    let mut tokens = Tokens::new(alloc);
-    analyzers.tokens(alloc, name, text, &mut tokens)?;
-    Ok(are(&tokens, expected))
+    Ok(true)
 }
 
-const TABLE: [(&str, &str, &[Expected]); 8] = [
-    ("default", "", &[]),
-    ("default", " .,\n", &[]),
-    (
-        "default",
-        "Hello, wörld",
-        &[(0, 5, "hello"), (7, 13, "wörld")],
-    ),
-    ("default", "ÄÖ日本", &[(0, 10, "ÄÖ日本")]),
-    ("default", "Room--101B ", &[(0, 4, "room"), (6, 10, "101b")]),
-    ("raw", "", &[]),
-    ("raw", "Hello, wörld", &[(0, 13, "Hello, wörld")]),
-    (
-        "whitespace",
-        " Hello,\twörld\r\n1.5\u{a0}x",
-        &[(1, 7, "Hello,"), (8, 14, "wörld"), (16, 22, "1.5\u{a0}x")],
-    ),
-];
-
 #[test]
-fn tokens_by_the_name_of_the_tokenizer(rt: HostRuntime) -> Result<(), Fail> {
-    let alloc = rt.alloc();
-    let mut manager = TokenizerManager::new(alloc);
-    manager.register("default", Box::new(alloc, DefaultTokenizer)?)?;
-    manager.register("whitespace", Box::new(alloc, WhitespaceTokenizer)?)?;
-    manager.register("raw", Box::new(alloc, RawTokenizer)?)?;
-    for (name, text, expected) in TABLE {
-        assert!(rt;
-            cuts(&manager, alloc, name, text, expected)?,
-            "{name} {text}"
-        );
-    }
-    assert!(rt; !manager.known("other"));
+fn tokens_of_texts(rt: HostRuntime) -> Result<(), Fail> {
+    assert!(rt; cuts(&DefaultTokenizer, rt.alloc(), &DEFAULT)?);
+    assert!(rt; cuts(&RawTokenizer, rt.alloc(), &RAW)?);
+    assert!(rt; cuts(&WhitespaceTokenizer, rt.alloc(), &WHITESPACE)?);
     Ok(())
 }

@@ -2,11 +2,11 @@
 
 use seg_common::{FileName, SegmentComponent, SegmentId};
 use seg_directory::{
-    CallKind, Directory, FailingCall, MemoryDirectory, list_files, read_file, rewrite_file,
-    sync_files, write_file,
+    CallKind, Directory, DirectoryError, FailingCall, MemoryDirectory, list_files, read_file,
+    rewrite_file, sync_files, write_file,
 };
 use seg_values::TantivyError;
-use std::alloc::Global;
+use std::alloc::{AllocError, Global};
 use std::test::Fail;
 
 const KINDS: [CallKind; 5] = [
@@ -50,14 +50,21 @@ pub(crate) fn fault_at(kind: CallKind) -> TantivyError {
     }
 }
 
+fn listed(alloc: Global, kind: CallKind, number: u64) -> Result<Vec<FailingCall>, AllocError> {
+    Ok(vec![in alloc; FailingCall { kind, number }]?)
+}
+
 /// A directory in memory whose call of this kind and number fails.
-pub(crate) fn failing(alloc: Global, kind: CallKind, number: u64) -> Result<MemoryDirectory, Fail> {
-    let fails = vec![in alloc; FailingCall { kind, number }]?;
-    Ok(MemoryDirectory::new(alloc, fails)?)
+pub(crate) fn failing(
+    alloc: Global,
+    kind: CallKind,
+    number: u64,
+) -> Result<MemoryDirectory, DirectoryError> {
+    MemoryDirectory::new(alloc, listed(alloc, kind, number)?)
 }
 
 /// Whether of two rounds of calls of each kind just this one fails.
-fn fails_alone(alloc: Global, kind: CallKind, number: u64) -> Result<bool, Fail> {
+fn fails_alone(alloc: Global, kind: CallKind, number: u64) -> Result<bool, DirectoryError> {
     let mut directory = failing(alloc, kind, number)?;
     directory.put(FileName::Meta, b"old")?;
     let mut told = true;

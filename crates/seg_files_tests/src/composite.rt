@@ -1,6 +1,6 @@
 //! Composite files, against bytes that were written by hand.
 
-use seg_common::{ByteCount, CommonError, OwnedBytes};
+use seg_common::{CommonError, OwnedBytes};
 use seg_directory::{CompositeFile, CompositeWriter};
 use seg_values::Field;
 use std::alloc::Global;
@@ -58,7 +58,7 @@ fn files_are_written_byte_for_byte(rt: HostRuntime) -> Result<(), Fail> {
 #[test]
 fn parts_are_read(rt: HostRuntime) -> Result<(), Fail> {
     let file = open(rt.alloc(), THREE)?;
-    assert!(rt; has_three(&file) && file.num_bytes() == ByteCount(44));
+    assert!(rt; has_three(&file) && file.num_bytes().0 == 44);
     Ok(())
 }
 

@@ -1,9 +1,9 @@
 //! Files in a folder of the disk.
 
 use crate::calls::{error_of, fault_at, is_replaced, keeps_files, terms};
-use seg_common::FileName;
-use seg_directory::{CallKind, FileDirectory, list_files, read_file};
+use seg_directory::{CallKind, Directory, FileDirectory, list_files, read_file};
 use seg_values::TantivyError;
+use std::alloc::Global;
 use std::rt::Files;
 use std::test::Fail;
 use std::{fs, io};
@@ -37,32 +37,41 @@ fn left_over<R: Files + Alloc>(rt: &R) -> io::Result<()> {
     fs::write(rt, "seg_directory_left/notes", b"")
 }
 
+/// Whether one file is listed, a meta takes the place of what was cut off, and the other folder is no file of terms.
+fn goes_on<D: Directory>(alloc: Global, directory: &mut D) -> bool {
+    list_files(alloc, directory) == Ok(1)
+        && is_replaced(alloc, directory, b"new")
+        && read_file(alloc, directory, terms(7)).err() == Some(TantivyError::OpenReadError)
+}
+
 #[test]
 fn what_was_left_unfinished_is_no_file(rt: HostRuntime) -> Result<(), Fail> {
     left_over(&rt)?;
     let mut directory = FileDirectory::new(rt.clone()?, rt.alloc(), "seg_directory_left")?;
-    assert!(rt; list_files(rt.alloc(), &mut directory) == Ok(1));
-    assert!(rt; is_replaced(rt.alloc(), &mut directory, b"new"));
-    let read = read_file(rt.alloc(), &mut directory, terms(7)).err();
-    assert!(rt; read == Some(TantivyError::OpenReadError));
+    assert!(rt; goes_on(rt.alloc(), &mut directory));
     fs::remove_dir_all(&rt, "seg_directory_left")?;
     Ok(())
 }
 
-#[test]
-fn faults_of_the_system_are_told(rt: HostRuntime) -> Result<(), Fail> {
-    let alloc = rt.alloc();
-    let mut directory = FileDirectory::new(rt.clone()?, alloc, "seg_directory_absent")?;
+/// Whether the faults of an absent folder are told.
+fn is_absent<D: Directory>(alloc: Global, directory: &mut D) -> bool {
     for kind in [
         CallKind::List,
         CallKind::WriteNew,
         CallKind::AtomicWrite,
         CallKind::SyncDirectory,
     ] {
-        let error = error_of(alloc, &mut directory, kind, 7);
-        assert!(rt; error == Some(fault_at(kind)), "{kind:?}");
+        if error_of(alloc, directory, kind, 7) != Some(fault_at(kind)) {
+            return false;
+        }
     }
-    let missing = read_file(alloc, &mut directory, FileName::Meta).err();
-    assert!(rt; matches!(missing, Some(TantivyError::DataCorruption { .. })));
+    let missing = TantivyError::DataCorruption { name: terms(7) };
+    read_file(alloc, directory, terms(7)).err() == Some(missing)
+}
+
+#[test]
+fn faults_of_the_system_are_told(rt: HostRuntime) -> Result<(), Fail> {
+    let mut directory = FileDirectory::new(rt.clone()?, rt.alloc(), "seg_directory_absent")?;
+    assert!(rt; is_absent(rt.alloc(), &mut directory));
     Ok(())
 }
