@@ -79,14 +79,3 @@ fn documents_alive_in_both(rt: HostRuntime) -> Result<(), Fail> {
     assert!(rt; both.as_slice() == [4, 5].as_slice());
     Ok(())
 }
-
-#[test]
-fn bits_after_the_last_number(rt: HostRuntime) -> Result<(), Fail> {
-    for bit in 5..9 {
-        let mut bytes = Vec::from_slice(rt.alloc(), SEVEN)?;
-        bytes[4 + bit / 8] ^= 1 << (bit % 8);
-        let opened = AliveBitSet::open(OwnedBytes::from_vec(rt.alloc(), bytes)?);
-        assert!(rt; opened.is_ok() == (bit < 7), "at {bit}");
-    }
-    Ok(())
-}

@@ -1,8 +1,8 @@
 //! Facets, terms and names with paths: the calls on values that no program runs.
 
-use crate::documents::entry;
 use seg_common::DateTime;
-use seg_values::{Facet, Field, FieldKind, Schema, SchemaBuilder, TantivyError, Term, ValueError};
+use seg_testing::schema;
+use seg_values::{Facet, Field, FieldKind, IndexOption, Schema, Term, ValueError};
 use std::alloc::Global;
 use std::net::Ipv6Addr;
 use std::test::Fail;
@@ -81,15 +81,6 @@ fn bytes_of_terms(rt: HostRuntime) -> Result<(), Fail> {
     Ok(())
 }
 
-/// The fields `a`, `a.b` and `c\.d`.
-fn schema(alloc: Global) -> Result<Schema, TantivyError> {
-    let mut builder = SchemaBuilder::new(alloc);
-    builder.add_field(entry(alloc, "a", FieldKind::Json)?)?;
-    builder.add_field(entry(alloc, "a.b", FieldKind::Json)?)?;
-    builder.add_field(entry(alloc, "c\\.d", FieldKind::Json)?)?;
-    Ok(builder.build())
-}
-
 /// Whether a name leads to this path of this field; field 9 is the default.
 fn leads_to(schema: &Schema, name: &str, field: u32, path: &str) -> bool {
     let default = Field::from_field_id(9);
@@ -101,7 +92,12 @@ fn leads_to(schema: &Schema, name: &str, field: u32, path: &str) -> bool {
 
 #[test]
 fn names_with_paths(rt: HostRuntime) -> Result<(), Fail> {
-    let schema = schema(rt.alloc())?;
+    let rows = [
+        ("a", FieldKind::Json, IndexOption::No),
+        ("a.b", FieldKind::Json, IndexOption::No),
+        ("c\\.d", FieldKind::Json, IndexOption::No),
+    ];
+    let schema = schema(rt.alloc(), &rows)?;
     for (name, field, path) in [
         ("a.b", 1, ""),
         ("a.b.c", 1, "c"),

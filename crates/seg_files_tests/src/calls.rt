@@ -2,11 +2,12 @@
 
 use seg_common::{FileName, SegmentComponent, SegmentId};
 use seg_directory::{
-    CallKind, Directory, DirectoryError, FailingCall, MemoryDirectory, list_files, read_file,
-    rewrite_file, sync_files, write_file,
+    CallKind, Directory, DirectoryError, FailingCall, list_files, read_file, rewrite_file,
+    sync_files, write_file,
 };
+use seg_testing::{failing, memory};
 use seg_values::TantivyError;
-use std::alloc::{AllocError, Global};
+use std::alloc::Global;
 use std::test::Fail;
 
 const KINDS: [CallKind; 5] = [
@@ -50,22 +51,9 @@ pub(crate) fn fault_at(kind: CallKind) -> TantivyError {
     }
 }
 
-fn listed(alloc: Global, kind: CallKind, number: u64) -> Result<Vec<FailingCall>, AllocError> {
-    Ok(vec![in alloc; FailingCall { kind, number }]?)
-}
-
-/// A directory in memory whose call of this kind and number fails.
-pub(crate) fn failing(
-    alloc: Global,
-    kind: CallKind,
-    number: u64,
-) -> Result<MemoryDirectory, DirectoryError> {
-    MemoryDirectory::new(alloc, listed(alloc, kind, number)?)
-}
-
 /// Whether of two rounds of calls of each kind just this one fails.
 fn fails_alone(alloc: Global, kind: CallKind, number: u64) -> Result<bool, DirectoryError> {
-    let mut directory = failing(alloc, kind, number)?;
+    let mut directory = failing(alloc, &[FailingCall { kind, number }])?;
     directory.put(FileName::Meta, b"old")?;
     let mut told = true;
     for round in 0..2 {
@@ -126,7 +114,7 @@ pub(crate) fn keeps_files<D: Directory>(alloc: Global, directory: &mut D) -> boo
 
 #[test]
 fn files_in_memory_are_made_once_and_replaced(rt: HostRuntime) -> Result<(), Fail> {
-    let mut directory = MemoryDirectory::new(rt.alloc(), Vec::new(rt.alloc()))?;
+    let mut directory = memory(rt.alloc())?;
     assert!(rt; keeps_files(rt.alloc(), &mut directory));
     Ok(())
 }

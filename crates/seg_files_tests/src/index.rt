@@ -1,10 +1,11 @@
 //! Indexes that are created in a directory, and opened there.
 
-use crate::calls::{failing, fault_at};
+use crate::calls::fault_at;
 use crate::meta::TEXT;
 use seg_common::{FileName, SegmentId};
-use seg_directory::{CallKind, MemoryDirectory};
+use seg_directory::{CallKind, FailingCall, MemoryDirectory};
 use seg_meta::{Compressor, Index, IndexSettings, load_metas};
+use seg_testing::{failing, memory};
 use seg_values::{SchemaBuilder, TantivyError};
 use std::alloc::Global;
 use std::test::Fail;
@@ -38,7 +39,7 @@ fn is_damaged(alloc: Global, directory: &mut MemoryDirectory) -> bool {
 #[test]
 fn an_index_is_created_once_and_opened(rt: HostRuntime) -> Result<(), Fail> {
     let alloc = rt.alloc();
-    let mut directory = MemoryDirectory::new(alloc, Vec::new(alloc))?;
+    let mut directory = memory(alloc)?;
     assert!(rt; is_damaged(alloc, &mut directory));
     assert!(rt; create(alloc, &mut directory).is_none());
     assert!(rt; create(alloc, &mut directory) == Some(TantivyError::IndexAlreadyExists));
@@ -53,7 +54,7 @@ fn a_call_that_fails_leaves_no_meta(rt: HostRuntime) -> Result<(), Fail> {
         CallKind::SyncDirectory,
         CallKind::AtomicWrite,
     ] {
-        let mut directory = failing(rt.alloc(), kind, 0)?;
+        let mut directory = failing(rt.alloc(), &[FailingCall { kind, number: 0 }])?;
         assert!(rt; create(rt.alloc(), &mut directory) == Some(fault_at(kind)));
         assert!(rt; is_damaged(rt.alloc(), &mut directory));
     }
@@ -76,7 +77,8 @@ fn is_searchable(alloc: Global, directory: &mut MemoryDirectory) -> bool {
 
 #[test]
 fn segments_are_searchable(rt: HostRuntime) -> Result<(), Fail> {
-    let mut directory = failing(rt.alloc(), CallKind::OpenRead, 0)?;
+    let kind = CallKind::OpenRead;
+    let mut directory = failing(rt.alloc(), &[FailingCall { kind, number: 0 }])?;
     directory.put(FileName::Meta, TEXT.as_bytes())?;
     let failed = load_metas(rt.alloc(), &mut directory).err();
     assert!(rt; failed == Some(TantivyError::OpenReadError));
