@@ -4,7 +4,7 @@ use crate::tally::Outcome;
 use anyhow::{Result, bail, ensure};
 use seg_common::{FileName, MemorySink, MemorySource, SegmentComponent, SegmentId};
 use seg_directory::{Directory, MemoryDirectory};
-use seg_odd_directory::OddDirectory;
+use seg_testing::OddDirectory;
 use seg_tool::run;
 use seg_values::{DefaultTokenizer, RawTokenizer, TokenizerManager};
 use std::alloc::Global;

@@ -1,5 +1,0 @@
-//! Tests of the public calls of `seg_model`, apart from it, so that they are proved without proving it again.
-#![tactic(auto)]
-
-#[cfg(test)]
-mod laws;

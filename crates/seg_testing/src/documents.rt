@@ -1,0 +1,13 @@
+//! Documents.
+
+use seg_values::{Field, TantivyDocument};
+use std::alloc::{AllocError, Global};
+
+/// A document of texts, each with the number of its field.
+pub fn document(alloc: Global, texts: &[(u32, &str)]) -> Result<TantivyDocument, AllocError> {
+    let mut document = TantivyDocument::new(alloc);
+    for (field, text) in texts {
+        document.add_text(Field::from_field_id(*field), text)?;
+    }
+    Ok(document)
+}
