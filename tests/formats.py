@@ -134,7 +134,10 @@ def dictionary(data):
     ends = [table.u64() for _ in range(count)]
     keys = cut(table.rest(), ends)
     check(all(a < b for a, b in zip(keys, keys[1:])), 'keys do not strictly ascend')
-    return [Term(key, store.u32(), store.u64(), store.u64()) for key in keys]
+    terms = [Term(key, store.u32(), store.u64(), store.u64()) for key in keys]
+    for before, after in zip(terms, terms[1:]):
+        check(before.postings_end <= after.postings_end and before.positions_end <= after.positions_end, 'an end falls')
+    return terms
 
 
 def term_kind(entry, key):

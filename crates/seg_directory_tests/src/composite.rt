@@ -85,36 +85,3 @@ fn parts_are_read(rt: HostRuntime) -> Result<(), Fail> {
     assert!(rt; file.num_bytes() == ByteCount(44));
     Ok(())
 }
-
-fn is_malformed(alloc: Global, bytes: &[u8]) -> bool {
-    open(alloc, bytes).err() == Some(CommonError::Malformed)
-}
-
-#[test]
-fn cut_files_are_malformed(rt: HostRuntime) {
-    for whole in [EMPTY, THREE] {
-        for end in 0..whole.len() {
-            assert!(rt; is_malformed(rt.alloc(), &whole[..end]), "{end}");
-        }
-    }
-}
-
-/// Whether a file of three parts with this byte flipped is malformed, or has other parts.
-fn is_flip_seen(alloc: Global, at: usize) -> Result<bool, CommonError> {
-    let mut flipped = Vec::from_slice(alloc, THREE)?;
-    if let Some(byte) = flipped.get_mut(at) {
-        *byte = 255 - *byte;
-    }
-    match open(alloc, &flipped) {
-        Ok(file) => Ok(!has_three(&file)),
-        Err(error) => Ok(error == CommonError::Malformed),
-    }
-}
-
-#[test]
-fn flipped_files_are_seen(rt: HostRuntime) -> Result<(), Fail> {
-    for at in 0..THREE.len() {
-        assert!(rt; is_flip_seen(rt.alloc(), at)?, "{at}");
-    }
-    Ok(())
-}

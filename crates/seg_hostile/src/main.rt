@@ -1,19 +1,24 @@
-//! Runs bytes that were cut or changed through the readers of composite files and metas. How many of them are refused was
-//! worked out by hand from what the formats say.
+//! Damages the bytes of each case in `data/`, and prints how many of the damaged are refused. `data/cases` lists the cases.
 #![tactic(auto)]
 
-mod bytes;
-mod composite;
-mod meta;
-mod meta_text;
+mod case;
+mod damage;
+mod data_file;
+mod edits;
+mod field;
+mod reader;
+mod tally;
+mod work_file;
 
 use anyhow::Result;
+use std::fs;
 
 fn main(rt: HostRuntime) -> Result<()> {
-    let alloc = rt.alloc();
-    let mut text = String::new(alloc);
-    composite::push_files(&mut text, alloc)?;
-    meta::push_metas(&mut text, alloc)?;
+    let mut text = String::new(rt.alloc());
+    let index = fs::read_to_string(&rt, "cases")?;
+    for line in index.lines() {
+        case::push_case(&rt, &mut text, line)?;
+    }
     rt.print(text.as_str())?;
     Ok(())
 }

@@ -4,8 +4,6 @@
 #[cfg(test)]
 mod copying;
 #[cfg(test)]
-mod damage;
-#[cfg(test)]
 mod laws;
 #[cfg(test)]
 mod making;

@@ -13,26 +13,6 @@ pub(crate) struct Parts<'a> {
     pub positions: &'a [u8],
 }
 
-/// One of the three parts, by its place.
-pub(crate) fn part_at<'a>(parts: Parts<'a>, place: usize) -> &'a [u8] {
-    match place {
-        0 => parts.terms,
-        1 => parts.postings,
-        _ => parts.positions,
-    }
-}
-
-/// The parts with another one at a place.
-pub(crate) fn with_part<'a>(parts: Parts<'a>, place: usize, part: &'a [u8]) -> Parts<'a> {
-    let mut changed = parts;
-    match place {
-        0 => changed.terms = part,
-        1 => changed.postings = part,
-        _ => changed.positions = part,
-    }
-    changed
-}
-
 /// How many documents each field below is in.
 pub(crate) const MAX_DOC: u32 = 3;
 

@@ -4,8 +4,6 @@
 #[cfg(test)]
 mod alive;
 #[cfg(test)]
-mod damage;
-#[cfg(test)]
 mod fields;
 #[cfg(test)]
 mod norms;

@@ -119,9 +119,3 @@ fn a_document_past_the_last_is_not_there(rt: HostRuntime) -> Result<(), Fail> {
     assert!(rt; document(&mut reader, 4)?.is_none());
     Ok(())
 }
-
-#[test]
-fn a_cut_store_is_refused_with_a_cache(rt: HostRuntime) {
-    let cut = FOUR.split_at(FOUR.len() - 1).0;
-    assert!(rt; cached(rt.alloc(), cut, 1).err() == Some(StoreError::Malformed));
-}

@@ -4,8 +4,6 @@
 #[cfg(test)]
 mod caching;
 #[cfg(test)]
-mod damage;
-#[cfg(test)]
 mod laws;
 #[cfg(test)]
 mod raw_documents;

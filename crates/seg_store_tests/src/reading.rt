@@ -5,15 +5,6 @@ use seg_store::{Checkpoint, StoreError, StoreReader};
 use std::alloc::Global;
 use std::test::Fail;
 
-/// Two blocks, each of a document with the text `a` in field 0.
-pub(crate) const TWO: &[u8] = &[
-    1, 0, 1, 1, b'a', 5, 0, 0, 0, 0, 0, 0, 0, 1, 0, 0, 0, // the first block
-    1, 0, 1, 1, b'a', 5, 0, 0, 0, 0, 0, 0, 0, 1, 0, 0, 0, // the second block
-    1, 0, 0, 0, 17, 0, 0, 0, 0, 0, 0, 0, // one document, 17 bytes
-    2, 0, 0, 0, 34, 0, 0, 0, 0, 0, 0, 0, // two documents, 34 bytes
-    2, 0, 0, 0, 2, 0, 0, 0, 0, // two blocks, two documents, no compression
-];
-
 /// A block of the documents without a value and with `true` in field 0, and one with a null in field 7.
 const THREE: &[u8] = &[
     0, 1, 0, 6, 1, // the documents of the first block

@@ -49,15 +49,6 @@ pub(crate) fn open(alloc: Global, bytes: &[u8]) -> Result<TermDictionary, TermDi
     TermDictionary::open(bytes)
 }
 
-/// What a dictionary with one byte turned over is refused for, if it is.
-fn refusal(alloc: Global, at: usize) -> Result<Option<TermDictError>, Fail> {
-    let mut flipped = Vec::from_slice(alloc, TWO)?;
-    if at < flipped.len() {
-        flipped[at] = 255 - flipped[at];
-    }
-    Ok(open(alloc, &flipped).err())
-}
-
 #[test]
 fn terms_are_found(rt: HostRuntime) -> Result<(), Fail> {
     let dictionary = open(rt.alloc(), TWO)?;
@@ -153,24 +144,5 @@ fn nothing_is_streamed(rt: HostRuntime) -> Result<(), Fail> {
     let mut stream = dictionary.stream();
     assert!(rt; !stream.advance());
     assert!(rt; is_at(&stream, b"", 0, TermInfo::default()));
-    Ok(())
-}
-
-#[test]
-fn cut_and_flipped_bytes_are_seen(rt: HostRuntime) -> Result<(), Fail> {
-    let alloc = rt.alloc();
-    for end in 0..TWO.len() {
-        assert!(rt; open(alloc, &TWO[..end]).is_err(), "{end}");
-    }
-    let mut read = 0usize;
-    for at in 0..TWO.len() {
-        if refusal(alloc, at)?.is_none() {
-            read = read.saturating_add(1);
-        }
-    }
-    // The key `b`, both numbers of documents, and where the last postings and positions end.
-    assert_eq!(rt; read, 1 + 2 * 4 + 2 * 8);
-    assert_eq!(rt; refusal(alloc, 98)?, Some(TermDictError::WrongVersion));
-    assert_eq!(rt; refusal(alloc, 102)?, Some(TermDictError::WrongType));
     Ok(())
 }

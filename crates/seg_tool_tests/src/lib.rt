@@ -4,8 +4,6 @@
 #[cfg(test)]
 mod batches;
 #[cfg(test)]
-mod damage;
-#[cfg(test)]
 mod failures;
 #[cfg(test)]
 mod reporting;

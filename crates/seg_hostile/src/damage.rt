@@ -1,0 +1,48 @@
+//! What is done to bytes.
+
+use std::alloc::{AllocError, Global};
+
+/// What is done to bytes, at a place.
+#[derive(Clone, Copy)]
+pub enum Damage {
+    /// What stands from the place on is gone.
+    Cut,
+    /// These bits of the byte are flipped.
+    Flipped(u8),
+    /// A byte 0 stands at the end.
+    Longer,
+}
+
+pub const DAMAGES: &[(&str, Damage)] = &[
+    ("cut", Damage::Cut),
+    ("all bits of a byte flipped", Damage::Flipped(0xff)),
+    ("the lowest bit of a byte flipped", Damage::Flipped(1)),
+    ("a byte longer", Damage::Longer),
+];
+
+impl Damage {
+    /// How many places there are in so many bytes.
+    pub fn places(self, length: usize) -> usize {
+        match self {
+            Damage::Cut | Damage::Flipped(_) => length,
+            Damage::Longer => 1,
+        }
+    }
+
+    /// The bytes, damaged at a place.
+    pub fn damaged(self, alloc: Global, bytes: &[u8], at: usize) -> Result<Vec<u8>, AllocError> {
+        let mut damaged = Vec::from_slice(alloc, bytes)?;
+        match self {
+            Damage::Cut => damaged.truncate(at),
+            Damage::Flipped(mask) => flip(&mut damaged, at, mask),
+            Damage::Longer => damaged.push(0)?,
+        }
+        Ok(damaged)
+    }
+}
+
+fn flip(bytes: &mut [u8], at: usize, mask: u8) {
+    if let Some(byte) = bytes.get_mut(at) {
+        *byte ^= mask;
+    }
+}

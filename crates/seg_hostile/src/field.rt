@@ -1,0 +1,52 @@
+//! The terms, postings and positions of a text field of three documents.
+
+use anyhow::{Result, bail};
+use seg_common::{DateTimePrecision, OwnedBytes};
+use seg_postings::{FieldTerms, InvertedIndexReader, PostingsError};
+use seg_values::{FieldEntry, FieldKind, IndexOption, Text};
+use std::alloc::{AllocError, Global};
+
+/// The three parts of a field.
+pub struct Parts {
+    pub terms: OwnedBytes,
+    pub postings: OwnedBytes,
+    pub positions: OwnedBytes,
+}
+
+/// Whether parts are those of a field that records what the option says.
+pub fn is_read(alloc: Global, index: IndexOption, parts: Parts) -> Result<bool> {
+    match open(alloc, index, parts) {
+        Ok(_reader) => Ok(true),
+        Err(PostingsError::Malformed) => Ok(false),
+        Err(PostingsError::OutOfMemory) => bail!("out of memory"),
+    }
+}
+
+fn open(
+    alloc: Global,
+    index: IndexOption,
+    parts: Parts,
+) -> Result<InvertedIndexReader, PostingsError> {
+    let Parts {
+        terms,
+        postings,
+        positions,
+    } = parts;
+    let field = FieldTerms::open(alloc, terms, &entry(alloc, index)?, 3)?;
+    field.with_postings(postings)?.with_positions(positions)
+}
+
+fn entry(alloc: Global, index: IndexOption) -> Result<FieldEntry, AllocError> {
+    Ok(FieldEntry {
+        name: Text::copy_of(alloc, "title")?,
+        kind: FieldKind::Text,
+        stored: false,
+        index,
+        tokenizer: None,
+        norms: false,
+        fast: false,
+        fast_tokenizer: None,
+        precision: DateTimePrecision::Seconds,
+        expand_dots: false,
+    })
+}

@@ -1,0 +1,75 @@
+//! The readers of files of one format.
+
+use anyhow::{Result, bail};
+use seg_columnar::ColumnarReader;
+use seg_common::OwnedBytes;
+use seg_directory::CompositeFile;
+use seg_fastfield::AliveBitSet;
+use seg_meta::{ReadError, read_meta};
+use seg_store::StoreReader;
+use seg_termdict::TermDictionary;
+use seg_values::IndexOption;
+use std::alloc::Global;
+
+/// What reads the files of a case.
+#[derive(Clone, Copy)]
+pub enum Reader {
+    /// One file of a format.
+    File(Format),
+    /// The terms, postings and positions of a field that records this.
+    Field(IndexOption),
+    /// A run over a script, the first file; the others are of its work segment.
+    Run,
+}
+
+/// The format of one file.
+#[derive(Clone, Copy)]
+pub enum Format {
+    Composite,
+    Meta,
+    Dictionary,
+    Store,
+    Columns,
+    Alive,
+}
+
+impl Reader {
+    pub fn named(name: &str) -> Option<Reader> {
+        Some(match name {
+            "composite" => Reader::File(Format::Composite),
+            "meta" => Reader::File(Format::Meta),
+            "dictionary" => Reader::File(Format::Dictionary),
+            "store" => Reader::File(Format::Store),
+            "columns" => Reader::File(Format::Columns),
+            "alive" => Reader::File(Format::Alive),
+            "documents" => Reader::Field(IndexOption::Basic),
+            "counts" => Reader::Field(IndexOption::Freqs),
+            "positions" => Reader::Field(IndexOption::Positions),
+            "run" => Reader::Run,
+            _ => return None,
+        })
+    }
+}
+
+impl Format {
+    /// Whether bytes are a file of the format.
+    pub fn is_read(self, alloc: Global, bytes: &[u8]) -> Result<bool> {
+        let owned = OwnedBytes::new(alloc, bytes)?;
+        Ok(match self {
+            Format::Composite => CompositeFile::open(owned).is_ok(),
+            Format::Meta => is_meta(alloc, bytes)?,
+            Format::Dictionary => TermDictionary::open(owned).is_ok(),
+            Format::Store => StoreReader::open(owned).is_ok(),
+            Format::Columns => ColumnarReader::open(owned).is_ok(),
+            Format::Alive => AliveBitSet::open(owned).is_ok(),
+        })
+    }
+}
+
+fn is_meta(alloc: Global, bytes: &[u8]) -> Result<bool> {
+    match read_meta(alloc, bytes) {
+        Ok(_metas) => Ok(true),
+        Err(ReadError::NoMeta) => Ok(false),
+        Err(ReadError::OutOfMemory) => bail!("out of memory"),
+    }
+}

@@ -1,0 +1,188 @@
+#!/usr/bin/env python3
+"""Prints what `crates/seg_hostile` is to print: of each case in its `data/` how many damaged forms are refused.
+
+It reads the damaged bytes by docs/FORMATS.md (formats.py), and knows nothing of the program.
+"""
+import json
+from pathlib import Path
+
+import formats
+import read_segment
+from formats import Malformed, check
+
+DATA = Path(__file__).resolve().parent.parent / 'crates' / 'seg_hostile' / 'data'
+MAX_DOC = 3  # of the fields that are no whole segment
+
+
+def before_comment(line):
+    return line.partition('#')[0]
+
+
+def bytes_of(name, extension):
+    path = DATA / f'{name}.{extension}'
+    return path.read_bytes() if extension == 'json' else bytes.fromhex(' '.join(map(before_comment, path.read_text().splitlines())))
+
+
+# ---- what reads the files of a case: each raises Malformed with the extension of the file that is told
+
+def read_postings(parts, index, max_doc):
+    """The parts of a text field: the postings of a term are read once its positions are there."""
+    terms = formats.dictionary(parts['term'])
+    last = terms[-1]
+    check(len(parts['idx']) == 8 + last.postings_end, 'idx')
+    check(len(parts['pos']) == last.positions_end, 'pos')
+    try:
+        for term in terms:
+            term.kind = formats.term_kind({'kind': 'text', 'index': index}, term.key)
+        formats.read_postings(terms, parts['idx'], max_doc)
+        for term, piece in zip(terms, formats.cut(parts['pos'], [term.positions_end for term in terms])):
+            formats.read_positions(term, piece)
+    except Malformed:
+        raise Malformed('pos') from None
+
+
+def read_store(data):
+    """How many documents a store has. A pair may have any field."""
+    documents = formats.store(data)
+    for stored in documents:
+        reader = formats.Reader(stored)
+        for _ in range(reader.varint()):
+            reader.varint()
+            formats.value(reader, 1)
+        reader.end()
+    return len(documents)
+
+
+def read_lengths(data, fields, max_doc):
+    parts = formats.composite(data)
+    check(list(parts) == fields and all(len(part) == max_doc for part in parts.values()), 'other lengths')
+
+
+def composite_of(data, fields):
+    parts = formats.composite(data)
+    check(list(parts) == fields, 'other fields')
+    return parts
+
+
+class Run:
+    """The files of the segment that a run over a script makes."""
+
+    def __init__(self, files):
+        script = json.loads(files['json'])
+        self.schema = script['schema']
+        self.max_doc = sum('add' in operation for operation in script['operations'])
+        self.indexed = [at for at, entry in enumerate(self.schema) if entry.get('index', 'no') != 'no']
+        self.with_lengths = [at for at in self.indexed if self.schema[at].get('norms', True)]
+        self.alive = {name: formats.alive_set(data) for name, data in files.items() if name.endswith('.del')}
+
+    def read(self, files):
+        """Raises Malformed with the extension of the file that is told, in the order in which files are read."""
+        parts = {}
+        for extension in 'term', 'store', 'idx', 'pos', 'fast', 'fieldnorm', *self.alive:
+            try:
+                self.read_file(files, extension, parts)
+            except Malformed:
+                raise Malformed(extension) from None
+            if extension == 'pos':
+                for at in self.indexed:
+                    read_postings({name: parts[name][at] for name in parts}, self.schema[at]['index'], self.max_doc)
+
+    def read_file(self, files, extension, parts):
+        data = files[extension]
+        if extension in ('term', 'idx', 'pos'):
+            parts[extension] = composite_of(data, self.indexed)
+        for part in parts['term'].values() if extension == 'term' else []:
+            formats.dictionary(part)
+        if extension == 'store':
+            check(read_store(data) == self.max_doc, 'another number of documents')
+        if extension == 'fast':
+            check(formats.number_of_rows(data) == self.max_doc, 'another number of rows')
+        if extension == 'fieldnorm':
+            read_lengths(data, self.with_lengths, self.max_doc)
+        if extension in self.alive:
+            alive, whole = formats.alive_set(data), self.alive[extension]
+            check(len(alive) == len(whole) and sum(alive) == sum(whole), 'another number of documents')
+
+
+FORMATS = {
+    'composite': formats.composite, 'dictionary': formats.dictionary, 'store': read_store, 'columns': formats.number_of_rows,
+    'alive': formats.alive_set, 'meta': read_segment.meta_of,
+}
+INDEXES = {'documents': 'basic', 'counts': 'freqs', 'positions': 'positions'}
+
+
+def reader_of(reader, files):
+    if reader == 'run':
+        return Run(files).read
+    if reader in INDEXES:
+        return lambda files: read_postings(files, INDEXES[reader], MAX_DOC)
+    return lambda files: FORMATS[reader](*files.values())
+
+
+# ---- damage
+
+def flipped(data, mask):
+    return [data[:at] + bytes([data[at] ^ mask]) + data[at + 1:] for at in range(len(data))]
+
+
+DAMAGES = {
+    'cut': lambda data: [data[:end] for end in range(len(data))],
+    'all bits of a byte flipped': lambda data: flipped(data, 0xff),
+    'the lowest bit of a byte flipped': lambda data: flipped(data, 1),
+    'a byte longer': lambda data: [data + b'\0'],
+}
+
+
+def told(read, files, extension, data):
+    """The file that is told to be damaged where one has other bytes; none where all are read."""
+    try:
+        read({**files, extension: data})
+    except Malformed as wrong:
+        return str(wrong) if str(wrong) in files else extension
+    return None
+
+
+def counts(outcomes, extension):
+    later = [outcome for outcome in outcomes if outcome not in (None, extension)]
+    line = f'{outcomes.count(extension)} refused, {outcomes.count(None)} read'
+    return line + (f', {len(later)} told of a later file' if later else '')
+
+
+def print_case(reader, name, extensions):
+    files = {extension: bytes_of(name, extension) for extension in extensions}
+    read = reader_of(reader, files)
+    read(files)
+    for extension, data in files.items():
+        if reader == 'run' and extension == 'json':
+            continue
+        print(f'  .{extension}: {len(data)} bytes')
+        for title, damaged in DAMAGES.items():
+            outcomes = [told(read, files, extension, other) for other in damaged(data)]
+            if reader != 'run':
+                outcomes = [outcome and extension for outcome in outcomes]
+            print(f'    {title}: {counts(outcomes, extension)}')
+
+
+def print_edits(name):
+    text, outcomes = bytes_of(name, 'json').decode(), []
+    for line in map(before_comment, (DATA / f'{name}.edits').read_text().splitlines()):
+        if line:
+            old, new = line.split(' =>')
+            assert old in text
+            outcomes.append(told(lambda files: read_segment.meta_of(files['json']), {}, 'json', text.replace(old, new, 1).encode()))
+    print(f'  a piece for another: {counts(outcomes, "json")}')
+
+
+def main():
+    for line in map(before_comment, (DATA / 'cases').read_text().splitlines()):
+        reader, name, *extensions = line.split() or ('', '')
+        if reader:
+            print(f'{reader} {name}')
+        if reader == 'edits':
+            print_edits(name)
+        elif reader:
+            print_case(reader, name, extensions)
+
+
+if __name__ == '__main__':
+    main()
