@@ -56,27 +56,6 @@ fn terms_are_found(rt: HostRuntime) -> Result<(), Fail> {
     Ok(())
 }
 
-/// Whether the term at a place has this key; nothing where there is no such term.
-fn has_key_at(
-    alloc: Global,
-    dictionary: &TermDictionary,
-    ord: TermOrdinal,
-    wanted: Option<&[u8]>,
-) -> Result<bool, TermDictError> {
-    let mut key = Vec::new(alloc);
-    let found = dictionary.ord_to_term(ord, &mut key)?;
-    Ok(found == wanted.is_some() && key.as_slice() == wanted.unwrap_or(&[]))
-}
-
-#[test]
-fn keys_by_their_places(rt: HostRuntime) -> Result<(), Fail> {
-    let dictionary = open(rt.alloc(), TWO)?;
-    for (ord, wanted) in [(0, Some(b"a".as_slice())), (1, Some(b"b")), (2, None)] {
-        assert!(rt; has_key_at(rt.alloc(), &dictionary, ord, wanted)?);
-    }
-    Ok(())
-}
-
 /// Whether a streamer has come to a term with this key, at this place, and with this info.
 fn is_at(stream: &TermStreamer<'_>, key: &[u8], ord: TermOrdinal, info: TermInfo) -> bool {
     stream.key() == key && stream.term_ord() == ord && *stream.value() == info

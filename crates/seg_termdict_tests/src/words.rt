@@ -1,8 +1,12 @@
 //! The dictionary of four words.
+ghost use Rattle.std.specs.Prelude.{◌≡◌, IfOk, IfErr, false, true};
+ghost use Rattle.seg_termdict.specs.declared.error.TermDictError.TheVariants.{OutOfMemory};
+ghost use Rattle.seg_termdict.specs.LookUps.{Lacks};
 
 use seg_common::{OwnedBytes, TermInfo};
 use seg_termdict::{TermDictError, TermDictionary, TermDictionaryBuilder};
 use std::alloc::Global;
+use std::test::Fail;
 
 /// What is known of each word.
 pub(crate) const INFO: TermInfo = TermInfo {
@@ -27,4 +31,25 @@ pub(crate) fn four_words(alloc: Global) -> Result<TermDictionary, TermDictError>
     builder.insert(b"blur", &INFO)?;
     builder.insert(b"donovan", &INFO)?;
     opened(alloc, builder.finish()?)
+}
+
+/// Puts the term at the place of a word in place of what `out` held: the word itself. `false` where it is no term.
+fn put_back(words: &TermDictionary, word: &[u8], out: &mut Vec<u8>) -> Result<bool, TermDictError>
+    ensures found { IfOk result (λ found. found ≡ true → out.new.items ≡ word.now) }
+    ensures lacking { IfOk result (λ found. found ≡ false → Lacks words.now word.now) }
+    ensures err { IfErr result (λ e. e ≡ OutOfMemory) }
+{
+    let Some(place) = words.term_ord(word) else {
+        return Ok(false);
+    };
+    words.ord_to_term(place, out)
+}
+
+#[test]
+fn places_have_their_words(rt: HostRuntime) -> Result<(), Fail> {
+    let words = four_words(rt.alloc())?;
+    let mut out = Vec::new(rt.alloc());
+    assert!(rt; put_back(&words, b"blur", &mut out)? && out.as_slice() == b"blur".as_slice());
+    assert!(rt; !put_back(&words, b"cap", &mut out)?);
+    Ok(())
 }
