@@ -2,10 +2,6 @@
 #![tactic(auto)]
 
 #[cfg(test)]
-mod cursors;
-#[cfg(test)]
 mod deletes;
-#[cfg(test)]
-mod laws;
 #[cfg(test)]
 mod segments;

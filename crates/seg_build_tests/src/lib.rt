@@ -2,10 +2,6 @@
 #![tactic(auto)]
 
 #[cfg(test)]
-mod laws;
-#[cfg(test)]
-mod segment_files;
-#[cfg(test)]
 mod segment_writer;
 #[cfg(test)]
 mod tests;

@@ -1,55 +1,13 @@
 //! Terms of small documents as fields of each index option record them, against terms that were worked out by hand.
-ghost use Rattle.std.specs.Prelude.{◌≡◌, true, IfOk};
-ghost use Rattle.seg_values.specs.Names.{is_allowed};
 
 use seg_build::{Hit, IndexedFields, MemorySegment, SegmentWriter, SortedTerms, first_run};
-use seg_common::{DateTimePrecision, FileName, OwnedBytes, SegmentComponent, SegmentId};
-use seg_directory::{CompositeFile, MemoryDirectory, read_file};
-use seg_meta::{Compressor, IndexSettings, Segment, SegmentMeta};
+use seg_common::{OwnedBytes, SegmentComponent};
+use seg_directory::{CompositeFile, read_file};
 use seg_postings::RecordKind;
-use seg_values::{
-    Analyzers, Field, FieldEntry, FieldKind, IndexOption, Schema, SchemaBuilder, TResult,
-    TantivyDocument, Text, Token, Tokens,
-};
+use seg_testing::{Repeats, file_name, memory, schema, segment, segment_id, settings};
+use seg_values::{Field, FieldKind, IndexOption, Schema, TResult, TantivyDocument};
 use std::alloc::{AllocError, Global};
 use std::test::Fail;
-
-/// An analyzer that makes of each text one token at each of some positions.
-#[derive(Drop)]
-pub(crate) struct Repeats<'a> {
-    pub positions: &'a [u32],
-}
-
-impl Analyzers for Repeats<'_> {
-    ghost use Rattle.std.specs.Prelude.{map, length};
-
-    ghost knows = { λ _ _. Unit {0} };
-
-    ghost tokens_of = { λ s _ text. map (λ p. record { offset_from = 0; offset_to = length text; position = p; position_length = 1; text = text }) s.positions.now };
-
-    fn known(&self, _name: &str) -> bool {
-        true
-    }
-
-    fn tokens(
-        &self,
-        alloc: Global,
-        _name: &str,
-        text: &str,
-        out: &mut Tokens,
-    ) -> Result<(), AllocError> {
-        for position in self.positions {
-            out.push(Token {
-                offset_from: 0,
-                offset_to: text.len(),
-                position: *position,
-                position_length: 1,
-                text: Text::copy_of(alloc, text)?,
-            })?;
-        }
-        Ok(())
-    }
-}
 
 /// The fields, each of another option.
 const NOT_INDEXED: u32 = 0;
@@ -60,35 +18,17 @@ const COUNTS: u32 = 2;
 
 const POSITIONS: u32 = 3;
 
-fn text_entry(alloc: Global, name: &str, index: IndexOption) -> Result<FieldEntry, AllocError>
-    requires { is_allowed FieldKind.Text index ≡ true }
-    ensures { IfOk result (λ e. is_allowed e.kind e.index ≡ true) }
-{
-    Ok(FieldEntry {
-        name: Text::copy_of(alloc, name)?,
-        kind: FieldKind::Text,
-        stored: true,
-        index,
-        tokenizer: None,
-        norms: true,
-        fast: false,
-        fast_tokenizer: None,
-        precision: DateTimePrecision::Seconds,
-        expand_dots: false,
-    })
-}
-
+/// Texts under each option.
 fn each_option(alloc: Global) -> Result<Schema, AllocError> {
-    let not_indexed = text_entry(alloc, "not_indexed", IndexOption::No)?;
-    let documents = text_entry(alloc, "documents", IndexOption::Basic)?;
-    let counts = text_entry(alloc, "counts", IndexOption::Freqs)?;
-    let positions = text_entry(alloc, "positions", IndexOption::Positions)?;
-    let mut builder = SchemaBuilder::new(alloc);
-    let _ = builder.add_field(not_indexed).is_ok();
-    let _ = builder.add_field(documents).is_ok();
-    let _ = builder.add_field(counts).is_ok();
-    let _ = builder.add_field(positions).is_ok();
-    Ok(builder.build())
+    schema(
+        alloc,
+        &[
+            ("not_indexed", FieldKind::Text, IndexOption::No),
+            ("documents", FieldKind::Text, IndexOption::Basic),
+            ("counts", FieldKind::Text, IndexOption::Freqs),
+            ("positions", FieldKind::Text, IndexOption::Positions),
+        ],
+    )
 }
 
 /// A document that has some texts in each field.
@@ -102,21 +42,11 @@ fn in_each_field(alloc: Global, texts: &[&str]) -> Result<TantivyDocument, Alloc
     Ok(document)
 }
 
-/// The segment of documents, under an analyzer that repeats each text at some positions.
-pub(crate) fn made(
-    alloc: Global,
-    positions: &[u32],
-    documents: &[&[&str]],
-) -> TResult<MemorySegment> {
-    let analyzers = Repeats { positions };
-    let meta = SegmentMeta::new(SegmentId::from_u128(7), 0, None);
-    let segment = Segment::new(each_option(alloc)?, meta);
-    let settings = IndexSettings {
-        docstore_compression: Compressor::None,
-        docstore_blocksize: 16,
-        docstore_compress_dedicated_thread: false,
-    };
-    let mut writer = SegmentWriter::for_segment(alloc, 15_000, segment, &settings, &analyzers)?;
+/// The segment of documents, under an analyzer that has two tokens of each text.
+fn made(alloc: Global, documents: &[&[&str]]) -> TResult<MemorySegment> {
+    let analyzers = Repeats { positions: &[0, 1] };
+    let segment = segment(each_option(alloc)?, 0);
+    let mut writer = SegmentWriter::for_segment(alloc, 15_000, segment, &settings(16), &analyzers)?;
     for texts in documents {
         writer.add_ref(0, &in_each_field(alloc, texts)?)?;
     }
@@ -169,7 +99,7 @@ fn show_term(out: &mut String, bytes: &[u8], hits: &[Hit]) -> Result<(), AllocEr
 #[test]
 fn terms_are_recorded_as_their_fields_ask(rt: HostRuntime) -> Result<(), Fail> {
     let alloc = rt.alloc();
-    let made = made(alloc, &[0, 1], &[&["a"], &["b", "a"]]);
+    let made = made(alloc, &[&["a"], &["b", "a"]]);
     let made = made.ok().ok_or("made")?;
     assert_eq!(rt;
         shown(alloc, &made.fields)?.as_str(),
@@ -178,37 +108,17 @@ fn terms_are_recorded_as_their_fields_ask(rt: HostRuntime) -> Result<(), Fail> {
     Ok(())
 }
 
-#[test]
-fn long_tokens_give_no_terms(rt: HostRuntime) -> Result<(), Fail> {
-    let alloc = rt.alloc();
-    let mut longest = String::new(alloc);
-    for _ in 0..65530 {
-        longest.push('a')?;
-    }
-    let kept = made(alloc, &[0], &[&[longest.as_str()]]);
-    let kept = kept.ok().ok_or("kept")?;
-    assert_eq!(rt;
-        shown(alloc, &kept.fields)?.as_str(),
-        "D0[]D1[a1 0@0]C1[a1 0@0]P1[a1 0@0]"
-    );
-    longest.push('a')?;
-    let left_out = made(alloc, &[0], &[&[longest.as_str(), "b"]]);
-    let left_out = left_out.ok().ok_or("left out")?;
-    assert_eq!(rt;
-        shown(alloc, &left_out.fields)?.as_str(),
-        "D0[]D1[b1 0@1]C1[b1 0@1]P1[b1 0@1]"
-    );
-    Ok(())
-}
-
 /// The file of a component, once the files of a segment are made.
 fn file(alloc: Global, made: &MemorySegment, component: SegmentComponent) -> Option<OwnedBytes> {
-    let id = SegmentId::from_u128(7);
-    let mut directory = MemoryDirectory::new(alloc, Vec::new(alloc)).ok()?;
-    if made.bytes.write(alloc, id, &mut directory).is_err() {
+    let mut directory = memory(alloc).ok()?;
+    if made
+        .bytes
+        .write(alloc, segment_id(), &mut directory)
+        .is_err()
+    {
         return None;
     }
-    read_file(alloc, &mut directory, FileName::Part(id, component)).ok()
+    read_file(alloc, &mut directory, file_name(component)).ok()
 }
 
 /// The part of a field in the composite file of a component.
@@ -239,69 +149,38 @@ fn has_part(
 #[test]
 fn terms_are_written_as_their_fields_ask(rt: HostRuntime) -> Result<(), Fail> {
     let alloc = rt.alloc();
-    let made = made(alloc, &[0, 1], &[&["a"], &["b", "a"]]);
-    let made = made.ok().ok_or("made")?;
+    let made = made(alloc, &[&["a"], &["b", "a"]]).ok().ok_or("made")?;
+    let documents: &[u8] = &[3, 0, 0, 0, 0, 0, 0, 0, 0, 0, 1, 0, 1];
+    let counts: &[u8] = &[6, 0, 0, 0, 0, 0, 0, 0, 1, 0, 2, 1, 2, 1, 1, 2];
+    let postings: &[u8] = &[6, 0, 0, 0, 0, 0, 0, 0, 2, 0, 2, 1, 2, 2, 1, 2];
+    for (component, field, bytes) in [
+        (SegmentComponent::Postings, DOCUMENTS, documents),
+        (SegmentComponent::Postings, COUNTS, counts),
+        (SegmentComponent::Postings, POSITIONS, postings),
+        (SegmentComponent::Positions, COUNTS, &[]),
+        (SegmentComponent::Positions, POSITIONS, &[0, 1, 3, 1, 0, 1]),
+    ] {
+        assert!(rt; has_part(alloc, &made, component, field, bytes), "{field}");
+    }
     assert!(rt; part(alloc, &made, SegmentComponent::Terms, NOT_INDEXED).is_none());
-    assert!(rt; part(alloc, &made, SegmentComponent::Postings, NOT_INDEXED).is_none());
-    let documents = [3, 0, 0, 0, 0, 0, 0, 0, 0, 0, 1, 0, 1];
-    assert!(rt;
-        has_part(
-            alloc,
-            &made,
-            SegmentComponent::Postings,
-            DOCUMENTS,
-            &documents
-        )
-    );
-    let counts = [6, 0, 0, 0, 0, 0, 0, 0, 1, 0, 2, 1, 2, 1, 1, 2];
-    assert!(rt; has_part(alloc, &made, SegmentComponent::Postings, COUNTS, &counts));
-    let postings = [6, 0, 0, 0, 0, 0, 0, 0, 2, 0, 2, 1, 2, 2, 1, 2];
-    assert!(rt;
-        has_part(
-            alloc,
-            &made,
-            SegmentComponent::Postings,
-            POSITIONS,
-            &postings
-        )
-    );
-    assert!(rt; has_part(alloc, &made, SegmentComponent::Positions, DOCUMENTS, &[]));
-    assert!(rt; has_part(alloc, &made, SegmentComponent::Positions, COUNTS, &[]));
-    assert!(rt;
-        has_part(
-            alloc,
-            &made,
-            SegmentComponent::Positions,
-            POSITIONS,
-            &[0, 1, 3, 1, 0, 1]
-        )
-    );
     Ok(())
 }
 
 #[test]
 fn lengths_are_written(rt: HostRuntime) -> Result<(), Fail> {
     let alloc = rt.alloc();
-    let made = made(alloc, &[0, 1], &[&["a", "c"], &[], &["b"]]);
-    let made = made.ok().ok_or("made")?;
+    let made = made(alloc, &[&["a", "c"], &[], &["b"]]).ok().ok_or("made")?;
     assert!(rt; part(alloc, &made, SegmentComponent::FieldNorms, NOT_INDEXED).is_none());
-    assert!(rt;
-        has_part(
-            alloc,
-            &made,
-            SegmentComponent::FieldNorms,
-            DOCUMENTS,
-            &[4, 0, 2]
-        )
-    );
-    assert!(rt;
-        has_part(
-            alloc,
-            &made,
-            SegmentComponent::FieldNorms,
-            POSITIONS,
-            &[4, 0, 2]
-        )
-    );
+    for field in [DOCUMENTS, POSITIONS] {
+        assert!(rt;
+            has_part(
+                alloc,
+                &made,
+                SegmentComponent::FieldNorms,
+                field,
+                &[4, 0, 2]
+            )
+        );
+    }
     Ok(())
 }

@@ -2,12 +2,6 @@
 #![tactic(auto)]
 
 #[cfg(test)]
-mod copying;
-#[cfg(test)]
-mod laws;
-#[cfg(test)]
-mod making;
-#[cfg(test)]
 mod reading;
 #[cfg(test)]
 mod segments;

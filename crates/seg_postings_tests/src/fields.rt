@@ -1,9 +1,10 @@
 //! Small fields, against bytes that were worked out by hand.
 
-use seg_common::{DateTimePrecision, OwnedBytes};
+use seg_common::OwnedBytes;
 use seg_postings::{FieldTerms, InvertedIndexReader, PostingsError};
-use seg_values::{FieldEntry, FieldKind, IndexOption, Text};
-use std::alloc::{AllocError, Global};
+use seg_testing::entry;
+use seg_values::{FieldKind, IndexOption};
+use std::alloc::Global;
 
 /// The three parts of a field.
 #[derive(Clone, Copy)]
@@ -86,21 +87,6 @@ pub(crate) const WITH_DOCUMENTS: Parts<'static> = Parts {
     positions: &[],
 };
 
-fn entry(alloc: Global, index: IndexOption) -> Result<FieldEntry, AllocError> {
-    Ok(FieldEntry {
-        name: Text::copy_of(alloc, "body")?,
-        kind: FieldKind::Text,
-        stored: false,
-        index,
-        tokenizer: None,
-        norms: false,
-        fast: false,
-        fast_tokenizer: None,
-        precision: DateTimePrecision::Seconds,
-        expand_dots: false,
-    })
-}
-
 fn owned(alloc: Global, bytes: &[u8]) -> Result<OwnedBytes, PostingsError> {
     match OwnedBytes::new(alloc, bytes) {
         Ok(bytes) => Ok(bytes),
@@ -114,7 +100,7 @@ pub(crate) fn open(
     index: IndexOption,
     parts: Parts<'_>,
 ) -> Result<InvertedIndexReader, PostingsError> {
-    let entry = entry(alloc, index)?;
+    let entry = entry(alloc, "body", FieldKind::Text, index)?;
     let terms = FieldTerms::open(alloc, owned(alloc, parts.terms)?, &entry, MAX_DOC)?;
     let field = terms.with_postings(owned(alloc, parts.postings)?)?;
     field.with_positions(owned(alloc, parts.positions)?)

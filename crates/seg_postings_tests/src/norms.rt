@@ -1,12 +1,11 @@
 //! Lengths in one byte, and their file as it is written and read, with ample memory and by vectors of bytes.
-ghost use Rattle.std.specs.Prelude.{◌≡◌, true, IfOk};
-ghost use Rattle.seg_values.specs.Names.{is_allowed};
 
-use seg_common::{DateTimePrecision, OwnedBytes};
+use seg_common::OwnedBytes;
 use seg_postings::{
     FieldNormReader, FieldNormReaders, FieldNormsSerializer, FieldNormsWriter, PostingsError,
 };
-use seg_values::{Field, FieldEntry, FieldKind, IndexOption, Schema, SchemaBuilder, TResult, Text};
+use seg_testing::schema;
+use seg_values::{Field, FieldKind, IndexOption, Schema};
 use std::alloc::{AllocError, Global};
 use std::test::Fail;
 
@@ -37,41 +36,15 @@ fn lengths_in_one_byte(rt: HostRuntime) {
     }
 }
 
-#[test]
-fn each_id_stands_for_its_least_length(rt: HostRuntime) {
-    for id in 1..=u8::MAX {
-        let length = FieldNormReader::id_to_fieldnorm(id);
-        assert!(rt; FieldNormReader::fieldnorm_to_id(length) == id, "{id}");
-        let shorter = FieldNormReader::fieldnorm_to_id(length.saturating_sub(1));
-        assert!(rt; shorter == id - 1, "{id}");
-    }
-}
-
-fn entry(alloc: Global, name: &str, norms: bool) -> Result<FieldEntry, AllocError>
-    ensures { IfOk result (λ e. is_allowed e.kind e.index ≡ true) }
-{
-    Ok(FieldEntry {
-        name: Text::copy_of(alloc, name)?,
-        kind: FieldKind::Text,
-        stored: false,
-        index: IndexOption::Basic,
-        tokenizer: None,
-        norms,
-        fast: false,
-        fast_tokenizer: None,
-        precision: DateTimePrecision::Seconds,
-        expand_dots: false,
-    })
-}
-
 /// A field without lengths, and one with.
-fn two_fields(alloc: Global) -> TResult<Schema> {
-    let tag = entry(alloc, "tag", false)?;
-    let body = entry(alloc, "body", true)?;
-    let mut fields = SchemaBuilder::new(alloc);
-    fields.add_field(tag)?;
-    fields.add_field(body)?;
-    Ok(fields.build())
+fn two_fields(alloc: Global) -> Result<Schema, AllocError> {
+    schema(
+        alloc,
+        &[
+            ("tag", FieldKind::Text, IndexOption::No),
+            ("body", FieldKind::Text, IndexOption::Basic),
+        ],
+    )
 }
 
 /// Records a length where the field has lengths, and the document has none yet.
@@ -120,59 +93,28 @@ fn id_and_length(readers: &FieldNormReaders, field: u32, doc: u32) -> Option<(u8
     None
 }
 
-/// The schema of two fields, and the readers of its file.
-fn schema_and_readers(alloc: Global) -> Result<(Schema, FieldNormReaders), Fail> {
-    let schema = two_fields(alloc).ok().ok_or("a schema")?;
-    let file = file_of_lengths(alloc, &schema)?;
-    Ok((schema, readers(alloc, &file)?))
+/// Whether the file of the two fields fits them, and tells lengths of three documents.
+fn are_read(alloc: Global, schema: &Schema) -> Result<bool, PostingsError> {
+    let read = readers(alloc, &file_of_lengths(alloc, schema)?)?;
+    Ok(
+        read.fit(schema, 4)
+            && id_and_length(&read, 1, 0) == Some((2, 2))
+            && id_and_length(&read, 1, 2) == Some((40, 40))
+            && id_and_length(&read, 0, 0).is_none(),
+    )
 }
 
 #[test]
 fn lengths_of_documents(rt: HostRuntime) -> Result<(), Fail> {
-    let (_, read) = schema_and_readers(rt.alloc())?;
-    for (field, doc, expected) in [
-        (1, 0, Some((2, 2))),
-        (1, 1, Some((0, 0))),
-        (1, 2, Some((40, 40))),
-        (1, 4, None),
-        (0, 0, None),
-    ] {
-        assert!(rt;
-            id_and_length(&read, field, doc) == expected,
-            "{field} {doc}"
-        );
-    }
+    let schema = two_fields(rt.alloc())?;
+    assert!(rt; are_read(rt.alloc(), &schema)?);
     Ok(())
 }
 
 #[test]
 fn fields_with_lengths(rt: HostRuntime) -> Result<(), Fail> {
-    let schema = two_fields(rt.alloc()).ok().ok_or("a schema")?;
-    let fields = FieldNormsWriter::fields_with_fieldnorm(rt.alloc(), &schema).ok();
-    let fields = fields.ok_or("its fields")?;
+    let schema = two_fields(rt.alloc())?;
+    let fields = FieldNormsWriter::fields_with_fieldnorm(rt.alloc(), &schema)?;
     assert!(rt; fields.as_slice() == [Field::from_field_id(1)].as_slice());
     Ok(())
-}
-
-#[test]
-fn the_file_fits_its_schema(rt: HostRuntime) -> Result<(), Fail> {
-    let (schema, read) = schema_and_readers(rt.alloc())?;
-    assert!(rt; read.fit(&schema, 4) && !read.fit(&schema, 3) && !read.fit(&schema, 5));
-    assert!(rt; !read.fit(&SchemaBuilder::new(rt.alloc()).build(), 4));
-    Ok(())
-}
-
-#[test]
-fn a_file_without_parts(rt: HostRuntime) -> Result<(), Fail> {
-    let schema = two_fields(rt.alloc()).ok().ok_or("a schema")?;
-    let file = FieldNormsSerializer::new(rt.alloc()).close()?;
-    let read = readers(rt.alloc(), &file)?;
-    assert!(rt; !read.fit(&schema, 0));
-    assert!(rt; read.fit(&SchemaBuilder::new(rt.alloc()).build(), 4));
-    Ok(())
-}
-
-#[test]
-fn no_byte_is_no_file(rt: HostRuntime) {
-    assert!(rt; readers(rt.alloc(), &[]).err() == Some(PostingsError::Malformed));
 }

@@ -1,7 +1,7 @@
 //! Fields of each kind are read.
 
 use crate::fields::{Parts, WITH_COUNTS, WITH_DOCUMENTS, WITH_POSITIONS, open};
-use crate::walk::{add_postings, postings_of, put, walk};
+use crate::walk::{postings_of, put, walk};
 use seg_postings::{PostingsError, RecordKind};
 use seg_values::IndexOption;
 use std::alloc::Global;
@@ -68,28 +68,6 @@ fn postings_without_positions(rt: HostRuntime) -> Result<(), Fail> {
     Ok(())
 }
 
-/// Whether the field with positions has these postings of a term; with none, whether it lacks the term.
-fn has_postings(
-    alloc: Global,
-    key: &[u8],
-    expected: Option<&[u32]>,
-) -> Result<bool, PostingsError> {
-    let reader = open(alloc, IndexOption::Positions, WITH_POSITIONS)?;
-    let mut out = Vec::new(alloc);
-    let Some(postings) = postings_of(&reader, key) else {
-        return Ok(expected.is_none());
-    };
-    add_postings(alloc, postings, &mut out)?;
-    Ok(expected == Some(out.as_slice()))
-}
-
-#[test]
-fn a_term_is_looked_up(rt: HostRuntime) -> Result<(), Fail> {
-    assert!(rt; has_postings(rt.alloc(), b"b", Some(&[1, 1, 1, 2, u32::MAX]))?);
-    assert!(rt; has_postings(rt.alloc(), b"c", None)?);
-    Ok(())
-}
-
 /// What the postings of the term `a` keep.
 fn kept(
     alloc: Global,
@@ -106,10 +84,6 @@ fn kept(
 #[test]
 fn postings_tell_what_they_keep(rt: HostRuntime) -> Result<(), Fail> {
     let alloc = rt.alloc();
-    let documents = kept(alloc, IndexOption::Basic, WITH_DOCUMENTS)?;
-    assert!(rt; documents == Some(RecordKind::Documents));
-    let counts = kept(alloc, IndexOption::Freqs, WITH_COUNTS)?;
-    assert!(rt; counts == Some(RecordKind::Counts));
     let positions = kept(alloc, IndexOption::Positions, WITH_POSITIONS)?;
     assert!(rt; positions == Some(RecordKind::Positions));
     Ok(())

@@ -4,12 +4,10 @@
 #[cfg(test)]
 mod caching;
 #[cfg(test)]
-mod laws;
-#[cfg(test)]
 mod raw_documents;
 #[cfg(test)]
-mod read_back;
-#[cfg(test)]
 mod reading;
+#[cfg(test)]
+mod values;
 #[cfg(test)]
 mod writing;

@@ -1,8 +1,7 @@
 //! Dictionaries that are built, against bytes that were written by hand.
 
 use seg_common::TermInfo;
-use seg_termdict::{TermDictError, TermDictionaryBuilder};
-use std::alloc::Global;
+use seg_termdict::TermDictionaryBuilder;
 use std::test::Fail;
 
 const EMPTY: &[u8] = &[
@@ -28,25 +27,12 @@ const ONE: &[u8] = &[
     1, 0, 0, 0, 3, 0, 0, 0, // version and type
 ];
 
-/// The ends and the bytes of the keys `b` and `ba`.
-const TWO_KEYS: &[u8] = &[
-    1, 0, 0, 0, 0, 0, 0, 0, 3, 0, 0, 0, 0, 0, 0, 0, b'b', b'b', b'a',
-];
-
 const FIRST: TermInfo = TermInfo {
     doc_freq: 1,
     postings_start: 0,
     postings_end: 3,
     positions_start: 0,
     positions_end: 1,
-};
-
-const SECOND: TermInfo = TermInfo {
-    doc_freq: 2,
-    postings_start: 3,
-    postings_end: 3,
-    positions_start: 1,
-    positions_end: 4,
 };
 
 #[test]
@@ -63,29 +49,5 @@ fn one_term(rt: HostRuntime) -> Result<(), Fail> {
     builder.insert_value(&FIRST)?;
     let bytes = builder.finish()?;
     assert!(rt; bytes.len() == 77 && bytes.as_slice() == ONE);
-    Ok(())
-}
-
-/// The keys `b` and `ba`, where `b` and `ab` were refused between them.
-fn refused_between(alloc: Global) -> Result<Vec<u8>, TermDictError> {
-    let mut builder = TermDictionaryBuilder::create(alloc)?;
-    builder.insert(b"b", &FIRST)?;
-    if !matches!(
-        builder.insert(b"b", &SECOND),
-        Err(TermDictError::OutOfOrder)
-    ) {
-        return Err(TermDictError::Malformed);
-    }
-    if !matches!(builder.insert_key(b"ab"), Err(TermDictError::OutOfOrder)) {
-        return Err(TermDictError::Malformed);
-    }
-    builder.insert(b"ba", &SECOND)?;
-    builder.finish()
-}
-
-#[test]
-fn keys_out_of_order(rt: HostRuntime) -> Result<(), Fail> {
-    let bytes = refused_between(rt.alloc())?;
-    assert!(rt; bytes.len() == 107 && bytes.get(8..27) == Some(TWO_KEYS));
     Ok(())
 }

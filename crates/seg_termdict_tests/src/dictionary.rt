@@ -1,9 +1,7 @@
 //! Dictionaries that are read, from bytes that were written by hand.
 
 use seg_common::{OwnedBytes, TermInfo};
-use seg_termdict::{
-    DictionaryType, TermDictError, TermDictionary, TermDictionaryBuilder, TermOrdinal, TermStreamer,
-};
+use seg_termdict::{DictionaryType, TermDictError, TermDictionary, TermOrdinal, TermStreamer};
 use std::alloc::Global;
 use std::test::Fail;
 
@@ -54,34 +52,7 @@ fn terms_are_found(rt: HostRuntime) -> Result<(), Fail> {
     let dictionary = open(rt.alloc(), TWO)?;
     assert!(rt; dictionary.term_ord(b"b") == Some(1) && dictionary.term_ord(b"ab").is_none());
     assert!(rt; dictionary.get(b"b") == Some(SECOND) && dictionary.get(b"").is_none());
-    Ok(())
-}
-
-#[test]
-fn infos_by_their_places(rt: HostRuntime) -> Result<(), Fail> {
-    let dictionary = open(rt.alloc(), TWO)?;
     assert!(rt; dictionary.num_terms() == 2 && dictionary.term_info_from_ord(1) == SECOND);
-    Ok(())
-}
-
-/// Whether the term at a place has this key; nothing where there is no such term.
-fn has_key_at(
-    alloc: Global,
-    dictionary: &TermDictionary,
-    ord: TermOrdinal,
-    wanted: Option<&[u8]>,
-) -> Result<bool, TermDictError> {
-    let mut key = Vec::new(alloc);
-    let found = dictionary.ord_to_term(ord, &mut key)?;
-    Ok(found == wanted.is_some() && key.as_slice() == wanted.unwrap_or(&[]))
-}
-
-#[test]
-fn keys_by_their_places(rt: HostRuntime) -> Result<(), Fail> {
-    let dictionary = open(rt.alloc(), TWO)?;
-    for (ord, wanted) in [(0, Some(b"a".as_slice())), (1, Some(b"b")), (2, None)] {
-        assert!(rt; has_key_at(rt.alloc(), &dictionary, ord, wanted)?);
-    }
     Ok(())
 }
 
@@ -94,31 +65,9 @@ fn is_at(stream: &TermStreamer<'_>, key: &[u8], ord: TermOrdinal, info: TermInfo
 fn terms_are_streamed(rt: HostRuntime) -> Result<(), Fail> {
     let dictionary = open(rt.alloc(), TWO)?;
     let mut stream = dictionary.stream();
-    assert!(rt; is_at(&stream, b"", 0, TermInfo::default()));
-    assert!(rt; stream.advance());
-    assert!(rt; is_at(&stream, b"a", 0, FIRST));
-    assert!(rt; stream.advance());
-    assert!(rt; is_at(&stream, b"b", 1, SECOND));
+    assert!(rt; stream.advance() && is_at(&stream, b"a", 0, FIRST));
+    assert!(rt; stream.advance() && is_at(&stream, b"b", 1, SECOND));
     assert!(rt; !stream.advance());
-    assert!(rt; is_at(&stream, b"b", 1, SECOND));
-    Ok(())
-}
-
-/// Keys with one long front, of which the first is the front of the second.
-fn long_keys(alloc: Global) -> Result<TermDictionary, TermDictError> {
-    let mut builder = TermDictionaryBuilder::create(alloc)?;
-    builder.insert(b"abcdefghijklmnopqrstuvwxy", &FIRST)?;
-    builder.insert(b"abcdefghijklmnopqrstuvwxyz", &SECOND)?;
-    open(alloc, &builder.finish()?)
-}
-
-#[test]
-fn keys_with_one_front_are_told_apart(rt: HostRuntime) -> Result<(), Fail> {
-    let dictionary = long_keys(rt.alloc())?;
-    let mut stream = dictionary.stream();
-    assert!(rt; stream.advance() && is_at(&stream, b"abcdefghijklmnopqrstuvwxy", 0, FIRST));
-    assert!(rt; stream.advance() && is_at(&stream, b"abcdefghijklmnopqrstuvwxyz", 1, SECOND));
-    assert!(rt; dictionary.term_ord(b"abcdefghijklmnopqrstuvwx").is_none());
     Ok(())
 }
 
@@ -138,11 +87,8 @@ fn types_have_their_numbers(rt: HostRuntime) {
 }
 
 #[test]
-fn nothing_is_streamed(rt: HostRuntime) -> Result<(), Fail> {
-    let bytes = TermDictionaryBuilder::create(rt.alloc())?.finish()?;
-    let dictionary = open(rt.alloc(), bytes.as_slice())?;
-    let mut stream = dictionary.stream();
-    assert!(rt; !stream.advance());
-    assert!(rt; is_at(&stream, b"", 0, TermInfo::default()));
+fn a_dictionary_may_be_empty(rt: HostRuntime) -> Result<(), Fail> {
+    let empty = TermDictionary::empty(rt.alloc())?;
+    assert!(rt; empty.num_terms() == 0 && !empty.stream().advance());
     Ok(())
 }

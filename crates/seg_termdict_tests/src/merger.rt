@@ -74,30 +74,3 @@ fn each_key_comes_once(rt: HostRuntime) -> Result<(), Fail> {
     assert!(rt; comes_to_each(rt.alloc(), &one, &two)?);
     Ok(())
 }
-
-/// Whether a merger of an empty dictionary and one of `blur` and `cap` gives these, and then none.
-fn comes_to_two<'a>(
-    alloc: Global,
-    empty: &'a TermDictionary,
-    two: &'a TermDictionary,
-) -> Result<bool, TermDictError> {
-    let mut merger = merger_of(alloc, empty, two)?;
-    let blur = comes_to(&mut merger, b"blur", &[(1, 0)])?;
-    let cap = comes_to(&mut merger, b"cap", &[(1, 1)])?;
-    Ok(blur && cap && !merger.advance()?)
-}
-
-#[test]
-fn an_empty_dictionary_adds_nothing(rt: HostRuntime) -> Result<(), Fail> {
-    let empty = TermDictionary::empty(rt.alloc())?;
-    let two = two_words(rt.alloc())?;
-    assert!(rt; comes_to_two(rt.alloc(), &empty, &two)?);
-    Ok(())
-}
-
-#[test]
-fn nothing_is_merged(rt: HostRuntime) -> Result<(), Fail> {
-    let mut merger = TermMerger::new(rt.alloc(), Vec::new(rt.alloc()))?;
-    assert!(rt; !merger.advance()? && !merger.advance()?);
-    Ok(())
-}

@@ -1,10 +1,11 @@
 //! Documents of every kind of value, against lines written by hand.
 
-use seg_common::{DateTime, DateTimePrecision};
+use seg_common::DateTime;
+use seg_testing::{document, schema};
 use seg_text::push_document;
 use seg_values::{
-    Bytes, Facet, Field, FieldEntry, FieldKind, IndexOption, Members, OwnedValue,
-    PreTokenizedString, Schema, SchemaBuilder, TantivyDocument, Text, Token, Tokens, Values,
+    Bytes, Facet, Field, FieldKind, IndexOption, Members, OwnedValue, PreTokenizedString, Schema,
+    TantivyDocument, Text, Token, Tokens, Values,
 };
 use std::alloc::{AllocError, Global};
 use std::net::Ipv6Addr;
@@ -32,31 +33,16 @@ fn every_kind_of_value_nested(rt: HostRuntime) -> Result<(), Fail> {
 fn a_field_that_the_schema_lacks(rt: HostRuntime) -> Result<(), Fail> {
     let alloc = rt.alloc();
     let schema = one_field(alloc)?;
-    let mut document = TantivyDocument::new(alloc);
-    document.add_text(Field::from_field_id(1), "x")?;
+    let document = document(alloc, &[(1, "x")])?;
     let mut out = Vec::new(alloc);
     push_document(&mut out, alloc, &schema, 0, &document)?;
     assert_eq!(rt; out.as_slice(), b"doc 0 [[\"\",\"x\"]]\n".as_slice());
     Ok(())
 }
 
-/// A schema of one field, which isn't said to be stored.
+/// A schema of one field.
 fn one_field(alloc: Global) -> Result<Schema, AllocError> {
-    let entry = FieldEntry {
-        name: Text::copy_of(alloc, "a\"")?,
-        kind: FieldKind::Json,
-        stored: false,
-        index: IndexOption::No,
-        tokenizer: None,
-        norms: false,
-        fast: false,
-        fast_tokenizer: None,
-        precision: DateTimePrecision::Seconds,
-        expand_dots: false,
-    };
-    let mut builder = SchemaBuilder::new(alloc);
-    let _ = builder.add_field(entry).is_ok();
-    Ok(builder.build())
+    schema(alloc, &[("a\"", FieldKind::Json, IndexOption::No)])
 }
 
 /// Values that own no texts.
