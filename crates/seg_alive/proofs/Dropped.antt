@@ -22,7 +22,7 @@ one_and_rest false e r = refl
 one_and_rest true true r = refl
 one_and_rest true false r = refl
 
--- the current document is taken out, then those behind it
+-- the current document is taken out, then those after it
 pub dropped_more : (older : ℕ → Bool) (left : List Posting) (kind : RecordKind) (s : List Bool) → kept_kind_of left ≡ Some kind
     → staying (passes older (documents_of (drop 1 left))) (staying (passes older (document_of left ∷ [])) s) ≡ staying (passes older (documents_of left)) s
 dropped_more older [] kind s some = absurd (none-some kind some)

@@ -41,7 +41,7 @@ module _ (terms : List Terms) (mapping : DocToOpstampMapping) where
   left_by_more first second = staying_twice (is_left_by terms mapping first) (is_left_by terms mapping second) (is_left_by terms mapping (first ++ second))
       (λ i. not_or (list_any (removes terms mapping i) first) (list_any (removes terms mapping i) second) ∙ ap not (sym (list_any-append (removes terms mapping i) first second)))
 
-  -- the one at a place, and then those behind it
+  -- the one at a place, and then those after it
   pub left_by_next : (operations : List (DeleteOperation TermKey)) (at next : ℕ) (s : List Bool) → next ≡ min (at + 1) (length operations)
       → staying (is_left_by terms mapping (drop next operations)) (staying (is_left_by terms mapping (take 1 (drop at operations))) s) ≡ staying (is_left_by terms mapping (drop at operations)) s
   left_by_next operations at next s moved =

@@ -8,7 +8,7 @@ use Rattle.seg_deletes.specs.declared.doc_opstamp_mapping.DocToOpstampMapping.{D
 use Rattle.seg_deletes.specs.declared.operation.DeleteOperation.{DeleteOperation}
 use Rattle.seg_deletes.specs.Deleted.{IsMapped, is_deleted}
 
--- each of so many documents has its stamp
+-- each of this many documents has its stamp
 abbrev pub AreMapped : DocToOpstampMapping → ℕ → Type 0
 AreMapped mapping documents = (document : ℕ) → document < documents → IsMapped mapping document
 
@@ -20,7 +20,7 @@ removes terms mapping document operation = is_deleted mapping document operation
 abbrev pub is_left_by : List Terms → DocToOpstampMapping → List (DeleteOperation TermKey) → ℕ → Bool
 is_left_by terms mapping operations document = not (list_any (removes terms mapping document) operations)
 
--- for each of so many documents, whether none of the deletes removes it
+-- for each of this many documents, whether none of the deletes removes it
 abbrev pub left_by : List Terms → DocToOpstampMapping → ℕ → List (DeleteOperation TermKey) → List Bool
 left_by terms mapping documents operations = map (is_left_by terms mapping operations) (range_with_len 0 documents)
 

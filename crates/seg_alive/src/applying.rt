@@ -71,7 +71,7 @@ fn apply_rest(
     while apply_next(reader, queue, cursor, mapping, alive) {}
 }
 
-/// Applies the operation where the cursor stands, and passes it; at the end it stays.
+/// Applies the operation where the cursor is, and passes it; at the end it stays.
 fn apply_next(
     reader: &SegmentReader,
     queue: &mut DeleteQueue<Term>,
@@ -93,7 +93,7 @@ fn apply_next(
     cursor.advance(queue)
 }
 
-/// Applies the operation where the cursor stands; at the end nothing.
+/// Applies the operation where the cursor is; at the end nothing.
 fn apply_current(
     reader: &SegmentReader,
     queue: &mut DeleteQueue<Term>,

@@ -70,7 +70,7 @@ pub(crate) fn push(
     queue.push(DeleteOperation { opstamp, target }).is_ok()
 }
 
-/// Whether each of so many documents has its stamp.
+/// Whether each of this many documents has its stamp.
 fn has_stamps(mapping: &DocToOpstampMapping<'_>, documents: u32) -> bool
     ensures { IsTrue result → AreMapped mapping.now documents }
 {

@@ -9,7 +9,7 @@ use seg_values::{
 use std::alloc::{AllocError, Global};
 use std::test::Fail;
 
-/// The check of a document that stands at place 5, in a schema of one field, whose texts have tokens at these positions.
+/// The check of a document that is at place 5, in a schema of one field, whose texts have tokens at these positions.
 fn check(
     alloc: Global,
     kind: FieldKind,
@@ -38,7 +38,7 @@ fn check_two_texts(alloc: Global, positions: &[u32]) -> TResult<()> {
     check(alloc, FieldKind::Text, &document, positions)
 }
 
-/// A value in so many arrays.
+/// A value in this many arrays.
 fn nested(alloc: Global, depth: u32) -> Result<OwnedValue, AllocError> {
     let mut value = OwnedValue::Null;
     for _ in 0..depth {

@@ -6,7 +6,7 @@ use std::test::Fail;
 
 const LONG: usize = 40_000;
 
-/// Why so many bytes aren't read within a limit, where the read with a number fails.
+/// Why this many bytes aren't read within a limit, where the read with a number fails.
 fn error(alloc: Global, limit: usize, fails: u64) -> Result<Option<ReadError>, AllocError> {
     let stored = vec![in alloc; 7; LONG]?;
     let mut source = MemorySource::new(alloc, &stored, vec![in alloc; fails]?)?;

@@ -37,7 +37,7 @@ module _ {X : Type 0} (number : X → ℕ) where
   that_has n (y ∷ ys) zero x h at = subst (λ z. number z ≢ n) (same_Some y x at) h.0
   that_has n (y ∷ ys) (suc i) x h at = that_has n ys i x h.1 at
 
-  -- where no two have one number, those behind one have others
+  -- where no two have one number, those after one have others
   pub others_behind : (xs : List X) (i : ℕ) (x : X) → are_distinct (map number xs) ≡ true → slice_get xs i ≡ Some x → AllByRecursion (λ y. number y ≢ number x) (drop (i + 1) xs)
   others_behind [] i x h at = absurd (none-some x at)
   others_behind (y ∷ ys) zero x h at =

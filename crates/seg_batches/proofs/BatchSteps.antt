@@ -164,7 +164,7 @@ module _ (operations : List (UserOperation Document)) (first end : ℕ) where
     before_it = length-take-le first all (omega (arith, rises, within, length-map operations operation_of))
 
     module _ (schema : Schema) (analyzer : Analyzer) (queue : List (DeleteOperation TermKey)) (waits : as_operations queue ≡ stamped_deletes 0 all) (documents : ℕ) (counted : documents ≡ length (additions (map operation_of (slice_range operations first end)))) (set : Option (List Bool)) where
-      -- what is told of it, whatever comes before it and behind it
+      -- what is told of it, whatever comes before it and after it
       abbrev pub Told : Type 0
       Told = (before after : List Operation) → length before ≡ first → as_operations queue ≡ stamped_deletes 0 (before ++ (map operation_of (slice_range operations first end) ++ after))
           → IsTold documents (alive_after schema analyzer (map operation_of (slice_range operations first end)) after) set

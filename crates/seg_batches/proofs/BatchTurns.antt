@@ -1,4 +1,4 @@
--- The batches of operations, one after the other: where each begins and ends, and what it leaves to those behind it.
+-- The batches of operations, one after the other: where each begins and ends, and what it leaves to those after it.
 use Rattle.std.proofs.Common.{◌≡◌, ℕ, zero, suc, ◌+◌, ◌-◌, ◌<◌, ◌≤◌, Bool, true, false, List, [], ◌∷◌, ◌++◌, length, take, drop, Some, None, Option, refl, sym, ap, ◌∙◌, subst, inl, inr, arith}
 use Rattle.std.specs.Prelude.{◌⊎◌, ◌&&◌, nat_le, unwrap_or, slice_range}
 use Rattle.std.specs.List.{list_all, slice_get, enumerate_from}
@@ -44,11 +44,11 @@ drop-enumerate (suc n) k (x ∷ xs) = drop-enumerate n (k + 1) xs ∙ ap (λ m. 
 
 -- ---- places
 
--- where a batch ends behind so many cuts: at the next cut, or at the end
+-- where a batch ends after this many cuts: at the next cut, or at the end
 abbrev pub end_at : List Operation → List ℕ → ℕ → ℕ
 end_at operations cuts at = unwrap_or (slice_get cuts at) (length operations)
 
--- a batch begins here behind so many cuts: the others don't fall, nor pass the end, which is where all of them are past
+-- a batch begins here after this many cuts: the others don't fall, nor pass the end, which is where all of them are past
 pub record IsPlace (operations : List Operation) (cuts : List ℕ) (at first : ℕ) : Type 0 where
   pub within : first ≤ length operations
   pub rising : never_falls (first ∷ drop at cuts) ≡ true
@@ -64,7 +64,7 @@ first_place operations cuts h =
     let parts = both (never_falls cuts) (list_all (λ cut. nat_le cut (length operations)) cuts) h in
     record { within = omega arith; rising = never_falls-zero cuts parts.0; fit = parts.1; ends = λ behind. absurd (omega (arith, behind)) }
 
--- ---- one batch, and those behind it
+-- ---- one batch, and those after it
 
 -- the batches from here on
 abbrev pub batches_left : Schema → Analyzer → List Operation → List ℕ → ℕ → ℕ → List Batch

@@ -34,7 +34,7 @@ risen-if : {T : Type 0} (r : Result T TantivyError) (a b c : ℕ) → a ≤ b �
 risen-if (Ok x) a b c le risen = tt
 risen-if (Err e) a b c le risen = risen-before e a b c le risen
 
--- answers that came, behind others
+-- answers that came, after others
 then-proceeds : {T : Type 0} (r : Result T TantivyError) (first next : List Answer) (a b c : List Answer) → b ≡ a ++ first → Proceeds next r b c → Proceeds (first ++ next) r a c
 then-proceeds (Ok x) first next a b c was is = is ∙ ap (λ xs. xs ++ next) was ∙ append_assoc a first next
 then-proceeds (Err e) first next a b c was s = record {
@@ -57,7 +57,7 @@ stops-early first next e a b s = record {
   seen = s.seen;
 }
 
--- calls behind calls that all went well
+-- calls after calls that all went well
 pub does-then : {S T : Type 0} (x : S) (r : Result T TantivyError) (first next : List Answer) (names : List FileName) (a b c : DirectoryState) → Does first names (Ok x) a b → Does next names r b c → Does (first ++ next) names r a c
 does-then x r first next names a b c d e = record {
   seen = then-proceeds r first next a.seen b.seen c.seen d.seen e.seen;
@@ -81,7 +81,7 @@ does-stop e first next names a b d = record {
 pub does-among : {T : Type 0} (r : Result T TantivyError) (answers : List Answer) (names more : List FileName) (a b : DirectoryState) → ((other : FileName) → AllByRecursion (λ name. other ≢ name) more → AllByRecursion (λ name. other ≢ name) names) → Does answers names r a b → Does answers more r a b
 does-among r answers names more a b among d = record { seen = d.seen; others = λ other all. d.others other (among other all); tells = d.tells; later = d.later; caused = d.caused }
 
--- no call at all, for want of memory
+-- no call at all, when out of memory
 pub does-nothing : {T : Type 0} (answers : List Answer) (names : List FileName) (a : DirectoryState) → Does {T = T} answers names (Err OutOfMemory) a a
 does-nothing answers names a = record {
   seen = record { came = []; missing = answers; why = []; cut = refl; is_why = refl; seen = sym (append-nil a.seen) };

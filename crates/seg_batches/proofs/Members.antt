@@ -23,6 +23,6 @@ module _ {X : Type 0} where
   pub one_more : (xs : List X) (i : ℕ) (x : X) → slice_get xs i ≡ Some x → take (i + 1) xs ≡ take i xs ++ x ∷ []
   one_more xs i x at = take_more xs i x (slice_get_within xs i x at) ∙ ap (λ y. take i xs ++ y ∷ []) (get_or_from_slice_get xs i x x at)
 
-  -- what is left behind the first that is left
+  -- what is left after the first that is left
   pub left_behind : (xs : List X) (i : ℕ) (x : X) (rest : List X) → drop i xs ≡ x ∷ rest → drop (i + 1) xs ≡ rest
   left_behind xs i x rest is = sym (drop-drop 1 i xs) ∙ ap (drop 1) is

@@ -43,7 +43,7 @@ module _ (schema : Schema) (s : ListedSegment) (id documents : ℕ) (deletes : O
 
 -- ---- one after another
 
--- one more is read behind those so far
+-- one more is read after those so far
 reads_more : (schema : Schema) (segments : List ListedSegment) (s : ListedSegment) (read : List KeptSegment) (r : KeptSegment) (a b c : DirectoryState) → ReadsAll schema segments read a b → ReadsSegment schema s r b c → ReadsAll schema (segments ++ s ∷ []) (read ++ r ∷ []) a c
 reads_more schema [] s [] r a b c before here = (c, subst (λ (x : DirectoryState). ReadsSegment schema s r x c) before here, refl)
 reads_more schema [] s (k ∷ read) r a b c before here = absurd before

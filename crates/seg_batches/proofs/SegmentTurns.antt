@@ -63,7 +63,7 @@ module _ (schema : Schema) (analyzer : Analyzer) (files : NamedFiles) where
 -- ---- a batch more
 
 module _ (schema : Schema) (analyzer : Analyzer) (operations : List Operation) (cuts : List ℕ) (at first end : ℕ) (t : Turn schema analyzer operations cuts at first end) where
-  -- this batch, and those behind it
+  -- this batch, and those after it
   abbrev this : Batch
   this = batch_between schema analyzer first end operations
 
@@ -116,7 +116,7 @@ module _ (schema : Schema) (analyzer : Analyzer) (operations : List Operation) (
     | inr last ↦ absurd (omega (arith, le, last.0))
   ]
 
-  -- what holds of it and those behind it
+  -- what holds of it and those after it
   pub each_turn : (P : Batch → Type 0) (Q : Type 0) → P this → (AllByRecursion P left_now → Q) → AllByRecursion P left_then → Q
   each_turn P Q here all rest = elim t.is_first [
     | inl more ↦ all (subst (AllByRecursion P) (sym more.1) (here, rest))

@@ -41,7 +41,7 @@ deletes-first at (add document) rest = refl
 deletes-first at (delete term) rest = refl
 deletes-first at (delete_all terms) rest = refl
 
--- one more operation is looked at, whose delete is put behind the others
+-- one more operation is looked at, whose delete is put after the others
 pub one_more_waits : (operations : List Operation) (i : ℕ) (operation : Operation) (old new all : List (ℕ × Operation)) → slice_get operations i ≡ Some operation
     → new ≡ old ++ stamped_deletes i (operation ∷ []) → old ++ stamped_deletes i (drop i operations) ≡ all → new ++ stamped_deletes (i + 1) (drop (i + 1) operations) ≡ all
 one_more_waits operations i operation old new all at is so_far =

@@ -18,7 +18,7 @@ is_addition (delete_all terms) = false
 abbrev pub HasAdditions : Analyzer → ℕ → List Operation → SegmentWriting → Type 0
 HasAdditions analyzer first operations writer = Writes analyzer (additions operations) (addition_stamps first operations) writer
 
--- an operation at a place is taken: a document that it adds is behind the others, and a delete changes nothing
+-- an operation at a place is taken: a document that it adds comes after the others, and a delete changes nothing
 abbrev pub IsTaken : Analyzer → ℕ → Operation → SegmentWriting → SegmentWriting → Type 0
 IsTaken analyzer at (add document) old new = Adds analyzer document at old new
 IsTaken analyzer at (delete term) old new = new ≡ old

@@ -13,7 +13,7 @@ use Rattle.seg_open.specs.declared.segment_files.SegmentFiles.{SegmentFiles}
 abbrev pub passed_below : ℕ → List (DeleteOperation TermKey) → Type 0
 passed_below number operations = AllByRecursion (λ o. o.opstamp < number) operations
 
--- six files spell contents of so many documents
+-- six files spell contents of this many documents
 pub record AreWhole (schema : Schema) (files : SegmentFiles) (documents : ℕ) : Type 0 where
   pub contents : Contents
   pub spelled : Spell schema files contents

@@ -21,7 +21,7 @@ use Rattle.seg_directory.specs.State.{DirectoryState}
 
 -- ---- the six files
 
--- a segment of so many documents is read back: the answers show it, no file changes, and a directory that tells is read as it is
+-- a segment of this many documents is read back: the answers show it, no file changes, and a directory that tells is read as it is
 pub record ReadsBack (id : ℕ) (schema : Schema) (number : ℕ) (result : Result OpenSegment TantivyError) (before after : DirectoryState) : Type 0 where
   pub seen : OpeningSeen id schema number before.seen result after.seen
   pub of : IfOk result (λ r. (r.schema ≡ schema) × (r.documents ≡ number))
@@ -33,7 +33,7 @@ pub record ReadsBack (id : ℕ) (schema : Schema) (number : ℕ) (result : Resul
 
 -- ---- the alive file
 
--- the set tells of so many documents which are alive, and of so many that they are not
+-- the set tells of this many documents which are alive, and of this many that they are not
 pub record AgreesWith (documents : ℕ) (d : Deletes) (alive : List Bool) : Type 0 where
   pub counted : length alive ≡ documents
   pub dead : count_by not alive ≡ d.number
@@ -55,7 +55,7 @@ pub record ReadsNoSet (id documents : ℕ) (d : Deletes) (old new : List Answer)
   pub seen : new ≡ old ++ answer.Read (Alive id d.stamp) file ∷ []
   pub none : IsNoSuchSet documents d file
 
--- either of them; that the file is missing or can't be read; or nothing, for want of memory
+-- either of them; that the file is missing or can't be read; or nothing, when out of memory
 abbrev pub AliveSeen : ℕ → ℕ → Deletes → List Answer → Result (List Bool) TantivyError → List Answer → Type 0
 AliveSeen id documents d old (Ok alive) new = ReadsSet id documents d alive old new
 AliveSeen id documents d old (Err (DataCorruption name)) new =
@@ -108,7 +108,7 @@ pub record StopsReading (schema : Schema) (segments : List ListedSegment) (e : T
   pub reads : ReadsAll schema first read before next
   pub stops : StopsInSegment schema stopped e next after
 
--- all, or up to the one that is not; or nothing for want of memory
+-- all, or up to the one that is not; or nothing, when out of memory
 abbrev pub ReadsUpTo : Schema → List ListedSegment → Result (List KeptSegment) TantivyError → DirectoryState → DirectoryState → Type 0
 ReadsUpTo schema segments (Ok read) before after = ReadsAll schema segments read before after
 ReadsUpTo schema segments (Err e) before after = StopsReading schema segments e before after

@@ -20,12 +20,12 @@ pub record WrittenSegment : Type 0 where
   pub documents : ℕ
   pub alive : List Bool
 
--- which of so many documents are alive: as a set says, or all where there is none
+-- which of this many documents are alive: as a set says, or all where there is none
 abbrev pub alive_of : ℕ → Option (List Bool) → List Bool
 alive_of documents None = replicate documents true
 alive_of documents (Some set) = set
 
--- where there is a set it says of each of so many documents whether it is alive, and one is not
+-- where there is a set it says of each of this many documents whether it is alive, and one is not
 abbrev pub LacksSome : ℕ → Option (List Bool) → Type 0
 LacksSome documents None = Unit {0}
 LacksSome documents (Some set) = (length set ≡ documents) × Contains set false

@@ -9,7 +9,7 @@ use Rattle.seg_directory.specs.State.{DirectoryState}
 use Rattle.seg_refusals.specs.Refusals.{IsRefusal}
 use Rattle.seg_batches.specs.Segments.{six_files}
 
--- the batch of the operations from one place up to another, with what those behind it leave alive
+-- the batch of the operations from one place up to another, with what those after it leave alive
 abbrev pub batch_between : Schema → Analyzer → ℕ → ℕ → List Operation → Batch
 batch_between schema analyzer first end operations = record {
   documents = additions (slice_range operations first end);

@@ -13,7 +13,7 @@ use seg_meta::DeleteMeta;
 use seg_values::{TResult, TantivyError};
 use std::alloc::Global;
 
-/// Which documents of a segment of so many are alive, as its alive file says; without deletes there is none, and all are.
+/// Which documents of a segment of this many are alive, as its alive file says; without deletes there is none, and all are.
 pub(crate) fn read_deletes<W: Directory>(
     alloc: Global,
     id: SegmentId,
@@ -63,7 +63,7 @@ fn read_alive_file<W: Directory>(
     }
 }
 
-/// The set that bytes have, where it says of so many documents which are alive, and as many are not as there are deletes.
+/// The set that bytes have, where it says of this many documents which are alive, and as many are not as there are deletes.
 fn agreeing_set(bytes: OwnedBytes, max_doc: u32, deletes: DeleteMeta) -> Option<AliveBitSet>
     ensures { MatchOption result (IsNoSuchSet max_doc (deletes_of deletes) bytes)
         (λ alive. (set_of bytes ≡ Some alive) × AgreesWith max_doc (deletes_of deletes) alive) }

@@ -56,7 +56,7 @@ pub(crate) fn alive_documents(
     apply_from(alloc, reader, queue, *cursor, stamps)
 }
 
-/// Takes the cursor behind the deletes with smaller stamps; whether another one is there.
+/// Takes the cursor past the deletes with smaller stamps; whether another one is there.
 fn skip_earlier(queue: &mut DeleteQueue<Term>, cursor: &mut DeleteCursor, first: Opstamp) -> bool
     requires cursor { cursor.old ≤ queue.old.flushed }
     requires passed { passed_below first (take cursor.old queue.old.operations) }

@@ -31,7 +31,7 @@ use seg_meta::IndexSettings;
 use seg_values::{Analyzers, Schema, TResult, TantivyDocument, TantivyError, Term};
 use std::alloc::{AllocError, Global};
 
-/// Writes the segment of each batch, one after another: the operations up to each cut, and those behind the last. Each has
+/// Writes the segment of each batch, one after another: the operations up to each cut, and those after the last. Each has
 /// all documents that its batch adds; which of them the deletes of all operations leave is told beside its files.
 ///
 /// An error ends it, with the segments of the batches before written. `SchemaError` and `InvalidArgument` tell a refusal;
@@ -97,7 +97,7 @@ pub fn write_batches<Z: Analyzers, W: Directory>(
     Ok(written)
 }
 
-/// Where the batch behind so many cuts ends.
+/// Where the batch after this many cuts ends.
 fn batch_end(cuts: &[usize], at: usize, operations: &[UserOperation<TantivyDocument>]) -> usize
     ensures { result ≡ unwrap_or (slice_get cuts.now at) (length operations.now) }
 {
@@ -112,7 +112,7 @@ fn keep(segment: WrittenSegment, written: &mut Vec<WrittenSegment>) -> Result<()
     Ok(())
 }
 
-/// Writes the segment of the batch of the operations from `first` up to `end`. The cursor stands behind the deletes of
+/// Writes the segment of the batch of the operations from `first` up to `end`. The cursor is after the deletes of
 /// batches before it.
 fn write_batch<Z: Analyzers, W: Directory>(
     alloc: Global,

@@ -9,7 +9,7 @@ use seg_open::{SegmentFiles, SegmentReader};
 use seg_values::{Schema, TResult, TantivyError};
 use std::alloc::Global;
 
-/// Reads the six files of a segment of so many documents, each once, and opens them.
+/// Reads the six files of a segment of this many documents, each once, and opens them.
 pub(crate) fn read_back<W: Directory>(
     alloc: Global,
     schema: &Schema,

@@ -12,7 +12,7 @@ use seg_meta::SegmentMeta;
 use seg_values::{Schema, TResult, TantivyError};
 use std::alloc::Global;
 
-/// Reads segments as a meta lists them, one after another: the six files of each, and behind them its alive file where it
+/// Reads segments as a meta lists them, one after another: the six files of each, and after them its alive file where it
 /// has deletes; each file once. The first that is not read ends it.
 ///
 /// `DataCorruption` tells a file that is missing, or that doesn't agree with the meta and the files of its segment that were
@@ -41,7 +41,7 @@ pub fn read_segments<W: Directory>(
     Ok(read)
 }
 
-/// Reads one more segment. Room for it is taken first, so that nothing is read for want of memory behind it.
+/// Reads one more segment. Room for it is taken first, so that memory does not run out once it is read.
 fn read_next<W: Directory>(
     alloc: Global,
     schema: &Schema,

@@ -6,7 +6,7 @@ use seg_common::OwnedBytes;
 use seg_store::StoreReader;
 use std::alloc::Global;
 
-/// How many documents so many stores of the same bytes have.
+/// How many documents this many stores of the same bytes have.
 pub(crate) fn count_opened(file: &OwnedBytes, times: u32) -> Result<u64> {
     let mut count = 0u64;
     for _ in 0..times {
@@ -16,7 +16,7 @@ pub(crate) fn count_opened(file: &OwnedBytes, times: u32) -> Result<u64> {
     Ok(count)
 }
 
-/// How many pairs so many documents of a store have.
+/// How many pairs this many documents of a store have.
 pub(crate) fn count_read(alloc: Global, file: &OwnedBytes, times: u32) -> Result<u64> {
     let store = StoreReader::open(file.share())?;
     let mut draw = Draw::new();

@@ -1,9 +1,9 @@
 //! Works the layers below the program as often as it is told, so that `bench/layers.py` can measure what a call costs.
 //!
 //! ```text
-//! seg_bench look-up TIMES TERMS           looks so many keys up in a term dictionary, which has about half of them
+//! seg_bench look-up TIMES TERMS           looks this many keys up in a term dictionary, which has about half of them
 //! seg_bench merge TIMES TERMS..           merges term dictionaries
-//! seg_bench get TIMES STORE               reads so many documents of a store
+//! seg_bench get TIMES STORE               reads this many documents of a store
 //! seg_bench open-terms TIMES TERMS        opens a term dictionary
 //! seg_bench open-field TIMES TERMS POSTINGS POSITIONS
 //!                                         opens a field of texts, whose documents are below 1,000
@@ -42,7 +42,7 @@ fn main(rt: HostRuntime) -> Result<()> {
     Ok(())
 }
 
-/// The words behind the program's name.
+/// The words after the program's name.
 fn program_words(rt: &(impl Env + AllocGlobal)) -> io::Result<Vec<String>> {
     let mut words = Vec::new(rt.alloc());
     for word in env::args(rt)?.skip(1) {
@@ -61,7 +61,7 @@ fn files<R: Files + AllocGlobal>(rt: &R, names: &[String]) -> Result<Vec<OwnedBy
     Ok(files)
 }
 
-/// Does a task so often over these files.
+/// Does a task this often over these files.
 fn work(alloc: Global, task: &str, times: u32, files: &[OwnedBytes]) -> Result<u64> {
     match (task, files) {
         ("look-up", [file]) => terms::count_found(file, times),

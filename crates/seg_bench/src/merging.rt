@@ -5,7 +5,7 @@ use seg_common::OwnedBytes;
 use seg_termdict::{TermDictError, TermDictionary, TermMerger, TermStreamer};
 use std::alloc::{AllocError, Global};
 
-/// How many terms come, where several dictionaries are merged so often.
+/// How many terms come, where several dictionaries are merged this often.
 pub(crate) fn count_merged(
     alloc: Global,
     files: &[OwnedBytes],

@@ -8,7 +8,7 @@ use seg_termdict::TermDictionary;
 use seg_values::{FieldEntry, FieldKind, IndexOption, Text};
 use std::alloc::{AllocError, Global};
 
-/// How many of so many keys a dictionary has. They are drawn from the numbers below twice that of its terms, each in four
+/// How many of the keys that are looked up a dictionary has. They are drawn from the numbers below twice that of its terms, each in four
 /// bytes, the highest first.
 pub(crate) fn count_found(file: &OwnedBytes, times: u32) -> Result<u64> {
     let terms = TermDictionary::open(file.share())?;
@@ -26,7 +26,7 @@ pub(crate) fn count_found(file: &OwnedBytes, times: u32) -> Result<u64> {
     Ok(found)
 }
 
-/// How many terms so many dictionaries of the same bytes have.
+/// How many terms this many dictionaries of the same bytes have.
 pub(crate) fn count_opened(file: &OwnedBytes, times: u32) -> Result<u64> {
     let mut count = 0u64;
     for _ in 0..times {
@@ -36,7 +36,7 @@ pub(crate) fn count_opened(file: &OwnedBytes, times: u32) -> Result<u64> {
     Ok(count)
 }
 
-/// How many terms so many fields of the same bytes have.
+/// How many terms this many fields of the same bytes have.
 pub(crate) fn count_in_fields(
     alloc: Global,
     terms: &OwnedBytes,

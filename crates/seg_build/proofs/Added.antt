@@ -17,7 +17,7 @@ module _ {S : Type 0} (m n : HashMap Key (List Hit) S) (s : Terms) (is : by_byte
   had : (old : Option (List Hit)) → old ≡ hash.get_by (has_bytes bs) m → get s bs ≡ option_map grouped old
   had old there = ap (λ t. get t bs) (sym is) ∙ get-by_bytes grouped m.entries bs ∙ ap (option_map grouped) (sym there)
 
-  -- behind those that are there
+  -- after those that are there
   pub added_there : (old new : List Hit) → Some old ≡ hash.get_by (has_bytes bs) m → new ≡ old ++ h ∷ [] → hash.UpdatesBy (λ x y. bytes_eq x.items y.items) (has_bytes bs) m n (Some new) → by_bytes grouped n.entries ≡ with_occurrence s h.document (record { bytes = bs; position = h.position })
   added_there old new there new_is u =
       by_bytes-updates grouped bs m n new u ∙ ap (λ t. insert t bs (grouped new)) is

@@ -17,7 +17,7 @@ use Rattle.seg_build.proofs.BuiltEntries.{both_true}
 use Rattle.seg_build.proofs.Fitting.{and_true, is_less, less_is}
 use Rattle.seg_build.proofs.Places.{slice_get-set_same, slice_get-set_other, start_after_all-ge}
 
--- where the next text begins, and the number of tokens, are u32s behind some texts more
+-- where the next text begins, and the number of tokens, are u32s after some texts more
 pub record Bounded (now : Progress) (vs : List (List Token)) : Type 0 where
   pub start : start_after_all now.start vs < 2 ^ 32
   pub count : now.count + count_of vs < 2 ^ 32

@@ -1,4 +1,4 @@
--- One more occurrence behind a list of them.
+-- One more occurrence after a list of them.
 use Rattle.std.proofs.Common.{◌≡◌, ℕ, List, [], ◌∷◌, ◌++◌, ap, ◌∙◌, refl, arith}
 use Rattle.std.proofs.lemmas.Bool.Decides.{nat_tests}
 use Rattle.seg_model.specs.Reading.{Recorded, presence, frequency, positions, Posting}

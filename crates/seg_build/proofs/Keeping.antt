@@ -1,4 +1,4 @@
--- What a writer keeps behind one more document.
+-- What a writer keeps after one more document.
 use Rattle.std.proofs.Common.{◌≡◌, ℕ, suc, ◌+◌, ◌<◌, ◌≤◌, ◌^◌, ◌-◌, Bool, true, List, [], ◌∷◌, ◌++◌, map, length, take, drop, get_or, Some, None, Option, option_map, refl, sym, ap, ◌∙◌, subst, arith, length-append}
 use Rattle.std.specs.Prelude.{IsSomeAnd, IfSome}
 use Rattle.std.specs.List.{list_all, AllByRecursion}
@@ -34,7 +34,7 @@ use Rattle.seg_build.proofs.Turns.{take-front}
 use Rattle.seg_build.proofs.MemoryTaken.{total-last, occurring, all_occurring}
 use Rattle.seg_build.proofs.Whole.{length-with_documents}
 
--- ---- lists with one more behind
+-- ---- lists with one more at the end
 
 drop-front : {X : Type 0} (xs : List X) (x : X) → drop (length xs) (xs ++ x ∷ []) ≡ x ∷ drop (length xs + 1) (xs ++ x ∷ [])
 drop-front [] x = refl
@@ -157,7 +157,7 @@ module _ (schema : Schema) (analyzer : Analyzer) (entries : is_built_schema sche
   room_of h = let u = under h in has_room schema analyzer entries u.documents d taken utf8 u.stamps stamp (kept_of p) u.are place
 
   module _ (in_order : AreTakenLast) (texts : List (ℕ × List Token)) (texts_are : texts ≡ document_texts schema analyzer d) (new : WriterParts) (took : HasTaken schema d texts stamp (kept_of p) (kept_of new)) where
-    -- is under way behind it
+    -- is under way after it
     pub still_under_way : IfSome parts (λ p. IsUnderWay schema analyzer (kept_of p)) → IsUnderWay schema analyzer (kept_of new)
     still_under_way h =
         let u = under h in

@@ -35,13 +35,13 @@ count_of_texts : (analyze : List ℕ → List Token) (ts : List Tree) → count_
 count_of_texts analyze [] = refl
 count_of_texts analyze (t ∷ ts) = ap (λ n. length (counted (value_tokens analyze t)) + n) (count_of_texts analyze ts)
 
--- a field at a place counts so many tokens of a document, where it has lengths
+-- a field at a place counts this many tokens of a document, where it has lengths
 record HasCount (id : ℕ) (now : List FieldPostings) (k : ℕ) (e : FieldEntry) (n : ℕ) : Type 0 where
   field : FieldPostings
   at : slice_get now k ≡ Some field
   count : has_lengths e ≡ true → count_in id field ≡ n
 
--- a field at a place counts so many tokens of a document
+-- a field at a place counts this many tokens of a document
 pub record HasTokens (id : ℕ) (now : List FieldPostings) (k n : ℕ) : Type 0 where
   pub field : FieldPostings
   pub at : slice_get now k ≡ Some field

@@ -44,7 +44,7 @@ recorded_turn document fields i f count now lt is sum =
     sum_turn count (count_in document f) (total (count_in document) (drop (i + 1) fields)) now sum
     ∙ ap (λ fs. saturated (count + total (count_in document) fs)) (sym (drop-item fields i f lt is))
 
--- behind the last field
+-- after the last field
 pub recorded_end : (document : ℕ) (fields : List FieldPostings) (i count : ℕ) → length fields ≤ i → count ≤ 2 ^ 64 - 1 → count ≡ saturated (count + total (count_in document) (drop i fields))
 recorded_end document [] zero count past few = omega (arith, few)
 recorded_end document [] (suc i) count past few = omega (arith, few)

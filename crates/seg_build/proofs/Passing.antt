@@ -81,7 +81,7 @@ module _ (schema : Schema) (analyzer : Analyzer) (entries : is_built_schema sche
 
   -- ---- where all is taken
 
-  -- how far the document has come in a field, bounded behind some values
+  -- how far the document has come in a field, bounded after some values
   pub record HasBounded (reached : List Progress) (ps : Document) (k : ℕ) (e : FieldEntry) : Type 0 where
     pub now : Progress
     pub at : slice_get reached k ≡ Some now

@@ -60,7 +60,7 @@ document-added_all id field (v ∷ vs) le = document-added_all id (added id fiel
 pub start_after-ge : (start : ℕ) (v : List Token) → start + 1 ≤ start_after start v
 start_after-ge start v = omega (arith, reach-ge start (counted v))
 
--- each text begins behind the one before it
+-- each text begins after the one before it
 pub start_after_all-ge : (start : ℕ) (vs : List (List Token)) → start + length vs ≤ start_after_all start vs
 start_after_all-ge start [] = omega arith
 start_after_all-ge start (v ∷ vs) = omega (arith, start_after-ge start v, start_after_all-ge (start_after start v) vs)
@@ -112,7 +112,7 @@ module _ (schema : Schema) (analyzer : Analyzer) (id : ℕ) (k : ℕ) (e : Field
             ∙ slice_get-set_same fields k field _ at;
       }
 
-  -- the field behind some values
+  -- the field after some values
   pub field_after : (fields : List FieldPostings) (field : FieldPostings) (ps : Document) → slice_get fields k ≡ Some field → slice_get (with_pairs schema analyzer id fields ps) k ≡ Some (added_all id field (texts_of analyzer e k ps))
   field_after fields field [] at = at
   field_after fields field (p ∷ ps) at = elim (whose fields field p at) [

@@ -70,7 +70,7 @@ no_more a b h = grind (arith, nat_tests)
 abbrev placed : ℕ → Token → Occurrence
 placed start t = record { bytes = t.text; position = start + t.position }
 
--- the tokens of a value, and behind them what begins no lower than they reach
+-- the tokens of a value, and after them what begins no lower than they reach
 rise_placed : (start top : ℕ) → top < 2 ^ 32 → (before low : ℕ) (ts : List Token) (more : List Occurrence) → rises low ts ≡ true → before ≤ start + low → before ≤ top → reach start ts ≤ top → Rise top (placed_at more) → Rise before (placed_at (map (placed start) ts ++ more))
 rise_placed start top small before low [] more up from le reaches rest = rise_lower before top (placed_at more) le rest
 rise_placed start top small before low (t ∷ ts) more up from le reaches rest =

@@ -102,9 +102,9 @@ module _ (kind : RecordKind) (keeps : kind ≡ Positions) (d : ℕ) (run : List 
         is = g.is ∙ ap (λ c. Some (record g.kept { current = c })) (current_more g.kept.current here);
       }
 
--- ---- a posting behind others
+-- ---- a posting after others
 
--- what is known of a posting, so that it can be written behind others
+-- what is known of a posting, so that it can be written after others
 record Next (kind : RecordKind) (least : ℕ) (p : Posting) : Type 0 where
   behind : least ≤ p.document
   limit : p.document < 2 ^ 32 - 1

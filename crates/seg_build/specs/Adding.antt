@@ -4,7 +4,7 @@ use Rattle.std.specs.FinMap.{get, insert}
 use Rattle.seg_model.specs.Occurrences.{Occurrence}
 use Rattle.seg_model.specs.Reading.{Recorded, positions, Posting, Terms}
 
--- recorded positions with one behind them
+-- recorded positions with one after them
 abbrev pub to_position : Recorded → ℕ → Recorded
 to_position (positions ps) p = positions (ps ++ p ∷ [])
 to_position _ p = positions (p ∷ [])

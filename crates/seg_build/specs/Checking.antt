@@ -20,7 +20,7 @@ at_start = record { start = 0; count = 0 }
 abbrev pub text_passes : Progress → List Token → Bool
 text_passes p tokens = is_u32 (p.count + length (counted tokens)) && positions_fit p.start tokens
 
--- behind one more text
+-- after one more text
 abbrev pub advanced : Progress → List Token → Progress
 advanced p tokens = record { start = start_after p.start tokens; count = p.count + length (counted tokens) }
 
@@ -66,7 +66,7 @@ module _ (schema : Schema) (analyzer : Analyzer) where
   abbrev pub pair_passes : List Progress → ℕ × Tree → Bool
   pair_passes reached p = passes_at (tokens_at analyzer p.1 (slice_get schema p.0)) (slice_get reached p.0)
 
-  -- behind one more value
+  -- after one more value
   abbrev pub behind_pair : List Progress → ℕ × Tree → List Progress
   behind_pair reached p = advanced_at p.0 reached (tokens_at analyzer p.1 (slice_get schema p.0)) (slice_get reached p.0)
 
@@ -75,6 +75,6 @@ module _ (schema : Schema) (analyzer : Analyzer) where
   pairs_pass reached [] = true
   pairs_pass reached (p ∷ ps) = pair_passes reached p && pairs_pass (behind_pair reached p) ps
 
--- a text is that of a value which stands at a place
+-- a text is that of a value which is at a place
 abbrev pub IsTextOf : Schema → Analyzer → ℕ × Tree → ℕ → FieldText → Type 0
 IsTextOf schema analyzer p at text = (document : Document) → slice_get document at ≡ Some p → text_in document text ≡ text_of schema analyzer p

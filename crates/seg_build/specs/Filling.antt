@@ -39,7 +39,7 @@ AddsIndexed false found field old new = new ≡ old
 abbrev pub HoldsNorms : Schema → IndexedBatch → List ℕ → Type 0
 HoldsNorms schema batch file = (analyzer : Analyzer) (documents : List Document) → batch.norms ≡ Some (kept_norms schema analyzer documents) → composite file ≡ Some (norms_parts schema (all_norms schema analyzer documents))
 
--- a serializer was given what a batch has, and a row for each of so many documents
+-- a serializer was given what a batch has, and a row for each of this many documents
 pub record IsFilled (batch : IndexedBatch) (count : ℕ) (old new : Serializing) : Type 0 where
   pub segment : new.segment ≡ old.segment
   pub store : new.store ≡ old.store

@@ -5,7 +5,7 @@ use Rattle.seg_common.specs.declared.name.FileName.TheVariants.{Alive}
 use Rattle.seg_directory.specs.Files.{NamedFiles}
 use Rattle.seg_fastfield.specs.BitSets.{set_of}
 
--- the alive file of an id and a stamp is there, and its bytes tell of so many documents which are alive
+-- the alive file of an id and a stamp is there, and its bytes tell of this many documents which are alive
 pub record HoldsAlive (files : NamedFiles) (id stamp documents : ℕ) (alive : List Bool) : Type 0 where
   pub file : List ℕ
   pub there : get files (Alive id stamp) ≡ Some file

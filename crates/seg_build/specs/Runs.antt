@@ -4,7 +4,7 @@ use Rattle.seg_model.specs.Reading.{positions}
 use Rattle.seg_build.specs.declared.hits.Hit.{Hit}
 use Rattle.seg_build.specs.Grouped.{grouped}
 
--- the first n make the first posting, and the others those behind it
+-- the first n make the first posting, and the others those after it
 pub record IsFirstRun (hits : List Hit) (n : ℕ) : Type 0 where
   pub some : 0 < n
   pub within : n ≤ length hits

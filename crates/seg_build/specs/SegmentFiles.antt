@@ -48,7 +48,7 @@ pub record HasFiles (id : ℕ) (bytes : SegmentBytes) (files : NamedFiles) : Typ
 abbrev pub AreAbsent : List FileName → NamedFiles → Type 0
 AreAbsent names files = AllByRecursion (λ name. get files name ≡ None) names
 
--- none of these files is there, and no name stands twice
+-- none of these files is there, and no name comes twice
 abbrev pub AreNew : List FileName → NamedFiles → Type 0
 AreNew [] files = Unit {0}
 AreNew (name ∷ names) files = (get files name ≡ None) × AllByRecursion (λ other. other ≢ name) names × AreNew names files

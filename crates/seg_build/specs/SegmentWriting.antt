@@ -31,7 +31,7 @@ use Rattle.seg_build.specs.declared.writer_parts.WriterParts.{WriterParts}
 abbrev pub kept_of : WriterParts → Kept
 kept_of parts = record { fields = parts.fields.items; norms = parts.norms; store = parts.store; stamps = parts.stamps.items; occurrences = parts.occurrences }
 
--- the schema and the id of the segment, and what is kept of the documents added so far: nothing any more, once memory was lacking
+-- the schema and the id of the segment, and what is kept of the documents added so far: nothing any more, once out of memory
 pub record SegmentWriting : Type 0 where
   pub schema : Schema
   pub id : ℕ
@@ -65,7 +65,7 @@ pub record IsUnderWay (schema : Schema) (analyzer : Analyzer) (kept : Kept) : Ty
 abbrev pub Writes : Analyzer → List Document → List ℕ → SegmentWriting → Type 0
 Writes analyzer documents stamps writer = IsSomeAnd writer.kept (IsKeptOf writer.schema analyzer documents stamps)
 
--- how many documents a writer has; none any more, once memory was lacking
+-- how many documents a writer has; none any more, once out of memory
 abbrev pub document_count : Option Kept → ℕ
 document_count None = 0
 document_count (Some kept) = length kept.stamps
@@ -83,7 +83,7 @@ pub record IsOfSame (old new : SegmentWriting) : Type 0 where
   pub schema : new.schema ≡ old.schema
   pub id : new.id ≡ old.id
 
--- a document is added: it is behind the others
+-- a document is added: it comes after the others
 pub record Adds (analyzer : Analyzer) (document : Document) (stamp : ℕ) (old new : SegmentWriting) : Type 0 where
   pub place : IsSomeAnd old.kept HasPlace
   pub taken : is_taken old.schema analyzer document ≡ true
@@ -93,7 +93,7 @@ pub record Adds (analyzer : Analyzer) (document : Document) (stamp : ℕ) (old n
 abbrev pub Tells : Schema → Analyzer → Document → ℕ → TantivyError → Type 0
 Tells schema analyzer document stamp e = option_map (error_of stamp) (document_refusal schema analyzer document) ≡ Some e
 
--- a document is not added, for a cause; only where memory is lacking the writer is not as before
+-- a document is not added, for a cause; only when out of memory the writer is not as before
 abbrev pub AddsNone : Analyzer → Document → ℕ → SegmentWriting → SegmentWriting → TantivyError → Type 0
 AddsNone analyzer document stamp old new SystemError = (old.kept ≡ None) × (new ≡ old)
 AddsNone analyzer document stamp old new (InvalidArgument Documents) = IsSomeAnd old.kept IsFull × (new ≡ old)

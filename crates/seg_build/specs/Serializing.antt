@@ -9,7 +9,7 @@ use Rattle.seg_store.specs.Writing.{Taken, all_blocks}
 use Rattle.seg_build.specs.declared.segment_files.SegmentBytes.{SegmentBytes}
 use Rattle.seg_build.specs.SegmentFiles.{HasFiles}
 
--- the segment, and what its components have: parts of fields and stored documents, of which nothing is left once memory was lacking, the bytes of the columns, and those of the lengths where they were put
+-- the segment, and what its components have: parts of fields and stored documents, of which nothing is left once out of memory, the bytes of the columns, and those of the lengths where they were put
 pub record Serializing : Type 0 where
   pub segment : SegmentParts
   pub postings : Option FieldFiles
@@ -21,7 +21,7 @@ pub record Serializing : Type 0 where
 abbrev pub stored_only : SegmentParts → Option Taken → Serializing
 stored_only segment store = record { segment = segment; postings = Some no_fields; store = store; fast = []; norms = None }
 
--- nothing yet, with blocks that are closed once they have so many bytes
+-- nothing yet, with blocks that are closed once they have this many bytes
 abbrev pub unfilled : SegmentParts → ℕ → Serializing
 unfilled segment block_size = stored_only segment (Some (record { block_size = block_size; closed = []; open_block = [] }))
 

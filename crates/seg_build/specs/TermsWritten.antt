@@ -13,7 +13,7 @@ written kind e = record { bytes = e.0; kind = kind; postings = e.1 }
 abbrev pub with_terms : FieldTerms → FieldWriting → FieldWriting
 with_terms field w = record w { terms = map (written field.kind) field.terms; current = None }
 
--- a term came behind the others, with its postings, and none is open
+-- a term came after the others, with its postings, and none is open
 abbrev pub with_whole_term : RecordKind → List ℕ → List Posting → FieldWriting → FieldWriting
 with_whole_term kind bytes postings w = record w { terms = w.terms ++ written kind (bytes, postings) ∷ []; current = None }
 

@@ -28,7 +28,7 @@ start_refusal known budget schema settings =
 abbrev pub Tests : Known → (List ℕ → Type 0) → Type 0
 Tests known knows = (name : List ℕ) → IsTrue (known name) ↔ knows name
 
--- an error with which no writer is made: a cause, or want of memory
+-- an error with which no writer is made: a cause, or out of memory
 abbrev pub IsStartError : TantivyError → Type 0
 IsStartError (SchemaError cause) = Unit {0}
 IsStartError (InvalidArgument cause) = Unit {0}

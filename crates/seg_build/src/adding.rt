@@ -23,7 +23,7 @@ pub(crate) fn add_texts(
     Ok(())
 }
 
-/// Adds a text. Where its field or its value is not there, that is answered as memory that is lacking.
+/// Adds a text. Where its field or its value is not there, that is answered as out of memory.
 fn add_text(
     alloc: Global,
     id: u32,

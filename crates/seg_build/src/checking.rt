@@ -22,7 +22,7 @@ pub(crate) struct Progress {
     pub count: u32,
 }
 
-/// Behind one more text; none where it does not fit.
+/// After one more text; none where it does not fit.
 fn advanced(progress: Progress, tokens: &[Token]) -> Option<Progress>
     ensures passes { is_some result ≡ text_passes progress tokens.now }
     ensures behind { IfSome result (λ p. p ≡ advanced progress tokens.now) }
@@ -107,7 +107,7 @@ fn push_text(texts: &mut Vec<FieldText>, text: FieldText) -> Result<(), AllocErr
     Ok(())
 }
 
-/// A value of an indexed field as a text, where it fits behind those before. It stands at `at` in its document.
+/// A value of an indexed field as a text, where it fits after those before. It is at `at` in its document.
 fn passing_text<Z: Analyzers>(
     alloc: Global,
     analyzers: &Z,

@@ -30,7 +30,7 @@ impl FieldPostings {
         }
     }
 
-    /// Adds a text of a document that no other one is past. One that does not fit is answered as memory that is lacking.
+    /// Adds a text of a document that no other one is past. One that does not fit is answered as out of memory.
     /// After an error some of its tokens may have been added.
     pub fn add_text(
         &mut self,

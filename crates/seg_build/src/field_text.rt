@@ -7,7 +7,7 @@ ghost use Rattle.seg_build.specs.Checking.{cut_or_given};
 use seg_values::{Analyzers, OwnedValue, Token, Tokens};
 use std::alloc::{AllocError, Global};
 
-/// A value of a field, which stands at a place of its document, as a text.
+/// A value of a field, which is at a place of its document, as a text.
 #[derive(Drop)]
 pub(crate) struct FieldText {
     pub field: u32,

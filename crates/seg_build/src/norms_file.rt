@@ -47,7 +47,7 @@ fn add_fields(
 }
 
 /// Adds the ids of a field, and answers the lowest field that may follow. A field that is below `lowest`, or has no ids,
-/// is answered as memory that is lacking.
+/// is answered as out of memory.
 fn add_field(
     field: Field,
     lowest: u32,

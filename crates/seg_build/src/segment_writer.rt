@@ -32,7 +32,7 @@ use std::marker::Model;
 /// The most documents of a segment.
 const MAX_DOCUMENTS: usize = 0x7fff_ffff;
 
-/// Takes documents one by one, and makes the six files of their segment. Once memory was lacking it has nothing any more.
+/// Takes documents one by one, and makes the six files of their segment. Once out of memory it has nothing any more.
 #[derive(Drop)]
 pub struct SegmentWriter<'a, Z: Analyzers> {
     alloc: Global,
@@ -105,7 +105,7 @@ impl<'a, Z: Analyzers> SegmentWriter<'a, Z> {
         })
     }
 
-    /// How many documents it has; none any more, once memory was lacking.
+    /// How many documents it has; none any more, once out of memory.
     pub fn max_doc(&self) -> u32
         ensures { result ≡ document_count self.now.1.kept }
     {
@@ -123,7 +123,7 @@ impl<'a, Z: Analyzers> SegmentWriter<'a, Z> {
     }
 
     /// How much memory its documents take, by a formula: the bytes of the stored documents, 16 for each occurrence of a
-    /// term, and one for each document and field with lengths; at most `usize::MAX`. Nothing, once memory was lacking.
+    /// term, and one for each document and field with lengths; at most `usize::MAX`. Nothing, once out of memory.
     pub fn mem_usage(&self) -> usize
         ensures of { (documents : List Document) → (stamps : List ℕ) → Writes (Z.tokens_of self.now.0) documents stamps self.now.1
             → result ≡ saturated (memory_usage self.now.1.schema (Z.tokens_of self.now.0) documents) }
@@ -141,7 +141,7 @@ impl<'a, Z: Analyzers> SegmentWriter<'a, Z> {
         terms.saturating_add(lengths)
     }
 
-    /// Adds a document behind the others.
+    /// Adds a document after the others.
     pub fn add_document(&mut self, operation: AddOperation) -> TResult<()>
         ensures ok { OnOk result (Adds (Z.tokens_of self.old.0) operation.document operation.opstamp self.old.1 self.new.1) }
         ensures err { IfErr result (AddsNone (Z.tokens_of self.old.0) operation.document operation.opstamp self.old.1 self.new.1) }
@@ -152,7 +152,7 @@ impl<'a, Z: Analyzers> SegmentWriter<'a, Z> {
         self.add_ref(opstamp, &document)
     }
 
-    /// Adds a document behind the others. An error tells the stamp as the place of the document.
+    /// Adds a document after the others. An error tells the stamp as the place of the document.
     pub fn add_ref(&mut self, opstamp: Opstamp, document: &TantivyDocument) -> TResult<()>
         ensures ok { OnOk result (Adds (Z.tokens_of self.old.0) document.now opstamp self.old.1 self.new.1) }
         ensures err { IfErr result (AddsNone (Z.tokens_of self.old.0) document.now opstamp self.old.1 self.new.1) }

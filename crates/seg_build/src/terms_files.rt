@@ -15,7 +15,7 @@ use seg_values::{Field, FieldEntry, Schema};
 use std::alloc::Global;
 
 /// Adds the terms of all indexed fields to files that have no field yet. Fields that are too many for a file are answered
-/// as memory that is lacking.
+/// as out of memory.
 pub(crate) fn add_fields(
     alloc: Global,
     schema: &Schema,
@@ -55,7 +55,7 @@ fn add_field(
     write_field(alloc, fields, field, files)
 }
 
-/// The field at a place, where a file can have so many.
+/// The field at a place, where a file can have this many.
 fn field_at(at: usize) -> Result<Field, PostingsError>
     ensures is { IfOk result (λ f. f ≡ at) }
     ensures limit { IfOk result (λ f. f < 2 ^ 32 - 1) }

@@ -31,7 +31,7 @@ pub(crate) fn add_tokens(
     Ok(())
 }
 
-/// Where the next text begins, behind one that begins at `start`; none where the positions of that one fall, or the next
+/// Where the next text begins, after one that begins at `start`; none where the positions of that one fall, or the next
 /// one would begin past a u32.
 pub(crate) fn next_start(start: u32, tokens: &[Token]) -> Option<u32>
     ensures next { IfSome result (λ next. next ≡ start_after start tokens.now) }

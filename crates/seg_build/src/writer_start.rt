@@ -14,7 +14,7 @@ use seg_values::{Analyzers, ArgumentCause, Field, FieldEntry, Schema, SchemaCaus
 /// The fewest bytes of a budget.
 const LEAST_BUDGET: usize = 15_000;
 
-/// Why no writer is made, as far as it is not for want of memory.
+/// Why no writer is made, out of memory aside.
 pub(crate) fn start_refusal<Z: Analyzers>(
     analyzers: &Z,
     budget: usize,

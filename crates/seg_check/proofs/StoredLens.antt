@@ -28,7 +28,7 @@ array_begins ts n size many is = ap (λ k. 1 + k + length (tree_forms (trees_fro
 pub object_begins : (ms : List (List ℕ × Tree)) (n size : ℕ) → n ≡ length ms → size ≡ length (varint n) → 1 + size + length (member_forms (members_from ms)) ≡ length (tree_form (object (members_from ms)))
 object_begins ms n size many is = ap (λ k. 1 + k + length (member_forms (members_from ms))) is ∙ begins (member_forms (members_from ms)) 11 (member_count (members_from ms)) n (count_members ms ∙ sym many)
 
--- a sum that stands still tells of the whole
+-- a sum that stays at its end tells of the whole
 capped : (m a b c : ℕ) → min (min (a + min b m) m + c) m ≡ min (a + (b + c)) m
 capped m a b c = omega arith
 

@@ -1,4 +1,4 @@
--- How much texts take of what is limited, in numbers that stand still at the end of a u64.
+-- How much texts take of what is limited, in numbers that stay at the end of a u64.
 use Rattle.std.specs.Prelude.{ℕ, ◌+◌, ◌-◌, ◌^◌, min, List, Bool, Option, Some, None, if◌then◌else◌}
 use Rattle.std.specs.List.{list_all}
 use Rattle.seg_values.specs.declared.token.Token.{Token}

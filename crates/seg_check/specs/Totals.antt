@@ -6,7 +6,7 @@ use Rattle.seg_check.specs.Sizes.{saturated, size_of, plus}
 use Rattle.seg_check.specs.declared.size.TextSize.{TextSize}
 use Rattle.seg_check.specs.declared.totals.Totals.{Totals}
 
--- so many values, with these texts
+-- this many values, with these texts
 abbrev pub totals_of : ℕ → List (List Token) → Totals
 totals_of count texts = record { size = size_of texts; count = saturated count }
 
@@ -14,7 +14,7 @@ totals_of count texts = record { size = size_of texts; count = saturated count }
 abbrev pub no_totals : Totals
 no_totals = totals_of 0 []
 
--- behind one more value
+-- after one more value
 abbrev pub with_more : Totals → TextSize → Totals
 with_more t size = record { size = plus t.size size; count = saturated (t.count + 1) }
 

@@ -63,7 +63,7 @@ fn push_leaves<'a>(
     Ok(())
 }
 
-/// Adds a key to a joined path: behind a byte 1, but at a root.
+/// Adds a key to a joined path: after a byte 1, but at a root.
 fn push_key(
     path: &mut Vec<u8>,
     expand_dots: bool,

@@ -23,7 +23,7 @@ pub(crate) fn are_shallow(document: &TantivyDocument) -> bool
     true
 }
 
-/// Whether a value has at most so many levels.
+/// Whether a value has at most this many levels.
 fn is_within(value: &OwnedValue, most: u32) -> bool
     ensures { result ≡ nat_le (levels (tree_of value.now)) most }
 {

@@ -1,7 +1,7 @@
 //! The check that a document passes before it is indexed.
 //!
 //! Four passes go over the pairs of the document, and the first that finds something answers. Each text is cut into its
-//! tokens once, in the third pass, which also tells the fourth what came in each field; numbers there stand still at the
+//! tokens once, in the third pass, which also tells the fourth what came in each field; numbers there stay at the
 //! end of a `u64`, so that none is past it.
 //!
 //! To be read in this order: `refusal` and `entry`; `kinds` and `fields` (the first pass); `json` (the second); `size`,

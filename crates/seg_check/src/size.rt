@@ -9,7 +9,7 @@ use seg_values::Token;
 /// The most bytes of a token that is looked at.
 const MAX_TOKEN: usize = 65530;
 
-/// How much some texts take of what is limited. Each number stands still at its type's end.
+/// How much some texts take of what is limited. Each number stays at its type's end.
 #[derive(Clone, Copy)]
 pub(crate) struct TextSize {
     /// How far the running start goes.

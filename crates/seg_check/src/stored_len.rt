@@ -46,7 +46,7 @@ fn pair_len(field: Field, value: &OwnedValue) -> u64
     number_len(u64::from(field.field_id())).saturating_add(stored_value_len(value))
 }
 
-/// Of a value at the top of a document, where a pre-tokenized text stands as its text.
+/// Of a value at the top of a document, where a pre-tokenized text is kept as its text.
 fn stored_value_len(value: &OwnedValue) -> u64
     ensures { result ≡ saturated (length (stored.tree_form (stored_value (tree_of value.now)))) }
 {
@@ -117,14 +117,14 @@ fn token_len(token: &Token) -> u64
     (offsets + position + position_length).saturating_add(sized_len(token.text.len()))
 }
 
-/// Of a tag, and bytes behind their number.
+/// Of a tag, and bytes after their number.
 fn tagged_len(len: usize) -> u64
     ensures { result ≡ saturated (1 + (length (varint len) + len)) }
 {
     sized_len(len).saturating_add(1)
 }
 
-/// Of bytes behind their number.
+/// Of bytes after their number.
 fn sized_len(len: usize) -> u64
     ensures { result ≡ saturated (length (varint len) + len) }
 {

@@ -5,7 +5,7 @@ ghost use Rattle.seg_check.specs.Totals.{no_totals, with_more, totals_fit};
 
 use crate::size::TextSize;
 
-/// How many values came, and the size of their texts. The number stands still at its type's end.
+/// How many values came, and the size of their texts. The number stays at its type's end.
 #[derive(Clone, Copy)]
 pub(crate) struct Totals {
     pub size: TextSize,
@@ -23,7 +23,7 @@ impl Totals {
         }
     }
 
-    /// Behind one more value, whose texts have this size.
+    /// After one more value, whose texts have this size.
     pub fn with(self, size: TextSize) -> Totals
         ensures { result ≡ with_more self size }
     {

@@ -6,7 +6,7 @@ use thiserror::Error;
 /// Why a call on columns fails.
 #[derive(Clone, Copy, Debug, PartialEq, Eq, Error)]
 pub enum ColumnError {
-    /// Values of several types would stand in one column.
+    /// Values of several types would be in one column.
     #[error("values of several types in one column")]
     Mixed,
     /// The bytes are no file of columns.

@@ -18,7 +18,7 @@ impl ColumnarWriter {
         ColumnarWriter { alloc }
     }
 
-    /// The bytes of the file, for so many documents, each of which is a row.
+    /// The bytes of the file, for this many documents, each of which is a row.
     pub fn serialize(self, num_docs: u32) -> Result<Vec<u8>, ColumnError>
         ensures ok { IfOk result (λ bytes. rows_of bytes.items ≡ Some num_docs) }
         ensures err { IfErr result (λ e. e ≡ ColumnError.OutOfMemory) }

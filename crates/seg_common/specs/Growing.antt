@@ -1,4 +1,4 @@
--- What is kept by a writer that grows: all that it was given, or nothing any more, once memory was lacking.
+-- What is kept by a writer that grows: all that it was given, or nothing any more, once out of memory.
 use Rattle.std.specs.Prelude.{◌≡◌, Option, Some, None}
 
 -- what was kept has grown: a call is Ok only so

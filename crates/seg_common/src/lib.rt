@@ -1,4 +1,4 @@
-//! What every crate stands on: moments, the types of columns, the ids of segments and the names of files, numbers in
+//! What every crate uses: moments, the types of columns, the ids of segments and the names of files, numbers in
 //! bytes, shared bytes, and the outside of a program, its sources and sinks of bytes.
 //!
 //! A source is seen as the bytes that it has left, and a sink as the bytes that it took, each where it tells them,

@@ -76,7 +76,7 @@ pub fn read_varint(bytes: &[u8]) -> Option<(u64, usize)>
     None
 }
 
-/// Adds the bytes of a number; some first ones of them where memory is lacking.
+/// Adds the bytes of a number; some first ones of them when out of memory.
 fn push_varint(out: &mut Vec<u8>, number: u64) -> Result<(), AllocError>
     ensures ok { OnOk result (out.new.items ≡ out.old.items ++ varint number) }
     ensures begins { take (length out.old.items) out.new.items ≡ out.old.items }

@@ -17,7 +17,7 @@ module _ {T : Type 0} (target : ℕ) (initial : Queue T) (start : ℕ) (queue as
   behind : (b : Bool) → b ≡ is_behind target (slice_get queue.operations position) → is_behind target (slice_get initial.operations position) ≡ b
   behind b is = ap (λ os. is_behind target (slice_get os position)) (sym so_far.operations) ∙ sym is
 
-  -- it passes an operation that is behind
+  -- it passes an operation below the target
   pub skips : (passed : Queue T) (next : ℕ) → true ≡ is_behind target (slice_get queue.operations position) → next ≡ min (position + 1) (length asked.operations) → passed ≡ flushed_at position asked → next ≤ passed.flushed → asked.flushed ≤ passed.flushed → IsSkipping target initial start passed next
   skips passed next is moved left within rises =
       let more = skipped-next target initial.operations position (behind true is) in

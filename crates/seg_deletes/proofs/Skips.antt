@@ -18,7 +18,7 @@ not_below : (n m : ℕ) → nat_lt n m ≡ false → m ≤ n
 not_below n m is = grind (arith, nat_tests)
 
 module _ {T : Type 0} (target : ℕ) (operations : List (DeleteOperation T)) (position : ℕ) where
-  -- an operation that is behind is passed
+  -- an operation below the target is passed
   pub skipped-next : is_behind target (slice_get operations position) ≡ true → (skipped target operations (position + 1) ≡ skipped target operations position) × (position < length operations)
   skipped-next is = elim (slice_get_cases operations position).1 [
     | inl w ↦ let passes : is_below target w.0 ≡ true = sym (ap (λ o. option_map_or (is_below target) o false) w.2) ∙ is in

@@ -10,7 +10,7 @@ pub record Queue (T : Type 0) : Type 0 where
   pub flushed : ℕ
 
 module _ {T : Type 0} where
-  -- the same operations, all of them flushed where the position is behind the flushed ones, else as many as before
+  -- the same operations, all of them flushed where the position is past the flushed ones, else as many as before
   abbrev pub flushed_at : ℕ → Queue T → Queue T
   flushed_at position queue = record {
     operations = queue.operations;
@@ -25,7 +25,7 @@ module _ {T : Type 0} where
   abbrev pub is_behind : ℕ → Option (DeleteOperation T) → Bool
   is_behind target operation = option_map_or (is_below target) operation false
 
-  -- the position behind all operations in a row, from a position on, whose stamps are below the target
+  -- the position after all operations in a row, from a position on, whose stamps are below the target
   abbrev pub skipped : ℕ → List (DeleteOperation T) → ℕ → ℕ
   skipped target operations position = position + prefix_len (is_below target) (drop position operations)
 

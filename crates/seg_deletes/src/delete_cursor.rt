@@ -8,7 +8,7 @@ use crate::delete_queue::DeleteQueue;
 use crate::operation::{DeleteOperation, Opstamp};
 use std::marker::Model;
 
-/// Goes over the operations of a queue, by itself: a copy stands at the same operation, and goes on alone.
+/// Goes over the operations of a queue, by itself: a copy is at the same operation, and goes on alone.
 ///
 /// Its calls take the queue that it is of.
 #[derive(Clone, Copy)]
@@ -39,7 +39,7 @@ impl DeleteCursor {
         self.position
     }
 
-    /// The operation where the cursor stands; none at the end.
+    /// The operation where the cursor is; none at the end.
     ///
     /// `DeleteQueue::get` does the same. A caller whose proof goes on with the queue takes that: what becomes of a
     /// queue of which something is lent, a proof learns only where the queue is the first parameter.

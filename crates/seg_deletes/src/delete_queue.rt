@@ -49,7 +49,7 @@ impl<T> DeleteQueue<T> {
         DeleteCursor::at(self.flushed)
     }
 
-    /// The operation where a cursor stands; none at the end.
+    /// The operation where a cursor is; none at the end.
     pub fn get(&mut self, cursor: &DeleteCursor) -> Option<&DeleteOperation<T>>
         requires { cursor.now ≤ self.old.flushed }
         ensures operation { option_copied result ≡ slice_get self.old.operations cursor.now }

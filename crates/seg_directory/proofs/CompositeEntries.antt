@@ -56,7 +56,7 @@ later_entry count table (suc place) total start end good h above s e =
 
 -- ---- where a field is found
 
--- the field of an entry behind the first
+-- the field of an entry after the first
 later_field : (table : List ℕ) (place : ℕ) → u32_at (drop 12 table) (12 * place) ≡ u32_at table (12 * suc place)
 later_field table place =
     let e : 12 + 12 * place ≡ 12 * suc place = omega arith in

@@ -21,12 +21,12 @@ goes_on goes breaks starved (step ∷ xs) ys x r a b c first next = elim first [
   | inr h ↦ absurd h
 ]
 
--- steps behind steps that all went well
+-- steps after steps that all went well
 pub then_does : {S Step T U E : Type 0} {goes : Step → S → S → Type 0} {breaks : Step → E → S → S → Type 0} {starved : E} {xs ys : List Step} {x : T} {r : Result U E} {a b c : S}
     → Does goes breaks starved xs (Ok x) a b → Does goes breaks starved ys r b c → Does goes breaks starved (xs ++ ys) r a c
 then_does first next = record { on = goes_on _ _ _ _ _ _ _ _ _ _ first.on next.on }
 
--- no step, for want of memory
+-- no step, when out of memory
 starves : {S Step E : Type 0} (goes : Step → S → S → Type 0) (breaks : Step → E → S → S → Type 0) (starved : E) (U : Type 0) (ys : List Step) (a b : S)
     → b ≡ a → GoesOn {T = U} goes breaks starved ys (Err starved) a b
 starves goes breaks starved U [] a b same = (same, refl)
@@ -45,7 +45,7 @@ pub stops : {S Step T U E : Type 0} {goes : Step → S → S → Type 0} {breaks
     → Does {T = T} goes breaks starved xs (Err e) a b → Does {T = U} goes breaks starved (xs ++ ys) (Err e) a b
 stops ys first = record { on = stops_early _ _ _ _ _ _ ys _ _ _ first.on }
 
--- nothing, for want of memory
+-- nothing, when out of memory
 pub does_nothing : {S Step T E : Type 0} {goes : Step → S → S → Type 0} {breaks : Step → E → S → S → Type 0} {starved : E} (steps : List Step) {a : S}
     → Does {T = T} goes breaks starved steps (Err starved) a a
 does_nothing steps = record { on = starves _ _ _ _ steps _ _ refl }
@@ -69,7 +69,7 @@ stops_at ys (Ok x) is first = absurd is
 stops_at {U = U} {goes = goes} {breaks = breaks} {starved = starved} {xs = xs} ys (Err d) {a = a} {b = b} is first =
     subst (λ e. Does {T = U} goes breaks starved (xs ++ ys) (Err e) a b) (sym is) (stops ys first)
 
--- want of memory at the exit of a `?`
+-- out of memory at the exit of a `?`
 pub starves_at : {S Step U E : Type 0} {goes : Step → S → S → Type 0} {breaks : Step → E → S → S → Type 0} {starved : E} (steps : List Step) (r : Result U E) {a : S}
     → IsErrAnd r (λ d. d ≡ starved) → Does {T = U} goes breaks starved steps r a a
 starves_at steps (Ok x) is = absurd is
@@ -88,7 +88,7 @@ for_at x (Ok y) is d = absurd is
 for_at {T = T} {goes = goes} {breaks = breaks} {starved = starved} {steps = steps} x (Err f) {a = a} {b = b} is d =
     subst (λ e. DoesFor {T = T} goes breaks starved steps (Err e) a b) (sym is) (record { does = (x, d) })
 
--- such steps behind steps that all went well, where the last result is handed on
+-- such steps after steps that all went well, where the last result is handed on
 pub then_for : {S Step T U E : Type 0} {goes : Step → S → S → Type 0} {breaks : Step → E → S → S → Type 0} {starved : E} {xs : List Step} {steps : T → List Step} {y : U} (r : Result T E) {a b c : S}
     → Does goes breaks starved xs (Ok y) a b → DoesFor goes breaks starved steps r b c → DoesFor goes breaks starved (λ x. xs ++ steps x) r a c
 then_for (Ok x) first next = record { does = then_does first next.does }

@@ -2,7 +2,7 @@
 use Rattle.std.specs.Prelude.{◌≡◌, ℕ, ◌*◌, ◌<◌, ◌^◌, List, true, length}
 use Rattle.seg_directory.specs.Composite.{entries_of, are_entries}
 
--- the table of a body, with so many entries
+-- the table of a body, with this many entries
 pub record IsWritten (body table : List ℕ) (count : ℕ) : Type 0 where
   pub small : count < 2 ^ 32
   pub room : length table ≡ 12 * count

@@ -1,4 +1,4 @@
-//! The calls of a directory, with the errors of an index. All that stands above calls a directory by these alone.
+//! The calls of a directory, with the errors of an index. All crates above call a directory by these alone.
 ghost use Rattle.std.specs.Prelude.{[], ◌∷◌, ◌≡◌, ◌++◌, ◌⊎◌, IsTrue, IfOk, IfErr};
 ghost use Rattle.std.specs.FinMap.{get, len};
 ghost use Rattle.seg_directory.specs.CallAnswers.{seen_listing, seen_reading, seen_writing, seen_rewriting, seen_syncing, ReadsFile, WritesFile};

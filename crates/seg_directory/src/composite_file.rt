@@ -56,7 +56,7 @@ impl CompositeFile {
         }
     }
 
-    /// The part at a place, behind its field. Parts stand in the order of their fields.
+    /// The part at a place, after its field. Parts are in the order of their fields.
     pub fn part(&self, place: u32) -> (Field, OwnedBytes)
         requires { place < length self.now }
         ensures { slice_get self.now place ≡ Some result }
@@ -105,7 +105,7 @@ fn checked_count(bytes: &[u8]) -> Option<u32>
     }
 }
 
-/// Whether the fields of so many entries ascend, their ends never fall, and the last is the total.
+/// Whether the fields of this many entries ascend, their ends never fall, and the last is the total.
 fn is_table(table: &[u8], count: u32, total: usize) -> bool
     requires { 12 * count ≤ length table.now }
     ensures { result ≡ are_entries 0 0 total (entries_of count table.now) }
@@ -161,7 +161,7 @@ fn find_entry(table: &[u8], count: u32, total: usize, field: u32) -> Option<(usi
     Some(entry_range(table, count, total, place))
 }
 
-/// The first of so many entries whose field isn't below a field, or their number.
+/// The first of this many entries whose field isn't below a field, or their number.
 fn first_not_below(table: &[u8], count: u32, field: u32) -> u32
     requires { 12 * count ≤ length table.now }
     ensures within { result ≤ count }

@@ -9,7 +9,7 @@ use seg_values::Field;
 use std::alloc::Global;
 use std::marker::Model;
 
-/// Writes a composite file part by part. Once memory was lacking it answers so for good, and it is seen as nothing.
+/// Writes a composite file part by part. Once out of memory it answers so for good, and it is seen as nothing.
 #[derive(Drop)]
 pub struct CompositeWriter {
     parts: Option<WrittenParts>,

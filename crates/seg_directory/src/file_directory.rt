@@ -139,7 +139,7 @@ fn owned(alloc: Global, bytes: Vec<u8>) -> Result<OwnedBytes, AllocError>
     }
 }
 
-/// Notes an error of the system: a fault, unless it is want of memory.
+/// Notes an error of the system: a fault, unless it is out of memory.
 fn failure(log: &mut AnswerLog, kind: CallKind, error: ErrorKind) -> DirectoryError
     requires { 0 < log.old.room }
     ensures seen { log.new.kept.answers ≡ log.old.kept.answers ++ noted_failure kind result }

@@ -6,7 +6,7 @@
 //! the first that breaks off (`Works`). A composite file is seen as its parts, each a field and bytes.
 //!
 //! To be read in this order: `error`, `answer`, `directory`; `answer_log`; `failing_call`, `call_counts`, `call_record`,
-//! `stored_files`, `memory_directory`; `folder`, `file_directory`; `call_error`, `calls`, by which all that stands above calls a
+//! `stored_files`, `memory_directory`; `folder`, `file_directory`; `call_error`, `calls`, by which all crates above call a
 //! directory; `composite_file`, `composite_law`, `written_parts`, `composite_writer`.
 #![tactic(auto)]
 

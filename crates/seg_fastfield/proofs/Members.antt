@@ -16,7 +16,7 @@ use Rattle.std.proofs.Math.Seq.{take-set-lt}
 use Rattle.seg_fastfield.specs.BitSets.{words_for, word_bits, bits_of, members, is_clear_from, member_count, numbers_from}
 use Rattle.seg_fastfield.proofs.Bits.{has, length-word_bits, get_or-word_bits, length-bits_of, get_or-bits_of}
 
--- ---- the bits behind the last number
+-- ---- the bits after the last number
 
 none_at : (bs : List Bool) (k : ℕ) → list_all not bs ≡ true → get_or bs k false ≡ false
 none_at [] k h = refl
@@ -143,7 +143,7 @@ none_counted [] h = refl
 none_counted (true ∷ bs) h = absurd (false≢true h)
 none_counted (false ∷ bs) h = omega (arith, sum_by-cons (λ b. cond b 1 0) false bs, none_counted bs h)
 
--- the bits behind the last number count nothing
+-- the bits after the last number count nothing
 pub count-members : (size : ℕ) (words : List ℕ) → is_clear_from size words ≡ true → member_count (members size words) ≡ member_count (bits_of words)
 count-members size words clear =
     omega (arith, ap member_count (take-append-drop size (bits_of words)), sum_by-append (λ b. cond b 1 0) (take size (bits_of words)) (drop size (bits_of words)), none_counted (drop size (bits_of words)) clear)
@@ -175,6 +175,6 @@ take_one marks at here = elim (cases_lt at (length marks)) [
   | inr past ↦ absurd (false≢true (sym (get_or_past marks at false past) ∙ here))
 ]
 
--- behind the last number nothing comes
+-- after the last number nothing comes
 pub no_more : (marks : List Bool) (at : ℕ) → length marks ≤ at → numbers_from at (drop at marks) ≡ []
 no_more marks at past = ap (numbers_from at) (drop_all at marks past)

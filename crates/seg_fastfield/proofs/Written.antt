@@ -13,7 +13,7 @@ use Rattle.seg_common.proofs.Known.{Appends-append}
 use Rattle.seg_fastfield.specs.BitSets.{words_for, members, is_clear_from, words_of, is_bit_set, set_in, set_of}
 use Rattle.seg_fastfield.proofs.Spelled.{length-words_of, get_or-words_of, is_set, reads_some}
 
--- a size, and words behind it
+-- a size, and words after it
 abbrev pub spelled : ℕ → List ℕ → List ℕ
 spelled size words = to_le_bytes w32 size ++ flat_map (to_le_bytes w64) words
 

@@ -1,4 +1,4 @@
--- Sets of the numbers below a size: for each number whether it is in. In bytes: the size in four bytes, and a bit for each number, the lowest first, 64 in a word of eight bytes; the bits behind the last number are 0, and nothing follows.
+-- Sets of the numbers below a size: for each number whether it is in. In bytes: the size in four bytes, and a bit for each number, the lowest first, 64 in a word of eight bytes; the bits after the last number are 0, and nothing follows.
 use Rattle.std.specs.Prelude.{ℕ, ◌+◌, ◌*◌, ◌≡◌, ◌==◌, ◌&&◌, if◌then◌else◌, ◌^◌, ◌<◌, List, Bool, true, not, length, take, drop, get_or, map, Option, Some, None}
 use Rattle.std.specs.Int.{bit_at, div_ceil}
 use Rattle.std.specs.List.{flat_map, list_all, range_with_len, count_by}
@@ -7,7 +7,7 @@ use Rattle.seg_common.specs.LittleEndian.{u32_at, u64_at}
 use Rattle.seg_common.specs.Streams.{AppendsPart}
 use Rattle.seg_model.specs.Operations.{kept}
 
--- how many words hold so many bits
+-- how many words hold this many bits
 abbrev pub words_for : ℕ → ℕ
 words_for size = div_ceil size 64
 
@@ -23,7 +23,7 @@ bits_of words = flat_map word_bits words
 abbrev pub members : ℕ → List ℕ → List Bool
 members size words = take size (bits_of words)
 
--- whether no bit is set behind the last number
+-- whether no bit is set after the last number
 abbrev pub is_clear_from : ℕ → List ℕ → Bool
 is_clear_from size words = list_all not (drop size (bits_of words))
 
@@ -31,7 +31,7 @@ is_clear_from size words = list_all not (drop size (bits_of words))
 abbrev pub member_count : List Bool → ℕ
 member_count set = count_by (λ b. b) set
 
--- words keep a set with its count: as many words as its size needs, and no bit set behind its last number
+-- words keep a set with its count: as many words as its size needs, and no bit set after its last number
 pub record KeepsSet (size : ℕ) (words : List ℕ) (count : ℕ) : Type 0 where
   pub small : size < 2 ^ 32
   pub enough : length words ≡ words_for size
@@ -42,7 +42,7 @@ pub record KeepsSet (size : ℕ) (words : List ℕ) (count : ℕ) : Type 0 where
 abbrev pub numbers_from : ℕ → List Bool → List ℕ
 numbers_from n set = kept set (range_with_len n (length set))
 
--- the words behind the size
+-- the words after the size
 unfoldable pub words_of : List ℕ → List ℕ
 words_of bytes = map (λ i. u64_at bytes (4 + 8 * i)) (range_with_len 0 (words_for (u32_at bytes 0)))
 

@@ -33,7 +33,7 @@ impl Model for ReadOnlyBitSet {
 
 impl ReadOnlyBitSet {
     /// Checks the bytes, and takes no memory. `Malformed`: they are not of the length that their size says, or a bit is
-    /// set behind the last number.
+    /// set after the last number.
     pub fn open(bytes: OwnedBytes) -> Result<ReadOnlyBitSet, CommonError>
         ensures ok { IfOk result (λ set. set_of bytes ≡ Some set) }
         ensures malformed { IfErr result (λ e. (e ≡ Malformed) × (set_of bytes ≡ None)) }

@@ -1,4 +1,4 @@
-//! The words of a set in bytes, behind the four bytes of its size.
+//! The words of a set in bytes, after the four bytes of its size.
 ghost use Rattle.std.specs.Prelude.{◌≡◌, ◌≤◌, ◌<◌, ◌+◌, ◌*◌, ◌^◌, ℕ, Some, None, true, false, length, drop, get_or, MatchOption};
 ghost use Rattle.seg_common.specs.LittleEndian as little_endian;
 ghost use Rattle.seg_fastfield.specs.BitSets as spec;
@@ -11,14 +11,14 @@ pub(crate) const SIZE: usize = 4;
 /// The bytes of a word.
 pub(crate) const WORD: usize = 8;
 
-/// How many words hold so many bits.
+/// How many words hold this many bits.
 pub(crate) fn num_words(max_value: u32) -> usize
     ensures { result ≡ spec.words_for max_value }
 {
     max_value.div_ceil(64) as usize
 }
 
-/// The word of so many words before it.
+/// The word that has this many before it.
 pub(crate) fn word_at(bytes: &[u8], at: usize) -> u64
     requires length { length bytes.now ≡ 4 + 8 * spec.words_for (little_endian.u32_at bytes.now 0) }
     requires within { at < spec.words_for (little_endian.u32_at bytes.now 0) }
@@ -27,7 +27,7 @@ pub(crate) fn word_at(bytes: &[u8], at: usize) -> u64
     u64_at(bytes, SIZE + WORD * at)
 }
 
-/// Whether no bit is set behind the last number.
+/// Whether no bit is set after the last number.
 fn is_clear(bytes: &[u8], max_value: u32) -> bool
     requires size { max_value ≡ little_endian.u32_at bytes.now 0 }
     requires length { length bytes.now ≡ 4 + 8 * spec.words_for max_value }

@@ -8,7 +8,7 @@ ghost use Rattle.seg_common.specs.Streams.{StaysTold, AppendsPart};
 
 use seg_common::{Sink, SinkFailed, write_whole};
 
-/// Writes a size, and the words behind it.
+/// Writes a size, and the words after it.
 pub(crate) fn write_set<K: Sink>(
     writer: &mut K,
     max_value: u32,

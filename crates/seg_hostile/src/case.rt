@@ -26,7 +26,7 @@ struct File {
     bytes: Vec<u8>,
 }
 
-/// Prints the case of a line of the index, if one stands there: its reader, its name, and the extensions of its files.
+/// Prints the case of a line of the index, if one is there: its reader, its name, and the extensions of its files.
 pub fn push_case<R: Files + AllocGlobal>(rt: &R, text: &mut String, line: &str) -> Result<()> {
     let mut words = before_comment(line).split_whitespace();
     let Some(reader) = words.next() else {

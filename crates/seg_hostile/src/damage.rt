@@ -5,11 +5,11 @@ use std::alloc::{AllocError, Global};
 /// What is done to bytes, at a place.
 #[derive(Clone, Copy)]
 pub enum Damage {
-    /// What stands from the place on is gone.
+    /// What is from the place on is gone.
     Cut,
     /// These bits of the byte are flipped.
     Flipped(u8),
-    /// A byte 0 stands at the end.
+    /// A byte 0 is at the end.
     Longer,
 }
 
@@ -21,7 +21,7 @@ pub const DAMAGES: &[(&str, Damage)] = &[
 ];
 
 impl Damage {
-    /// How many places there are in so many bytes.
+    /// How many places there are in this many bytes.
     pub fn places(self, length: usize) -> usize {
         match self {
             Damage::Cut | Damage::Flipped(_) => length,

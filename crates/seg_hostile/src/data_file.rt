@@ -5,7 +5,7 @@ use std::alloc::Global;
 use std::fs;
 use std::rt::Files;
 
-/// The bytes of a file: JSON as it stands there, any other as hexadecimal digits.
+/// The bytes of a file: JSON as it is there, any other as hexadecimal digits.
 pub fn read<R: Files + AllocGlobal>(rt: &R, name: &str, extension: &str) -> Result<Vec<u8>> {
     let path = format!(in rt.alloc(); "{name}.{extension}")?;
     if extension == "json" {
@@ -24,7 +24,7 @@ fn from_hex(alloc: Global, text: &str) -> Result<Vec<u8>> {
     Ok(bytes)
 }
 
-/// What stands on a line before a number sign.
+/// What uses a line before a number sign.
 pub fn before_comment(line: &str) -> &str {
     match line.split_once('#') {
         Some((front, _)) => front,

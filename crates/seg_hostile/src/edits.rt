@@ -8,7 +8,7 @@ use std::alloc::Global;
 use std::fs;
 use std::rt::Files;
 
-/// Prints how many edits of the meta of a name are refused. Each stands on a line: the old piece, ` =>`, and the new one.
+/// Prints how many edits of the meta of a name are refused. Each uses a line: the old piece, ` =>`, and the new one.
 pub fn push_edits<R: Files + AllocGlobal>(rt: &R, text: &mut String, name: &str) -> Result<()> {
     let alloc = rt.alloc();
     let meta = fs::read_to_string(rt, format!(in alloc; "{name}.json")?)?;

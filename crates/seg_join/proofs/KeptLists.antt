@@ -22,7 +22,7 @@ kept_first [] xs = refl
 kept_first (b ∷ bs) [] = sym (kept_of_none bs [] refl)
 kept_first (b ∷ bs) (x ∷ xs) = first_by b x (kept bs xs)
 
--- from a place on: what is at the place, and then what is behind it
+-- from a place on: what is at the place, and then what is after it
 pub kept_next : {X : Type 0} (marks : List Bool) (xs : List X) (i : ℕ) → kept (drop i marks) (drop i xs) ≡ kept (take 1 (drop i marks)) (take 1 (drop i xs)) ++ kept (drop (i + 1) marks) (drop (i + 1) xs)
 kept_next marks xs i =
     kept_first (drop i marks) (drop i xs)
@@ -62,6 +62,6 @@ marked_counted (b ∷ bs) [] i lt alive = absurd (omega (arith, lt))
 marked_counted (b ∷ bs) (y ∷ ys) zero lt alive = ap (λ c. length (cond c (y ∷ []) [])) alive
 marked_counted (b ∷ bs) (y ∷ ys) (suc i) lt alive = marked_counted bs ys i (omega (arith, lt)) alive
 
--- behind the last place nothing is kept
+-- after the last place nothing is kept
 pub kept_past : {X : Type 0} (marks : List Bool) (xs : List X) (i : ℕ) → length xs ≤ i → kept (drop i marks) (drop i xs) ≡ []
 kept_past marks xs i past = kept_of_none (drop i marks) (drop i xs) (drop_all i xs past)

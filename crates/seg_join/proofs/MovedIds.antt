@@ -23,7 +23,7 @@ module _ (option : IndexOption) where
       let later = recorded_before d (p.document + 1) last ps (omega arith) h.3 in
       grind (arith, nat_tests)
 
-  -- behind it, it plays no part
+  -- after it, it plays no part
   recorded_past : (d n : ℕ) (p : Posting) (ps : List Posting) → p.document < d → all_recorded d n (p ∷ ps) ≡ all_recorded d n ps
   recorded_past d zero p ps lt = refl
   recorded_past d (suc n) p ps lt =

@@ -26,7 +26,7 @@ low_after-last : (low : ℕ) (parts : List Part) (p : Part) → low_after low (p
 low_after-last low [] p = refl
 low_after-last low (q ∷ parts) p = low_after-last (q.0 + 1) parts p
 
--- the fields that are left ascend, behind those that are done
+-- the fields that are left ascend, after those that are done
 first_ascends : (low : ℕ) (fs : List ℕ) (i f : ℕ) → i < length fs → f ≡ get_or fs i f → AscendFrom low (drop i fs) → AscendFrom low (f ∷ drop (i + 1) fs)
 first_ascends low fs i f lt is ascend = subst (AscendFrom low) (drop_more fs i f lt ∙ ap (λ g. g ∷ drop (i + 1) fs) (sym is)) ascend
 

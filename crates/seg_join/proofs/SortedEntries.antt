@@ -51,7 +51,7 @@ module _ {X : Type 0} where
   below_there k [] e left h = less_of (key_cmp k e.0) (both_true (is_lt (key_cmp k e.0)) (below_all key_cmp k left) h).0
   below_there k (p ∷ passed) e left h = below_there k passed e left (both_true (is_lt (key_cmp k p.0)) (below_all key_cmp k (passed ++ e ∷ left)) h).1
 
-  -- the first of some entries comes before those behind it
+  -- the first of some entries comes before those after it
   pub first_below : (p : List ℕ × X) (passed : List (List ℕ × X)) (e : List ℕ × X) (left : List (List ℕ × X)) → is_sorted key_cmp (p ∷ (passed ++ e ∷ left)) ≡ true → key_cmp p.0 e.0 ≡ Less
   first_below p passed e left up = below_there p.0 passed e left (both_true (below_all key_cmp p.0 (passed ++ e ∷ left)) (is_sorted key_cmp (passed ++ e ∷ left)) up).0
 
@@ -77,7 +77,7 @@ module _ {X Y : Type 0} (f : List ℕ → Option X) where
       by None less rest = rest
       by (Some x) less rest = true_both less rest
 
-  -- what stands at some of sorted keys is sorted
+  -- what is at some of sorted keys is sorted
   pub some_sorted : (es : List (List ℕ × Y)) → is_sorted key_cmp es ≡ true → is_sorted key_cmp (flat_map (λ k. entry_of k (f k)) (map (λ (e : List ℕ × Y). e.0) es)) ≡ true
   some_sorted [] h = refl
   some_sorted (e ∷ es) h = let p = both_true (below_all key_cmp e.0 es) (is_sorted key_cmp es) h in by (f e.0) (some_below e.0 es p.0) (some_sorted es p.1)

@@ -82,7 +82,7 @@ module _ (ids : List (Option ℕ)) where
   current_under None left = []
   current_under (Some id) left = map (under id) (take 1 left)
 
-  -- what is left, by the current one and those behind it
+  -- what is left, by the current one and those after it
   pub moved_next : (left : List Posting) → moved ids left ≡ moved ids (take 1 left) ++ moved ids (drop 1 left)
   moved_next [] = refl
   moved_next (p ∷ ps) = ap (λ l. l ++ moved ids ps) (sym (append-nil (moved_one p)))

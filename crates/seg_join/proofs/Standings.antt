@@ -1,4 +1,4 @@
--- Where a key stands in segments, and the postings that it has there.
+-- Where a key is in segments, and the postings that it has there.
 use Rattle.std.proofs.Common.{◌≡◌, ℕ, zero, suc, ◌+◌, ◌<◌, ◌≤◌, Bool, true, false, cond, ◌&&◌, List, [], ◌∷◌, ◌++◌, map, length, take, drop, get_or, Some, None, Option, sym, refl, ap, ◌∙◌, subst, arith, append_assoc, length-append, inl, inr, ◌⊎◌}
 use Rattle.std.specs.Prelude.{IsSomeAnd, option_map, unwrap_or, filter}
 use Rattle.std.specs.FinMap.{find, is_sorted}
@@ -41,7 +41,7 @@ differs Equal h = absurd (false≢true h)
 differs Greater h = absurd (false≢true h)
 
 module _ (key : List ℕ) (segment : ℕ) where
-  -- terms behind the key
+  -- terms after the key
   none_behind : (n : ℕ) (ts : List ReadTerm) → below_all (slice_cmp nat_cmp) key (map pair_of ts) ≡ true → standing_in segment key (ranked_at n ts) ≡ []
   none_behind n [] h = refl
   none_behind n (t ∷ ts) h =
@@ -94,11 +94,11 @@ module _ (key : List ℕ) (segment : ℕ) where
 abbrev pub no_source : SourceTerms
 no_source = record { terms = []; ids = [] }
 
--- the postings of a key in the segment where it stands
+-- the postings of a key in the segment where it is
 abbrev pub given_at : List SourceTerms → List ℕ → ℕ × TermInfo → List Posting
 given_at sources key s = moved_from key (get_or sources s.0 no_source)
 
--- a segment where a key stands is there, and its term has this info
+-- a segment where a key is found is there, and its term has this info
 pub record IsThere (sources : List SourceTerms) (key : List ℕ) (s : ℕ × TermInfo) : Type 0 where
   pub within : s.0 < length sources
   pub has : IsSomeAnd (term_at key (get_or sources s.0 no_source).terms) (λ t. t.info ≡ s.1)

@@ -99,7 +99,7 @@ module _ (id : ℕ) (left : List Posting) (rise : Rise 0 (positions_of left)) wh
               ∙ ap (λ c. Some (record g.kept { current = c })) (more_current g.kept.current here);
         }
 
--- ---- a posting behind those of its term
+-- ---- a posting after those of its term
 
 -- what is known of the last one of some postings
 record IsLast (kind : RecordKind) (least : ℕ) (p : Posting) : Type 0 where

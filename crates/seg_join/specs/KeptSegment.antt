@@ -24,7 +24,7 @@ IsOfSchema schema p = (p.segment.schema ≡ schema) × HasFullShape schema (cont
 abbrev pub IsMarked : KeptSegment → Type 0
 IsMarked p = length p.alive ≡ p.segment.documents
 
--- the marks of so many documents: those of the set, and without one all are kept
+-- the marks of this many documents: those of the set, and without one all are kept
 abbrev pub marks_of : ℕ → Option (Bor (List Bool)) → List Bool
 marks_of documents None = replicate documents true
 marks_of documents (Some set) = set.now

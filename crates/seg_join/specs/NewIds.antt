@@ -9,7 +9,7 @@ new_ids first [] = []
 new_ids first (true ∷ marks) = Some first ∷ new_ids (first + 1) marks
 new_ids first (false ∷ marks) = None ∷ new_ids first marks
 
--- an id as it stands in a table; 2^32 - 1 stands for none
+-- an id as it is in a table; 2^32 - 1 stands for none
 abbrev pub id_of : ℕ → Option ℕ
 id_of n = if n == 2 ^ 32 - 1 then None else Some n
 

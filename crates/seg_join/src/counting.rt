@@ -6,7 +6,7 @@ ghost use Rattle.seg_join.specs.KeptSegment.{IsMarked, kept_count};
 
 use crate::merge_part::MergePart;
 
-/// One segment never has so many documents.
+/// One segment never has this many documents.
 const TOO_MANY: usize = 0x8000_0000;
 
 /// How many documents of segments are kept in all; `None` where one segment can't have as many, 2^31 or more.

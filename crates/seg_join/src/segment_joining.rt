@@ -49,7 +49,7 @@ pub fn join_segments(
     SegmentFiles::from_bytes(alloc, bytes)
 }
 
-/// The bytes of these files, for so many documents.
+/// The bytes of these files, for this many documents.
 fn joined_bytes(
     alloc: Global,
     schema: &Schema,

@@ -82,7 +82,7 @@ fn advance(merger: &mut TermMerger<'_>) -> Result<bool, PostingsError>
     }
 }
 
-/// Joins a term that stands in some of the segments.
+/// Joins a term that is in some of the segments.
 fn join_term(
     key: &[u8],
     standings: &[(usize, TermInfo)],

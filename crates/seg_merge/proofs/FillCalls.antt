@@ -77,7 +77,7 @@ module _ (segments : List ListedSegment) where
     of-ids : {T : Type 0} (r : Result T TantivyError) (a b : DirectoryState) → Does (wrote (six_files ids)) (six_files ids) r a b → Does (wrote six) six r a b
     of-ids r a b d = subst (λ (ns : List ℕ). Does (wrote (six_files ns)) (six_files ns) r a b) (sym same) d
 
-    -- the alive files and the meta, behind the six files of each segment
+    -- the alive files and the meta, after the six files of each segment
     pub fills : {T : Type 0} (r : Result T TantivyError) (a b c : DirectoryState) → MakesFiles (Ok tt) ids ids a b → Does last_answers last_names r b c → FillsUpTo segments r a c
     fills r a b c made last =
         up-to r a c

@@ -122,7 +122,7 @@ none_of_six id stamp (other ∷ ids) = (
 
 -- ---- what stays
 
--- alive files that were absent are still behind the six files of each segment
+-- alive files that were absent are still after the six files of each segment
 pub alive_absent : (segments : List ListedSegment) (ids : List ℕ) (old new : NamedFiles) → KeepsAllBut (six_files ids) old new → AreAbsent (alive_files segments) old → AreAbsent (alive_files segments) new
 alive_absent [] ids old new kept none = tt
 alive_absent (s ∷ segments) ids old new kept none = by s.deletes (alive_absent segments ids old new kept) none
@@ -131,7 +131,7 @@ alive_absent (s ∷ segments) ids old new kept none = by s.deletes (alive_absent
     by None rest h = rest h
     by (Some d) rest h = (kept (Alive s.id d.stamp) (none_of_six s.id d.stamp ids) ∙ h.0, rest h.1)
 
--- the six files of each segment stay behind the alive files and the meta
+-- the six files of each segment stay after the alive files and the meta
 module _ (segments : List ListedSegment) (old new : NamedFiles) (kept : KeepsAllBut (Meta ∷ alive_files segments) old new) where
   part_kept : (id : ℕ) (which : SegmentComponent) → get new (Part id which) ≡ get old (Part id which)
   part_kept id which = kept (Part id which) (part-not-meta id which, none_alive id which segments)
@@ -164,7 +164,7 @@ module _ (segments : List ListedSegment) (old new : NamedFiles) (kept : KeepsAll
   stand_kept schema analyzer (id ∷ ids) (batch ∷ batches) h =
       (record { contents = h.0.contents; read = h.0.read; held = holds_kept id schema h.0.contents h.0.held }, stand_kept schema analyzer ids batches h.1)
 
--- the alive files stay behind the meta
+-- the alive files stay after the meta
 module _ (old new : NamedFiles) (kept : KeepsAllBut (Meta ∷ []) old new) where
   tells_kept : (id documents : ℕ) (alive : List Bool) (d : Option Deletes) → TellsAlive old id documents alive d → TellsAlive new id documents alive d
   tells_kept id documents alive None h = tt
@@ -220,7 +220,7 @@ module _ (schema : Schema) (analyzer : Analyzer) (ids cuts : List ℕ) (operatio
   pub listed_are : map (λ (s : ListedSegment). s.id) (listed_of schema analyzer ids cuts operations) ≡ ids
   listed_are = listed_ids (length operations) (written_of schema analyzer ids cuts operations) ∙ ids_are
 
--- as they are listed, where there are so many operations
+-- as they are listed, where there are this many operations
 pub listed_is : (schema : Schema) (analyzer : Analyzer) (ids cuts : List ℕ) (operations : List Operation) (stamp : ℕ) (segments : List WrittenSegment) → stamp ≡ length operations → segments ≡ written_of schema analyzer ids cuts operations
     → all_listed stamp segments ≡ listed_of schema analyzer ids cuts operations
 listed_is schema analyzer ids cuts operations stamp segments counted are =

@@ -67,7 +67,7 @@ module _ (segments : List ListedSegment) where
   pub stops-in-six : (e : TantivyError) (a b : DirectoryState) → Does {T = Unit {0}} (wrote six) six (Err e) a b → Does {T = Unit {0}} (filled_answers segments) (index_names segments) (Err e) a b
   stops-in-six e a b d = does-as (Err e) a b (does-stop e (wrote six) (wrote alive ++ saved) (index_names segments) a b (does-among (Err e) (wrote six) six (index_names segments) a b among-six d))
 
-  -- behind them
+  -- after them
   pub behind-six : (r : Outcome) (a b c : DirectoryState) → Does {T = Unit {0}} (wrote six) six (Ok tt) a b → Does (wrote alive ++ saved) (index_names segments) r b c → Does (filled_answers segments) (index_names segments) r a c
   behind-six r a b c d e = does-as r a c (does-then tt r (wrote six) (wrote alive ++ saved) (index_names segments) a b c (does-among (Ok tt) (wrote six) six (index_names segments) a b among-six d) e)
 

@@ -40,7 +40,7 @@ module _ (id documents : ℕ) where
 pub not-meta : (id : ℕ) (which : SegmentComponent) → AllByRecursion (λ name. Part id which ≢ name) (Meta ∷ [])
 not-meta id which = ((λ is. cc), tt)
 
--- the files of the segment stay behind a new meta
+-- the files of the segment stay after a new meta
 pub read-files-kept : (r : Outcome) (id : ℕ) (read : SegmentFiles) (old new : NamedFiles) → KeepsAllBut (Meta ∷ []) old new → segment.HasFiles old id read → OnOk r (segment.HasFiles new id read)
 read-files-kept (Ok x) id read old new kept (t, (s, (p, (q, (f, (n, _)))))) = (
   kept _ (not-meta id component.Terms) ∙ t,
@@ -54,7 +54,7 @@ read-files-kept (Ok x) id read old new kept (t, (s, (p, (q, (f, (n, _)))))) = (
 )
 read-files-kept (Err e) id read old new kept h = tt
 
--- in a directory without files a segment has none, also behind a new meta
+-- in a directory without files a segment has none, also after a new meta
 absent-part : (id : ℕ) (which : SegmentComponent) (old new : NamedFiles) → len old ≡ 0 → KeepsAllBut (Meta ∷ []) old new → get new (Part id which) ≡ None
 absent-part id which old new none kept = kept _ (not-meta id which) ∙ ap (λ (fs : NamedFiles). get fs (Part id which)) (empty_of_len old none) ∙ get-empty name_cmp (Part id which)
 

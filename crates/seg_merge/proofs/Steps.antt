@@ -55,7 +55,7 @@ creating = answer.Listed 0 ∷ answer.Wrote Meta ∷ []
 abbrev pub CreatingErrors : TantivyError → Type 0
 CreatingErrors e = (e ≡ IndexAlreadyExists) ⊎ ((e ≡ OpenReadError) ⊎ ((e ≡ IoError) ⊎ (e ≡ OutOfMemory)))
 
--- behind a listing of no file
+-- after a listing of no file
 stops-listed : (e : TantivyError) (why old new : List Answer) → IsWhy e why → new ≡ old ++ (answer.Listed 0 ∷ why) → Stops creating e old new
 stops-listed e why old new is seen = record { came = answer.Listed 0 ∷ []; missing = answer.Wrote Meta ∷ []; why = why; cut = refl; is_why = is; seen = seen }
 

@@ -21,7 +21,7 @@ use Rattle.seg_merge.proofs.IndexSteps.{tells-still}
 
 -- ---- the first calls
 
--- an index that is begun behind a listing
+-- an index that is begun after a listing
 lists-begin : (r : Ends) (a b c : DirectoryState) → Lists (Ok tt) a b → Does begun_answers (Meta ∷ []) r b c → BeginsIndex r a c
 lists-begin r a b c d e =
     does-then tt r (answer.Listed 0 ∷ []) begun_answers (Meta ∷ []) a b c
@@ -32,7 +32,7 @@ pub begins : (r : Ends) (a b : Directories) (mid : DirectoryState) → Lists (Ok
 begins (Ok x) a b mid listed begun output = (lists-begin (Ok x) a.work mid b.work listed begun, output)
 begins (Err e) a b mid listed begun output = at_beginning (lists-begin (Err e) a.work mid b.work listed begun) output
 
--- ---- behind them
+-- ---- after them
 
 module _ (segments : List ListedSegment) where
   -- an index that is filled
@@ -53,7 +53,7 @@ module _ (segments : List ListedSegment) where
       does-stop e (answer.Listed 0 ∷ begun_answers) (filled_answers segments) (index_names segments) a b
       (does-among (Err e) (answer.Listed 0 ∷ begun_answers) (Meta ∷ []) (index_names segments) a b (λ other all. (all.0, tt)) d)
 
-  -- an index behind a listing
+  -- an index after a listing
   lists-then : (r : Ends) (a b c : DirectoryState) → Lists (Ok tt) a b → Does (index_answers segments) (index_names segments) r b c → Writes segments r a c
   lists-then r a b c d e =
       does-then tt r (answer.Listed 0 ∷ []) (index_answers segments) (index_names segments) a b c
@@ -73,7 +73,7 @@ module _ (asked : Asked) where
   stops-filling e a b w begun listed (in_batch r) = documents r.made r.refusal (begins-make asked.segments r.made a.work b.work w begun r.makes) listed
   stops-filling e a b w begun listed (in_reading filled d s) = reading_back (record { filled = filled; writes = begins-then asked.segments (Ok tt) a.work b.work filled begun d; stops = s }) listed
 
-  -- what was read behind the first calls
+  -- what was read after the first calls
   pub reads-behind : (read : List KeptSegment) (a b w : DirectoryState) → BeginsIndex (Ok tt) a b → FillsThenReads asked.schema asked.segments read b w → WritesThenReads asked.schema asked.segments read a w
   reads-behind read a b w begun filled = record { filled = filled.filled; writes = begins-then asked.segments (Ok tt) a b filled.filled begun filled.fills; reads = filled.reads }
 

@@ -132,7 +132,7 @@ first_is_refused known analyzer input e h = by (is_built_input input) refl
         ap (λ b. cond b (option_map build_error (build_refusal known analyzer input)) (Some (InvalidArgument argument.Later))) is
         ∙ sym (ap (λ b. cond b (option_map input_error (input_refusal known analyzer input)) (Some (InvalidArgument argument.Later))) is) ∙ h
 
--- a first error that the tests told, or want of memory
+-- a first error that the tests told, or out of memory
 pub caused_refusal : (known : Known) (analyzer : Analyzer) (input : Input) (e : TantivyError) → (e ≡ OutOfMemory) ⊎ (first_error known analyzer input ≡ Some e) → IfRefusal (λ x. refusal_error known analyzer input ≡ Some x) e
 caused_refusal known analyzer input e (inl is) = subst (IfRefusal (λ x. refusal_error known analyzer input ≡ Some x)) (sym is) tt
 caused_refusal known analyzer input e (inr is) = if_refusal (λ x. refusal_error known analyzer input ≡ Some x) e (first_is_refused known analyzer input e is)
@@ -261,7 +261,7 @@ module _ (known : Known) (analyzer : Analyzer) (input : Input) where
       (taken_pass input.schema analyzer numbered (subst (λ os. AllByRecursion (Taken input.schema analyzer) (additions os)) (sym (unnumbered 0 input.operations)) (each_taken input.schema analyzer (additions input.operations) w.taken)))
       (subst (λ os. AllByRecursion (FitsBatch input.schema analyzer) (batches_from input.schema analyzer 0 input.cuts os)) (sym (unnumbered 0 input.operations)) (each_fits input.schema analyzer law w.built (input_batches analyzer input) w.small)))
 
-  -- what is behind the tests of the input
+  -- what is after the tests of the input
   abbrev behind_input : Option BuildRefusal → Option BuildRefusal
   behind_input by_batches = option_or by_batches (option_or (count_refusal (input_survivors analyzer input)) (numbers_refusal input.schema analyzer (input_survivors analyzer input)))
 
@@ -270,7 +270,7 @@ module _ (known : Known) (analyzer : Analyzer) (input : Input) where
       refusal_is known analyzer input built
       ∙ ap (λ o. option_map build_error (option_or (option_map input_refused o) (behind_input (first_of (batch_refusal input.schema analyzer) (cut_from 0 input.cuts numbered))))) (none_first known analyzer input built none)
 
-  -- a refusal of a batch, behind the input's
+  -- a refusal of a batch, after the input's
   pub by_batches : (e : TantivyError) → is_built_input input ≡ true → first_error known analyzer input ≡ None → batches_error input.schema analyzer 0 input.cuts input.operations ≡ Some e → refusal_error known analyzer input ≡ Some e
   by_batches e built none h = past_input built none ∙ over (first_of (batch_refusal input.schema analyzer) (cut_from 0 input.cuts numbered)) _ h
     where
@@ -281,7 +281,7 @@ module _ (known : Known) (analyzer : Analyzer) (input : Input) where
   not_below : (n m : ℕ) → m ≤ n → nat_lt n m ≡ false
   not_below n m le = grind (arith, nat_tests)
 
-  -- too many survivors, behind both
+  -- too many survivors, after both
   pub by_survivors : BuiltHaveNoColumns → IsWritten analyzer input → first_error known analyzer input ≡ None → 2 ^ 31 ≤ length (input_survivors analyzer input) → refusal_error known analyzer input ≡ Some (InvalidArgument argument.Documents)
   by_survivors law w none many =
       past_input w.built none

@@ -111,6 +111,6 @@ module _ (old new : NamedFiles) (none : len old ≡ 0) (kept : KeepsAllBut (Meta
   all_alive_absent [] = tt
   all_alive_absent (s ∷ segments) = all-both IsAbsent (alive_file s.id s.deletes) (alive_files segments) (alive_absent s.id s.deletes) (all_alive_absent segments)
 
-  -- in a directory without files those of segments aren't there, also behind a new meta
+  -- in a directory without files those of segments aren't there, also after a new meta
   pub segments_absent : (segments : List ListedSegment) → AreAbsent (segments_files segments) new
   segments_absent segments = all-both IsAbsent (six_files (map (λ s. s.id) segments)) (alive_files segments) (six_absent (map (λ s. s.id) segments)) (all_alive_absent segments)

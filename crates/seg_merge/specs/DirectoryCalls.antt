@@ -33,11 +33,11 @@ Ends = Result (Unit {0}) TantivyError
 abbrev pub Lists : Ends → DirectoryState → DirectoryState → Type 0
 Lists end before after = Does (answer.Listed 0 ∷ []) [] end before after
 
--- behind that, an index is begun and filled with these segments
+-- after that, an index is begun and filled with these segments
 abbrev pub Writes : List ListedSegment → Ends → DirectoryState → DirectoryState → Type 0
 Writes segments end before after = Does (answer.Listed 0 ∷ index_answers segments) (index_names segments) end before after
 
--- an index is begun, and the six files of the first of the segments are made, so many
+-- an index is begun, and the six files of the first of the segments are made, this many of them
 abbrev pub Begins : List ListedSegment → ℕ → DirectoryState → DirectoryState → Type 0
 Begins segments made before after =
     Does {T = Unit {0}} (answer.Listed 0 ∷ (begun_answers ++ wrote (six_files (take made (map (λ s. s.id) segments))))) (index_names segments) (Ok tt) before after
@@ -65,7 +65,7 @@ pub record Asked : Type 0 where
 abbrev pub asked_of : Analyzer → Input → Asked
 asked_of analyzer input = record { schema = input.schema; segments = work_listed analyzer input; filters = input.filters; output_id = output_id input.ids }
 
--- where it stops: before any call; at one of the first listings; where a document is refused, behind the files of the batches before it; in the work index; where its segments are read back; where too many documents are left for one segment; or in the output index
+-- where it stops: before any call; at one of the first listings; where a document is refused, after the files of the batches before it; in the work index; where its segments are read back; where too many documents are left for one segment; or in the output index
 pub data StopsIn (asked : Asked) (e : TantivyError) (before after : Directories) : Type 0 where
   at_once : IsRefusal e → after ≡ before → StopsIn asked e before after
   work_listing : Lists (Err e) before.work after.work → after.output ≡ before.output → StopsIn asked e before after

@@ -20,7 +20,7 @@ use Rattle.seg_merge.specs.IndexFiles.{begun_answers, filled_answers, index_answ
 
 -- ---- the first calls
 
--- behind a listing, an index is begun
+-- after a listing, an index is begun
 abbrev pub BeginsIndex : Ends → DirectoryState → DirectoryState → Type 0
 BeginsIndex end before after = Does (answer.Listed 0 ∷ begun_answers) (meta_name ∷ []) end before after
 
@@ -37,11 +37,11 @@ BeginsUpTo (Err e) before after = BeginStops e before after
 
 -- ---- the work index
 
--- the six files of the first of the segments are made, so many
+-- the six files of the first of the segments are made, this many of them
 abbrev pub MakesFirst : List ListedSegment → ℕ → DirectoryState → DirectoryState → Type 0
 MakesFirst segments made before after = Does {T = Unit {0}} (wrote (six_files (take made (map (λ s. s.id) segments)))) (index_names segments) (Ok tt) before after
 
--- a batch is refused, behind the files of those before it
+-- a batch is refused, after the files of those before it
 pub record RefusesBatch (segments : List ListedSegment) (e : TantivyError) (before after : DirectoryState) : Type 0 where
   pub refusal : IsRefusal e
   pub made : ℕ
@@ -71,7 +71,7 @@ pub data FillStops (schema : Schema) (segments : List ListedSegment) (e : Tantiv
 
 -- ---- the output index
 
--- an index of one segment of so many documents is written, up to how it ends
+-- an index of one segment of this many documents is written, up to how it ends
 abbrev pub WritesOne : ℕ → ℕ → Ends → DirectoryState → DirectoryState → Type 0
 WritesOne id documents end before after = Does (index_answers (undeleted id documents ∷ [])) (index_names (undeleted id documents ∷ [])) end before after
 

@@ -60,7 +60,7 @@ segments_meta settings schema stamp segments = record { settings = settings; sch
 abbrev pub undeleted : ℕ → ℕ → ListedSegment
 undeleted id documents = record { id = id; documents = documents; deletes = None }
 
--- an index of one segment of so many documents, which was merged from the segments with these ids
+-- an index of one segment of this many documents, which was merged from the segments with these ids
 abbrev pub merged_meta : Settings → Schema → List ℕ → ℕ → ℕ → Meta
 merged_meta settings schema ids id documents = record {
   settings = settings;
@@ -91,7 +91,7 @@ pub record IsOutputIndexOf (analyzer : Analyzer) (input : Input) (files : NamedF
   pub index_of : index.index_of segment_forms files ≡ Some (output_meta analyzer input)
   pub stands : index.StandsFor segment_forms files input.schema analyzer (output_id input.ids) (input_survivors analyzer input)
 
--- the files are an index of one segment that was merged from those of an input, of so many documents
+-- the files are an index of one segment that was merged from those of an input, of this many documents
 abbrev pub IsMergedIndexOf : Input → ℕ → NamedFiles → Type 0
 IsMergedIndexOf input documents files =
     index.index_of segment_forms files ≡ Some (merged_meta input.settings input.schema (work_ids input.ids) (output_id input.ids) documents)

@@ -8,7 +8,7 @@ use Rattle.seg_model.specs.Join.{joined_with}
 use Rattle.seg_model.specs.Operations.{filtered_by}
 use Rattle.seg_join.specs.KeptSegment.{KeptSegment, part_of}
 
--- each segment that was read under its filter; a segment behind the last filter has none
+-- each segment that was read under its filter; a segment after the last filter has none
 abbrev pub filtered_segments : List (Option Filter) → List KeptSegment → List KeptSegment
 filtered_segments filters [] = []
 filtered_segments [] (s ∷ read) = s ∷ filtered_segments [] read
@@ -18,7 +18,7 @@ filtered_segments (f ∷ filters) (s ∷ read) = record { segment = s.segment; a
 abbrev pub joined : Schema → List (Option Filter) → List KeptSegment → Contents
 joined schema filters read = joined_with schema (map part_of (filtered_segments filters read)) empty
 
--- the marks of so many documents: those of a set, and without one all are kept
+-- the marks of this many documents: those of a set, and without one all are kept
 abbrev pub kept_marks : ℕ → Option (List Bool) → List Bool
 kept_marks documents None = replicate documents true
 kept_marks documents (Some set) = set

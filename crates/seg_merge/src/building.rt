@@ -49,7 +49,7 @@ pub struct BuiltIndex {
 ///
 /// Refusals come in this order: what is not built yet (fields with columns, indexed fields of other kinds than texts),
 /// `Cuts`, `Batches`, `Filters`, `SegmentIds`, `FieldName`, `Settings`, `Tokenizer`, `DeleteField`; then each directory that
-/// has files; then, batch by batch behind the files of those before it, `Documents`, and the first document that does not
+/// has files; then, batch by batch after the files of those before it, `Documents`, and the first document that does not
 /// pass its check; and last `Documents`, where more are left than one segment can hold.
 pub fn build_index<Z: Analyzers, W: Directory, O: Directory>(
     alloc: Global,

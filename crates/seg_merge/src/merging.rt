@@ -146,7 +146,7 @@ fn merge_parts(
     }
 }
 
-/// Opens the files that were made of so many documents; they agree with each other.
+/// Opens the files that were made of this many documents; they agree with each other.
 fn open_merged(
     alloc: Global,
     schema: &Schema,

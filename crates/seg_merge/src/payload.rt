@@ -33,7 +33,7 @@ fn push_ids(text: &mut String, ids: &[SegmentId]) -> Result<(), AllocError>
     Ok(())
 }
 
-/// Adds an id behind a space.
+/// Adds an id after a space.
 fn push_next_id(text: &mut String, id: SegmentId) -> Result<(), AllocError>
     ensures { OnOk result (string_bytes text.new ≡ string_bytes text.old ++ 32 ∷ id_text id) }
 {

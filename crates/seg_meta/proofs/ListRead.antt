@@ -15,7 +15,7 @@ use Rattle.seg_meta.specs.Reads.{given, provided, each, list_of}
 abbrev pub so_far : {A : Type 0} → (Data → Option A) → List A → Items → Option (List A)
 so_far read done left = option_map (λ rest. done ++ rest) (each read left)
 
--- so many distinct items are what was read of a list, and these are left
+-- this many distinct items are what was read of a list, and these are left
 pub record IsReadSoFar {A : Type 0} (read : Data → Option A) (alike : A → A → Bool) (d : Data) (done : List A) (left : Items) (count : ℕ) : Type 0 where
   pub whole : so_far read done left ≡ list_of read d
   pub distinct : all_distinct alike done ≡ true

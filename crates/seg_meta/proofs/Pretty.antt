@@ -1,4 +1,4 @@
--- The pretty text of a JSON value, with a line feed behind it, has the tokens of the value.
+-- The pretty text of a JSON value, with a line feed after it, has the tokens of the value.
 use Rattle.std.proofs.Common.{◌≡◌, ℕ, zero, suc, ◌*◌, Bool, true, false, cond, ◌&&◌, List, [], ◌∷◌, ◌++◌, replicate, refl, sym, ap, ap₂, ◌∙◌, append_assoc, inl, inr, IsUtf8}
 use Rattle.std.proofs.lemmas.Str.{IsUtf8-append, IsUtf8-nil}
 use Rattle.json.specs.Token.{Token, begin_object, end_object, begin_array, end_array, key, string, number, boolean, null, bad}
@@ -12,7 +12,7 @@ use Rattle.json.proofs.Printed.Strings.{content-escape, lex-escape}
 use Rattle.json.proofs.Printed.Tokens.{tokens-print}
 use Rattle.json.proofs.Printed.Utf8.{IsUtf8-separator, IsUtf8-IsGap}
 
--- ---- what may stand between tokens
+-- ---- what may be between tokens
 
 spaces : (n : ℕ) → IsGap (replicate n 32)
 spaces zero = tt
@@ -71,7 +71,7 @@ lex-token null r q h er eq same =
     ∙ sym (ap₂ (λ b l. token (cond b null bad) ∷ l) (eq refl) (in_word-ended q (eq refl)))
 lex-token bad r q h er eq same = absurd h
 
--- ---- after a value stands a comma, a line feed, a closing bracket or nothing
+-- ---- after a value comes a comma, a line feed, a closing bracket or nothing
 
 compact_ends : (ts : List Token) → ends_word (print_from true ts) ≡ true
 unfolding print_from
@@ -143,7 +143,7 @@ lex-pretty_from s (t ∷ ts) r ended none h =
     (lex-gap space (token_text t ++ rest) (gap_gap s.0 (begins t) (depth_at s.1 t))
     ∙ lex-token t rest (print_from (ends t) ts) h.0 (pretty_ends s t ts r ended) (λ e. ap (λ b. ends_word (print_from b ts)) e ∙ compact_ends ts) more)
 
--- the tokens of the text, with a line feed behind it
+-- the tokens of the text, with a line feed after it
 pub tokens-pretty : (ts : List Token) → ArePrintable ts → tokens (pretty ts ++ 10 ∷ []) ≡ ts
 unfolding lex
 tokens-pretty ts h = ap (punctuate fresh) (lex-pretty_from (nothing, 0) ts (10 ∷ []) refl refl h) ∙ tokens-print ts h

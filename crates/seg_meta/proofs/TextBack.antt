@@ -156,7 +156,7 @@ meta_kept m fits =
 abbrev whole : Option (json.Json × List Token) → Option Data
 whole o = option_and_then of_json (option_and_then (λ p. json.if_last p.0 p.1) o)
 
--- a plain value is read from its pretty text, with a line feed behind it
+-- a plain value is read from its pretty text, with a line feed after it
 read_pretty : (d : Data) → IsPlain 4 d → of_json (outline d) ≡ Some d → read (pretty_text d ++ 10 ∷ []) ≡ Some d
 read_pretty d plain kept =
     let shallow = plain.shallow in

@@ -12,7 +12,7 @@ use Rattle.seg_meta.specs.PartsRead.{settings_from, entry_from, segment_from}
 use Rattle.seg_meta.specs.Reads.{given, provided, required, natural, nullable, list_of, has_only}
 use Rattle.seg_meta.specs.Saving.{same_id}
 
--- a list of fewer than so many items, no two of them alike
+-- a list of fewer than this many items, no two of them alike
 abbrev pub distinct_list : {A : Type 0} → (Data → Option A) → (A → A → Bool) → ℕ → Data → Option (List A)
 distinct_list read alike limit d = given (list_of read d) (λ xs. provided (all_distinct alike xs && nat_lt (length xs) limit) (Some xs))
 

@@ -73,7 +73,7 @@ entry_from d =
 abbrev pub deletes_members : List (List ℕ)
 deletes_members = codes "num_deleted_docs" ∷ codes "opstamp" ∷ []
 
--- the deletes of a segment of so many documents
+-- the deletes of a segment of this many documents
 abbrev pub deletes_from : ℕ → Data → Option Deletes
 deletes_from documents d =
     provided (has_only deletes_members d)

@@ -6,7 +6,7 @@ use crate::Compressor;
 #[derive(Clone, Copy, Debug, PartialEq, Eq)]
 pub struct IndexSettings {
     pub docstore_compression: Compressor,
-    /// A block is closed once it has so many bytes.
+    /// A block is closed once it has this many bytes.
     pub docstore_blocksize: u32,
     /// Whether a thread of its own compresses.
     pub docstore_compress_dedicated_thread: bool,

@@ -35,7 +35,7 @@ fn deletes_at(max_doc: u32, json: &Value) -> Option<Option<DeleteMeta>>
     }
 }
 
-/// The deletes of a segment of so many documents.
+/// The deletes of a segment of this many documents.
 fn deletes_from(max_doc: u32, json: &Value) -> Option<DeleteMeta>
     ensures value { option_map deletes_of result ≡ deletes_from max_doc (view json.now) }
     ensures some { IfSome result (λ d. (1 ≤ d.num_deleted_docs) × (d.num_deleted_docs ≤ max_doc)) }

@@ -163,7 +163,7 @@ is_filled-values_at q (d ∷ ds) h =
 pub covers_documents : (declared : List ColumnKey) (ds : List (List FastValue)) → Covers declared (λ k. map (values_at k) ds) (declared ++ flat_map (flat_map value_keys) ds)
 covers_documents declared ds = covers declared (λ k. map (values_at k) ds) (flat_map (flat_map value_keys) ds) (λ q n. is_filled-values_at q ds (second_false (is_among column_cmp declared q) _ (sym (list_any-append (eq_by_cmp column_cmp q) declared (flat_map (flat_map value_keys) ds)) ∙ n)))
 
--- numbers of a path stand at I64 and at U64 alike
+-- numbers of a path are at I64 and at U64 alike
 number_keys : (path at : List ℕ) (v : ColumnValue) → is_among column_cmp (map (λ type. record { path = at; type = type }) (value_types v)) (record { path = path; type = I64 }) ≡ is_among column_cmp (map (λ type. record { path = at; type = type }) (value_types v)) (record { path = path; type = U64 })
 number_keys path at (number z) = by (slice_cmp nat_cmp path at)
   where

@@ -60,7 +60,7 @@ flat_map-append f [] ys = refl
 flat_map-append f (x ∷ xs) ys = ap (λ l. f x ++ l) (flat_map-append f xs ys) ∙ sym (append_assoc (f x) (flat_map f xs) (flat_map f ys))
 
 module _ (schema : Schema) where
-  -- where a part has a value for each document, so many are kept as stored documents
+  -- where a part has a value for each document, as many are kept as stored documents
   module _ {X : Type 0} (f : Part → List X) (each : (p : Part) → HasFullShape schema p.contents → length (f p) ≡ p.contents.documents) where
     pub live_of-length : (ps : List Part) → AreOfFullShape schema ps → length (live_of f ps) ≡ length (live_of (λ p. p.contents.stored) ps)
     live_of-length [] h = refl

@@ -1,4 +1,4 @@
--- A key has the ordinal at which it stands, and no other.
+-- A key has the ordinal at which it is, and no other.
 use Rattle.std.proofs.Common.{◌≡◌, ℕ, zero, suc, ◌+◌, ◌<◌, Bool, true, false, cond, not, T, nat_lt, List, [], ◌∷◌, map, length, get_or, Some, None, sym, refl, ap, ◌∙◌, arith}
 use mathlib.Core.Bool.{true≢false}
 use Rattle.std.specs.Prelude.{is_some, unwrap_or, position, slice_get, ◌&&◌}

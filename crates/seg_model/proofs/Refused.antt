@@ -133,7 +133,7 @@ module _ (schema : Schema) (analyzer : Analyzer) where
       or_none (count_refusal (added_by part)) _ (count_none (added_by part) f.few)
       (or_none (first_of (λ p. operation_refusal schema analyzer p.0 p.1) part) _ (first_none (λ p. operation_refusal schema analyzer p.0 p.1) part h) (numbers_none (added_by part) f.columns))
 
-  -- what is behind the first test of a batch
+  -- what is after the first test of a batch
   abbrev later : List (ℕ × Operation) → Option BuildRefusal
   later part = option_or (first_of (λ p. operation_refusal schema analyzer p.0 p.1) part) (numbers_refusal schema analyzer (added_by part))
 

@@ -155,7 +155,7 @@ both_defined = refl
 mixed : columns (schema Json) analyzer (n_is (signed (negsuc 0)) ∷ n_is (unsigned 9223372036854775808) ∷ []) ≡ None
 mixed = refl
 
--- the number 1 inside so many arrays, below the key o
+-- the number 1 inside this many arrays, below the key o
 abbrev in_arrays : ℕ → Tree
 in_arrays zero = leaf (unsigned 1)
 in_arrays (suc n) = array (tree (in_arrays n) no_trees)

@@ -44,7 +44,7 @@ or_true : (a b : Bool) → b ≡ true → (a || b) ≡ true
 or_true true b e = refl
 or_true false b e = e
 
--- a value that stands at a key has the key's type
+-- a value that is at a key has the key's type
 type_of_key : (path : List ℕ) (ts : List ColumnType) (k : ColumnKey) → is_among column_cmp (map (λ t. record { path = path; type = t }) ts) k ≡ true → (k.path ≡ path) × (list_any (λ t. nat_eq (type_place k.type) (type_place t)) ts ≡ true)
 type_of_key path [] k h = absurd (true≢false (sym h))
 type_of_key path (t ∷ ts) k h = by (eq_by_cmp column_cmp k (record { path = path; type = t })) refl h (type_of_key path ts k)
@@ -375,7 +375,7 @@ slice_declared (f ∷ schema) (suc i) e type at fast d =
     ∙ or_true _ _ (slice_declared schema i e type at fast d)
 
 module _ (schema : Schema) (analyzer : Analyzer) (path : List ℕ) (type : ColumnType) (u : IsUndeclared (declared_columns schema) path type) where
-  -- a value that stands at the key stands at a JSON path
+  -- a value that is at the key is at a JSON path
   abbrev IsFree : FastValue → Type 0
   IsFree v = is_among column_cmp (value_keys v) (record { path = path; type = type }) ≡ true → IsJsonPath schema path × (is_json_type type ≡ true)
 

@@ -123,7 +123,7 @@ pub has_no_zero-joined_path : (expand : Bool) (keys : List (List ℕ)) → HaveN
 has_no_zero-joined_path true keys h = has_no_zero-dots (join_with_byte 1 keys) (has_no_zero-join keys h)
 has_no_zero-joined_path false keys h = has_no_zero-join keys h
 
--- what stands before and behind the first byte 0
+-- what is before and after the first byte 0
 pub path_part-path : (path rest : List ℕ) → has_no_zero path ≡ true → path_part (path ++ 0 ∷ rest) ≡ path
 path_part-path [] rest h = refl
 path_part-path (b ∷ path) rest h = by (b == 0) h (path_part-path path rest)

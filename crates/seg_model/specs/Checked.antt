@@ -115,7 +115,7 @@ abbrev pub count_of : List (List Token) → ℕ
 count_of [] = 0
 count_of (tokens ∷ texts) = length (counted tokens) + count_of texts
 
--- the running start behind some texts, their tokens and their number
+-- the running start after some texts, their tokens and their number
 abbrev pub texts_fit : List (List Token) → Bool
 texts_fit texts = is_u32 (start_after_all 0 texts) && is_u32 (count_of texts) && is_u32 (length texts)
 

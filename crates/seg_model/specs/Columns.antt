@@ -1,4 +1,4 @@
--- The columns of documents: the values that stand ready by path, type and document.
+-- The columns of documents: the values that are ready by path, type and document.
 use Rattle.std.specs.Prelude.{ℕ, ◌^◌, List, [], ◌∷◌, ◌++◌, map, filter, Option, Some, None, nat_eq, nat_le, nat_lt, Bool, true, false, ◌||◌, ◌&&◌, not, ℤ, pos, negsuc, if◌then◌else◌}
 use Rattle.std.specs.List.{flat_map, list_any, list_all}
 use Rattle.std.specs.Ordering.{nat_cmp, on, then_cmp, is_gt}
@@ -26,7 +26,7 @@ pub data ColumnValue : Type 0 where
   ip_value : List ℕ → ColumnValue
   date_value : ℤ → ColumnValue
 
--- where a column stands
+-- where a column is
 pub record ColumnKey : Type 0 where
   pub path : List ℕ
   pub type : ColumnType
@@ -167,7 +167,7 @@ declared_columns schema = flat_map (λ e. if e.fast then column_named e.name (de
 abbrev pub is_declared : List ColumnKey → ColumnKey → Bool
 is_declared declared key = is_among column_cmp declared key
 
--- the types of column in which a value may stand
+-- the types of column in which a value may be
 abbrev pub value_types : ColumnValue → List ColumnType
 value_types (number z) = I64 ∷ U64 ∷ []
 value_types (bytes_value b) = Bytes ∷ []
@@ -176,7 +176,7 @@ value_types (boolean_value b) = Boolean ∷ []
 value_types (ip_value a) = IpAddr ∷ []
 value_types (date_value z) = DateTime ∷ []
 
--- the keys of the columns in which a recorded value may stand
+-- the keys of the columns in which a recorded value may be
 abbrev pub value_keys : FastValue → List ColumnKey
 value_keys v = map (λ type. record { path = v.path; type = type }) (value_types v.value)
 
@@ -224,7 +224,7 @@ is_type type (Some other) = nat_eq (type_place type) (type_place other)
 abbrev pub without_values : List (List ColumnValue) → List (List ColumnValue)
 without_values rows = map (λ _. []) rows
 
--- the rows of a column: numbers stand in the one column of their type
+-- the rows of a column: numbers are in the one column of their type
 abbrev pub rows_of : List ColumnKey → ColumnKey → List (List ColumnValue) → List (List ColumnValue)
 rows_of declared key rows =
     if not (is_number key.type) || is_type key.type (number_type declared key.path rows) then rows else without_values rows

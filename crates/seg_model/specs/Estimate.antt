@@ -12,7 +12,7 @@ use Rattle.seg_model.specs.Join.{Part}
 abbrev pub live_count : List Bool → ℕ
 live_count alive = count_by (λ b. b) alive
 
--- the tokens of a field in the live documents of a part that has so many in all: a division by 0 gives 0
+-- the tokens of a field in the live documents of a part that has this many in all: a division by 0 gives 0
 abbrev pub estimate : ℕ × FieldEntry → Part → ℕ → ℕ
 estimate f part total =
     if list_all (λ b. b) part.alive then total

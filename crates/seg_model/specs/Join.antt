@@ -26,7 +26,7 @@ abbrev pub recorded_at : ℕ → List Posting → Option Recorded
 recorded_at document [] = None
 recorded_at document (p ∷ ps) = if p.document == document then Some p.recorded else recorded_at document ps
 
--- the same for each of so many documents, from the id `first` on
+-- the same for each of this many documents, from the id `first` on
 abbrev pub all_recorded : ℕ → ℕ → List Posting → List (Option Recorded)
 all_recorded first zero ps = []
 all_recorded first (suc n) ps = recorded_at first ps ∷ all_recorded (first + 1) n ps
@@ -57,14 +57,14 @@ side_by_side [] ys = ys
 side_by_side (x ∷ xs) [] = x ∷ xs
 side_by_side (x ∷ xs) (y ∷ ys) = (x ++ y) ∷ side_by_side xs ys
 
--- what each document of a part records at a key: numbers of a path stand in its column I64 or in its column U64
+-- what each document of a part records at a key: numbers of a path are in its column I64 or in its column U64
 abbrev pub part_rows : ColumnKey → Part → List (List ColumnValue)
 part_rows key part =
     if is_number key.type
     then side_by_side (part_column (record { path = key.path; type = I64 }) part) (part_column (record { path = key.path; type = U64 }) part)
     else part_column key part
 
--- the keys at which the values of a column may stand in a joined one: numbers may change their type
+-- the keys at which the values of a column may be in a joined one: numbers may change their type
 abbrev pub joined_keys : ColumnKey → List ColumnKey
 joined_keys key = if is_number key.type then record { path = key.path; type = I64 } ∷ record { path = key.path; type = U64 } ∷ [] else key ∷ []
 

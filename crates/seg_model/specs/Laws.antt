@@ -143,7 +143,7 @@ ReadingsHaveFullShape = (schema : Schema) (analyzer : Analyzer) (ds : List Docum
 
 -- ---- ranges of sorted terms
 
--- a key has an ordinal exactly where it stands there
+-- a key has an ordinal exactly where it is there
 abbrev pub OrdinalsArePlaces : Type 0 → Type 0
 OrdinalsArePlaces Info = (terms : SortedTerms Info) (key : List ℕ) (ord : ℕ) → (term_ord terms key ≡ Some ord) ↔ (term_at terms ord ≡ Some key)
 

@@ -14,7 +14,7 @@ abbrev pub level_in_array : ℕ → ℕ
 level_in_array zero = zero
 level_in_array (suc level) = suc (suc level)
 
--- the leaves of a tree that stands below these keys, at this level
+-- the leaves of a tree that is below these keys, at this level
 abbrev mutual
   pub leaves_at : List (List ℕ) → ℕ → Tree → List PlacedLeaf
   leaves_at keys level (leaf l) = record { keys = keys; level = level; leaf = l } ∷ []

@@ -1,4 +1,4 @@
--- The terms of several segments, merged: each key once, ascending, with where it stands.
+-- The terms of several segments, merged: each key once, ascending, with where it is.
 use Rattle.std.specs.Prelude.{ℕ, ◌+◌, List, [], ◌∷◌, ◌++◌, map, filter, Option, Some, None}
 use Rattle.std.specs.List.{flat_map}
 use Rattle.std.specs.Str.{bytes_eq}
@@ -11,11 +11,11 @@ pub record Standing (Info : Type 0) : Type 0 where
   pub ord : ℕ
   pub info : Info
 
--- where a key stands in one segment
+-- where a key is in one segment
 abbrev pub standing_in : {Info : Type 0} → ℕ → List ℕ → List (RankedTerm Info) → List (Standing Info)
 standing_in {Info} segment key terms = map (λ (t : RankedTerm Info). record { segment = segment; ord = t.ord; info = t.info }) (filter (λ (t : RankedTerm Info). bytes_eq key t.key) terms)
 
--- where a key stands in segments, in their order, of which the first has the number `first`
+-- where a key is in segments, in their order, of which the first has the number `first`
 abbrev pub standings_from : {Info : Type 0} → ℕ → List ℕ → List (List (RankedTerm Info)) → List (Standing Info)
 standings_from first key [] = []
 standings_from first key (terms ∷ segments) = standing_in first key terms ++ standings_from (first + 1) key segments

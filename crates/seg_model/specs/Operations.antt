@@ -81,7 +81,7 @@ abbrev pub filtered_by : Option (List Bool) → List Bool → List Bool
 filtered_by None alive = alive
 filtered_by (Some keeps) alive = both_marked alive keeps
 
--- each batch under its filter; a batch behind the last filter has none
+-- each batch under its filter; a batch after the last filter has none
 abbrev pub filtered : List (Option (List Bool)) → List Batch → List Batch
 filtered fs [] = []
 filtered [] (b ∷ bs) = b ∷ filtered [] bs

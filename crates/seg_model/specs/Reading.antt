@@ -28,7 +28,7 @@ pub record Posting : Type 0 where
 abbrev pub Terms : Type 0
 Terms = FinMap (slice_cmp nat_cmp) (List Posting)
 
--- the byte behind the first byte 0
+-- the byte after the first byte 0
 abbrev pub type_code : List ℕ → ℕ
 type_code [] = 0
 type_code (b ∷ []) = 0
@@ -89,12 +89,12 @@ field_terms schema analyzer documents f = terms_of f.1 (map (λ d. occurrences s
 abbrev pub all_terms : Schema → Analyzer → List Document → List Terms
 all_terms schema analyzer documents = map (field_terms schema analyzer documents) (fields schema)
 
--- a leaf as it is stored: a pre-tokenized text stands as its text
+-- a leaf as it is stored: a pre-tokenized text is kept as its text
 abbrev pub stored_leaf : Leaf → Leaf
 stored_leaf (pre_tokenized p) = text p.text
 stored_leaf l = l
 
--- a value as it is stored: a pre-tokenized text stands as its text
+-- a value as it is stored: a pre-tokenized text is kept as its text
 abbrev pub stored_value : Tree → Tree
 stored_value (leaf l) = leaf (stored_leaf l)
 stored_value (array ts) = array ts

@@ -67,7 +67,7 @@ pub record RankedTerm (Info : Type 0) : Type 0 where
 abbrev pub ranked : {Info : Type 0} → SortedTerms Info → List (RankedTerm Info)
 ranked terms = map (λ t. record { ord = t.0; key = t.1.0; info = t.1.1 }) (enumerate_from 0 (entries terms))
 
--- forward as it stands, backward in reverse
+-- forward as it is, backward in reverse
 abbrev pub in_direction : {X : Type 0} → Bool → List X → List X
 in_direction false xs = xs
 in_direction true xs = reverse xs

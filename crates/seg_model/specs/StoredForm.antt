@@ -9,7 +9,7 @@ use Rattle.seg_model.specs.Fields.{Schema}
 use Rattle.seg_values.specs.ValueBytes.{bit}
 use Rattle.seg_model.specs.Reading.{stored_document}
 
--- bytes behind their number
+-- bytes after their number
 abbrev pub sized : List ℕ → List ℕ
 sized bytes = varint (length bytes) ++ bytes
 

@@ -54,7 +54,7 @@ filters_fit [] (batch ∷ batches) = false
 filters_fit (filter ∷ filters) [] = false
 filters_fit (filter ∷ filters) (batch ∷ batches) = filter_fits filter batch && filters_fit filters batches
 
--- no number stands twice
+-- no number comes twice
 abbrev pub are_distinct : List ℕ → Bool
 are_distinct [] = true
 are_distinct (n ∷ ns) = not (list_any (nat_eq n) ns) && are_distinct ns

@@ -46,5 +46,5 @@ pub record ColumnCases : Type 0 where
       (date_value (negsuc 999999999) ∷ []) ∷ (date_value (negsuc 1233999999) ∷ []) ∷ (date_value (negsuc 1234566999) ∷ []) ∷ (date_value (negsuc 1234567890) ∷ []) ∷ []
   -- the root of facets is a value without bytes
   pub root : values (entry Facet Basic) (leaf (facet [])) ≡ text_value [] ∷ []
-  -- -1 and 7 stand in one column
+  -- -1 and 7 are in one column
   pub numbers : column_at (declared_columns (only Json No)) signed_n (recorded_values (only Json No) analyzer small_numbers signed_n) ≡ Some ((number (negsuc 0) ∷ []) ∷ (number (pos 7) ∷ []) ∷ [])

@@ -15,7 +15,7 @@ use Rattle.seg_model_cases.specs.Given.{analyzer, only, one, said, posting}
 abbrev pub documents : List Document
 documents = one (said (codes "a b a")) ∷ one (said (codes "b")) ∷ []
 
--- their terms, where `a` occurs so often in the first
+-- their terms, where `a` occurs this often in the first
 abbrev pub term_entries : ℕ → List (List ℕ × List Posting)
 term_entries often = (codes "a", posting 0 (frequency often) ∷ []) ∷ (codes "b", posting 0 (frequency 1) ∷ posting 1 (frequency 1) ∷ []) ∷ []
 

@@ -22,7 +22,7 @@ seven = leaf (unsigned 7)
 abbrev pub bytes : Tree
 bytes = leaf (byte_string (codes "a"))
 
--- two tokens, of which the second stands before the first
+-- two tokens, of which the second is before the first
 abbrev pub falling : Tree
 falling = cut (token 1 (codes "a") ∷ token 0 (codes "a") ∷ [])
 

@@ -42,7 +42,7 @@ cut tokens = leaf (pre_tokenized (record { text = codes "a"; tokens = tokens }))
 abbrev pub keyed : List ℕ → Tree → Tree
 keyed key value = object (member key value no_members)
 
--- a value in so many arrays
+-- a value in this many arrays
 abbrev pub in_arrays : ℕ → Tree → Tree
 in_arrays zero value = value
 in_arrays (suc n) value = array (tree (in_arrays n value) no_trees)

@@ -9,7 +9,7 @@ use Rattle.seg_model.specs.Reading.{presence, frequency, positions}
 use Rattle.seg_model.specs.Norms.{length_id, length_of_id, field_length, field_norms}
 use Rattle.seg_model_cases.specs.Given.{analyzer, entry, only, one, said, token, cut, at, posting, recorded_of}
 
--- so many words
+-- this many words
 abbrev pub words : ℕ → Tree
 words n = said (flat_map (λ word. word) (replicate n (codes "a ")))
 

@@ -1,6 +1,6 @@
 //! Worked cases of the definitions of `seg_model`, as theorems.
 //!
-//! Each law says what the definitions answer on small inputs that were worked out by hand. No other crate stands on it.
+//! Each law says what the definitions answer on small inputs that were worked out by hand. No other crate uses it.
 #![tactic(auto)]
 
 mod laws;

@@ -35,18 +35,18 @@ mapped None ds e = absurd (cc e)
 mapped (Some bs) ds e = record { blocks = bs; is = refl; same = cc }
 
 module _ (schema : Schema) (documents : ℕ) (files : SegmentFiles) where
-  -- the store isn't one of so many documents
+  -- the store isn't one of this many documents
   pub store_disagrees : ((blocks : List Block) → store_of files.store ≡ Some blocks → length (documents_of blocks) ≢ documents) → Disagree schema documents files Store
   store_disagrees none completed contents same spell number =
       let m = mapped (store_of completed.store) contents.stored spell.stored in
       none m.blocks (ap store_of (sym same.1.0) ∙ m.is) (ap length m.same ∙ spell.shape.stored ∙ number)
 
-  -- the columns aren't those of so many documents
+  -- the columns aren't those of this many documents
   pub columns_disagree : rows_of files.fast_fields ≢ Some documents → Disagree schema documents files FastFields
   columns_disagree other completed contents same spell number =
       other (ap rows_of (sym same.1.1.1.1.0) ∙ spell.rows ∙ ap (λ n. Some n) number)
 
-  -- the length ids aren't those of so many documents in the fields of the schema
+  -- the length ids aren't those of this many documents in the fields of the schema
   pub norms_disagree : ((norms : List (List ℕ)) → AreNorms schema documents norms → composite files.field_norms ≢ Some (norms_parts schema norms)) → Disagree schema documents files FieldNorms
   norms_disagree none completed contents same spell number =
       none contents.norms

@@ -48,7 +48,7 @@ there_none None is some = cc some
 there_none (Some bytes) is some = cc
 
 module _ (id : ℕ) (segment : SegmentFiles) (files : List SegmentComponent) (i : ℕ) (f : SegmentComponent) (lt : i < length files) (is : f ≡ get_or files i f) where
-  -- the file at a place, between those before it and those behind it
+  -- the file at a place, between those before it and those after it
   here : drop i files ≡ f ∷ drop (i + 1) files
   here = drop-item files i f lt is
 

@@ -41,7 +41,7 @@ module _ {Y : Type 0} where
       ap (λ r. cond (is_eq r) (Some e.1) (find (slice_cmp nat_cmp) q es)) (nat_list_cmp_total.congr q k e.0 tie ∙ less _ (first _ _ h))
       ∙ missed q k tie es (second _ _ h)
 
-  -- what is found behind the first entry is found
+  -- what is found after the first entry is found
   found_behind : (e : List ℕ × Y) (es : List (List ℕ × Y)) → T (below_all (slice_cmp nat_cmp) e.0 es) → (k : List ℕ) (y : Y) → find (slice_cmp nat_cmp) k es ≡ Some y → (r : Ordering) → slice_cmp nat_cmp k e.0 ≡ r → find (slice_cmp nat_cmp) k (e ∷ es) ≡ Some y
   found_behind e es below k y at Less is = ap (λ r. cond (is_eq r) (Some e.1) (find (slice_cmp nat_cmp) k es)) is ∙ at
   found_behind e es below k y at Equal is = absurd (none-some y (sym (missed k e.0 is es below) ∙ at))

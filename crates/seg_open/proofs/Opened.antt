@@ -94,7 +94,7 @@ module _ (directory : NamedFiles) (id : ℕ) (schema : Schema) (documents : ℕ)
       by FastFields d = d completed contents (t, (s, (p, (q, (f, tt))))) spell number
       by FieldNorms d = d completed contents (t, (s, (p, (q, (f, (n, tt)))))) spell number
 
-  -- files that hold contents of so many documents are not damaged
+  -- files that hold contents of this many documents are not damaged
   pub not_damaged : (e : OpenError) → IsWhyNotOpen schema documents files e → IsNoDamage (error_of id e)
   not_damaged (Damaged c) why = same c why
   not_damaged OutOfMemory why = tt
@@ -126,7 +126,7 @@ unread_seen id schema documents old new e ends = elim ends.why [
   | inr (inr told) ↦ subst (λ x. OpeningSeen id schema documents old (Err x) new) (sym told) (inr (inl (subst (λ x. ReadingEnds id x old new) told ends)))
 ]
 
--- and so is what can't be opened behind it
+-- and so is what can't be opened after it
 pub unopened_seen : (id : ℕ) (schema : Schema) (documents : ℕ) (old new : List Answer) (files : SegmentFiles) (e : OpenError) → new ≡ old ++ reads id files read_order → IsWhyNotOpen schema documents files e → OpeningSeen id schema documents old (Err (error_of id e)) new
 unopened_seen id schema documents old new files (Damaged c) seen why = inr (record { all = record { files = files; seen = seen }; component = c; told = refl; disagree = why })
 unopened_seen id schema documents old new files OutOfMemory seen why = inr (inr (record { files = files; seen = seen }))

@@ -11,7 +11,7 @@ use Rattle.seg_directory.specs.declared.answer.Answer.{Answer}
 use Rattle.seg_open.specs.SegmentRead.{read_order, reads, ReadingSeen, ReadsSegment, IsWhyUnread}
 use Rattle.seg_open.specs.declared.segment_files.SegmentFiles.{SegmentFiles}
 
--- answers behind others
+-- answers after others
 pub more : (old mid new before now : List Answer) → mid ≡ old ++ before → new ≡ mid ++ now → new ≡ old ++ (before ++ now)
 more old mid new before now so then_now = then_now ∙ ap (λ a. a ++ now) so ∙ append_assoc old before now
 

@@ -22,13 +22,13 @@ pub record IsOpened (entry : FieldEntry) (field documents : ℕ) (terms postings
   pub in_positions : field_of positions field ≡ Some positions_part
   pub by : IsFieldBy (rules_of entry documents) dictionary postings_part positions_part opened.total (written_terms opened)
 
--- the parts of a field hold terms in so many documents
+-- the parts of a field hold terms in this many documents
 pub record MayHold (entry : FieldEntry) (field documents : ℕ) (terms postings positions : List Part) : Type 0 where
   pub held : reading.Terms
   pub holds : HoldsField entry field terms postings positions held
   pub shape : (term : List ℕ) (ps : List reading.Posting) → get held term ≡ Some ps → IsTermWith entry documents term ps
 
--- they don't, and the first of the files that tells is that of a component, whatever those behind it are
+-- they don't, and the first of the files that tells is that of a component, whatever those after it are
 abbrev pub CantHold : FieldEntry → ℕ → ℕ → List Part → List Part → List Part → SegmentComponent → Type 0
 CantHold entry field documents terms postings positions Terms = (ps qs : List Part) → MayHold entry field documents terms ps qs → ⊥
 CantHold entry field documents terms postings positions Postings = (qs : List Part) → MayHold entry field documents terms postings qs → ⊥

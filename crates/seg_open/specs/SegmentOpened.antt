@@ -31,7 +31,7 @@ pub record ReadsDamaged (id : ℕ) (schema : Schema) (documents : ℕ) (name : F
   pub told : name ≡ Part id component
   pub disagree : Disagree schema documents all.files component
 
--- what it adds to the answers of the directory: all files, whole or damaged; those before one that is missing or can't be read; or no memory, before or behind them
+-- what it adds to the answers of the directory: all files, whole or damaged; those before one that is missing or can't be read; or no memory, before or after them
 abbrev pub OpeningSeen : ℕ → Schema → ℕ → List Answer → Result OpenSegment TantivyError → List Answer → Type 0
 OpeningSeen id schema documents old (Ok s) new = ReadsWhole id s old new
 OpeningSeen id schema documents old (Err (DataCorruption name)) new = ReadingEnds id (DataCorruption name) old new ⊎ ReadsDamaged id schema documents name old new

@@ -36,13 +36,13 @@ up_to Positions = Terms ∷ Store ∷ Postings ∷ Positions ∷ []
 up_to FastFields = Terms ∷ Store ∷ Postings ∷ Positions ∷ FastFields ∷ []
 up_to FieldNorms = Terms ∷ Store ∷ Postings ∷ Positions ∷ FastFields ∷ FieldNorms ∷ []
 
--- the files up to and with that of a component can't be completed: whatever the others are, they spell no contents of so many documents
+-- the files up to and with that of a component can't be completed: whatever the others are, they spell no contents of this many documents
 abbrev pub Disagree : Schema → ℕ → SegmentFiles → SegmentComponent → Type 0
 Disagree schema documents files component =
     (completed : SegmentFiles) (contents : Contents) → AllByRecursion (λ c. bytes_of completed c ≡ bytes_of files c) (up_to component)
     → Spell schema completed contents → contents.documents ≡ documents → ⊥
 
--- why a segment of so many documents can't be opened
+-- why a segment of this many documents can't be opened
 abbrev pub IsWhyNotOpen : Schema → ℕ → SegmentFiles → OpenError → Type 0
 IsWhyNotOpen schema documents files (Damaged component) = Disagree schema documents files component
 IsWhyNotOpen schema documents files OutOfMemory = ⊤

@@ -13,7 +13,7 @@ use seg_postings::FieldNormReaders;
 use seg_store::StoreReader;
 use seg_values::Schema;
 
-/// The store of so many documents, where the bytes are one.
+/// The store of this many documents, where the bytes are one.
 pub(crate) fn open_store(bytes: OwnedBytes, max_doc: u32) -> Option<StoreReader>
     ensures { MatchOption result
         ((blocks : List Block) → store_of bytes ≡ Some blocks → length (documents_of blocks) ≢ max_doc)
@@ -28,7 +28,7 @@ pub(crate) fn open_store(bytes: OwnedBytes, max_doc: u32) -> Option<StoreReader>
     Some(store)
 }
 
-/// Whether the bytes are columns of so many documents.
+/// Whether the bytes are columns of this many documents.
 pub(crate) fn are_columns(bytes: OwnedBytes, max_doc: u32) -> bool
     ensures { MatchBool result (rows_of bytes ≡ Some max_doc) (rows_of bytes ≢ Some max_doc) }
 {
@@ -38,7 +38,7 @@ pub(crate) fn are_columns(bytes: OwnedBytes, max_doc: u32) -> bool
     }
 }
 
-/// The length ids of so many documents in the fields of a schema, where the bytes are these.
+/// The length ids of this many documents in the fields of a schema, where the bytes are these.
 pub(crate) fn open_norms(
     bytes: OwnedBytes,
     schema: &Schema,

@@ -129,7 +129,7 @@ impl SegmentReader {
         &self.norms
     }
 
-    /// Opens the files of a segment of so many documents, each checked whole and against those that are read before it: for
+    /// Opens the files of a segment of this many documents, each checked whole and against those that are read before it: for
     /// a segment whose bytes are wanted besides, so that each file is read once.
     pub fn open_files(
         alloc: Global,

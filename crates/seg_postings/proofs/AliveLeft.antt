@@ -28,7 +28,7 @@ pub none_counted : (alive : List Bool) (left : List Posting) → kept_kind_of le
 none_counted alive [] none = refl
 none_counted alive (p ∷ ps) none = absurd (cc none)
 
--- the current document is counted, then those behind it
+-- the current document is counted, then those after it
 module _ (alive : List Bool) (left rest : List Posting) (kind : RecordKind) (some : kept_kind_of left ≡ Some kind) (document bit : ℕ) (is_document : document ≡ document_of left) (is_bit : bit ≡ from_bool (get_or alive document false)) where
   pub is_small : (count : ℕ) → count + length left < 2 ^ 32 → count + bit < 2 ^ 32
   is_small count few = omega (arith, few, one_less left kind some, is_bit, at_most_one (get_or alive document false))

@@ -27,7 +27,7 @@ limited least limit bytes n e =
     by v true false p q h = absurd (let none : (let o : Option (ℕ × List ℕ) = None in o) ≡ Some n = sym (rw (p, q) refl) ∙ h in cc none)
     by v false b p q h = absurd (let none : (let o : Option (ℕ × List ℕ) = None in o) ≡ Some n = sym (rw p refl) ∙ h in cc none)
 
--- the last of so many documents behind one lies below the limit
+-- the last of this many documents after one lies below the limit
 below : (kind : RecordKind) (n before : ℕ) (bytes : List ℕ) (cs : List Counted) → before < 2 ^ 32 - 1 → counts_at kind n before 1 bytes ≡ Some cs → before + n < 2 ^ 32 - 1
 unfolding counts_at
 below kind zero before bytes cs low e = omega (arith, low)

@@ -135,7 +135,7 @@ module _ (field total : ℕ) (dictionary : Option Building) (postings positions 
   abbrev ps : List Posting
   ps = i.is_open.1.0
 
-  -- the document lies behind the last
+  -- the document comes after the last
   pub behind : (document count : ℕ) (ds : List ℕ) → MayOccur document count ds (record { bytes = unwrap_or i.built.waiting []; kind = o.kind; postings = i.is_open.1.0 }) → (o.last ≤ document) × (o.doc_freq < 2 ^ 32 - 1)
   behind document count ds m =
       let last = i.is_open.1.1.last in

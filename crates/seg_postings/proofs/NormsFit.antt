@@ -8,7 +8,7 @@ use Rattle.seg_values.specs.declared.schema.FieldEntry.{FieldEntry}
 use Rattle.seg_model.specs.Fields.{has_lengths}
 
 module _ {A : Type 0} where
-  -- what stands behind the first places
+  -- what is after the first places
   behind : (xs ys : List A) (k : ℕ) (x : A) → k ≤ length xs → slice_get (take k xs ++ x ∷ ys) k ≡ Some x
   behind xs ys zero x h = refl
   behind [] ys (suc k) x h = absurd (omega (arith, h))

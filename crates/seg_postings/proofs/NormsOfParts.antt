@@ -21,7 +21,7 @@ selected n es = flat_map (λ f. if has_lengths f.1 then f.0 ∷ [] else []) (enu
 abbrev ids_in : List Part → ℕ → List ℕ
 ids_in parts field = unwrap_or (field_of parts field) []
 
--- a part for each field with lengths, of so many ids
+-- a part for each field with lengths, of this many ids
 data Along (documents : ℕ) : ℕ → List FieldEntry → List Part → Type 0 where
   no_field : (n : ℕ) → Along documents n [] []
   a_part : (n : ℕ) (e : FieldEntry) (es : List FieldEntry) (p : Part) (ps : List Part) → has_lengths e ≡ true → p.0 ≡ n → length p.1 ≡ documents → Along documents (n + 1) es ps → Along documents n (e ∷ es) (p ∷ ps)
@@ -49,7 +49,7 @@ module _ (documents : ℕ) where
       rw (ne_eqb p.0 field other) (above (n + 1) es' ps' rest field (omega (arith, lt)))
   above n es ps (no_part _ e es' _ has rest) field lt = above (n + 1) es' ps rest field (omega (arith, lt))
 
-  -- a field behind the first
+  -- a field after the first
   behind : (n i : ℕ) (p : Part) (ps : List Part) → p.0 ≡ n → field_of (p ∷ ps) (n + suc i) ≡ field_of ps (n + 1 + i)
   behind n i p ps at =
       let other : p.0 ≢ n + suc i = λ same. omega (arith, same, at) in

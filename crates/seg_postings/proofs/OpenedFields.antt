@@ -51,7 +51,7 @@ written_back rules total postings positions (t ∷ terms) = ap (λ ts. written r
 
 -- ---- the last step
 
--- the bytes behind the total
+-- the bytes after the total
 pub behind_total : (postings body slice : List ℕ) (n : ℕ) → 8 ≤ length postings → n ≡ length postings → slice ≡ slice_range postings 8 n → body ≡ slice → body ≡ drop 8 postings
 behind_total postings body slice n room is_length is same =
     same ∙ is ∙ take_all (n - 8) (drop 8 postings) (let rest : length (drop 8 postings) ≡ length postings - 8 = length-drop 8 postings in omega (arith, rest, is_length))

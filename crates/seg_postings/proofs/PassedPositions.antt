@@ -8,7 +8,7 @@ use Rattle.seg_postings.specs.declared.record_kind.RecordKind.TheVariants.{Docum
 use Rattle.seg_postings.specs.Postings.{number_at, positions_at}
 use Rattle.seg_postings.specs.PostingsLeft.{recorded_at}
 
--- what is left behind what was read
+-- what is left after what was read
 abbrev pub after : Option (List ℕ × List ℕ) → Option (List ℕ)
 after o = option_map (λ x. x.1) o
 

@@ -35,7 +35,7 @@ after f (Some a) b e = record { value = a; is = refl; next = e }
 
 -- ---- counted documents
 
--- documents ascend, the first from `least` behind `before` on, and each has the term at least once
+-- documents ascend, the first from `least` after `before` on, and each has the term at least once
 abbrev Rise : ℕ → ℕ → List Counted → Type 0
 Rise before least [] = Unit {0}
 Rise before least (c ∷ cs) = (before + least ≤ c.document) × (1 ≤ c.count) × Rise c.document 1 cs

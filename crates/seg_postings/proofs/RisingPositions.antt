@@ -32,7 +32,7 @@ read_rise (suc n) before bytes r e =
     let low = limited (2 ^ 32 - before) bytes p.value p.is in
     subst (λ (x : List ℕ × List ℕ). Rise before x.0) rest.same (omega arith, omega (arith, low), read_rise n (before + p.value.0) p.value.1 rest.value rest.is)
 
--- so do those that are put behind none
+-- so do those that are put after none
 pub put_rise : (count : ℕ) (bytes out : List ℕ) → option_map (λ r. [] ++ r.0) (positions_at count 0 bytes) ≡ Some out → Rise 0 out
 put_rise count bytes out e =
     let read = mapped (λ (r : List ℕ × List ℕ). [] ++ r.0) (positions_at count 0 bytes) out e in

@@ -47,7 +47,7 @@ module _ (kind : RecordKind) (document count n : ℕ) (bytes qs : List ℕ) wher
 none_some : {A : Type 0} (x : A) → ◌≡◌ {A = Option A} None (Some x) → ⊥
 none_some x e = cc
 
--- what a reader is seen as, where it stands at a document
+-- what a reader is seen as, where it is at a document
 pub record Stands (kind : RecordKind) (current : Option CountedDocument) (d : CountedDocument) (n : ℕ) (bytes qs : List ℕ) : Type 0 where
   pub head : Headed kind d.document d.count n bytes qs
   pub left : left_from kind current n bytes qs ≡ with_first d.document head.recorded head.rest

@@ -1,4 +1,4 @@
--- The postings behind an info of an open field.
+-- The postings that an info of an open field tells.
 use Rattle.std.proofs.Common.{◌≡◌, ℕ, true, List, [], ◌∷◌, length, map, Some, sym, ap, ◌∙◌, subst, slice_range}
 use Rattle.std.specs.Prelude.{is_some, option_map}
 use Rattle.std.specs.List.{AllByRecursion, Any}

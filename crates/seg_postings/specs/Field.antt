@@ -1,4 +1,4 @@
--- A field in three parts: a dictionary, postings behind the total of the field's tokens, and positions.
+-- A field in three parts: a dictionary, postings after the total of the field's tokens, and positions.
 use Rattle.std.specs.Prelude.{◌≡◌, ℕ, ◌<◌, ◌≤◌, List, [], ◌∷◌, length, drop, slice_range, Option, Some, None, option_map, option_and_then}
 use Rattle.std.specs.List.{AllByRecursion}
 use Rattle.seg_common.specs.LittleEndian.{u64_at}

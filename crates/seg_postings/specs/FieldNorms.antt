@@ -13,7 +13,7 @@ no_norms schema = map (λ e. if has_lengths e then Some [] else None) schema
 abbrev pub filled : ℕ → List ℕ → List ℕ
 filled documents ids = ids ++ replicate (documents - length ids) 0
 
--- the id of a document's length, behind a 0 for each document before it that has none
+-- the id of a document's length, after a 0 for each document before it that has none
 abbrev pub with_length : ℕ → ℕ → List ℕ → List ℕ
 with_length document length ids = filled document ids ++ length_id length ∷ []
 

@@ -72,7 +72,7 @@ abbrev pub LiesWithin : ℕ → ℕ → Term → Type 0
 LiesWithin postings positions t =
     (t.1.postings_start ≤ t.1.postings_end) × (t.1.postings_end ≤ postings) × (t.1.positions_start ≤ t.1.positions_end) × (t.1.positions_end ≤ positions)
 
--- the parts of a field: postings behind the total of its tokens, positions, and a dictionary whose terms can be read
+-- the parts of a field: postings after the total of its tokens, positions, and a dictionary whose terms can be read
 pub record AreParts (total : ℕ) (dictionary : Option Building) (postings positions : List ℕ) (current : Option OpenTerm) : Type 0 where
   pub built : Building
   pub is_built : dictionary ≡ Some built

@@ -28,7 +28,7 @@ pub record FieldRules : Type 0 where
 abbrev pub asked_kind : FieldKind → IndexOption → List ℕ → RecordKind
 asked_kind kind index bytes = kind_of (if is_text kind || (is_json kind && nat_eq (type_code bytes) 115) then index else options.Basic)
 
--- the rules of an entry, in a segment of so many documents
+-- the rules of an entry, in a segment of this many documents
 abbrev pub rules_of : FieldEntry → ℕ → FieldRules
 rules_of entry max_doc = record { kind = entry.kind; index = entry.index; max_doc = max_doc }
 

@@ -67,7 +67,7 @@ abbrev pub HasPositions : RecordKind → ℕ → List ℕ → Type 0
 HasPositions Positions count differences = length differences ≡ count
 HasPositions _ count differences = differences ≡ []
 
--- a document may be added to a term: it lies behind the others, and the term occurs in it at positions below 2 ^ 32
+-- a document may be added to a term: it comes after the others, and the term occurs in it at positions below 2 ^ 32
 pub record MayOccur (document count : ℕ) (differences : List ℕ) (t : TermWritten) : Type 0 where
   pub ascends : next_document 0 t.postings ≤ document
   pub limit : document < 2 ^ 32 - 1

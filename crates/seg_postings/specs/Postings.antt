@@ -15,7 +15,7 @@ pub record Counted : Type 0 where
 abbrev pub in_bounds : ℕ → ℕ → ℕ × List ℕ → Option (ℕ × List ℕ)
 in_bounds least limit n = if nat_le least n.0 && nat_lt n.0 limit then Some n else None
 
--- such a number at the front of some bytes, and the bytes behind it
+-- such a number at the front of some bytes, and the bytes after it
 abbrev pub number_at : ℕ → ℕ → List ℕ → Option (ℕ × List ℕ)
 number_at least limit bytes = option_and_then (in_bounds least limit) (varint_at bytes)
 
@@ -25,14 +25,14 @@ count_at Documents bytes = Some (1, bytes)
 count_at Counts bytes = number_at 1 (2 ^ 32) bytes
 count_at Positions bytes = number_at 1 (2 ^ 32) bytes
 
--- so many documents, of which the first lies at least `least` behind `before`, in all of the bytes
+-- this many documents, of which the first lies at least `least` after `before`, in all of the bytes
 unfoldable pub counts_at : RecordKind → ℕ → ℕ → ℕ → List ℕ → Option (List Counted)
 counts_at kind zero before least [] = Some []
 counts_at kind zero before least (b ∷ bytes) = None
 counts_at kind (suc n) before least bytes =
     option_and_then (λ d. option_and_then (λ c. option_map (λ rest. record { document = before + d.0; count = c.0 } ∷ rest) (counts_at kind n (before + d.0) 1 c.1)) (count_at kind d.1)) (number_at least (2 ^ 32 - 1 - before) bytes)
 
--- so many positions, each as its difference from the one before, and the bytes behind them
+-- this many positions, each as its difference from the one before, and the bytes after them
 unfoldable pub positions_at : ℕ → ℕ → List ℕ → Option (List ℕ × List ℕ)
 positions_at zero before bytes = Some ([], bytes)
 positions_at (suc n) before bytes =
@@ -58,12 +58,12 @@ pub record TermPostings : Type 0 where
   pub kind : RecordKind
   pub postings : List Posting
 
--- so many documents of a kind, from their bytes and those of their positions
+-- this many documents of a kind, from their bytes and those of their positions
 abbrev pub postings_of_kind : ℕ → List ℕ → List ℕ → RecordKind → Option TermPostings
 postings_of_kind n bytes position_bytes kind =
     option_map (λ ps. record { kind = kind; postings = ps }) (option_and_then (λ cs. postings_by kind cs position_bytes) (counts_at kind n 0 0 bytes))
 
--- the kind and the postings of a term of so many documents, from all bytes of its two ranges
+-- the kind and the postings of a term of this many documents, from all bytes of its two ranges
 abbrev pub term_postings : ℕ → List ℕ → List ℕ → Option TermPostings
 term_postings n [] position_bytes = None
 term_postings n (b ∷ bytes) position_bytes = option_and_then (postings_of_kind n bytes position_bytes) (kind_of_byte b)

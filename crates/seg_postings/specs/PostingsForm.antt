@@ -22,7 +22,7 @@ count_form presence = []
 count_form (frequency n) = varint n
 count_form (positions ps) = varint (length ps)
 
--- where it occurs, where that is kept: these bytes stand in the file of positions
+-- where it occurs, where that is kept: these bytes are in the file of positions
 abbrev pub position_form : Recorded → List ℕ
 position_form (positions ps) = flat_map varint (differences 0 ps)
 position_form _ = []

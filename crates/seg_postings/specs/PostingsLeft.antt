@@ -7,22 +7,22 @@ use Rattle.seg_postings.specs.declared.record_kind.RecordKind.TheVariants.{Docum
 use Rattle.seg_postings.specs.Kinds.{kind_byte}
 use Rattle.seg_postings.specs.Postings.{number_at, count_at, counts_at, positions_at, postings_by, TermPostings}
 
--- a document and how often the term occurs in it, at the front of some bytes, and the bytes behind them
+-- a document and how often the term occurs in it, at the front of some bytes, and the bytes after them
 unfoldable pub counted_at : RecordKind → ℕ → ℕ → List ℕ → Option (ℕ × ℕ × List ℕ)
 counted_at kind before least bytes =
     option_and_then (λ d. option_map (λ c. (before + d.0, c.0, c.1)) (count_at kind d.1)) (number_at least (2 ^ 32 - 1 - before) bytes)
 
--- what is recorded of a document in which the term occurs so often, and the bytes of positions behind it
+-- what is recorded of a document in which the term occurs this often, and the bytes of positions after it
 unfoldable pub recorded_at : RecordKind → ℕ → List ℕ → Option (Recorded × List ℕ)
 recorded_at Documents count bytes = Some (presence, bytes)
 recorded_at Counts count bytes = Some (frequency count, bytes)
 recorded_at Positions count bytes = option_map (λ r. (positions r.0, r.1)) (positions_at count 0 bytes)
 
--- the postings of so many documents, of which the first lies at least `least` behind `before`
+-- the postings of this many documents, of which the first lies at least `least` after `before`
 unfoldable pub postings_at : RecordKind → ℕ → ℕ → ℕ → List ℕ → List ℕ → Option (List Posting)
 postings_at kind n before least bytes position_bytes = option_and_then (λ cs. postings_by kind cs position_bytes) (counts_at kind n before least bytes)
 
--- the postings from a document on that is known with its count, and so many behind it
+-- the postings from a document on that is known with its count, and this many after it
 unfoldable pub postings_from : RecordKind → ℕ → ℕ → ℕ → List ℕ → List ℕ → Option (List Posting)
 postings_from kind document count n bytes position_bytes =
     option_and_then (λ cs. postings_by kind (record { document = document; count = count } ∷ cs) position_bytes) (counts_at kind n document 1 bytes)

@@ -13,12 +13,12 @@ pub record OpenPostings : Type 0 where
   pub left : List Posting
   pub all : ℕ
 
--- the kind that the first byte says, and the bytes behind it
+-- the kind that the first byte says, and the bytes after it
 abbrev pub kind_at : List ℕ → Option (RecordKind × List ℕ)
 kind_at [] = None
 kind_at (b ∷ bytes) = option_map (λ kind. (kind, bytes)) (kind_of_byte b)
 
--- the postings from the current document on, with so many behind it; none at the end
+-- the postings from the current document on, with this many after it; none at the end
 unfoldable pub left_from : RecordKind → Option CountedDocument → ℕ → List ℕ → List ℕ → List Posting
 left_from kind None n bytes position_bytes = []
 left_from kind (Some d) n bytes position_bytes = unwrap_or (postings_from kind d.document d.count n bytes position_bytes) []

@@ -22,7 +22,7 @@ IsOfKind Documents r = r ≡ presence
 IsOfKind Counts r = (n : ℕ) × (1 ≤ n) × (n < 2 ^ 32) × (r ≡ frequency n)
 IsOfKind Positions r = (ps : List ℕ) × (1 ≤ length ps) × (length ps < 2 ^ 32) × Rise 0 ps × (r ≡ positions ps)
 
--- postings of a kind by ascending documents, the first at least `least` behind `before`
+-- postings of a kind by ascending documents, the first at least `least` after `before`
 abbrev pub AreWritable : RecordKind → ℕ → ℕ → List Posting → Type 0
 AreWritable kind before least [] = Unit {0}
 AreWritable kind before least (p ∷ ps) =

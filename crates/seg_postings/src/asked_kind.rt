@@ -64,7 +64,7 @@ fn json_kind(index: IndexOption, key: &[u8]) -> RecordKind
     }
 }
 
-/// The byte behind the first byte 0; 0 if there is none.
+/// The byte after the first byte 0; 0 if there is none.
 fn type_code(bytes: &[u8]) -> u8
     ensures { result ≡ reading.type_code bytes.now }
 {

@@ -77,7 +77,7 @@ pub(crate) fn take_document(
     })
 }
 
-/// Passes so many positions.
+/// Passes this many positions.
 fn pass_positions(bytes: &mut &[u8], count: u32) -> Option<()>
     ensures { Passes (positions_at count 0) bytes.old.now bytes.new.now result }
 {

@@ -72,7 +72,7 @@ fn parts_have_ids(file: &[u8])
     ensures { (parts : List Part) → composite file.now ≡ Some parts → HaveIds parts }
 {}
 
-/// Whether parts are those of fields for so many documents.
+/// Whether parts are those of fields for this many documents.
 fn fit_parts(parts: &CompositeFile, entries: &[FieldEntry], max_doc: u32) -> bool
     ensures { MatchBool result
         (lengths_of_parts parts.now ≡ lengths_for entries.now max_doc)
@@ -91,7 +91,7 @@ fn fit_parts(parts: &CompositeFile, entries: &[FieldEntry], max_doc: u32) -> boo
     place == count
 }
 
-/// Whether the part at a place is that of a field, with so many ids.
+/// Whether the part at a place is that of a field, with this many ids.
 fn is_part(parts: &CompositeFile, place: u32, field: usize, ids: u32) -> bool
     ensures { MatchBool result
         (slice_get (lengths_of_parts parts.now) place ≡ Some (field, ids))

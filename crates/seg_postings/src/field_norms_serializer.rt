@@ -10,7 +10,7 @@ use std::alloc::Global;
 use std::marker::Model;
 
 /// Writes the file of length ids: a composite file with one part for each field that has lengths, in which each
-/// document has a byte. Once memory was lacking it answers so for good, and it is seen as nothing.
+/// document has a byte. Once out of memory it answers so for good, and it is seen as nothing.
 #[derive(Drop)]
 pub struct FieldNormsSerializer {
     parts: CompositeWriter,

@@ -11,7 +11,7 @@ use seg_values::{Field, FieldEntry, IndexOption, Schema};
 use std::alloc::{AllocError, Global};
 use std::marker::Model;
 
-/// Keeps the ids of the lengths of each field that has lengths, and nothing of the others. Once memory was lacking it
+/// Keeps the ids of the lengths of each field that has lengths, and nothing of the others. Once out of memory it
 /// answers so for good, and it is seen as nothing.
 #[derive(Drop)]
 pub struct FieldNormsWriter {
@@ -79,7 +79,7 @@ impl FieldNormsWriter {
         Err(PostingsError::OutOfMemory)
     }
 
-    /// The ids of a field; none where it has no lengths, and none at all once memory was lacking.
+    /// The ids of a field; none where it has no lengths, and none at all once out of memory.
     pub fn ids(&self, field: Field) -> Option<&[u8]>
         ensures { option_map (λ ids. ids.now) result ≡ option_and_then (λ fs. option_and_then (λ f. f) (slice_get fs field)) self.now }
     {

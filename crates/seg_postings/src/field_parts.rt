@@ -14,7 +14,7 @@ use std::marker::Model;
 /// The bytes of the total, with which the postings of a field begin.
 const TOTAL_BYTES: u64 = 8;
 
-/// A dictionary, the postings behind the total of the field's tokens, and the positions, with the term that is open.
+/// A dictionary, the postings after the total of the field's tokens, and the positions, with the term that is open.
 #[derive(Drop)]
 pub(crate) struct FieldParts {
     field: u32,

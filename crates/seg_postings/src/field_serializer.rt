@@ -14,7 +14,7 @@ use std::alloc::Global;
 use std::marker::Model;
 
 /// Writes the dictionary, the postings and the positions of one field: its terms in byte order, each opened, given its
-/// documents in order, and closed. Once memory was lacking it answers so for good, and it is seen as nothing.
+/// documents in order, and closed. Once out of memory it answers so for good, and it is seen as nothing.
 #[derive(Drop)]
 pub struct FieldSerializer {
     parts: Option<FieldParts>,

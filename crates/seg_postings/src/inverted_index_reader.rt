@@ -51,7 +51,7 @@ impl InvertedIndexReader {
         Ok(InvertedIndexReader::new(terms, 0, bytes.share(), bytes))
     }
 
-    /// Of the postings behind the total.
+    /// Of the postings after the total.
     pub(crate) fn new(
         terms: TermDictionary,
         total: u64,

@@ -14,8 +14,8 @@ use seg_values::Field;
 use std::alloc::Global;
 use std::marker::Model;
 
-/// Writes the three files of the indexed fields of a segment, each a composite file with one part a field. Once memory
-/// was lacking it answers so for good, and it is seen as nothing.
+/// Writes the three files of the indexed fields of a segment, each a composite file with one part a field. Once out of
+/// memory it answers so for good, and it is seen as nothing.
 #[derive(Drop)]
 pub struct InvertedIndexSerializer {
     alloc: Global,

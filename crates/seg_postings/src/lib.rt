@@ -10,7 +10,7 @@
 //!
 //! To be read in this order: `error`; `field_norm_id` (lengths in one byte), `length_ids`, `field_norms_writer`,
 //! `field_norms_serializer`, `field_norm_reader`, `field_norm_readers`; `record_kind`, `occurrence` (the bytes of a
-//! document), `open_term`, `field_parts`, `field_serializer`, `inverted_index_serializer`; `documents` (what stands at the
+//! document), `open_term`, `field_parts`, `field_serializer`, `inverted_index_serializer`; `documents` (what is at the
 //! front of bytes), `postings_check`, `asked_kind`, `range`, `terms_check`, `last_term`, `field_terms`, `field_postings`,
 //! `segment_postings`, `inverted_index_reader`; `laws`.
 #![tactic(auto)]

@@ -6,7 +6,7 @@ ghost use Rattle.seg_postings.specs.PostingsLeft.{postings_at, are_low, is_term_
 use crate::documents::{pass_recorded, take_document};
 use crate::record_kind::RecordKind;
 
-/// Whether all of the bytes are so many postings of the kind, by documents below `max_doc`.
+/// Whether all of the bytes are this many postings of the kind, by documents below `max_doc`.
 fn are_postings(
     kind: RecordKind,
     count: u32,
@@ -36,7 +36,7 @@ fn are_postings(
     left.is_empty() && positions_left.is_empty()
 }
 
-/// Whether all of the bytes are a term of so many documents and of the kind, each document below `max_doc`.
+/// Whether all of the bytes are a term of this many documents and of the kind, each document below `max_doc`.
 pub(crate) fn is_term(
     kind: RecordKind,
     count: u32,

@@ -189,7 +189,7 @@ fn take_kind(bytes: &mut &[u8]) -> Option<RecordKind>
     }
 }
 
-/// Passes the positions of the current document, and takes the document behind it, where there is one.
+/// Passes the positions of the current document, and takes the document after it, where there is one.
 fn next_document(
     kind: RecordKind,
     current: CountedDocument,
@@ -208,7 +208,7 @@ fn next_document(
     take_document(postings, kind, current.document, 1)
 }
 
-/// Adds so many positions.
+/// Adds this many positions.
 fn push_positions(bytes: &[u8], count: u32, out: &mut Vec<u32>) -> Result<(), AllocError>
     requires { is_some (positions_at count 0 bytes.now) ≡ true }
     ensures { OnOk result (option_map (λ r. out.old.items ++ r.0) (positions_at count 0 bytes.now) ≡ Some out.new.items) }

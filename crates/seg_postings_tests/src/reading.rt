@@ -15,7 +15,7 @@ fn small(number: u64) -> u32 {
     }
 }
 
-/// Whether a reader of the parts tells this, behind the total of its tokens.
+/// Whether a reader of the parts tells this, after the total of its tokens.
 fn tells(
     alloc: Global,
     index: IndexOption,

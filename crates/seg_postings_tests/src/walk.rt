@@ -18,7 +18,7 @@ pub(crate) fn put(out: &mut Vec<u32>, number: u32) -> Result<(), AllocError> {
 }
 
 /// Adds each document of the postings, with how often the term occurs in it, the number of its positions, and these;
-/// and at last where the postings stand at their end.
+/// and at last where the postings are at their end.
 pub(crate) fn add_postings(
     alloc: Global,
     mut postings: SegmentPostings,

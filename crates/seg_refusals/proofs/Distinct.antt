@@ -1,4 +1,4 @@
--- Numbers of which none stands twice, and the same in ascending order.
+-- Numbers of which none comes twice, and the same in ascending order.
 use Rattle.std.proofs.Common.{◌≡◌, ℕ, ◌+◌, ◌<◌, ◌≤◌, Bool, true, false, List, [], ◌∷◌, length, get_or, refl, sym, ap, ◌∙◌, arith}
 use Rattle.std.specs.Prelude.{not, ◌&&◌, ◌||◌, nat_eq, nat_lt}
 use Rattle.std.specs.List.{list_any, IsDistinct, AllByRecursion, AllAdjacentBelow, IsAllAdjacentAnswer}

@@ -139,7 +139,7 @@ all_fit analyzer schema settings operations cuts filters ids built h =
 
 -- ---- exits
 
--- an error comes where it is the first, unless memory was lacking
+-- an error comes where it is the first, unless out of memory
 pub first_comes : {T : Type 0} (error : Option TantivyError) (result : Result T TantivyError) (e : TantivyError) → result ≡ Err e → (error ≡ Some e) ⊎ (e ≡ OutOfMemory) → IfSome error (λ x. (result ≡ Err x) ⊎ (result ≡ Err OutOfMemory))
 first_comes error result e is (inl first) = subst (λ o. IfSome o (λ x. (result ≡ Err x) ⊎ (result ≡ Err OutOfMemory))) (sym first) (inl is)
 first_comes None result e is (inr lacking) = tt

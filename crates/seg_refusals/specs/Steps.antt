@@ -16,7 +16,7 @@ shape_error operations cuts batches filters ids =
     (refused_unless (filters_fit filters batches) (InvalidArgument argument.Filters)
     (refused_unless (ids_fit cuts ids) (InvalidArgument argument.SegmentIds) None)))
 
--- a check tells this error, or that there is none, unless memory was lacking
+-- a check tells this error, or that there is none, unless out of memory
 abbrev pub Tells : {T : Type 0} → Option TantivyError → Result T TantivyError → Type 0
 Tells error (Ok _) = error ≡ None
 Tells error (Err e) = (error ≡ Some e) ⊎ (e ≡ OutOfMemory)

@@ -15,7 +15,7 @@ pub(crate) fn ids_fit(alloc: Global, cuts: &[usize], ids: &[SegmentId]) -> Resul
     are_distinct(alloc, ids)
 }
 
-/// Whether no id stands twice: sorted, each is above the one before it.
+/// Whether no id comes twice: sorted, each is above the one before it.
 fn are_distinct(alloc: Global, ids: &[SegmentId]) -> Result<bool, AllocError>
     ensures { IfOk result (λ distinct. distinct ≡ are_distinct ids.now) }
 {

@@ -46,7 +46,7 @@ module _ (schema : Schema) (analyzer : Analyzer) (d : Document) (s : ℕ) where
       λ j. (greater s from lt j && deletes schema analyzer d (delete_all ts)) || rest j
 
 module _ (schema : Schema) (analyzer : Analyzer) where
-  -- a document is deleted by the deletes behind it, among all
+  -- a document is deleted by the deletes after it, among all
   deleted_among : (before after : List Operation) (d : Document) → is_removed schema analyzer d after ≡ is_deleted_by schema analyzer d (length before) (stamped_deletes 0 (before ++ add d ∷ after))
   deleted_among before after d =
       let s = length before in

@@ -1,4 +1,4 @@
--- The laws on which the applying of deletes stands.
+-- The laws that the applying of deletes uses.
 use Rattle.std.specs.Prelude.{◌≡◌, ◌≤◌, ℕ, true, not, ◌&&◌, nat_lt, List, [], ◌∷◌, ◌++◌, map, length, replicate}
 use Rattle.std.specs.List.{All, enumerate_from}
 use Rattle.seg_values.specs.Tree.{Document}

@@ -1,4 +1,4 @@
-//! Laws on which the applying of deletes stands: which documents a term's postings tell, and what deletes leave alive.
+//! Laws that the applying of deletes uses: which documents a term's postings tell, and what deletes leave alive.
 //!
 //! There is no code here. `specs/Postings` says which documents the postings of a term name, `specs/Stamps` which documents deletes with greater stamps leave, `specs/Cleared` the same as postings tell it, and `specs/Laws` what `laws.rt` proves of them.
 #![tactic(auto)]

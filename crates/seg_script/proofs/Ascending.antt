@@ -25,7 +25,7 @@ ascends-all (n ∷ ns) = rw (from_none n) (sym (ascends-next n ns))
 dropped : (ns : List ℕ) (i n : ℕ) → i < length ns → n ≡ get_or ns i 0 → drop i ns ≡ n ∷ drop (i + 1) ns
 dropped ns i n h is = rw (add-one, drop-cons ns i 0 h, ← is) refl
 
--- the next number, and then those behind it
+-- the next number, and then those after it
 pub ascends_from-drop : (least : ℕ) (ns : List ℕ) (i n : ℕ) → i < length ns → n ≡ get_or ns i 0 → ascends_from least (drop i ns) ≡ (nat_le least n && ascends_from (n + 1) (drop (i + 1) ns))
 ascends_from-drop least ns i n h is = ap (ascends_from least) (dropped ns i n h is)
 

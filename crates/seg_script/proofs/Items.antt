@@ -14,7 +14,7 @@ one_behind done x None = refl
 one_behind done x (Some xs) = ap Some (append_assoc done (x ∷ []) xs)
 
 module _ {A : Type 0} (read : Data → Option A) (d : Data) (vs : List Value) (i : ℕ) (v : Value) (done : List A) where
-  -- so many items were read, and the rest is still to be read
+  -- this many items were read, and the rest is still to be read
   pub record AtItem : Type 0 where
     pub inside : i < length vs
     pub is : v ≡ get_or vs i v

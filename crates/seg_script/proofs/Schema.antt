@@ -13,7 +13,7 @@ use Rattle.seg_script.specs.Fields.{entry_from, are_distinct, schema_from}
 use Rattle.seg_script.proofs.Each.{so_far}
 use Rattle.seg_script.proofs.Distinct.{has_name-none, has_name-some, are_distinct-push, are_distinct-again}
 
--- so many entries, with distinct names, are what was read of a list, and these items are left
+-- this many entries, with distinct names, are what was read of a list, and these items are left
 pub record IsReadSoFar (d : Data) (done : List FieldEntry) (left : Items) (count : ℕ) : Type 0 where
   pub whole : so_far entry_from done left ≡ list_of entry_from d
   pub distinct : are_distinct done ≡ true

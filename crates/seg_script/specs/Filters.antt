@@ -11,7 +11,7 @@ ascends [] = true
 ascends (n ∷ []) = true
 ascends (n ∷ m ∷ ns) = nat_lt n m && ascends (m ∷ ns)
 
--- of so many documents all are kept but these
+-- of this many documents all are kept but these
 abbrev pub all_but : ℕ → List ℕ → Filter
 all_but size dropped = map (λ document. not (list_any (nat_eq document) dropped)) (range_with_len 0 size)
 

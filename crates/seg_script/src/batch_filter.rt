@@ -25,7 +25,7 @@ impl Model for BatchFilter {
 }
 
 impl BatchFilter {
-    /// The filter of so many documents that drops these; none where they don't ascend.
+    /// The filter of this many documents that drops these; none where they don't ascend.
     pub fn new(size: u32, dropped: Vec<u32>) -> Option<BatchFilter>
         ensures { result ≡ provided (ascends dropped.items) (Some (all_but size dropped.items)) }
     {

@@ -12,7 +12,7 @@ use crate::members::{flag_or, has_only, small_or};
 use seg_meta::{Compressor, IndexSettings};
 use serde_json::Value;
 
-/// A block of stored documents is closed once it has so many bytes, where a script doesn't say otherwise.
+/// A block of stored documents is closed once it has this many bytes, where a script doesn't say otherwise.
 const BLOCK_SIZE: u32 = 16_384;
 
 /// The settings of a script.

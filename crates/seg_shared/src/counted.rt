@@ -1,4 +1,4 @@
-//! The counted block. A count that is full stands still from then on, and its value stays for good.
+//! The counted block. A count that is full stays so from then on, and its value stays for good.
 ghost use Rattle.std.specs.Prelude.{◌≡◌, IfSome};
 ghost use Rattle.seg_shared.specs.Ownership.{counted_owns, counted_shares};
 

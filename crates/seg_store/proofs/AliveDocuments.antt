@@ -17,7 +17,7 @@ module _ {X : Type 0} where
   nothing_behind (x ∷ xs) zero le = absurd (omega (arith, le))
   nothing_behind (x ∷ xs) (suc n) le = nothing_behind xs n (omega (arith, le))
 
-  -- none are left behind the last
+  -- none are left after the last
   pub none_behind : (set : Option (List Bool)) (documents : List X) (n : ℕ) → length documents ≤ n → alive_behind n set documents ≡ []
   none_behind None documents n le = nothing_behind documents n le
   none_behind (Some set) documents n le = ap (kept (drop n set)) (nothing_behind documents n le) ∙ kept_none (drop n set)

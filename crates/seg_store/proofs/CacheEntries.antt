@@ -88,7 +88,7 @@ keys_take (suc n) (e ∷ es) = ap (λ l. e.0 ∷ l) (keys_take n es)
 pub keys_missed : (n k : ℕ) (v : List ℕ) (es : List Pair) → lookup (nat_eq k) es ≡ None → keys_of (take n ((k, v) ∷ es)) ≡ entries_after n k (keys_of es)
 keys_missed n k v es h = keys_take n ((k, v) ∷ es) ∙ ap (λ l. take n (k ∷ l)) (sym (kept_whole k (keys_of es) (absent k es h)))
 
--- what stands first after a hit
+-- what is first after a hit
 record Hit (k : ℕ) (es : List Pair) : Type 0 where
   pub keys : keys_of (promoted (nat_eq k) es) ≡ k ∷ without k (keys_of es)
   pub size : suc (length (without k (keys_of es))) ≡ length es

@@ -28,7 +28,7 @@ tag : stored_document_of (1 ∷ 0 ∷ 5 ∷ []) ≡ None
 unfolding stored_document_of stored_tree_at
 tag = refl
 
--- a byte behind the last pair
+-- a byte after the last pair
 left_over : stored_document_of (0 ∷ 0 ∷ []) ≡ None
 unfolding stored_document_of stored_tree_at
 left_over = refl
@@ -53,7 +53,7 @@ cut : stored_document_of (1 ∷ 0 ∷ 9 ∷ 2 ∷ 7 ∷ []) ≡ None
 unfolding stored_document_of stored_tree_at
 cut = refl
 
--- so many arrays of one value, around null
+-- this many arrays of one value, around null
 arrays : ℕ → List ℕ
 arrays zero = 0 ∷ []
 arrays (suc n) = 10 ∷ 1 ∷ arrays n
@@ -73,7 +73,7 @@ tokens : stored_document_of (1 ∷ 0 ∷ 2 ∷ 0 ∷ 0 ∷ []) ≡ None
 unfolding stored_document_of stored_tree_at
 tokens = rw (is_utf8-from_IsUtf8 [] IsUtf8-nil) refl
 
--- one block of one document, which ends at so many bytes, and a last byte
+-- one block of one document, which ends at this many bytes, and a last byte
 abbrev store : ℕ → ℕ → List ℕ
 store end last = 1 ∷ 0 ∷ 6 ∷ 1 ∷ end ∷ 0 ∷ 0 ∷ 0 ∷ 0 ∷ 0 ∷ 0 ∷ 0 ∷ 1 ∷ 0 ∷ 0 ∷ 0 ∷ 1 ∷ 0 ∷ 0 ∷ 0 ∷ 16 ∷ 0 ∷ 0 ∷ 0 ∷ 0 ∷ 0 ∷ 0 ∷ 0 ∷ 1 ∷ 0 ∷ 0 ∷ 0 ∷ 1 ∷ 0 ∷ 0 ∷ 0 ∷ last ∷ []
 

@@ -96,7 +96,7 @@ pub u64_at-written : (a b : List ℕ) (n at : ℕ) → n < 2 ^ 64 → length a �
 unfolding u64_at
 u64_at-written a b n at lt h = ap (λ (l : List ℕ). from_le_bytes w64 (take 8 l)) (drop_at a (to_le_bytes w64 n ++ b) at h) ∙ ap (from_le_bytes w64) (take_at (to_le_bytes w64 n) b 8 refl) ∙ from_le_bytes-to_le_bytes_8 n lt
 
--- a number that stands alone
+-- a number by itself
 pub u32_at-alone : (n : ℕ) → n < 2 ^ 32 → u32_at (to_le_bytes w32 n) 0 ≡ n
 u32_at-alone n lt = ap (λ (l : List ℕ). u32_at l 0) (sym (append-nil (to_le_bytes w32 n))) ∙ u32_at-written [] [] n 0 lt refl
 

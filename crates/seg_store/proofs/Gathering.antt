@@ -3,7 +3,7 @@ use Rattle.std.proofs.Common.{◌≡◌, ℕ, suc, ◌+◌, ◌-◌, ◌≤◌, 
 use Rattle.seg_common.specs.Varint.{varint_at}
 use Rattle.seg_store.specs.Reader.{Reader, then_read, made_of, times_at, counted_at}
 
--- some were made, and so many are left
+-- some were made, and this many are left
 abbrev pub Gathered : {A : Type 0} → Reader A → ℕ → List ℕ → List A → ℕ → List ℕ → Type 0
 Gathered read count old values left now = times_at read count old ≡ made_of (λ ys. values ++ ys) (times_at read left now)
 
@@ -47,6 +47,6 @@ all_made read count old values i now past so_far =
     let none : count - i ≡ 0 = omega (arith, past) in
     so_far ∙ ap (λ n. made_of (λ ys. values ++ ys) (times_at read n now)) none ∙ ap (λ vs. Some (vs, now)) (append-nil values)
 
--- behind their number
+-- after their number
 pub counted : {A : Type 0} (read : Reader A) (bytes rest : List ℕ) (count : ℕ) (o : Option (List A × List ℕ)) → varint_at bytes ≡ Some (count, rest) → times_at read count rest ≡ o → counted_at read bytes ≡ o
 counted read bytes rest count o number all = ap (λ r. then_read r (times_at read)) number ∙ all

@@ -48,7 +48,7 @@ all-push test xs x all one = list_all-append test xs (x ∷ []) ∙ rw (all, one
 abbrev pub short : Buffers → List ℕ → Buffers
 short b before = record b { bytes = before }
 
--- and behind them, with their end
+-- and after them, with their end
 abbrev pub ended : Buffers → List ℕ → List ℕ → Buffers
 ended b before document = record b { bytes = before ++ document; ends = b.ends ++ (length (before ++ document) - b.start) ∷ []; documents = b.documents + 1; stored = b.stored + length document }
 

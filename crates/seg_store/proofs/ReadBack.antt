@@ -47,7 +47,7 @@ times_read read form P each (x ∷ xs) all rest =
     ∙ ap (λ r. then_read r (λ y more. then_read (times_at read (length xs) more) (λ ys after. Some (y ∷ ys, after)))) (each x all.0 (flat_map form xs ++ rest))
     ∙ ap (λ r. then_read r (λ ys after. Some (x ∷ ys, after))) (times_read read form P each xs all.1 rest)
 
--- a number, and so many things
+-- a number, and as many things
 pub counted_reads : {A : Type 0} (read : Reader A) (n : ℕ) (form : List ℕ) (xs : List A) → n < 2 ^ 64 → Reads (times_at read n) form xs → Reads (counted_at read) (varint n ++ form) xs
 counted_reads read n form xs lt reads rest =
     ap (counted_at read) (append_assoc (varint n) form rest)

@@ -33,7 +33,7 @@ made make read form x rest reads = ap (made_of make) (reads rest)
 signed_leaf : (make : ℤ → Leaf) (z : ℤ) → FitsSigned w64 z → (rest : List ℕ) → made_of (λ n. make (cast_signed w64 n)) (number_at (to_le_bytes w64 (cast_unsigned w64 z) ++ rest)) ≡ Some (make z, rest)
 signed_leaf make z fits rest = ap (made_of (λ n. make (cast_signed w64 n))) (number_reads (cast_unsigned w64 z) (omega (arith, Fits-of_z {w = w64} fits)) rest) ∙ ap (λ (y : ℤ). Some (make y, rest)) (to_z-of_z w64 z fits)
 
--- a leaf behind its tag, read as a tree
+-- a leaf after its tag, read as a tree
 pub leaf_reads : (inner : Reader Tree) (l : Leaf) → IsLeaf l → Reads (tree_at inner) (leaf_form l) (leaf l)
 leaf_reads inner null is rest = refl
 leaf_reads inner (text s) is rest = ap (λ r. made_of leaf (made_of text r)) (text_reads s is rest)

@@ -3,7 +3,7 @@ use Rattle.std.proofs.Common.{◌≡◌, ℕ, suc, ◌+◌, ◌-◌, ◌≤◌, 
 use Rattle.seg_store.specs.Passing.{Passed}
 use Rattle.seg_store.specs.Reader.{Reader, then_read, made_of, times_at}
 
--- some were read, and so many are left
+-- some were read, and this many are left
 pub record Standing {A : Type 0} (read : Reader A) (count : ℕ) (old : List ℕ) (left : ℕ) (now : List ℕ) : Type 0 where
   pub values : List A
   pub is : times_at read count old ≡ made_of (λ ys. values ++ ys) (times_at read left now)

@@ -2,7 +2,7 @@
 use Rattle.std.specs.Prelude.{◌≡◌, ℕ, ◌≤◌, ◌<◌, List, Bool, true, false, Option, Some, None, drop, get_or}
 use Rattle.seg_model.specs.Operations.{kept}
 
--- those behind the first n documents
+-- those after the first n documents
 abbrev pub alive_behind : {X : Type 0} → ℕ → Option (List Bool) → List X → List X
 alive_behind n None documents = drop n documents
 alive_behind n (Some set) documents = kept (drop n set) (drop n documents)

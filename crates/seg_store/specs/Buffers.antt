@@ -38,7 +38,7 @@ pub record AreClosed (b : Buffers) : Type 0 where
   pub blocks : list_all is_block (closed_parts b) ≡ true
   pub ids : map (λ c. c.doc_end) b.checkpoints ≡ id_ends 0 (map documents_in (closed_parts b))
 
--- the open block's documents lie behind them
+-- the open block's documents come after them
 pub record IsOpen (b : Buffers) : Type 0 where
   pub ends : are_ends 0 (length b.bytes - b.start) b.ends ≡ true
   pub stored : list_all is_stored_document (cut_from 0 b.ends (drop b.start b.bytes)) ≡ true

@@ -2,11 +2,11 @@
 use Rattle.std.specs.Prelude.{ℕ, zero, suc, ◌-◌, ◌==◌, ◌&&◌, nat_le, List, [], ◌∷◌, Bool, length, take, drop, slice_range}
 use Rattle.seg_common.specs.LittleEndian.{u64_at}
 
--- the last bytes, so many
+-- the last bytes, this many
 abbrev pub last_bytes : ℕ → List ℕ → List ℕ
 last_bytes n bytes = drop (length bytes - n) bytes
 
--- all bytes but the last, so many
+-- all bytes but the last, this many
 abbrev pub but_last : ℕ → List ℕ → List ℕ
 but_last n bytes = take (length bytes - n) bytes
 

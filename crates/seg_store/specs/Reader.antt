@@ -1,4 +1,4 @@
--- Readers: what stands at the front of bytes, and the bytes behind it.
+-- Readers: what is at the front of bytes, and the bytes after it.
 use Rattle.std.specs.Prelude.{ℕ, zero, suc, nat_lt, nat_le, ◌^◌, if◌then◌else◌, List, [], ◌∷◌, length, take, drop, Option, Some, None}
 use Rattle.std.specs.Int.{w64, from_le_bytes}
 use Rattle.std.specs.Str.{is_utf8}
@@ -8,7 +8,7 @@ use Rattle.seg_common.specs.Varint.{varint_at}
 abbrev pub Reader : Type 0 → Type 0
 Reader A = List ℕ → Option (A × List ℕ)
 
--- reads on behind what was read
+-- reads on after what was read
 abbrev pub then_read : {A B : Type 0} → Option (A × List ℕ) → (A → Reader B) → Option (B × List ℕ)
 then_read None next = None
 then_read (Some x) next = next x.0 x.1
@@ -17,7 +17,7 @@ then_read (Some x) next = next x.0 x.1
 abbrev pub made_of : {A B : Type 0} → (A → B) → Option (A × List ℕ) → Option (B × List ℕ)
 made_of make read = then_read read (λ x rest. Some (make x, rest))
 
--- so many, one after another
+-- this many, one after another
 abbrev pub times_at : {A : Type 0} → Reader A → ℕ → Reader (List A)
 times_at read zero bytes = Some ([], bytes)
 times_at read (suc n) bytes = then_read (read bytes) (λ x rest. then_read (times_at read n rest) (λ xs after. Some (x ∷ xs, after)))
@@ -26,15 +26,15 @@ times_at read (suc n) bytes = then_read (read bytes) (λ x rest. then_read (time
 abbrev pub counted_at : {A : Type 0} → Reader A → Reader (List A)
 counted_at read bytes = then_read (varint_at bytes) (times_at read)
 
--- so many bytes
+-- this many bytes
 abbrev pub front : ℕ → Reader (List ℕ)
 front n bytes = if nat_le n (length bytes) then Some (take n bytes, drop n bytes) else None
 
--- bytes behind their number
+-- bytes after their number
 abbrev pub sized_at : Reader (List ℕ)
 sized_at bytes = then_read (varint_at bytes) front
 
--- a text behind the number of its bytes, in UTF-8
+-- a text after the number of its bytes, in UTF-8
 abbrev pub text_at : Reader (List ℕ)
 text_at bytes = then_read (sized_at bytes) (λ text rest. if is_utf8 text then Some (text, rest) else None)
 

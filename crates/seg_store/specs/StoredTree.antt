@@ -21,7 +21,7 @@ abbrev pub bit_at : Reader Bool
 bit_at [] = None
 bit_at (b ∷ rest) = if b == 0 then Some (false, rest) else if b == 1 then Some (true, rest) else None
 
--- a leaf behind its tag
+-- a leaf after its tag
 abbrev pub leaf_at : ℕ → Reader Leaf
 leaf_at tag bytes =
     if tag == 0 then Some (null, bytes) else
@@ -47,7 +47,7 @@ tree_at inner (tag ∷ bytes) =
     if tag == 11 then made_of (λ ms. object (members_from ms)) (counted_at (member_at inner) bytes) else
     made_of leaf (leaf_at tag bytes)
 
--- a tree of at most so many levels
+-- a tree of at most this many levels
 unfoldable pub stored_tree_at : ℕ → Reader Tree
 stored_tree_at zero bytes = None
 stored_tree_at (suc levels) bytes = tree_at (stored_tree_at levels) bytes

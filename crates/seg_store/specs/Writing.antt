@@ -3,7 +3,7 @@ use Rattle.std.specs.Prelude.{ℕ, ◌+◌, nat_le, if◌then◌else◌, List, [
 use Rattle.seg_store.specs.Block.{Block}
 use Rattle.seg_store.specs.Store.{document_count}
 
--- a block is closed once its documents have so many bytes
+-- a block is closed once its documents have this many bytes
 pub record Taken : Type 0 where
   pub block_size : ℕ
   pub closed : List Block
@@ -44,7 +44,7 @@ abbrev pub block_bytes : List Block → ℕ
 block_bytes [] = 0
 block_bytes (b ∷ bs) = byte_count b + block_bytes bs
 
--- how many bytes the documents have that were taken; none any more, once memory was lacking
+-- how many bytes the documents have that were taken; none any more, once out of memory
 abbrev pub taken_bytes : Option Taken → ℕ
 taken_bytes None = 0
 taken_bytes (Some w) = block_bytes w.closed + byte_count w.open_block

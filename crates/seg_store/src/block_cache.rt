@@ -93,7 +93,7 @@ impl BlockCache {
     }
 }
 
-/// Room for so many blocks, if there are to be any.
+/// Room for this many blocks, if there are to be any.
 fn room_for(
     alloc: Global,
     capacity: usize,

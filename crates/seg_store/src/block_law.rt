@@ -1,7 +1,7 @@
 //! What blocks don't change.
 ghost use Rattle.seg_store.specs.BlockLaw.{AreTakenLast};
 
-/// A document that a writer takes comes last, behind all that it took before, whatever the size of blocks.
+/// A document that a writer takes comes last, after all that it took before, whatever the size of blocks.
 pub fn documents_stay_in_order()
     ensures { AreTakenLast }
 {}

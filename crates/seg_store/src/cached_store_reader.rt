@@ -35,7 +35,7 @@ impl Model for CachedStoreReader {
 }
 
 impl CachedStoreReader {
-    /// The reader of a file, whose bytes are gone over once, which keeps so many blocks; 0: none.
+    /// The reader of a file, whose bytes are gone over once, which keeps this many blocks; 0: none.
     pub fn open(
         alloc: Global,
         bytes: OwnedBytes,

@@ -24,7 +24,7 @@ pub(crate) fn is_stored_document(bytes: &[u8]) -> bool
     }
 }
 
-/// Passes pairs behind their number.
+/// Passes pairs after their number.
 fn pass_pairs(bytes: &mut &[u8]) -> Option<()>
     ensures { Passes (read.counted_at documents.pair_at) bytes.old.now bytes.new.now result }
 {

@@ -51,7 +51,7 @@ pub(crate) fn document_in_block(
     Ok(document)
 }
 
-/// Pairs behind their number.
+/// Pairs after their number.
 fn read_pairs(alloc: Global, bytes: &mut &[u8]) -> Result<Option<TantivyDocument>, AllocError>
     ensures { IfOk result (Makes (read.counted_at documents.pair_at) (λ (d : Document). d) bytes.old.now bytes.new.now) }
 {

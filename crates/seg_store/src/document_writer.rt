@@ -70,7 +70,7 @@ fn put_if_stored(
     Ok(())
 }
 
-/// Adds the bytes of a value at the top of a document, where a pre-tokenized text stands as its text.
+/// Adds the bytes of a value at the top of a document, where a pre-tokenized text is kept as its text.
 fn put_stored_value(out: &mut Vec<u8>, value: &OwnedValue) -> Result<(), AllocError>
     ensures form { OnOk result (out.new.items ≡ out.old.items ++ tree_form (reading.stored_value (tree_of value.now))) }
     ensures storable { OnOk result (IsStorable (reading.stored_value (tree_of value.now))) }

@@ -1,4 +1,4 @@
-//! Values out of stored leaves: each call makes one of what stands at the front of bytes, or answers that none does.
+//! Values out of stored leaves: each call makes one of what is at the front of bytes, or answers that there is none.
 ghost use Rattle.std.specs.Prelude.{◌≡◌, ◌≢◌, ℕ, List, length, IfOk, MatchOption};
 ghost use Rattle.std.specs.Net.Addr.{ipv6_octets};
 ghost use Rattle.std.specs.Int.{w64, cast_signed};
@@ -139,7 +139,7 @@ fn read_pre_tokenized(alloc: Global, bytes: &mut &[u8]) -> Result<Option<OwnedVa
     Ok(Some(OwnedValue::PreTokStr(PreTokenizedString { text, tokens })))
 }
 
-/// Tokens behind their number.
+/// Tokens after their number.
 fn read_tokens(alloc: Global, bytes: &mut &[u8]) -> Result<Option<Tokens>, AllocError>
     ensures { IfOk result (Makes (read.counted_at trees.token_at) (λ (ts : List Token). ts) bytes.old.now bytes.new.now) }
 {

@@ -1,7 +1,7 @@
 //! The store: the bytes that an index keeps of its stored documents, in blocks.
 //!
 //! A writer is seen as its closed blocks and its open one, each the list of its documents' bytes, or as nothing once
-//! memory was lacking; a reader as the blocks of its store, and one with a cache also as the numbers of the blocks that it
+//! out of memory; a reader as the blocks of its store, and one with a cache also as the numbers of the blocks that it
 //! keeps. The bytes of a document read as fields with trees.
 //!
 //! To be read in this order: `error`; `tree_writer`, `document_writer`, `document_law`; `checkpoint`, `written_blocks`,

@@ -1,4 +1,4 @@
-//! What stands at the front of bytes: each call takes it from them, or answers that it isn't there.
+//! What is at the front of bytes: each call takes it from them, or answers that it isn't there.
 //!
 //! Where it isn't, some of the bytes may be gone.
 ghost use Rattle.std.specs.Prelude.{◌≡◌, [], ◌∷◌, None, Some, MatchOption};
@@ -8,7 +8,7 @@ ghost use Rattle.seg_store.specs.StoredTree as trees;
 
 use seg_common::{VInt, u64_at};
 
-/// Takes so many bytes.
+/// Takes this many bytes.
 pub(crate) fn take_front<'a>(bytes: &mut &'a [u8], count: u64) -> Option<&'a [u8]>
     ensures { MatchOption result (read.front count bytes.old.now ≡ None) (λ x. read.front count bytes.old.now ≡ Some (x.now, bytes.new.now)) }
 {
@@ -38,7 +38,7 @@ pub(crate) fn take_small(bytes: &mut &[u8]) -> Option<u32>
     u32::try_from(number).ok()
 }
 
-/// Takes the bytes behind their number.
+/// Takes the bytes after their number.
 pub(crate) fn take_sized<'a>(bytes: &mut &'a [u8]) -> Option<&'a [u8]>
     ensures { MatchOption result (read.sized_at bytes.old.now ≡ None) (λ x. read.sized_at bytes.old.now ≡ Some (x.now, bytes.new.now)) }
 {
@@ -46,7 +46,7 @@ pub(crate) fn take_sized<'a>(bytes: &mut &'a [u8]) -> Option<&'a [u8]>
     take_front(bytes, count)
 }
 
-/// Takes a text behind the number of its bytes.
+/// Takes a text after the number of its bytes.
 pub(crate) fn take_text<'a>(bytes: &mut &'a [u8]) -> Option<&'a str>
     ensures { MatchOption result (read.text_at bytes.old.now ≡ None) (λ x. read.text_at bytes.old.now ≡ Some (x.now, bytes.new.now)) }
 {

@@ -98,7 +98,7 @@ fn is_alive(alive: Option<&ReadOnlyBitSet>, doc: u32) -> bool
     }
 }
 
-/// The number of the block that has a document, from one on that doesn't begin behind the document.
+/// The number of the block that has a document, from one on that doesn't begin after the document.
 fn block_from(bytes: &[u8], first: usize, doc: u32) -> usize
     requires store { is_store bytes.now ≡ true }
     requires within { doc < document_count (blocks_of bytes.now) }

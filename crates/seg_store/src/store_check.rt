@@ -30,7 +30,7 @@ pub(crate) fn is_store(bytes: &[u8]) -> bool
     are_blocks(body, table, count, u32_at(footer, 4))
 }
 
-/// Whether the first checkpoints of a table cut bytes into blocks with so many documents.
+/// Whether the first checkpoints of a table cut bytes into blocks with this many documents.
 fn are_blocks(bytes: &[u8], table: &[u8], count: usize, total: u32) -> bool
     requires { 12 * count ≤ length table.now }
     ensures { result ≡ are_blocks 0 total 0 (store.checkpoints_of count table.now) bytes.now }

@@ -15,7 +15,7 @@ use seg_values::{Schema, TantivyDocument};
 use std::alloc::Global;
 use std::marker::Model;
 
-/// Writes a store document by document. Once memory was lacking it answers so for good, and it is seen as nothing.
+/// Writes a store document by document. Once out of memory it answers so for good, and it is seen as nothing.
 #[derive(Drop)]
 pub struct StoreWriter {
     blocks: Option<WrittenBlocks>,
@@ -34,7 +34,7 @@ impl Model for StoreWriter {
 }
 
 impl StoreWriter {
-    /// A writer whose blocks are closed once their documents have so many bytes; of size 0, each document is a block.
+    /// A writer whose blocks are closed once their documents have this many bytes; of size 0, each document is a block.
     pub fn new(
         alloc: Global,
         compressor: Compressor,

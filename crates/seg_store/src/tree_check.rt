@@ -1,4 +1,4 @@
-//! Whether stored trees stand at the front of bytes: each call passes one, or answers that there is none.
+//! Whether stored trees are at the front of bytes: each call passes one, or answers that there is none.
 //!
 //! Nothing is made of them, so no memory is asked for.
 ghost use Rattle.std.specs.Prelude.{◌≡◌, ◌∷◌, None};
@@ -22,7 +22,7 @@ fn pass_token(bytes: &mut &[u8]) -> Option<()>
     Some(())
 }
 
-/// Passes so many tokens.
+/// Passes this many tokens.
 fn pass_tokens(bytes: &mut &[u8], count: u64) -> Option<()>
     ensures { Passes (read.times_at trees.token_at count) bytes.old.now bytes.new.now result }
 {
@@ -41,7 +41,7 @@ fn pass_pre_tokenized(bytes: &mut &[u8]) -> Option<()>
     pass_tokens(bytes, count)
 }
 
-/// Passes a text behind the number of its bytes.
+/// Passes a text after the number of its bytes.
 fn pass_text(bytes: &mut &[u8]) -> Option<()>
     ensures { Passes read.text_at bytes.old.now bytes.new.now result }
 {
@@ -49,7 +49,7 @@ fn pass_text(bytes: &mut &[u8]) -> Option<()>
     Some(())
 }
 
-/// Passes bytes behind their number.
+/// Passes bytes after their number.
 fn pass_sized(bytes: &mut &[u8]) -> Option<()>
     ensures { Passes read.sized_at bytes.old.now bytes.new.now result }
 {
@@ -73,7 +73,7 @@ fn pass_bit(bytes: &mut &[u8]) -> Option<()>
     Some(())
 }
 
-/// Passes so many bytes.
+/// Passes this many bytes.
 fn pass_front(bytes: &mut &[u8], count: u64) -> Option<()>
     ensures { Passes (read.front count) bytes.old.now bytes.new.now result }
 {
@@ -100,7 +100,7 @@ fn pass_leaf(bytes: &mut &[u8], tag: u8) -> Option<()>
     }
 }
 
-/// Passes a tree of at most so many levels.
+/// Passes a tree of at most this many levels.
 #[cycle(pass_tree)]
 pub(crate) fn pass_tree(bytes: &mut &[u8], levels: u32) -> Option<()>
     ensures { Passes (trees.stored_tree_at levels) bytes.old.now bytes.new.now result }
@@ -116,7 +116,7 @@ pub(crate) fn pass_tree(bytes: &mut &[u8], levels: u32) -> Option<()>
     }
 }
 
-/// Passes trees behind their number.
+/// Passes trees after their number.
 #[cycle(pass_tree)]
 fn pass_trees(bytes: &mut &[u8], levels: u32) -> Option<()>
     ensures { Passes (read.counted_at (trees.stored_tree_at levels)) bytes.old.now bytes.new.now result }
@@ -128,7 +128,7 @@ fn pass_trees(bytes: &mut &[u8], levels: u32) -> Option<()>
     Some(())
 }
 
-/// Passes keys with their trees, behind their number.
+/// Passes keys with their trees, after their number.
 #[cycle(pass_tree)]
 fn pass_members(bytes: &mut &[u8], levels: u32) -> Option<()>
     ensures { Passes (read.counted_at (trees.member_at (trees.stored_tree_at levels))) bytes.old.now bytes.new.now result }

@@ -1,4 +1,4 @@
-//! Values out of stored trees: each call makes one of what stands at the front of bytes, or answers that none does.
+//! Values out of stored trees: each call makes one of what is at the front of bytes, or answers that there is none.
 ghost use Rattle.std.specs.Prelude.{IfOk};
 ghost use Rattle.seg_values.specs.Tree as tree;
 ghost use Rattle.seg_values.specs.View.{tree_of};
@@ -11,7 +11,7 @@ use crate::pieces::{take_byte, take_varint};
 use seg_values::{Members, OwnedValue, Values};
 use std::alloc::{AllocError, Global};
 
-/// A tree of at most so many levels.
+/// A tree of at most this many levels.
 #[cycle(read_tree)]
 pub(crate) fn read_tree(
     alloc: Global,
@@ -33,7 +33,7 @@ pub(crate) fn read_tree(
     }
 }
 
-/// Trees behind their number.
+/// Trees after their number.
 #[cycle(read_tree)]
 fn read_array(
     alloc: Global,
@@ -55,7 +55,7 @@ fn read_array(
     Ok(Some(OwnedValue::Array(values)))
 }
 
-/// Keys with their trees, behind their number.
+/// Keys with their trees, after their number.
 #[cycle(read_tree)]
 fn read_object(
     alloc: Global,

@@ -69,7 +69,7 @@ fn put_token(out: &mut Vec<u8>, token: &Token) -> Result<(), AllocError>
     put_text(out, token.text.as_str())
 }
 
-/// Adds a text behind the number of its bytes.
+/// Adds a text after the number of its bytes.
 fn put_text(out: &mut Vec<u8>, text: &str) -> Result<(), AllocError>
     ensures form { OnOk result (out.new.items ≡ out.old.items ++ sized text.now) }
     ensures storable { IsText text.now }
@@ -108,7 +108,7 @@ fn put_tagged(out: &mut Vec<u8>, tag: u8, bytes: &[u8]) -> Result<(), AllocError
     Ok(())
 }
 
-/// Adds bytes behind their number.
+/// Adds bytes after their number.
 fn put_sized(out: &mut Vec<u8>, bytes: &[u8]) -> Result<(), AllocError>
     ensures { OnOk result (out.new.items ≡ out.old.items ++ sized bytes.now) }
 {

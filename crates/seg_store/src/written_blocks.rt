@@ -17,7 +17,7 @@ use seg_values::{Schema, TantivyDocument};
 use std::alloc::{AllocError, Global};
 use std::marker::Model;
 
-/// Closed blocks, and the documents of an open one behind them.
+/// Closed blocks, and the documents of an open one after them.
 #[derive(Drop)]
 pub(crate) struct WrittenBlocks {
     bytes: Vec<u8>,

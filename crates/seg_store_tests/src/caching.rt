@@ -21,7 +21,7 @@ fn document(reader: &mut CachedStoreReader, doc: u32) -> Result<Option<TantivyDo
     Ok(Some(document))
 }
 
-/// The reader of a file that keeps so many blocks.
+/// The reader of a file that keeps this many blocks.
 fn cached(
     alloc: Global,
     bytes: &[u8],

@@ -72,7 +72,7 @@ module _ (ends keys infos : List ℕ) (n store : ℕ) (p : AreParts ends keys in
   unfolding all
   all_length = omega (arith, length-append f6 (to_le_bytes w32 3), l6)
 
-  -- numbers and ranges that stand before the last three numbers
+  -- numbers and ranges that are before the last three numbers
   number_before : (at : ℕ) → at + 8 ≤ length f4 → u64_at all at ≡ u64_at f4 at
   unfolding all f6 f5
   number_before at h = u64_at-front f6 (to_le_bytes w32 3) at (omega (arith, l6, l4)) ∙ u64_at-front f5 (to_le_bytes w32 1) at (omega (arith, l5, l4)) ∙ u64_at-front f4 (to_le_bytes w64 store) at h

@@ -1,4 +1,4 @@
--- The merged terms of ascending streams: the least of the first keys, and then those of what is behind it.
+-- The merged terms of ascending streams: the least of the first keys, and then those of what is after it.
 use Rattle.std.proofs.Common.{◌≡◌, ℕ, zero, suc, ◌+◌, ◌<◌, Bool, true, false, cond, List, [], ◌∷◌, ◌++◌, map, length, get_or, refl, sym, ap, subst, ◌∙◌, arith, Some, None, inl, inr}
 use Rattle.std.specs.Prelude.{filter}
 use Rattle.std.specs.FinMap.{entries, empty, get, insert, find, put, same_map, get-insert, get-entries, entries-insert, len-entries, len-empty}
@@ -69,7 +69,7 @@ rest_ascends t ts rise = rise.1
 abbrev standing_of : ℕ → RankedTerm TermInfo → Standing TermInfo
 standing_of segment t = record { segment = segment; ord = t.ord; info = t.info }
 
--- where a key stands, by whether the first term has it
+-- where a key is, by whether the first term has it
 split_standing : (segment : ℕ) (key : List ℕ) (t : RankedTerm TermInfo) (ts : List (RankedTerm TermInfo)) (b : Bool) → bytes_eq key t.key ≡ b → standing_in segment key (t ∷ ts) ≡ cond b (standing_of segment t ∷ standing_in segment key ts) (standing_in segment key ts)
 split_standing segment key t ts true e = ap (λ b. map (standing_of segment) (cond b (t ∷ filter (λ (u : RankedTerm TermInfo). bytes_eq key u.key) ts) (filter (λ (u : RankedTerm TermInfo). bytes_eq key u.key) ts))) e
 split_standing segment key t ts false e = ap (λ b. map (standing_of segment) (cond b (t ∷ filter (λ (u : RankedTerm TermInfo). bytes_eq key u.key) ts) (filter (λ (u : RankedTerm TermInfo). bytes_eq key u.key) ts))) e
@@ -89,7 +89,7 @@ first_stands segment key (t ∷ ts) rise low = by (bytes_eq key t.key) refl
     by true e = split_standing segment key t ts true e ∙ ap (λ ss. standing_of segment t ∷ ss) rest ∙ sym (ap (standing_first segment) (cond-true (bytes_eq key t.key) (Some (t.ord, t.info)) None e))
     by false e = split_standing segment key t ts false e ∙ rest ∙ sym (ap (standing_first segment) (cond-false (bytes_eq key t.key) (Some (t.ord, t.info)) None e))
 
--- behind a key every other key stands where it stood
+-- after a key every other key is where it was
 others_stay : (segment : ℕ) (q key : List ℕ) (terms : List (RankedTerm TermInfo)) → bytes_eq q key ≡ false → standing_in segment q terms ≡ standing_in segment q (behind key terms)
 others_stay segment q key [] other = refl
 others_stay segment q key (t ∷ ts) other = by (bytes_eq key t.key) refl
@@ -116,7 +116,7 @@ behind_ascends key (t ∷ ts) rise = by (bytes_eq key t.key) refl
     by true e = subst Ascends (sym (cond-true (bytes_eq key t.key) ts (t ∷ ts) e)) (rest_ascends t ts rise)
     by false e = subst Ascends (sym (cond-false (bytes_eq key t.key) ts (t ∷ ts) e)) rise
 
--- a key that isn't greater stands nowhere behind another
+-- a key that isn't greater is nowhere after another
 none_lower : (segment : ℕ) (q key : List ℕ) → is_lt (key_cmp key q) ≡ false → (ts : List (RankedTerm TermInfo)) → Below key ts → standing_in segment q ts ≡ []
 none_lower segment q key low [] h = refl
 none_lower segment q key low (t ∷ ts) h = split_standing segment q t ts false (by (bytes_eq q t.key) refl) ∙ none_lower segment q key low ts h.1
@@ -175,7 +175,7 @@ put_first key v (e ∷ es) none = by (key_cmp key e.0) refl
     by Equal is = absurd (not_none (none e.0 (ap is_lt is)))
     by Greater is = absurd (not_none (none e.0 (ap is_lt is)))
 
--- the least of the first keys, and what is behind it
+-- the least of the first keys, and what is after it
 module _ (hs : Streams) (key : List ℕ) (rise : AllByRecursion Ascends hs) (low : AllByRecursion (NotBelow key) hs) (some : 0 < length (standings_first 0 key hs)) where
   rest : SortedTerms (List (Standing TermInfo))
   rest = merged_terms (map (behind key) hs)
@@ -250,7 +250,7 @@ still_not_below a b (t ∷ ts) less low = by (key_cmp a t.key) refl
     by Equal e = ap is_le (subst (λ (k : List ℕ). key_cmp b k ≡ Less) (same_keys a t.key e) less)
     by Greater e = absurd (false≢true (sym (ap is_le e) ∙ low))
 
--- a stream with a term behind those without one
+-- a stream with a term after those without one
 pub least_first : (hs : Streams) (i : ℕ) → IsLeast hs i None → 0 < length (get_or hs i []) → IsLeast hs (i + 1) (Some i)
 least_first hs i none has =
     let key : List ℕ = (first (get_or hs i [])).key in (

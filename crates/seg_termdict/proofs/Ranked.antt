@@ -72,7 +72,7 @@ module _ (terms : List Term) (start end : ℕ) (within : end ≤ length terms) w
       let e : taken ≡ taken - 1 + 1 = omega (arith, pos) in
       ap (λ (k : ℕ). current (record { terms = between backward terms start end; taken = k })) e ∙ comes_to backward (taken - 1) (omega (arith, pos, le))
 
--- what stands at a place
+-- what is at a place
 pub info_there : (terms : List Term) (i : ℕ) (info : TermInfo) → i < length terms → IsSomeAnd (slice_get terms i) (λ t. t.1 ≡ info) → (get_or terms i no_term).1 ≡ info
 info_there terms i info lt h = subst (λ o. IsSomeAnd o (λ (t : Term). t.1 ≡ info)) (slice_get-get_or terms i no_term lt) h
 
@@ -100,7 +100,7 @@ ranked_is terms rise =
     let sorted : T (is_sorted (slice_cmp nat_cmp) terms) = subst T (sym (is_sorted-rising terms rise)) tt in
     ap ranked_terms (sym (entries-from_sorted (slice_cmp nat_cmp) terms sorted))
 
--- a test that holds from one place up to another keeps what stands between them
+-- a test that holds from one place up to another keeps what is between them
 pub filter_between : {X : Type 0} (p : X → Bool) (xs : List X) (d : X) (start end : ℕ)
     → ((i : ℕ) → i < length xs → i < start → p (get_or xs i d) ≡ false)
     → ((i : ℕ) → i < length xs → end ≤ i → p (get_or xs i d) ≡ false)

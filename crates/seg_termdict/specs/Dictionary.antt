@@ -22,7 +22,7 @@ key_start ends (suc i) = u64_at ends (8 * i)
 unfoldable pub key_of : List ℕ → List ℕ → ℕ → List ℕ
 key_of ends keys i = slice_range keys (key_start ends i) (key_start ends (i + 1))
 
--- so many keys fill their bytes, and strictly ascend in byte order
+-- this many keys fill their bytes, and strictly ascend in byte order
 pub record AreKeys (ends keys : List ℕ) (count : ℕ) : Type 0 where
   pub rise : (i : ℕ) → i < count → key_start ends i ≤ key_start ends (i + 1)
   pub fill : key_start ends count ≡ length keys
@@ -48,7 +48,7 @@ info_of infos i = record {
   positions_end = positions_start infos (i + 1);
 }
 
--- the ranges of the first of so many infos begin at 0, and no range ends before it begins
+-- the ranges of the first of this many infos begin at 0, and no range ends before it begins
 pub record AreInfos (infos : List ℕ) (count : ℕ) : Type 0 where
   pub first_postings : 0 < count → postings_start infos 0 ≡ 0
   pub first_positions : 0 < count → positions_start infos 0 ≡ 0
@@ -61,7 +61,7 @@ pub record AreInfos (infos : List ℕ) (count : ℕ) : Type 0 where
 abbrev pub term_of : List ℕ → List ℕ → List ℕ → ℕ → Term
 term_of ends keys infos i = (key_of ends keys i, info_of infos i)
 
--- the first terms, so many
+-- the first terms, this many
 unfoldable pub terms_in : List ℕ → List ℕ → List ℕ → ℕ → List Term
 terms_in ends keys infos count = map (term_of ends keys infos) (range_with_len 0 count)
 
@@ -79,7 +79,7 @@ ends_of bytes = slice_range bytes 8 (8 + 8 * count_of bytes)
 unfoldable pub keys_of : List ℕ → List ℕ
 keys_of bytes = slice_range bytes (8 + 8 * count_of bytes) (length bytes - (40 + 20 * count_of bytes))
 
--- the infos, in the store behind their number
+-- the infos, in the store after their number
 unfoldable pub infos_of : List ℕ → List ℕ
 infos_of bytes = slice_range bytes (length bytes - (32 + 20 * count_of bytes)) (length bytes - 16)
 

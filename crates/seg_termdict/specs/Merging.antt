@@ -10,7 +10,7 @@ use Rattle.seg_model.specs.MergedTerms.{Standing, keys_in, merged_terms}
 use Rattle.seg_termdict.specs.Streaming.{Stream}
 use Rattle.seg_termdict.specs.Ranges.{ranked_terms, no_ranked}
 
--- a key, and where it stands
+-- a key, and where it is
 abbrev pub MergedTerm : Type 0
 MergedTerm = List ℕ × List (Standing TermInfo)
 
@@ -66,12 +66,12 @@ abbrev pub first_with : List ℕ → List (RankedTerm TermInfo) → Option (ℕ 
 first_with key [] = None
 first_with key (t ∷ ts) = if bytes_eq key t.key then Some (t.ord, t.info) else None
 
--- the terms behind it, where it has the key
+-- the terms after it, where it has the key
 abbrev pub behind : List ℕ → List (RankedTerm TermInfo) → List (RankedTerm TermInfo)
 behind key [] = []
 behind key (t ∷ ts) = if bytes_eq key t.key then ts else t ∷ ts
 
--- where a key stands among first terms
+-- where a key is among first terms
 abbrev pub standing_first : ℕ → Option (ℕ × TermInfo) → List (Standing TermInfo)
 standing_first segment None = []
 standing_first segment (Some t) = record { segment = segment; ord = t.0; info = t.1 } ∷ []
@@ -85,7 +85,7 @@ abbrev pub NotBelow : List ℕ → List (RankedTerm TermInfo) → Type 0
 NotBelow key [] = Unit {0}
 NotBelow key (t ∷ ts) = is_le (key_cmp key t.key) ≡ true
 
--- the stream with the number has a least key among the first so many, of which none has a term left where it is none
+-- the stream with the number has a least key among the first streams, this many, of which none has a term left where it is none
 abbrev pub IsLeast : List (List (RankedTerm TermInfo)) → ℕ → Option ℕ → Type 0
 IsLeast streams n least = MatchOption least
     ((i : ℕ) → i < n → get_or streams i [] ≡ [])

@@ -28,7 +28,7 @@ comes_before true bound key = is_le (key_cmp key bound)
 abbrev pub key_at : List Term → ℕ → List ℕ
 key_at terms i = (get_or terms i no_term).0
 
--- a test of keys holds of the first terms, so many, and of no other
+-- a test of keys holds of the first terms, this many, and of no other
 pub record IsCut (terms : List Term) (holds : List ℕ → Bool) (n : ℕ) : Type 0 where
   pub within : n ≤ length terms
   pub before : (i : ℕ) → i < n → holds (key_at terms i) ≡ true
@@ -75,7 +75,7 @@ pub record RangeStream : Type 0 where
 abbrev pub before_all : List (RankedTerm TermInfo) → RangeStream
 before_all terms = record { terms = terms; taken = 0 }
 
--- what stands in the place of a term before the first
+-- what is in the place of a term before the first
 abbrev pub no_ranked : RankedTerm TermInfo
 no_ranked = record { ord = 0; key = no_term.0; info = no_term.1 }
 

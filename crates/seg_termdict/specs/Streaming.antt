@@ -11,7 +11,7 @@ pub record Stream : Type 0 where
 abbrev pub all_terms : List Term → Stream
 all_terms terms = record { terms = terms; taken = 0 }
 
--- what stands in the place of a term before the first: no byte, and an info of zeros
+-- what is in the place of a term before the first: no byte, and an info of zeros
 abbrev pub no_term : Term
 no_term = ([], record { doc_freq = 0; postings_start = 0; postings_end = 0; positions_start = 0; positions_end = 0 })
 

@@ -5,7 +5,7 @@ use Rattle.seg_common.specs.declared.term_info.TermInfo.{TermInfo}
 use Rattle.seg_termdict.specs.Dictionary.{key_start, key_of, AreKeys, postings_start, positions_start, AreInfos, terms_in}
 use Rattle.seg_termdict.specs.Building.{Building}
 
--- so many keys and infos, of which the last key begins at a place
+-- this many keys and infos, of which the last key begins at a place
 pub record AreWritten (ends keys infos : List ℕ) (key_count info_count last_start : ℕ) : Type 0 where
   pub ends_length : length ends ≡ 8 * key_count
   pub infos_length : length infos ≡ 16 + 20 * info_count

@@ -10,7 +10,7 @@ use seg_common::TermInfo;
 use std::alloc::Global;
 use std::marker::Model;
 
-/// Writes a term dictionary term by term, first the key and then its info. Once memory was lacking it answers so for
+/// Writes a term dictionary term by term, first the key and then its info. Once out of memory it answers so for
 /// good, and it is seen as nothing.
 #[derive(Drop)]
 pub struct TermDictionaryBuilder {

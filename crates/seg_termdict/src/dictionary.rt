@@ -105,7 +105,7 @@ impl TermDictionary {
     }
 
     /// Copies the key at a place into `out`, in place of what it held; nothing and `false` where there is no such place,
-    /// and nothing where memory is lacking.
+    /// and nothing when out of memory.
     pub fn ord_to_term(&self, ord: TermOrdinal, out: &mut Vec<u8>) -> Result<bool, TermDictError>
         ensures ok { IfOk result (λ found. MatchBool found (HasKeyAt self.now ord out.new.items) ((length self.now ≤ ord) × (out.new.items ≡ []))) }
         ensures err { IfErr result (λ e. e ≡ TermDictError.OutOfMemory) }

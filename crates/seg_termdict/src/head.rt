@@ -68,7 +68,7 @@ impl<'a> Head<'a> {
         }
     }
 
-    /// Goes behind the term, if it has the key.
+    /// Goes past the term, if it has the key.
     pub(crate) fn pass(&mut self, key: &[u8])
         ensures { self.new ≡ behind key.now self.old }
     {

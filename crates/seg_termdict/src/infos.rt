@@ -21,7 +21,7 @@ fn positions_start(infos: &[u8], i: usize) -> u64
     u64_at(infos, 8 + INFO * i)
 }
 
-/// Whether the ranges of the first of so many infos begin at 0, and no range ends before it begins.
+/// Whether the ranges of the first of this many infos begin at 0, and no range ends before it begins.
 pub(crate) fn are_infos(infos: &[u8], count: usize) -> bool
     requires { 16 + 20 * count ≤ length infos.now }
     ensures { MatchBool result (spec.AreInfos infos.now count) (spec.AreInfos infos.now count → ⊥) }

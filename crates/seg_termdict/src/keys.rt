@@ -23,7 +23,7 @@ fn rises(i: usize, previous: &[u8], key: &[u8]) -> bool
     }
 }
 
-/// Whether so many keys fill their bytes, and strictly ascend.
+/// Whether this many keys fill their bytes, and strictly ascend.
 pub(crate) fn are_keys(ends: &[u8], keys: &[u8], count: usize) -> bool
     requires { 8 * count ≤ length ends.now }
     ensures { MatchBool result (spec.AreKeys ends.now keys.now count) (spec.AreKeys ends.now keys.now count → ⊥) }

@@ -1,10 +1,10 @@
 //! The term dictionary of a field: its terms in the order of their keys, and what is known of each.
 //!
-//! A builder is seen as the terms that it was given, and the key that waits for its info; as nothing, once memory was
-//! lacking. Bytes are a dictionary or not, and a dictionary is seen as its one list of terms; a streamer as this list, and
+//! A builder is seen as the terms that it was given, and the key that waits for its info; as nothing, once out of
+//! memory. Bytes are a dictionary or not, and a dictionary is seen as its one list of terms; a streamer as this list, and
 //! how many of its terms it has come to. A range is seen as the list and the `TermRange` that was asked for, and its
 //! streamer goes over what `streamed` of `seg_model` has of them. A merger is seen as what is left of the
-//! `merged_terms` of its streamers, and the term that it has come to; as nothing, once memory was lacking.
+//! `merged_terms` of its streamers, and the term that it has come to; as nothing, once out of memory.
 //!
 //! To be read in this order: `error`, `format`, `dictionary_type`; `written_terms`, `builder`; `tables`, `keys`, `infos`,
 //! `check`, `dictionary`; `streamer`; `kept_key`, `streamer_builder`, `range_streamer`; `head`, `merger`.

@@ -15,7 +15,7 @@ use std::alloc::{AllocError, Global};
 use std::marker::Model;
 
 /// Goes over the terms of several streamers: each key once, ascending, with the streamers that have it, by their places
-/// among those that were given. A step takes at most three comparisons for each streamer. Once memory was lacking it
+/// among those that were given. A step takes at most three comparisons for each streamer. Once out of memory it
 /// answers so for good, and is seen as nothing.
 #[derive(Drop)]
 pub struct TermMerger<'a> {
@@ -59,7 +59,7 @@ impl<'a> TermMerger<'a> {
         })
     }
 
-    /// Goes on to the next term, and tells whether there is one. Behind the last it stays at the end.
+    /// Goes on to the next term, and tells whether there is one. After the last it stays at the end.
     pub fn advance(&mut self) -> Result<bool, TermDictError>
         ensures ok { OnOk result (HasGrown self.old self.new stepped) }
         ensures more { IfOk result (λ more. IfSome self.old (λ m. more ≡ nat_lt 0 (length m.left))) }
@@ -189,7 +189,7 @@ fn note_one(
     Ok(())
 }
 
-/// Goes behind a key with each head that is at it.
+/// Goes past a key with each head that is at it.
 fn pass(heads: &mut Vec<Head<'_>>, key: &[u8])
     ensures { heads.new.items ≡ map (behind key.now) heads.old.items }
 {

@@ -118,7 +118,7 @@ impl<'a> RangeStreamer<'a> {
     }
 }
 
-/// The place of the term that comes next after so many.
+/// The place of the term that comes next after this many.
 fn place(start: usize, end: usize, backward: bool, taken: usize) -> usize
     requires { start + taken < end }
     ensures place { result ≡ place_of backward start end taken }

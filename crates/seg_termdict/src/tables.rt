@@ -26,7 +26,7 @@ pub(crate) fn key_bytes(bytes: &[u8], count: usize) -> &[u8]
     &bytes[COUNT + KEY_END * count..bytes.len() - store]
 }
 
-/// The table of the infos, behind where the first postings and the first positions start.
+/// The table of the infos, after where the first postings and the first positions start.
 #[tactic(auto, unfolding(crate::specs::Dictionary::infos_of))]
 pub(crate) fn info_table(bytes: &[u8], count: usize) -> &[u8]
     requires room { 48 + 28 * count ≤ length bytes.now }

@@ -11,7 +11,7 @@ use std::alloc::{AllocError, Global};
 use std::cmp::Ordering;
 use std::marker::Model;
 
-/// The parts of a dictionary that grow: where each key ends, the bytes of the keys, and the infos behind their first
+/// The parts of a dictionary that grow: where each key ends, the bytes of the keys, and the infos after their first
 /// starts. The last key is the end of the bytes.
 #[derive(Drop)]
 pub(crate) struct WrittenTerms {

@@ -33,7 +33,7 @@ pub fn segment(schema: Schema, documents: u32) -> Segment
     Segment::new(schema, SegmentMeta::new(segment_id(), documents, None))
 }
 
-/// A store that isn't compressed, in blocks of so many bytes.
+/// A store that isn't compressed, in blocks of this many bytes.
 pub fn settings(docstore_blocksize: u32) -> IndexSettings {
     IndexSettings {
         docstore_compression: Compressor::None,

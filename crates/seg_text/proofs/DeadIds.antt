@@ -36,7 +36,7 @@ words_next alive i =
     ∙ flat_map-append id_word (dead_from i (take 1 (drop i alive))) (dead_from (i + 1) (drop 1 (drop i alive)))
     ∙ ap (λ ds. flat_map id_word (dead_from i (take 1 (drop i alive))) ++ flat_map id_word (dead_from (i + 1) ds)) (drop-drop 1 i alive)
 
--- what is left behind a document, where what came before it is there
+-- what is left after a document, where what came before it is there
 pub left_dead : (alive : List Bool) (i : ℕ) (out new start : List ℕ)
     → new ≡ out ++ flat_map id_word (dead_from i (take 1 (drop i alive)))
     → out ++ flat_map id_word (dead_from i (drop i alive)) ≡ start ++ flat_map id_word (dead_from 0 alive)

@@ -42,7 +42,7 @@ plain_digits : (k n : ℕ) → escape (digits_text k n) ≡ digits_text k n
 plain_digits zero n = refl
 plain_digits (suc k) n = both (digits_text k (n / 10)) ((48 + n % 10) ∷ []) (plain_digits k (n / 10)) (one (48 + n % 10) [] (omega arith) (omega arith) refl)
 
--- two parts behind each other with one separator, and a last part
+-- two parts after each other with one separator, and a last part
 plain_parts : (j k s a b : ℕ) (xs : List ℕ) → 35 ≤ s → s < 92 → escape xs ≡ xs → escape (digits_text j a ++ s ∷ (digits_text k b ++ s ∷ xs)) ≡ digits_text j a ++ s ∷ (digits_text k b ++ s ∷ xs)
 plain_parts j k s a b xs low high rest =
     both (digits_text j a) (s ∷ (digits_text k b ++ s ∷ xs)) (plain_digits j a)
@@ -103,7 +103,7 @@ quoted_date out a b c moment first middle last =
     between : (ds es : List ℕ) → es ≡ ds → b ≡ a ++ ds → c ≡ out ++ 34 ∷ (es ++ 34 ∷ [])
     between ds es same mid = rw (last, mid, first, same) (simp append_assoc)
 
--- so many digits, the last of them apart
+-- this many digits, the last of them apart
 pub digits_next : (k n : ℕ) (out a b : List ℕ) → 0 < k → a ≡ out ++ digits_text (k - 1) (n / 10) → b ≡ a ++ (48 + n % 10) ∷ [] → b ≡ out ++ digits_text k n
 digits_next zero n out a b some first last = absurd (omega arith)
 digits_next (suc k) n out a b some first last =

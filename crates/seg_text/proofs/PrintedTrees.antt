@@ -33,7 +33,7 @@ module _ (before out mid after : List ℕ) (later : Bool) (comma : mid ≡ out +
       spelled ∙ known
 
 module _ {K : Type 0} (text : K → List ℕ) (members : List (List ℕ × Tree)) where
-  -- the next place, and those behind it
+  -- the next place, and those after it
   pub next_place : (es rest : List (K × ℕ)) (e : K × ℕ) → es ≡ e ∷ rest → ArePlaces members (map (λ p. (text p.0, p.1)) es) → (e.1 < length members) × ArePlaces members (map (λ p. (text p.0, p.1)) rest)
   next_place es rest e step are = subst (λ (xs : List (K × ℕ)). ArePlaces members (map (λ p. (text p.0, p.1)) xs)) step are
 

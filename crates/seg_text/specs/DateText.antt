@@ -2,7 +2,7 @@
 use Rattle.std.specs.Prelude.{ℕ, zero, suc, ℤ, pos, negsuc, ◌+◌, ◌-◌, ◌*◌, ◌/◌, ◌%◌, ◌^◌, List, [], ◌∷◌, ◌++◌, ◌==◌, nat_lt, if◌then◌else◌, codes}
 use Rattle.std.specs.List.{list_all}
 
--- so many decimal digits of a number
+-- this many decimal digits of a number
 abbrev pub digits_text : ℕ → ℕ → List ℕ
 digits_text zero n = []
 digits_text (suc k) n = digits_text k (n / 10) ++ (48 + n % 10) ∷ []

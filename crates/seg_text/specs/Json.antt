@@ -18,7 +18,7 @@ abbrev pub signed_json : ℤ → Data
 signed_json (pos n) = json.number (json.unsigned n)
 signed_json (negsuc n) = json.number (json.negative (negsuc n))
 
--- the path of an encoded facet: its steps, each behind `/`
+-- the path of an encoded facet: its steps, each after `/`
 abbrev pub path_text : List ℕ → List ℕ
 path_text encoded = 47 ∷ map (λ b. if b == 0 then 47 else b) encoded
 

@@ -5,7 +5,7 @@ use Rattle.seg_model.specs.Reading.{Recorded, presence, frequency, positions, Po
 use Rattle.seg_text.specs.declared.posting.RecordedRef.{RecordedRef}
 use Rattle.seg_text.specs.declared.posting.RecordedRef.TheVariants.{Presence, Frequency, Positions}
 
--- numbers with commas between them, and before the first if something stands there
+-- numbers with commas between them, and before the first if something is there
 abbrev pub numbers_text : Bool → List ℕ → List ℕ
 numbers_text later [] = []
 numbers_text later (n ∷ ns) = comma_if later ++ (decimal n ++ numbers_text true ns)

@@ -105,7 +105,7 @@ fn push_fraction(out: &mut Vec<u8>, nanos: u64) -> Result<(), AllocError>
     push_without_last_zeros(out, 9, nanos)
 }
 
-/// So many digits, without the zeros at their end.
+/// This many digits, without the zeros at their end.
 #[tactic(auto, using(crate::proofs::PlainDates::other_digit, crate::proofs::PlainDates::zero_digit))]
 fn push_without_last_zeros(out: &mut Vec<u8>, count: u32, number: u64) -> Result<(), AllocError>
     ensures { OnOk result (out.new.items ≡ out.old.items ++ without_last_zeros (digits_text count number)) }
@@ -119,7 +119,7 @@ fn push_without_last_zeros(out: &mut Vec<u8>, count: u32, number: u64) -> Result
     push_digits(out, count, number)
 }
 
-/// So many digits.
+/// This many digits.
 fn push_digits(out: &mut Vec<u8>, count: u32, number: u64) -> Result<(), AllocError>
     ensures { OnOk result (out.new.items ≡ out.old.items ++ digits_text count number) }
 {

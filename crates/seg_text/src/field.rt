@@ -6,7 +6,7 @@ use crate::decimal::push_decimal;
 use crate::quoted::push_quoted;
 use std::alloc::{AllocError, Global};
 
-/// The line of a field with so many terms.
+/// The line of a field with this many terms.
 /// After an error it is open what `out` holds.
 pub fn push_field(
     out: &mut Vec<u8>,

@@ -9,7 +9,7 @@ use seg_common::SegmentId;
 use seg_fastfield::AliveBitSet;
 use std::alloc::AllocError;
 
-/// The first line of a segment of so many documents, of which so many are alive.
+/// The first line of a segment of this many documents, of which this many are alive.
 /// After an error it is open what `out` holds.
 pub fn push_header(
     out: &mut Vec<u8>,

@@ -13,7 +13,7 @@ pub enum RecordedRef<'a> {
     Positions(&'a [u32]),
 }
 
-/// A document in which a term occurs, behind a space.
+/// A document in which a term occurs, after a space.
 /// After an error it is open what `out` holds.
 pub fn push_posting(
     out: &mut Vec<u8>,

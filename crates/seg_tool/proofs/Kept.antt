@@ -10,7 +10,7 @@ abbrev pub without : List Bool → List ℕ → List Bool
 without kept [] = kept
 without kept (d ∷ ds) = without (set kept d false) ds
 
--- the marks of numbers, so many from the first
+-- the marks of numbers, this many from the first
 abbrev marks : (ℕ → Bool) → ℕ → ℕ → List Bool
 marks p a n = map p (range_with_len a n)
 

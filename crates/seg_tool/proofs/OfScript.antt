@@ -1,4 +1,4 @@
--- What is known of an input is known of the script that it stands in.
+-- What is known of an input is known of the script that it is in.
 use Rattle.std.proofs.Common.{◌≡◌, ◌⊎◌, ℕ, List, Option, None, Some, refl, sym, ap, subst, ◌∙◌, inl, inr}
 use Rattle.std.specs.Prelude.{Result, Ok, Err, IfErr, IfSome, OnOk, true}
 use Rattle.seg_values.specs.declared.error.ArgumentCause.TheVariants.{Documents}

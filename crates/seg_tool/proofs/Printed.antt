@@ -62,7 +62,7 @@ pair_of t = (t.bytes, t.postings)
 abbrev term_of : ReadTerm → Term
 term_of t = (t.bytes, t.info)
 
--- the term at a place, whose key and info are known, and those behind it
+-- the term at a place, whose key and info are known, and those after it
 next_term : (ts : List ReadTerm) (i : ℕ) (key : List ℕ) (info : TermInfo) (left : List Posting) → i < length ts → key ≡ (get_or (map term_of ts) i no_term).0 → info ≡ (get_or (map term_of ts) i no_term).1 → AllByRecursion (λ (t : ReadTerm). t.info ≡ info → left ≡ t.postings) ts → map pair_of (drop i ts) ≡ (key, left) ∷ map pair_of (drop (suc i) ts)
 next_term [] i key info left lt key_is info_is all = absurd (omega (arith, lt))
 next_term (t ∷ ts) zero key info left lt key_is info_is all =

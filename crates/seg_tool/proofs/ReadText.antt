@@ -148,7 +148,7 @@ no_text : (ids : List ℕ) → read_work_text ids [] ≡ []
 no_text [] = refl
 no_text (id ∷ ids) = refl
 
--- nothing is left behind the last
+-- nothing is left after the last
 pub work_done : (before all : List ℕ) (ids : List ℕ) (read : List KeptSegment) (i : ℕ) → length read ≤ i → before ++ read_work_text (drop i ids) (drop i read) ≡ all → before ≡ all
 work_done before all ids read i le is =
     sym (append-nil before) ∙ ap (λ xs. before ++ xs) (sym (ap (read_work_text (drop i ids)) (drop_all i read le) ∙ no_text (drop i ids))) ∙ is

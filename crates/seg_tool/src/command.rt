@@ -157,7 +157,7 @@ pub fn run<S: Source, K: Sink, F: Sink, Z: Analyzers, W: Directory, O: Directory
     status
 }
 
-/// Does what the words say, and answers how it went; nothing is said of it yet.
+/// Does what the words say, and answers how it went; the line on it is not written yet.
 fn execute<S: Source, K: Sink, Z: Analyzers, W: Directory, O: Directory>(
     alloc: Global,
     words: &[String],

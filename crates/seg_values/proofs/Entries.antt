@@ -59,7 +59,7 @@ next_of done e rest all whole is =
       whole = whole;
     }
 
--- the copy of the first field that is left, behind those that were copied
+-- the copy of the first field that is left, after those that were copied
 pub next_copied : (items all done : List FieldEntry) (i : ℕ) (e copy : FieldEntry) → is_schema all ≡ true → done ++ drop i items ≡ all → i < length items → e ≡ get_or items i e → copy ≡ e → IsNext done copy (drop (i + 1) items) all
 next_copied items all done i e copy is whole h at same =
     let left : drop i items ≡ copy ∷ drop (i + 1) items = rw (same, add-one, drop-cons items i e, ← at) in

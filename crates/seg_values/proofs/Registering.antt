@@ -28,19 +28,19 @@ picked false i n e = cc
 first_place : {X : Type 0} (p : X → Bool) (xs : List X) (i : ℕ) → Some i ≡ position p xs → i ≡ position_or_len p xs
 first_place p xs i e = picked (ltb (position_or_len p xs) (length xs)) i (position_or_len p xs) e
 
--- what stands at a place, if it is one, is what a look-up finds there
+-- what is at a place, if it is one, is what a look-up finds there
 at_place : {X : Type 0} (xs : List X) (n : ℕ) (b : Bool) → ltb n (length xs) ≡ b → MatchOption (cond b (Some n) None) (slice_get xs n ≡ None) (λ place. slice_get xs n ≡ slice_get xs place)
 at_place xs n true e = refl
 at_place xs n false e = slice_get_past xs n (grind (arith, nat_tests))
 
--- the item with a name stands at the first place of the name
+-- the item with a name is at the first place of the name
 pub item_named-place : {X : Type 0} (name_of : X → List ℕ) (xs : List X) (name : List ℕ) (r : Option ℕ) → r ≡ position (λ x. bytes_eq (name_of x) name) xs → MatchOption r (item_named name_of xs name ≡ None) (λ place. item_named name_of xs name ≡ slice_get xs place)
 item_named-place name_of xs name r e =
     let P : Option ℕ → Option _ → Type 0 = λ r o. MatchOption r (o ≡ None) (λ place. o ≡ slice_get xs place) in
     let n : ℕ = position_or_len (λ x. bytes_eq (name_of x) name) xs in
     subst (λ r. P r (item_named name_of xs name)) (sym e) (subst (P (position (λ x. bytes_eq (name_of x) name) xs)) (sym (find_at (λ x. bytes_eq (name_of x) name) xs)) (at_place xs n (ltb n (length xs)) refl))
 
--- an item that stands there is the item with the name
+-- an item that is there is the item with the name
 pub found_at : {X : Type 0} (name_of : X → List ℕ) (xs : List X) (name : List ℕ) (r : Option ℕ) (place : ℕ) (x : X) → r ≡ Some place → r ≡ position (λ x. bytes_eq (name_of x) name) xs → x ≡ get_or xs place x → item_named name_of xs name ≡ Some x
 found_at name_of xs name r place x is at e =
     let stands : item_named name_of xs name ≡ slice_get xs place = item_named-place name_of xs name (Some place) (sym is ∙ at) in

@@ -94,7 +94,7 @@ there_from_all (p ∷ pieces) h = each (is_there p) refl h (there_from_all piece
     each true e h later = (some_from_is_there p e, later h)
     each false e h later = absurd (false≢true h)
 
--- ---- what stands behind a path's first slash
+-- ---- what is after a path's first slash
 
 -- whether steps can be read from it
 abbrev pub passes : List ℕ → Bool

@@ -10,7 +10,7 @@ replacement replaced by byte = if byte == replaced then by else byte
 abbrev pub path_of : List ℕ → List ℕ
 path_of encoded = 47 ∷ map (replacement 0 47) encoded
 
--- the steps of an encoded text: what stands between its bytes 0; the empty text has none
+-- the steps of an encoded text: what is between its bytes 0; the empty text has none
 abbrev pub steps : List ℕ → List (List ℕ)
 steps [] = []
 steps (b ∷ bs) = slice_split (λ byte. byte == 0) (b ∷ bs)

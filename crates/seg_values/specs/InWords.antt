@@ -6,7 +6,7 @@ use Rattle.seg_values.specs.declared.token.Token.{Token}
 use Rattle.seg_values.specs.Words.{token_of}
 use Rattle.seg_values.specs.Tokenizers.{separates_words, is_blank, default_tokens, raw_tokens, whitespace_tokens}
 
--- a text that stands at an offset has these tokens, of which the first has this index: it is separators alone, or
+-- a text that is at an offset has these tokens, of which the first has this index: it is separators alone, or
 -- separators, then a word up to the next separator or the end, which is the first token, and then a text that has the others
 pub data InWords (separates : ℕ → Bool) (kept : ℕ → ℕ) : ℕ → ℕ → List ℕ → List Token → Type 0 where
   no_word : (at index : ℕ) (text : List ℕ) → All (λ byte. separates byte ≡ true) text → InWords separates kept at index text []

@@ -15,7 +15,7 @@ abbrev pub NoPartFrom : List FieldEntry → List ℕ → ℕ → Type 0
 NoPartFrom schema name from = (at : ℕ) → from ≤ at → IsSeparator name at → field_named schema (take at name) ≡ None
 
 -- what a name finds, a field and the path in it: the field of the whole name; else that of the longest part before a
--- separator, with what stands behind that; else the default, if there is one, with the whole name
+-- separator, with what is after that; else the default, if there is one, with the whole name
 pub data Finds (schema : List FieldEntry) (name : List ℕ) (default : Option ℕ) : Option (ℕ × List ℕ) → Type 0 where
   whole_name : (f : ℕ) → field_named schema name ≡ Some f → Finds schema name default (Some (f, []))
   longest_part : (at f : ℕ) → field_named schema name ≡ None → IsSeparator name at → field_named schema (take at name) ≡ Some f → NoPartFrom schema name (at + 1)

@@ -18,7 +18,7 @@ is_blank byte = byte == 32 || byte == 9 || byte == 10 || byte == 13
 abbrev pub default_tokens : List ℕ → List Token
 default_tokens = tokens_cut separates_words to_ascii_lowercase
 
--- what stands between blanks, as it is
+-- what is between blanks, as it is
 abbrev pub whitespace_tokens : List ℕ → List Token
 whitespace_tokens = tokens_cut is_blank (λ byte. byte)
 

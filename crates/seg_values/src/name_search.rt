@@ -30,7 +30,7 @@ impl Schema {
     }
 }
 
-/// Whether a dot stands at a place, and no backslash before it.
+/// Whether a dot is at a place, and no backslash before it.
 fn is_separator(name: &str, at: usize) -> bool
     requires { at < length name.now }
     ensures { IsTrue result ↔ IsSeparator name.now at }

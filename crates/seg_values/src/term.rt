@@ -12,7 +12,7 @@ use std::alloc::Global;
 use std::marker::Model;
 use std::net::Ipv6Addr;
 
-/// A field, and the bytes of a value. In a field, numbers and moments stand in the order of their bytes.
+/// A field, and the bytes of a value. In a field, numbers and moments are in the order of their bytes.
 #[derive(Debug, Drop)]
 pub struct Term {
     field: Field,
@@ -115,7 +115,7 @@ impl Term {
     }
 }
 
-/// The number that stands among the u64 as the value does among the i64.
+/// The number whose place among the u64 is that of the value among the i64.
 fn raised_value(value: i64) -> u64
     ensures { result ≡ raised value }
 {

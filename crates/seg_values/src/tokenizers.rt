@@ -20,7 +20,7 @@ pub struct DefaultTokenizer;
 #[derive(Clone, Copy, Debug)]
 pub struct RawTokenizer;
 
-/// What stands between spaces, tabs and ends of lines.
+/// What is between spaces, tabs and ends of lines.
 #[derive(Clone, Copy, Debug)]
 pub struct WhitespaceTokenizer;
 

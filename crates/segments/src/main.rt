@@ -94,7 +94,7 @@ fn folder<R: Files + AllocGlobal + Clone + Drop>(
     }
 }
 
-/// The words behind the program's name.
+/// The words after the program's name.
 fn program_words(rt: &(impl Env + AllocGlobal)) -> io::Result<Vec<String>> {
     let mut words = Vec::new(rt.alloc());
     for word in env::args(rt)?.skip(1) {

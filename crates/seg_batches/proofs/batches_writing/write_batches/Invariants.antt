@@ -14,7 +14,7 @@ use Rattle.seg_batches.proofs.BatchTurns.{IsPlace, batches_left, refused_left}
 use Rattle.seg_batches.proofs.SegmentTurns.{IsFew}
 use Rattle.seg_batches.proofs.batches_writing.write_batches.Given as goal
 
--- the batches so far are written, with those that are left they are all, and the cursor is behind no delete that is left
+-- the batches so far are written, with those that are left they are all, and the cursor is past no delete that is left
 abbrev pub invariant-loop-at : goal.invariant-loop-at
 invariant-loop-at g l =
     let operations = map operation_of l.operations in

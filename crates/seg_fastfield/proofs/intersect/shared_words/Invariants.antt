@@ -5,7 +5,7 @@ use Rattle.seg_fastfield.specs.BitSets.{words_of}
 use Rattle.seg_fastfield.proofs.Shared.{shared, shared_word}
 use Rattle.seg_fastfield.proofs.intersect.shared_words.Given as goal
 
--- the size and the words so far stand there
+-- the size and the words so far are there
 abbrev pub invariant-loop-at : goal.invariant-loop-at
 invariant-loop-at l = record {
   so_far : l.bytes.items ≡ to_le_bytes w32 l.max_value ++ flat_map (to_le_bytes w64) (shared (words_of l.left) (words_of l.right) l.at);

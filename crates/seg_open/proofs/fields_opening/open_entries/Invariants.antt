@@ -2,7 +2,7 @@ use Rattle.std.proofs.Common.{◌≡◌, length}
 use Rattle.seg_open.specs.FieldsOpening.{EachIsOpened}
 use Rattle.seg_open.proofs.fields_opening.open_entries.Given as goal
 
--- so many fields are opened
+-- this many fields are opened
 abbrev pub invariant-loop-place : goal.invariant-loop-place
 invariant-loop-place l = record {
   number : length l.fields.items ≡ l.place;

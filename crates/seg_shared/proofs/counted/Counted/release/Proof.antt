@@ -1,4 +1,4 @@
--- `release` gives an owner up. The last one gets the value and the block, and a full count stands still. Assumes `Logic`.
+-- `release` gives an owner up. The last one gets the value and the block, and a full count stays full. Assumes `Logic`.
 use mathlib.Core.Bool.{true}
 use mathlib.Core.List.{List, [], ◌∷◌, ◌++◌}
 use mathlib.Core.Path.{refl, ap, ◌∙◌}
