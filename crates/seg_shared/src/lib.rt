@@ -8,7 +8,5 @@
 
 mod counted;
 mod shared;
-#[cfg(test)]
-mod tests;
 
 pub use shared::Shared;
