@@ -3,7 +3,7 @@ use Rattle.std.proofs.Common.{◌≡◌, zero, suc, ◌+◌, Bool, true, false, 
 use Rattle.std.specs.Prelude.{cond}
 use Rattle.std.specs.List.{Contains}
 use Rattle.std.proofs.lemmas.List.Sums.{sum_by-cons, count_by-le-length}
-use Rattle.seg_fastfield.specs.BitSets.{member_count}
+use Rattle.seg_bits.specs.BitSets.{member_count}
 
 count-cons : (b : Bool) (s : List Bool) → member_count (b ∷ s) ≡ cond b 1 0 + member_count s
 count-cons b s = sum_by-cons (λ x. cond x 1 0) b s

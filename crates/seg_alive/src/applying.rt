@@ -6,8 +6,8 @@ ghost use Rattle.seg_open.specs.OpenSegment.{terms_in};
 ghost use Rattle.seg_alive.specs.Applying.{AreMapped, IsTold, is_left_by, left_by, staying};
 
 use crate::removing::apply_delete;
+use seg_bits::BitSet;
 use seg_deletes::{DeleteCursor, DeleteQueue, DocToOpstampMapping};
-use seg_fastfield::BitSet;
 use seg_open::SegmentReader;
 use seg_values::{TResult, TantivyError, Term};
 use std::alloc::Global;

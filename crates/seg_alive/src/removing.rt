@@ -5,8 +5,8 @@ ghost use Rattle.seg_deletes.specs.Deleted.{is_deleted};
 ghost use Rattle.seg_open.specs.OpenSegment.{terms_in};
 ghost use Rattle.seg_alive.specs.Applying.{AreMapped, is_left_by, staying};
 
+use seg_bits::BitSet;
 use seg_deletes::{DeleteOperation, DocToOpstampMapping, Opstamp};
-use seg_fastfield::BitSet;
 use seg_open::SegmentReader;
 use seg_postings::SegmentPostings;
 use seg_values::Term;

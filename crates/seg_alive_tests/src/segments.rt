@@ -3,10 +3,10 @@ ghost use Rattle.std.specs.Prelude.{◌≡◌, ◌≤◌, IsTrue};
 ghost use Rattle.seg_alive.specs.Applying.{AreMapped};
 
 use seg_alive::apply_deletes;
+use seg_bits::BitSet;
 use seg_build::{SegmentWriter, is_built_schema};
 use seg_deletes::{DeleteCursor, DeleteOperation, DeleteQueue, DocToOpstampMapping, Opstamp};
 use seg_directory::MemoryDirectory;
-use seg_fastfield::BitSet;
 use seg_meta::Segment;
 use seg_open::SegmentReader;
 use seg_testing::{Words, document, memory, schema, segment, segment_id, settings};

@@ -1,8 +1,8 @@
 //! Files of columns and alive sets, against bytes that were worked out by hand.
 
+use seg_bits::{AliveBitSet, BitSet, intersect_alive_bitsets, write_alive_bitset};
 use seg_columnar::{ColumnarReader, ColumnarWriter};
 use seg_common::{ByteCount, CommonError, MemorySink, OwnedBytes};
-use seg_fastfield::{AliveBitSet, BitSet, intersect_alive_bitsets, write_alive_bitset};
 use std::alloc::Global;
 use std::test::Fail;
 

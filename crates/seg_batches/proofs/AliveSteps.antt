@@ -9,7 +9,7 @@ use Rattle.seg_common.specs.declared.name.FileName.TheVariants.{Alive}
 use Rattle.seg_values.specs.declared.error.TantivyError.{TantivyError}
 use Rattle.seg_directory.specs.CallAnswers.{WritesFile}
 use Rattle.seg_directory.specs.Files.{NamedFiles}
-use Rattle.seg_fastfield.specs.BitSets.{set_of}
+use Rattle.seg_bits.specs.BitSets.{set_of}
 use Rattle.seg_model.specs.IndexOfFiles.{Deletes}
 use Rattle.seg_build.specs.SegmentFiles.{wrote}
 use Rattle.seg_batches.specs.Calls.{Does}

@@ -5,7 +5,7 @@ use Rattle.std.specs.List.{Contains, count_by, list_all}
 use Rattle.std.proofs.lemmas.Bool.{false≢true}
 use Rattle.std.proofs.lemmas.List.Filters.{length-filter_both}
 use Rattle.std.proofs.lemmas.List.Sums.{length-filter, sum_by-cons}
-use Rattle.seg_fastfield.specs.BitSets.{member_count}
+use Rattle.seg_bits.specs.BitSets.{member_count}
 use Rattle.seg_model.specs.IndexOfFiles.{Deletes}
 use Rattle.seg_batches.specs.Segments.{LacksSome, alive_of, deletes_of}
 

@@ -8,7 +8,7 @@ use Rattle.seg_directory.specs.CallAnswers.{seen_reading}
 use Rattle.seg_directory.specs.Faults.{FaultHasCause}
 use Rattle.seg_directory.specs.declared.answer.Answer.{Answer}
 use Rattle.seg_directory.specs.declared.answer.Answer.TheVariants as answer
-use Rattle.seg_fastfield.specs.BitSets.{set_of}
+use Rattle.seg_bits.specs.BitSets.{set_of}
 use Rattle.seg_model.specs.Contents.{Contents}
 use Rattle.seg_model.specs.Fields.{Schema}
 use Rattle.seg_model.specs.IndexOfFiles.{Deletes, ListedSegment}

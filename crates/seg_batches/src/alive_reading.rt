@@ -1,14 +1,14 @@
 //! The alive file of a segment, read back.
 ghost use Rattle.std.specs.Prelude.{◌≡◌, Some, Ok, Err, not, length, option_map, IfOk, IfErr, MatchOption};
 ghost use Rattle.std.specs.List.{count_by};
-ghost use Rattle.seg_fastfield.specs.BitSets.{set_of};
+ghost use Rattle.seg_bits.specs.BitSets.{set_of};
 ghost use Rattle.seg_meta.specs.Metas.{deletes_of};
 ghost use Rattle.seg_batches.specs.Reading.{AgreesWith, IsNoSuchSet, ReadsAlive, ReadsDeletes};
 ghost use Rattle.seg_batches.specs.Segments.{alive_of};
 
+use seg_bits::AliveBitSet;
 use seg_common::{FileName, OwnedBytes, SegmentId};
 use seg_directory::{Directory, read_file};
-use seg_fastfield::AliveBitSet;
 use seg_meta::DeleteMeta;
 use seg_values::{TResult, TantivyError};
 use std::alloc::Global;

@@ -1,16 +1,16 @@
 //! The alive files of segments, in a directory.
 ghost use Rattle.std.specs.Prelude.{◌≡◌, ◌≢◌, true, map, Some, Err, IfOk, IsTrue, OnOk};
 ghost use Rattle.seg_build.specs.SegmentFiles.{AreAbsent, wrote};
-ghost use Rattle.seg_fastfield.specs.BitSets.{set_of};
+ghost use Rattle.seg_bits.specs.BitSets.{set_of};
 ghost use Rattle.seg_model.specs.Valid.{are_distinct};
 ghost use Rattle.seg_batches.specs.Calls.{Does};
 ghost use Rattle.seg_batches.specs.Segments.{AllTellAlive, TellsAlive, alive_file, alive_files, all_listed, deletes_of};
 
 use crate::written_segment::WrittenSegment;
+use seg_bits::{BitSet, write_alive_bitset};
 use seg_common::{FileName, MemorySink};
 use seg_deletes::Opstamp;
 use seg_directory::{Directory, write_file};
-use seg_fastfield::{BitSet, write_alive_bitset};
 use seg_values::{TResult, TantivyError};
 use std::alloc::{AllocError, Global};
 

@@ -13,8 +13,8 @@ ghost use Rattle.seg_alive.specs.Laws.{as_operations};
 ghost use Rattle.seg_batches.specs.Making.{AreWhole, IsMadeOf, passed_below};
 
 use seg_alive::{applied_deletes_leave_the_alive, apply_deletes};
+use seg_bits::BitSet;
 use seg_deletes::{DeleteCursor, DeleteQueue, DocToOpstampMapping, Opstamp};
-use seg_fastfield::BitSet;
 use seg_open::{OpenError, SegmentFiles, SegmentReader, files_spell_one_contents};
 use seg_values::{Schema, TResult, TantivyError, Term};
 use std::alloc::Global;

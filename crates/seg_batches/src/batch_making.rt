@@ -17,10 +17,10 @@ ghost use Rattle.seg_refusals.specs.Refusals.{IsRefusal, build_error};
 
 use crate::batch_alive::alive_documents;
 use crate::batch_indexing::{index_batch, new_writer};
+use seg_bits::BitSet;
 use seg_build::{MemorySegment, UserOperation};
 use seg_common::SegmentId;
 use seg_deletes::{DeleteCursor, DeleteQueue, Opstamp};
-use seg_fastfield::BitSet;
 use seg_meta::IndexSettings;
 use seg_open::{SegmentFiles, made_files_spell};
 use seg_values::{Analyzers, Schema, TResult, TantivyDocument, TantivyError, Term};

@@ -3,7 +3,7 @@ ghost use Rattle.std.specs.Prelude.{◌≡◌, length};
 ghost use Rattle.seg_join.specs.KeptSegment.{marks_of};
 ghost use Rattle.seg_batches.specs.Segments.{alive_of};
 
-use seg_fastfield::AliveBitSet;
+use seg_bits::AliveBitSet;
 use seg_open::SegmentReader;
 use std::marker::Model;
 

@@ -1,10 +1,10 @@
 //! The readers of files of one format.
 
 use anyhow::{Result, bail};
+use seg_bits::AliveBitSet;
 use seg_columnar::ColumnarReader;
 use seg_common::OwnedBytes;
 use seg_directory::CompositeFile;
-use seg_fastfield::AliveBitSet;
 use seg_meta::{ReadError, read_meta};
 use seg_store::StoreReader;
 use seg_termdict::TermDictionary;

@@ -7,7 +7,7 @@ use Rattle.std.specs.Ordering.{nat_cmp, eq_by_cmp}
 use Rattle.std.specs.Cmp.Lexicographic.{slice_cmp}
 use Rattle.std.proofs.lemmas.List.{map-append, length-append}
 use Rattle.std.proofs.lemmas.Option.{same_Some, slice_get-map, get_or_from_slice_get}
-use Rattle.seg_fastfield.specs.BitSets.{member_count}
+use Rattle.seg_bits.specs.BitSets.{member_count}
 use Rattle.seg_values.specs.declared.schema.FieldEntry.{FieldEntry}
 use Rattle.seg_values.specs.declared.schema.IndexOption.{IndexOption}
 use Rattle.seg_values.specs.declared.schema.IndexOption.TheVariants as options

@@ -4,7 +4,7 @@ use Rattle.std.specs.List.{AllByRecursion}
 use Rattle.std.proofs.lemmas.List.{length-append, drop_more}
 use Rattle.std.proofs.lemmas.List.Sums.{sum_by-cons}
 use Rattle.seg_model.specs.Operations.{kept}
-use Rattle.seg_fastfield.specs.BitSets.{member_count}
+use Rattle.seg_bits.specs.BitSets.{member_count}
 use Rattle.seg_store.specs.Store.{documents_of}
 use Rattle.seg_join.specs.JoinedStore.{joined_documents}
 use Rattle.seg_join.specs.KeptSegment.{IsMarked, KeptSegment, kept_count}

@@ -3,7 +3,7 @@ use Rattle.std.proofs.Common.{◌≡◌, ℕ, zero, suc, ◌+◌, ◌-◌, ◌<�
 use Rattle.std.specs.Prelude.{◌==◌}
 use Rattle.std.specs.List.{flat_map}
 use Rattle.std.proofs.lemmas.Bool.Decides.{nat_tests}
-use Rattle.seg_fastfield.specs.BitSets.{member_count}
+use Rattle.seg_bits.specs.BitSets.{member_count}
 use Rattle.seg_values.specs.declared.schema.IndexOption.{IndexOption}
 use Rattle.seg_model.specs.Join.{recorded_at, all_recorded}
 use Rattle.seg_model.specs.Operations.{kept}

@@ -12,7 +12,7 @@ use Rattle.seg_model.specs.Operations.{kept}
 use Rattle.seg_model.specs.Reading.{Terms}
 use Rattle.seg_model.specs.Shape.{HasFullShape}
 use Rattle.seg_directory.specs.Composite.{composite}
-use Rattle.seg_fastfield.specs.BitSets.{member_count}
+use Rattle.seg_bits.specs.BitSets.{member_count}
 use Rattle.seg_columnar.specs.Columnar.{rows_of}
 use Rattle.seg_store.specs.Store.{documents_of, store_of}
 use Rattle.seg_postings.specs.FieldNorms.{norms_parts}

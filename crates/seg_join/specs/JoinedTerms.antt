@@ -2,7 +2,7 @@
 use Rattle.std.specs.Prelude.{◌≡◌, ◌+◌, ◌*◌, ◌/◌, ◌==◌, if◌then◌else◌, ℕ, Bool, true, false, List, [], ◌∷◌, map, is_some, Option, Some, None}
 use Rattle.std.specs.FinMap.{get, entries}
 use Rattle.std.specs.List.{slice_get, AllByRecursion}
-use Rattle.seg_fastfield.specs.BitSets.{member_count}
+use Rattle.seg_bits.specs.BitSets.{member_count}
 use Rattle.seg_values.specs.declared.schema.FieldEntry.{FieldEntry}
 use Rattle.seg_model.specs.Fields.{is_indexed}
 use Rattle.seg_model.specs.Join.{joined_terms}

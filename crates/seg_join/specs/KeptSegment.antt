@@ -1,7 +1,7 @@
 -- A segment that is read, and which of its documents are kept.
 use Rattle.std.specs.Prelude.{◌≡◌, ℕ, ◌+◌, Bool, true, List, [], ◌∷◌, length, replicate, Option, Some, None}
 use Rattle.std.specs.Borrow.{Bor}
-use Rattle.seg_fastfield.specs.BitSets.{member_count}
+use Rattle.seg_bits.specs.BitSets.{member_count}
 use Rattle.seg_model.specs.Fields.{Schema}
 use Rattle.seg_model.specs.Join.{Part}
 use Rattle.seg_model.specs.Shape.{HasFullShape}

@@ -1,9 +1,9 @@
 //! A segment that is merged.
 ghost use Rattle.std.specs.Prelude.{◌≡◌, length, false, get_or};
-ghost use Rattle.seg_fastfield.specs.BitSets.{member_count};
+ghost use Rattle.seg_bits.specs.BitSets.{member_count};
 ghost use Rattle.seg_join.specs.KeptSegment.{marks_of};
 
-use seg_fastfield::AliveBitSet;
+use seg_bits::AliveBitSet;
 use seg_open::SegmentReader;
 use std::marker::Model;
 

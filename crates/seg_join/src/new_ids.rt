@@ -1,6 +1,6 @@
 //! The ids that documents have when segments are joined.
 ghost use Rattle.std.specs.Prelude.{◌≡◌, ◌<◌, ◌+◌, ◌^◌, ◌++◌, ◌∷◌, [], length, map, slice_get, if◌then◌else◌, Some, None, IfOk, OnOk};
-ghost use Rattle.seg_fastfield.specs.BitSets.{member_count};
+ghost use Rattle.seg_bits.specs.BitSets.{member_count};
 ghost use Rattle.seg_join.specs.NewIds.{id_of, new_ids};
 
 use crate::merge_part::MergePart;

@@ -1,7 +1,7 @@
 //! Segments that are merged, with the new ids of their documents.
 ghost use Rattle.std.specs.Prelude.{◌≡◌, ◌≤◌, ◌<◌, ◌+◌, ◌^◌, ◌∷◌, [], IfOk, OnOk};
 ghost use Rattle.std.specs.List.{AllByRecursion};
-ghost use Rattle.seg_fastfield.specs.BitSets.{member_count};
+ghost use Rattle.seg_bits.specs.BitSets.{member_count};
 ghost use Rattle.seg_join.specs.JoinedTerms as estimate;
 ghost use Rattle.seg_join.specs.JoinedTerms.{FieldsAreOpen, IsOpenAt, source_of, tokens_in};
 ghost use Rattle.seg_join.specs.KeptSegment.{IsMarked, kept_count};

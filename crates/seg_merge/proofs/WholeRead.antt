@@ -8,7 +8,7 @@ use Rattle.std.proofs.lemmas.Option.{same_Some}
 use Rattle.seg_values.specs.Tree.{Document}
 use Rattle.seg_values.specs.declared.error.TantivyError.{TantivyError}
 use Rattle.seg_directory.specs.Files.{NamedFiles}
-use Rattle.seg_fastfield.specs.BitSets.{set_of}
+use Rattle.seg_bits.specs.BitSets.{set_of}
 use Rattle.seg_model.specs.Contents.{Contents, full_reading}
 use Rattle.seg_model.specs.Fields.{Schema, Analyzer}
 use Rattle.seg_model.specs.IndexOfFiles as index

@@ -21,10 +21,10 @@ ghost use Rattle.seg_merge.specs.IndexFiles.{IsOutputIndexOf, IsWorkIndexOf, mer
 
 use crate::indexes::{BuiltSegments, write_indexes};
 use seg_batches::ReadSegment;
+use seg_bits::AliveBitSet;
 use seg_build::{UserOperation, built_schemas_have_no_columns};
 use seg_common::SegmentId;
 use seg_directory::Directory;
-use seg_fastfield::AliveBitSet;
 use seg_meta::{Index, IndexSettings};
 use seg_open::SegmentReader;
 use seg_refusals::check_input;

@@ -14,7 +14,7 @@ ghost use Rattle.seg_merge.specs.Filling.{FilterFits, FiltersFit};
 ghost use Rattle.seg_merge.specs.Joining.{filtered_segments, joined, keeps_of, kept_marks};
 
 use seg_batches::ReadSegment;
-use seg_fastfield::{AliveBitSet, intersect_alive_bitsets};
+use seg_bits::{AliveBitSet, intersect_alive_bitsets};
 use seg_join::{MergePart, join_segments, num_joined_docs};
 use seg_meta::IndexSettings;
 use seg_open::{OpenError, SegmentFiles, SegmentReader, files_spell_one_contents};

@@ -8,7 +8,7 @@ ghost use Rattle.seg_postings.specs.Written.{Rise};
 use crate::documents::{CountedDocument, TERMINATED, pass_recorded, take_document, take_number};
 use crate::error::PostingsError;
 use crate::record_kind::RecordKind;
-use seg_fastfield::ReadOnlyBitSet;
+use seg_bits::ReadOnlyBitSet;
 use std::alloc::AllocError;
 use std::marker::Model;
 

@@ -7,8 +7,8 @@ ghost use Rattle.seg_postings.specs.PostingsReading.{alive_count};
 
 use crate::fields::{WITH_POSITIONS, open};
 use crate::walk::{postings_of, walk};
+use seg_bits::ReadOnlyBitSet;
 use seg_common::{CommonError, OwnedBytes};
-use seg_fastfield::ReadOnlyBitSet;
 use seg_postings::InvertedIndexReader;
 use seg_values::IndexOption;
 use std::alloc::Global;

@@ -14,9 +14,9 @@ use crate::batches::{batches_fit, cuts_fit};
 use crate::deletes::unindexed_delete;
 use crate::filters::filters_fit;
 use crate::ids::ids_fit;
+use seg_bits::AliveBitSet;
 use seg_build::{SegmentWriter, UserOperation, is_built_schema};
 use seg_common::SegmentId;
-use seg_fastfield::AliveBitSet;
 use seg_meta::{IndexSettings, Segment, SegmentMeta};
 use seg_values::{
     Analyzers, ArgumentCause, Schema, SchemaCause, TResult, TantivyDocument, TantivyError,

@@ -6,8 +6,8 @@ ghost use Rattle.seg_model.specs.Valid.{cuts_fit, filter_fits, filters_fit};
 ghost use Rattle.seg_build.specs.View.{operation_of};
 
 use crate::batches::num_additions;
+use seg_bits::AliveBitSet;
 use seg_build::UserOperation;
-use seg_fastfield::AliveBitSet;
 use seg_values::TantivyDocument;
 
 /// Whether there is one filter, or none, for each batch, of as many documents as the batch adds.

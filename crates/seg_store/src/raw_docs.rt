@@ -6,8 +6,8 @@ ghost use Rattle.seg_store.specs.Store.{is_store, blocks_of, raw_documents, docu
 
 use crate::checkpoint::checkpoint_at;
 use crate::locating::{checkpoint_table, place_in_store};
+use seg_bits::ReadOnlyBitSet;
 use seg_common::OwnedBytes;
-use seg_fastfield::ReadOnlyBitSet;
 use std::iter::FusedIterator;
 use std::marker::Model;
 

@@ -1,8 +1,8 @@
 //! The stored bytes of the documents that are alive.
 
 use crate::reading::{FOUR, open};
+use seg_bits::ReadOnlyBitSet;
 use seg_common::{CommonError, OwnedBytes};
-use seg_fastfield::ReadOnlyBitSet;
 use seg_store::StoreReader;
 use std::alloc::Global;
 use std::test::Fail;

@@ -5,8 +5,8 @@ ghost use Rattle.seg_common.specs.SegmentIds.{id_text};
 ghost use Rattle.seg_text.specs.HeaderText.{dead_from, dead_text, header_text, id_word};
 
 use crate::decimal::push_decimal;
+use seg_bits::AliveBitSet;
 use seg_common::SegmentId;
-use seg_fastfield::AliveBitSet;
 use std::alloc::AllocError;
 
 /// The first line of a segment of this many documents, of which this many are alive.

@@ -1,9 +1,9 @@
 //! The filters of a script.
 ghost use Rattle.std.specs.Prelude.{◌≡◌, Some, false, set, IfOk};
-ghost use Rattle.seg_fastfield.specs.BitSets as bits;
+ghost use Rattle.seg_bits.specs.BitSets as bits;
 
+use seg_bits::{AliveBitSet, BitSet, write_alive_bitset};
 use seg_common::{MemorySink, OwnedBytes};
-use seg_fastfield::{AliveBitSet, BitSet, write_alive_bitset};
 use seg_script::BatchFilter;
 use std::alloc::{AllocError, Global};
 

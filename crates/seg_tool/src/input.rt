@@ -6,9 +6,9 @@ ghost use Rattle.seg_script.specs.View as scripted;
 ghost use Rattle.seg_tool.specs.BuildInput.{input_of};
 
 use crate::filters::alive_sets;
+use seg_bits::AliveBitSet;
 use seg_build::UserOperation;
 use seg_common::SegmentId;
-use seg_fastfield::AliveBitSet;
 use seg_meta::IndexSettings;
 use seg_script::{Cuts, Operation, Operations, Script, SegmentIds};
 use seg_values::{Schema, TantivyDocument};

@@ -15,8 +15,8 @@ ghost use Rattle.seg_text.specs.HeaderText.{dead_text, header_text};
 ghost use Rattle.seg_join.specs.KeptSegment.{KeptSegment, marks_of};
 ghost use Rattle.seg_tool.specs.Printing.{opened_text, read_segment_text};
 
+use seg_bits::AliveBitSet;
 use seg_common::SegmentId;
-use seg_fastfield::AliveBitSet;
 use seg_open::SegmentReader;
 use seg_postings::{InvertedIndexReader, RecordKind, SegmentPostings};
 use seg_store::StoreReader;

@@ -1,5 +1,0 @@
-use Rattle.seg_fastfield.proofs.OneForm.{one_form}
-use Rattle.seg_fastfield.proofs.laws.sets_have_one_form.Goals as goal
-
-pub returns : goal.returns
-returns c = one_form
