@@ -11,5 +11,3 @@ mod norms;
 mod reading;
 #[cfg(test)]
 mod walk;
-#[cfg(test)]
-mod writing;
