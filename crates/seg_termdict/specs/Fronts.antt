@@ -24,6 +24,7 @@ IsFirstFront x fronts = AllByRecursion (λ y. comes_before y x ≡ false) fronts
 abbrev pub Entry : Type 0
 Entry = Reverse (Bor (List ℕ) × ℕ)
 
+-- the front that an entry holds
 abbrev pub front_of : Entry → Front
 front_of e = (e.0.0.now, e.0.1)
 
