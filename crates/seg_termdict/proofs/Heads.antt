@@ -1,10 +1,9 @@
 -- A streamer that has come to a term, as the terms from this one on.
-use Rattle.std.proofs.Common.{◌≡◌, ℕ, suc, ◌+◌, ◌-◌, ◌<◌, ◌≤◌, Bool, true, false, cond, List, [], ◌∷◌, map, length, drop, get_or, refl, sym, ap, subst, ◌∙◌, arith, Some, None}
+use Rattle.std.proofs.Common.{◌≡◌, ℕ, suc, ◌+◌, ◌-◌, ◌<◌, ◌≤◌, Bool, true, false, cond, List, [], ◌∷◌, map, length, drop, get_or, refl, sym, ap, subst, ◌∙◌, arith}
 use Rattle.std.specs.Prelude.{nat_lt}
 use Rattle.std.specs.List.{enumerate_from}
 use Rattle.std.specs.List.Sorted.{IsStrictlySortedBy}
-use Rattle.std.specs.Str.{bytes_eq}
-use Rattle.std.proofs.lemmas.Bool.{lt-ltb, ltb-true, false≢true, cond-true, cond-false}
+use Rattle.std.proofs.lemmas.Bool.{lt-ltb, ltb-true, false≢true, cond-true}
 use Rattle.std.proofs.lemmas.List.{length-drop, drop_more, drop_all}
 use Rattle.seg_common.specs.declared.term_info.TermInfo.{TermInfo}
 use Rattle.seg_model.specs.SortedTerms.{RankedTerm, key_cmp}
@@ -12,7 +11,7 @@ use Rattle.seg_model.specs.MergedTerms.{keys_in}
 use Rattle.seg_termdict.specs.Dictionary.{Term}
 use Rattle.seg_termdict.specs.Streaming.{Stream, no_term, current, advanced}
 use Rattle.seg_termdict.specs.Ranges.{ranked_terms}
-use Rattle.seg_termdict.specs.Merging.{Ascends, first_with, behind}
+use Rattle.seg_termdict.specs.Merging.{Ascends}
 use Rattle.seg_termdict.proofs.Ranked.{ranked_of, ranked_length, ranked_at}
 
 -- the terms from the one on that a streamer has come to
@@ -64,21 +63,6 @@ has_after s after more e is there =
     let next : Stream = record { terms = s.terms; taken = s.taken + 1 } in
     let lt : s.taken < length s.terms = ltb-true s.taken (length s.terms) (sym e ∙ there) in
     subst HasTerm (sym (is ∙ cond-true (nat_lt s.taken (length s.terms)) next s (sym e ∙ there))) (omega arith, omega (arith, lt))
-
--- ---- what is asked of the first term
-
-module _ (key : List ℕ) (t : RankedTerm TermInfo) (ts view : List (RankedTerm TermInfo)) (is : t ∷ ts ≡ view) where
-  pub with_key : bytes_eq key t.key ≡ true → first_with key view ≡ Some (t.ord, t.info)
-  with_key e = ap (first_with key) (sym is) ∙ cond-true (bytes_eq key t.key) (Some (t.ord, t.info)) None e
-
-  pub without_key : bytes_eq key t.key ≡ false → first_with key view ≡ None
-  without_key e = ap (first_with key) (sym is) ∙ cond-false (bytes_eq key t.key) (Some (t.ord, t.info)) None e
-
-  pub behind_key : bytes_eq key t.key ≡ true → behind key view ≡ ts
-  behind_key e = ap (behind key) (sym is) ∙ cond-true (bytes_eq key t.key) ts (t ∷ ts) e
-
-  pub stays : bytes_eq key t.key ≡ false → behind key view ≡ view
-  stays e = ap (behind key) (sym is) ∙ cond-false (bytes_eq key t.key) ts (t ∷ ts) e ∙ is
 
 -- ---- order
 

@@ -1,6 +1,8 @@
 pub mod Appended
 mod Assembled
 mod Bounds
+mod FrontLemmas
+mod FrontSums
 mod Growth
 mod Heads
 mod InfoLemmas
@@ -9,6 +11,7 @@ pub mod KeyOrder
 pub mod LastTerm
 mod MergeSteps
 mod Merges
+mod Passing
 mod Ranked
 pub mod SortedKeys
 mod TermLemmas

@@ -1,15 +1,15 @@
 -- The merged terms of ascending streams: the least of the first keys, and then those of what is after it.
-use Rattle.std.proofs.Common.{◌≡◌, ℕ, zero, suc, ◌+◌, ◌<◌, Bool, true, false, cond, List, [], ◌∷◌, ◌++◌, map, length, get_or, refl, sym, ap, subst, ◌∙◌, arith, Some, None, inl, inr}
+use Rattle.std.proofs.Common.{◌≡◌, ℕ, zero, suc, ◌+◌, ◌<◌, Bool, true, false, cond, List, [], ◌∷◌, ◌++◌, map, length, get_or, refl, sym, ap, subst, ◌∙◌, arith, Some, None}
 use Rattle.std.specs.Prelude.{filter}
 use Rattle.std.specs.FinMap.{entries, empty, get, insert, find, put, same_map, get-insert, get-entries, entries-insert, len-entries, len-empty}
 use Rattle.std.specs.FinMap.Entries.{by_order}
 use Rattle.std.specs.List.{AllByRecursion, flat_map}
 use Rattle.std.specs.List.Sorted.{IsStrictlySortedBy}
-use Rattle.std.specs.Ordering.{is_lt, is_le, is_eq, eq_by_cmp, ordering_reverse}
+use Rattle.std.specs.Ordering.{is_lt, is_le, is_eq, eq_by_cmp}
 use Rattle.std.specs.Str.{bytes_eq}
 use Rattle.std.specs.declared.cmp.Ordering.{Ordering}
 use Rattle.std.specs.declared.cmp.Ordering.TheVariants.{Less, Equal, Greater}
-use Rattle.std.proofs.lemmas.Bool.{false≢true, cond-true, cond-false, cases_lt}
+use Rattle.std.proofs.lemmas.Bool.{false≢true, cond-true, cond-false}
 use Rattle.std.proofs.lemmas.Cmp.{nat_list_cmp_total, tied_itself}
 use Rattle.std.proofs.lemmas.List.{length-append, nil_from_length}
 use Rattle.std.proofs.lemmas.Map.Text.{is_eq-slice_cmp}
@@ -19,7 +19,7 @@ use Rattle.seg_model.specs.SortedTerms.{RankedTerm, SortedTerms, key_cmp}
 use Rattle.seg_model.specs.MergedTerms.{Standing, standing_in, standings_from, if_stands, keys_in, merged_terms}
 use Rattle.seg_model.proofs.MergedTerms.{merged_terms_answer}
 use Rattle.seg_model.proofs.Terms.{texts_apart}
-use Rattle.seg_termdict.specs.Merging.{MergedTerm, Ascends, first, first_with, behind, standing_first, standings_first, NotBelow, IsLeast}
+use Rattle.seg_termdict.specs.Merging.{MergedTerm, Ascends, first, first_with, behind, standing_first, standings_first, NotBelow}
 use Rattle.seg_termdict.proofs.KeyOrder.{same_keys}
 
 -- ---- keys
@@ -37,10 +37,10 @@ at_most_then_less a b c le less = by (key_cmp a b) refl
     by Equal e = subst (λ (k : List ℕ). key_cmp k c ≡ Less) (sym (same_keys a b e)) less
     by Greater e = absurd (false≢true (sym (ap is_le e) ∙ le))
 
-differs : (a b : List ℕ) → key_cmp a b ≡ Less → bytes_eq a b ≡ false
+pub differs : (a b : List ℕ) → key_cmp a b ≡ Less → bytes_eq a b ≡ false
 differs a b less = sym (is_eq-slice_cmp a b) ∙ ap is_eq less
 
-at_most_not_same : (a b : List ℕ) → is_le (key_cmp a b) ≡ true → bytes_eq a b ≡ false → key_cmp a b ≡ Less
+pub at_most_not_same : (a b : List ℕ) → is_le (key_cmp a b) ≡ true → bytes_eq a b ≡ false → key_cmp a b ≡ Less
 at_most_not_same a b le other = by (key_cmp a b) refl
   where
     by : (o : Ordering) → key_cmp a b ≡ o → key_cmp a b ≡ Less
@@ -62,11 +62,11 @@ below_rest : (key : List ℕ) (t : RankedTerm TermInfo) (ts : List (RankedTerm T
 unfolding IsStrictlySortedBy
 below_rest key t ts le rise = below_all_from key t.key le ts rise.0
 
-rest_ascends : (t : RankedTerm TermInfo) (ts : List (RankedTerm TermInfo)) → Ascends (t ∷ ts) → Ascends ts
+pub rest_ascends : (t : RankedTerm TermInfo) (ts : List (RankedTerm TermInfo)) → Ascends (t ∷ ts) → Ascends ts
 unfolding IsStrictlySortedBy
 rest_ascends t ts rise = rise.1
 
-abbrev standing_of : ℕ → RankedTerm TermInfo → Standing TermInfo
+abbrev pub standing_of : ℕ → RankedTerm TermInfo → Standing TermInfo
 standing_of segment t = record { segment = segment; ord = t.ord; info = t.info }
 
 -- where a key is, by whether the first term has it
@@ -108,14 +108,6 @@ behind_below key (t ∷ ts) rise low = by (bytes_eq key t.key) refl
     by true e = subst (Below key) (sym (cond-true (bytes_eq key t.key) ts (t ∷ ts) e)) (below_rest key t ts low rise)
     by false e = subst (Below key) (sym (cond-false (bytes_eq key t.key) ts (t ∷ ts) e)) (at_most_not_same key t.key low e, below_rest key t ts low rise)
 
-behind_ascends : (key : List ℕ) (terms : List (RankedTerm TermInfo)) → Ascends terms → Ascends (behind key terms)
-behind_ascends key [] rise = rise
-behind_ascends key (t ∷ ts) rise = by (bytes_eq key t.key) refl
-  where
-    by : (b : Bool) → bytes_eq key t.key ≡ b → Ascends (behind key (t ∷ ts))
-    by true e = subst Ascends (sym (cond-true (bytes_eq key t.key) ts (t ∷ ts) e)) (rest_ascends t ts rise)
-    by false e = subst Ascends (sym (cond-false (bytes_eq key t.key) ts (t ∷ ts) e)) rise
-
 -- a key that isn't greater is nowhere after another
 none_lower : (segment : ℕ) (q key : List ℕ) → is_lt (key_cmp key q) ≡ false → (ts : List (RankedTerm TermInfo)) → Below key ts → standing_in segment q ts ≡ []
 none_lower segment q key low [] h = refl
@@ -147,10 +139,6 @@ all_lower n q key [] low rise least = refl
 all_lower n q key (h ∷ hs) low rise least =
     ap (λ ss. ss ++ standings_from (n + 1) q (map (behind key) hs)) (none_lower n q key low (behind key h) (behind_below key h rise.0 least.0))
     ∙ all_lower (n + 1) q key hs low rise.1 least.1
-
-pub all_ascend : (key : List ℕ) (hs : Streams) → AllByRecursion Ascends hs → AllByRecursion Ascends (map (behind key) hs)
-all_ascend key [] rise = tt
-all_ascend key (h ∷ hs) rise = (behind_ascends key h rise.0, all_ascend key hs rise.1)
 
 if_some : (ss : List (Standing TermInfo)) → 0 < length ss → if_stands ss ≡ Some ss
 if_some [] lt = absurd (omega (arith, lt))
@@ -211,75 +199,14 @@ none_merged hs h =
     let e : merged_terms hs ≡ m = ap (λ ks. Rattle.seg_model.specs.Tables.tabulated (λ key. if_stands (standings_from 0 key hs)) ks) (no_keys hs h) in
     ap entries e ∙ nil_from_length (entries m) (sym (len-entries m) ∙ len-empty key_cmp (List (Standing TermInfo)))
 
--- ---- the place of the least key
-
-each_of : (P : List (RankedTerm TermInfo) → Type 0) (hs : Streams) → ((i : ℕ) → i < length hs → P (get_or hs i [])) → AllByRecursion P hs
-each_of P [] h = tt
-each_of P (x ∷ xs) h = (h 0 (omega arith), each_of P xs (λ i lt. h (suc i) (omega (arith, lt))))
-
-pub all_over : (hs : Streams) → IsLeast hs (length hs) None → AllByRecursion (λ (h : List (RankedTerm TermInfo)). h ≡ []) hs
-all_over hs h = each_of (λ (x : List (RankedTerm TermInfo)). x ≡ []) hs h
-
-pub all_not_below : (hs : Streams) (best : ℕ) → IsLeast hs (length hs) (Some best) → AllByRecursion (NotBelow (first (get_or hs best [])).key) hs
-all_not_below hs best h = each_of (NotBelow (first (get_or hs best [])).key) hs h.2
+-- ---- a key that a first term has
 
 itself_with : (key : List ℕ) (h : List (RankedTerm TermInfo)) → 0 < length h → (first h).key ≡ key → (n : ℕ) → 0 < length (standing_first n (first_with key h))
 itself_with key [] lt e n = absurd (omega (arith, lt))
 itself_with key (t ∷ ts) lt e n = subst (λ o. 0 < length (standing_first n o)) (sym (cond-true (bytes_eq key t.key) (Some (t.ord, t.info)) None ((bytes_eq-Decides key t.key).1 (sym e)))) (omega arith)
 
-some_from : (hs : Streams) (best n : ℕ) (key : List ℕ) → best < length hs → 0 < length (get_or hs best []) → (first (get_or hs best [])).key ≡ key → 0 < length (standings_first n key hs)
+-- one of the first terms has the key
+pub some_from : (hs : Streams) (best n : ℕ) (key : List ℕ) → best < length hs → 0 < length (get_or hs best []) → (first (get_or hs best [])).key ≡ key → 0 < length (standings_first n key hs)
 some_from [] best n key lt has e = absurd (omega (arith, lt))
 some_from (h ∷ hs) zero n key lt has e = omega (arith, itself_with key h has e n, length-append (standing_first n (first_with key h)) (standings_first (n + 1) key hs))
 some_from (h ∷ hs) (suc best) n key lt has e = omega (arith, some_from hs best (n + 1) key (omega (arith, lt)) has e, length-append (standing_first n (first_with key h)) (standings_first (n + 1) key hs))
-
-pub some_stand : (hs : Streams) (best : ℕ) → IsLeast hs (length hs) (Some best) → 0 < length (standings_first 0 (first (get_or hs best [])).key hs)
-some_stand hs best h = some_from hs best 0 (first (get_or hs best [])).key h.0 h.1 refl
-
--- ---- the place of the least key so far
-
-not_below_itself : (h : List (RankedTerm TermInfo)) → NotBelow (first h).key h
-not_below_itself [] = tt
-not_below_itself (t ∷ ts) = ap is_le (tied_itself nat_list_cmp_total t.key)
-
-still_not_below : (a b : List ℕ) (h : List (RankedTerm TermInfo)) → key_cmp b a ≡ Less → NotBelow a h → NotBelow b h
-still_not_below a b [] less low = tt
-still_not_below a b (t ∷ ts) less low = by (key_cmp a t.key) refl
-  where
-    by : (o : Ordering) → key_cmp a t.key ≡ o → is_le (key_cmp b t.key) ≡ true
-    by Less e = ap is_le (nat_list_cmp_total.trans b a t.key less e)
-    by Equal e = ap is_le (subst (λ (k : List ℕ). key_cmp b k ≡ Less) (same_keys a t.key e) less)
-    by Greater e = absurd (false≢true (sym (ap is_le e) ∙ low))
-
--- a stream with a term after those without one
-pub least_first : (hs : Streams) (i : ℕ) → IsLeast hs i None → 0 < length (get_or hs i []) → IsLeast hs (i + 1) (Some i)
-least_first hs i none has =
-    let key : List ℕ = (first (get_or hs i [])).key in (
-      omega arith,
-      has,
-      λ j lt. elim (cases_lt j i) [
-        | inl l ↦ subst (NotBelow key) (sym (none j l)) tt
-        | inr le ↦ let e : i ≡ j = omega arith in subst (λ (n : ℕ). NotBelow key (get_or hs n [])) e (not_below_itself (get_or hs i []))
-      ],
-    )
-
-less_from : (a b : List ℕ) → is_le (key_cmp a b) ≡ false → key_cmp b a ≡ Less
-less_from a b h = by (key_cmp a b) refl
-  where
-    by : (o : Ordering) → key_cmp a b ≡ o → key_cmp b a ≡ Less
-    by Less e = absurd (false≢true (sym h ∙ ap is_le e))
-    by Equal e = absurd (false≢true (sym h ∙ ap is_le e))
-    by Greater e = nat_list_cmp_total.antisymm b a ∙ ap ordering_reverse e
-
--- a stream with a lesser key
-pub least_new : (hs : Streams) (i best : ℕ) → IsLeast hs i (Some best) → is_le (key_cmp (first (get_or hs best [])).key (first (get_or hs i [])).key) ≡ false → 0 < length (get_or hs i []) → IsLeast hs (i + 1) (Some i)
-least_new hs i best h greater has =
-    let old : List ℕ = (first (get_or hs best [])).key in
-    let key : List ℕ = (first (get_or hs i [])).key in
-    let less : key_cmp key old ≡ Less = less_from old key greater in (
-      omega arith,
-      has,
-      λ j lt. elim (cases_lt j i) [
-        | inl l ↦ still_not_below old key (get_or hs j []) less (h.2 j l)
-        | inr le ↦ let e : i ≡ j = omega arith in subst (λ (n : ℕ). NotBelow key (get_or hs n [])) e (not_below_itself (get_or hs i []))
-      ],
-    )

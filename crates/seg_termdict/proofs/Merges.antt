@@ -1,5 +1,5 @@
 -- What a merger is seen as, step by step.
-use Rattle.std.proofs.Common.{◌≡◌, ℕ, ◌<◌, Bool, true, false, List, [], ◌∷◌, ◌++◌, map, length, get_or, refl, sym, ap, subst, ◌∙◌, arith, append_assoc, Option, Some, None}
+use Rattle.std.proofs.Common.{◌≡◌, ℕ, ◌<◌, Bool, true, false, List, [], ◌∷◌, ◌++◌, map, length, refl, sym, ap, subst, ◌∙◌, arith, append_assoc, Option, Some, None}
 use Rattle.std.specs.Prelude.{IfSome, IsSome, IsSomeAnd, nat_lt, if◌then◌else◌}
 use Rattle.std.specs.FinMap.{entries}
 use Rattle.std.specs.List.{AllByRecursion}
@@ -9,8 +9,8 @@ use Rattle.seg_common.specs.declared.term_info.TermInfo.{TermInfo}
 use Rattle.seg_model.specs.SortedTerms.{RankedTerm}
 use Rattle.seg_model.specs.MergedTerms.{Standing, merged_terms}
 use Rattle.seg_termdict.specs.Streaming.{Stream}
-use Rattle.seg_termdict.specs.Merging.{MergedTerm, Merging, told, ord_of, info_of, noted, Ascends, first, behind, standings_first, NotBelow, IsLeast, at_first, stepped, terms_of_stream}
-use Rattle.seg_termdict.proofs.MergeSteps.{Streams, next_merged, none_merged, all_over, all_not_below, some_stand}
+use Rattle.seg_termdict.specs.Merging.{MergedTerm, Merging, told, ord_of, info_of, noted, Ascends, behind, standings_first, NotBelow, at_first, stepped, terms_of_stream}
+use Rattle.seg_termdict.proofs.MergeSteps.{Streams, next_merged, none_merged}
 
 -- ---- the streams that are given
 
@@ -51,9 +51,9 @@ module _ (lacks : Bool) (hs : Streams) (key : List ℕ) (ords : List (ℕ × ℕ
   more_is more e = subst (λ o. IfSome o (λ (m : Merging). more ≡ nat_lt 0 (length m.left))) (sym was) e
 
   -- no stream has a term left
-  module _ (over : IsLeast hs (length hs) None) where
+  module _ (over : AllByRecursion (λ (h : List (RankedTerm TermInfo)). h ≡ []) hs) where
     none : entries (merged_terms hs) ≡ []
-    none = none_merged hs (all_over hs over)
+    none = none_merged hs over
 
     pub at_end : (cleared : List (ℕ × ℕ)) (others : List (ℕ × TermInfo)) → cleared ≡ [] → HasGrown now (seen_of lacks hs key cleared others) stepped
     at_end cleared others e =
@@ -64,18 +64,14 @@ module _ (lacks : Bool) (hs : Streams) (key : List ℕ) (ords : List (ℕ × ℕ
     pub no_more : IfSome now (λ m. false ≡ nat_lt 0 (length m.left))
     no_more = more_is false (ap (λ (ts : List MergedTerm). nat_lt 0 (length ts)) (sym none))
 
-  -- the one at a place has the least
-  module _ (best : ℕ) (least : IsLeast hs (length hs) (Some best)) (rise : AllByRecursion Ascends hs) (k : List ℕ) (k_is : k ≡ (first (get_or hs best [])).key) where
+  -- a key is the first of all
+  module _ (k : List ℕ) (rise : AllByRecursion Ascends hs) (low : AllByRecursion (NotBelow k) hs) (some : 0 < length (standings_first 0 k hs)) where
     standings : List (Standing TermInfo)
     standings = standings_first 0 k hs
 
-    some : 0 < length standings
-    unfolding standings
-    some = subst (λ (q : List ℕ). 0 < length (standings_first 0 q hs)) (sym k_is) (some_stand hs best least)
-
     next : entries (merged_terms hs) ≡ (k, standings) ∷ entries (merged_terms (map (behind k) hs))
     unfolding standings
-    next = next_merged hs k rise (subst (λ (q : List ℕ). AllByRecursion (λ (h : List (RankedTerm TermInfo)). NotBelow q h) hs) (sym k_is) (all_not_below hs best least)) some
+    next = next_merged hs k rise low some
 
     pub at_next : (os : List (ℕ × ℕ)) (is : List (ℕ × TermInfo)) (rest : Streams) → os ≡ map ord_of (standings_first 0 k hs) → is ≡ map info_of (standings_first 0 k hs) → rest ≡ map (behind k) hs → HasGrown now (seen_of lacks rest k os is) stepped
     unfolding standings

@@ -1,6 +1,7 @@
 pub mod Building
 pub mod Dictionary
 pub mod DictionaryTypes
+pub mod Fronts
 pub mod LookUps
 pub mod Merging
 pub mod Ranges

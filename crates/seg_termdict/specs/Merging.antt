@@ -1,5 +1,5 @@
 -- The terms of several streams, merged: each key once, ascending, with the streams that have it.
-use Rattle.std.specs.Prelude.{◌≡◌, ℕ, ◌+◌, ◌<◌, true, if◌then◌else◌, List, [], ◌∷◌, ◌++◌, map, length, get_or, Option, Some, None, MatchOption}
+use Rattle.std.specs.Prelude.{◌≡◌, ℕ, ◌+◌, true, if◌then◌else◌, List, [], ◌∷◌, ◌++◌, map, get_or, Option, Some, None}
 use Rattle.std.specs.FinMap.{entries}
 use Rattle.std.specs.Ordering.{is_le}
 use Rattle.std.specs.List.Sorted.{IsStrictlySortedBy}
@@ -84,12 +84,6 @@ standings_first segment key (terms ∷ streams) = standing_first segment (first_
 abbrev pub NotBelow : List ℕ → List (RankedTerm TermInfo) → Type 0
 NotBelow key [] = Unit {0}
 NotBelow key (t ∷ ts) = is_le (key_cmp key t.key) ≡ true
-
--- the stream with the number has a least key among the first streams, this many, of which none has a term left where it is none
-abbrev pub IsLeast : List (List (RankedTerm TermInfo)) → ℕ → Option ℕ → Type 0
-IsLeast streams n least = MatchOption least
-    ((i : ℕ) → i < n → get_or streams i [] ≡ [])
-    (λ best. (best < n) × (0 < length (get_or streams best [])) × ((i : ℕ) → i < n → NotBelow (first (get_or streams best [])).key (get_or streams i [])))
 
 -- what a merger has come to, of what it noted
 abbrev pub noted : List ℕ → List (ℕ × ℕ) → List (ℕ × TermInfo) → Option ToldTerm

@@ -1,6 +1,6 @@
 //! One of the streams that are merged.
 ghost use Rattle.std.specs.Prelude.{◌≡◌, ◌<◌, drop, nat_lt, length};
-ghost use Rattle.seg_termdict.specs.Merging.{Ascends, behind, first, first_with, terms_of_stream};
+ghost use Rattle.seg_termdict.specs.Merging.{Ascends, first, terms_of_stream};
 
 use crate::format::TermOrdinal;
 use crate::streamer::TermStreamer;
@@ -54,29 +54,19 @@ impl<'a> Head<'a> {
         self.stream.last_key()
     }
 
-    /// The ordinal and the info of the term, if it has the key.
-    pub(crate) fn at(&self, key: &[u8]) -> Option<(TermOrdinal, TermInfo)>
-        ensures { result ≡ first_with key.now self.now }
+    /// The ordinal and the info of the term.
+    pub(crate) fn term(&self) -> (TermOrdinal, TermInfo)
+        requires { 0 < length self.now }
+        ensures { result ≡ ((first self.now).ord, (first self.now).info) }
     {
-        if !self.stands {
-            return None;
-        }
-        if key == self.stream.key() {
-            Some((self.stream.term_ord(), *self.stream.value()))
-        } else {
-            None
-        }
+        (self.stream.term_ord(), *self.stream.value())
     }
 
-    /// Goes past the term, if it has the key.
-    pub(crate) fn pass(&mut self, key: &[u8])
-        ensures { self.new ≡ behind key.now self.old }
+    /// Goes on to the next term.
+    pub(crate) fn pass(&mut self)
+        requires { 0 < length self.old }
+        ensures { self.new ≡ drop 1 self.old }
     {
-        if !self.stands {
-            return;
-        }
-        if key == self.stream.key() {
-            self.stands = self.stream.advance();
-        }
+        self.stands = self.stream.advance();
     }
 }

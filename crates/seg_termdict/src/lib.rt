@@ -7,7 +7,7 @@
 //! `merged_terms` of its streamers, and the term that it has come to; as nothing, once out of memory.
 //!
 //! To be read in this order: `error`, `format`, `dictionary_type`; `written_terms`, `builder`; `tables`, `keys`, `infos`,
-//! `check`, `dictionary`; `streamer`; `kept_key`, `streamer_builder`, `range_streamer`; `head`, `merger`.
+//! `check`, `dictionary`; `streamer`; `kept_key`, `streamer_builder`, `range_streamer`; `head`, `fronts`, `merger`.
 #![tactic(auto)]
 
 mod builder;
@@ -16,6 +16,7 @@ mod dictionary;
 mod dictionary_type;
 mod error;
 mod format;
+mod fronts;
 mod head;
 mod infos;
 mod kept_key;

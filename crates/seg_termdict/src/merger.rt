@@ -1,13 +1,14 @@
 //! The terms of several dictionaries, merged.
-ghost use Rattle.std.specs.Prelude.{◌≡◌, ◌+◌, ◌<◌, None, Some, ◌++◌, map, nat_lt, length, All, IfOk, IfErr, OnOk, IfSome, IsSome, IsSomeAnd, IsTrue};
+ghost use Rattle.std.specs.Prelude.{◌≡◌, ◌<◌, None, Some, ◌++◌, [], ◌∷◌, map, drop, get_or, slice_set, nat_lt, length, All, IfOk, IfErr, OnOk, IfSome, IsSome, IsSomeAnd, IsTrue};
 ghost use Rattle.std.specs.List.{AllByRecursion};
-ghost use Rattle.std.specs.Ordering.{is_le};
+ghost use Rattle.std.specs.List.Sorted.{IsPermutation};
 ghost use Rattle.seg_common.specs.Growing.{HasGrown};
-ghost use Rattle.seg_model.specs.SortedTerms.{key_cmp};
-ghost use Rattle.seg_termdict.specs.Merging.{IsLeast, Ascends, behind, before_merged, first_with, info_of, ord_of, standing_first, standings_first, stepped, terms_of_stream};
+ghost use Rattle.seg_termdict.specs.Fronts.{AreFronts, front_at};
+ghost use Rattle.seg_termdict.specs.Merging.{Ascends, NotBelow, behind, before_merged, first, info_of, ord_of, standings_first, stepped, terms_of_stream};
 
 use crate::error::TermDictError;
 use crate::format::TermOrdinal;
+use crate::fronts::Fronts;
 use crate::head::Head;
 use crate::streamer::TermStreamer;
 use seg_common::TermInfo;
@@ -15,11 +16,12 @@ use std::alloc::{AllocError, Global};
 use std::marker::Model;
 
 /// Goes over the terms of several streamers: each key once, ascending, with the streamers that have it, by their places
-/// among those that were given. A step takes at most three comparisons for each streamer. Once out of memory it
-/// answers so for good, and is seen as nothing.
+/// among those that were given. A step costs the streamers that have the key, times the logarithm of all. Once it was out
+/// of memory it answers so for good, and is seen as nothing.
 #[derive(Drop)]
 pub struct TermMerger<'a> {
     heads: Vec<Head<'a>>,
+    fronts: Fronts<'a>,
     key: &'a [u8],
     ords: Vec<(usize, TermOrdinal)>,
     infos: Vec<(usize, TermInfo)>,
@@ -27,17 +29,18 @@ pub struct TermMerger<'a> {
 }
 
 impl<'a> Model for TermMerger<'a> {
-    ghost use Rattle.std.specs.Prelude.{Option, None, Some, if◌then◌else◌};
+    ghost use Rattle.std.specs.Prelude.{◌≡◌, Option, None, Some, false, if◌then◌else◌};
     ghost use Rattle.std.specs.FinMap.{entries};
     ghost use Rattle.std.specs.List.{AllByRecursion};
     ghost use Rattle.seg_model.specs.MergedTerms.{merged_terms};
+    ghost use Rattle.seg_termdict.specs.Fronts.{AreFronts};
     ghost use Rattle.seg_termdict.specs.Merging.{Merging, Ascends, noted};
 
     ghost Value = { Option Merging };
 
     ghost view = { λ m. if m.lacks_memory then None else Some (record { left = entries (merged_terms m.heads.items); current = noted m.key.now m.ords.items m.infos.items }) };
 
-    ghost invariant = { λ m. AllByRecursion Ascends m.heads.items };
+    ghost invariant = { λ m. m.lacks_memory ≡ false → AreFronts m.fronts m.heads.items × AllByRecursion Ascends m.heads.items };
 }
 
 impl<'a> TermMerger<'a> {
@@ -50,8 +53,11 @@ impl<'a> TermMerger<'a> {
         ensures ok { IfOk result (λ merger. merger ≡ Some (before_merged streams.entry.items)) }
         ensures err { IfErr result (λ e. e ≡ TermDictError.OutOfMemory) }
     {
+        let heads = heads_of(alloc, streams)?;
+        let fronts = fronts_of(alloc, &heads)?;
         Ok(TermMerger {
-            heads: heads_of(alloc, streams)?,
+            heads,
+            fronts,
             key: &[],
             ords: Vec::new(alloc),
             infos: Vec::new(alloc),
@@ -71,15 +77,20 @@ impl<'a> TermMerger<'a> {
         }
         self.ords.clear();
         self.infos.clear();
-        let Some(place) = least(&self.heads) else {
+        let Some((key, _)) = self.fronts.first() else {
             return Ok(false);
         };
-        self.key = self.heads[place].key();
-        let Ok(()) = note(&self.heads, self.key, &mut self.ords, &mut self.infos) else {
+        self.key = key;
+        let Ok(()) = pass_all(
+            &mut self.heads,
+            &mut self.fronts,
+            key,
+            &mut self.ords,
+            &mut self.infos,
+        ) else {
             self.lacks_memory = true;
             return Err(TermDictError::OutOfMemory);
         };
-        pass(&mut self.heads, self.key);
         Ok(true)
     }
 
@@ -120,81 +131,72 @@ fn heads_of<'a>(alloc: Global, streams: Vec<TermStreamer<'a>>) -> Result<Vec<Hea
     Ok(heads)
 }
 
-/// The place of a head with the least key.
-fn least(heads: &[Head<'_>]) -> Option<usize>
-    ensures { IsLeast heads.now (length heads.now) result }
+fn fronts_of<'a>(alloc: Global, heads: &[Head<'a>]) -> Result<Fronts<'a>, AllocError>
+    ensures { IfOk result (λ fronts. AreFronts fronts heads.now) }
 {
-    let mut least = None;
-    for i in 0..heads.len() {
-        least = lesser(heads, least, i);
+    let mut fronts = Fronts::new(alloc);
+    for segment in 0..heads.len() {
+        push_first(&mut fronts, &heads[segment], segment)?;
     }
-    least
+    Ok(fronts)
 }
 
-/// The place of a head with the least key of those before one and this one.
-fn lesser(heads: &[Head<'_>], least: Option<usize>, i: usize) -> Option<usize>
-    requires place { i < length heads.now }
-    requires least { IsLeast heads.now i least }
-    ensures { IsLeast heads.now (i + 1) result }
-{
-    let head = &heads[i];
-    if !head.stands() {
-        return least;
-    }
-    let Some(best) = least else {
-        return Some(i);
-    };
-    if is_at_most(heads[best].key(), head.key()) {
-        least
-    } else {
-        Some(i)
-    }
-}
-
-fn is_at_most(key: &[u8], other: &[u8]) -> bool
-    ensures { result ≡ is_le (key_cmp key.now other.now) }
-{
-    key.cmp(&other).is_le()
-}
-
-/// Notes the heads that are at a key.
-fn note(
-    heads: &[Head<'_>],
+/// Notes the heads that are at a key, and goes on to their next terms. No key is below this one.
+fn pass_all<'a>(
+    heads: &mut Vec<Head<'a>>,
+    fronts: &mut Fronts<'a>,
     key: &[u8],
     ords: &mut Vec<(usize, TermOrdinal)>,
     infos: &mut Vec<(usize, TermInfo)>,
 ) -> Result<(), AllocError>
-    ensures ords { OnOk result (ords.new.items ≡ ords.old.items ++ map ord_of (standings_first 0 key.now heads.now)) }
-    ensures infos { OnOk result (infos.new.items ≡ infos.old.items ++ map info_of (standings_first 0 key.now heads.now)) }
+    requires fronts { AreFronts fronts.old heads.old.items }
+    requires order { AllByRecursion Ascends heads.old.items }
+    requires low { AllByRecursion (NotBelow key.now) heads.old.items }
+    ensures ords { OnOk result (ords.new.items ≡ ords.old.items ++ map ord_of (standings_first 0 key.now heads.old.items)) }
+    ensures infos { OnOk result (infos.new.items ≡ infos.old.items ++ map info_of (standings_first 0 key.now heads.old.items)) }
+    ensures heads { OnOk result (heads.new.items ≡ map (behind key.now) heads.old.items) }
+    ensures order { OnOk result (AllByRecursion Ascends heads.new.items) }
+    ensures fronts { OnOk result (AreFronts fronts.new heads.new.items) }
 {
-    for segment in 0..heads.len() {
-        note_one(segment, heads[segment].at(key), ords, infos)?;
+    while let Some(segment) = fronts.pop_at(key) {
+        pass_one(heads, fronts, segment, ords, infos)?;
     }
     Ok(())
 }
 
-fn note_one(
+/// Notes a head, whose first key was taken out, and goes on to its next term.
+fn pass_one<'a>(
+    heads: &mut Vec<Head<'a>>,
+    fronts: &mut Fronts<'a>,
     segment: usize,
-    term: Option<(TermOrdinal, TermInfo)>,
     ords: &mut Vec<(usize, TermOrdinal)>,
     infos: &mut Vec<(usize, TermInfo)>,
 ) -> Result<(), AllocError>
-    ensures ords { OnOk result (ords.new.items ≡ ords.old.items ++ map ord_of (standing_first segment term)) }
-    ensures infos { OnOk result (infos.new.items ≡ infos.old.items ++ map info_of (standing_first segment term)) }
+    requires place { segment < length heads.old.items }
+    requires stands { 0 < length (get_or heads.old.items segment []) }
+    ensures ords { OnOk result (ords.new.items ≡ ords.old.items ++ (segment, (first (get_or heads.old.items segment [])).ord) ∷ []) }
+    ensures infos { OnOk result (infos.new.items ≡ infos.old.items ++ (segment, (first (get_or heads.old.items segment [])).info) ∷ []) }
+    ensures heads { OnOk result (heads.new.items ≡ slice_set heads.old.items segment (drop 1 (get_or heads.old.items segment []))) }
+    ensures fronts { OnOk result (IsPermutation (front_at segment (drop 1 (get_or heads.old.items segment [])) ++ fronts.old) fronts.new) }
 {
-    if let Some((ord, info)) = term {
-        ords.push((segment, ord))?;
-        infos.push((segment, info))?;
-    }
-    Ok(())
+    let head = &mut heads[segment];
+    let (ord, info) = head.term();
+    ords.push((segment, ord))?;
+    infos.push((segment, info))?;
+    head.pass();
+    push_first(fronts, head, segment)
 }
 
-/// Goes past a key with each head that is at it.
-fn pass(heads: &mut Vec<Head<'_>>, key: &[u8])
-    ensures { heads.new.items ≡ map (behind key.now) heads.old.items }
+/// Puts in the first key of a head, if it has one.
+fn push_first<'a>(
+    fronts: &mut Fronts<'a>,
+    head: &Head<'a>,
+    segment: usize,
+) -> Result<(), AllocError>
+    ensures { OnOk result (IsPermutation (front_at segment head.now ++ fronts.old) fronts.new) }
 {
-    for i in 0..heads.len() {
-        let head = &mut heads[i];
-        head.pass(key);
+    if head.stands() {
+        fronts.push(head.key(), segment)?;
     }
+    Ok(())
 }
