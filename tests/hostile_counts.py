@@ -177,7 +177,7 @@ def main():
     for line in map(before_comment, (DATA / 'cases').read_text().splitlines()):
         reader, name, *extensions = line.split() or ('', '')
         if reader:
-            print(f'{reader} {name}')
+            print(line)
         if reader == 'edits':
             print_edits(name)
         elif reader:

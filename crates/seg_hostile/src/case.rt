@@ -26,14 +26,15 @@ struct File {
     bytes: Vec<u8>,
 }
 
-/// Prints the case of a line of the index, if one is there: its reader, its name, and the extensions of its files.
+/// Prints the case of a line of the index, if one is there: its reader, its name, and what the names of its files end with.
 pub fn push_case<R: Files + AllocGlobal>(rt: &R, text: &mut String, line: &str) -> Result<()> {
-    let mut words = before_comment(line).split_whitespace();
+    let line = before_comment(line);
+    let mut words = line.split_whitespace();
     let Some(reader) = words.next() else {
         return Ok(());
     };
     let name = words.next().context("a case without a name")?;
-    writeln!(text, "{reader} {name}")?;
+    writeln!(text, "{line}")?;
     if reader == "edits" {
         return push_edits(rt, text, name);
     }
