@@ -48,7 +48,8 @@ pub(crate) fn outcome(alloc: Global, step: &Step, directories: &mut Directories)
     Ok(outcome)
 }
 
-/// Runs the words of a step over its script, and answers the number of its status.
+/// Runs the words of a step over its script, with the tokenizers that the program knows, and answers the number of its
+/// status.
 fn run_step(
     alloc: Global,
     step: &Step,
@@ -57,7 +58,10 @@ fn run_step(
     directories: &mut Directories,
 ) -> Result<u8, AllocError> {
     let mut source = MemorySource::new(alloc, &step.script, Vec::new(alloc))?;
-    let analyzers = analyzers(alloc)?;
+    let mut analyzers = TokenizerManager::new(alloc);
+    analyzers.register("default", Box::new(alloc, DefaultTokenizer)?)?;
+    analyzers.register("raw", Box::new(alloc, RawTokenizer)?)?;
+    analyzers.register("whitespace", Box::new(alloc, WhitespaceTokenizer)?)?;
     let status = run(
         alloc,
         &step.words,
@@ -69,13 +73,4 @@ fn run_step(
         &mut directories.output,
     );
     Ok(status.number())
-}
-
-/// The tokenizers that the program knows.
-fn analyzers(alloc: Global) -> Result<TokenizerManager, AllocError> {
-    let mut analyzers = TokenizerManager::new(alloc);
-    analyzers.register("default", Box::new(alloc, DefaultTokenizer)?)?;
-    analyzers.register("raw", Box::new(alloc, RawTokenizer)?)?;
-    analyzers.register("whitespace", Box::new(alloc, WhitespaceTokenizer)?)?;
-    Ok(analyzers)
 }
