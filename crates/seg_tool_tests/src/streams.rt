@@ -1,7 +1,7 @@
 //! What a run reads and writes, in memory, and the scripts that it reads.
 
 use seg_common::{MemorySink, MemorySource};
-use seg_directory::{Directory, FailingCall, MemoryDirectory};
+use seg_directory::{FailingCall, MemoryDirectory};
 use seg_tool::run;
 use seg_values::{DefaultTokenizer, TokenizerManager};
 use std::alloc::{AllocError, Global};
@@ -91,28 +91,6 @@ pub(crate) fn run_over(alloc: Global, streams: &mut Streams) -> Result<u8, Alloc
         &mut streams.faults,
         &analyzers,
         &mut streams.work,
-        &mut streams.output,
-    );
-    Ok(status.number())
-}
-
-/// The number of a run of `build` over the streams and another work directory.
-pub(crate) fn build_over<W: Directory>(
-    alloc: Global,
-    streams: &mut Streams,
-    work: &mut W,
-) -> Result<u8, AllocError> {
-    let mut analyzers = TokenizerManager::new(alloc);
-    analyzers.register("default", Box::new(alloc, DefaultTokenizer)?)?;
-    let words = vec![in alloc; String::from_str(alloc, "build")?]?;
-    let status = run(
-        alloc,
-        &words,
-        &mut streams.source,
-        &mut streams.sink,
-        &mut streams.faults,
-        &analyzers,
-        work,
         &mut streams.output,
     );
     Ok(status.number())
