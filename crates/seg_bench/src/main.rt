@@ -72,6 +72,6 @@ fn work(alloc: Global, task: &str, times: u32, files: &[OwnedBytes]) -> Result<u
         ("open-store", [file]) => documents::count_opened(file, times),
         ("merge", files) => Ok(merging::count_merged(alloc, files, times)?),
         ("get", [file]) => documents::count_read(alloc, file, times),
-        _ => bail!("no such task over so many files"),
+        _ => bail!("no such task over this many files"),
     }
 }
