@@ -1,10 +1,11 @@
 //! The terms, postings and positions of a text field of three documents.
 
 use anyhow::{Result, bail};
-use seg_common::{DateTimePrecision, OwnedBytes};
+use seg_common::OwnedBytes;
 use seg_postings::{FieldTerms, InvertedIndexReader, PostingsError};
-use seg_values::{FieldEntry, FieldKind, IndexOption, Text};
-use std::alloc::{AllocError, Global};
+use seg_testing::entry;
+use seg_values::{FieldKind, IndexOption};
+use std::alloc::Global;
 
 /// The three parts of a field.
 pub struct Parts {
@@ -32,21 +33,7 @@ fn open(
         postings,
         positions,
     } = parts;
-    let field = FieldTerms::open(alloc, terms, &entry(alloc, index)?, 3)?;
+    let entry = entry(alloc, "title", FieldKind::Text, index)?;
+    let field = FieldTerms::open(alloc, terms, &entry, 3)?;
     field.with_postings(postings)?.with_positions(positions)
-}
-
-fn entry(alloc: Global, index: IndexOption) -> Result<FieldEntry, AllocError> {
-    Ok(FieldEntry {
-        name: Text::copy_of(alloc, "title")?,
-        kind: FieldKind::Text,
-        stored: false,
-        index,
-        tokenizer: None,
-        norms: false,
-        fast: false,
-        fast_tokenizer: None,
-        precision: DateTimePrecision::Seconds,
-        expand_dots: false,
-    })
 }

@@ -3,13 +3,13 @@ ghost use Rattle.std.specs.Prelude.{◌≡◌, true, IfOk};
 ghost use Rattle.seg_values.specs.Names.{is_allowed};
 
 use seg_build::UserOperation;
-use seg_common::{DateTimePrecision, SegmentId};
+use seg_common::SegmentId;
 use seg_directory::{MemoryDirectory, list_files};
 use seg_merge::build_index;
 use seg_meta::{Compressor, IndexSettings};
 use seg_values::{
     ArgumentCause, DefaultTokenizer, Field, FieldEntry, FieldKind, IndexOption, OwnedValue, Schema,
-    SchemaBuilder, SchemaCause, TResult, TantivyDocument, TantivyError, Text, TokenizerManager,
+    SchemaBuilder, SchemaCause, TResult, TantivyDocument, TantivyError, TokenizerManager,
 };
 use std::alloc::{AllocError, Global};
 use std::test::Fail;
@@ -30,16 +30,10 @@ fn entry(
     ensures { IfOk result (λ e. (e.kind ≡ kind) × (e.index ≡ index)) }
 {
     Ok(FieldEntry {
-        name: Text::copy_of(alloc, "n")?,
-        kind,
         stored: false,
-        index,
-        tokenizer: None,
         norms: false,
         fast,
-        fast_tokenizer: None,
-        precision: DateTimePrecision::Seconds,
-        expand_dots: false,
+        ..seg_testing::entry(alloc, "n", kind, index)?
     })
 }
 
