@@ -1,6 +1,6 @@
 #!/usr/bin/env python3
-"""The same job over SQLite's full text search (FTS5): a script on standard input, a database in the current folder, and the
-terms and documents of the merged index on standard output.
+"""The same job over SQLite's full text search (FTS5): a script on standard input, a database in the current folder, and
+the terms and documents of the merged index on standard output.
 
 A batch is one transaction, the merge is `optimize`, and what is left of deletes is printed out of the vocabulary table.
 """
@@ -24,8 +24,8 @@ def build(connection, script):
 def apply(connection, rows, operation):
     if 'add' in operation:
         pairs = dict(operation['add'])
-        added = connection.execute('insert into texts(id, body) values (?, ?)', (pairs['id'], pairs['body']))
-        rows[pairs['id']] = added.lastrowid
+        added = connection.execute('insert into texts(id, body) values (?, ?)', (pairs.get('id'), pairs['body']))
+        rows[pairs.get('id')] = added.lastrowid
     else:
         row = rows.pop(operation['delete'][1], None)
         if row is not None:
@@ -35,7 +35,8 @@ def apply(connection, rows, operation):
 def show(connection, out):
     connection.execute("create virtual table terms using fts5vocab('texts', 'instance')")
     before = None
-    for term, document, _, offset in connection.execute("select term, doc, col, offset from terms where col = 'body' order by term"):
+    hits = "select term, doc, offset from terms where col = 'body' order by term"
+    for term, document, offset in connection.execute(hits):
         out.write(f'\n{term} {document}@{offset}' if term != before else f' {document}@{offset}')
         before = term
     for row in connection.execute('select rowid, id, body from texts'):

@@ -1,0 +1,161 @@
+#!/usr/bin/env python3
+"""Runs the program over scripts that are hard by their shape and not by their size, and prints how its time grows.
+
+usage: hostile.py [PROGRAM] [--only SHAPE,SHAPE] [--seconds 2] [--repeat 3] [--most 1.2] [--limit 120] [--room FOLDER]
+
+Each shape is made at two sizes, the second twice the first. The first is doubled until a run takes two seconds of
+processor time, or until the second would be longer than a script may be. Of three runs of each, in turn, the least
+counts. `growth` is by how much the time grew, over the growth of the script: 1 is linear. The status is 1 where it is
+above 1.2, or where a run fails or takes more than the limit.
+
+  batches    a batch for each document
+  fields     many fields, without lengths, and ten documents of one pair for each field
+  deletes    100 batches, and a delete of each second document by a term of its own
+  deletes-over-batches    a batch for each document, and as many deletes by words that many have
+  text       one document of one long text
+  pairs      one document of many short texts
+"""
+import argparse
+import json
+import random
+import sys
+from pathlib import Path
+
+from bench import PROGRAM, ROOM, best, run
+from gen_corpus import LIMIT
+
+WORDS = [f'w{number}' for number in range(5000)]
+
+
+# ---- shapes
+
+def entry(name, **more):
+    return {'name': name, 'kind': 'text', 'stored': True, 'index': 'positions', 'tokenizer': 'default', **more}
+
+
+def text(rng, count):
+    return ' '.join(rng.choices(WORDS, k=count))
+
+
+def addition(*pairs):
+    return {'add': list(pairs)}
+
+
+def one_field(operations, cuts=()):
+    return {'schema': [entry('t')], 'cuts': list(cuts), 'operations': operations}
+
+
+def batches(rng, count):
+    return one_field([addition(['t', text(rng, 4)]) for _ in range(count)], range(1, count))
+
+
+def fields(rng, count):
+    return {
+        'schema': [entry(f'f{number}', norms=False) for number in range(count)],
+        'operations': [addition([f'f{rng.randrange(count)}', text(rng, 3)]) for _ in range(10 * count)],
+    }
+
+
+def deletes(rng, count):
+    documents = [addition(['t', f'id{number} {text(rng, 4)}']) for number in range(count)]
+    gone = [{'delete': ['t', f'id{number}']} for number in range(0, count, 2)]
+    return one_field(documents + gone, [count * batch // 100 for batch in range(1, 100)])
+
+
+def deletes_over_batches(rng, count):
+    documents = [addition(['t', text(rng, 4)]) for _ in range(count)]
+    gone = [{'delete': ['t', f'w{number}']} for number in range(count)]
+    return one_field(documents + gone, range(1, count))
+
+
+def long_text(rng, count):
+    return one_field([addition(['t', text(rng, count)])])
+
+
+def pairs(rng, count):
+    return one_field([addition(*(['t', text(rng, 3)] for _ in range(count)))])
+
+
+SHAPES = {
+    'batches': (batches, 1000),
+    'fields': (fields, 500),
+    'deletes': (deletes, 25000),
+    'deletes-over-batches': (deletes_over_batches, 500),
+    'text': (long_text, 200000),
+    'pairs': (pairs, 50000),
+}
+
+
+# ---- runs
+
+HEAD = f'{"shape":21} {"size":>8} {"MB":>7} {"CPU s":>7} {"twice MB":>9} {"CPU s":>7} {"growth":>7} {"s/MB":>7}'
+
+
+def script_of(room, name, make, count):
+    script = room / f'hostile-{name}.{count}.json'
+    script.write_text(json.dumps(make(random.Random(5), count), separators=(',', ':')))
+    return script
+
+
+class Hostile:
+    def __init__(self, words):
+        self.command, self.words = [Path(words.program).resolve(), 'build'], words
+
+    def run(self, script):
+        return run(self.command, self.words.room, script, self.words.limit)
+
+    def first_size(self, name, make, count):
+        """The first size whose run takes long enough, its script, and what that run took."""
+        while True:
+            script = script_of(self.words.room, name, make, count)
+            got = self.run(script)
+            if got['status'] != 'done' or got['cpu'] >= self.words.seconds or 4.1 * script.stat().st_size > LIMIT:
+                return count, script, got
+            script.unlink()
+            count *= 2
+
+    def measure(self, name):
+        """Prints the line of a shape, and answers whether it grows as is wanted."""
+        make, count = SHAPES[name]
+        count, script, got = self.first_size(name, make, count)
+        scripts = script, script_of(self.words.room, name, make, 2 * count)
+        found = [[got], []]
+        for turn in range(self.words.repeat):
+            for place in (0, 1) if turn else (1,):
+                found[place].append(self.run(scripts[place]))
+        sizes = [script.stat().st_size for script in scripts]
+        for script in scripts:
+            script.unlink()
+        return self.tell(name, count, sizes, found)
+
+    def tell(self, name, count, sizes, found):
+        start = f'{name:21} {count:8}'
+        if failed := [got for got in found[0] + found[1] if got['status'] != 'done']:
+            print(f'{start} {failed[0]["status"]}', flush=True)
+            return False
+        first, second = best(found[0])['cpu'], best(found[1])['cpu']
+        growth = second / first / (sizes[1] / sizes[0])
+        print(f'{start} {sizes[0] / 1e6:7.2f} {first:7.2f} {sizes[1] / 1e6:9.2f} {second:7.2f} {growth:7.2f}'
+              f' {second / (sizes[1] / 1e6):7.2f}', flush=True)
+        return growth <= self.words.most
+
+
+def main():
+    parser = argparse.ArgumentParser(description=__doc__, formatter_class=argparse.RawDescriptionHelpFormatter)
+    parser.add_argument('program', nargs='?', default=PROGRAM)
+    parser.add_argument('--only', default=','.join(SHAPES))
+    parser.add_argument('--seconds', type=float, default=2)
+    parser.add_argument('--repeat', type=int, default=3)
+    parser.add_argument('--most', type=float, default=1.2)
+    parser.add_argument('--limit', type=float, default=120)
+    parser.add_argument('--room', type=Path, default=ROOM)
+    words = parser.parse_args()
+    words.room.mkdir(parents=True, exist_ok=True)
+    hostile = Hostile(words)
+    print(HEAD, flush=True)
+    grown = [hostile.measure(name) for name in words.only.split(',')]
+    sys.exit(0 if all(grown) else 1)
+
+
+if __name__ == '__main__':
+    main()
