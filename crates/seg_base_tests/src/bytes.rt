@@ -1,7 +1,6 @@
 //! Bytes with many owners, and numbers in bytes.
 
-use seg_common::{CommonError, OwnedBytes, VInt, read_varint, varint_len};
-use seg_shared::Shared;
+use seg_common::{CommonError, OwnedBytes, Shared, VInt, read_varint, varint_len};
 use std::alloc::Global;
 use std::rc::Rc;
 use std::test::Fail;

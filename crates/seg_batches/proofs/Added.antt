@@ -17,7 +17,7 @@ use Rattle.seg_model.specs.Fields.{Schema, Analyzer}
 use Rattle.seg_model.specs.Operations.{Operation, add, delete, delete_all, additions}
 use Rattle.seg_model.specs.Refused.{document_refused, operation_refusal}
 use Rattle.seg_removal.specs.Stamps.{addition_stamps}
-use Rattle.seg_build.specs.Standing.{StandFor}
+use Rattle.seg_segment.specs.Standing.{StandFor}
 use Rattle.seg_build.specs.declared.memory_segment.MemorySegment.{MemorySegment}
 use Rattle.seg_build.specs.Kept.{Kept}
 use Rattle.seg_build.specs.SegmentWriting.{SegmentWriting, AddsNone, IsKeptOf, IsFull, Tells, Writes}
@@ -136,11 +136,11 @@ module _ (schema : Schema) (analyzer : Analyzer) (first : ℕ) (operations : Lis
 
   -- the segment that is made of the writer
   pub of_batch : (given : Analyzer) (segment : MemorySegment) → given ≡ analyzer
-      → ((ds : List Document) (stamps : List ℕ) → Writes given ds stamps writer → StandFor writer.schema given ds segment.bytes)
+      → ((ds : List Document) (stamps : List ℕ) → Writes given ds stamps writer → StandFor writer.schema given ds segment.files)
       → ((ds : List Document) (stamps : List ℕ) → Writes given ds stamps writer → segment.stamps.items ≡ stamps)
       → IsOfBatch schema analyzer first operations segment
   of_batch given segment is stand stamps = record {
-    stand = subst (λ s. StandFor s analyzer (additions operations) segment.bytes) same (subst (λ a. StandFor writer.schema a (additions operations) segment.bytes) is (stand (additions operations) (addition_stamps first operations) writes));
+    stand = subst (λ s. StandFor s analyzer (additions operations) segment.files) same (subst (λ a. StandFor writer.schema a (additions operations) segment.files) is (stand (additions operations) (addition_stamps first operations) writes));
     stamps = stamps (additions operations) (addition_stamps first operations) writes;
   }
     where

@@ -11,7 +11,7 @@ use Rattle.seg_directory.specs.CallAnswers.{WritesFile}
 use Rattle.seg_directory.specs.Files.{NamedFiles}
 use Rattle.seg_bits.specs.BitSets.{set_of}
 use Rattle.seg_model.specs.IndexOfFiles.{Deletes}
-use Rattle.seg_build.specs.SegmentFiles.{wrote}
+use Rattle.seg_segment.specs.SegmentFiles.{wrote}
 use Rattle.seg_batches.specs.Calls.{Does}
 use Rattle.seg_directory.specs.State.{DirectoryState}
 use Rattle.seg_batches.specs.Segments.{TellsAlive, alive_file}

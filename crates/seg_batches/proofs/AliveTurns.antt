@@ -8,7 +8,7 @@ use Rattle.seg_values.specs.declared.error.TantivyError.{TantivyError}
 use Rattle.seg_directory.specs.Files.{NamedFiles}
 use Rattle.seg_model.specs.IndexOfFiles.{ListedSegment}
 use Rattle.seg_model.specs.Valid.{are_distinct}
-use Rattle.seg_build.specs.SegmentFiles.{AreAbsent, KeepsAllBut}
+use Rattle.seg_segment.specs.SegmentFiles.{AreAbsent, KeepsAllBut}
 use Rattle.seg_directory.specs.State.{DirectoryState}
 use Rattle.seg_batches.specs.Segments.{AllTellAlive, TellsAlive, WrittenSegment, alive_file, alive_files, all_listed, deletes_of, listed}
 use Rattle.seg_batches.proofs.Apart.{alive_files_apart, files_apart, others_before, others_behind}

@@ -11,7 +11,7 @@ use Rattle.seg_common.specs.declared.name.SegmentComponent.{SegmentComponent}
 use Rattle.seg_common.specs.declared.name.SegmentComponent.TheVariants.{Terms, Postings, Positions, Store, FastFields, FieldNorms}
 use Rattle.seg_model.specs.IndexOfFiles.{Deletes, ListedSegment}
 use Rattle.seg_model.specs.Valid.{are_distinct}
-use Rattle.seg_build.specs.SegmentFiles.{segment_names}
+use Rattle.seg_segment.specs.SegmentFiles.{segment_names}
 use Rattle.seg_batches.specs.Segments.{alive_file}
 use Rattle.seg_batches.proofs.BatchTurns.{both}
 use Rattle.seg_batches.proofs.FilesTurn.{AreApart, all_both}

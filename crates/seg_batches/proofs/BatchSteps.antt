@@ -12,27 +12,22 @@ use Rattle.seg_values.specs.ValueBytes.{TermKey}
 use Rattle.seg_values.specs.declared.error.TantivyError.{TantivyError}
 use Rattle.seg_values.specs.declared.error.TantivyError.TheVariants.{SchemaError, InvalidArgument, IndexAlreadyExists, OpenReadError, OpenWriteError, IoError, DataCorruption, SystemError, FieldNotFound, OutOfMemory}
 use Rattle.seg_deletes.specs.declared.operation.DeleteOperation.{DeleteOperation}
-use Rattle.seg_directory.specs.Files.{NamedFiles}
 use Rattle.seg_model.specs.Built.{is_taken}
 use Rattle.seg_model.specs.Checked.{Refusal, document_refusal}
 use Rattle.seg_model.specs.Columns.{Columns, columns}
 use Rattle.seg_model.specs.Contents.{Contents, full_reading, reading_with}
 use Rattle.seg_model.specs.Fields.{Schema, Analyzer}
-use Rattle.seg_model.specs.IndexOfFiles as index
 use Rattle.seg_model.specs.Operations.{Operation, add, delete, delete_all, additions, alive_after}
 use Rattle.seg_model.specs.Refused.{document_refused, too_many_documents, mixed_numbers, batch_refusal, count_refusal, first_of, numbers_refusal, operation_refusal, added_by}
 use Rattle.seg_removal.specs.Stamps.{stamped_deletes}
 use Rattle.seg_alive.specs.Applying.{IsTold}
 use Rattle.seg_alive.specs.Laws.{as_operations}
-use Rattle.seg_build.specs.Forms.{segment_forms}
-use Rattle.seg_build.specs.SegmentFiles.{wrote}
-use Rattle.seg_build.specs.View.{operation_of}
-use Rattle.seg_build.specs.declared.user_operation.UserOperation.{UserOperation}
-use Rattle.seg_open.specs.SegmentRead.{HasFiles}
-use Rattle.seg_open.specs.declared.segment_files.SegmentFiles.{SegmentFiles}
-use Rattle.seg_open.proofs.Opened.{spelled_holds}
+use Rattle.seg_segment.specs.SegmentFiles.{wrote}
+use Rattle.seg_input.specs.View.{operation_of}
+use Rattle.seg_input.specs.declared.user_operation.UserOperation.{UserOperation}
+use Rattle.seg_segment.specs.Standing.{StandFor}
+use Rattle.seg_segment.specs.declared.segment_files.SegmentFiles.{SegmentFiles}
 use Rattle.seg_directory.specs.State.{DirectoryState}
-use Rattle.seg_batches.specs.Making.{IsMadeOf}
 use Rattle.seg_refusals.specs.Refusals.{IfRefusal, IsRefusal}
 use Rattle.seg_batches.specs.Segments.{LacksSome, WrittenSegment, alive_of, segment_of, six_files}
 use Rattle.seg_batches.specs.Writing.{WritesBatches, batch_between}
@@ -87,7 +82,7 @@ module _ (schema : Schema) (analyzer : Analyzer) where
       by (Some cs) h = refl
 
   -- a batch that is made is not refused
-  pub not_refused : (first : ℕ) (operations : List Operation) (files : SegmentFiles) → length (additions operations) < 2 ^ 31 → list_all (is_taken schema analyzer) (additions operations) ≡ true → IsMadeOf schema analyzer (additions operations) files
+  pub not_refused : (first : ℕ) (operations : List Operation) (files : SegmentFiles) → length (additions operations) < 2 ^ 31 → list_all (is_taken schema analyzer) (additions operations) ≡ true → StandFor schema analyzer (additions operations) files
       → batch_refusal schema analyzer (enumerate_from first operations) ≡ None
   not_refused first operations files few taken made =
       let same : added_by (enumerate_from first operations) ≡ additions operations = ap additions (seconds first operations) in
@@ -95,14 +90,6 @@ module _ (schema : Schema) (analyzer : Analyzer) where
       ∙ ap (λ b. option_or (cond b None (Some too_many_documents)) (option_or (first_of (λ p. operation_refusal schema analyzer p.0 p.1) (enumerate_from first operations)) (numbers_refusal schema analyzer (additions operations)))) ((Decides-ltb (length (additions operations)) (2 ^ 31)).1 few)
       ∙ ap (λ o. option_or o (numbers_refusal schema analyzer (additions operations))) (none_refused first operations taken)
       ∙ ap (λ b. cond b None (Some mixed_numbers)) (have_columns (additions operations) made.contents made.read)
-
-  -- its files stand for its documents
-  pub made_stands : (id : ℕ) (documents : List Document) (files : SegmentFiles) (directory : NamedFiles) → IsMadeOf schema analyzer documents files → HasFiles directory id files → index.StandsFor segment_forms directory schema analyzer id documents
-  made_stands id documents files directory made has = record {
-    contents = made.contents;
-    read = made.read;
-    held = spelled_holds directory id schema files made.contents has made.spelled;
-  }
 
 -- ---- an error before a file is made
 

@@ -11,7 +11,7 @@ use Rattle.seg_values.specs.declared.error.TantivyError.TheVariants.{OutOfMemory
 use Rattle.seg_directory.specs.Files.{NamedFiles}
 use Rattle.seg_directory.specs.declared.answer.Answer.{Answer}
 use Rattle.seg_directory.specs.declared.answer.Answer.TheVariants as answer
-use Rattle.seg_build.specs.SegmentFiles.{AreAbsent, KeepsAllBut, wrote}
+use Rattle.seg_segment.specs.SegmentFiles.{AreAbsent, KeepsAllBut, wrote}
 use Rattle.seg_batches.specs.Calls.{Does}
 use Rattle.seg_directory.specs.State.{DirectoryState}
 use Rattle.seg_batches.proofs.Calls.{does-then, does-stop, does-among, does-nothing}

@@ -7,7 +7,7 @@ use Rattle.seg_values.specs.declared.error.TantivyError.{TantivyError}
 use Rattle.seg_values.specs.declared.error.TantivyError.TheVariants.{OutOfMemory}
 use Rattle.seg_directory.specs.Files.{NamedFiles}
 use Rattle.seg_model.specs.Valid.{are_distinct}
-use Rattle.seg_build.specs.SegmentFiles.{AreAbsent, KeepsAllBut, segment_names}
+use Rattle.seg_segment.specs.SegmentFiles.{AreAbsent, KeepsAllBut, segment_names}
 use Rattle.seg_directory.specs.State.{DirectoryState}
 use Rattle.seg_batches.specs.Segments.{six_files}
 use Rattle.seg_batches.specs.Writing.{MakesFiles, RefusesBatch, WritesBatches}

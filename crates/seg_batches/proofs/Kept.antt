@@ -1,8 +1,7 @@
 -- What files hold stays while files of other names are made.
 use Rattle.std.proofs.Common.{◌≢◌, ℕ, Bool, List, [], ◌∷◌, Option, Some, None, ◌∙◌}
 use Rattle.std.specs.List.{AllByRecursion}
-use Rattle.seg_common.specs.declared.name.FileName.TheVariants.{Alive}
-use Rattle.seg_common.specs.declared.name.SegmentComponent.TheVariants as component
+use Rattle.seg_common.specs.declared.name.FileName.TheVariants.{Alive, Part}
 use Rattle.seg_values.specs.Tree.{Document}
 use Rattle.seg_directory.specs.Files.{NamedFiles}
 use Rattle.seg_model.specs.Contents.{Contents}
@@ -10,9 +9,10 @@ use Rattle.seg_model.specs.Fields.{Schema, Analyzer}
 use Rattle.seg_model.specs.IndexOfFiles as index
 use Rattle.seg_model.specs.IndexOfFiles.{Deletes}
 use Rattle.seg_model.specs.Operations.{Batch}
-use Rattle.seg_build.specs.Forms.{segment_forms}
-use Rattle.seg_build.specs.Holds.{Holds}
-use Rattle.seg_build.specs.SegmentFiles.{KeepsAllBut, segment_names}
+use Rattle.seg_segment.specs.Forms.{segment_forms}
+use Rattle.seg_segment.specs.Holds.{Holds}
+use Rattle.seg_segment.specs.SegmentFiles.{KeepsAllBut, segment_names}
+use Rattle.seg_segment.proofs.SpelledFiles.{held_on}
 use Rattle.seg_batches.specs.Segments.{AllStand, AllTellAlive, TellsAlive, WrittenSegment, alive_file, deletes_of}
 use Rattle.seg_batches.proofs.Apart.{alive_from_file, part_from_parts}
 
@@ -20,26 +20,7 @@ use Rattle.seg_batches.proofs.Apart.{alive_from_file, part_from_parts}
 
 module _ (other : ℕ) (old new : NamedFiles) (kept : KeepsAllBut (segment_names other) old new) where
   holds_kept : (id : ℕ) (schema : Schema) (contents : Contents) → id ≢ other → Holds old id schema contents → Holds new id schema contents
-  holds_kept id schema contents ne h = record {
-    terms = h.terms;
-    postings = h.postings;
-    positions = h.positions;
-    norms = h.norms;
-    store = h.store;
-    fast = h.fast;
-    term_file = kept _ (part_from_parts id other component.Terms ne) ∙ h.term_file;
-    posting_file = kept _ (part_from_parts id other component.Postings ne) ∙ h.posting_file;
-    position_file = kept _ (part_from_parts id other component.Positions ne) ∙ h.position_file;
-    norm_file = kept _ (part_from_parts id other component.FieldNorms ne) ∙ h.norm_file;
-    store_file = kept _ (part_from_parts id other component.Store ne) ∙ h.store_file;
-    fast_file = kept _ (part_from_parts id other component.FastFields ne) ∙ h.fast_file;
-    hold_terms = h.hold_terms;
-    norm_parts = h.norm_parts;
-    stored = h.stored;
-    rows = h.rows;
-    no_columns = h.no_columns;
-    shape = h.shape;
-  }
+  holds_kept id schema contents ne h = held_on id old new (λ c. kept (Part id c) (part_from_parts id other c ne)) schema contents h
 
   stands_kept : (schema : Schema) (analyzer : Analyzer) (id : ℕ) (documents : List Document) → id ≢ other → index.StandsFor segment_forms old schema analyzer id documents → index.StandsFor segment_forms new schema analyzer id documents
   stands_kept schema analyzer id documents ne h = record {

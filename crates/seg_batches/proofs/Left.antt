@@ -19,20 +19,20 @@ use Rattle.seg_removal.specs.Stamps.{addition_stamps, stamped_deletes}
 use Rattle.seg_deletes.specs.declared.doc_opstamp_mapping.DocToOpstampMapping.{DocToOpstampMapping}
 use Rattle.seg_deletes.specs.declared.doc_opstamp_mapping.DocToOpstampMapping.TheVariants.{WithMap}
 use Rattle.seg_deletes.specs.declared.operation.DeleteOperation.{DeleteOperation}
-use Rattle.seg_build.specs.Standing.{StandFor}
+use Rattle.seg_segment.specs.Standing.{StandFor}
 use Rattle.seg_build.specs.declared.memory_segment.MemorySegment.{MemorySegment}
 use Rattle.seg_open.specs.OpenSegment.{OpenSegment, contents_of, terms_in}
-use Rattle.seg_open.specs.SegmentRead.{bytes_of}
-use Rattle.seg_open.specs.Laws.{FilesSpellOneContents, MadeFilesSpell}
-use Rattle.seg_open.specs.MadeFiles.{IsOfBytes}
-use Rattle.seg_open.specs.Spelling.{Spell, Disagree, IsWhyNotOpen, up_to}
+use Rattle.seg_segment.specs.SegmentFiles.{bytes_of}
+use Rattle.seg_segment.specs.Laws.{FilesSpellOneContents}
+use Rattle.seg_segment.specs.Spelling.{Spell}
+use Rattle.seg_open.specs.Disagreement.{Disagree, IsWhyNotOpen, up_to}
 use Rattle.seg_open.specs.declared.open_error.OpenError.{OpenError}
 use Rattle.seg_open.specs.declared.open_error.OpenError.TheVariants.{Damaged}
-use Rattle.seg_open.specs.declared.segment_files.SegmentFiles.{SegmentFiles}
+use Rattle.seg_segment.specs.declared.segment_files.SegmentFiles.{SegmentFiles}
 use Rattle.seg_alive.specs.Applying.{IsTold, left_by}
 use Rattle.seg_alive.specs.Laws.{as_operations, AppliedDeletesLeaveTheAlive}
 use Rattle.seg_batches.specs.Indexing.{IsOfBatch}
-use Rattle.seg_batches.specs.Making.{AreWhole, IsMadeOf, passed_below}
+use Rattle.seg_batches.specs.Making.{AreWhole, passed_below}
 use Rattle.seg_batches.proofs.Passed.{batch_passes}
 
 -- ---- lists
@@ -73,14 +73,11 @@ read_of schema analyzer documents contents read = by (columns schema analyzer do
         let same = some_is (reading_with schema analyzer documents cs) contents e in
         (ap (λ (c : Contents). c.documents) same, ap (λ (c : Contents). c.terms) same)
 
-pub made_files : MadeFilesSpell → (given schema : Schema) (by analyzer : Analyzer) (first : ℕ) (operations : List Operation) (segment : MemorySegment) (files : SegmentFiles) → given ≡ schema → by ≡ analyzer
-    → IsOfBatch given by first operations segment → IsOfBytes segment.bytes files → IsMadeOf schema analyzer (additions operations) files
-made_files law given schema by analyzer first operations segment files same_schema same of has =
-    let stand = subst (λ s. StandFor s analyzer (additions operations) segment.bytes) same_schema (subst (λ a. StandFor given a (additions operations) segment.bytes) same of.stand) in
-    let spelled = law schema analyzer (additions operations) segment.bytes files stand has in
-    record { contents = spelled.0; read = spelled.1; spelled = spelled.2 }
+pub made_stand : (given schema : Schema) (by analyzer : Analyzer) (first : ℕ) (operations : List Operation) (segment : MemorySegment) → given ≡ schema → by ≡ analyzer → IsOfBatch given by first operations segment → StandFor schema analyzer (additions operations) segment.files
+made_stand given schema by analyzer first operations segment same_schema same of =
+    subst (λ s. StandFor s analyzer (additions operations) segment.files) same_schema (subst (λ a. StandFor given a (additions operations) segment.files) same of.stand)
 
-pub made_whole : (schema : Schema) (analyzer : Analyzer) (documents : List Document) (files : SegmentFiles) (n : ℕ) → IsMadeOf schema analyzer documents files → length documents ≡ n → AreWhole schema files n
+pub made_whole : (schema : Schema) (analyzer : Analyzer) (documents : List Document) (files : SegmentFiles) (n : ℕ) → StandFor schema analyzer documents files → length documents ≡ n → AreWhole schema files n
 made_whole schema analyzer documents files n made counted = record {
   contents = made.contents;
   spelled = made.spelled;
@@ -129,7 +126,7 @@ module _ (law : AppliedDeletesLeaveTheAlive) (schema : Schema) (analyzer : Analy
       ∙ ap (λ n. replicate n true) counted
 
   -- what is told of those that a reader of the batch's files finds
-  pub told_alive : (files : SegmentFiles) (reader : OpenSegment) (waiting : List (DeleteOperation TermKey)) (told : Option (List Bool)) → IsMadeOf schema analyzer (additions batch) files
+  pub told_alive : (files : SegmentFiles) (reader : OpenSegment) (waiting : List (DeleteOperation TermKey)) (told : Option (List Bool)) → StandFor schema analyzer (additions batch) files
       → ((contents : Contents) → Spell schema files contents → contents_of reader ≡ contents) → reader.documents ≡ length stamps.now → waiting ≡ operations
       → IsTold reader.documents (left_by (map terms_in reader.fields) (WithMap stamps) reader.documents (drop at waiting)) told
       → IsTold (length stamps.now) (alive_after schema analyzer batch after) told

@@ -12,6 +12,7 @@ pub mod BatchSteps
 pub mod BatchTurns
 pub mod Calls
 pub mod FilesTurn
+pub mod Following
 pub mod IdTurns
 pub mod Kept
 pub mod MakingCalls

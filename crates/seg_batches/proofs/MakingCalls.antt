@@ -12,7 +12,7 @@ use Rattle.seg_directory.specs.Faults.{FaultHasCause}
 use Rattle.seg_directory.specs.declared.answer.Answer.{Answer}
 use Rattle.seg_directory.specs.declared.answer.Answer.TheVariants as answer
 use Rattle.seg_directory.specs.declared.answer.CallKind.TheVariants as kind
-use Rattle.seg_build.specs.SegmentFiles.{KeepsAllBut, EndsAt, MakingSeen, wrote}
+use Rattle.seg_segment.specs.SegmentFiles.{KeepsAllBut, EndsAt, MakingSeen, wrote}
 use Rattle.seg_batches.specs.Calls.{IsWhy, Stops, HasRisen, Does}
 use Rattle.seg_directory.specs.State.{DirectoryState}
 
@@ -57,27 +57,6 @@ does-make names (Err e) a b seen others tells write errors = record {
   later = write.later;
   caused = risen-make e a.faults b.faults errors (λ is. write.failed (ap Err is));
 }
-
--- one file is made, as files are
-one-seen : (name : FileName) (r : Result (Unit {0}) TantivyError) (old new : List Answer) → IfErr r MakingErrors → new ≡ old ++ seen_writing name r → MakingSeen (name ∷ []) old r new
-one-seen name (Ok x) old new errors seen = seen
-one-seen name (Err e) old new errors seen = by errors
-  where
-    ends : (end : FileName → List Answer) → new ≡ old ++ end name → EndsAt (name ∷ []) end old new
-    ends end s = record { made = []; name = name; rest = []; cut = refl; seen = s }
-
-    by : MakingErrors e → MakingSeen {A = Unit {0}} (name ∷ []) old (Err e) new
-    by (inl is) =
-        subst (λ (x : TantivyError). new ≡ old ++ seen_writing name (Err x) → MakingSeen {A = Unit {0}} (name ∷ []) old (Err x) new) (sym is) (λ s. ends (λ n. answer.There n ∷ []) s) seen
-    by (inr (inl is)) =
-        subst (λ (x : TantivyError). new ≡ old ++ seen_writing name (Err x) → MakingSeen {A = Unit {0}} (name ∷ []) old (Err x) new) (sym is) (λ s. ends (λ n. answer.Failed kind.WriteNew ∷ []) s) seen
-    by (inr (inr is)) =
-        subst (λ (x : TantivyError). new ≡ old ++ seen_writing name (Err x) → MakingSeen {A = Unit {0}} (name ∷ []) old (Err x) new) (sym is) (λ s. ends (λ n. []) s) seen
-
-pub does-write : (name : FileName) (r : Result (Unit {0}) TantivyError) (a b : DirectoryState) → b.seen ≡ a.seen ++ seen_writing name r → KeepsOthers name a.files b.files → b.tells ≡ a.tells
-    → FaultHasCause OpenWriteError a.faults b.faults r → IfErr r MakingErrors → Does (wrote (name ∷ [])) (name ∷ []) r a b
-does-write name r a b seen others tells write errors =
-    does-make (name ∷ []) r a b (one-seen name r a.seen b.seen errors seen) (λ other all. others other all.0) tells write errors
 
 -- ---- the same calls, by another answer
 

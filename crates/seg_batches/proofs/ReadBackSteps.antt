@@ -1,5 +1,5 @@
 -- What the reading back of a segment does.
-use Rattle.std.proofs.Common.{◌≡◌, ◌≤◌, ℕ, ◌++◌, Result, Ok, Err, refl, ap, inl, arith}
+use Rattle.std.proofs.Common.{◌≡◌, ◌≤◌, ℕ, ◌++◌, Result, Ok, Err, refl, ap}
 use Rattle.std.specs.Prelude.{IsTrue}
 use Rattle.seg_values.specs.declared.error.TantivyError.{TantivyError}
 use Rattle.seg_values.specs.declared.error.TantivyError.TheVariants.{OpenReadError, OutOfMemory}
@@ -7,13 +7,15 @@ use Rattle.seg_directory.specs.Faults.{FaultHasCause}
 use Rattle.seg_model.specs.Fields.{Schema}
 use Rattle.seg_open.specs.OpenSegment.{OpenSegment, contents_of}
 use Rattle.seg_open.specs.SegmentOpened.{error_of}
-use Rattle.seg_open.specs.SegmentRead.{HasFiles, ReadsSegment, ReadingEnds, read_order, reads}
-use Rattle.seg_open.specs.Spelling.{Spell, IsWhyNotOpen}
+use Rattle.seg_segment.specs.SegmentFiles.{HasFiles, read_order}
+use Rattle.seg_segment.specs.SegmentRead.{ReadsSegment, ReadingEnds, reads}
+use Rattle.seg_segment.specs.Spelling.{Spell}
+use Rattle.seg_open.specs.Disagreement.{IsWhyNotOpen}
 use Rattle.seg_open.specs.declared.open_error.OpenError.{OpenError}
 use Rattle.seg_open.specs.declared.open_error.OpenError.TheVariants.{Damaged}
 use Rattle.seg_open.specs.declared.open_error.OpenError.TheVariants as open_error
-use Rattle.seg_open.specs.declared.segment_files.SegmentFiles.{SegmentFiles}
-use Rattle.seg_open.proofs.Opened.{spelled_holds, not_damaged, not_missing, unread_seen, unopened_seen, whole_seen}
+use Rattle.seg_segment.specs.declared.segment_files.SegmentFiles.{SegmentFiles}
+use Rattle.seg_open.proofs.Opened.{not_damaged, not_missing, unread_seen, unopened_seen, whole_seen}
 use Rattle.seg_directory.specs.State.{DirectoryState}
 use Rattle.seg_batches.specs.Reading.{ReadsBack}
 
@@ -28,18 +30,6 @@ other_cause {S = S} {T = T} e a b cause = record { later = cause.later; failed =
 no_cause : {T : Type 0} (e : OpenError) (id a b : ℕ) → a ≤ b → FaultHasCause {T = T} OpenReadError a b (Err (error_of id e))
 no_cause {T = T} (Damaged c) id a b le = record { later = le; failed = λ is. absurd (let no : error_of id (Damaged c) ≡ OpenReadError = ap (error_in {T = T}) is in cc no) }
 no_cause {T = T} open_error.OutOfMemory id a b le = record { later = le; failed = λ is. absurd (let no : error_of id open_error.OutOfMemory ≡ OpenReadError = ap (error_in {T = T}) is in cc no) }
-
--- no memory, before anything is read
-pub back-nothing : (id : ℕ) (schema : Schema) (number : ℕ) (a : DirectoryState) → ReadsBack id schema number (Err OutOfMemory) a a
-back-nothing id schema number a = record {
-  seen = inl refl;
-  of = tt;
-  holds = λ told. tt;
-  whole = λ told contents held counted. tt;
-  files = refl;
-  tells = refl;
-  cause = no_cause open_error.OutOfMemory id a.faults a.faults (omega arith);
-}
 
 module _ (id : ℕ) (schema : Schema) (number : ℕ) (a b : DirectoryState) where
   module _ (files : b.files ≡ a.files) (tells : b.tells ≡ a.tells) where
@@ -73,7 +63,7 @@ module _ (id : ℕ) (schema : Schema) (number : ℕ) (a b : DirectoryState) wher
       back-whole reader same counted spell = record {
         seen = whole_seen id id schema reader read a.seen b.seen refl same seen spell;
         of = (same, counted);
-        holds = λ told. spelled_holds a.files id schema read (contents_of reader) (has told) spell;
+        holds = λ told. record { files = read; there = has told; spelled = spell };
         whole = λ told contents held count. tt;
         files = files;
         tells = tells;

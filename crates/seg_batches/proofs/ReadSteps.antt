@@ -1,8 +1,11 @@
 -- Segments that are read back: one of them, and one after another.
-use Rattle.std.proofs.Common.{◌≡◌, ℕ, ◌+◌, Bool, List, [], ◌∷◌, ◌++◌, take, drop, Option, Some, Result, Ok, Err, refl, sym, ap, ◌∙◌, subst}
+use Rattle.std.proofs.Common.{◌≡◌, ℕ, ◌+◌, Bool, List, [], ◌∷◌, ◌++◌, take, drop, Option, Some, Result, Ok, Err, refl, sym, ap, ◌∙◌, subst, inl, inr, arith}
 use Rattle.std.specs.List.{slice_get}
-use Rattle.std.proofs.lemmas.List.{take-append-drop}
+use Rattle.std.proofs.lemmas.List.{append-nil, take-append-drop}
+use Rattle.seg_common.specs.declared.name.SegmentComponent.TheVariants.{Terms, Store, Postings, Positions, FastFields, FieldNorms}
+use Rattle.seg_segment.specs.declared.segment_files.SegmentFiles.{SegmentFiles}
 use Rattle.seg_values.specs.declared.error.TantivyError.{TantivyError}
+use Rattle.seg_values.specs.declared.error.TantivyError.TheVariants.{OutOfMemory}
 use Rattle.seg_model.specs.Fields.{Schema}
 use Rattle.seg_model.specs.IndexOfFiles.{Deletes, ListedSegment}
 use Rattle.seg_open.specs.OpenSegment.{OpenSegment}
@@ -40,6 +43,29 @@ module _ (schema : Schema) (s : ListedSegment) (id documents : ℕ) (deletes : O
       six = subst (λ (r : OpenSegment). ReadsBack s.id schema s.documents (Ok r) a b) (sym is_read) (six (Ok read) a b files);
       alive = subst (λ (m : List Bool). ReadsDeletes s.id s.documents s.deletes (Ok m) b c) (sym are) (alive (Ok marks) b c h);
     }
+
+-- there is no memory before the first file
+no_files : SegmentFiles
+no_files = record { terms = []; store = []; postings = []; positions = []; fast_fields = []; field_norms = [] }
+
+pub starves : (schema : Schema) (s : ListedSegment) (a : DirectoryState) → StopsInSegment schema s OutOfMemory a a
+starves schema s a = in_files (record {
+  seen = inl (record {
+    files = no_files;
+    read = [];
+    component = Terms;
+    rest = Store ∷ Postings ∷ Positions ∷ FastFields ∷ FieldNorms ∷ [];
+    cut = refl;
+    why = inr (inr refl);
+    seen = sym (append-nil a.seen);
+  });
+  of = tt;
+  holds = λ told. tt;
+  whole = λ told contents held counted. tt;
+  files = refl;
+  tells = refl;
+  cause = record { later = omega arith; failed = λ is. absurd (cc is) };
+})
 
 -- ---- one after another
 

@@ -14,7 +14,7 @@ use Rattle.seg_model.specs.Fields.{Schema, Analyzer}
 use Rattle.seg_model.specs.IndexOfFiles as index
 use Rattle.seg_model.specs.Operations.{Operation, add, delete, delete_all, Batch, additions, batches_from}
 use Rattle.seg_model.specs.Refused.{BuildRefusal}
-use Rattle.seg_build.specs.Forms.{segment_forms}
+use Rattle.seg_segment.specs.Forms.{segment_forms}
 use Rattle.seg_batches.specs.Making.{passed_below}
 use Rattle.seg_refusals.specs.Refusals.{build_error}
 use Rattle.seg_batches.specs.Segments.{AllStand, WrittenSegment, segment_of, segments_of}

@@ -6,8 +6,8 @@ use Rattle.std.proofs.lemmas.Bool.{false≢true}
 use Rattle.seg_values.specs.Tree.{Document}
 use Rattle.seg_model.specs.Operations.{Operation, add, delete, delete_all}
 use Rattle.seg_removal.specs.Stamps.{is_delete, stamped_deletes}
-use Rattle.seg_build.specs.View.{operation_of}
-use Rattle.seg_build.specs.declared.user_operation.UserOperation.{UserOperation}
+use Rattle.seg_input.specs.View.{operation_of}
+use Rattle.seg_input.specs.declared.user_operation.UserOperation.{UserOperation}
 
 module _ {X : Type 0} where
   some_is : (x y : X) → Some x ≡ Some y → x ≡ y

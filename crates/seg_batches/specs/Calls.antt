@@ -8,7 +8,7 @@ use Rattle.seg_directory.specs.declared.answer.Answer.{Answer}
 use Rattle.seg_directory.specs.declared.answer.Answer.TheVariants as answer
 use Rattle.seg_directory.specs.declared.answer.CallKind.TheVariants as kind
 use Rattle.seg_directory.specs.State.{DirectoryState}
-use Rattle.seg_build.specs.SegmentFiles.{KeepsAllBut}
+use Rattle.seg_segment.specs.SegmentFiles.{KeepsAllBut}
 
 -- the last answers are why there is this error: a listing of files or a file that is there, a failed call of its kind, or none
 abbrev pub IsWhy : TantivyError → List Answer → Type 0

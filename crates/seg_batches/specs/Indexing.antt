@@ -5,7 +5,7 @@ use Rattle.seg_model.specs.Fields.{Schema, Analyzer}
 use Rattle.seg_model.specs.Operations.{Operation, add, delete, delete_all, additions}
 use Rattle.seg_removal.specs.Stamps.{addition_stamps}
 use Rattle.seg_build.specs.SegmentWriting.{SegmentWriting, Adds, AddsNone, Writes}
-use Rattle.seg_build.specs.Standing.{StandFor}
+use Rattle.seg_segment.specs.Standing.{StandFor}
 use Rattle.seg_build.specs.declared.memory_segment.MemorySegment.{MemorySegment}
 
 -- an operation that adds a document
@@ -30,7 +30,7 @@ IsNotTaken analyzer at (add document) old new e = AddsNone analyzer document at 
 IsNotTaken analyzer at (delete term) old new e = ⊥
 IsNotTaken analyzer at (delete_all terms) old new e = ⊥
 
--- a segment in memory is that of a batch: its bytes stand for the documents that are added, and it has their stamps
+-- a segment in memory is that of a batch: its files stand for the documents that are added, and it has their stamps
 pub record IsOfBatch (schema : Schema) (analyzer : Analyzer) (first : ℕ) (operations : List Operation) (segment : MemorySegment) : Type 0 where
-  pub stand : StandFor schema analyzer (additions operations) segment.bytes
+  pub stand : StandFor schema analyzer (additions operations) segment.files
   pub stamps : segment.stamps.items ≡ addition_stamps first operations

@@ -12,8 +12,8 @@ use Rattle.seg_bits.specs.BitSets.{set_of}
 use Rattle.seg_model.specs.Contents.{Contents}
 use Rattle.seg_model.specs.Fields.{Schema}
 use Rattle.seg_model.specs.IndexOfFiles.{Deletes, ListedSegment}
-use Rattle.seg_build.specs.Holds.{Holds}
-use Rattle.seg_build.specs.HoldsAlive.{HoldsAlive}
+use Rattle.seg_segment.specs.Holds.{Holds}
+use Rattle.seg_segment.specs.HoldsAlive.{HoldsAlive}
 use Rattle.seg_open.specs.OpenSegment.{OpenSegment, contents_of}
 use Rattle.seg_open.specs.SegmentOpened.{IsNoDamage, OpeningSeen}
 use Rattle.seg_join.specs.KeptSegment.{KeptSegment}

@@ -8,9 +8,9 @@ use Rattle.seg_model.specs.Fields.{Schema, Analyzer}
 use Rattle.seg_model.specs.IndexOfFiles as index
 use Rattle.seg_model.specs.IndexOfFiles.{Deletes, ListedSegment}
 use Rattle.seg_model.specs.Operations.{Batch}
-use Rattle.seg_build.specs.Forms.{segment_forms}
-use Rattle.seg_build.specs.HoldsAlive.{HoldsAlive}
-use Rattle.seg_build.specs.SegmentFiles.{segment_names}
+use Rattle.seg_segment.specs.Forms.{segment_forms}
+use Rattle.seg_segment.specs.HoldsAlive.{HoldsAlive}
+use Rattle.seg_segment.specs.SegmentFiles.{segment_names}
 
 -- ---- as they are listed
 

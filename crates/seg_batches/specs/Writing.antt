@@ -3,7 +3,7 @@ use Rattle.std.specs.Prelude.{ℕ, ◌⊎◌, List, take, drop, slice_range, Res
 use Rattle.seg_values.specs.declared.error.TantivyError.{TantivyError}
 use Rattle.seg_model.specs.Fields.{Schema, Analyzer}
 use Rattle.seg_model.specs.Operations.{Operation, Batch, additions, alive_after}
-use Rattle.seg_build.specs.SegmentFiles.{wrote}
+use Rattle.seg_segment.specs.SegmentFiles.{wrote}
 use Rattle.seg_batches.specs.Calls.{Does}
 use Rattle.seg_directory.specs.State.{DirectoryState}
 use Rattle.seg_refusals.specs.Refusals.{IsRefusal}

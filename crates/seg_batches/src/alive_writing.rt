@@ -1,6 +1,6 @@
 //! The alive files of segments, in a directory.
 ghost use Rattle.std.specs.Prelude.{◌≡◌, ◌≢◌, true, map, Some, Err, IfOk, IsTrue, OnOk};
-ghost use Rattle.seg_build.specs.SegmentFiles.{AreAbsent, wrote};
+ghost use Rattle.seg_segment.specs.SegmentFiles.{AreAbsent, wrote};
 ghost use Rattle.seg_bits.specs.BitSets.{set_of};
 ghost use Rattle.seg_model.specs.Valid.{are_distinct};
 ghost use Rattle.seg_batches.specs.Calls.{Does};

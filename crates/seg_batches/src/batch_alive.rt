@@ -5,17 +5,19 @@ ghost use Rattle.seg_model.specs.Fields.{Analyzer};
 ghost use Rattle.seg_model.specs.Operations.{Operation, additions, alive_after};
 ghost use Rattle.seg_removal.specs.Stamps.{addition_stamps, stamped_deletes};
 ghost use Rattle.seg_deletes.specs.declared.doc_opstamp_mapping.DocToOpstampMapping.TheVariants.{WithMap};
-ghost use Rattle.seg_build.specs.Built.{is_built_schema};
+ghost use Rattle.seg_segment.specs.Built.{is_built_schema};
 ghost use Rattle.seg_open.specs.OpenSegment.{contents_of, terms_in};
-ghost use Rattle.seg_open.specs.Spelling.{Spell};
+ghost use Rattle.seg_segment.specs.Spelling.{Spell};
+ghost use Rattle.seg_segment.specs.Standing.{StandFor};
 ghost use Rattle.seg_alive.specs.Applying.{IsTold, left_by};
 ghost use Rattle.seg_alive.specs.Laws.{as_operations};
-ghost use Rattle.seg_batches.specs.Making.{AreWhole, IsMadeOf, passed_below};
+ghost use Rattle.seg_batches.specs.Making.{AreWhole, passed_below};
 
 use seg_alive::{applied_deletes_leave_the_alive, apply_deletes};
 use seg_bits::BitSet;
 use seg_deletes::{DeleteCursor, DeleteQueue, DocToOpstampMapping, Opstamp};
-use seg_open::{OpenError, SegmentFiles, SegmentReader, files_spell_one_contents};
+use seg_open::{OpenError, SegmentReader};
+use seg_segment::{SegmentFiles, files_spell_one_contents};
 use seg_values::{Schema, TResult, TantivyError, Term};
 use std::alloc::Global;
 
@@ -39,7 +41,7 @@ pub(crate) fn alive_documents(
     requires cursor { cursor.old ≤ queue.old.flushed }
     requires passed { passed_below first (take cursor.old queue.old.operations) }
     ensures alive { IfOk result (λ alive. (analyzer : Analyzer) (before batch after : List Operation) → length before ≡ first
-        → IsMadeOf schema.now analyzer (additions batch) files.now
+        → StandFor schema.now analyzer (additions batch) files.now
         → stamps.now ≡ addition_stamps first batch
         → as_operations queue.old.operations ≡ stamped_deletes 0 (before ++ (batch ++ after))
         → IsTold (length stamps.now) (alive_after schema.now analyzer batch after) alive) }
@@ -83,10 +85,7 @@ fn open_made(
     ensures error { IfErr result (λ e. e ≡ TantivyError.OutOfMemory) }
 {
     files_spell_one_contents();
-    let Ok(schema) = schema.copy(alloc) else {
-        return Err(TantivyError::OutOfMemory);
-    };
-    match SegmentReader::open_files(alloc, schema, max_doc, files.share()) {
+    match SegmentReader::open_files(alloc, schema.share(), max_doc, files.share()) {
         Ok(reader) => Ok(reader),
         Err(OpenError::OutOfMemory) => Err(TantivyError::OutOfMemory),
         Err(OpenError::Damaged(_)) => unreachable!(),

@@ -3,22 +3,19 @@ ghost use Rattle.std.specs.Prelude.{◌≡◌, ◌<◌, ◌+◌, ◌^◌, ◌⊎
 ghost use Rattle.std.specs.List.{list_all};
 ghost use Rattle.seg_model.specs.Built.{is_taken};
 ghost use Rattle.seg_model.specs.Operations.{additions};
-ghost use Rattle.seg_model.specs.Valid.{Known};
 ghost use Rattle.seg_build.specs.SegmentWriting.{IsOfSame, Writes};
-ghost use Rattle.seg_build.specs.View.{operation_of};
-ghost use Rattle.seg_build.specs.WriterStart.{IsStartError, Tests, start_refusal};
+ghost use Rattle.seg_input.specs.View.{operation_of};
+ghost use Rattle.seg_build.specs.WriterStart.{IsStartError, start_refusal};
 ghost use Rattle.seg_batches.specs.Indexing.{HasAdditions, IsNotTaken, IsOfBatch, IsTaken, is_addition};
 ghost use Rattle.seg_refusals.specs.Refusals.{batch_error};
 
-use seg_build::{MemorySegment, SegmentWriter, UserOperation};
+use seg_build::{LEAST_BUDGET, MemorySegment, SegmentWriter};
 use seg_common::SegmentId;
 use seg_deletes::Opstamp;
+use seg_input::UserOperation;
 use seg_meta::{IndexSettings, Segment, SegmentMeta};
 use seg_values::{Analyzers, ArgumentCause, Schema, TResult, TantivyDocument, TantivyError};
 use std::alloc::Global;
-
-/// The fewest bytes of a budget: a batch is kept whole, whatever it takes.
-const BUDGET: usize = 15_000;
 
 /// The most documents of a segment.
 const MAX_DOCUMENTS: usize = 0x7fff_ffff;
@@ -108,7 +105,7 @@ fn add_operation<Z: Analyzers>(
     }
 }
 
-/// A writer of no documents, over a copy of the schema.
+/// A writer of no documents.
 pub(crate) fn new_writer<'a, Z: Analyzers>(
     alloc: Global,
     schema: &Schema,
@@ -119,12 +116,10 @@ pub(crate) fn new_writer<'a, Z: Analyzers>(
     ensures unused { IfOk result (λ w. Writes (Z.tokens_of analyzers.now) [] [] w.1) }
     ensures of { IfOk result (λ w. (w.0 ≡ analyzers.now) × (w.1.schema ≡ schema.now)) }
     ensures errors { IfErr result IsStartError }
-    ensures causes { (known : Known) → Tests known (Z.knows analyzers.now)
-        → IfErr result (λ e. (start_refusal known 15000 schema.now settings.now ≡ Some e) ⊎ (e ≡ TantivyError.OutOfMemory)) }
+    ensures causes { IfErr result (λ e. (start_refusal (Z.knows analyzers.now) 15000 schema.now settings.now ≡ Some e)
+        ⊎ (e ≡ TantivyError.OutOfMemory)) }
 {
-    let Ok(schema) = schema.copy(alloc) else {
-        return Err(TantivyError::OutOfMemory);
-    };
-    let segment = Segment::new(schema, SegmentMeta::new(id, 0, None));
-    SegmentWriter::for_segment(alloc, BUDGET, segment, settings, analyzers)
+    let segment = Segment::new(schema.share(), SegmentMeta::new(id, 0, None));
+    // A batch is kept whole, whatever it takes.
+    SegmentWriter::for_segment(alloc, LEAST_BUDGET, segment, settings, analyzers)
 }

@@ -5,24 +5,25 @@ ghost use Rattle.std.specs.Option.{option_map};
 ghost use Rattle.seg_model.specs.Built.{is_taken};
 ghost use Rattle.seg_model.specs.Operations.{Operation, additions, alive_after};
 ghost use Rattle.seg_model.specs.Refused.{batch_refusal};
-ghost use Rattle.seg_model.specs.Valid.{Known};
 ghost use Rattle.seg_removal.specs.Stamps.{addition_stamps, stamped_deletes};
-ghost use Rattle.seg_build.specs.Built.{is_built_schema};
-ghost use Rattle.seg_build.specs.View.{operation_of};
-ghost use Rattle.seg_build.specs.WriterStart.{Tests, start_refusal};
+ghost use Rattle.seg_segment.specs.Built.{is_built_schema};
+ghost use Rattle.seg_segment.specs.Standing.{StandFor};
+ghost use Rattle.seg_input.specs.View.{operation_of};
+ghost use Rattle.seg_build.specs.WriterStart.{start_refusal};
 ghost use Rattle.seg_alive.specs.Applying.{IsTold};
 ghost use Rattle.seg_alive.specs.Laws.{as_operations};
-ghost use Rattle.seg_batches.specs.Making.{IsMadeOf, passed_below};
+ghost use Rattle.seg_batches.specs.Making.{passed_below};
 ghost use Rattle.seg_refusals.specs.Refusals.{IsRefusal, build_error};
 
 use crate::batch_alive::alive_documents;
 use crate::batch_indexing::{index_batch, new_writer};
 use seg_bits::BitSet;
-use seg_build::{MemorySegment, UserOperation};
+use seg_build::MemorySegment;
 use seg_common::SegmentId;
 use seg_deletes::{DeleteCursor, DeleteQueue, Opstamp};
+use seg_input::UserOperation;
 use seg_meta::IndexSettings;
-use seg_open::{SegmentFiles, made_files_spell};
+use seg_segment::SegmentFiles;
 use seg_values::{Analyzers, Schema, TResult, TantivyDocument, TantivyError, Term};
 use std::alloc::Global;
 
@@ -55,7 +56,7 @@ pub(crate) fn make_batch<Z: Analyzers>(
     requires places { first + length operations.now < 2 ^ 64 }
     requires cursor { cursor.old ≤ queue.old.flushed }
     requires passed { passed_below first (take cursor.old queue.old.operations) }
-    ensures made { IfOk result (λ b. IsMadeOf schema.now (Z.tokens_of analyzers.now) (additions (map operation_of operations.now)) b.files) }
+    ensures made { IfOk result (λ b. StandFor schema.now (Z.tokens_of analyzers.now) (additions (map operation_of operations.now)) b.files) }
     ensures number { IfOk result (λ b. (b.max_doc ≡ length (additions (map operation_of operations.now))) × (b.max_doc < 2 ^ 31)) }
     ensures taken { OnOk result (list_all (is_taken schema.now (Z.tokens_of analyzers.now)) (additions (map operation_of operations.now)) ≡ true) }
     ensures alive { IfOk result (λ b. (before after : List Operation) → length before ≡ first
@@ -65,8 +66,8 @@ pub(crate) fn make_batch<Z: Analyzers>(
     ensures within { cursor.new ≤ queue.new.flushed }
     ensures passed { passed_below first (take cursor.new queue.new.operations) }
     ensures errors { IfErr result (λ e. IsRefusal e ⊎ (e ≡ TantivyError.OutOfMemory)) }
-    ensures refused { (known : Known) → Tests known (Z.knows analyzers.now) → IfErr result (λ e. (e ≡ TantivyError.OutOfMemory)
-        ⊎ (start_refusal known 15000 schema.now settings.now ≡ Some e)
+    ensures refused { IfErr result (λ e. (e ≡ TantivyError.OutOfMemory)
+        ⊎ (start_refusal (Z.knows analyzers.now) 15000 schema.now settings.now ≡ Some e)
         ⊎ (option_map build_error (batch_refusal schema.now (Z.tokens_of analyzers.now) (enumerate_from first (map operation_of operations.now))) ≡ Some e)) }
 {
     let (files, stamps) = batch_files(alloc, schema, settings, analyzers, id, first, operations)?;
@@ -89,22 +90,20 @@ fn batch_files<Z: Analyzers>(
     operations: &[UserOperation<TantivyDocument>],
 ) -> TResult<(SegmentFiles, Vec<Opstamp>)>
     requires places { first + length operations.now < 2 ^ 64 }
-    ensures made { IfOk result (λ m. IsMadeOf schema.now (Z.tokens_of analyzers.now) (additions (map operation_of operations.now)) m.0) }
+    ensures made { IfOk result (λ m. StandFor schema.now (Z.tokens_of analyzers.now) (additions (map operation_of operations.now)) m.0) }
     ensures stamps { IfOk result (λ m. m.1.items ≡ addition_stamps first (map operation_of operations.now)) }
     ensures few { OnOk result (length (additions (map operation_of operations.now)) < 2 ^ 31) }
     ensures taken { OnOk result (list_all (is_taken schema.now (Z.tokens_of analyzers.now)) (additions (map operation_of operations.now)) ≡ true) }
     ensures errors { IfErr result (λ e. IsRefusal e ⊎ (e ≡ TantivyError.OutOfMemory)) }
-    ensures refused { (known : Known) → Tests known (Z.knows analyzers.now) → IfErr result (λ e. (e ≡ TantivyError.OutOfMemory)
-        ⊎ (start_refusal known 15000 schema.now settings.now ≡ Some e)
+    ensures refused { IfErr result (λ e. (e ≡ TantivyError.OutOfMemory)
+        ⊎ (start_refusal (Z.knows analyzers.now) 15000 schema.now settings.now ≡ Some e)
         ⊎ (option_map build_error (batch_refusal schema.now (Z.tokens_of analyzers.now) (enumerate_from first (map operation_of operations.now))) ≡ Some e)) }
 {
-    made_files_spell();
     let writer = new_writer(alloc, schema, settings, analyzers, id)?;
     let MemorySegment {
-        bytes,
+        files,
         fields: _,
         stamps,
     } = index_batch(first, operations, writer)?;
-    let files = SegmentFiles::from_bytes(alloc, bytes)?;
     Ok((files, stamps))
 }

@@ -2,17 +2,17 @@
 ghost use Rattle.std.specs.Prelude.{◌≡◌, ◌≢◌, ◌+◌, ◌^◌, ◌<◌, ◌≤◌, ◌⊎◌, ◌∷◌, ◌++◌, [], true, Some, None, Err, length, map, take, slice_range, slice_get, unwrap_or, option_map, IfOk, IfErr, IsTrue, OnOk};
 ghost use Rattle.std.specs.List.{AllByRecursion, enumerate_from, list_all};
 ghost use Rattle.seg_alive.specs.Laws.{as_operations};
-ghost use Rattle.seg_build.specs.Built.{is_built_schema};
-ghost use Rattle.seg_build.specs.Forms.{segment_forms};
-ghost use Rattle.seg_build.specs.SegmentFiles.{AreAbsent, segment_names, wrote};
-ghost use Rattle.seg_build.specs.View.{operation_of};
-ghost use Rattle.seg_build.specs.WriterStart.{Tests, start_refusal};
+ghost use Rattle.seg_segment.specs.Built.{is_built_schema};
+ghost use Rattle.seg_segment.specs.Forms.{segment_forms};
+ghost use Rattle.seg_segment.specs.SegmentFiles.{AreAbsent, segment_names, wrote};
+ghost use Rattle.seg_input.specs.View.{operation_of};
+ghost use Rattle.seg_build.specs.WriterStart.{start_refusal};
 ghost use Rattle.seg_model.specs.Built.{is_taken};
 ghost use Rattle.seg_model.specs.IndexOfFiles as index;
 ghost use Rattle.seg_model.specs.Operations.{Batch, additions, batches};
 ghost use Rattle.seg_model.specs.Refused.{batch_refusal, cut_from, first_of};
-ghost use Rattle.seg_model.specs.Valid.{Known, are_distinct, cuts_fit};
-ghost use Rattle.seg_open.specs.SegmentRead.{HasFiles};
+ghost use Rattle.seg_model.specs.Valid.{are_distinct, cuts_fit};
+ghost use Rattle.seg_segment.specs.SegmentFiles.{HasFiles};
 ghost use Rattle.seg_removal.specs.Stamps.{stamped_deletes};
 ghost use Rattle.seg_batches.specs.Calls.{Does};
 ghost use Rattle.seg_batches.specs.Making.{passed_below};
@@ -23,10 +23,10 @@ ghost use Rattle.seg_batches.specs.Writing.{WritesBatches, batch_between};
 use crate::batch_making::{MadeBatch, make_batch};
 use crate::delete_queue::delete_queue;
 use crate::written_segment::WrittenSegment;
-use seg_build::UserOperation;
 use seg_common::SegmentId;
 use seg_deletes::{DeleteCursor, DeleteQueue, Opstamp};
 use seg_directory::Directory;
+use seg_input::UserOperation;
 use seg_meta::IndexSettings;
 use seg_values::{Analyzers, Schema, TResult, TantivyDocument, TantivyError, Term};
 use std::alloc::{AllocError, Global};
@@ -60,8 +60,8 @@ pub fn write_batches<Z: Analyzers, W: Directory>(
     ensures calls { WritesBatches ids.now result
         (W.state directory.old)
         (W.state directory.new) }
-    ensures refused { (known : Known) → Tests known (Z.knows analyzers.now) → IfErr result (IfRefusal (λ e.
-        (start_refusal known 15000 schema.now settings.now ≡ Some e)
+    ensures refused { IfErr result (IfRefusal (λ e.
+        (start_refusal (Z.knows analyzers.now) 15000 schema.now settings.now ≡ Some e)
         ⊎ (option_map build_error (first_of (batch_refusal schema.now (Z.tokens_of analyzers.now)) (cut_from 0 cuts.now (enumerate_from 0 (map operation_of operations.now)))) ≡ Some e))) }
 {
     let mut queue = match delete_queue(alloc, operations) {
@@ -144,8 +144,8 @@ fn write_batch<Z: Analyzers, W: Directory>(
     ensures calls { WritesBatches (id ∷ []) result
         (W.state directory.old)
         (W.state directory.new) }
-    ensures refused { (known : Known) → Tests known (Z.knows analyzers.now) → IfErr result (IfRefusal (λ e.
-        (start_refusal known 15000 schema.now settings.now ≡ Some e)
+    ensures refused { IfErr result (IfRefusal (λ e.
+        (start_refusal (Z.knows analyzers.now) 15000 schema.now settings.now ≡ Some e)
         ⊎ (option_map build_error (batch_refusal schema.now (Z.tokens_of analyzers.now) (enumerate_from first (slice_range (map operation_of operations.now) first end))) ≡ Some e))) }
     ensures queue { queue.new.operations ≡ queue.old.operations }
     ensures within { cursor.new ≤ queue.new.flushed }

@@ -1,11 +1,11 @@
 //! The deletes of an input, as they wait.
 ghost use Rattle.std.specs.Prelude.{◌≡◌, ◌∷◌, ◌++◌, [], map, IfOk, IfErr, OnOk};
 ghost use Rattle.seg_alive.specs.Laws.{as_operations};
-ghost use Rattle.seg_build.specs.View.{operation_of};
+ghost use Rattle.seg_input.specs.View.{operation_of};
 ghost use Rattle.seg_removal.specs.Stamps.{stamped_deletes};
 
-use seg_build::UserOperation;
 use seg_deletes::{DeleteOperation, DeleteQueue, Opstamp};
+use seg_input::UserOperation;
 use seg_values::{TResult, TantivyDocument, TantivyError, Term};
 use std::alloc::Global;
 

@@ -1,6 +1,6 @@
 //! Segments, read back.
 ghost use Rattle.std.specs.Prelude.{◌≡◌, ◌<◌, ◌∷◌, ◌++◌, [], true, vec_len, vec_capacity, Ok, Err, IfOk, IfErr, OnOk};
-ghost use Rattle.seg_build.specs.Built.{is_built_schema};
+ghost use Rattle.seg_segment.specs.Built.{is_built_schema};
 ghost use Rattle.seg_join.specs.KeptSegment.{KeptSegment};
 ghost use Rattle.seg_batches.specs.Reading.{ReadsSegment, ReadsUpTo, StopsInSegment};
 

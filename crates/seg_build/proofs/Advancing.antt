@@ -13,7 +13,7 @@ use Rattle.seg_build.specs.Checking.{text_passes, advanced, advanced_at, passes_
 use Rattle.seg_build.specs.Field.{positions_fit}
 use Rattle.seg_build.specs.Steps.{tokens_at}
 use Rattle.seg_build.specs.declared.checking.Progress.{Progress}
-use Rattle.seg_build.proofs.BuiltEntries.{both_true}
+use Rattle.seg_segment.proofs.BuiltEntries.{both_true}
 use Rattle.seg_build.proofs.Fitting.{and_true, is_less, less_is}
 use Rattle.seg_build.proofs.Places.{slice_get-set_same, slice_get-set_other, start_after_all-ge}
 

@@ -12,12 +12,12 @@ use Rattle.seg_model.specs.Fields.{Schema, Analyzer, is_indexed, indexing_tokeni
 use Rattle.seg_model.specs.Checked.{Refusal, past_limit, unless, is_u32, count_of, json_refusal, tree_refusal, texts_fit, kind_fits, field_fits, is_within_limits, fields_refusal, leaves_refusal, order_refusal, limit_refusal, document_refusal}
 use Rattle.seg_model.specs.Occurrences.{start_after_all, value_tokens}
 use Rattle.seg_model.specs.StoredForm.{stored_form}
-use Rattle.seg_build.specs.Built.{is_built_schema}
+use Rattle.seg_segment.specs.Built.{is_built_schema}
 use Rattle.seg_build.specs.Checking.{at_start, pairs_pass}
 use Rattle.seg_build.specs.Steps.{indexed_part}
 use Rattle.seg_build.specs.declared.checking.Progress.{Progress}
 use Rattle.seg_build.proofs.Advancing.{Bounded}
-use Rattle.seg_build.proofs.BuiltEntries.{IsTextEntry, both_true, built_entry_at, text_entry_at, unchecked_json}
+use Rattle.seg_segment.proofs.BuiltEntries.{IsTextEntry, both_true, built_entry_at, text_entry_at, unchecked_json}
 use Rattle.seg_build.proofs.Fitting.{is_less, less_is, and_true, none_unless, both_none, none_else}
 use Rattle.seg_build.proofs.IndexedParts.{either, values_kept}
 use Rattle.seg_build.proofs.Passing.{order_where_pass, bounded_where_pass, pass_where_bounded}

@@ -9,7 +9,7 @@ use Rattle.seg_values.specs.Tree.{Tree}
 use Rattle.seg_model.specs.Fields.{Analyzer, is_indexed, indexing_tokenizer}
 use Rattle.seg_model.specs.Checked.{Refusal, positions_fall, or_else, unless, is_rising, value_texts, positions_refusal}
 use Rattle.seg_model.specs.Occurrences.{counted, value_tokens}
-use Rattle.seg_build.proofs.BuiltEntries.{IsTextEntry}
+use Rattle.seg_segment.proofs.BuiltEntries.{IsTextEntry}
 
 pub is_less : (n m : ℕ) → nat_lt n m ≡ true → n < m
 is_less n m h = grind (arith, nat_tests)

@@ -1,12 +1,11 @@
 -- What a writer keeps after one more document.
 use Rattle.std.proofs.Common.{◌≡◌, ℕ, suc, ◌+◌, ◌<◌, ◌≤◌, ◌^◌, ◌-◌, Bool, true, List, [], ◌∷◌, ◌++◌, map, length, take, drop, get_or, Some, None, Option, option_map, refl, sym, ap, ◌∙◌, subst, arith, length-append}
 use Rattle.std.specs.Prelude.{IsSomeAnd, IfSome}
-use Rattle.std.specs.List.{list_all, AllByRecursion}
+use Rattle.std.specs.List.{slice_get, list_all, AllByRecursion}
 use Rattle.std.proofs.lemmas.List.{length-map}
-use Rattle.seg_common.specs.Growing.{HasGrown}
 use Rattle.seg_values.specs.declared.token.Token.{Token}
 use Rattle.seg_values.specs.declared.schema.FieldEntry.{FieldEntry}
-use Rattle.seg_values.specs.Tree.{Document}
+use Rattle.seg_values.specs.Tree.{Tree, Document}
 use Rattle.seg_values.specs.Utf8.{IsUtf8Document}
 use Rattle.seg_model.specs.Built.{is_taken}
 use Rattle.seg_model.specs.Fields.{Schema, Analyzer}
@@ -15,24 +14,26 @@ use Rattle.seg_model.specs.Reading.{stored_document}
 use Rattle.seg_model.specs.StoredForm.{stored_form}
 use Rattle.seg_store.specs.BlockLaw.{AreTakenLast}
 use Rattle.seg_store.specs.Writing.{taken_count}
-use Rattle.seg_build.specs.Batch.{kept_norms}
-use Rattle.seg_build.specs.Built.{is_built_schema}
-use Rattle.seg_build.specs.Checking.{with_texts, document_texts}
+use Rattle.seg_segment.specs.Built.{is_built_schema}
+use Rattle.seg_build.specs.Checking.{text_count, text_in, text_of, with_texts, document_texts}
 use Rattle.seg_build.specs.Kept.{Kept}
-use Rattle.seg_build.specs.Lengths.{AreUpTo, with_counts}
-use Rattle.seg_build.specs.MemoryUsage.{saturated, occurrence_count, recorded_count}
+use Rattle.seg_build.specs.Field.{count_in}
+use Rattle.seg_build.specs.Lengths.{HaveLengths, with_lengths}
+use Rattle.seg_build.specs.MemoryUsage.{total, occurrence_count}
 use Rattle.seg_build.specs.SegmentWriting.{kept_of, Stores, IsKeptOf, IsUnderWay, HasPlace, Adds, HasRoom, HasTaken}
 use Rattle.seg_build.specs.Steps.{fresh, indexed_part, with_documents, with_pairs}
+use Rattle.seg_build.specs.declared.field_text.FieldText.{FieldText}
 use Rattle.seg_build.specs.declared.writer_parts.WriterParts.{WriterParts}
-use Rattle.seg_build.proofs.BuiltEntries.{both_true}
+use Rattle.seg_segment.proofs.BuiltEntries.{both_true}
 use Rattle.seg_build.proofs.Checks.{passed}
 use Rattle.seg_build.proofs.Fitting.{and_true}
-use Rattle.seg_build.proofs.KeptLengths.{room_for, fields_turn, tokens_in, lengths_turn}
+use Rattle.seg_build.proofs.KeptLengths.{fields_turn, tokens_in, lengths_turn}
 use Rattle.seg_build.proofs.StoringDocuments.{HasStored, shallow_taken, stored_turn}
 use Rattle.seg_build.proofs.TextSteps.{with_texts-pairs}
 use Rattle.seg_build.proofs.Turns.{take-front}
 use Rattle.seg_build.proofs.MemoryTaken.{total-last, occurring, all_occurring}
-use Rattle.seg_build.proofs.Whole.{length-with_documents}
+use Rattle.seg_build.proofs.TextCounts.{all_added, none_counted, texts_within}
+use Rattle.seg_build.proofs.Whole.{all_more, all_fresh, length-with_documents}
 
 -- ---- lists with one more at the end
 
@@ -95,16 +96,29 @@ module _ (schema : Schema) (analyzer : Analyzer) (entries : is_built_schema sche
   has_room = record {
     place = place;
     shallow = shallow_taken d (passed schema analyzer d taken).shallow;
-    norms = subst (λ n. IsSomeAnd old.norms (AreUpTo n)) (sym count) (room_for schema analyzer all many within old.norms (are.norms ∙ ap (λ ds. Some (kept_norms schema analyzer ds)) (sym before)));
     store = if_some _ old.store (weaker (Stores schema documents) (λ w. taken_count w < 2 ^ 31 - 1) old.store (λ w s. omega (arith, s.count, few)) are.store);
   }
 
-  module _ (in_order : AreTakenLast) (texts : List (ℕ × List Token)) (texts_are : texts ≡ document_texts schema analyzer d) (new : Kept) (took : HasTaken schema d texts stamp old new) where
+  module _ (in_order : AreTakenLast) (found : List FieldText) (found_are : map (text_in d) found ≡ document_texts schema analyzer d) (new : Kept) (took : HasTaken schema d found stamp old new) where
+    abbrev texts : List (ℕ × List Token)
+    texts = map (text_in d) found
+
+    places : map (λ (t : FieldText). t.field) found ≡ map (λ (p : ℕ × Tree). p.0) (indexed_part schema d)
+    places = in_texts found ∙ ap (map (λ (t : ℕ × List Token). t.0)) found_are ∙ in_pairs (indexed_part schema d)
+      where
+        in_texts : (ts : List FieldText) → map (λ (t : FieldText). t.field) ts ≡ map (λ (t : ℕ × List Token). t.0) (map (text_in d) ts)
+        in_texts [] = refl
+        in_texts (t ∷ ts) = ap (λ l. t.field ∷ l) (in_texts ts)
+
+        in_pairs : (ps : Document) → map (λ (t : ℕ × List Token). t.0) (map (text_of schema analyzer) ps) ≡ map (λ (p : ℕ × Tree). p.0) ps
+        in_pairs [] = refl
+        in_pairs (p ∷ ps) = ap (λ l. p.0 ∷ l) (in_pairs ps)
+
     now : old.fields ≡ with_documents schema analyzer 0 (map (λ _. fresh) schema) (take many all)
     now = are.fields ∙ ap (with_documents schema analyzer 0 (map (λ _. fresh) schema)) (sym before)
 
     after : new.fields ≡ with_pairs schema analyzer many old.fields (indexed_part schema d)
-    after = took.fields ∙ ap (λ n. with_texts n old.fields texts) count ∙ ap (with_texts many old.fields) texts_are ∙ with_texts-pairs schema analyzer many old.fields d
+    after = took.fields ∙ ap (λ n. with_texts n old.fields texts) count ∙ ap (with_texts many old.fields) found_are ∙ with_texts-pairs schema analyzer many old.fields d
 
     here : drop many all ≡ d ∷ drop (many + 1) all
     here = drop-front documents d
@@ -119,13 +133,26 @@ module _ (schema : Schema) (analyzer : Analyzer) (entries : is_built_schema sche
     as_many : length new.fields ≡ length schema
     as_many = ap length fields_now ∙ length-with_documents schema analyzer 0 (map (λ (e : FieldEntry). fresh) schema) all ∙ length-map schema (λ (e : FieldEntry). fresh)
 
-    recorded : recorded_count many new.fields ≡ occurrence_count schema analyzer d
+    recorded : total (count_in many) new.fields ≡ occurrence_count schema analyzer d
     recorded = all_occurring schema analyzer d many new.fields 0 schema as_many
         (λ k e at. let has = tokens_in schema analyzer all many within entries d here (map (λ _. fresh) schema) old.fields new.fields refl now after k e at in
         record { field = has.field; at = has.at; count = has.count ∙ occurring schema analyzer d k e entries at ∙ ap (λ m. length (occurrences schema analyzer d m)) (let z : k ≡ 0 + k = omega arith in z) })
 
-    took_as : new.occurrences ≡ saturated (old.occurrences + saturated (recorded_count many new.fields))
-    took_as = subst (λ n. new.occurrences ≡ saturated (old.occurrences + saturated (recorded_count n new.fields))) count took.occurrences
+    as_many_before : length old.fields ≡ length schema
+    as_many_before = ap length are.fields ∙ length-with_documents schema analyzer 0 (map (λ (e : FieldEntry). fresh) schema) documents ∙ length-map schema (λ (e : FieldEntry). fresh)
+
+    none_before : total (count_in many) old.fields ≡ 0
+    none_before = none_counted many old.fields schema as_many_before
+        (λ k e at. let has = all_more schema analyzer entries [] (map (λ _. fresh) schema) documents (all_fresh schema analyzer entries) k e at in
+        record { field = has.field; at = ap (λ fs. slice_get fs k) are.fields ∙ has.at; count = has.new.count })
+
+    -- its texts are counted as its fields are
+    counted_as : text_count texts ≡ occurrence_count schema analyzer d
+    counted_as =
+        let put : new.fields ≡ with_texts many old.fields texts = took.fields ∙ ap (λ n. with_texts n old.fields texts) count in
+        let within_fields = subst (AllByRecursion (λ t. t.0 < length schema)) (sym found_are) (texts_within schema analyzer d) in
+        let sum = all_added many (length schema) old.fields texts as_many_before within_fields in
+        omega (arith, ap (total (count_in many)) put, sum, none_before, recorded)
 
     pub one_more : IsKeptOf schema analyzer (documents ++ d ∷ []) (stamps ++ stamp ∷ []) new
     one_more = record {
@@ -133,11 +160,14 @@ module _ (schema : Schema) (analyzer : Analyzer) (entries : is_built_schema sche
       few = omega (arith, few, more);
       utf8 = every-last IsUtf8Document documents d are.utf8 utf8;
       fields = fields_now;
-      norms = lengths_turn schema analyzer all many within entries d here (map (λ _. fresh) schema) old.fields new.fields refl now after old.norms new.norms (are.norms ∙ ap (λ ds. Some (kept_norms schema analyzer ds)) (sym before)) (subst (λ n. HasGrown old.norms new.norms (with_counts n new.fields)) count took.norms) ∙ ap (λ ds. Some (kept_norms schema analyzer ds)) whole;
+      norms = subst (λ ds. IsSomeAnd new.norms (HaveLengths schema analyzer ds)) whole
+          (lengths_turn schema analyzer all many within entries d here (map (λ _. fresh) schema) old.fields new.fields refl now after as_many (map (λ (t : FieldText). t.field) found) places old.norms new.norms
+          (subst (λ ds. IsSomeAnd old.norms (HaveLengths schema analyzer ds)) (sym before) are.norms)
+          (took.norms ∙ ap (λ n. option_map (with_lengths n new.fields (map (λ (t : FieldText). t.field) found)) old.norms) count));
       store = weaker (HasStored schema all (many + 1)) (Stores schema all) new.store (λ w s. record { read = s.read ∙ ap (map (stored_document schema)) whole; count = s.taken ∙ sym more; forms = s.forms ∙ ap (map (stored_form schema)) whole }) stored;
       stamped = took.stamps ∙ ap (λ l. l ++ stamp ∷ []) are.stamped;
       each = omega (arith, length-append stamps (stamp ∷ []), more, are.each);
-      occurrences = omega (arith, recorded, took_as, are.occurrences, total-last (occurrence_count schema analyzer) documents d);
+      occurrences = omega (arith, counted_as, took.occurrences, are.occurrences, total-last (occurrence_count schema analyzer) documents d);
     }
 
 -- ---- the parts of a writer
@@ -156,7 +186,7 @@ module _ (schema : Schema) (analyzer : Analyzer) (entries : is_built_schema sche
   pub room_of : IfSome parts (λ p. IsUnderWay schema analyzer (kept_of p)) → HasRoom d (kept_of p)
   room_of h = let u = under h in has_room schema analyzer entries u.documents d taken utf8 u.stamps stamp (kept_of p) u.are place
 
-  module _ (in_order : AreTakenLast) (texts : List (ℕ × List Token)) (texts_are : texts ≡ document_texts schema analyzer d) (new : WriterParts) (took : HasTaken schema d texts stamp (kept_of p) (kept_of new)) where
+  module _ (in_order : AreTakenLast) (texts : List FieldText) (texts_are : map (text_in d) texts ≡ document_texts schema analyzer d) (new : WriterParts) (took : HasTaken schema d texts stamp (kept_of p) (kept_of new)) where
     -- is under way after it
     pub still_under_way : IfSome parts (λ p. IsUnderWay schema analyzer (kept_of p)) → IsUnderWay schema analyzer (kept_of new)
     still_under_way h =

@@ -5,6 +5,7 @@ use Rattle.std.specs.FinMap.{entries}
 use Rattle.std.specs.List.{list_all, AllByRecursion}
 use Rattle.std.specs.Option.{option_map}
 use Rattle.std.proofs.lemmas.List.{length-map}
+use Rattle.seg_common.specs.Growing.{HasGrown}
 use Rattle.seg_values.specs.declared.schema.FieldEntry.{FieldEntry}
 use Rattle.seg_values.specs.Tree.{Document}
 use Rattle.seg_model.specs.Built.{is_taken}
@@ -13,10 +14,13 @@ use Rattle.seg_model.specs.Reading.{stored_document}
 use Rattle.seg_store.specs.Block.{Block}
 use Rattle.seg_store.specs.Store.{store_of, documents_of}
 use Rattle.seg_store.specs.Writing.{Taken, all_blocks}
-use Rattle.seg_build.specs.Built.{is_built_schema, are_built}
+use Rattle.seg_postings.specs.FieldNorms.{filled}
+use Rattle.seg_build.specs.Batch.{kept_norms}
+use Rattle.seg_segment.specs.Built.{is_built_schema, are_built}
 use Rattle.seg_build.specs.Entries.{TermEntries}
 use Rattle.seg_build.specs.FieldTerms.{FieldTerms, positional_terms, recorded_fields, fields_of}
 use Rattle.seg_build.specs.Kept.{Kept}
+use Rattle.seg_build.specs.Lengths.{HaveLengths}
 use Rattle.seg_build.specs.SegmentWriting.{Stores, IsKeptOf}
 use Rattle.seg_build.specs.Steps.{fresh}
 use Rattle.seg_build.specs.StoredBatch.{IsStoredBatch}
@@ -58,11 +62,19 @@ module _ (schema : Schema) (analyzer : Analyzer) (built : is_built_schema schema
   pub few_stamps : length kept.stamps < 2 ^ 31
   few_stamps = subst (λ n. n < 2 ^ 31) (sym (ap length are.stamped ∙ are.each)) are.few
 
-  pub is_stored_batch : (batch : IndexedBatch) (count : ℕ) (store : List ℕ) → batch.fields ≡ recorded_fields schema (listed kept.fields) → batch.norms ≡ kept.norms → count ≡ length kept.stamps → store_of store ≡ option_map all_blocks kept.store → IsStoredBatch schema analyzer documents batch count store
+  -- lengths that are filled up are those of all documents
+  all_lengths : (norms : Option (List (Option (List ℕ)))) (count : ℕ) → HasGrown kept.norms norms (map (option_map (filled count))) → count ≡ length kept.stamps → norms ≡ Some (kept_norms schema analyzer documents)
+  all_lengths norms count grown many =
+      let have : HaveLengths schema analyzer documents grown.kept = subst (λ o. IsSomeAnd o (HaveLengths schema analyzer documents)) grown.was are.norms in
+      grown.is
+      ∙ ap (λ n. Some (map (option_map (filled n)) grown.kept)) (many ∙ ap length are.stamped ∙ are.each)
+      ∙ ap Some have.filled
+
+  pub is_stored_batch : (batch : IndexedBatch) (count : ℕ) (store : List ℕ) → batch.fields ≡ recorded_fields schema (listed kept.fields) → HasGrown kept.norms batch.norms (map (option_map (filled count))) → count ≡ length kept.stamps → store_of store ≡ option_map all_blocks kept.store → IsStoredBatch schema analyzer documents batch count store
   is_stored_batch batch count store fields norms many file = record {
     built = are_all_built;
     utf8 = are.utf8;
-    indexed = record { fields = are_fields batch.fields fields; norms = norms ∙ are.norms };
+    indexed = record { fields = are_fields batch.fields fields; norms = all_lengths batch.norms count norms many };
     counted = many ∙ ap length are.stamped ∙ are.each;
     stored = read_from schema documents kept.store (store_of store) file are.store;
   }

@@ -1,28 +1,31 @@
 -- The lengths that are recorded document by document are those of all documents.
-use Rattle.std.proofs.Common.{◌≡◌, ℕ, zero, suc, ◌+◌, ◌-◌, ◌≤◌, true, false, cond, List, [], ◌∷◌, ◌++◌, map, length, take, drop, replicate, Some, None, Option, option_map, refl, sym, ap, ◌∙◌, subst, arith, append-nil}
+use Rattle.std.proofs.Common.{◌≡◌, ℕ, zero, suc, ◌+◌, ◌-◌, ◌≤◌, true, false, cond, List, [], ◌∷◌, ◌++◌, map, length, take, drop, replicate, Some, None, Option, option_map, refl, sym, ap, ◌∙◌, subst, arith, append-nil, length-append, inl, inr}
 use Rattle.std.specs.Prelude.{is_some, IfSome, IsSomeAnd}
 use Rattle.std.specs.List.{slice_get, enumerate_from}
 use Rattle.std.proofs.lemmas.Bool.{false≢true}
+use Rattle.std.proofs.lemmas.Bool.Decides.{eqb_tells}
 use Rattle.std.proofs.lemmas.List.{length-map, length-take-le, map-append}
-use Rattle.seg_common.specs.Growing.{HasGrown}
+use Rattle.std.proofs.lemmas.List.FromFn.{length-enumerate_from}
+use Rattle.std.proofs.lemmas.Option.{slice_get_within}
 use Rattle.seg_values.specs.declared.token.Token.{Token}
 use Rattle.seg_values.specs.declared.schema.FieldEntry.{FieldEntry}
 use Rattle.seg_values.specs.Tree.{Tree, Document}
 use Rattle.seg_model.specs.Checked.{count_of}
-use Rattle.seg_model.specs.Fields.{Schema, Analyzer, is_indexed, has_lengths, indexing_tokenizer, values_of}
+use Rattle.seg_model.specs.Fields.{Schema, Analyzer, fields, is_indexed, has_lengths, indexing_tokenizer, values_of}
 use Rattle.seg_model.specs.Norms.{token_count, kind_length, field_length, length_id, field_norms}
 use Rattle.seg_model.specs.Occurrences.{counted, value_tokens}
-use Rattle.seg_postings.specs.FieldNorms.{no_norms, with_length}
+use Rattle.seg_postings.specs.FieldNorms.{no_norms, filled, with_length}
 use Rattle.seg_build.specs.Batch.{kept_norms}
-use Rattle.seg_build.specs.Built.{is_built_schema}
+use Rattle.seg_segment.specs.Built.{is_built_schema}
 use Rattle.seg_build.specs.Field.{count_in, added}
-use Rattle.seg_build.specs.Lengths.{AreUpTo, with_counts}
+use Rattle.seg_build.specs.Lengths.{AreUpTo, HaveLengths, with_counts, with_lengths}
 use Rattle.seg_build.specs.Steps.{fresh, indexed_part, with_pairs, with_documents}
 use Rattle.seg_build.specs.declared.field.FieldPostings.{FieldPostings}
-use Rattle.seg_build.proofs.BuiltEntries.{both_true, text_entry_at}
-use Rattle.seg_build.proofs.Counting.{Kept}
+use Rattle.seg_segment.proofs.BuiltEntries.{both_true, text_entry_at}
+use Rattle.seg_build.proofs.Fitting.{element_at}
 use Rattle.seg_build.proofs.IndexedParts.{values_kept}
-use Rattle.seg_build.proofs.Places.{some_same, texts_of, added_all, count_in-added, field_after}
+use Rattle.seg_build.proofs.Places.{some_same, texts_of, texts_of-passed, added_all, count_in-added, field_after}
+use Rattle.seg_build.proofs.RecordedLengths.{Kept, IsNoneOf, AreRecorded, length-with_lengths, recorded_at, all_recorded, counts_filled}
 use Rattle.seg_build.proofs.Whole.{all_more, all_fresh}
 
 -- ---- the count of a document's tokens
@@ -123,17 +126,42 @@ module _ (analyzer : Analyzer) where
 
 -- ---- one turn of the loop over documents
 
+none_filled : (xs : List FieldEntry) → map (option_map (filled 0)) (no_norms xs) ≡ no_norms xs
+none_filled [] = refl
+none_filled (x ∷ xs) = λ i. first i ∷ none_filled xs i
+  where
+    first : option_map (filled 0) (cond {A = Option (List ℕ)} (has_lengths x) (Some []) None) ≡ cond {A = Option (List ℕ)} (has_lengths x) (Some []) None
+    first = elim (has_lengths x) as (λ b. option_map (filled 0) (cond {A = Option (List ℕ)} b (Some []) None) ≡ cond {A = Option (List ℕ)} b (Some []) None) [ true ↦ refl | false ↦ refl ]
+
 -- before any document nothing is kept
-pub kept_before : (schema : Schema) (analyzer : Analyzer) → Some (no_norms schema) ≡ Some (kept_norms schema analyzer [])
-kept_before schema analyzer = ap Some (kept_none analyzer 0 schema)
+pub lengths_before : (schema : Schema) (analyzer : Analyzer) → HaveLengths schema analyzer [] (no_norms schema)
+lengths_before schema analyzer = record {
+  up_to = subst (AreUpTo 0) (sym (kept_none analyzer 0 schema)) (up_to analyzer [] 0 schema);
+  filled = none_filled schema ∙ kept_none analyzer 0 schema;
+}
+
+-- as many as the schema has fields
+length-kept : (schema : Schema) (analyzer : Analyzer) (ds : List Document) (kept : Kept) → HaveLengths schema analyzer ds kept → length kept ≡ length schema
+length-kept schema analyzer ds kept have =
+    sym (length-map kept (option_map (filled (length ds))))
+    ∙ ap length have.filled
+    ∙ length-map (fields schema) (kept_of analyzer ds)
+    ∙ length-enumerate_from 0 schema
+
+up_to_at : (n : ℕ) (kept : Kept) (k : ℕ) (o : Option (List ℕ)) → AreUpTo n kept → slice_get kept k ≡ Some o → IfSome o (λ ids. length ids ≤ n)
+up_to_at n [] k o h at = absurd (false≢true (ap is_some at))
+up_to_at n (x ∷ xs) zero o h at = subst (λ y. IfSome y (λ ids. length ids ≤ n)) (some_same x o at) h.0
+up_to_at n (x ∷ xs) (suc k) o h at = up_to_at n xs k o h.1 at
+
+-- a field with no value among these has no text
+no_texts : (analyzer : Analyzer) (e : FieldEntry) (k : ℕ) (ps : Document) → IsNoneOf k (map (λ p. p.0) ps) → texts_of analyzer e k ps ≡ []
+no_texts analyzer e k [] h = refl
+no_texts analyzer e k (p ∷ ps) h = elim (eqb_tells k p.0) [
+  | inl own ↦ absurd (h.0 own.1)
+  | inr other ↦ texts_of-passed analyzer e k p ps other.0 ∙ no_texts analyzer e k ps h.1
+]
 
 module _ (schema : Schema) (analyzer : Analyzer) (ds : List Document) (i : ℕ) (within : i ≤ length ds) where
-  -- there is room for a document
-  pub room_for : (kept : Option Kept) → kept ≡ Some (kept_norms schema analyzer (take i ds)) → IsSomeAnd kept (AreUpTo i)
-  room_for kept is =
-      subst (λ o. IsSomeAnd o (AreUpTo i)) (sym is)
-      (subst (λ n. AreUpTo n (kept_norms schema analyzer (take i ds))) (length-take-le i ds within) (up_to analyzer (take i ds) 0 schema))
-
   module _ (entries : is_built_schema schema ≡ true) (d : Document) (here : drop i ds ≡ d ∷ drop (i + 1) ds) (initial now after : List FieldPostings) where
     -- the fields with it
     pub fields_turn : now ≡ with_documents schema analyzer 0 initial (take i ds) → after ≡ with_pairs schema analyzer i now (indexed_part schema d) → after ≡ with_documents schema analyzer 0 initial (take (i + 1) ds)
@@ -174,10 +202,38 @@ module _ (schema : Schema) (analyzer : Analyzer) (ds : List Document) (i : ℕ) 
         }
 
     -- and the lengths with its own
-    pub lengths_turn : initial ≡ map (λ _. fresh) schema → now ≡ with_documents schema analyzer 0 initial (take i ds) → after ≡ with_pairs schema analyzer i now (indexed_part schema d) → (old new : Option Kept) → old ≡ Some (kept_norms schema analyzer (take i ds)) → HasGrown old new (with_counts i after) → new ≡ Some (kept_norms schema analyzer (take (i + 1) ds))
-    lengths_turn first is more old new kept grown =
-        let was : grown.kept ≡ kept_norms schema analyzer (take i ds) = some_same _ _ (sym grown.was ∙ kept) in
-        grown.is
-        ∙ ap (λ l. Some (with_counts i after l)) was
-        ∙ ap Some (all_more_ids analyzer (take i ds) d i (length-take-le i ds within) after 0 schema (λ k e at. let c = counted_at first is more k e at in record { field = c.field; at = c.at; count = λ on. c.count on ∙ ap (λ m. field_length analyzer e (values_of m d)) (let z : k ≡ 0 + k = omega arith in z) }))
-        ∙ ap (λ l. Some (kept_norms schema analyzer l)) (sym (take-more ds i d here))
+    module _ (first : initial ≡ map (λ _. fresh) schema) (is : now ≡ with_documents schema analyzer 0 initial (take i ds)) (more : after ≡ with_pairs schema analyzer i now (indexed_part schema d)) (many : length after ≡ length schema) (places : List ℕ) (are : places ≡ map (λ p. p.0) (indexed_part schema d)) where
+      none_counted : (k : ℕ) (f : FieldPostings) → slice_get after k ≡ Some f → IsNoneOf k places → count_in i f ≡ 0
+      none_counted k f at_f none =
+          let entry = element_at schema k (omega (arith, many, slice_get_within after k f at_f)) in
+          let has = tokens_in first is more k entry.element entry.at in
+          ap (count_in i) (some_same f has.field (sym at_f ∙ has.at))
+          ∙ has.count
+          ∙ ap count_of (no_texts analyzer entry.element k (indexed_part schema d) (subst (IsNoneOf k) are none))
+
+      recorded : (kept : Kept) → HaveLengths schema analyzer (take i ds) kept → AreRecorded i after kept (with_lengths i after places kept)
+      recorded kept have = all_recorded i after kept (with_lengths i after places kept)
+          (many ∙ sym (length-kept schema analyzer (take i ds) kept have))
+          (length-with_lengths i after places kept)
+          (λ k f o at_f at_o. recorded_at i after places kept k f at_f (none_counted k f at_f) o at_o
+          (up_to_at i kept k o (subst (λ n. AreUpTo n kept) (length-take-le i ds within) have.up_to) at_o))
+
+      all_lengths : (kept : Kept) → HaveLengths schema analyzer (take i ds) kept → HaveLengths schema analyzer (take (i + 1) ds) (with_lengths i after places kept)
+      all_lengths kept have =
+          let r = recorded kept have in
+          let now = length-take-le i ds within in
+          let next : length (take (i + 1) ds) ≡ i + 1 = ap length (take-more ds i d here) ∙ omega (arith, now, length-append (take i ds) (d ∷ [])) in
+          record {
+            up_to = subst (λ n. AreUpTo n (with_lengths i after places kept)) (sym next) r.up_to;
+            filled = ap (λ n. map (option_map (filled n)) (with_lengths i after places kept)) next
+                ∙ r.filled
+                ∙ counts_filled i after kept (many ∙ sym (length-kept schema analyzer (take i ds) kept have))
+                ∙ ap (λ n. with_counts i after (map (option_map (filled n)) kept)) (sym now)
+                ∙ ap (with_counts i after) have.filled
+                ∙ all_more_ids analyzer (take i ds) d i now after 0 schema (λ k e at. let c = counted_at first is more k e at in record { field = c.field; at = c.at; count = λ on. c.count on ∙ ap (λ m. field_length analyzer e (values_of m d)) (let z : k ≡ 0 + k = omega arith in z) })
+                ∙ ap (kept_norms schema analyzer) (sym (take-more ds i d here));
+          }
+
+      pub lengths_turn : (old new : Option Kept) → IsSomeAnd old (HaveLengths schema analyzer (take i ds)) → new ≡ option_map (with_lengths i after places) old → IsSomeAnd new (HaveLengths schema analyzer (take (i + 1) ds))
+      lengths_turn (Some kept) new have recorded = subst (λ o. IsSomeAnd o (HaveLengths schema analyzer (take (i + 1) ds))) (sym recorded) (all_lengths kept have)
+      lengths_turn None new have recorded = absurd have

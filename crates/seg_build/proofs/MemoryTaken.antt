@@ -1,5 +1,5 @@
 -- How much memory documents take, added up document by document.
-use Rattle.std.proofs.Common.{◌≡◌, ℕ, zero, suc, ◌+◌, ◌-◌, ◌*◌, ◌^◌, ◌<◌, ◌≤◌, min, true, cond, List, [], ◌∷◌, ◌++◌, map, length, drop, get_or, Some, None, Option, refl, sym, ap, ◌∙◌, inl, inr, arith, length-append}
+use Rattle.std.proofs.Common.{◌≡◌, ℕ, suc, ◌+◌, ◌-◌, ◌*◌, ◌^◌, min, true, cond, List, [], ◌∷◌, ◌++◌, map, length, Some, None, Option, refl, sym, ap, ◌∙◌, inl, inr, arith, length-append}
 use Rattle.std.specs.Prelude.{is_some, IsSomeAnd}
 use Rattle.std.specs.List.{slice_get, enumerate_from, flat_map}
 use Rattle.std.proofs.lemmas.Bool.{false≢true}
@@ -15,41 +15,21 @@ use Rattle.seg_model.specs.StoredForm.{stored_form}
 use Rattle.seg_store.specs.Block.{Block}
 use Rattle.seg_store.specs.BlockLaw.{all_documents}
 use Rattle.seg_store.specs.Writing.{Taken, byte_count, block_bytes, last_block, taken_bytes}
-use Rattle.seg_build.specs.Built.{is_built_schema}
+use Rattle.seg_segment.specs.Built.{is_built_schema}
 use Rattle.seg_build.specs.Field.{count_in}
 use Rattle.seg_build.specs.Kept.{Kept}
 use Rattle.seg_build.specs.MemoryUsage.{total, saturated, occurrence_count, length_fields, memory_usage}
 use Rattle.seg_build.specs.SegmentWriting.{Stores, IsKeptOf}
 use Rattle.seg_build.specs.Steps.{indexed_part}
 use Rattle.seg_build.specs.declared.field.FieldPostings.{FieldPostings}
-use Rattle.seg_build.proofs.BuiltEntries.{text_entry_at}
+use Rattle.seg_segment.proofs.BuiltEntries.{text_entry_at}
 use Rattle.seg_build.proofs.IndexedParts.{either, values_kept, values_left}
 use Rattle.seg_build.proofs.KeptLengths.{HasTokens}
 use Rattle.seg_build.proofs.Places.{some_same, texts_of}
-use Rattle.seg_build.proofs.Turns.{drop-item}
 
 pub total-last : {A : Type 0} (count : A → ℕ) (xs : List A) (x : A) → total count (xs ++ x ∷ []) ≡ total count xs + count x
 total-last count [] x = omega arith
 total-last count (y ∷ ys) x = omega (arith, total-last count ys x)
-
--- ---- sums that stop at the greatest number
-
-sum_turn : (count more rest now : ℕ) → now ≡ min (count + more) (2 ^ 64 - 1) → saturated (now + rest) ≡ saturated (count + (more + rest))
-sum_turn count more rest now is = omega (arith, is)
-
--- one turn of the loop over fields
-pub recorded_turn : (document : ℕ) (fields : List FieldPostings) (i : ℕ) (f : FieldPostings) (count now : ℕ) → i < length fields → f ≡ get_or fields i f → now ≡ min (count + count_in document f) (2 ^ 64 - 1)
-    → saturated (now + total (count_in document) (drop (i + 1) fields)) ≡ saturated (count + total (count_in document) (drop i fields))
-recorded_turn document fields i f count now lt is sum =
-    sum_turn count (count_in document f) (total (count_in document) (drop (i + 1) fields)) now sum
-    ∙ ap (λ fs. saturated (count + total (count_in document) fs)) (sym (drop-item fields i f lt is))
-
--- after the last field
-pub recorded_end : (document : ℕ) (fields : List FieldPostings) (i count : ℕ) → length fields ≤ i → count ≤ 2 ^ 64 - 1 → count ≡ saturated (count + total (count_in document) (drop i fields))
-recorded_end document [] zero count past few = omega (arith, few)
-recorded_end document [] (suc i) count past few = omega (arith, few)
-recorded_end document (f ∷ fs) zero count past few = absurd (let none : ⊥ = omega (arith, past) in none)
-recorded_end document (f ∷ fs) (suc i) count past few = recorded_end document fs i count (omega (arith, past)) few
 
 -- ---- the tokens of a document are the occurrences of its terms
 

@@ -8,8 +8,8 @@ use Rattle.seg_values.specs.Tree.{Document}
 use Rattle.seg_model.specs.Fields.{Schema, Analyzer, values_of}
 use Rattle.seg_model.specs.Columns.{values_at, kind_fast_values, field_fast_values, fast_values, declared_type, column_named, declared_columns, value_keys, columns_from, columns}
 use Rattle.seg_values.specs.declared.schema.FieldEntry.{FieldEntry}
-use Rattle.seg_build.specs.Built.{is_built_entry, is_built_schema}
-use Rattle.seg_build.proofs.BuiltEntries.{both_true, not_fast}
+use Rattle.seg_segment.specs.Built.{is_built_entry, is_built_schema}
+use Rattle.seg_segment.proofs.BuiltEntries.{both_true, not_fast}
 
 is_off : (b : Bool) → not b ≡ true → b ≡ false
 is_off false h = refl

@@ -10,12 +10,12 @@ use Rattle.seg_values.specs.Tree.{Tree, Document}
 use Rattle.seg_model.specs.Checked.{positions_fall, unless, is_rising, positions_refusal, order_refusal}
 use Rattle.seg_model.specs.Fields.{Schema, Analyzer, is_indexed, is_field, indexing_tokenizer}
 use Rattle.seg_model.specs.Occurrences.{counted, value_tokens}
-use Rattle.seg_build.specs.Built.{is_built_schema}
+use Rattle.seg_segment.specs.Built.{is_built_schema}
 use Rattle.seg_build.specs.Checking.{passes_at, advanced, advanced_at, pair_passes, behind_pair, pairs_pass}
 use Rattle.seg_build.specs.Steps.{tokens_at, indexed_part}
 use Rattle.seg_build.specs.declared.checking.Progress.{Progress}
 use Rattle.seg_build.proofs.Advancing.{Bounded, bounded_before, bounded_after, Fits, fits_from, fits_then, fits_before, IsValue, pair_passes-value, whose}
-use Rattle.seg_build.proofs.BuiltEntries.{both_true, text_entry_at}
+use Rattle.seg_segment.proofs.BuiltEntries.{both_true, text_entry_at}
 use Rattle.seg_build.proofs.Fitting.{and_true, none_unless, both_none, none_else, positions_refusal-text, positions_refusal-unindexed}
 use Rattle.seg_build.proofs.IndexedParts.{either, part-kept, part-passed, indexed_pair}
 use Rattle.seg_build.proofs.Places.{texts_of, texts_of-taken, texts_of-passed}

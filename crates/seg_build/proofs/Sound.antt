@@ -6,8 +6,8 @@ use Rattle.seg_values.specs.Utf8.{IsUtf8Document}
 use Rattle.seg_model.specs.Built.{is_taken}
 use Rattle.seg_model.specs.Fields.{Schema, Analyzer}
 use Rattle.seg_model.specs.Checked.{IsSound}
-use Rattle.seg_build.specs.Built.{is_built_schema, are_built}
-use Rattle.seg_build.proofs.BuiltEntries.{both_true}
+use Rattle.seg_segment.specs.Built.{is_built_schema, are_built}
+use Rattle.seg_segment.proofs.BuiltEntries.{both_true}
 use Rattle.seg_build.proofs.Checks.{passed}
 
 module _ (schema : Schema) (analyzer : Analyzer) where

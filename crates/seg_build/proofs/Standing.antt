@@ -14,14 +14,14 @@ use Rattle.seg_model.specs.Fields.{Schema, Analyzer, is_text, is_indexed}
 use Rattle.seg_model.specs.Reading.{Terms, stored_document, all_terms}
 use Rattle.seg_model.proofs.ShapedReading.{readings_have_full_shape}
 use Rattle.seg_build.specs.declared.fields.IndexedBatch.{IndexedBatch}
-use Rattle.seg_build.specs.declared.segment_files.SegmentBytes.{SegmentBytes}
+use Rattle.seg_segment.specs.declared.segment_files.SegmentFiles.{SegmentFiles}
 use Rattle.seg_build.specs.Batch.{IsBatchOf}
-use Rattle.seg_build.specs.Built.{is_built_entry, is_built_schema, are_built}
+use Rattle.seg_segment.specs.Built.{is_built_entry, is_built_schema, are_built}
 use Rattle.seg_build.specs.FieldTerms.{FieldTerms}
 use Rattle.seg_build.specs.Filling.{AreFieldsOf, HoldsNorms}
-use Rattle.seg_build.specs.Holds.{HoldTerms}
-use Rattle.seg_build.specs.Standing.{StandFor}
-use Rattle.seg_build.proofs.BuiltEntries.{both_true}
+use Rattle.seg_segment.specs.HoldTerms.{HoldTerms}
+use Rattle.seg_segment.specs.Standing.{StandFor}
+use Rattle.seg_segment.proofs.BuiltEntries.{both_true}
 use Rattle.seg_build.proofs.NoColumns.{no_columns}
 use Rattle.seg_build.proofs.RecordedTerms.{fields_have_terms}
 use Rattle.seg_build.proofs.Sound.{built_are_sound}
@@ -33,34 +33,22 @@ none_fast (e ∷ es) h =
     let two = both_true (is_built_entry e) (list_all is_built_entry es) h in
     ap (λ b. b && list_all (λ (x : FieldEntry). not x.fast) es) (both_true (not e.fast) (is_text e.kind || not (is_indexed e)) two.0).0 ∙ none_fast es two.1
 
--- bytes that spell a batch, and documents
-pub record Spells (schema : Schema) (batch : IndexedBatch) (documents : List Document) (bytes : SegmentBytes) : Type 0 where
-  pub terms : (held : List Terms) → AreFieldsOf schema batch.fields held → HoldTerms schema bytes.terms.items bytes.postings.items bytes.positions.items held
-  pub norms : HoldsNorms schema batch bytes.norms.items
-  pub stored : option_map documents_of (store_of bytes.store.items) ≡ Some (map (stored_document schema) documents)
-  pub rows : rows_of bytes.fast.items ≡ Some (length documents)
+-- files that spell a batch, and documents
+pub record Spells (schema : Schema) (batch : IndexedBatch) (documents : List Document) (files : SegmentFiles) : Type 0 where
+  pub terms : (held : List Terms) → AreFieldsOf schema batch.fields held → HoldTerms schema files.terms files.postings files.positions held
+  pub norms : HoldsNorms schema batch files.field_norms
+  pub stored : option_map documents_of (store_of files.store) ≡ Some (map (stored_document schema) documents)
+  pub rows : rows_of files.fast_fields ≡ Some (length documents)
 
 module _ (schema : Schema) (analyzer : Analyzer) (documents : List Document) (built : are_built schema analyzer documents ≡ true) (utf8 : AllByRecursion IsUtf8Document documents) where
   read : full_reading schema analyzer documents ≡ Some (reading_with schema analyzer documents empty)
   read = ap (option_map (reading_with schema analyzer documents)) (no_columns analyzer schema (none_fast schema (both_true (is_built_schema schema) _ built).0) documents)
 
-  pub stands : (batch : IndexedBatch) (bytes : SegmentBytes) → IsBatchOf schema analyzer documents batch → Spells schema batch documents bytes → StandFor schema analyzer documents bytes
-  stands batch bytes is spells files id has = record {
+  pub stands : (batch : IndexedBatch) (files : SegmentFiles) → IsBatchOf schema analyzer documents batch → Spells schema batch documents files → StandFor schema analyzer documents files
+  stands batch files is spells = record {
     contents = reading_with schema analyzer documents empty;
     read = read;
-    held = record {
-      terms = bytes.terms.items;
-      postings = bytes.postings.items;
-      positions = bytes.positions.items;
-      norms = bytes.norms.items;
-      store = bytes.store.items;
-      fast = bytes.fast.items;
-      term_file = has.term_file;
-      posting_file = has.posting_file;
-      position_file = has.position_file;
-      norm_file = has.norm_file;
-      store_file = has.store_file;
-      fast_file = has.fast_file;
+    spelled = record {
       hold_terms = spells.terms (all_terms schema analyzer documents) (subst (λ (fs : List FieldTerms). AreFieldsOf schema fs (all_terms schema analyzer documents)) (sym is.fields) (fields_have_terms schema analyzer documents));
       norm_parts = spells.norms analyzer documents is.norms;
       stored = spells.stored;

@@ -17,7 +17,7 @@ use Rattle.seg_store.specs.Store.{documents_of}
 use Rattle.seg_store.specs.StoredDocument.{stored_document_of, most_levels_read}
 use Rattle.seg_store.specs.StoredLaw.{AreShallow}
 use Rattle.seg_store.specs.Writing.{Taken, with_document, all_blocks, taken_count}
-use Rattle.seg_build.proofs.BuiltEntries.{both_true}
+use Rattle.seg_segment.proofs.BuiltEntries.{both_true}
 
 low_enough : (n : ℕ) → nat_le n 200 ≡ true → n ≤ most_levels_read
 low_enough n h = grind (arith, nat_tests)

@@ -11,7 +11,8 @@ use Rattle.seg_build.specs.declared.checking.Progress.{Progress}
 use Rattle.seg_build.specs.declared.field.FieldPostings.{FieldPostings}
 use Rattle.seg_build.specs.declared.field_text.FieldText.{FieldText}
 use Rattle.seg_build.proofs.IndexedParts.{part-kept, part-passed}
-use Rattle.seg_build.proofs.Turns.{drop-at, drop-item}
+use Rattle.seg_segment.proofs.Turns.{drop-item}
+use Rattle.seg_build.proofs.Turns.{drop-at}
 
 -- the texts of the values are what the fields are given
 texts-pairs : (schema : Schema) (analyzer : Analyzer) (id : ℕ) (fields : List FieldPostings) (ps : Document) → with_texts id fields (map (text_of schema analyzer) ps) ≡ with_pairs schema analyzer id fields ps

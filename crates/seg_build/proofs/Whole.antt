@@ -15,19 +15,19 @@ use Rattle.seg_model.specs.Occurrences.{Occurrence, value_tokens, text_occurrenc
 use Rattle.seg_model.specs.Reading.{Terms, postings_of, if_any, terms_of}
 use Rattle.seg_model.specs.Tables.{tabulated}
 use Rattle.seg_build.specs.Adding.{with_occurrences}
-use Rattle.seg_build.specs.Built.{is_built_schema}
+use Rattle.seg_segment.specs.Built.{is_built_schema}
 use Rattle.seg_build.specs.Field.{start_in, count_in}
 use Rattle.seg_build.specs.FieldTerms.{positional, positional_terms}
 use Rattle.seg_build.specs.Steps.{fresh, tokens_at, added_at, with_pair, with_pairs, with_documents, indexed_part}
 use Rattle.seg_build.specs.declared.field.FieldPostings.{FieldPostings}
-use Rattle.seg_build.proofs.BuiltEntries.{IsTextEntry, text_entry_at}
+use Rattle.seg_segment.proofs.BuiltEntries.{IsTextEntry, text_entry_at}
 use Rattle.seg_build.proofs.Growing.{terms_of-push}
 use Rattle.seg_build.proofs.IndexedParts.{either, values_kept, values_dropped}
 use Rattle.seg_build.proofs.Places.{some_same, texts_of, added_all, terms-added_all, document-added_all, field_after}
 
 -- ---- as many fields as before
 
-length-added_at : (id place : ℕ) (fields : List FieldPostings) (v : List Token) (o : Option FieldPostings) → length (added_at id place fields v o) ≡ length fields
+pub length-added_at : (id place : ℕ) (fields : List FieldPostings) (v : List Token) (o : Option FieldPostings) → length (added_at id place fields v o) ≡ length fields
 length-added_at id place fields v None = refl
 length-added_at id place fields v (Some f) = simp length-set
 

@@ -24,11 +24,11 @@ use Rattle.seg_model.specs.Reading.{Recorded, Posting, Terms, positions_of, if_o
 use Rattle.seg_model.specs.Tables.{entry_of}
 use Rattle.seg_postings.specs.declared.record_kind.RecordKind.TheVariants.{Positions}
 use Rattle.seg_postings.specs.Written.{Rise, IsOfKind, AreWritable}
-use Rattle.seg_build.specs.Built.{is_built_entry}
+use Rattle.seg_segment.specs.Built.{is_built_entry}
 use Rattle.seg_build.specs.Entries.{TermEntries}
 use Rattle.seg_build.specs.FieldTerms.{positional}
 use Rattle.seg_build.specs.Writable.{PositionsCanBeWritten, BuiltTermsCanBeWritten}
-use Rattle.seg_build.proofs.BuiltEntries.{IsTextEntry, both_true, text_entry_at}
+use Rattle.seg_segment.proofs.BuiltEntries.{IsTextEntry, both_true, text_entry_at}
 use Rattle.seg_build.proofs.Checks.{for_one_field, bounded_from, passed}
 use Rattle.seg_build.proofs.Fitting.{both_none, none_unless, positions_refusal-text}
 use Rattle.seg_build.proofs.Places.{some_same, start_after_all-ge, texts_of, texts_of-taken, texts_of-passed}

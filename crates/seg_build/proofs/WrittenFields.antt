@@ -17,15 +17,15 @@ use Rattle.seg_postings.specs.Field.{IsField}
 use Rattle.seg_postings.specs.FieldWriting.{fresh}
 use Rattle.seg_postings.specs.Files.{FieldFiles, no_fields, with_field, AddsField}
 use Rattle.seg_postings.specs.Kinds.{kind_of}
-use Rattle.seg_build.specs.Built.{is_built_entry}
+use Rattle.seg_segment.specs.Built.{is_built_entry}
 use Rattle.seg_build.specs.Entries.{TermEntries}
 use Rattle.seg_build.specs.FieldTerms.{FieldTerms}
 use Rattle.seg_build.specs.Filling.{AreFieldsOf, AddsIndexed, HoldFields}
-use Rattle.seg_build.specs.Holds.{HoldTerms}
+use Rattle.seg_segment.specs.HoldTerms.{HoldTerms}
 use Rattle.seg_build.specs.TermsWritten.{written, with_terms}
 use Rattle.seg_build.specs.TokenTotal.{token_total}
 use Rattle.seg_build.specs.Totals.{TotalsAreCounts}
-use Rattle.seg_build.proofs.BuiltEntries.{IsTextEntry, text_entry_at}
+use Rattle.seg_segment.proofs.BuiltEntries.{IsTextEntry, text_entry_at}
 use Rattle.seg_build.proofs.Places.{some_same}
 use Rattle.seg_build.proofs.RecordedTerms.{option_of_text}
 

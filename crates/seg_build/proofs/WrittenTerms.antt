@@ -17,7 +17,7 @@ use Rattle.seg_build.specs.Entries.{TermEntries}
 use Rattle.seg_build.specs.FieldTerms.{FieldTerms}
 use Rattle.seg_build.specs.TermsWritten.{written, with_terms, with_whole_term}
 use Rattle.seg_build.specs.Writable.{CanBeWritten}
-use Rattle.seg_build.proofs.BuiltEntries.{both_true}
+use Rattle.seg_segment.proofs.BuiltEntries.{both_true}
 use Rattle.seg_build.proofs.Places.{some_same}
 
 less_from : (o : Ordering) → is_lt o ≡ true → o ≡ Less

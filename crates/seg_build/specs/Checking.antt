@@ -7,6 +7,7 @@ use Rattle.seg_model.specs.Checked.{is_u32}
 use Rattle.seg_model.specs.Fields.{Schema, Analyzer}
 use Rattle.seg_model.specs.Occurrences.{counted, start_after, value_tokens}
 use Rattle.seg_build.specs.Field.{positions_fit}
+use Rattle.seg_build.specs.MemoryUsage.{total}
 use Rattle.seg_build.specs.Steps.{tokens_at, added_at, indexed_part}
 use Rattle.seg_build.specs.declared.checking.Progress.{Progress}
 use Rattle.seg_build.specs.declared.field.FieldPostings.{FieldPostings}
@@ -34,6 +35,11 @@ abbrev pub advanced_at : ℕ → List Progress → List Token → Option Progres
 advanced_at place reached tokens None = reached
 advanced_at place reached tokens (Some p) = slice_set reached place (advanced p tokens)
 
+-- how far a document has come in each field, where none of its texts has come
+abbrev pub restarted : List Progress → Document → List Progress
+restarted reached [] = reached
+restarted reached (p ∷ ps) = restarted (slice_set reached p.0 at_start) ps
+
 -- the tokens that a value was cut into; where it was not cut, those that it comes with
 abbrev pub cut_or_given : Option (List Token) → Tree → List Token
 cut_or_given (Some tokens) value = tokens
@@ -47,6 +53,10 @@ tokens_of cut (Some p) = cut_or_given cut p.1
 -- a text of a document: its field, and its tokens
 abbrev pub text_in : Document → FieldText → ℕ × List Token
 text_in document text = (text.field, tokens_of text.cut (slice_get document text.at))
+
+-- how often terms occur in texts
+abbrev pub text_count : List (ℕ × List Token) → ℕ
+text_count texts = total (λ t. length (counted t.1)) texts
 
 -- the fields with some more texts of a document
 abbrev pub with_texts : ℕ → List FieldPostings → List (ℕ × List Token) → List FieldPostings

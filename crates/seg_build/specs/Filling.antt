@@ -3,6 +3,7 @@ use Rattle.std.specs.Prelude.{◌≡◌, ℕ, List, map, Bool, true, false, Opti
 use Rattle.std.specs.FinMap.{entries}
 use Rattle.seg_columnar.specs.Columnar.{rows_of}
 use Rattle.seg_directory.specs.Composite.{composite}
+use Rattle.seg_meta.specs.Metas.{SegmentParts}
 use Rattle.seg_model.specs.Fields.{Schema, Analyzer}
 use Rattle.seg_model.specs.Norms.{all_norms}
 use Rattle.seg_model.specs.Reading.{Terms}
@@ -10,11 +11,12 @@ use Rattle.seg_postings.specs.FieldNorms.{norms_parts}
 use Rattle.seg_postings.specs.Files.{FieldFiles, AddsField}
 use Rattle.seg_postings.specs.FieldWriting.{fresh}
 use Rattle.seg_postings.specs.Kinds.{kind_of}
+use Rattle.seg_store.specs.Writing.{Taken}
 use Rattle.seg_values.specs.Tree.{Document}
 use Rattle.seg_build.specs.Batch.{kept_norms}
 use Rattle.seg_build.specs.FieldTerms.{FieldTerms}
-use Rattle.seg_build.specs.Holds.{HoldTerms}
-use Rattle.seg_build.specs.Serializing.{Serializing}
+use Rattle.seg_segment.specs.HoldTerms.{HoldTerms}
+use Rattle.seg_segment.specs.Serializing.{Serializing}
 use Rattle.seg_build.specs.TermsWritten.{with_terms}
 use Rattle.seg_build.specs.TokenTotal.{token_total}
 use Rattle.seg_build.specs.Totals.{TotalsAreCounts}
@@ -39,10 +41,10 @@ AddsIndexed false found field old new = new ≡ old
 abbrev pub HoldsNorms : Schema → IndexedBatch → List ℕ → Type 0
 HoldsNorms schema batch file = (analyzer : Analyzer) (documents : List Document) → batch.norms ≡ Some (kept_norms schema analyzer documents) → composite file ≡ Some (norms_parts schema (all_norms schema analyzer documents))
 
--- a serializer was given what a batch has, and a row for each of this many documents
-pub record IsFilled (batch : IndexedBatch) (count : ℕ) (old new : Serializing) : Type 0 where
-  pub segment : new.segment ≡ old.segment
-  pub store : new.store ≡ old.store
-  pub postings : IsSomeAnd new.postings (HoldFields old.segment.schema batch.fields)
-  pub norms : IsSomeAnd new.norms (HoldsNorms old.segment.schema batch)
-  pub rows : rows_of new.fast ≡ Some count
+-- a serializer of a segment has a store, what a batch has, and a row for each of this many documents
+pub record IsFilled (segment : SegmentParts) (store : Option Taken) (batch : IndexedBatch) (count : ℕ) (s : Serializing) : Type 0 where
+  pub segment_is : s.segment ≡ segment
+  pub store_is : s.store ≡ store
+  pub postings : IsSomeAnd s.postings (HoldFields segment.schema batch.fields)
+  pub norms : IsSomeAnd s.norms (HoldsNorms segment.schema batch)
+  pub rows : rows_of s.fast ≡ Some count

@@ -5,8 +5,6 @@ use Rattle.seg_model.specs.Fields.{Schema, Analyzer, fields, has_lengths}
 use Rattle.seg_model.specs.Occurrences.{occurrences}
 use Rattle.seg_model.specs.StoredForm.{stored_form}
 use Rattle.seg_store.specs.Writing.{byte_count}
-use Rattle.seg_build.specs.Field.{count_in}
-use Rattle.seg_build.specs.declared.field.FieldPostings.{FieldPostings}
 
 -- the sum of what each has
 abbrev pub total : {A : Type 0} → (A → ℕ) → List A → ℕ
@@ -29,7 +27,3 @@ length_fields schema = length (filter has_lengths schema)
 abbrev pub memory_usage : Schema → Analyzer → List Document → ℕ
 memory_usage schema analyzer documents =
     byte_count (map (stored_form schema) documents) + 16 * total (occurrence_count schema analyzer) documents + length documents * length_fields schema
-
--- how often terms occur in a document that came to these fields
-abbrev pub recorded_count : ℕ → List FieldPostings → ℕ
-recorded_count document fields = total (count_in document) fields

@@ -5,7 +5,6 @@ use Rattle.seg_common.specs.Growing.{HasGrown}
 use Rattle.seg_values.specs.declared.error.ArgumentCause.TheVariants.{Documents}
 use Rattle.seg_values.specs.declared.error.TantivyError.{TantivyError}
 use Rattle.seg_values.specs.declared.error.TantivyError.TheVariants.{InvalidArgument, SystemError, OutOfMemory}
-use Rattle.seg_values.specs.declared.token.Token.{Token}
 use Rattle.seg_values.specs.Tree.{Document}
 use Rattle.seg_values.specs.Utf8.{IsUtf8Document}
 use Rattle.seg_model.specs.Built.{is_taken}
@@ -19,12 +18,12 @@ use Rattle.seg_store.specs.Store.{documents_of}
 use Rattle.seg_store.specs.StoredDocument.{stored_document_of}
 use Rattle.seg_store.specs.StoredLaw.{AreShallow}
 use Rattle.seg_store.specs.Writing.{Taken, with_document, all_blocks, taken_count}
-use Rattle.seg_build.specs.Batch.{kept_norms}
-use Rattle.seg_build.specs.Checking.{with_texts}
+use Rattle.seg_build.specs.Checking.{text_count, text_in, with_texts}
 use Rattle.seg_build.specs.Kept.{Kept}
-use Rattle.seg_build.specs.Lengths.{AreUpTo, with_counts}
-use Rattle.seg_build.specs.MemoryUsage.{total, saturated, occurrence_count, recorded_count}
+use Rattle.seg_build.specs.Lengths.{HaveLengths, with_lengths}
+use Rattle.seg_build.specs.MemoryUsage.{total, saturated, occurrence_count}
 use Rattle.seg_build.specs.Steps.{fresh, with_documents}
+use Rattle.seg_build.specs.declared.field_text.FieldText.{FieldText}
 use Rattle.seg_build.specs.declared.writer_parts.WriterParts.{WriterParts}
 
 -- what the parts of a writer keep
@@ -49,7 +48,7 @@ pub record IsKeptOf (schema : Schema) (analyzer : Analyzer) (documents : List Do
   pub few : length documents < 2 ^ 31
   pub utf8 : AllByRecursion IsUtf8Document documents
   pub fields : kept.fields ≡ with_documents schema analyzer 0 (map (λ _. fresh) schema) documents
-  pub norms : kept.norms ≡ Some (kept_norms schema analyzer documents)
+  pub norms : IsSomeAnd kept.norms (HaveLengths schema analyzer documents)
   pub store : IsSomeAnd kept.store (Stores schema documents)
   pub stamped : kept.stamps ≡ stamps
   pub each : length stamps ≡ length documents
@@ -104,14 +103,13 @@ AddsNone analyzer document stamp old new e = IsSomeAnd old.kept HasPlace × Tell
 pub record HasRoom (document : Document) (kept : Kept) : Type 0 where
   pub place : HasPlace kept
   pub shallow : AreShallow document
-  pub norms : IsSomeAnd kept.norms (AreUpTo (length kept.stamps))
   pub store : IfSome kept.store (λ w. taken_count w < 2 ^ 31 - 1)
 
 -- one more document was taken, of which these are the texts
-pub record HasTaken (schema : Schema) (document : Document) (texts : List (ℕ × List Token)) (stamp : ℕ) (old new : Kept) : Type 0 where
-  pub fields : new.fields ≡ with_texts (length old.stamps) old.fields texts
-  pub norms : HasGrown old.norms new.norms (with_counts (length old.stamps) new.fields)
+pub record HasTaken (schema : Schema) (document : Document) (texts : List FieldText) (stamp : ℕ) (old new : Kept) : Type 0 where
+  pub fields : new.fields ≡ with_texts (length old.stamps) old.fields (map (text_in document) texts)
+  pub norms : new.norms ≡ option_map (with_lengths (length old.stamps) new.fields (map (λ t. t.field) texts)) old.norms
   pub store : HasGrown old.store new.store (with_document (stored_form schema document))
   pub reads : stored_document_of (stored_form schema document) ≡ Some (stored_document schema document)
   pub stamps : new.stamps ≡ old.stamps ++ stamp ∷ []
-  pub occurrences : new.occurrences ≡ saturated (old.occurrences + saturated (recorded_count (length old.stamps) new.fields))
+  pub occurrences : new.occurrences ≡ saturated (old.occurrences + saturated (text_count (map (text_in document) texts)))

@@ -9,7 +9,7 @@ use Rattle.seg_model.specs.Reading.{stored_document}
 use Rattle.seg_store.specs.Store.{store_of, documents_of}
 use Rattle.seg_build.specs.declared.fields.IndexedBatch.{IndexedBatch}
 use Rattle.seg_build.specs.Batch.{IsBatchOf}
-use Rattle.seg_build.specs.Built.{are_built}
+use Rattle.seg_segment.specs.Built.{are_built}
 
 -- a batch is of these documents, and so are the count and the bytes of a store
 pub record IsStoredBatch (schema : Schema) (analyzer : Analyzer) (documents : List Document) (batch : IndexedBatch) (count : ℕ) (store : List ℕ) : Type 0 where

@@ -8,7 +8,7 @@ use Rattle.seg_values.specs.Tree.{Document}
 use Rattle.seg_model.specs.Fields.{Schema, Analyzer}
 use Rattle.seg_postings.specs.declared.record_kind.RecordKind.TheVariants.{Positions}
 use Rattle.seg_postings.specs.Written.{AreWritable}
-use Rattle.seg_build.specs.Built.{are_built}
+use Rattle.seg_segment.specs.Built.{are_built}
 use Rattle.seg_build.specs.Entries.{TermEntries}
 use Rattle.seg_build.specs.FieldTerms.{FieldTerms, positional_terms}
 

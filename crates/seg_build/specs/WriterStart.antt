@@ -1,5 +1,5 @@
 -- When no writer of a segment is made.
-use Rattle.std.specs.Prelude.{ℕ, ◌↔◌, List, IsTrue, true, false, Bool, nat_le, Option, Some, option_map}
+use Rattle.std.specs.Prelude.{ℕ, true, false, Bool, nat_le, Option, Some, option_map}
 use Rattle.seg_values.specs.declared.error.ArgumentCause.TheVariants.{Budget, Later, FieldName, Settings}
 use Rattle.seg_values.specs.declared.error.SchemaCause.TheVariants.{Tokenizer}
 use Rattle.seg_values.specs.declared.error.TantivyError.{TantivyError}
@@ -8,7 +8,7 @@ use Rattle.seg_model.specs.Fields.{Schema}
 use Rattle.seg_model.specs.Valid.{Known, names_fit, settings_fit, unknown_tokenizer_of}
 use Rattle.seg_meta.specs.View.{settings_of}
 use Rattle.seg_meta.specs.declared.index_settings.IndexSettings.{IndexSettings}
-use Rattle.seg_build.specs.Built.{is_built_schema}
+use Rattle.seg_segment.specs.Built.{is_built_schema}
 
 -- what holds, or else an error
 abbrev pub refused_unless : Bool → TantivyError → Option TantivyError → Option TantivyError
@@ -23,10 +23,6 @@ start_refusal known budget schema settings =
     (refused_unless (names_fit schema) (InvalidArgument FieldName)
     (refused_unless (settings_fit (settings_of settings)) (InvalidArgument Settings)
     (option_map (λ field. SchemaError (Tokenizer field)) (unknown_tokenizer_of known schema)))))
-
--- a test of names that passes exactly those that are known
-abbrev pub Tests : Known → (List ℕ → Type 0) → Type 0
-Tests known knows = (name : List ℕ) → IsTrue (known name) ↔ knows name
 
 -- an error with which no writer is made: a cause, or out of memory
 abbrev pub IsStartError : TantivyError → Type 0

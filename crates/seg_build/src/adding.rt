@@ -1,37 +1,45 @@
 //! Adds the texts of a document to the fields.
-ghost use Rattle.std.specs.Prelude.{◌≡◌, [], ◌∷◌, map, OnOk};
-ghost use Rattle.seg_build.specs.Checking.{text_in, with_texts};
+ghost use Rattle.std.specs.Prelude.{◌≡◌, [], ◌∷◌, map, length, IfOk, OnOk};
+ghost use Rattle.seg_model.specs.Occurrences.{counted};
+ghost use Rattle.seg_build.specs.Checking.{text_in, text_count, with_texts};
+ghost use Rattle.seg_build.specs.MemoryUsage.{saturated};
 
 use crate::field::FieldPostings;
 use crate::field_text::{FieldText, text_tokens};
 use seg_values::TantivyDocument;
 use std::alloc::{AllocError, Global};
 
-/// Adds texts of a document that no other one is past.
+/// Adds texts of a document that no other one is past, and answers how many of their tokens give terms, at most
+/// `usize::MAX`.
 pub(crate) fn add_texts(
     alloc: Global,
     id: u32,
     document: &TantivyDocument,
     texts: &[FieldText],
     fields: &mut [FieldPostings],
-) -> Result<(), AllocError>
-    ensures { OnOk result (fields.new ≡ with_texts id fields.old (map (text_in document.now) texts.now)) }
+) -> Result<usize, AllocError>
+    ensures fields { OnOk result (fields.new ≡ with_texts id fields.old (map (text_in document.now) texts.now)) }
+    ensures counted { IfOk result (λ count. count ≡ saturated (text_count (map (text_in document.now) texts.now))) }
 {
+    let mut count = 0usize;
     for text in texts {
-        add_text(alloc, id, document, text, fields)?;
+        let more = add_text(alloc, id, document, text, fields)?;
+        count = count.saturating_add(more);
     }
-    Ok(())
+    Ok(count)
 }
 
-/// Adds a text. Where its field or its value is not there, that is answered as out of memory.
+/// Adds a text, and answers how many of its tokens give terms. Where its field or its value is not there, that is
+/// answered as out of memory.
 fn add_text(
     alloc: Global,
     id: u32,
     document: &TantivyDocument,
     text: &FieldText,
     fields: &mut [FieldPostings],
-) -> Result<(), AllocError>
-    ensures { OnOk result (fields.new ≡ with_texts id fields.old (text_in document.now text.now ∷ [])) }
+) -> Result<usize, AllocError>
+    ensures fields { OnOk result (fields.new ≡ with_texts id fields.old (text_in document.now text.now ∷ [])) }
+    ensures counted { IfOk result (λ more. more ≡ length (counted (text_in document.now text.now).1)) }
 {
     let place = text.field as usize;
     if place >= fields.len() {

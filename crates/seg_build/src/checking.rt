@@ -1,11 +1,11 @@
 //! Checks a document before any of it is added.
-ghost use Rattle.std.specs.Prelude.{◌≡◌, [], ◌∷◌, ◌++◌, true, map, length, is_some, IfOk, IfSome, OnOk};
+ghost use Rattle.std.specs.Prelude.{◌≡◌, [], ◌∷◌, ◌++◌, true, map, length, is_some, slice_set, IfOk, IfSome, OnOk, IsTrue};
 ghost use Rattle.std.specs.List.{AllByRecursion, slice_get};
 ghost use Rattle.seg_values.specs.View.{tree_of};
 ghost use Rattle.seg_model.specs.Built.{is_taken};
 ghost use Rattle.seg_model.specs.Fields.{indexing_tokenizer, is_field, is_indexed};
-ghost use Rattle.seg_build.specs.Built.{is_built_schema};
-ghost use Rattle.seg_build.specs.Checking.{at_start, text_passes, advanced, text_in, document_texts, pair_passes, behind_pair, pairs_pass, IsTextOf};
+ghost use Rattle.seg_segment.specs.Built.{is_built_schema};
+ghost use Rattle.seg_build.specs.Checking.{at_start, text_passes, advanced, text_in, document_texts, pair_passes, behind_pair, pairs_pass, restarted, IsTextOf};
 ghost use Rattle.seg_build.specs.Steps.{indexed_part};
 
 use crate::entry::{is_indexed_field, tokenizer_name};
@@ -39,7 +39,7 @@ fn advanced(progress: Progress, tokens: &[Token]) -> Option<Progress>
 }
 
 /// The texts of a document that are indexed, each cut once; none where the document is not taken. `reached` is room for
-/// how far it has come in each field.
+/// how far it has come in each field, whatever it has of the document before.
 pub(crate) fn checked_texts<Z: Analyzers>(
     alloc: Global,
     analyzers: &Z,
@@ -47,7 +47,7 @@ pub(crate) fn checked_texts<Z: Analyzers>(
     document: &TantivyDocument,
     reached: &mut Vec<Progress>,
 ) -> Result<Option<Vec<FieldText>>, AllocError>
-    requires known { AllByRecursion (λ e. Z.knows analyzers.now (indexing_tokenizer e)) schema.now }
+    requires known { AllByRecursion (λ e. IsTrue (Z.knows analyzers.now (indexing_tokenizer e))) schema.now }
     requires entries { is_built_schema schema.now ≡ true }
     ensures texts { IfOk result (λ found. IfSome found (λ texts. map (text_in document.now) texts.items ≡ document_texts schema.now (Z.tokens_of analyzers.now) document.now)) }
     ensures taken { IfOk result (λ found. is_some found ≡ is_taken schema.now (Z.tokens_of analyzers.now) document.now) }
@@ -56,19 +56,39 @@ pub(crate) fn checked_texts<Z: Analyzers>(
         return Ok(None);
     }
     let entries = schema.fields();
-    restart(reached, entries)?;
+    make_room(reached, entries.len())?;
+    restart(reached, document);
     passing_texts(alloc, analyzers, entries, document, reached)
 }
 
-/// No text of the document has come in any field.
-fn restart(reached: &mut Vec<Progress>, schema: &[FieldEntry]) -> Result<(), AllocError>
-    ensures { OnOk result (reached.new.items ≡ map (λ _. at_start) schema.now) }
+/// Makes room for this many fields.
+fn make_room(reached: &mut Vec<Progress>, fields: usize) -> Result<(), AllocError>
+    ensures { OnOk result (length reached.new.items ≡ fields) }
 {
-    reached.clear();
-    for _ in schema {
+    reached.truncate(fields);
+    for _ in reached.len()..fields {
         reached.push(Progress { start: 0, count: 0 })?;
     }
     Ok(())
+}
+
+/// No text of the document has come in any of its fields.
+fn restart(reached: &mut Vec<Progress>, document: &TantivyDocument)
+    ensures { reached.new.items ≡ restarted reached.old.items document.now }
+{
+    for at in 0..document.len() {
+        let (field, _) = document.pair(at);
+        restart_at(reached, field.field_id() as usize);
+    }
+}
+
+/// No text has come in a field, if it is there.
+fn restart_at(reached: &mut Vec<Progress>, place: usize)
+    ensures { reached.new.items ≡ slice_set reached.old.items place at_start }
+{
+    if place < reached.len() {
+        reached[place] = Progress { start: 0, count: 0 };
+    }
 }
 
 /// The texts of a document that are indexed, where they fit one after another.
@@ -79,7 +99,7 @@ fn passing_texts<Z: Analyzers>(
     document: &TantivyDocument,
     reached: &mut [Progress],
 ) -> Result<Option<Vec<FieldText>>, AllocError>
-    requires known { AllByRecursion (λ e. Z.knows analyzers.now (indexing_tokenizer e)) schema.now }
+    requires known { AllByRecursion (λ e. IsTrue (Z.knows analyzers.now (indexing_tokenizer e))) schema.now }
     requires as_many { length reached.old ≡ length schema.now }
     ensures texts { IfOk result (λ found. IfSome found (λ texts. map (text_in document.now) texts.items ≡ document_texts schema.now (Z.tokens_of analyzers.now) document.now)) }
     ensures passes { IfOk result (λ found. is_some found ≡ pairs_pass schema.now (Z.tokens_of analyzers.now) reached.old (indexed_part schema.now document.now)) }
@@ -117,7 +137,7 @@ fn passing_text<Z: Analyzers>(
     value: &OwnedValue,
     reached: &mut [Progress],
 ) -> Result<Option<FieldText>, AllocError>
-    requires known { AllByRecursion (λ e. Z.knows analyzers.now (indexing_tokenizer e)) schema.now }
+    requires known { AllByRecursion (λ e. IsTrue (Z.knows analyzers.now (indexing_tokenizer e))) schema.now }
     requires as_many { length reached.old ≡ length schema.now }
     requires indexed { is_field is_indexed (slice_get schema.now field) ≡ true }
     ensures text { IfOk result (λ found. IfSome found (λ text. IsTextOf schema.now (Z.tokens_of analyzers.now) (field, tree_of value.now) at text)) }

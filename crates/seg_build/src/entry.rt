@@ -2,26 +2,17 @@
 ghost use Rattle.std.specs.Prelude.{◌≡◌};
 ghost use Rattle.std.specs.List.{slice_get};
 ghost use Rattle.seg_model.specs.Fields as fields;
-ghost use Rattle.seg_build.specs.Built as built;
+ghost use Rattle.seg_segment.specs.Built as built;
 
-use seg_values::{FieldEntry, FieldKind, IndexOption};
+use seg_values::{FieldEntry, FieldKind};
 
 /// Whether a field is in the schema, and indexed.
 pub(crate) fn is_indexed_field(schema: &[FieldEntry], field: u32) -> bool
     ensures { result ≡ fields.is_field fields.is_indexed (slice_get schema.now field) }
 {
     match schema.get(field as usize) {
-        Some(entry) => is_indexed(entry),
+        Some(entry) => entry.is_indexed(),
         None => false,
-    }
-}
-
-pub(crate) fn is_indexed(entry: &FieldEntry) -> bool
-    ensures { result ≡ fields.is_indexed entry.now }
-{
-    match entry.index {
-        IndexOption::No => false,
-        _ => true,
     }
 }
 
@@ -29,7 +20,7 @@ pub(crate) fn is_indexed(entry: &FieldEntry) -> bool
 fn is_built_entry(entry: &FieldEntry) -> bool
     ensures { result ≡ built.is_built_entry entry.now }
 {
-    !entry.fast && (entry.kind == FieldKind::Text || !is_indexed(entry))
+    !entry.fast && (entry.kind == FieldKind::Text || !entry.is_indexed())
 }
 
 /// Whether each field is built so far: it has no column, and is of texts or not indexed.
@@ -48,7 +39,7 @@ pub(crate) fn tokenizer_name(entry: &FieldEntry) -> &str
         FieldKind::Json => true,
         _ => false,
     };
-    if !is_indexed(entry) || !has_texts {
+    if !entry.is_indexed() || !has_texts {
         return "default";
     }
     match &entry.tokenizer {

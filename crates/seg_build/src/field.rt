@@ -1,6 +1,7 @@
 //! A field while documents come.
-ghost use Rattle.std.specs.Prelude.{◌≡◌, OnOk};
+ghost use Rattle.std.specs.Prelude.{◌≡◌, length, IfOk, OnOk};
 ghost use Rattle.std.specs.FinMap as fin;
+ghost use Rattle.seg_model.specs.Occurrences.{counted};
 ghost use Rattle.seg_build.specs.Field.{start_in, count_in, added};
 
 use crate::terms::TermIndex;
@@ -30,15 +31,16 @@ impl FieldPostings {
         }
     }
 
-    /// Adds a text of a document that no other one is past. One that does not fit is answered as out of memory.
-    /// After an error some of its tokens may have been added.
+    /// Adds a text of a document that no other one is past, and answers how many of its tokens give terms. One that does
+    /// not fit is answered as out of memory. After an error some of its tokens may have been added.
     pub fn add_text(
         &mut self,
         alloc: Global,
         document: u32,
         tokens: &[Token],
-    ) -> Result<(), AllocError>
-        ensures { OnOk result (self.new ≡ added document self.old tokens.now) }
+    ) -> Result<usize, AllocError>
+        ensures added { OnOk result (self.new ≡ added document self.old tokens.now) }
+        ensures counted { IfOk result (λ more. more ≡ length (counted tokens.now)) }
     {
         let start = self.start_in(document);
         let count = self.count_in(document);
@@ -53,7 +55,7 @@ impl FieldPostings {
         self.document = document;
         self.start = next;
         self.count = count + more as u32;
-        Ok(())
+        Ok(more)
     }
 
     /// Where the next text of a document begins.

@@ -1,5 +1,5 @@
 //! A text of a document, cut into its tokens.
-ghost use Rattle.std.specs.Prelude.{◌≡◌, IfOk};
+ghost use Rattle.std.specs.Prelude.{◌≡◌, IfOk, IsTrue};
 ghost use Rattle.seg_values.specs.View.{tree_of};
 ghost use Rattle.seg_model.specs.Occurrences.{value_tokens};
 ghost use Rattle.seg_build.specs.Checking.{cut_or_given};
@@ -23,7 +23,7 @@ pub(crate) fn cut_tokens<Z: Analyzers>(
     tokenizer: &str,
     value: &OwnedValue,
 ) -> Result<Option<Tokens>, AllocError>
-    requires { Z.knows analyzers.now tokenizer.now }
+    requires { IsTrue (Z.knows analyzers.now tokenizer.now) }
     ensures { IfOk result (λ cut. cut_or_given cut (tree_of value.now) ≡ value_tokens (Z.tokens_of analyzers.now tokenizer.now) (tree_of value.now)) }
 {
     let OwnedValue::Str(text) = value else {

@@ -1,16 +1,11 @@
-//! Laws of the terms of documents, and of the files of a segment.
-ghost use Rattle.seg_build.specs.Laws.{BuiltHaveNoColumns, HoldsOneContents};
+//! Laws of the terms of documents.
+ghost use Rattle.seg_build.specs.Laws.{BuiltHaveNoColumns};
 ghost use Rattle.seg_build.specs.Writable.{BuiltTermsCanBeWritten};
 
 /// Of documents that are indexed the terms can be written: within a document the positions of a term don't fall, and
 /// they are few and small enough, since the check of documents saw to it.
 pub fn built_terms_can_be_written()
     ensures { BuiltTermsCanBeWritten }
-{}
-
-/// The files of a segment hold at most one contents.
-pub fn files_hold_one_contents()
-    ensures { HoldsOneContents }
 {}
 
 /// Documents have no columns, for a schema that is built.

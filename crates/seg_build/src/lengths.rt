@@ -1,50 +1,61 @@
 //! The lengths of the fields of one document.
-ghost use Rattle.std.specs.Prelude.{◌≡◌, ◌≤◌, length, IfSome, IsSomeAnd, OnOk};
+ghost use Rattle.std.specs.Prelude.{◌≡◌, map, option_map, option_and_then, OnOk};
 ghost use Rattle.std.specs.List.{slice_get};
-ghost use Rattle.seg_common.specs.Growing.{HasGrown};
-ghost use Rattle.seg_postings.specs.FieldNorms.{at_field, with_length};
-ghost use Rattle.seg_build.specs.Lengths.{AreUpTo, with_counts};
+ghost use Rattle.seg_build.specs.Lengths.{lacks_length, with_length_of, with_lengths};
 
 use crate::field::FieldPostings;
+use crate::field_text::FieldText;
 use seg_postings::FieldNormsWriter;
 use seg_values::Field;
 use std::alloc::AllocError;
 
-/// Records how many tokens a document has in each field that has lengths, once its values were added to the fields.
+/// Records how many tokens a document has in each field of its texts that has lengths, once these were added to the
+/// fields.
 pub(crate) fn record_lengths(
     document: u32,
+    texts: &[FieldText],
     fields: &[FieldPostings],
     norms: &mut FieldNormsWriter,
 ) -> Result<(), AllocError>
-    requires room { IsSomeAnd norms.old (AreUpTo document) }
-    ensures { OnOk result (HasGrown norms.old norms.new (with_counts document fields.now)) }
+    ensures { OnOk result (norms.new ≡ option_map (with_lengths document fields.now (map (λ t. t.field) texts.now)) norms.old) }
 {
-    for place in 0..fields.len() {
-        let count = fields[place].count_in(document);
-        record_length(document, place, count, norms)?;
+    for text in texts {
+        record_length(document, text.field, fields, norms)?;
     }
     Ok(())
 }
 
-/// Records how many tokens a document has in a field, if that has lengths.
+/// Records how many tokens a document has in a field, if that has lengths, and this one isn't recorded yet. Where the
+/// field is not there, that is answered as out of memory.
 fn record_length(
     document: u32,
-    place: usize,
-    count: u32,
+    field: u32,
+    fields: &[FieldPostings],
     norms: &mut FieldNormsWriter,
 ) -> Result<(), AllocError>
-    requires room { IsSomeAnd norms.old (λ kept. IfSome (slice_get kept place) (λ k. IfSome k (λ ids. length ids ≤ document))) }
-    ensures { OnOk result (HasGrown norms.old norms.new (at_field place (with_length document count))) }
+    ensures { OnOk result (norms.new ≡ option_map (with_length_of document fields.now field) norms.old) }
 {
-    let Ok(id) = u32::try_from(place) else {
+    let place = field as usize;
+    if place >= fields.len() {
         return Err(AllocError);
-    };
-    let field = Field::from_field_id(id);
-    if norms.ids(field).is_none() {
+    }
+    let count = fields[place].count_in(document);
+    let field = Field::from_field_id(field);
+    if !lacks_length(document, field, norms) {
         return Ok(());
     }
     match norms.record(document, field, count) {
         Ok(()) => Ok(()),
         Err(_) => Err(AllocError),
+    }
+}
+
+/// Whether a field has lengths, and none of a document yet.
+fn lacks_length(document: u32, field: Field, norms: &FieldNormsWriter) -> bool
+    ensures { result ≡ lacks_length document (option_and_then (λ kept. option_and_then (λ ids. ids) (slice_get kept field)) norms.now) }
+{
+    match norms.ids(field) {
+        Some(ids) => ids.len() <= document as usize,
+        None => false,
     }
 }

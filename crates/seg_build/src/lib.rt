@@ -8,22 +8,22 @@
 //!
 //! To be read in this order: `hits` and `runs` (the occurrences of a term, which make its postings), `terms` (a field's
 //! hash table), `record_kinds` and `sorted` (its terms in byte order, and what they record), `tokens` and `field` (what
-//! one more text adds), `lengths` (the field norms of a document), `usage` (how much memory documents take), `fields` (those of all documents); `writing` (the terms
-//! of a field, into a `FieldSerializer`), `terms_files` and `norms_file` (the parts of files), `component_files` and
-//! `segment_files` (files are made), `segment_serializer` (what the components of a segment are to hold); `add_operation`
-//! and `user_operation`, `entry`, `field_text` and `checking` (a document is checked before it is added, and its texts are
-//! cut), `adding` (to which they are added), `refused` (why one is not), `writer_start`, `writer_parts`, `memory_segment`,
-//! `finishing` and `segment_writer`; `laws` (terms that were indexed can be written, and files hold one contents at most).
+//! one more text adds), `lengths` (the field norms of a document), `usage` (how much memory documents take), `fields` (those
+//! of all documents); `writing` (the terms of a field, into a `FieldSerializer`), `terms_files` and `norms_file` (the parts
+//! of files), `filling` (what the components of a segment are to hold); `add_operation`, `entry`,
+//! `field_text` and `checking` (a document is checked before it is added, and its texts are cut), `adding` (to which they
+//! are added), `refused` (why one is not), `writer_start`, `writer_parts`, `memory_segment`, `finishing` and
+//! `segment_writer`; `laws` (terms that were indexed can be written).
 #![tactic(auto)]
 
 mod add_operation;
 mod adding;
 mod checking;
-mod component_files;
 mod entry;
 mod field;
 mod field_text;
 mod fields;
+mod filling;
 mod finishing;
 mod hits;
 mod laws;
@@ -33,15 +33,12 @@ mod norms_file;
 mod record_kinds;
 mod refused;
 mod runs;
-mod segment_files;
-mod segment_serializer;
 mod segment_writer;
 mod sorted;
 mod terms;
 mod terms_files;
 mod tokens;
 mod usage;
-mod user_operation;
 mod writer_parts;
 mod writer_start;
 mod writing;
@@ -50,14 +47,10 @@ pub use add_operation::{AddOperation, Opstamp};
 pub use entry::is_built_schema;
 pub use fields::{IndexedBatch, IndexedFields};
 pub use hits::Hit;
-pub use laws::{
-    built_schemas_have_no_columns, built_terms_can_be_written, files_hold_one_contents,
-};
+pub use laws::{built_schemas_have_no_columns, built_terms_can_be_written};
 pub use memory_segment::MemorySegment;
 pub use runs::first_run;
-pub use segment_files::SegmentBytes;
-pub use segment_serializer::SegmentSerializer;
 pub use segment_writer::SegmentWriter;
 pub use sorted::SortedTerms;
-pub use user_operation::UserOperation;
+pub use writer_start::LEAST_BUDGET;
 pub use writing::{write_field, write_terms};

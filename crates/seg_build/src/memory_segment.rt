@@ -2,12 +2,13 @@
 
 use crate::add_operation::Opstamp;
 use crate::fields::IndexedFields;
-use crate::segment_files::SegmentBytes;
+use seg_segment::SegmentFiles;
 
-/// A segment whose files aren't made yet: their bytes, the terms of its fields, and the stamps of its documents.
+/// A segment whose files aren't made in a directory yet: the files, the terms of its fields, and the stamps of its
+/// documents.
 #[derive(Drop)]
 pub struct MemorySegment {
-    pub bytes: SegmentBytes,
+    pub files: SegmentFiles,
     pub fields: IndexedFields,
     pub stamps: Vec<Opstamp>,
 }

@@ -1,5 +1,5 @@
 //! Why a document is refused.
-ghost use Rattle.std.specs.Prelude.{◌≡◌, IfOk};
+ghost use Rattle.std.specs.Prelude.{◌≡◌, IfOk, IsTrue};
 ghost use Rattle.std.specs.List.{AllByRecursion};
 ghost use Rattle.seg_model.specs.Fields.{indexing_tokenizer};
 ghost use Rattle.seg_build.specs.SegmentWriting.{Tells};
@@ -17,7 +17,7 @@ pub(crate) fn refusal<Z: Analyzers>(
     document: &TantivyDocument,
     opstamp: Opstamp,
 ) -> Result<TantivyError, AllocError>
-    requires known { AllByRecursion (λ e. Z.knows analyzers.now (indexing_tokenizer e)) schema.now }
+    requires known { AllByRecursion (λ e. IsTrue (Z.knows analyzers.now (indexing_tokenizer e))) schema.now }
     ensures { IfOk result (λ e. Tells schema.now (Z.tokens_of analyzers.now) document.now opstamp e) }
 {
     match check_document(alloc, schema, analyzers, document, opstamp as usize) {

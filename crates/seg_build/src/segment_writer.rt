@@ -4,14 +4,13 @@ ghost use Rattle.std.specs.FinMap.{get};
 ghost use Rattle.seg_directory.specs.Faults.{FaultHasCause};
 ghost use Rattle.seg_values.specs.Tree.{Document};
 ghost use Rattle.seg_model.specs.IndexOfFiles as index;
-ghost use Rattle.seg_model.specs.Valid.{Known};
 ghost use Rattle.seg_build.specs.FieldTerms.{fields_of};
-ghost use Rattle.seg_build.specs.Forms.{segment_forms};
+ghost use Rattle.seg_segment.specs.Forms.{segment_forms};
 ghost use Rattle.seg_build.specs.MemoryUsage.{memory_usage, saturated};
-ghost use Rattle.seg_build.specs.SegmentFiles.{AreAbsent, KeepsAllBut, MakingSeen, segment_names};
-ghost use Rattle.seg_build.specs.Standing.{StandFor};
+ghost use Rattle.seg_segment.specs.SegmentFiles.{AreAbsent, KeepsAllBut, MakingSeen, segment_names};
+ghost use Rattle.seg_segment.specs.Standing.{StandFor};
 ghost use Rattle.seg_build.specs.Totals.{TotalsAreCounts};
-ghost use Rattle.seg_build.specs.WriterStart.{IsStartError, Tests, start_refusal};
+ghost use Rattle.seg_build.specs.WriterStart.{IsStartError, start_refusal};
 
 use crate::add_operation::{AddOperation, Opstamp};
 use crate::checking::{Progress, checked_texts};
@@ -44,9 +43,9 @@ pub struct SegmentWriter<'a, Z: Analyzers> {
 }
 
 impl<'a, Z: Analyzers> Model for SegmentWriter<'a, Z> {
-    ghost use Rattle.std.specs.Prelude.{◌≡◌, true, option_map, IfSome};
+    ghost use Rattle.std.specs.Prelude.{◌≡◌, true, option_map, IfSome, IsTrue};
     ghost use Rattle.std.specs.List.{AllByRecursion};
-    ghost use Rattle.seg_build.specs.Built.{is_built_schema};
+    ghost use Rattle.seg_segment.specs.Built.{is_built_schema};
     ghost use Rattle.seg_model.specs.Fields.{indexing_tokenizer};
     ghost use Rattle.std.specs.Coded.{codes};
     ghost use Rattle.seg_build.specs.Kept.{kept_code};
@@ -66,7 +65,7 @@ impl<'a, Z: Analyzers> Model for SegmentWriter<'a, Z> {
     ) };
 
     ghost invariant = { λ w. (is_built_schema w.segment.schema ≡ true)
-        × AllByRecursion (λ e. Z.knows w.analyzers.now (indexing_tokenizer e)) w.segment.schema
+        × AllByRecursion (λ e. IsTrue (Z.knows w.analyzers.now (indexing_tokenizer e))) w.segment.schema
         × IfSome w.parts (λ parts. IsUnderWay w.segment.schema (Z.tokens_of w.analyzers.now) (kept_of parts)) };
 }
 
@@ -83,11 +82,12 @@ impl<'a, Z: Analyzers> SegmentWriter<'a, Z> {
     ) -> TResult<SegmentWriter<'a, Z>>
         ensures ok { IfOk result (λ w. Writes (Z.tokens_of analyzers.now) [] [] w.1) }
         ensures of { IfOk result (λ w. (w.0 ≡ analyzers.now) × (w.1.schema ≡ segment.schema) × (w.1.id ≡ segment.meta.id)) }
-        ensures refused { (known : Known) → Tests known (Z.knows analyzers.now)
-            → IfSome (start_refusal known memory_budget_in_bytes segment.schema settings.now) (λ e. result ≡ Err e) }
+        ensures refused { IfSome (start_refusal (Z.knows analyzers.now) memory_budget_in_bytes segment.schema settings.now)
+            (λ e. result ≡ Err e) }
         ensures errors { IfErr result IsStartError }
-        ensures causes { (known : Known) → Tests known (Z.knows analyzers.now)
-            → IfErr result (λ e. (start_refusal known memory_budget_in_bytes segment.schema settings.now ≡ Some e) ⊎ (e ≡ TantivyError.OutOfMemory)) }
+        ensures causes { IfErr result (λ e.
+            (start_refusal (Z.knows analyzers.now) memory_budget_in_bytes segment.schema settings.now ≡ Some e)
+            ⊎ (e ≡ TantivyError.OutOfMemory)) }
     {
         let schema = segment.schema();
         if let Some(e) = start_refusal(analyzers, memory_budget_in_bytes, schema, settings) {
@@ -229,11 +229,11 @@ impl<'a, Z: Analyzers> SegmentWriter<'a, Z> {
     pub fn into_segment(self) -> TResult<MemorySegment>
         ensures stands { IfOk result (λ made. (documents : List Document) (stamps : List ℕ)
             → Writes (Z.tokens_of self.entry.0) documents stamps self.entry.1
-            → StandFor self.entry.1.schema (Z.tokens_of self.entry.0) documents made.bytes) }
+            → StandFor self.entry.1.schema (Z.tokens_of self.entry.0) documents made.files) }
         ensures fields { IfOk result (λ made. (documents : List Document) (stamps : List ℕ)
             → Writes (Z.tokens_of self.entry.0) documents stamps self.entry.1
             → made.fields ≡ fields_of self.entry.1.schema (Z.tokens_of self.entry.0) documents) }
-        ensures totals { IfOk result (λ made. TotalsAreCounts made.bytes.postings.items made.fields) }
+        ensures totals { IfOk result (λ made. TotalsAreCounts made.files.postings made.fields) }
         ensures stamps { IfOk result (λ made. (documents : List Document) (stamps : List ℕ) → Writes (Z.tokens_of self.entry.0) documents stamps self.entry.1 → made.stamps.items ≡ stamps) }
         ensures lacking { self.entry.1.kept ≡ None → result ≡ Err TantivyError.SystemError }
         ensures errors { IfErr result (λ e. ((e ≡ TantivyError.SystemError) × (self.entry.1.kept ≡ None)) ⊎ (e ≡ TantivyError.OutOfMemory)) }

@@ -4,10 +4,9 @@ ghost use Rattle.std.specs.List.{slice_get};
 ghost use Rattle.seg_directory.specs.Composite.{low_after};
 ghost use Rattle.seg_model.specs.Fields as model;
 ghost use Rattle.seg_postings.specs.Files.{no_fields};
-ghost use Rattle.seg_build.specs.Built.{is_built_schema};
+ghost use Rattle.seg_segment.specs.Built.{is_built_schema};
 ghost use Rattle.seg_build.specs.Filling.{AddsIndexed, HoldFields};
 
-use crate::entry::is_indexed;
 use crate::fields::IndexedFields;
 use crate::writing::write_field;
 use seg_postings::{InvertedIndexSerializer, PostingsError};
@@ -48,7 +47,7 @@ fn add_field(
     ensures ok { OnOk result (AddsIndexed (model.is_indexed entry.now) (slice_get fields.now at) at files.old files.new) }
     ensures err { IfErr result (λ e. e ≡ PostingsError.OutOfMemory) }
 {
-    if !is_indexed(entry) {
+    if !entry.is_indexed() {
         return Ok(());
     }
     let field = field_at(at)?;

@@ -5,11 +5,8 @@ ghost use Rattle.seg_build.specs.Field.{positions_fit};
 ghost use Rattle.seg_model.specs.Occurrences.{counted, placed_from, start_after};
 
 use crate::terms::TermIndex;
-use seg_values::Token;
+use seg_values::{MAX_TOKEN_LEN, Token};
 use std::alloc::{AllocError, Global};
-
-/// The most bytes of a token that gives a term.
-const MAX_TOKEN: usize = 65530;
 
 /// Adds the tokens of a text that begins at `start`.
 pub(crate) fn add_tokens(
@@ -23,7 +20,7 @@ pub(crate) fn add_tokens(
     ensures { OnOk result (terms.new ≡ with_occurrences terms.old document (placed_from start [] tokens.now)) }
 {
     for token in tokens {
-        if token.text.len() <= MAX_TOKEN {
+        if token.text.len() <= MAX_TOKEN_LEN {
             let at = start + token.position;
             terms.add(alloc, token.text.as_bytes(), document, at)?;
         }
@@ -41,7 +38,7 @@ pub(crate) fn next_start(start: u32, tokens: &[Token]) -> Option<u32>
     let mut end = u64::from(start);
     let mut last = 0u32;
     for token in tokens {
-        if token.text.len() <= MAX_TOKEN {
+        if token.text.len() <= MAX_TOKEN_LEN {
             let position: u32 = token.position;
             let position_length: u32 = token.position_length;
             let stop = u64::from(start) + u64::from(position) + u64::from(position_length);
@@ -62,5 +59,8 @@ pub(crate) fn next_start(start: u32, tokens: &[Token]) -> Option<u32>
 pub(crate) fn counted_len(tokens: &[Token]) -> usize
     ensures { result ≡ length (counted tokens.now) }
 {
-    tokens.iter().filter(|t| t.text.len() <= MAX_TOKEN).count()
+    tokens
+        .iter()
+        .filter(|t| t.text.len() <= MAX_TOKEN_LEN)
+        .count()
 }

@@ -1,7 +1,6 @@
 //! What a writer of a segment has of its documents.
-ghost use Rattle.std.specs.Prelude.{[], map, IfOk};
+ghost use Rattle.std.specs.Prelude.{[], IfOk};
 ghost use Rattle.seg_model.specs.Fields.{Analyzer};
-ghost use Rattle.seg_build.specs.Checking.{text_in};
 
 use crate::add_operation::Opstamp;
 use crate::adding::add_texts;
@@ -9,7 +8,6 @@ use crate::field::FieldPostings;
 use crate::field_text::FieldText;
 use crate::fields::new_fields;
 use crate::lengths::record_lengths;
-use crate::usage::recorded_count;
 use seg_meta::Compressor;
 use seg_postings::FieldNormsWriter;
 use seg_store::StoreWriter;
@@ -17,7 +15,7 @@ use seg_values::{Schema, TantivyDocument};
 use std::alloc::{AllocError, Global};
 
 /// The terms and the lengths of documents, their store, their stamps, and how often terms occur in them, at most
-/// `usize::MAX`.
+/// `usize::MAX`. A field has lengths up to its last document with a text: those after it are 0.
 #[derive(Drop)]
 pub(crate) struct WriterParts {
     pub fields: Vec<FieldPostings>,
@@ -60,13 +58,12 @@ impl WriterParts {
         stamp: Opstamp,
     ) -> Result<WriterParts, AllocError>
         requires room { HasRoom document.now (kept_of self) }
-        ensures { IfOk result (λ parts. HasTaken schema.now document.now (map (text_in document.now) texts.now) stamp (kept_of self) (kept_of parts)) }
+        ensures { IfOk result (λ parts. HasTaken schema.now document.now texts.now stamp (kept_of self) (kept_of parts)) }
     {
         let mut parts = self;
         let id = parts.stamps.len() as u32;
-        add_texts(alloc, id, document, texts, &mut parts.fields)?;
-        record_lengths(id, &parts.fields, &mut parts.norms)?;
-        let occurrences = recorded_count(id, &parts.fields);
+        let occurrences = add_texts(alloc, id, document, texts, &mut parts.fields)?;
+        record_lengths(id, texts, &parts.fields, &mut parts.norms)?;
         parts.occurrences = parts.occurrences.saturating_add(occurrences);
         let Ok(()) = parts.store.store(document, schema) else {
             return Err(AllocError);

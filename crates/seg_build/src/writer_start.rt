@@ -1,18 +1,18 @@
 //! When no writer of a segment is made.
-ghost use Rattle.std.specs.Prelude.{◌≡◌, ◌<◌, ◌^◌, true, None, length, nat_lt, IfSome};
+ghost use Rattle.std.specs.Prelude.{◌≡◌, ◌<◌, ◌^◌, true, None, length, nat_lt, IfSome, IsTrue};
 ghost use Rattle.std.specs.List.{list_all, AllByRecursion};
 ghost use Rattle.seg_meta.specs.View.{settings_of};
 ghost use Rattle.seg_model.specs.Fields.{indexing_tokenizer};
 ghost use Rattle.seg_model.specs.Valid as valid;
-ghost use Rattle.seg_build.specs.Built.{is_built_schema};
-ghost use Rattle.seg_build.specs.WriterStart.{IsStartError, Tests, start_refusal};
+ghost use Rattle.seg_segment.specs.Built.{is_built_schema};
+ghost use Rattle.seg_build.specs.WriterStart.{IsStartError, start_refusal};
 
 use crate::entry::{is_built_schema, tokenizer_name};
 use seg_meta::{Compressor, IndexSettings};
 use seg_values::{Analyzers, ArgumentCause, Field, FieldEntry, Schema, SchemaCause, TantivyError};
 
 /// The fewest bytes of a budget.
-const LEAST_BUDGET: usize = 15_000;
+pub const LEAST_BUDGET: usize = 15_000;
 
 /// Why no writer is made, out of memory aside.
 pub(crate) fn start_refusal<Z: Analyzers>(
@@ -21,10 +21,10 @@ pub(crate) fn start_refusal<Z: Analyzers>(
     schema: &Schema,
     settings: &IndexSettings,
 ) -> Option<TantivyError>
-    ensures first { (known : valid.Known) → Tests known (Z.knows analyzers.now) → result ≡ start_refusal known budget schema.now settings.now }
+    ensures first { result ≡ start_refusal (Z.knows analyzers.now) budget schema.now settings.now }
     ensures errors { IfSome result IsStartError }
     ensures built { result ≡ None → is_built_schema schema.now ≡ true }
-    ensures known { result ≡ None → AllByRecursion (λ e. Z.knows analyzers.now (indexing_tokenizer e)) schema.now }
+    ensures known { result ≡ None → AllByRecursion (λ e. IsTrue (Z.knows analyzers.now (indexing_tokenizer e))) schema.now }
 {
     if budget < LEAST_BUDGET {
         return Some(TantivyError::InvalidArgument(ArgumentCause::Budget));
@@ -70,8 +70,8 @@ fn settings_fit(settings: &IndexSettings) -> bool
 /// The first field whose tokenizer is unknown.
 fn unknown_tokenizer<Z: Analyzers>(analyzers: &Z, schema: &[FieldEntry]) -> Option<Field>
     requires few { length schema.now < 2 ^ 32 }
-    ensures first { (known : valid.Known) → Tests known (Z.knows analyzers.now) → result ≡ valid.unknown_tokenizer_of known schema.now }
-    ensures known { result ≡ None → AllByRecursion (λ e. Z.knows analyzers.now (indexing_tokenizer e)) schema.now }
+    ensures first { result ≡ valid.unknown_tokenizer_of (Z.knows analyzers.now) schema.now }
+    ensures known { result ≡ None → AllByRecursion (λ e. IsTrue (Z.knows analyzers.now (indexing_tokenizer e))) schema.now }
 {
     for (place, entry) in schema.iter().enumerate() {
         if !analyzers.known(tokenizer_name(entry)) {

@@ -1,7 +1,8 @@
 //! Documents that are added one by one, and the files that they are written to.
 
-use seg_build::{AddOperation, Opstamp, SegmentSerializer, SegmentWriter};
+use seg_build::{AddOperation, Opstamp, SegmentWriter};
 use seg_directory::{MemoryDirectory, list_files};
+use seg_segment::SegmentSerializer;
 use seg_testing::{Words, document, memory, schema, segment, segment_id, settings};
 use seg_values::{FieldKind, IndexOption, Schema, SchemaCause, TResult, TantivyError};
 use std::alloc::{AllocError, Global};

@@ -112,7 +112,7 @@ fn terms_are_recorded_as_their_fields_ask(rt: HostRuntime) -> Result<(), Fail> {
 fn file(alloc: Global, made: &MemorySegment, component: SegmentComponent) -> Option<OwnedBytes> {
     let mut directory = memory(alloc).ok()?;
     if made
-        .bytes
+        .files
         .write(alloc, segment_id(), &mut directory)
         .is_err()
     {

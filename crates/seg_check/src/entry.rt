@@ -2,17 +2,7 @@
 ghost use Rattle.std.specs.Prelude.{◌≡◌};
 ghost use Rattle.seg_model.specs.Fields as fields;
 
-use seg_values::{FieldEntry, FieldKind, IndexOption};
-
-/// Whether a field is indexed.
-pub(crate) fn is_indexed(entry: &FieldEntry) -> bool
-    ensures { result ≡ fields.is_indexed entry.now }
-{
-    match entry.index {
-        IndexOption::No => false,
-        _ => true,
-    }
-}
+use seg_values::{FieldEntry, FieldKind};
 
 /// The name of the tokenizer under which a field is indexed.
 pub(crate) fn indexing_tokenizer(entry: &FieldEntry) -> &str
@@ -23,7 +13,7 @@ pub(crate) fn indexing_tokenizer(entry: &FieldEntry) -> &str
         FieldKind::Json => true,
         _ => false,
     };
-    if !is_indexed(entry) || !has_texts {
+    if !entry.is_indexed() || !has_texts {
         return "default";
     }
     match &entry.tokenizer {

@@ -1,5 +1,5 @@
 //! What a document has in a field, value by value.
-ghost use Rattle.std.specs.Prelude.{◌≡◌, List, ℕ, [], ◌∷◌, ◌++◌, ◌&&◌, true, length, map, IfOk, IsSome};
+ghost use Rattle.std.specs.Prelude.{◌≡◌, List, ℕ, [], ◌∷◌, ◌++◌, ◌&&◌, true, length, map, IfOk, IsSome, IsTrue};
 ghost use Rattle.seg_values.specs.Tree.{Leaf, Tree};
 ghost use Rattle.seg_values.specs.declared.token.Token.{Token};
 ghost use Rattle.seg_values.specs.View.{tree_of};
@@ -110,7 +110,7 @@ fn add_leaves<Z: Analyzers>(
     tokenizer: &str,
     leaves: Vec<PathLeaf>,
 ) -> Result<Option<TextSize>, AllocError>
-    requires { Z.knows analyzers.now tokenizer.now }
+    requires { IsTrue (Z.knows analyzers.now tokenizer.now) }
     ensures size { IfOk result (λ size. size ≡ measured (texts_of (Z.tokens_of analyzers.now tokenizer.now) (map path_leaf leaves.entry.items))) }
     ensures stands { (found : List (List ℕ × Leaf)) → PathsStand (Z.tokens_of analyzers.now tokenizer.now) paths.old found → IfOk result (λ size. IsSome size → PathsStand (Z.tokens_of analyzers.now tokenizer.now) paths.new (found ++ map path_leaf leaves.entry.items)) }
 {

@@ -6,7 +6,6 @@ ghost use Rattle.seg_check.specs.Trees.{leaf_in};
 ghost use Rattle.seg_check.specs.Refusals.{told};
 ghost use Rattle.seg_values.specs.View.{tree_of};
 
-use crate::entry::is_indexed;
 use crate::kinds::is_json;
 use crate::refusal::Refusal;
 use seg_values::{Field, FieldEntry, OwnedValue, Schema, TantivyDocument};
@@ -38,7 +37,7 @@ fn json_refusal(schema: &Schema, field: Field, value: &OwnedValue) -> Option<Ref
 fn is_checked_json(entry: &FieldEntry) -> bool
     ensures { result ≡ checked.is_checked_json entry.now }
 {
-    is_json(entry.kind) && (is_indexed(entry) || entry.fast)
+    is_json(entry.kind) && (entry.is_indexed() || entry.fast)
 }
 
 /// The first leaf or key that a JSON field may not have, from left to right, a key before its value.

@@ -4,7 +4,6 @@ ghost use Rattle.seg_model.specs.Fields as fields;
 ghost use Rattle.seg_model.specs.Takes as taking;
 ghost use Rattle.seg_values.specs.View.{tree_of};
 
-use crate::entry::is_indexed;
 use seg_values::{FieldEntry, FieldKind, OwnedValue};
 
 /// Whether a field takes a value: a field that is neither indexed nor fast takes every one, and so does a JSON field.
@@ -14,7 +13,7 @@ pub(crate) fn takes(entry: &FieldEntry, value: &OwnedValue) -> bool
     if is_json(entry.kind) {
         return true;
     }
-    if is_indexed(entry) {
+    if entry.is_indexed() {
         return is_own_leaf(entry.kind, value);
     }
     if entry.fast {

@@ -7,7 +7,6 @@ ghost use Rattle.seg_model.specs.Fields as fields;
 ghost use Rattle.seg_check.specs.AllFields.{AllStand};
 ghost use Rattle.seg_check.specs.Standing.{Stands};
 
-use crate::entry::is_indexed;
 use crate::field_totals::FieldTotals;
 use crate::levels::are_shallow;
 use crate::stored_len::stored_len;
@@ -43,7 +42,7 @@ fn fields_fit(schema: &[FieldEntry], totals: &[FieldTotals]) -> bool
 fn field_fits(entry: &FieldEntry, totals: &FieldTotals) -> bool
     ensures { (analyzer : fields.Analyzer) → (document : Document) → (place : ℕ) → (fields.is_indexed entry.now ≡ true → Stands entry.now (analyzer (fields.indexing_tokenizer entry.now)) totals.now (fields.values_of place document)) → result ≡ checked.field_fits analyzer document (place, entry.now) }
 {
-    if !is_indexed(entry) {
+    if !entry.is_indexed() {
         return true;
     }
     totals.fits(entry)

@@ -8,7 +8,6 @@ ghost use Rattle.seg_check.specs.Known.{KnowsTexts};
 ghost use Rattle.seg_values.specs.Tree.{Document};
 ghost use Rattle.seg_values.specs.View.{tree_of};
 
-use crate::entry::is_indexed;
 use crate::field_totals::FieldTotals;
 use seg_values::{Analyzers, Field, FieldEntry, OwnedValue, Schema, TantivyDocument};
 use std::alloc::{AllocError, Global};
@@ -63,7 +62,7 @@ fn add_value<Z: Analyzers>(
     let Some(entry) = schema.get(place) else {
         return Ok(true);
     };
-    if !is_indexed(entry) {
+    if !entry.is_indexed() {
         return Ok(true);
     }
     totals[place].add_value(alloc, analyzers, entry, value)

@@ -4,10 +4,7 @@ ghost use Rattle.seg_model.specs.Checked.{is_rising};
 ghost use Rattle.seg_model.specs.Occurrences.{counted, reach};
 ghost use Rattle.seg_check.specs.Sizes.{plus, measured, size_of};
 
-use seg_values::Token;
-
-/// The most bytes of a token that is looked at.
-const MAX_TOKEN: usize = 65530;
+use seg_values::{MAX_TOKEN_LEN, Token};
 
 /// How much some texts take of what is limited. Each number stays at its type's end.
 #[derive(Clone, Copy)]
@@ -58,7 +55,7 @@ fn rises(tokens: &[Token]) -> bool
 {
     let mut last = 0;
     for token in tokens {
-        if token.text.len() <= MAX_TOKEN {
+        if token.text.len() <= MAX_TOKEN_LEN {
             if token.position < last {
                 return false;
             }
@@ -74,7 +71,7 @@ fn reach(tokens: &[Token]) -> u64
 {
     let mut end = 0;
     for token in tokens {
-        if token.text.len() <= MAX_TOKEN {
+        if token.text.len() <= MAX_TOKEN_LEN {
             let position: u32 = token.position;
             let position_length: u32 = token.position_length;
             let stop = u64::from(position) + u64::from(position_length);
@@ -87,5 +84,8 @@ fn reach(tokens: &[Token]) -> u64
 fn counted_len(tokens: &[Token]) -> usize
     ensures { result ≡ length (counted tokens.now) }
 {
-    tokens.iter().filter(|t| t.text.len() <= MAX_TOKEN).count()
+    tokens
+        .iter()
+        .filter(|t| t.text.len() <= MAX_TOKEN_LEN)
+        .count()
 }

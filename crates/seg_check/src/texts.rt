@@ -1,5 +1,5 @@
 //! The texts of values, measured by their tokens.
-ghost use Rattle.std.specs.Prelude.{◌≡◌, ◌∷◌, [], map, IfOk};
+ghost use Rattle.std.specs.Prelude.{◌≡◌, ◌∷◌, [], map, IfOk, IsTrue};
 ghost use Rattle.seg_model.specs.Occurrences as occurrences;
 ghost use Rattle.seg_check.specs.Sizes.{measured};
 ghost use Rattle.seg_check.specs.Trees.{leaf_in};
@@ -16,7 +16,7 @@ pub(crate) fn value_size<Z: Analyzers>(
     tokenizer: &str,
     value: &OwnedValue,
 ) -> Result<Option<TextSize>, AllocError>
-    requires { Z.knows analyzers.now tokenizer.now }
+    requires { IsTrue (Z.knows analyzers.now tokenizer.now) }
     ensures { IfOk result (λ size. size ≡ measured (occurrences.value_tokens (Z.tokens_of analyzers.now tokenizer.now) (tree_of value.now) ∷ [])) }
 {
     match value {
@@ -33,7 +33,7 @@ pub(crate) fn leaf_size<Z: Analyzers>(
     tokenizer: &str,
     leaf: &OwnedValue,
 ) -> Result<Option<TextSize>, AllocError>
-    requires { Z.knows analyzers.now tokenizer.now }
+    requires { IsTrue (Z.knows analyzers.now tokenizer.now) }
     ensures { IfOk result (λ size. size ≡ measured (map (Z.tokens_of analyzers.now tokenizer.now) (occurrences.leaf_text (leaf_in (tree_of leaf.now))))) }
 {
     match leaf {
@@ -48,7 +48,7 @@ fn analyzed_size<Z: Analyzers>(
     tokenizer: &str,
     text: &str,
 ) -> Result<Option<TextSize>, AllocError>
-    requires { Z.knows analyzers.now tokenizer.now }
+    requires { IsTrue (Z.knows analyzers.now tokenizer.now) }
     ensures { IfOk result (λ size. size ≡ measured (Z.tokens_of analyzers.now tokenizer.now text.now ∷ [])) }
 {
     let mut tokens = Tokens::new(alloc);

@@ -2,10 +2,12 @@ pub mod Causes
 pub mod Dates
 pub mod FileNames
 pub mod Growing
+pub mod Held
 pub mod Idle
 pub mod LittleEndian
 pub mod Memory
 pub mod Names
+pub mod Ownership
 pub mod SegmentIds
 pub mod Streams
 pub mod Varint

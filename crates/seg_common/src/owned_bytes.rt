@@ -5,7 +5,7 @@ ghost use Rattle.std.specs.Cmp.Lexicographic.{pointwise, nat_list_eq_equiv};
 ghost use Rattle.seg_common.specs.declared.error.CommonError.TheVariants.{OutOfMemory};
 
 use crate::error::CommonError;
-use seg_shared::Shared;
+use crate::shared::Shared;
 use std::alloc::{AllocError, Global};
 use std::fmt::{self, Debug, Formatter, Write};
 use std::marker::Model;

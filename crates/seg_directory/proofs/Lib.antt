@@ -6,4 +6,6 @@ pub mod Entries
 pub mod OtherFiles
 pub mod Doing
 pub mod WorkSteps
+pub mod NeverThere
 pub mod WorkLaws
+pub mod Listing

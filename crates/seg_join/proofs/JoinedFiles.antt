@@ -12,7 +12,7 @@ use Rattle.seg_model.specs.Join.{joined_terms}
 use Rattle.seg_model.proofs.Fields.{at_place}
 use Rattle.seg_directory.specs.Composite.{Part, composite, field_of, low_after}
 use Rattle.seg_postings.specs.Files.{FieldFiles, no_fields, with_field}
-use Rattle.seg_build.specs.Holds.{HoldsField, HoldTerms}
+use Rattle.seg_segment.specs.HoldTerms.{HoldsField, HoldTerms}
 use Rattle.seg_join.specs.JoinedTerms.{AddsJoined, AddsIfIndexed}
 use Rattle.seg_join.specs.KeptSegment.{KeptSegment, part_of}
 

@@ -1,5 +1,5 @@
 -- Segments of a built schema, joined.
-use Rattle.std.proofs.Common.{◌≡◌, ◌+◌, Bool, true, false, List, [], ◌∷◌, ◌++◌, length, map, cond, refl, sym, ap, ◌∙◌, subst, arith, length-append}
+use Rattle.std.proofs.Common.{◌≡◌, ℕ, ◌+◌, Bool, true, false, List, [], ◌∷◌, ◌++◌, length, map, cond, refl, sym, ap, ◌∙◌, subst, arith, length-append}
 use Rattle.std.specs.Prelude.{Some, option_map}
 use Rattle.std.specs.FinMap.{FinMap, empty, keys, entries, from_sorted, empty_of_len, len-entries, entries-from_sorted}
 use Rattle.std.specs.List.{flat_map, AllByRecursion}
@@ -16,12 +16,12 @@ use Rattle.seg_bits.specs.BitSets.{member_count}
 use Rattle.seg_columnar.specs.Columnar.{rows_of}
 use Rattle.seg_store.specs.Store.{documents_of, store_of}
 use Rattle.seg_postings.specs.FieldNorms.{norms_parts}
-use Rattle.seg_build.specs.Built.{is_built_schema}
-use Rattle.seg_build.specs.Holds.{HoldTerms}
-use Rattle.seg_build.specs.declared.segment_files.SegmentBytes.{SegmentBytes}
-use Rattle.seg_open.specs.MadeFiles.{IsOfBytes}
-use Rattle.seg_open.specs.Spelling.{Spell}
-use Rattle.seg_open.specs.declared.segment_files.SegmentFiles.{SegmentFiles}
+use Rattle.seg_postings.specs.declared.inverted_index_serializer.PostingsFiles.{PostingsFiles}
+use Rattle.seg_segment.specs.Built.{is_built_schema}
+use Rattle.seg_segment.specs.HoldTerms.{HoldTerms}
+use Rattle.seg_segment.specs.MadeFiles.{AreOfParts}
+use Rattle.seg_segment.specs.Spelling.{Spell}
+use Rattle.seg_segment.specs.declared.segment_files.SegmentFiles.{SegmentFiles}
 use Rattle.seg_open.proofs.BuiltTexts.{none_declared}
 use Rattle.seg_join.specs.JoinedStore.{joined_documents}
 use Rattle.seg_join.specs.KeptSegment.{IsMarked, IsOfSchema, KeptSegment, kept_count, part_of}
@@ -88,22 +88,22 @@ all_stored schema (p ∷ ps) are marked =
 
 -- ---- the files
 
-module _ (schema : Schema) (parts : List KeptSegment) (bytes : SegmentBytes) (files : SegmentFiles) (is : IsOfBytes bytes files) where
+module _ (schema : Schema) (parts : List KeptSegment) (made : PostingsFiles) (store fast lengths : List ℕ) (files : SegmentFiles) (are_of : AreOfParts made store fast lengths files) where
   pub files_spell :
       JoinsHaveFullShape → is_built_schema schema ≡ true → AllByRecursion (IsOfSchema schema) parts
-      → HoldTerms schema bytes.terms.items bytes.postings.items bytes.positions.items (map (joined_terms (map part_of parts)) (fields schema))
-      → composite bytes.norms.items ≡ Some (norms_parts schema (map (joined_norms (map part_of parts)) (fields schema)))
-      → option_map documents_of (store_of bytes.store.items) ≡ Some (joined_documents parts)
-      → rows_of bytes.fast.items ≡ Some (length (joined_documents parts))
+      → HoldTerms schema made.terms.items made.postings.items made.positions.items (map (joined_terms (map part_of parts)) (fields schema))
+      → composite lengths ≡ Some (norms_parts schema (map (joined_norms (map part_of parts)) (fields schema)))
+      → option_map documents_of (store_of store) ≡ Some (joined_documents parts)
+      → rows_of fast ≡ Some (length (joined_documents parts))
       → Spell schema files (joined_with schema (map part_of parts) empty)
   files_spell law built are terms norms stored rows = record {
     hold_terms =
-        subst (λ t. HoldTerms schema t files.postings files.positions held) (sym is.terms)
-        (subst (λ p. HoldTerms schema bytes.terms.items p files.positions held) (sym is.postings)
-        (subst (λ p. HoldTerms schema bytes.terms.items bytes.postings.items p held) (sym is.positions) terms));
-    norm_parts = ap composite is.field_norms ∙ norms;
-    stored = ap (λ s. option_map documents_of (store_of s)) is.store ∙ stored;
-    rows = ap rows_of is.fast_fields ∙ rows;
+        subst (λ t. HoldTerms schema t files.postings files.positions held) (sym are_of.terms_are)
+        (subst (λ p. HoldTerms schema made.terms.items p files.positions held) (sym are_of.postings_are)
+        (subst (λ p. HoldTerms schema made.terms.items made.postings.items p held) (sym are_of.positions_are) terms));
+    norm_parts = ap composite are_of.norms_are ∙ norms;
+    stored = ap (λ s. option_map documents_of (store_of s)) are_of.store_is ∙ stored;
+    rows = ap rows_of are_of.fast_is ∙ rows;
     no_columns = refl;
     shape = joined_shape schema law parts built are;
   }

@@ -3,7 +3,7 @@ use Rattle.std.specs.Prelude.{◌≡◌, List, map, true, Some}
 use Rattle.std.specs.FinMap.{empty}
 use Rattle.seg_model.specs.Fields.{Schema}
 use Rattle.seg_model.specs.Join.{join, joined_with}
-use Rattle.seg_build.specs.Built.{is_built_schema}
+use Rattle.seg_segment.specs.Built.{is_built_schema}
 use Rattle.seg_join.specs.KeptSegment.{KeptSegment, part_of}
 
 -- for a schema that is built segments join, to contents without columns

@@ -4,10 +4,8 @@ ghost use Rattle.std.specs.FinMap.{empty};
 ghost use Rattle.std.specs.List.{AllByRecursion};
 ghost use Rattle.seg_model.specs.Join.{joined_with};
 ghost use Rattle.seg_store.specs.Store.{documents_of, store_of};
-ghost use Rattle.seg_build.specs.Built.{is_built_schema};
-ghost use Rattle.seg_open.specs.MadeFiles.{IsOfBytes};
-ghost use Rattle.seg_open.specs.Spelling.{Spell};
-ghost use Rattle.seg_open.specs.declared.segment_files.SegmentFiles.{SegmentFiles};
+ghost use Rattle.seg_segment.specs.Built.{is_built_schema};
+ghost use Rattle.seg_segment.specs.Spelling.{Spell};
 ghost use Rattle.seg_join.specs.JoinedStore.{joined_documents};
 ghost use Rattle.seg_join.specs.KeptSegment.{IsOfSchema, kept_count, part_of};
 
@@ -16,11 +14,10 @@ use crate::merge_part::MergePart;
 use crate::norms_joining::join_norms;
 use crate::store_joining::join_stores;
 use crate::terms_joining::join_terms;
-use seg_build::SegmentBytes;
 use seg_columnar::ColumnarWriter;
 use seg_meta::Compressor;
 use seg_model::joins_have_full_shape;
-use seg_open::SegmentFiles;
+use seg_segment::SegmentFiles;
 use seg_store::StoreWriter;
 use seg_values::{ArgumentCause, Schema, TResult, TantivyError};
 use std::alloc::{AllocError, Global};
@@ -43,25 +40,25 @@ pub fn join_segments(
     let Some(count) = num_joined_docs(parts) else {
         return Err(TantivyError::InvalidArgument(ArgumentCause::Documents));
     };
-    let Ok(bytes) = joined_bytes(alloc, schema, block_size, parts, count) else {
+    let Ok(files) = joined_files(alloc, schema, block_size, parts, count) else {
         return Err(TantivyError::OutOfMemory);
     };
-    SegmentFiles::from_bytes(alloc, bytes)
+    Ok(files)
 }
 
-/// The bytes of these files, for this many documents.
-fn joined_bytes(
+/// These files, for this many documents.
+fn joined_files(
     alloc: Global,
     schema: &Schema,
     block_size: u32,
     parts: &[MergePart<'_>],
     count: u32,
-) -> Result<SegmentBytes, AllocError>
+) -> Result<SegmentFiles, AllocError>
     requires built { is_built_schema schema.now ≡ true }
     requires parts { AllByRecursion (IsOfSchema schema.now) parts.now }
     requires few { kept_count parts.now < 2 ^ 31 }
     requires counted { count ≡ length (joined_documents parts.now) }
-    ensures { IfOk result (λ bytes. (files : SegmentFiles) → IsOfBytes bytes files → Spell schema.now files (joined_with schema.now (map part_of parts.now) empty)) }
+    ensures { IfOk result (λ files. Spell schema.now files (joined_with schema.now (map part_of parts.now) empty)) }
 {
     joins_have_full_shape();
     let Ok(norms) = join_norms(alloc, schema, parts) else {
@@ -70,18 +67,14 @@ fn joined_bytes(
     let Ok(fast) = ColumnarWriter::new(alloc).serialize(count) else {
         return Err(AllocError);
     };
-    let Ok(files) = join_terms(alloc, schema, parts) else {
+    let Ok(terms) = join_terms(alloc, schema, parts) else {
         return Err(AllocError);
     };
     let store = joined_store(alloc, block_size, parts)?;
-    Ok(SegmentBytes {
-        norms,
-        fast,
-        terms: files.terms,
-        postings: files.postings,
-        positions: files.positions,
-        store,
-    })
+    let Ok(files) = SegmentFiles::from_parts(alloc, terms, store, fast, norms) else {
+        return Err(AllocError);
+    };
+    Ok(files)
 }
 
 /// The bytes of a store of the kept documents.

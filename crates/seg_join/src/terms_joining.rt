@@ -4,8 +4,8 @@ ghost use Rattle.std.specs.List.{AllByRecursion};
 ghost use Rattle.seg_directory.specs.Composite.{low_after};
 ghost use Rattle.seg_model.specs.Fields as model;
 ghost use Rattle.seg_model.specs.Join.{joined_terms};
-ghost use Rattle.seg_build.specs.Built.{is_built_schema};
-ghost use Rattle.seg_build.specs.Holds.{HoldTerms};
+ghost use Rattle.seg_segment.specs.Built.{is_built_schema};
+ghost use Rattle.seg_segment.specs.HoldTerms.{HoldTerms};
 ghost use Rattle.seg_join.specs.JoinedTerms.{AddsIfIndexed, IsOfField, IsOpenAt, source_of, tokens_in};
 ghost use Rattle.seg_join.specs.KeptSegment.{IsOfSchema, kept_count, part_of};
 ghost use Rattle.seg_join.specs.MovedPostings.{Ascend};
@@ -17,7 +17,7 @@ use crate::term_merging::write_terms;
 use crate::term_source::TermSource;
 use crate::term_writer::TermWriter;
 use seg_postings::{InvertedIndexSerializer, PostingsError, PostingsFiles};
-use seg_values::{Field, FieldEntry, IndexOption, Schema};
+use seg_values::{Field, FieldEntry, Schema};
 use std::alloc::{AllocError, Global};
 
 /// The files of the terms, postings and positions of segments that are joined. A term is written where a kept document has
@@ -60,22 +60,13 @@ fn join_field(
     ensures ok { OnOk result (AddsIfIndexed (model.is_indexed entry.now) entry.now field (parts_of parts.now) files.old files.new) }
     ensures err { IfErr result (λ e. e ≡ PostingsError.OutOfMemory) }
 {
-    if !is_indexed(entry) {
+    if !entry.is_indexed() {
         return Ok(());
     }
     let sources = sources_of(alloc, field, parts)?;
     let mut writer = TermWriter::new(alloc, files.new_field(field, tokens_of(field, parts))?);
     write_terms(alloc, &sources, &mut writer)?;
     writer.into_field().close(files)
-}
-
-fn is_indexed(entry: &FieldEntry) -> bool
-    ensures { result ≡ model.is_indexed entry.now }
-{
-    match entry.index {
-        IndexOption::No => false,
-        _ => true,
-    }
 }
 
 /// The terms of an indexed field in each of the segments.

@@ -7,7 +7,7 @@ use Rattle.seg_values.specs.declared.error.TantivyError.{TantivyError}
 use Rattle.seg_directory.specs.declared.answer.Answer.{Answer}
 use Rattle.seg_directory.specs.declared.answer.Answer.TheVariants as answer
 use Rattle.seg_model.specs.IndexOfFiles.{ListedSegment}
-use Rattle.seg_build.specs.SegmentFiles.{wrote}
+use Rattle.seg_segment.specs.SegmentFiles.{wrote}
 use Rattle.seg_batches.specs.Calls.{Does}
 use Rattle.seg_directory.specs.State.{DirectoryState}
 use Rattle.seg_batches.specs.Segments.{alive_files, six_files}

@@ -18,9 +18,10 @@ use Rattle.seg_model.specs.Fields.{Schema, Analyzer}
 use Rattle.seg_model.specs.IndexOfFiles.{Deletes, ListedSegment}
 use Rattle.seg_model.specs.Operations.{Operation, Batch, batches_from}
 use Rattle.seg_model.specs.Valid.{are_distinct}
-use Rattle.seg_build.specs.Holds.{Holds}
-use Rattle.seg_build.specs.SegmentFiles.{AreAbsent, KeepsAllBut}
+use Rattle.seg_segment.specs.Holds.{Holds}
+use Rattle.seg_segment.specs.SegmentFiles.{AreAbsent, KeepsAllBut}
 use Rattle.seg_batches.specs.Segments.{AllStand, AllTellAlive, TellsAlive, WrittenSegment, alive_file, alive_files, all_listed, deletes_of, listed, segments_of, six_files}
+use Rattle.seg_segment.proofs.SpelledFiles.{held_on}
 use Rattle.seg_refusals.specs.Refusals.{IfRefusal}
 use Rattle.seg_merge.specs.IndexFiles.{listed_of, segments_files, written_of}
 use Rattle.seg_merge.proofs.IndexSteps.{all-left, all-right}
@@ -137,26 +138,7 @@ module _ (segments : List ListedSegment) (old new : NamedFiles) (kept : KeepsAll
   part_kept id which = kept (Part id which) (part-not-meta id which, none_alive id which segments)
 
   holds_kept : (id : ℕ) (schema : Schema) (contents : Contents) → Holds old id schema contents → Holds new id schema contents
-  holds_kept id schema contents h = record {
-    terms = h.terms;
-    postings = h.postings;
-    positions = h.positions;
-    norms = h.norms;
-    store = h.store;
-    fast = h.fast;
-    term_file = part_kept id component.Terms ∙ h.term_file;
-    posting_file = part_kept id component.Postings ∙ h.posting_file;
-    position_file = part_kept id component.Positions ∙ h.position_file;
-    norm_file = part_kept id component.FieldNorms ∙ h.norm_file;
-    store_file = part_kept id component.Store ∙ h.store_file;
-    fast_file = part_kept id component.FastFields ∙ h.fast_file;
-    hold_terms = h.hold_terms;
-    norm_parts = h.norm_parts;
-    stored = h.stored;
-    rows = h.rows;
-    no_columns = h.no_columns;
-    shape = h.shape;
-  }
+  holds_kept id schema contents h = held_on id old new (part_kept id) schema contents h
 
   pub stand_kept : (schema : Schema) (analyzer : Analyzer) (ids : List ℕ) (batches : List Batch) → AllStand schema analyzer old ids batches → AllStand schema analyzer new ids batches
   stand_kept schema analyzer [] batches h = tt

@@ -9,9 +9,8 @@ use Rattle.seg_values.specs.declared.error.TantivyError.{TantivyError}
 use Rattle.seg_values.specs.declared.error.TantivyError.TheVariants.{IndexAlreadyExists}
 use Rattle.seg_directory.specs.declared.answer.Answer.{Answer}
 use Rattle.seg_directory.specs.declared.answer.Answer.TheVariants as answer
-use Rattle.seg_meta.specs.Saving.{CreatingCounts}
 use Rattle.seg_model.specs.IndexOfFiles.{ListedSegment}
-use Rattle.seg_build.specs.SegmentFiles.{wrote}
+use Rattle.seg_segment.specs.SegmentFiles.{wrote}
 use Rattle.seg_batches.specs.Calls.{Does}
 use Rattle.seg_directory.specs.State.{DirectoryState}
 use Rattle.seg_batches.specs.Segments.{six_files, alive_files}
@@ -99,16 +98,6 @@ module _ (segments : List ListedSegment) where
 pub tells-still : (old new : Bool) → new ≡ old → IsTrue old → IsTrue new
 tells-still old new same told = subst (λ (b : Bool). IsTrue b) (sym same) told
 
--- in a directory without files an index isn't there
-abbrev failed : TantivyError → Outcome
-failed e = Err e
-
 abbrev pub error_in : {T : Type 0} → Result T TantivyError → TantivyError
 error_in (Ok x) = IndexAlreadyExists
 error_in (Err e) = e
-
-pub never-there : (n : ℕ) (e : TantivyError) → CreatingCounts {T = Unit {0}} n (Err e) → n ≡ 0 → failed e ≢ Err IndexAlreadyExists
-never-there n e counts none is = no (subst (λ (x : TantivyError). CreatingCounts {T = Unit {0}} n (Err x)) (ap error_in is) counts)
-  where
-    no : 0 < n → ⊥
-    no some = omega (arith, some, none)

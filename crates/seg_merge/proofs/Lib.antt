@@ -1,3 +1,4 @@
+mod Built
 mod FillCalls
 mod FillSteps
 mod FilteredSegments

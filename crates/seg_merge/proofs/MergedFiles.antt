@@ -7,12 +7,13 @@ use Rattle.seg_model.specs.Contents.{Contents}
 use Rattle.seg_model.specs.Fields.{Schema}
 use Rattle.seg_values.specs.declared.error.TantivyError.{TantivyError}
 use Rattle.seg_open.specs.OpenSegment.{contents_of}
-use Rattle.seg_open.specs.Laws.{FilesSpellOneContents}
-use Rattle.seg_open.specs.SegmentRead.{bytes_of}
-use Rattle.seg_open.specs.Spelling.{Spell, Disagree, IsWhyNotOpen, up_to}
+use Rattle.seg_segment.specs.Laws.{FilesSpellOneContents}
+use Rattle.seg_segment.specs.SegmentFiles.{bytes_of}
+use Rattle.seg_segment.specs.Spelling.{Spell}
+use Rattle.seg_open.specs.Disagreement.{Disagree, IsWhyNotOpen, up_to}
 use Rattle.seg_open.specs.declared.open_error.OpenError.{OpenError}
 use Rattle.seg_open.specs.declared.open_error.OpenError.TheVariants.{Damaged}
-use Rattle.seg_open.specs.declared.segment_files.SegmentFiles.{SegmentFiles}
+use Rattle.seg_segment.specs.declared.segment_files.SegmentFiles.{SegmentFiles}
 use Rattle.seg_batches.specs.Making.{AreWhole}
 use Rattle.seg_merge.specs.declared.merging.MergedSegment.{MergedSegment}
 

@@ -11,9 +11,9 @@ use Rattle.seg_values.specs.declared.error.TantivyError.{TantivyError}
 use Rattle.seg_directory.specs.Files.{NamedFiles}
 use Rattle.seg_directory.specs.declared.answer.Answer.TheVariants as answer
 use Rattle.seg_model.specs.IndexOfFiles.{ListedSegment}
-use Rattle.seg_build.specs.SegmentFiles.{AreAbsent, KeepsAllBut, segment_names, wrote}
-use Rattle.seg_open.specs.SegmentRead as segment
-use Rattle.seg_open.specs.declared.segment_files.SegmentFiles.{SegmentFiles}
+use Rattle.seg_segment.specs.SegmentFiles.{AreAbsent, KeepsAllBut, segment_names, wrote}
+use Rattle.seg_segment.specs.SegmentFiles as segment
+use Rattle.seg_segment.specs.declared.segment_files.SegmentFiles.{SegmentFiles}
 use Rattle.seg_batches.specs.Calls.{Does}
 use Rattle.seg_directory.specs.State.{DirectoryState}
 use Rattle.seg_batches.proofs.Calls.{does-among}

@@ -7,7 +7,7 @@ use Rattle.seg_directory.specs.declared.answer.Answer.{Answer}
 use Rattle.seg_model.specs.Fields.{Schema}
 use Rattle.seg_model.specs.IndexOfFiles.{Deletes, ListedSegment}
 use Rattle.seg_open.specs.SegmentOpened.{OpeningSeen}
-use Rattle.seg_open.specs.SegmentRead.{ReadingEnds}
+use Rattle.seg_segment.specs.SegmentRead.{ReadingEnds}
 use Rattle.seg_directory.specs.State.{DirectoryState}
 use Rattle.seg_batches.specs.Reading.{AliveSeen, ReadsDeletes, StopsInSegment, in_files, in_alive, StopsReading}
 

@@ -5,8 +5,8 @@ use Rattle.seg_common.specs.declared.name.FileName.TheVariants.{Meta}
 use Rattle.seg_values.specs.declared.error.TantivyError.{TantivyError}
 use Rattle.seg_directory.specs.declared.answer.Answer.TheVariants as answer
 use Rattle.seg_model.specs.IndexOfFiles.{ListedSegment}
-use Rattle.seg_build.specs.Holds.{Holds}
-use Rattle.seg_build.specs.SegmentFiles.{wrote}
+use Rattle.seg_segment.specs.Holds.{Holds}
+use Rattle.seg_segment.specs.SegmentFiles.{wrote}
 use Rattle.seg_open.specs.OpenSegment.{OpenSegment, contents_of}
 use Rattle.seg_join.specs.KeptSegment.{KeptSegment}
 use Rattle.seg_batches.specs.Calls.{Does}

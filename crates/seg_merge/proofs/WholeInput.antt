@@ -10,9 +10,9 @@ use Rattle.seg_model.specs.IndexOfFiles as index
 use Rattle.seg_model.specs.Input.{Input, input_batches, input_survivors}
 use Rattle.seg_model.specs.Laws.{AreReadingsOf, JoiningIsInvisible}
 use Rattle.seg_model.specs.Valid.{Known}
-use Rattle.seg_build.specs.Built.{is_built_schema}
-use Rattle.seg_build.specs.Forms.{segment_forms}
-use Rattle.seg_build.specs.Holds.{Holds}
+use Rattle.seg_segment.specs.Built.{is_built_schema}
+use Rattle.seg_segment.specs.Forms.{segment_forms}
+use Rattle.seg_segment.specs.Holds.{Holds}
 use Rattle.seg_build.specs.Laws.{BuiltHaveNoColumns}
 use Rattle.seg_open.specs.OpenSegment.{OpenSegment, contents_of}
 use Rattle.seg_join.specs.KeptSegment.{IsOfSchema, KeptSegment, kept_count, part_of}

@@ -19,9 +19,9 @@ use Rattle.seg_model.specs.Operations.{Operation, add, delete, delete_all, Batch
 use Rattle.seg_model.specs.Shape.{HasFullShape}
 use Rattle.seg_model.specs.Valid.{filter_fits, filters_fit}
 use Rattle.seg_model.proofs.Live.{was_read}
-use Rattle.seg_build.specs.Forms.{segment_forms}
-use Rattle.seg_build.specs.HoldsAlive.{HoldsAlive}
-use Rattle.seg_build.specs.Laws.{HoldsOneContents}
+use Rattle.seg_segment.specs.Forms.{segment_forms}
+use Rattle.seg_segment.specs.HoldsAlive.{HoldsAlive}
+use Rattle.seg_segment.specs.Laws.{HoldsOneContents}
 use Rattle.seg_open.specs.OpenSegment.{contents_of}
 use Rattle.seg_open.specs.SegmentOpened.{IsNoDamage}
 use Rattle.seg_join.specs.KeptSegment.{IsOfSchema, KeptSegment, part_of}

@@ -23,7 +23,7 @@ use Rattle.seg_model.specs.Input.{Input, input_batches, input_survivors}
 use Rattle.seg_model.specs.Operations.{Operation, add, delete, delete_all, Batch, additions, batches_from}
 use Rattle.seg_model.specs.Refused.{BuildRefusal, document_refused, input_refused, first_of, cut_from, operation_refusal, count_refusal, numbers_refusal, added_by, batch_refusal, build_refusal}
 use Rattle.seg_model.specs.Valid.{Known, InputRefusal, bad_cuts, too_many_batches, bad_filters, bad_segment_ids, bad_field_name, unsupported_settings, unknown_tokenizer, unknown_fast_tokenizer, unindexed_delete, FitsSegment, refused_unless, cuts_fit, batches_fit, filters_fit, ids_fit, names_fit, settings_fit, unknown_tokenizer_of, has_unknown_fast_tokenizer, unindexed_delete_of, input_refusal}
-use Rattle.seg_build.specs.Built.{is_built_schema}
+use Rattle.seg_segment.specs.Built.{is_built_schema}
 use Rattle.seg_build.specs.Laws.{BuiltHaveNoColumns}
 use Rattle.seg_build.specs.WriterStart as start
 use Rattle.seg_open.specs.SegmentOpened.{IsNoDamage}

@@ -16,8 +16,8 @@ use Rattle.seg_model.specs.Fields.{Schema, Analyzer}
 use Rattle.seg_model.specs.IndexOfFiles.{Deletes, ListedSegment}
 use Rattle.seg_model.specs.Laws.{AreReadingsOf}
 use Rattle.seg_model.specs.Operations.{Operation, batches}
-use Rattle.seg_build.specs.Laws.{HoldsOneContents}
-use Rattle.seg_build.specs.SegmentFiles.{AreAbsent, KeepsAllBut}
+use Rattle.seg_segment.specs.Laws.{HoldsOneContents}
+use Rattle.seg_segment.specs.SegmentFiles.{AreAbsent, KeepsAllBut}
 use Rattle.seg_open.specs.SegmentOpened.{IsNoDamage}
 use Rattle.seg_join.specs.KeptSegment.{KeptSegment, kept_count, part_of}
 use Rattle.seg_directory.specs.State.{DirectoryState}

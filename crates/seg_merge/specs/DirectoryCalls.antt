@@ -8,8 +8,8 @@ use Rattle.seg_values.specs.declared.error.TantivyError.TheVariants.{InvalidArgu
 use Rattle.seg_model.specs.Fields.{Schema, Analyzer}
 use Rattle.seg_model.specs.IndexOfFiles.{ListedSegment}
 use Rattle.seg_model.specs.Input.{Filter, Input}
-use Rattle.seg_build.specs.Holds.{Holds}
-use Rattle.seg_build.specs.SegmentFiles.{wrote}
+use Rattle.seg_segment.specs.Holds.{Holds}
+use Rattle.seg_segment.specs.SegmentFiles.{wrote}
 use Rattle.seg_open.specs.OpenSegment.{OpenSegment, contents_of}
 use Rattle.seg_join.specs.KeptSegment.{KeptSegment, kept_count}
 use Rattle.seg_batches.specs.Calls.{Does}
@@ -24,6 +24,10 @@ use Rattle.seg_merge.specs.Joining.{filtered_segments, joined}
 pub record Directories : Type 0 where
   pub work : DirectoryState
   pub output : DirectoryState
+
+-- of these states
+abbrev pub both : DirectoryState → DirectoryState → Directories
+both work output = record { work = work; output = output }
 
 -- how a call ends that answers nothing
 abbrev pub Ends : Type 0

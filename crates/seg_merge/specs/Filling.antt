@@ -8,7 +8,7 @@ use Rattle.seg_directory.specs.declared.answer.Answer.TheVariants as answer
 use Rattle.seg_model.specs.Fields.{Schema}
 use Rattle.seg_model.specs.IndexOfFiles.{ListedSegment}
 use Rattle.seg_model.specs.Input.{Filter}
-use Rattle.seg_build.specs.SegmentFiles.{wrote}
+use Rattle.seg_segment.specs.SegmentFiles.{wrote}
 use Rattle.seg_join.specs.KeptSegment.{KeptSegment, kept_count}
 use Rattle.seg_batches.specs.Calls.{Does}
 use Rattle.seg_directory.specs.State.{DirectoryState}

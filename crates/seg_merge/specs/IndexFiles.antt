@@ -12,8 +12,8 @@ use Rattle.seg_model.specs.IndexOfFiles.{ListedSegment, Meta}
 use Rattle.seg_model.specs.IndexOfFiles as index
 use Rattle.seg_model.specs.Input.{Settings, Input, input_batches, input_survivors}
 use Rattle.seg_model.specs.Operations.{Operation, batches}
-use Rattle.seg_build.specs.Forms.{segment_forms}
-use Rattle.seg_build.specs.SegmentFiles.{wrote}
+use Rattle.seg_segment.specs.Forms.{segment_forms}
+use Rattle.seg_segment.specs.SegmentFiles.{wrote}
 use Rattle.seg_batches.specs.Segments.{WrittenSegment, segments_of, all_listed, six_files, alive_files, AllStand, AllTellAlive}
 
 -- ---- ids

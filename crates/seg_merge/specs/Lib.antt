@@ -1,3 +1,4 @@
+pub mod Builds
 pub mod DirectoryCalls
 pub mod Filling
 pub mod IndexFiles

@@ -1,30 +1,25 @@
 //! The building of an index.
-ghost use Rattle.std.specs.Prelude.{◌≡◌, ◌≢◌, ◌⊎◌, ℕ, map, Some, Err, IfOk, IfErr, IfSome, IsTrue, OnOk};
+ghost use Rattle.std.specs.Prelude.{◌≡◌, ◌≢◌, ◌⊎◌, ℕ, Some, Err, IfOk, IfErr, IfSome, IsTrue, OnOk};
 ghost use Rattle.std.specs.FinMap.{len};
 ghost use Rattle.seg_meta.specs.Saving.{IsMetaList};
 ghost use Rattle.seg_meta.specs.View.{meta_of, settings_of};
-ghost use Rattle.seg_model.specs.Contents.{full_reading};
 ghost use Rattle.seg_model.specs.IndexOfFiles as index;
-ghost use Rattle.seg_model.specs.Input.{input_batches, input_survivors};
-ghost use Rattle.seg_model.specs.Laws.{AreReadingsOf};
-ghost use Rattle.seg_model.specs.Valid.{Known};
-ghost use Rattle.seg_build.specs.Forms.{segment_forms};
-ghost use Rattle.seg_build.specs.WriterStart.{Tests};
-ghost use Rattle.seg_open.specs.OpenSegment.{contents_of};
+ghost use Rattle.seg_segment.specs.Forms.{segment_forms};
 ghost use Rattle.seg_open.specs.SegmentOpened.{IsNoDamage};
-ghost use Rattle.seg_join.specs.KeptSegment.{part_of};
 ghost use Rattle.seg_refusals.specs.Admitted.{IsValidIf};
 ghost use Rattle.seg_refusals.specs.Inputs.{input_of};
 ghost use Rattle.seg_refusals.specs.Refusals.{IfRefusal, first_error, refusal_error};
-ghost use Rattle.seg_merge.specs.DirectoryCalls.{Directories, WritesBoth, WritesUpTo, asked_of};
+ghost use Rattle.seg_merge.specs.Builds.{Builds, StopsBuilding};
+ghost use Rattle.seg_merge.specs.DirectoryCalls.{WritesUpTo, asked_of, both};
 ghost use Rattle.seg_merge.specs.IndexFiles.{IsOutputIndexOf, IsWorkIndexOf, merged_meta, output_id, output_meta, work_ids};
 
 use crate::indexes::{BuiltSegments, write_indexes};
 use seg_batches::ReadSegment;
 use seg_bits::AliveBitSet;
-use seg_build::{UserOperation, built_schemas_have_no_columns};
+use seg_build::built_schemas_have_no_columns;
 use seg_common::SegmentId;
 use seg_directory::Directory;
+use seg_input::UserOperation;
 use seg_meta::{Index, IndexSettings};
 use seg_open::SegmentReader;
 use seg_refusals::check_input;
@@ -63,19 +58,21 @@ pub fn build_index<Z: Analyzers, W: Directory, O: Directory>(
     work: &mut W,
     output: &mut O,
 ) -> TResult<Index>
-    ensures first { (known : Known) → Tests known (Z.knows analyzers.now)
-        → IfSome (first_error known (Z.tokens_of analyzers.now) (input_of schema.now settings.now operations.now cuts.now filters.now ids.now))
+    ensures first { IfSome (first_error (Z.knows analyzers.now) (Z.tokens_of analyzers.now)
+        (input_of schema.now settings.now operations.now cuts.now filters.now ids.now))
         (λ e. (result ≡ Err e) ⊎ (result ≡ Err TantivyError.OutOfMemory)) }
-    ensures untouched { (known : Known) → Tests known (Z.knows analyzers.now)
-        → IfSome (first_error known (Z.tokens_of analyzers.now) (input_of schema.now settings.now operations.now cuts.now filters.now ids.now))
-        (λ _. (work.new ≡ work.old) × (output.new ≡ output.old)) }
-    ensures refused { (known : Known) → Tests known (Z.knows analyzers.now) → IsTrue (W.state work.old).tells
-        → IfErr result (IfRefusal (λ e. refusal_error known (Z.tokens_of analyzers.now) (input_of schema.now settings.now operations.now cuts.now filters.now ids.now) ≡ Some e)) }
-    ensures refused_untold { (known : Known) → Tests known (Z.knows analyzers.now)
-        → IfErr result (IfRefusal (λ e. (refusal_error known (Z.tokens_of analyzers.now) (input_of schema.now settings.now operations.now cuts.now filters.now ids.now) ≡ Some e)
+    ensures untouched { IfSome (first_error (Z.knows analyzers.now) (Z.tokens_of analyzers.now)
+        (input_of schema.now settings.now operations.now cuts.now filters.now ids.now))
+        (λ _. (W.state work.new ≡ W.state work.old) × (O.state output.new ≡ O.state output.old)) }
+    ensures refused { IsTrue (W.state work.old).tells
+        → IfErr result (IfRefusal (λ e. refusal_error (Z.knows analyzers.now) (Z.tokens_of analyzers.now)
+        (input_of schema.now settings.now operations.now cuts.now filters.now ids.now) ≡ Some e)) }
+    ensures refused_untold { IfErr result (IfRefusal
+        (λ e. (refusal_error (Z.knows analyzers.now) (Z.tokens_of analyzers.now)
+        (input_of schema.now settings.now operations.now cuts.now filters.now ids.now) ≡ Some e)
         ⊎ (e ≡ TantivyError.InvalidArgument ArgumentCause.Documents))) }
-    ensures valid { (known : Known) → Tests known (Z.knows analyzers.now)
-        → OnOk result (IsValidIf (IsTrue (W.state work.old).tells) known (Z.tokens_of analyzers.now) (input_of schema.now settings.now operations.now cuts.now filters.now ids.now)) }
+    ensures valid { OnOk result (IsValidIf (IsTrue (W.state work.old).tells) (Z.knows analyzers.now)
+        (Z.tokens_of analyzers.now) (input_of schema.now settings.now operations.now cuts.now filters.now ids.now)) }
     ensures index { IsTrue (W.state work.old).tells → IfOk result (λ built. meta_of built ≡ output_meta (Z.tokens_of analyzers.now) (input_of schema.now settings.now operations.now cuts.now filters.now ids.now)) }
     ensures meta { IfOk result (λ built. (documents : ℕ) × (meta_of built
         ≡ merged_meta (settings_of settings.now) schema.now (work_ids ids.now) (output_id ids.now) documents)) }
@@ -89,14 +86,7 @@ pub fn build_index<Z: Analyzers, W: Directory, O: Directory>(
         → result ≢ Err TantivyError.IndexAlreadyExists }
     ensures whole { IsTrue (W.state work.old).tells → IfErr result IsNoDamage }
     ensures calls { WritesUpTo (asked_of (Z.tokens_of analyzers.now) (input_of schema.now settings.now operations.now cuts.now filters.now ids.now)) result
-        (record {
-          work = W.state work.old;
-          output = O.state output.old;
-        })
-        (record {
-          work = W.state work.new;
-          output = O.state output.new;
-        }) }
+        (both (W.state work.old) (O.state output.old)) (both (W.state work.new) (O.state output.new)) }
 {
     let built = build_index_with_readers(
         alloc, schema, settings, analyzers, operations, cuts, filters, ids, work, output,
@@ -120,52 +110,14 @@ pub fn build_index_with_readers<Z: Analyzers, W: Directory, O: Directory>(
     work: &mut W,
     output: &mut O,
 ) -> TResult<BuiltIndex>
-    ensures first { (known : Known) → Tests known (Z.knows analyzers.now)
-        → IfSome (first_error known (Z.tokens_of analyzers.now) (input_of schema.now settings.now operations.now cuts.now filters.now ids.now))
-        (λ e. (result ≡ Err e) ⊎ (result ≡ Err TantivyError.OutOfMemory)) }
-    ensures untouched { (known : Known) → Tests known (Z.knows analyzers.now)
-        → IfSome (first_error known (Z.tokens_of analyzers.now) (input_of schema.now settings.now operations.now cuts.now filters.now ids.now))
-        (λ _. (work.new ≡ work.old) × (output.new ≡ output.old)) }
-    ensures refused { (known : Known) → Tests known (Z.knows analyzers.now) → IsTrue (W.state work.old).tells
-        → IfErr result (IfRefusal (λ e. refusal_error known (Z.tokens_of analyzers.now) (input_of schema.now settings.now operations.now cuts.now filters.now ids.now) ≡ Some e)) }
-    ensures refused_untold { (known : Known) → Tests known (Z.knows analyzers.now)
-        → IfErr result (IfRefusal (λ e. (refusal_error known (Z.tokens_of analyzers.now) (input_of schema.now settings.now operations.now cuts.now filters.now ids.now) ≡ Some e)
-        ⊎ (e ≡ TantivyError.InvalidArgument ArgumentCause.Documents))) }
-    ensures valid { (known : Known) → Tests known (Z.knows analyzers.now)
-        → OnOk result (IsValidIf (IsTrue (W.state work.old).tells) known (Z.tokens_of analyzers.now) (input_of schema.now settings.now operations.now cuts.now filters.now ids.now)) }
+    ensures builds { IfOk result (λ built. Builds (Z.knows analyzers.now) (Z.tokens_of analyzers.now)
+        (input_of schema.now settings.now operations.now cuts.now filters.now ids.now) built.segments.items built.output
+        (both (W.state work.old) (O.state output.old)) (both (W.state work.new) (O.state output.new))) }
     ensures meta { IfOk result (λ built. meta_of built.index
         ≡ merged_meta (settings_of settings.now) schema.now (work_ids ids.now) (output_id ids.now) built.output.documents) }
-    ensures work_index { IsTrue (W.state work.old).tells → OnOk result (IsWorkIndexOf (Z.tokens_of analyzers.now) (input_of schema.now settings.now operations.now cuts.now filters.now ids.now) (W.state work.new).files) }
-    ensures work_was_empty { IsTrue (W.state work.old).tells → OnOk result (len (W.state work.old).files ≡ 0) }
-    ensures output_index { IsTrue (W.state work.old).tells → IsTrue (O.state output.old).tells → OnOk result (IsOutputIndexOf (Z.tokens_of analyzers.now) (input_of schema.now settings.now operations.now cuts.now filters.now ids.now) (O.state output.new).files) }
-    ensures output_meta { IsTrue (O.state output.old).tells → IfOk result (λ built. index.index_of segment_forms (O.state output.new).files ≡ Some (meta_of built.index)) }
-    ensures output_was_empty { IsTrue (O.state output.old).tells → OnOk result (len (O.state output.old).files ≡ 0) }
-    ensures fresh { IsTrue (W.state work.old).tells → len (W.state work.old).files ≡ 0
-        → IsTrue (O.state output.old).tells → len (O.state output.old).files ≡ 0
-        → result ≢ Err TantivyError.IndexAlreadyExists }
-    ensures whole { IsTrue (W.state work.old).tells → IfErr result IsNoDamage }
-    ensures calls { WritesUpTo (asked_of (Z.tokens_of analyzers.now) (input_of schema.now settings.now operations.now cuts.now filters.now ids.now)) result
-        (record {
-          work = W.state work.old;
-          output = O.state output.old;
-        })
-        (record {
-          work = W.state work.new;
-          output = O.state output.new;
-        }) }
-    ensures written { IfOk result (λ built. WritesBoth (asked_of (Z.tokens_of analyzers.now) (input_of schema.now settings.now operations.now cuts.now filters.now ids.now)) built.segments.items built.output
-        (record {
-          work = W.state work.old;
-          output = O.state output.old;
-        })
-        (record {
-          work = W.state work.new;
-          output = O.state output.new;
-        })) }
-    ensures readings { IsTrue (W.state work.old).tells → IfOk result (λ built. AreReadingsOf schema.now (Z.tokens_of analyzers.now)
-        (input_batches (Z.tokens_of analyzers.now) (input_of schema.now settings.now operations.now cuts.now filters.now ids.now)) (map part_of built.segments.items)) }
-    ensures survivors { IsTrue (W.state work.old).tells → IfOk result (λ built. full_reading schema.now (Z.tokens_of analyzers.now)
-        (input_survivors (Z.tokens_of analyzers.now) (input_of schema.now settings.now operations.now cuts.now filters.now ids.now)) ≡ Some (contents_of built.output)) }
+    ensures stops { IfErr result (λ e. StopsBuilding (Z.knows analyzers.now) (Z.tokens_of analyzers.now)
+        (input_of schema.now settings.now operations.now cuts.now filters.now ids.now) e
+        (both (W.state work.old) (O.state output.old)) (both (W.state work.new) (O.state output.new))) }
 {
     built_schemas_have_no_columns();
     check_input(

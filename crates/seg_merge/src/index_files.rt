@@ -5,13 +5,13 @@ ghost use Rattle.seg_directory.specs.declared.answer.Answer.TheVariants as answe
 ghost use Rattle.seg_meta.specs.Saving.{IsMetaList};
 ghost use Rattle.seg_meta.specs.View.{meta_of};
 ghost use Rattle.seg_model.specs.IndexOfFiles as index;
-ghost use Rattle.seg_build.specs.Forms.{segment_forms};
+ghost use Rattle.seg_segment.specs.Forms.{segment_forms};
 ghost use Rattle.seg_batches.specs.Calls.{Does};
 ghost use Rattle.seg_merge.specs.DirectoryCalls.{Lists};
 ghost use Rattle.seg_merge.specs.IndexFiles.{begun_answers};
 
 use seg_common::FileName;
-use seg_directory::{Directory, list_files, sync_files};
+use seg_directory::{Directory, expect_no_files, sync_files};
 use seg_meta::{Index, IndexMeta, IndexSettings, metas_read_back, save_metas};
 use seg_values::{Schema, TResult, TantivyError};
 use std::alloc::Global;
@@ -26,11 +26,7 @@ pub(crate) fn refuse_files<W: Directory>(alloc: Global, directory: &mut W) -> TR
         (W.state directory.old)
         (W.state directory.new) }
 {
-    match list_files(alloc, directory) {
-        Ok(0) => Ok(()),
-        Ok(_) => Err(TantivyError::IndexAlreadyExists),
-        Err(e) => Err(e),
-    }
+    expect_no_files(alloc, directory)
 }
 
 /// Begins an index in a directory without files.
@@ -46,10 +42,7 @@ pub(crate) fn begin_index<W: Directory>(
         (W.state directory.old)
         (W.state directory.new) }
 {
-    let Ok(schema) = schema.copy(alloc) else {
-        return Err(TantivyError::OutOfMemory);
-    };
-    let _index = match Index::create(alloc, schema, *settings, directory) {
+    let _index = match Index::create(alloc, schema.share(), *settings, directory) {
         Ok(index) => index,
         Err(e) => return Err(e),
     };

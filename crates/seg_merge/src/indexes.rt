@@ -10,22 +10,22 @@ ghost use Rattle.seg_model.specs.IndexOfFiles as index;
 ghost use Rattle.seg_model.specs.Input.{input_batches, input_survivors};
 ghost use Rattle.seg_model.specs.Laws.{AreReadingsOf};
 ghost use Rattle.seg_model.specs.Operations.{Batch, additions, batches};
-ghost use Rattle.seg_model.specs.Valid.{Known, are_distinct, cuts_fit};
-ghost use Rattle.seg_build.specs.Built.{is_built_schema};
-ghost use Rattle.seg_build.specs.Forms.{segment_forms};
-ghost use Rattle.seg_build.specs.Holds.{Holds};
-ghost use Rattle.seg_build.specs.SegmentFiles.{AreAbsent};
-ghost use Rattle.seg_build.specs.View.{operation_of};
-ghost use Rattle.seg_build.specs.WriterStart.{Tests, start_refusal};
+ghost use Rattle.seg_model.specs.Valid.{are_distinct, cuts_fit};
+ghost use Rattle.seg_segment.specs.Built.{is_built_schema};
+ghost use Rattle.seg_segment.specs.Forms.{segment_forms};
+ghost use Rattle.seg_segment.specs.Holds.{Holds};
+ghost use Rattle.seg_segment.specs.SegmentFiles.{AreAbsent};
+ghost use Rattle.seg_input.specs.View.{operation_of};
+ghost use Rattle.seg_build.specs.WriterStart.{start_refusal};
 ghost use Rattle.seg_open.specs.OpenSegment.{contents_of};
 ghost use Rattle.seg_open.specs.SegmentOpened.{IsNoDamage};
-ghost use Rattle.seg_open.specs.SegmentRead as segment;
+ghost use Rattle.seg_segment.specs.SegmentFiles as segment;
 ghost use Rattle.seg_join.specs.KeptSegment.{IsOfSchema, part_of};
 ghost use Rattle.seg_batches.specs.Segments.{AllStand, AllTellAlive};
 ghost use Rattle.seg_refusals.specs.Admitted.{Fits};
 ghost use Rattle.seg_refusals.specs.Inputs.{input_of};
 ghost use Rattle.seg_refusals.specs.Refusals.{IfRefusal, batches_error, first_error, refusal_error};
-ghost use Rattle.seg_merge.specs.DirectoryCalls.{Directories, StopsIn, WritesBoth, asked_of};
+ghost use Rattle.seg_merge.specs.DirectoryCalls.{StopsIn, WritesBoth, asked_of, both};
 ghost use Rattle.seg_merge.specs.Filling.{BeginsUpTo, FillStops, FillsThenReads, FiltersFit, OutputStops, ProceedsAs, WritesOne};
 ghost use Rattle.seg_merge.specs.IndexFiles.{IsMergedIndexOf, IsOutputIndexOf, IsWorkIndexOf, listed_of, merged_meta, output_id, segments_files, segments_meta, undeleted, work_ids, written_of};
 ghost use Rattle.seg_merge.specs.Joining.{filtered_segments, joined};
@@ -38,13 +38,15 @@ use crate::output_index::write_output_index;
 use crate::work_index::fill_work_index;
 use seg_batches::{ReadSegment, read_segments};
 use seg_bits::AliveBitSet;
-use seg_build::{UserOperation, built_schemas_have_no_columns, files_hold_one_contents};
+use seg_build::built_schemas_have_no_columns;
 use seg_common::SegmentId;
 use seg_directory::Directory;
+use seg_input::UserOperation;
 use seg_join::built_parts_join;
 use seg_meta::{IndexMeta, IndexSettings};
 use seg_model::joining_is_invisible;
-use seg_open::{SegmentReader, spelled_files_hold};
+use seg_open::SegmentReader;
+use seg_segment::files_hold_one_contents;
 use seg_values::{Analyzers, Schema, TResult, TantivyDocument, TantivyError};
 use std::alloc::Global;
 
@@ -89,30 +91,20 @@ pub(crate) fn write_indexes<Z: Analyzers, W: Directory, O: Directory>(
     ensures fresh { IsTrue (W.state work.old).tells → len (W.state work.old).files ≡ 0
         → IsTrue (O.state output.old).tells → len (O.state output.old).files ≡ 0
         → result ≢ Err TantivyError.IndexAlreadyExists }
-    ensures refused { (known : Known) → Tests known (Z.knows analyzers.now) → first_error known (Z.tokens_of analyzers.now) (input_of schema.now settings.now operations.now cuts.now filters.now ids.now) ≡ None → IsTrue (W.state work.old).tells
-        → IfErr result (IfRefusal (λ e. refusal_error known (Z.tokens_of analyzers.now) (input_of schema.now settings.now operations.now cuts.now filters.now ids.now) ≡ Some e)) }
-    ensures refused_untold { (known : Known) → Tests known (Z.knows analyzers.now) → first_error known (Z.tokens_of analyzers.now) (input_of schema.now settings.now operations.now cuts.now filters.now ids.now) ≡ None
-        → IfErr result (IfRefusal (λ e. (refusal_error known (Z.tokens_of analyzers.now) (input_of schema.now settings.now operations.now cuts.now filters.now ids.now) ≡ Some e)
+    ensures refused { first_error (Z.knows analyzers.now) (Z.tokens_of analyzers.now)
+        (input_of schema.now settings.now operations.now cuts.now filters.now ids.now) ≡ None
+        → IsTrue (W.state work.old).tells → IfErr result (IfRefusal (λ e. refusal_error (Z.knows analyzers.now) (Z.tokens_of analyzers.now)
+        (input_of schema.now settings.now operations.now cuts.now filters.now ids.now) ≡ Some e)) }
+    ensures refused_untold { first_error (Z.knows analyzers.now) (Z.tokens_of analyzers.now)
+        (input_of schema.now settings.now operations.now cuts.now filters.now ids.now) ≡ None
+        → IfErr result (IfRefusal (λ e. (refusal_error (Z.knows analyzers.now) (Z.tokens_of analyzers.now)
+        (input_of schema.now settings.now operations.now cuts.now filters.now ids.now) ≡ Some e)
         ⊎ (e ≡ TantivyError.InvalidArgument Documents))) }
     ensures whole { IsTrue (W.state work.old).tells → IfErr result IsNoDamage }
     ensures written { IfOk result (λ built. WritesBoth (asked_of (Z.tokens_of analyzers.now) (input_of schema.now settings.now operations.now cuts.now filters.now ids.now)) built.segments.items built.output
-        (record {
-          work = W.state work.old;
-          output = O.state output.old;
-        })
-        (record {
-          work = W.state work.new;
-          output = O.state output.new;
-        })) }
+        (both (W.state work.old) (O.state output.old)) (both (W.state work.new) (O.state output.new))) }
     ensures stops { IfErr result (λ e. StopsIn (asked_of (Z.tokens_of analyzers.now) (input_of schema.now settings.now operations.now cuts.now filters.now ids.now)) e
-        (record {
-          work = W.state work.old;
-          output = O.state output.old;
-        })
-        (record {
-          work = W.state work.new;
-          output = O.state output.new;
-        })) }
+        (both (W.state work.old) (O.state output.old)) (both (W.state work.new) (O.state output.new))) }
 {
     joining_is_invisible();
     built_parts_join();
@@ -147,14 +139,7 @@ fn begin_indexes<W: Directory, O: Directory>(
         → result ≢ Err TantivyError.IndexAlreadyExists }
     ensures output_files { (O.state output.new).files ≡ (O.state output.old).files }
     ensures calls { BeginsUpTo result
-        (record {
-          work = W.state work.old;
-          output = O.state output.old;
-        })
-        (record {
-          work = W.state work.new;
-          output = O.state output.new;
-        }) }
+        (both (W.state work.old) (O.state output.old)) (both (W.state work.new) (O.state output.new)) }
 {
     refuse_files(alloc, work)?;
     refuse_files(alloc, output)?;
@@ -201,7 +186,7 @@ fn write_work<Z: Analyzers, W: Directory>(
     ensures fresh { IsTrue (W.state work.old).tells
         → AreAbsent (segments_files (listed_of schema.now (Z.tokens_of analyzers.now) ids.now cuts.now (map operation_of operations.now))) (W.state work.old).files
         → result ≢ Err TantivyError.IndexAlreadyExists }
-    ensures refused { (known : Known) → Tests known (Z.knows analyzers.now) → start_refusal known 15000 schema.now settings.now ≡ None
+    ensures refused { start_refusal (Z.knows analyzers.now) 15000 schema.now settings.now ≡ None
         → IfErr result (IfRefusal (λ e. batches_error schema.now (Z.tokens_of analyzers.now) 0 cuts.now (map operation_of operations.now) ≡ Some e)) }
     ensures whole { IsTrue (W.state work.old).tells → IfErr result IsNoDamage }
     ensures reads { IfOk result (λ segments. FillsThenReads schema.now (listed_of schema.now (Z.tokens_of analyzers.now) ids.now cuts.now (map operation_of operations.now)) segments.items
@@ -256,7 +241,6 @@ fn write_output<O: Directory>(
         (O.state output.old)
         (O.state output.new)) }
 {
-    spelled_files_hold();
     let merged = merge_segments(alloc, schema, settings, filters, segments)?;
     let metas = write_merged(
         alloc, schema, settings, work_ids, output_id, &merged, output,

@@ -5,9 +5,9 @@ ghost use Rattle.std.specs.List.{AllByRecursion};
 ghost use Rattle.seg_model.specs.Contents.{Contents};
 ghost use Rattle.seg_model.specs.Join.{joined_with};
 ghost use Rattle.seg_model.specs.Operations.{both_marked, filtered_by};
-ghost use Rattle.seg_build.specs.Built.{is_built_schema};
+ghost use Rattle.seg_segment.specs.Built.{is_built_schema};
 ghost use Rattle.seg_open.specs.OpenSegment.{contents_of};
-ghost use Rattle.seg_open.specs.Spelling.{Spell};
+ghost use Rattle.seg_segment.specs.Spelling.{Spell};
 ghost use Rattle.seg_join.specs.KeptSegment.{IsMarked, IsOfSchema, kept_count, part_of};
 ghost use Rattle.seg_batches.specs.Making.{AreWhole};
 ghost use Rattle.seg_merge.specs.Filling.{FilterFits, FiltersFit};
@@ -17,7 +17,8 @@ use seg_batches::ReadSegment;
 use seg_bits::{AliveBitSet, intersect_alive_bitsets};
 use seg_join::{MergePart, join_segments, num_joined_docs};
 use seg_meta::IndexSettings;
-use seg_open::{OpenError, SegmentFiles, SegmentReader, files_spell_one_contents};
+use seg_open::{OpenError, SegmentReader};
+use seg_segment::{SegmentFiles, files_spell_one_contents};
 use seg_values::{ArgumentCause, Schema, TResult, TantivyError};
 use std::alloc::{AllocError, Global};
 
@@ -161,10 +162,7 @@ fn open_merged(
     ensures err { IfErr result (λ e. e ≡ TantivyError.OutOfMemory) }
 {
     files_spell_one_contents();
-    let Ok(copy) = schema.copy(alloc) else {
-        return Err(TantivyError::OutOfMemory);
-    };
-    match SegmentReader::open_files(alloc, copy, max_doc, files.share()) {
+    match SegmentReader::open_files(alloc, schema.share(), max_doc, files.share()) {
         Ok(reader) => Ok(MergedSegment { files, reader }),
         Err(OpenError::OutOfMemory) => Err(TantivyError::OutOfMemory),
         Err(OpenError::Damaged(_)) => unreachable!(),

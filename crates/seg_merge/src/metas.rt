@@ -12,22 +12,21 @@ use std::alloc::{AllocError, Global};
 
 /// The meta of an index of the segments of batches, as of a stamp.
 pub(crate) fn work_metas(
-    alloc: Global,
     schema: &Schema,
     settings: &IndexSettings,
     stamp: u64,
     segments: SegmentMetas,
-) -> Result<IndexMeta, AllocError>
-    ensures meta { IfOk result (λ metas. meta_of metas ≡ segments_meta (settings_of settings.now) schema.now stamp segments) }
-    ensures list { IfOk result (λ metas. metas.segments ≡ segments) }
+) -> IndexMeta
+    ensures meta { meta_of result ≡ segments_meta (settings_of settings.now) schema.now stamp segments }
+    ensures list { result.segments ≡ segments }
 {
-    Ok(IndexMeta {
+    IndexMeta {
         index_settings: *settings,
         segments,
-        schema: schema.copy(alloc)?,
+        schema: schema.share(),
         opstamp: stamp,
         payload: None,
-    })
+    }
 }
 
 /// The meta of an index of one segment without deletes that was merged from those with these ids.
@@ -48,7 +47,7 @@ pub(crate) fn output_metas(
     Ok(IndexMeta {
         index_settings: *settings,
         segments,
-        schema: schema.copy(alloc)?,
+        schema: schema.share(),
         opstamp: 0,
         payload: Some(merge_payload(alloc, ids)?),
     })

@@ -4,9 +4,9 @@ ghost use Rattle.std.specs.FinMap.{len};
 ghost use Rattle.seg_meta.specs.Saving.{IsMetaList};
 ghost use Rattle.seg_meta.specs.View.{meta_of};
 ghost use Rattle.seg_model.specs.IndexOfFiles as index;
-ghost use Rattle.seg_build.specs.Forms.{segment_forms};
-ghost use Rattle.seg_build.specs.SegmentFiles.{AreAbsent, segment_names};
-ghost use Rattle.seg_open.specs.SegmentRead as segment;
+ghost use Rattle.seg_segment.specs.Forms.{segment_forms};
+ghost use Rattle.seg_segment.specs.SegmentFiles.{AreAbsent, segment_names};
+ghost use Rattle.seg_segment.specs.SegmentFiles as segment;
 ghost use Rattle.seg_batches.specs.Calls.{Does};
 ghost use Rattle.seg_merge.specs.IndexFiles.{filled_answers, index_answers, index_names, undeleted};
 
@@ -14,7 +14,7 @@ use crate::index_files::{begin_index, save_index};
 use seg_common::SegmentId;
 use seg_directory::Directory;
 use seg_meta::IndexMeta;
-use seg_open::SegmentFiles;
+use seg_segment::SegmentFiles;
 use seg_values::{TResult, TantivyError};
 use std::alloc::Global;
 

@@ -6,12 +6,12 @@ ghost use Rattle.seg_meta.specs.View.{meta_of, settings_of};
 ghost use Rattle.seg_model.specs.Built.{is_taken};
 ghost use Rattle.seg_model.specs.IndexOfFiles as index;
 ghost use Rattle.seg_model.specs.Operations.{Batch, additions, batches};
-ghost use Rattle.seg_model.specs.Valid.{Known, are_distinct, cuts_fit};
-ghost use Rattle.seg_build.specs.Built.{is_built_schema};
-ghost use Rattle.seg_build.specs.Forms.{segment_forms};
-ghost use Rattle.seg_build.specs.SegmentFiles.{AreAbsent, wrote};
-ghost use Rattle.seg_build.specs.View.{operation_of};
-ghost use Rattle.seg_build.specs.WriterStart.{Tests, start_refusal};
+ghost use Rattle.seg_model.specs.Valid.{are_distinct, cuts_fit};
+ghost use Rattle.seg_segment.specs.Built.{is_built_schema};
+ghost use Rattle.seg_segment.specs.Forms.{segment_forms};
+ghost use Rattle.seg_segment.specs.SegmentFiles.{AreAbsent, wrote};
+ghost use Rattle.seg_input.specs.View.{operation_of};
+ghost use Rattle.seg_build.specs.WriterStart.{start_refusal};
 ghost use Rattle.seg_batches.specs.Calls.{Does};
 ghost use Rattle.seg_batches.specs.Segments.{AllStand, AllTellAlive, alive_files, all_listed};
 ghost use Rattle.seg_refusals.specs.Refusals.{IfRefusal, batches_error};
@@ -21,9 +21,9 @@ ghost use Rattle.seg_merge.specs.IndexFiles.{listed_of, segments_files, segments
 use crate::index_files::save_index;
 use crate::metas::work_metas;
 use seg_batches::{WrittenSegment, list_segments, write_alive_files, write_batches};
-use seg_build::UserOperation;
 use seg_common::{FileName, SegmentId};
 use seg_directory::Directory;
+use seg_input::UserOperation;
 use seg_meta::{IndexMeta, IndexSettings};
 use seg_values::{Analyzers, Schema, TResult, TantivyDocument, TantivyError};
 use std::alloc::Global;
@@ -58,7 +58,7 @@ pub(crate) fn fill_work_index<Z: Analyzers, W: Directory>(
     ensures fresh { IsTrue (W.state work.old).tells
         → AreAbsent (segments_files (listed_of schema.now (Z.tokens_of analyzers.now) ids.now cuts.now (map operation_of operations.now))) (W.state work.old).files
         → result ≢ Err TantivyError.IndexAlreadyExists }
-    ensures refused { (known : Known) → Tests known (Z.knows analyzers.now) → start_refusal known 15000 schema.now settings.now ≡ None
+    ensures refused { start_refusal (Z.knows analyzers.now) 15000 schema.now settings.now ≡ None
         → IfErr result (IfRefusal (λ e. batches_error schema.now (Z.tokens_of analyzers.now) 0 cuts.now (map operation_of operations.now) ≡ Some e)) }
     ensures calls { FillsUpTo (listed_of schema.now (Z.tokens_of analyzers.now) ids.now cuts.now (map operation_of operations.now)) result
         (W.state work.old)
@@ -123,9 +123,7 @@ fn save_work_index<W: Directory>(
     let Ok(listed) = list_segments(alloc, stamp, segments) else {
         return Err(TantivyError::OutOfMemory);
     };
-    let Ok(metas) = work_metas(alloc, schema, settings, stamp, listed) else {
-        return Err(TantivyError::OutOfMemory);
-    };
+    let metas = work_metas(schema, settings, stamp, listed);
     match save_index(alloc, &metas, work) {
         Ok(()) => Ok(metas),
         Err(e) => Err(e),

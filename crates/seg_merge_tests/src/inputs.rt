@@ -2,9 +2,9 @@
 ghost use Rattle.std.specs.Prelude.{◌≡◌, true, IfOk};
 ghost use Rattle.seg_values.specs.Names.{is_allowed};
 
-use seg_build::UserOperation;
 use seg_common::SegmentId;
 use seg_directory::{MemoryDirectory, list_files};
+use seg_input::UserOperation;
 use seg_merge::build_index;
 use seg_meta::{Compressor, IndexSettings};
 use seg_values::{

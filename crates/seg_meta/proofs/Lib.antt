@@ -9,3 +9,4 @@ pub mod Plain
 pub mod Pretty
 pub mod SegmentIds
 pub mod TextBack
+mod Loads

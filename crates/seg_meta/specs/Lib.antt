@@ -1,7 +1,7 @@
 pub mod Fits
-pub mod Loading
 pub mod MetaJson
 pub mod MetaRead
+pub mod MetaSteps
 pub mod MetaText
 pub mod Metas
 pub mod PartsRead

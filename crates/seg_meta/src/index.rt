@@ -1,17 +1,15 @@
 //! An index.
-ghost use Rattle.std.specs.Prelude.{◌≡◌, ◌⊎◌, map, IsTrue, IfOk, IfErr};
-ghost use Rattle.std.specs.FinMap.{get, len};
-ghost use Rattle.seg_directory.specs.Changes.{KeepsOthers};
-ghost use Rattle.seg_directory.specs.Faults.{FaultHasCause};
-ghost use Rattle.seg_meta.specs.Loading.{LoadingSeen, LoadsMeta};
+ghost use Rattle.std.specs.Prelude.{◌≡◌, map, IfOk};
+ghost use Rattle.seg_directory.specs.Works.{Works};
+ghost use Rattle.seg_meta.specs.MetaSteps.{LoadsMetas, create_steps};
 ghost use Rattle.seg_meta.specs.MetaText.{meta_text};
-ghost use Rattle.seg_meta.specs.Saving.{CreatingCounts, CreatingFiles, CreatingSeen, IsMetaList, empty_meta};
+ghost use Rattle.seg_meta.specs.Saving.{IsMetaList, empty_meta};
 ghost use Rattle.seg_meta.specs.Metas.{segment_of};
 ghost use Rattle.seg_meta.specs.View.{settings_of, meta_of};
 
 use crate::{IndexMeta, IndexSettings, Segment, SegmentMetas, load_metas, save_metas};
 use seg_common::FileName;
-use seg_directory::{Directory, list_files};
+use seg_directory::{Directory, expect_no_files};
 use seg_values::{Schema, TResult, TantivyError};
 use std::alloc::Global;
 use std::marker::Model;
@@ -42,24 +40,11 @@ impl Index {
         directory: &mut O,
     ) -> TResult<Index>
         ensures ok { IfOk result (λ index. meta_of index ≡ empty_meta (settings_of settings) schema) }
-        ensures number { IsTrue (O.state directory.old).tells → CreatingCounts (len (O.state directory.old).files) result }
-        ensures file { IsTrue (O.state directory.old).tells → CreatingFiles (meta_text (empty_meta (settings_of settings) schema))
-            result (O.state directory.old).files (O.state directory.new).files }
-        ensures others { KeepsOthers FileName.Meta (O.state directory.old).files (O.state directory.new).files }
-        ensures tells { (O.state directory.new).tells ≡ (O.state directory.old).tells }
-        ensures seen { CreatingSeen (O.state directory.old).seen result (O.state directory.new).seen }
-        ensures listing { FaultHasCause
-            TantivyError.OpenReadError (O.state directory.old).faults (O.state directory.new).faults result }
-        ensures saving { FaultHasCause
-            TantivyError.IoError (O.state directory.old).faults (O.state directory.new).faults result }
-        ensures errors { IfErr result
-            (λ e. (e ≡ TantivyError.IndexAlreadyExists) ⊎ (e ≡ TantivyError.OpenReadError)
-            ⊎ (e ≡ TantivyError.IoError) ⊎ (e ≡ TantivyError.OutOfMemory)) }
+        ensures does { Works (create_steps (meta_text (empty_meta (settings_of settings) schema)))
+            result (O.state directory.old) (O.state directory.new) }
     {
-        match list_files(alloc, directory) {
-            Ok(0) => {}
-            Ok(_) => return Err(TantivyError::IndexAlreadyExists),
-            Err(e) => return Err(e),
+        if let Err(e) = expect_no_files(alloc, directory) {
+            return Err(e);
         }
         let metas = IndexMeta {
             index_settings: settings,
@@ -76,15 +61,7 @@ impl Index {
 
     /// Opens the index that a directory has.
     pub fn open<W: Directory>(alloc: Global, directory: &mut W) -> TResult<Index>
-        ensures file { IsTrue (W.state directory.old).tells → LoadsMeta (get (W.state directory.old).files FileName.Meta) result }
-        ensures files { (W.state directory.new).files ≡ (W.state directory.old).files }
-        ensures tells { (W.state directory.new).tells ≡ (W.state directory.old).tells }
-        ensures seen { LoadingSeen (W.state directory.old).seen result (W.state directory.new).seen }
-        ensures cause { FaultHasCause
-            TantivyError.OpenReadError (W.state directory.old).faults (W.state directory.new).faults result }
-        ensures errors { IfErr result
-            (λ e. (e ≡ TantivyError.DataCorruption FileName.Meta)
-            ⊎ (e ≡ TantivyError.OpenReadError) ⊎ (e ≡ TantivyError.OutOfMemory)) }
+        ensures does { LoadsMetas result (W.state directory.old) (W.state directory.new) }
     {
         match load_metas(alloc, directory) {
             Ok(metas) => Ok(Index { metas }),
@@ -118,15 +95,14 @@ impl Index {
         &self.metas
     }
 
-    /// The segments that the meta lists, in order, each with a schema of its own.
+    /// The segments that the meta lists, in order. They share the schema.
     pub fn searchable_segments(&self, alloc: Global) -> TResult<Vec<Segment>>
         ensures ok { IfOk result (λ segments. segments.items ≡ map (segment_of self.now.schema) self.now.segments) }
-        ensures errors { IfErr result (λ e. e ≡ TantivyError.OutOfMemory) }
     {
         let mut segments = Vec::new(alloc);
         for meta in self.metas.segments.as_slice() {
-            let schema = self.metas.schema.copy(alloc)?;
-            if segments.push(Segment::new(schema, *meta)).is_err() {
+            let segment = Segment::new(self.metas.schema.share(), *meta);
+            if segments.push(segment).is_err() {
                 return Err(TantivyError::OutOfMemory);
             }
         }

@@ -5,8 +5,7 @@ use Rattle.seg_values.specs.declared.token.Token.{Token}
 use Rattle.seg_values.specs.declared.schema.FieldEntry.{FieldEntry}
 use Rattle.seg_values.specs.declared.schema.FieldKind.{FieldKind}
 use Rattle.seg_values.specs.declared.schema.FieldKind.TheVariants.{Text, Facet, Json}
-use Rattle.seg_values.specs.declared.schema.IndexOption.{IndexOption}
-use Rattle.seg_values.specs.declared.schema.IndexOption.TheVariants.{No}
+pub use Rattle.seg_values.specs.Indexed.{is_on, is_indexed, has_lengths}
 use Rattle.seg_values.specs.Tree.{Tree, Document}
 
 -- a schema: its field entries, of which a field is a place
@@ -31,19 +30,6 @@ is_json _ = false
 abbrev pub is_facet : FieldKind → Bool
 is_facet Facet = true
 is_facet _ = false
-
--- an option under which a field is indexed
-abbrev pub is_on : IndexOption → Bool
-is_on No = false
-is_on _ = true
-
--- an indexed field
-abbrev pub is_indexed : FieldEntry → Bool
-is_indexed entry = is_on entry.index
-
--- a field has lengths where it is indexed and `norms` is set
-abbrev pub has_lengths : FieldEntry → Bool
-has_lengths entry = is_indexed entry && entry.norms
 
 -- the named tokenizer of an indexed text or JSON field, else `default`
 abbrev pub indexing_tokenizer : FieldEntry → List ℕ

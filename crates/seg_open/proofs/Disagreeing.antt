@@ -20,10 +20,11 @@ use Rattle.seg_postings.specs.NormsRead.{AreNorms}
 use Rattle.seg_open.specs.FieldOpening.{MayHold}
 use Rattle.seg_open.specs.FieldsOpening.{OneCantHold, IsWhyNone}
 use Rattle.seg_open.specs.IndexedParts.{HaveIndexedParts, LacksParts}
-use Rattle.seg_open.specs.Spelling.{Spell, Disagree, IsWhyNotOpen}
+use Rattle.seg_segment.specs.Spelling.{Spell}
+use Rattle.seg_open.specs.Disagreement.{Disagree, IsWhyNotOpen}
 use Rattle.seg_open.specs.declared.open_error.OpenError.{OpenError}
 use Rattle.seg_open.specs.declared.open_error.OpenError.TheVariants.{Damaged, OutOfMemory}
-use Rattle.seg_open.specs.declared.segment_files.SegmentFiles.{SegmentFiles}
+use Rattle.seg_segment.specs.declared.segment_files.SegmentFiles.{SegmentFiles}
 
 record IsMapped (o : Option (List Block)) (ds : List Document) : Type 0 where
   blocks : List Block

@@ -1,11 +1,7 @@
 pub mod BuiltTexts
 pub mod Disagreeing
 pub mod FieldsFit
-pub mod FilesMade
-pub mod FilesStand
 pub mod HeldFields
 pub mod OpenSpells
 pub mod Opened
 pub mod PlacesOpened
-pub mod ReadingSteps
-pub mod SpelledFiles

@@ -18,12 +18,12 @@ use Rattle.seg_store.specs.Store.{documents_of}
 use Rattle.seg_postings.specs.FieldReading.{OpenField, written_terms}
 use Rattle.seg_postings.specs.HeldTerms.{TermsReadHaveShape}
 use Rattle.seg_open.specs.FieldOpening.{IsOpened}
-use Rattle.seg_build.specs.Holds.{HoldsField}
+use Rattle.seg_segment.specs.HoldTerms.{HoldsField}
 use Rattle.seg_open.specs.OpenSegment.{OpenSegment, terms_in, contents_of}
 use Rattle.seg_open.specs.SegmentOpening.{TermsAreOpen, IsOpen, AreTexts}
 use Rattle.seg_open.specs.FieldsOpening.{IsPlaceOpened}
-use Rattle.seg_open.specs.Spelling.{Spell}
-use Rattle.seg_open.specs.declared.segment_files.SegmentFiles.{SegmentFiles}
+use Rattle.seg_segment.specs.Spelling.{Spell}
+use Rattle.seg_segment.specs.declared.segment_files.SegmentFiles.{SegmentFiles}
 
 -- the terms of the field at a place
 terms_at_place : (fields : List (Option OpenField)) (i : ℕ) (o : Option OpenField) → slice_get fields i ≡ Some o → slice_index_or (map terms_in fields) i empty ≡ terms_in o

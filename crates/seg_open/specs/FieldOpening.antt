@@ -8,7 +8,7 @@ use Rattle.seg_model.specs.Reading as reading
 use Rattle.seg_model.specs.Shape.{IsTermWith}
 use Rattle.seg_directory.specs.Composite.{Part, field_of}
 use Rattle.seg_postings.specs.FieldReading.{OpenField, IsFieldBy, rules_of, written_terms}
-use Rattle.seg_build.specs.Holds.{HoldsField}
+use Rattle.seg_segment.specs.HoldTerms.{HoldsField}
 use Rattle.seg_open.specs.declared.open_error.OpenError.{OpenError}
 use Rattle.seg_open.specs.declared.open_error.OpenError.TheVariants.{Damaged, OutOfMemory}
 

@@ -3,7 +3,7 @@ use Rattle.std.specs.Prelude.{◌≡◌, ℕ, List, map, Some}
 use Rattle.seg_common.specs.declared.name.SegmentComponent.TheVariants.{Terms, Postings, Positions}
 use Rattle.seg_model.specs.Fields.{Schema}
 use Rattle.seg_directory.specs.Composite.{Part, composite}
-use Rattle.seg_build.specs.Holds.{indexed_fields}
+use Rattle.seg_segment.specs.HoldTerms.{indexed_fields}
 use Rattle.seg_open.specs.declared.open_error.OpenError.{OpenError}
 use Rattle.seg_open.specs.declared.open_error.OpenError.TheVariants.{Damaged}
 

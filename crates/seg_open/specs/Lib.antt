@@ -1,10 +1,7 @@
+pub mod Disagreement
 pub mod FieldOpening
 pub mod FieldsOpening
 pub mod IndexedParts
-pub mod Laws
-pub mod MadeFiles
 pub mod OpenSegment
 pub mod SegmentOpened
 pub mod SegmentOpening
-pub mod SegmentRead
-pub mod Spelling

@@ -8,11 +8,13 @@ use Rattle.seg_values.specs.declared.error.TantivyError.TheVariants.{DataCorrupt
 use Rattle.seg_model.specs.Fields.{Schema}
 use Rattle.seg_directory.specs.declared.answer.Answer.{Answer}
 use Rattle.seg_open.specs.OpenSegment.{OpenSegment, contents_of}
-use Rattle.seg_open.specs.SegmentRead.{read_order, reads, ReadingEnds}
-use Rattle.seg_open.specs.Spelling.{Spell, Disagree}
+use Rattle.seg_segment.specs.SegmentFiles.{read_order}
+use Rattle.seg_segment.specs.SegmentRead.{reads, ReadingEnds}
+use Rattle.seg_segment.specs.Spelling.{Spell}
+use Rattle.seg_open.specs.Disagreement.{Disagree}
 use Rattle.seg_open.specs.declared.open_error.OpenError.{OpenError}
 use Rattle.seg_open.specs.declared.open_error.OpenError.TheVariants as open_error
-use Rattle.seg_open.specs.declared.segment_files.SegmentFiles.{SegmentFiles}
+use Rattle.seg_segment.specs.declared.segment_files.SegmentFiles.{SegmentFiles}
 
 -- all six files were read
 pub record AreAllRead (id : ℕ) (old new : List Answer) : Type 0 where
@@ -31,11 +33,11 @@ pub record ReadsDamaged (id : ℕ) (schema : Schema) (documents : ℕ) (name : F
   pub told : name ≡ Part id component
   pub disagree : Disagree schema documents all.files component
 
--- what it adds to the answers of the directory: all files, whole or damaged; those before one that is missing or can't be read; or no memory, before or after them
+-- what it adds to the answers of the directory: all files, whole or damaged; those before one that is missing or can't be read; or no memory, for one of them or after all
 abbrev pub OpeningSeen : ℕ → Schema → ℕ → List Answer → Result OpenSegment TantivyError → List Answer → Type 0
 OpeningSeen id schema documents old (Ok s) new = ReadsWhole id s old new
 OpeningSeen id schema documents old (Err (DataCorruption name)) new = ReadingEnds id (DataCorruption name) old new ⊎ ReadsDamaged id schema documents name old new
-OpeningSeen id schema documents old (Err OutOfMemory) new = (new ≡ old) ⊎ (ReadingEnds id OutOfMemory old new ⊎ AreAllRead id old new)
+OpeningSeen id schema documents old (Err OutOfMemory) new = ReadingEnds id OutOfMemory old new ⊎ AreAllRead id old new
 OpeningSeen id schema documents old (Err e) new = ReadingEnds id e old new
 
 -- an error that tells of no damage

@@ -12,7 +12,7 @@ use Rattle.seg_postings.specs.NormsRead.{norms_of, HoldNorms}
 use Rattle.seg_open.specs.FieldsOpening.{AreOpened}
 use Rattle.seg_open.specs.IndexedParts.{HaveIndexedParts}
 use Rattle.seg_open.specs.OpenSegment.{OpenSegment}
-use Rattle.seg_open.specs.declared.segment_files.SegmentFiles.{SegmentFiles}
+use Rattle.seg_segment.specs.declared.segment_files.SegmentFiles.{SegmentFiles}
 
 -- three files have a part for each field that is indexed, and each of these is open
 pub record TermsAreOpen (schema : Schema) (documents : ℕ) (terms postings positions : List ℕ) (fields : List (Option OpenField)) : Type 0 where

@@ -4,7 +4,7 @@ ghost use Rattle.seg_open.specs.FieldsOpening.{AreOpened, IsPlaceOpened, IsWhyNo
 
 use crate::field_opening::open_field;
 use crate::open_error::OpenError;
-use crate::term_files::{TermFiles, is_indexed};
+use crate::term_files::TermFiles;
 use seg_postings::InvertedIndexReader;
 use seg_values::{Field, FieldEntry, Schema};
 use std::alloc::{AllocError, Global};
@@ -59,7 +59,7 @@ fn open_place(
     ensures ok { IfOk result (IsPlaceOpened entry.now place max_doc files.now.terms files.now.postings files.now.positions) }
     ensures err { IfErr result (IsWhyNotAt entry.now place max_doc files.now.terms files.now.postings files.now.positions) }
 {
-    if !is_indexed(entry) {
+    if !entry.is_indexed() {
         return Ok(None);
     }
     let field = Field::from_field_id(place as u32);

@@ -3,23 +3,16 @@
 //! A reader is seen as the contents that the bytes of its six files hold. Each file is read once, whole, and checked against
 //! those before it; what is looked up later is looked up in these bytes.
 //!
-//! Files in reading order: `segment_files` (the six files, read or just made, and made again), `component_files`,
-//! `open_error`, `term_files` (the three files of terms), `field_opening` (the terms of a field), `fields_opening` (those of
-//! all fields), `parts_opening` (the store, the columns and the length ids), `segment_reader`; `laws` (files spell at most
-//! one contents, which they hold in a directory).
+//! Files in reading order: `open_error`, `term_files` (the three files of terms), `field_opening` (the terms of a field),
+//! `fields_opening` (those of all fields), `parts_opening` (the store, the columns and the length ids), `segment_reader`.
 #![tactic(auto)]
 
-mod component_files;
 mod field_opening;
 mod fields_opening;
-mod laws;
 mod open_error;
 mod parts_opening;
-mod segment_files;
 mod segment_reader;
 mod term_files;
 
-pub use laws::{files_spell_one_contents, held_files_spell, made_files_spell, spelled_files_hold};
 pub use open_error::OpenError;
-pub use segment_files::SegmentFiles;
 pub use segment_reader::SegmentReader;

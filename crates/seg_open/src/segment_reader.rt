@@ -3,21 +3,22 @@ ghost use Rattle.std.specs.Prelude.{◌≡◌, true, map, is_some, Some, None, s
 ghost use Rattle.seg_model.specs.Contents.{Contents};
 ghost use Rattle.seg_model.specs.Fields.{is_indexed};
 ghost use Rattle.seg_directory.specs.Faults.{FaultHasCause};
-ghost use Rattle.seg_build.specs.Built.{is_built_schema};
-ghost use Rattle.seg_build.specs.Holds.{Holds};
+ghost use Rattle.seg_segment.specs.Built.{is_built_schema};
+ghost use Rattle.seg_segment.specs.Holds.{Holds};
 ghost use Rattle.seg_open.specs.OpenSegment.{contents_of};
 ghost use Rattle.seg_open.specs.SegmentOpened.{IsNoDamage, OpeningSeen};
-ghost use Rattle.seg_open.specs.Spelling.{Spell, IsWhyNotOpen};
+ghost use Rattle.seg_segment.specs.Spelling.{Spell};
+ghost use Rattle.seg_open.specs.Disagreement.{IsWhyNotOpen};
 
 use crate::fields_opening::open_fields;
 use crate::open_error::OpenError;
 use crate::parts_opening::{are_columns, open_norms, open_store};
-use crate::segment_files::SegmentFiles;
 use crate::term_files::open_term_files;
 use seg_common::SegmentComponent;
 use seg_directory::Directory;
 use seg_meta::Segment;
 use seg_postings::{FieldNormReaders, InvertedIndexReader, terms_read_have_shape};
+use seg_segment::SegmentFiles;
 use seg_store::StoreReader;
 use seg_values::{Field, Schema, TResult, TantivyError};
 use std::alloc::Global;
@@ -69,9 +70,7 @@ impl SegmentReader {
         ensures cause { FaultHasCause
             TantivyError.OpenReadError (W.state directory.old).faults (W.state directory.new).faults result }
     {
-        let Ok(schema) = segment.schema().copy(alloc) else {
-            return Err(TantivyError::OutOfMemory);
-        };
+        let schema = segment.schema().share();
         let id = segment.id();
         let files = match SegmentFiles::read(alloc, id, directory) {
             Ok(files) => files,

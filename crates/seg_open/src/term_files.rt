@@ -1,13 +1,12 @@
 //! The three files that have a part for each field that is indexed.
 ghost use Rattle.std.specs.Prelude.{◌≡◌, ◌≢◌, slice_get, Some, IfOk, IfErr, MatchBool, MatchOption};
-ghost use Rattle.seg_model.specs.Fields as model;
-ghost use Rattle.seg_build.specs.Holds.{indexed_fields};
+ghost use Rattle.seg_segment.specs.HoldTerms.{indexed_fields};
 ghost use Rattle.seg_open.specs.IndexedParts.{part_fields, HaveIndexedParts, LackIndexedParts, LacksParts};
 
 use crate::open_error::OpenError;
 use seg_common::{OwnedBytes, SegmentComponent};
 use seg_directory::CompositeFile;
-use seg_values::{FieldEntry, IndexOption, Schema};
+use seg_values::{FieldEntry, Schema};
 
 /// The parts of each indexed field: its dictionary, its postings and its positions.
 #[derive(Drop)]
@@ -75,7 +74,7 @@ fn are_parts_of(file: &CompositeFile, entries: &[FieldEntry]) -> bool
     let count = file.num_fields();
     let mut place = 0;
     for (field, entry) in entries.iter().enumerate() {
-        if is_indexed(entry) {
+        if entry.is_indexed() {
             if !is_part_of(file, place, field) {
                 return false;
             }
@@ -96,13 +95,4 @@ fn is_part_of(file: &CompositeFile, place: u32, field: usize) -> bool
     }
     let (part_field, _bytes) = file.part(place);
     part_field.field_id() as usize == field
-}
-
-pub(crate) fn is_indexed(entry: &FieldEntry) -> bool
-    ensures { result ≡ model.is_indexed entry.now }
-{
-    match entry.index {
-        IndexOption::No => false,
-        _ => true,
-    }
 }

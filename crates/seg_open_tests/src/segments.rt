@@ -28,7 +28,7 @@ fn written(alloc: Global) -> TResult<MemoryDirectory> {
     }
     let mut directory = memory(alloc)?;
     let made = writer.into_segment()?;
-    made.bytes.write(alloc, segment_id(), &mut directory)?;
+    made.files.write(alloc, segment_id(), &mut directory)?;
     Ok(directory)
 }
 

@@ -6,7 +6,6 @@ ghost use Rattle.seg_postings.specs.NormsRead.{lengths_of_parts, lengths_for, no
 
 use crate::error::PostingsError;
 use crate::field_norm_reader::FieldNormReader;
-use crate::field_norms_writer::has_lengths;
 use seg_common::OwnedBytes;
 use seg_directory::CompositeFile;
 use seg_values::{Field, FieldEntry, Schema};
@@ -81,7 +80,7 @@ fn fit_parts(parts: &CompositeFile, entries: &[FieldEntry], max_doc: u32) -> boo
     let count = parts.num_fields();
     let mut place = 0;
     for (field, entry) in entries.iter().enumerate() {
-        if has_lengths(entry) {
+        if entry.has_field_norms() {
             if !is_part(parts, place, field, max_doc) {
                 return false;
             }

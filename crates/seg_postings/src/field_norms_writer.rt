@@ -7,7 +7,7 @@ ghost use Rattle.seg_postings.specs.FieldNorms.{no_norms, fields_with_lengths, f
 
 use crate::error::PostingsError;
 use crate::length_ids::LengthIds;
-use seg_values::{Field, FieldEntry, IndexOption, Schema};
+use seg_values::{Field, FieldEntry, Schema};
 use std::alloc::{AllocError, Global};
 use std::marker::Model;
 
@@ -92,22 +92,6 @@ impl FieldNormsWriter {
     }
 }
 
-/// Whether a field has lengths.
-pub(crate) fn has_lengths(entry: &FieldEntry) -> bool
-    ensures { result ≡ fields.has_lengths entry.now }
-{
-    is_indexed(entry) && entry.norms
-}
-
-fn is_indexed(entry: &FieldEntry) -> bool
-    ensures { result ≡ fields.is_indexed entry.now }
-{
-    match entry.index {
-        IndexOption::No => false,
-        _ => true,
-    }
-}
-
 fn with_lengths(alloc: Global, entries: &[FieldEntry]) -> Result<Vec<Field>, AllocError>
     ensures { IfOk result (λ fs. fs.items ≡ fields_with_lengths entries.now) }
 {
@@ -116,7 +100,7 @@ fn with_lengths(alloc: Global, entries: &[FieldEntry]) -> Result<Vec<Field>, All
         let Ok(id) = u32::try_from(place) else {
             return Err(AllocError);
         };
-        if has_lengths(entry) {
+        if entry.has_field_norms() {
             fields.push(Field::from_field_id(id))?;
         }
     }
@@ -136,7 +120,7 @@ fn fresh_fields(alloc: Global, entries: &[FieldEntry]) -> Result<Vec<Option<Leng
 fn fresh_field(alloc: Global, entry: &FieldEntry) -> Option<LengthIds>
     ensures { result ≡ (if fields.has_lengths entry.now then Some [] else None) }
 {
-    if has_lengths(entry) {
+    if entry.has_field_norms() {
         Some(LengthIds::new(alloc))
     } else {
         None

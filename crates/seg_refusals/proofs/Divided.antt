@@ -7,8 +7,8 @@ use Rattle.seg_model.specs.Fields.{Schema, Analyzer}
 use Rattle.seg_model.specs.Input.{Filter}
 use Rattle.seg_model.specs.Operations.{Operation, Batch, additions, alive_after, batches_from}
 use Rattle.seg_model.specs.Valid.{filter_fits, filters_fit}
-use Rattle.seg_build.specs.View.{operation_of}
-use Rattle.seg_build.specs.declared.user_operation.UserOperation.{UserOperation}
+use Rattle.seg_input.specs.View.{operation_of}
+use Rattle.seg_input.specs.declared.user_operation.UserOperation.{UserOperation}
 
 at_place : {X : Type 0} (xs : List X) (n m : ℕ) (x : X) → n < length xs → m ≡ n + 1 → x ≡ get_or xs n x → drop n xs ≡ x ∷ drop m xs
 at_place xs n m x lt next is = drop_more xs n x lt ∙ ap (λ y. y ∷ drop (n + 1) xs) (sym is) ∙ ap (λ k. x ∷ drop k xs) (sym next)

@@ -16,10 +16,10 @@ use Rattle.seg_model.specs.Valid as valid
 use Rattle.seg_model.specs.Valid.{Known, InputRefusal, bad_cuts, too_many_batches, bad_filters, bad_segment_ids, bad_field_name, unsupported_settings, unknown_tokenizer, unknown_fast_tokenizer, unindexed_delete, cuts_fit, batches_fit, filters_fit, ids_fit, names_fit, settings_fit, unknown_tokenizer_of, has_unknown_fast_tokenizer, unindexed_delete_of, input_refusal}
 use Rattle.seg_meta.specs.View.{settings_of}
 use Rattle.seg_meta.specs.declared.index_settings.IndexSettings.{IndexSettings}
-use Rattle.seg_build.specs.Built.{is_built_entry, is_built_schema}
-use Rattle.seg_build.specs.View.{operation_of}
+use Rattle.seg_segment.specs.Built.{is_built_entry, is_built_schema}
+use Rattle.seg_input.specs.View.{operation_of}
 use Rattle.seg_build.specs.WriterStart.{refused_unless, start_refusal}
-use Rattle.seg_build.specs.declared.user_operation.UserOperation.{UserOperation}
+use Rattle.seg_input.specs.declared.user_operation.UserOperation.{UserOperation}
 use Rattle.seg_refusals.specs.Admitted.{Fits}
 use Rattle.seg_refusals.specs.Inputs.{input_of}
 use Rattle.seg_refusals.specs.Refusals.{input_error, first_error}

@@ -5,9 +5,9 @@ use Rattle.seg_model.specs.Fields.{Schema}
 use Rattle.seg_model.specs.Input.{Filter, Input}
 use Rattle.seg_meta.specs.View.{settings_of}
 use Rattle.seg_meta.specs.declared.index_settings.IndexSettings.{IndexSettings}
-use Rattle.seg_build.specs.Built.{is_built_schema}
-use Rattle.seg_build.specs.View.{operation_of}
-use Rattle.seg_build.specs.declared.user_operation.UserOperation.{UserOperation}
+use Rattle.seg_segment.specs.Built.{is_built_schema}
+use Rattle.seg_input.specs.View.{operation_of}
+use Rattle.seg_input.specs.declared.user_operation.UserOperation.{UserOperation}
 
 -- what is handed in, as the definitions have it
 abbrev pub input_of : Schema → IndexSettings → List (UserOperation Document) → List ℕ → List (Option Filter) → List ℕ → Input

@@ -2,9 +2,9 @@
 ghost use Rattle.std.specs.Prelude.{◌≡◌, length, map};
 ghost use Rattle.seg_model.specs.Operations.{additions};
 ghost use Rattle.seg_model.specs.Valid.{cuts_fit, batches_fit};
-ghost use Rattle.seg_build.specs.View.{operation_of};
+ghost use Rattle.seg_input.specs.View.{operation_of};
 
-use seg_build::UserOperation;
+use seg_input::UserOperation;
 use seg_values::TantivyDocument;
 
 /// The most cuts: there are fewer than 2^32 batches, one more than cuts.

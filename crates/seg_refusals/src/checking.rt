@@ -1,10 +1,9 @@
 //! All that is refused before a directory is called.
 ghost use Rattle.std.specs.Prelude.{◌≡◌, ◌≤◌, ◌⊎◌, None, Some, Err, IfErr, IfSome, OnOk, length, map};
-ghost use Rattle.seg_model.specs.Valid.{Known};
 ghost use Rattle.seg_model.specs.Fields as model;
 ghost use Rattle.seg_model.specs.Operations.{batches};
-ghost use Rattle.seg_build.specs.View.{operation_of};
-ghost use Rattle.seg_build.specs.WriterStart.{Tests, start_refusal};
+ghost use Rattle.seg_input.specs.View.{operation_of};
+ghost use Rattle.seg_build.specs.WriterStart.{start_refusal};
 ghost use Rattle.seg_refusals.specs.Admitted.{Fits};
 ghost use Rattle.seg_refusals.specs.Inputs.{input_of};
 ghost use Rattle.seg_refusals.specs.Refusals.{IsRefusal, first_error};
@@ -15,16 +14,14 @@ use crate::deletes::unindexed_delete;
 use crate::filters::filters_fit;
 use crate::ids::ids_fit;
 use seg_bits::AliveBitSet;
-use seg_build::{SegmentWriter, UserOperation, is_built_schema};
+use seg_build::{LEAST_BUDGET, SegmentWriter, is_built_schema};
 use seg_common::SegmentId;
+use seg_input::UserOperation;
 use seg_meta::{IndexSettings, Segment, SegmentMeta};
 use seg_values::{
     Analyzers, ArgumentCause, Schema, SchemaCause, TResult, TantivyDocument, TantivyError,
 };
 use std::alloc::Global;
-
-/// The fewest bytes of a writer's budget.
-const BUDGET: usize = 15_000;
 
 /// Checks what an index is to be built from. The first test that fails tells, in this order: fields that are not built yet
 /// (`Later`), `Cuts`, `Batches`, `Filters`, `SegmentIds`, `FieldName`, `Settings`, `Tokenizer`, `DeleteField`.
@@ -38,14 +35,14 @@ pub fn check_input<Z: Analyzers>(
     filters: &[Option<AliveBitSet>],
     ids: &[SegmentId],
 ) -> TResult<()>
-    ensures first { (known : Known) → Tests known (Z.knows analyzers.now)
-        → IfSome (first_error known (Z.tokens_of analyzers.now) (input_of schema.now settings.now operations.now cuts.now filters.now ids.now))
+    ensures first { IfSome (first_error (Z.knows analyzers.now) (Z.tokens_of analyzers.now)
+        (input_of schema.now settings.now operations.now cuts.now filters.now ids.now))
         (λ e. (result ≡ Err e) ⊎ (result ≡ Err TantivyError.OutOfMemory)) }
-    ensures admitted { (known : Known) → Tests known (Z.knows analyzers.now)
-        → OnOk result (first_error known (Z.tokens_of analyzers.now) (input_of schema.now settings.now operations.now cuts.now filters.now ids.now) ≡ None) }
-    ensures causes { (known : Known) → Tests known (Z.knows analyzers.now)
-        → IfErr result (λ e. (e ≡ TantivyError.OutOfMemory)
-        ⊎ (first_error known (Z.tokens_of analyzers.now) (input_of schema.now settings.now operations.now cuts.now filters.now ids.now) ≡ Some e)) }
+    ensures admitted { OnOk result (first_error (Z.knows analyzers.now) (Z.tokens_of analyzers.now)
+        (input_of schema.now settings.now operations.now cuts.now filters.now ids.now) ≡ None) }
+    ensures causes { IfErr result (λ e. (e ≡ TantivyError.OutOfMemory)
+        ⊎ (first_error (Z.knows analyzers.now) (Z.tokens_of analyzers.now)
+        (input_of schema.now settings.now operations.now cuts.now filters.now ids.now) ≡ Some e)) }
     ensures errors { IfErr result (λ e. IsRefusal e ⊎ (e ≡ TantivyError.OutOfMemory)) }
     ensures fits { OnOk result (Fits (Z.tokens_of analyzers.now) (input_of schema.now settings.now operations.now cuts.now filters.now ids.now)) }
 {
@@ -97,14 +94,11 @@ fn check_start<Z: Analyzers>(
     analyzers: &Z,
     id: SegmentId,
 ) -> TResult<()>
-    ensures told { (known : Known) → Tests known (Z.knows analyzers.now) → Tells (start_refusal known 15000 schema.now settings.now) result }
+    ensures told { Tells (start_refusal (Z.knows analyzers.now) 15000 schema.now settings.now) result }
     ensures errors { IfErr result (λ e. IsRefusal e ⊎ (e ≡ TantivyError.OutOfMemory)) }
 {
-    let Ok(schema) = schema.copy(alloc) else {
-        return Err(TantivyError::OutOfMemory);
-    };
-    let segment = Segment::new(schema, SegmentMeta::new(id, 0, None));
-    match SegmentWriter::for_segment(alloc, BUDGET, segment, settings, analyzers) {
+    let segment = Segment::new(schema.share(), SegmentMeta::new(id, 0, None));
+    match SegmentWriter::for_segment(alloc, LEAST_BUDGET, segment, settings, analyzers) {
         Ok(_writer) => Ok(()),
         Err(e) => Err(e),
     }

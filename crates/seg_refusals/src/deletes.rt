@@ -1,11 +1,10 @@
 //! The fields of deletes.
 ghost use Rattle.std.specs.Prelude.{◌≡◌, map};
-ghost use Rattle.seg_model.specs.Fields.{is_indexed};
 ghost use Rattle.seg_model.specs.Valid.{is_unindexed_delete, names_indexed, unindexed_delete_of};
-ghost use Rattle.seg_build.specs.View.{operation_of};
+ghost use Rattle.seg_input.specs.View.{operation_of};
 
-use seg_build::UserOperation;
-use seg_values::{FieldEntry, IndexOption, Schema, TantivyDocument, Term};
+use seg_input::UserOperation;
+use seg_values::{Schema, TantivyDocument, Term};
 
 /// The place of the first delete by a term of no indexed field.
 pub(crate) fn unindexed_delete(
@@ -33,16 +32,7 @@ fn names_indexed(schema: &Schema, term: &Term) -> bool
     ensures { result ≡ names_indexed schema.now term.now }
 {
     match schema.fields().get(term.field().field_id() as usize) {
-        Some(entry) => is_indexed(entry),
+        Some(entry) => entry.is_indexed(),
         None => false,
-    }
-}
-
-fn is_indexed(entry: &FieldEntry) -> bool
-    ensures { result ≡ is_indexed entry.now }
-{
-    match entry.index {
-        IndexOption::No => false,
-        _ => true,
     }
 }

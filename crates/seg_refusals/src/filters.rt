@@ -3,11 +3,11 @@ ghost use Rattle.std.specs.Prelude.{◌≡◌, List, Bool, true, map};
 ghost use Rattle.seg_model.specs.Fields as model;
 ghost use Rattle.seg_model.specs.Operations.{additions, batches};
 ghost use Rattle.seg_model.specs.Valid.{cuts_fit, filter_fits, filters_fit};
-ghost use Rattle.seg_build.specs.View.{operation_of};
+ghost use Rattle.seg_input.specs.View.{operation_of};
 
 use crate::batches::num_additions;
 use seg_bits::AliveBitSet;
-use seg_build::UserOperation;
+use seg_input::UserOperation;
 use seg_values::TantivyDocument;
 
 /// Whether there is one filter, or none, for each batch, of as many documents as the batch adds.

@@ -1,9 +1,9 @@
 mod Ascending
 mod Chains
 mod Distinct
-mod Dropped
 mod Each
 mod Json
+mod Kept
 mod Items
 mod Limits
 mod Schema

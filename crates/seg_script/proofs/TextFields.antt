@@ -27,7 +27,7 @@ use Rattle.seg_script.specs.Documents.{named_text_from, pair_from, term_from, op
 use Rattle.seg_script.specs.Script.{script_members, id_of, script_from, json_of}
 use Rattle.seg_script.specs.Laws.{is_text_entry, is_text_operation, is_small_filter, is_id, HoldsTextFields, ScriptsHoldTextFields}
 use Rattle.seg_script.proofs.Chains.{given-some, provided-some, option_map-some, both_true, all-list_of, list_all-true}
-use Rattle.seg_script.proofs.Dropped.{length-all_but}
+use Rattle.seg_script.proofs.Kept.{length-all_but}
 use Rattle.seg_script.proofs.Limits.{range_below}
 
 pub some_same : {A : Type 0} (a b : A) → Some a ≡ Some b → a ≡ b

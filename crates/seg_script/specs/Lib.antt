@@ -1,10 +1,7 @@
-pub mod Codes
 pub mod Documents
 pub mod Fields
 pub mod Filters
 pub mod Laws
-pub mod Meaning
 pub mod Reads
 pub mod Script
 pub mod Settings
-pub mod View

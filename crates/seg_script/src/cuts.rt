@@ -1,43 +1,41 @@
-//! Where operations are cut in batches.
-ghost use Rattle.std.specs.Prelude.{◌≡◌, [], ◌∷◌, ◌++◌, OnOk, OnErr};
+//! Reads the cuts of a script.
+ghost use Rattle.std.specs.Prelude.{◌≡◌, ◌≢◌, [], codes, Some, None, Err, IfOk};
+ghost use Rattle.serde_json.specs.View.{view};
+ghost use Rattle.seg_meta.specs.Reads.{natural, list_of};
+ghost use Rattle.seg_script.specs.Reads.{optional};
 
-use std::alloc::{AllocError, Global};
-use std::marker::Model;
+use crate::error::ScriptError;
+use crate::pushing::push;
+use serde_json::Value;
+use std::alloc::Global;
 
-/// The places at which operations are cut in batches, in order.
-#[derive(Debug, Drop)]
-pub struct Cuts {
-    places: Vec<u64>,
+/// The cuts of a script.
+pub(crate) fn cuts_at(alloc: Global, json: &Value) -> Result<Vec<usize>, ScriptError>
+    ensures ok { IfOk result (λ c. optional [] (list_of natural) (codes "cuts") (view json.now) ≡ Some c.items) }
+    ensures later { result ≡ Err ScriptError.Later → optional [] (list_of natural) (codes "cuts") (view json.now) ≡ None }
+    ensures never { result ≢ Err ScriptError.NotJson }
+{
+    match json.get("cuts") {
+        None => Ok(Vec::new(alloc)),
+        Some(cuts) => cuts_from(alloc, cuts),
+    }
 }
 
-impl Model for Cuts {
-    ghost use Rattle.std.specs.Prelude.{List, ℕ};
-
-    ghost Value = { List ℕ };
-
-    ghost view = { λ a. a.places.items };
-}
-
-impl Cuts {
-    pub fn new(alloc: Global) -> Cuts
-        ensures { result ≡ [] }
-    {
-        Cuts {
-            places: Vec::new(alloc),
-        }
+/// The cuts that a list is.
+fn cuts_from(alloc: Global, json: &Value) -> Result<Vec<usize>, ScriptError>
+    ensures ok { IfOk result (λ c. list_of natural (view json.now) ≡ Some c.items) }
+    ensures later { result ≡ Err ScriptError.Later → list_of natural (view json.now) ≡ None }
+    ensures never { result ≢ Err ScriptError.NotJson }
+{
+    let Some(items) = json.as_array() else {
+        return Err(ScriptError::Later);
+    };
+    let mut cuts = Vec::new(alloc);
+    for item in items {
+        let Some(cut) = item.as_u64() else {
+            return Err(ScriptError::Later);
+        };
+        push(&mut cuts, cut as usize)?;
     }
-
-    pub fn push(&mut self, place: u64) -> Result<(), AllocError>
-        ensures ok { OnOk result (self.new ≡ self.old ++ place ∷ []) }
-        ensures err { OnErr result (self.new ≡ self.old) }
-    {
-        self.places.push(place)?;
-        Ok(())
-    }
-
-    pub fn as_slice(&self) -> &[u64]
-        ensures { result.now ≡ self.now }
-    {
-        &self.places
-    }
+    Ok(cuts)
 }

@@ -1,15 +1,16 @@
 //! Reads the operations of a script.
-ghost use Rattle.std.specs.Prelude.{◌≡◌, ◌≢◌, [], ◌∷◌, length, Some, None, Err, IfOk, MatchOption, string_bytes, option_map};
+ghost use Rattle.std.specs.Prelude.{◌≡◌, ◌≢◌, [], ◌∷◌, length, map, Some, None, Err, IfOk, MatchOption, string_bytes, option_map};
 ghost use Rattle.serde_json.specs.Find.{as_str};
 ghost use Rattle.serde_json.specs.View.{view};
 ghost use Rattle.seg_values.specs.View.{tree_of};
 ghost use Rattle.seg_meta.specs.Reads.{list_of};
-ghost use Rattle.seg_script.specs.View.{operation_of};
+ghost use Rattle.seg_input.specs.View.{operation_of};
 ghost use Rattle.seg_script.specs.Documents.{named_text_from, pair_from, term_from, operation_named, operation_from};
 
 use crate::error::ScriptError;
 use crate::fields::field_or_past;
-use crate::operation::{Operation, Operations};
+use crate::pushing::push;
+use seg_input::UserOperation;
 use seg_values::{Field, OwnedValue, Schema, TantivyDocument, Term, Text};
 use serde_json::{Map, Value};
 use std::alloc::Global;
@@ -19,23 +20,27 @@ pub(crate) fn operations_from(
     alloc: Global,
     schema: &Schema,
     json: Value,
-) -> Result<Operations, ScriptError>
-    ensures ok { IfOk result (λ os. list_of (operation_from schema.now) (view json) ≡ Some os) }
+) -> Result<Vec<UserOperation<TantivyDocument>>, ScriptError>
+    ensures ok { IfOk result (λ os. list_of (operation_from schema.now) (view json) ≡ Some (map operation_of os.items)) }
     ensures later { result ≡ Err ScriptError.Later → list_of (operation_from schema.now) (view json) ≡ None }
     ensures never { result ≢ Err ScriptError.NotJson }
 {
     let Value::Array(items) = json else {
         return Err(ScriptError::Later);
     };
-    let mut operations = Operations::new(alloc);
+    let mut operations = Vec::new(alloc);
     for item in items {
-        operations.push(operation_from(alloc, schema, item)?)?;
+        push(&mut operations, operation_from(alloc, schema, item)?)?;
     }
     Ok(operations)
 }
 
 /// `{"add": [pairs]}` or `{"delete": [name, text]}`
-fn operation_from(alloc: Global, schema: &Schema, json: Value) -> Result<Operation, ScriptError>
+fn operation_from(
+    alloc: Global,
+    schema: &Schema,
+    json: Value,
+) -> Result<UserOperation<TantivyDocument>, ScriptError>
     ensures ok { IfOk result (λ o. operation_from schema.now (view json) ≡ Some (operation_of o)) }
     ensures later { result ≡ Err ScriptError.Later → operation_from schema.now (view json) ≡ None }
     ensures never { result ≢ Err ScriptError.NotJson }
@@ -53,14 +58,14 @@ fn operation_named(
     schema: &Schema,
     word: &str,
     value: Value,
-) -> Result<Operation, ScriptError>
+) -> Result<UserOperation<TantivyDocument>, ScriptError>
     ensures ok { IfOk result (λ o. operation_named schema.now word.now (view value) ≡ Some (operation_of o)) }
     ensures later { result ≡ Err ScriptError.Later → operation_named schema.now word.now (view value) ≡ None }
     ensures never { result ≢ Err ScriptError.NotJson }
 {
     match word {
-        "add" => Ok(Operation::Add(document_from(alloc, schema, value)?)),
-        "delete" => Ok(Operation::Delete(term_from(alloc, schema, value)?)),
+        "add" => Ok(UserOperation::Add(document_from(alloc, schema, value)?)),
+        "delete" => Ok(UserOperation::Delete(term_from(alloc, schema, value)?)),
         _ => Err(ScriptError::Later),
     }
 }

@@ -1,37 +1,23 @@
 //! A script, whole.
 ghost use Rattle.std.specs.Prelude.{◌≡◌, ◌≢◌, Some, None, Err, IfOk, IsSome};
 ghost use Rattle.serde_json.specs.View.{view};
-ghost use Rattle.seg_script.specs.Meaning.{input_of};
 ghost use Rattle.seg_script.specs.Script.{script_from, json_of, script};
 
-use crate::cuts_read::cuts_at;
+use crate::cuts::cuts_at;
 use crate::documents::operations_from;
 use crate::error::ScriptError;
 use crate::fields::schema_from;
-use crate::filters_read::filters_at;
-use crate::ids_read::ids_at;
+use crate::filters::filters_at;
+use crate::ids::ids_at;
 use crate::members::{has_only, take_member};
 use crate::settings::settings_at;
-use crate::{BatchFilters, Cuts, Operations, SegmentIds};
-use seg_meta::IndexSettings;
-use seg_values::Schema;
+use seg_input::BuildInput;
 use serde_json::Value;
 use std::alloc::Global;
 
-/// A schema and operations on its documents, and how these are stored, cut in batches, filtered and named.
-#[derive(Drop)]
-pub struct Script {
-    pub schema: Schema,
-    pub settings: IndexSettings,
-    pub operations: Operations,
-    pub cuts: Cuts,
-    pub filters: BatchFilters,
-    pub ids: SegmentIds,
-}
-
-/// The script that the bytes are. They are let go as soon as their JSON value is there.
-pub fn read_script(alloc: Global, bytes: Vec<u8>) -> Result<Script, ScriptError>
-    ensures ok { IfOk result (λ s. script bytes.items ≡ Some (input_of s)) }
+/// The input that the bytes say. They are let go as soon as their JSON value is there.
+pub fn read_script(alloc: Global, bytes: Vec<u8>) -> Result<BuildInput, ScriptError>
+    ensures ok { IfOk result (λ s. script bytes.items ≡ Some s) }
     ensures not_json { result ≡ Err ScriptError.NotJson → json_of bytes.items ≡ None }
     ensures later { result ≡ Err ScriptError.Later → IsSome (json_of bytes.items) × (script bytes.items ≡ None) }
 {
@@ -49,9 +35,9 @@ pub fn read_script(alloc: Global, bytes: Vec<u8>) -> Result<Script, ScriptError>
     }
 }
 
-/// The script that a JSON value is.
-fn script_from(alloc: Global, json: Value) -> Result<Script, ScriptError>
-    ensures ok { IfOk result (λ s. script_from (view json) ≡ Some (input_of s)) }
+/// The input that a JSON value says.
+fn script_from(alloc: Global, json: Value) -> Result<BuildInput, ScriptError>
+    ensures ok { IfOk result (λ s. script_from (view json) ≡ Some s) }
     ensures later { result ≡ Err ScriptError.Later → script_from (view json) ≡ None }
     ensures never { result ≢ Err ScriptError.NotJson }
 {
@@ -68,7 +54,7 @@ fn script_from(alloc: Global, json: Value) -> Result<Script, ScriptError>
     let ids = ids_at(alloc, &json, &cuts)?;
     let operations = take_member(json, "operations").ok_or(ScriptError::Later)?;
     let operations = operations_from(alloc, &schema, operations)?;
-    Ok(Script {
+    Ok(BuildInput {
         schema,
         settings,
         operations,

@@ -7,9 +7,10 @@ use std::alloc::{AllocError, Global};
 pub struct Words;
 
 impl Analyzers for Words {
+    ghost use Rattle.std.specs.Prelude.{true};
     ghost use Rattle.seg_values.specs.Tokenizers.{default_tokens};
 
-    ghost knows = { λ _ _. Unit {0} };
+    ghost knows = { λ _ _. true };
 
     ghost tokens_of = { λ _ _ text. default_tokens text };
 
@@ -35,9 +36,9 @@ pub struct Repeats<'a> {
 }
 
 impl Analyzers for Repeats<'_> {
-    ghost use Rattle.std.specs.Prelude.{map, length};
+    ghost use Rattle.std.specs.Prelude.{map, length, true};
 
-    ghost knows = { λ _ _. Unit {0} };
+    ghost knows = { λ _ _. true };
 
     ghost tokens_of = { λ s _ text. map (λ p. record { offset_from = 0; offset_to = length text; position = p; position_length = 1; text = text }) s.positions.now };
 

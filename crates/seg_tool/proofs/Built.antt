@@ -1,6 +1,6 @@
 -- What was built, or why not, as a status.
-use Rattle.std.proofs.Common.{◌≡◌, Bool, true, false, cond, List, Option, None, Some, Result, Ok, Err, inl, inr, refl, sym, ap, ◌∙◌, subst}
-use Rattle.std.specs.Prelude.{◌⊎◌, IfSome}
+use Rattle.std.proofs.Common.{◌≡◌, Bool, true, false, cond, List, Option, None, Some, inl, inr, refl, sym, ◌∙◌, subst}
+use Rattle.std.specs.Prelude.{IfSome}
 use Rattle.std.specs.Option.{option_map}
 use Rattle.seg_common.specs.declared.name.FileName.{FileName}
 use Rattle.seg_values.specs.declared.error.TantivyError.{TantivyError}
@@ -18,7 +18,7 @@ use Rattle.seg_merge.specs.DirectoryCalls.{Asked, Directories, StopsIn, at_once,
 use Rattle.seg_tool.specs.DirectoryCalls.{BuildDoes, Stopped}
 use Rattle.seg_tool.specs.Statuses.{IfRefused, status_of}
 use Rattle.seg_tool.specs.declared.status.Status.{Status}
-use Rattle.seg_tool.specs.declared.status.Status.TheVariants.{Refused, Damaged, Memory}
+use Rattle.seg_tool.specs.declared.status.Status.TheVariants.{Refused, Damaged}
 use Rattle.seg_merge.proofs.ReadErrors.{IsReadError, stops_so}
 
 -- ---- statuses
@@ -98,37 +98,6 @@ first_statuses known analyzer input = by (is_built_input input) (input_refusal k
     by false o = refl
     by true None = tt
     by true (Some r) = status_is r
-
-abbrev error_in : {T : Type 0} → Result T TantivyError → TantivyError
-error_in (Ok x) = OutOfMemory
-error_in (Err e) = e
-
--- the status of the first error
-pub first_as : (A B : Type 0) {S T : Type 0} (o : Option TantivyError) (e : TantivyError) (r : Result S TantivyError) (answer : Result T Status) → r ≡ Err e → answer ≡ Err (status_of e)
-    → IfSome o (λ x. status_of x ≡ Refused x) → IfSome o (λ x. (r ≡ Err x) ⊎ (r ≡ Err OutOfMemory)) → IfSome o (λ x. A × B)
-    → IfSome o (λ x. ((answer ≡ Err (Refused x)) ⊎ (answer ≡ Err Memory)) × A × B)
-first_as A B None e r answer made is statuses h both = tt
-first_as A B (Some x) e r answer made is statuses (inl k) both = (inl (is ∙ ap (λ (y : TantivyError). Err (status_of y)) (ap error_in (sym made ∙ k)) ∙ ap Err statuses), both.0, both.1)
-first_as A B (Some x) e r answer made is statuses (inr k) both = (inr (is ∙ ap (λ (y : TantivyError). Err (status_of y)) (ap error_in (sym made ∙ k))), both.0, both.1)
-
--- what was built, nothing refused
-none_first : {T : Type 0} (o : Option TantivyError) (x : T) → IfSome o (λ e. (Ok x ≡ Err e) ⊎ (Ok x ≡ Err OutOfMemory)) → o ≡ None
-none_first None x h = refl
-none_first (Some e) x (inl is) = absurd (cc is)
-none_first (Some e) x (inr is) = absurd (cc is)
-
--- and it is of what is built so far
-pub built_is : {T : Type 0} (known : Known) (analyzer : Analyzer) (given input : Input) (x : T) → given ≡ input → IfSome (first_error known analyzer given) (λ e. (Ok x ≡ Err e) ⊎ (Ok x ≡ Err OutOfMemory)) → is_built_input input ≡ true
-built_is known analyzer given input x same h =
-    subst (λ (s : Input). is_built_input s ≡ true) same (by (is_built_input given) (input_refusal known analyzer given) (none_first (first_error known analyzer given) x h))
-  where
-    by : (b : Bool) (o : Option InputRefusal) → cond b (option_map input_error o) (Some (InvalidArgument Later)) ≡ None → b ≡ true
-    by true o none = refl
-    by false o none = absurd (cc none)
-
--- of the same input
-pub first_of_same : (known : Known) (analyzer : Analyzer) (given input : Input) → given ≡ input → (P : TantivyError → Type 0) → IfSome (first_error known analyzer given) P → IfSome (first_error known analyzer input) P
-first_of_same known analyzer given input same P h = subst (λ (s : Input). IfSome (first_error known analyzer s) P) same h
 
 pub ends-with : (status : Status) (asked : Asked) (e : TantivyError) (a b : Directories) → status ≡ status_of e → StopsIn asked e a b → BuildDoes status a b
 ends-with status asked e a b is stops = subst (λ (s : Status). BuildDoes s a b) (sym is) (ends-as asked a b e stops)

@@ -1,11 +1,10 @@
 -- How a run ends.
-use Rattle.std.proofs.Common.{◌≡◌, ◌≢◌, ◌≤◌, ◌⊎◌, ℕ, List, [], ◌∷◌, length, Option, None, Some, refl, sym, ap, subst, ◌∙◌, inl, inr, arith}
-use Rattle.std.specs.Prelude.{Result, Ok, Err, OnOk, IfErr, IfSome, IsErrAnd, IsSome, is_some, if◌then◌else◌}
+use Rattle.std.proofs.Common.{◌≡◌, ◌≢◌, ◌≤◌, Bool, true, false, cond, ◌⊎◌, ℕ, List, [], ◌∷◌, length, Option, None, Some, refl, sym, ap, subst, ◌∙◌, inl, inr, arith}
+use Rattle.std.specs.Prelude.{Err, IfSome, IsSome, is_some, if◌then◌else◌}
 use Rattle.std.specs.Option.{option_map}
 use Rattle.std.proofs.lemmas.List.{append-nil}
 use mathlib.Core.Bool.{true≢false}
 use Rattle.seg_common.specs.Causes.{Rose}
-use Rattle.seg_common.specs.Streams.{IsAllOf}
 use Rattle.seg_common.specs.declared.name.FileName.{FileName}
 use Rattle.seg_values.specs.declared.error.ArgumentCause.TheVariants.{Later}
 use Rattle.seg_values.specs.declared.error.TantivyError.{TantivyError}
@@ -17,17 +16,18 @@ use Rattle.seg_model.specs.Fields.{Analyzer}
 use Rattle.seg_model.specs.Laws.{ValidInputsAreNotRefused}
 use Rattle.seg_model.specs.Refused.{build_refusal}
 use Rattle.seg_model.specs.Input.{Input}
-use Rattle.seg_model.specs.Valid.{Known, IsValid}
+use Rattle.seg_model.specs.Valid.{Known, InputRefusal, IsValid, input_refusal}
 use Rattle.seg_batches.specs.Calls.{HasRisen, Does}
 use Rattle.seg_directory.specs.State.{DirectoryState}
 use Rattle.seg_batches.specs.Reading.{StopsReading}
 use Rattle.seg_merge.specs.DirectoryCalls.{Asked, Directories, WritesThenStops, StopsIn, at_once, work_listing, output_listing, documents, work_index, reading_back, too_many, output_index}
 use Rattle.seg_refusals.specs.Admitted.{IsValidIf}
-use Rattle.seg_refusals.specs.Refusals.{IsRefusal, build_error}
+use Rattle.seg_refusals.specs.Inputs.{is_built_input}
+use Rattle.seg_refusals.specs.Refusals.{IsRefusal, build_error, first_error, input_error}
 use Rattle.seg_script.specs.Script.{json_of, script, script_from}
 use Rattle.seg_tool.specs.DirectoryCalls.{Stopped, IsFault, BuildDoes}
-use Rattle.seg_tool.specs.Run.{max_script, first_of, refusal_of, IsAdmitted, IsNoScript, IsValidScript, IsWhyRefused}
-use Rattle.seg_tool.specs.Statuses.{IfRefused, IfWritten, RefusedFor}
+use Rattle.seg_tool.specs.Run.{max_script, refusal_of, IsNoScript, IsValidScript, IsWhyRefused}
+use Rattle.seg_tool.specs.Statuses.{IfRefused}
 use Rattle.seg_tool.specs.declared.status.Status.{Status}
 use Rattle.seg_tool.specs.declared.status.Status.TheVariants.{Done, Words, Script, Refused, Exists, Directory, Damaged, Stream, Memory}
 use Rattle.seg_merge.proofs.ReadErrors.{IsReadError, stops_so}
@@ -48,70 +48,27 @@ does-nothing a = record {
 pub stopped-before : (a : Directories) → Stopped OutOfMemory a a
 stopped-before a = record { asked = record { schema = []; segments = []; filters = []; output_id = 0 }; stops = work_listing (does-nothing a.work) refl }
 
--- ---- the bytes of the source
+-- ---- scripts
 
--- a fact of all bytes, where an error tells a refusal
-refused-by : (s : Status) (left : Option (List ℕ)) (bytes : List ℕ) (P : List ℕ → TantivyError → Type 0) → IsAllOf left bytes → IfRefused s (P bytes) → IfRefused s (λ e. IfSome left (λ all. P all e))
-refused-by (Refused e) None bytes P all p = tt
-refused-by (Refused e) (Some xs) bytes P all p = subst (λ (ys : List ℕ). P ys e) all p
-refused-by Done left bytes P all p = tt
-refused-by Words left bytes P all p = tt
-refused-by Script left bytes P all p = tt
-refused-by (Exists e) left bytes P all p = tt
-refused-by (Directory e) left bytes P all p = tt
-refused-by (Damaged name) left bytes P all p = tt
-refused-by Stream left bytes P all p = tt
-refused-by Memory left bytes P all p = tt
+-- no JSON text is a script
+no-script : (bytes : List ℕ) → json_of bytes ≡ None → script bytes ≡ None
+no-script bytes none = ap (λ o. given o script_from) none
 
-pub refused-of : {T : Type 0} (r : Result T Status) (left : Option (List ℕ)) (bytes : List ℕ) (P : List ℕ → TantivyError → Type 0) → IsAllOf left bytes → IfErr r (λ s. IfRefused s (P bytes)) → IfErr r (λ s. IfRefused s (λ e. IfSome left (λ all. P all e)))
-refused-of (Ok x) left bytes P all p = tt
-refused-of (Err s) left bytes P all p = refused-by s left bytes P all p
+-- what is a script is JSON text
+some_given : {X Y : Type 0} (o : Option X) (f : X → Option Y) (y : Y) → given o f ≡ Some y → IsSome o
+some_given None f y is = absurd (cc is)
+some_given (Some x) f y is = refl
 
--- a fact of all bytes, where a directory is told of
-of-left : (left : Option (List ℕ)) (bytes : List ℕ) (P : List ℕ → Type 0) → IsAllOf left bytes → P bytes → IfSome left P
-of-left None bytes P all p = tt
-of-left (Some xs) bytes P all p = subst P all p
+pub json_some : (bytes : List ℕ) (meant : Input) → script bytes ≡ Some meant → IsSome (json_of bytes)
+json_some bytes meant is = some_given (json_of bytes) script_from meant is
 
-pub on-all : {T E : Type 0} (r : Result T E) (left : Option (List ℕ)) (bytes : List ℕ) (P : List ℕ → Type 0) → IsAllOf left bytes → OnOk r (P bytes) → OnOk r (IfSome left P)
-on-all (Ok x) left bytes P all p = of-left left bytes P all p
-on-all (Err e) left bytes P all p = tt
-
-admitted-by : (s : Status) (known : Known) (analyzer : Analyzer) (left : Option (List ℕ)) (bytes : List ℕ) → IsAllOf left bytes → length bytes ≤ max_script
-    → IfWritten s (λ _. first_of known analyzer (script bytes) ≡ None) → IfWritten s (λ _. IfSome left (IsAdmitted known analyzer))
-admitted-by (Exists e) known analyzer left bytes all short is = of-left left bytes (IsAdmitted known analyzer) all (record { short = short; admitted = is })
-admitted-by (Directory e) known analyzer left bytes all short is = of-left left bytes (IsAdmitted known analyzer) all (record { short = short; admitted = is })
-admitted-by (Damaged name) known analyzer left bytes all short is = of-left left bytes (IsAdmitted known analyzer) all (record { short = short; admitted = is })
-admitted-by Done known analyzer left bytes all short is = tt
-admitted-by Words known analyzer left bytes all short is = tt
-admitted-by Script known analyzer left bytes all short is = tt
-admitted-by (Refused e) known analyzer left bytes all short is = tt
-admitted-by Stream known analyzer left bytes all short is = tt
-admitted-by Memory known analyzer left bytes all short is = tt
-
-pub admitted-of : {T : Type 0} (r : Result T Status) (known : Known) (analyzer : Analyzer) (left : Option (List ℕ)) (bytes : List ℕ) → IsAllOf left bytes → length bytes ≤ max_script
-    → IfErr r (λ s. IfWritten s (λ _. first_of known analyzer (script bytes) ≡ None)) → IfErr r (λ s. IfWritten s (λ _. IfSome left (IsAdmitted known analyzer)))
-admitted-of (Ok x) known analyzer left bytes all short is = tt
-admitted-of (Err s) known analyzer left bytes all short is = admitted-by s known analyzer left bytes all short is
-
--- what is all of the source
-pub all-is : (left : Option (List ℕ)) (bytes all : List ℕ) → IsAllOf left bytes → left ≡ Some all → bytes ≡ all
-all-is left bytes all is at = subst (λ (o : Option (List ℕ)). IsAllOf o bytes) at is
-
--- refused for an error, or no memory
-for-error : {T : Type 0} (r : Result T Status) (e : TantivyError) → (r ≡ Err (Refused e)) ⊎ (r ≡ Err Memory) → IsErrAnd r (RefusedFor e)
-for-error r e (inl is) = subst (λ (x : Result _ Status). IsErrAnd x (RefusedFor e)) (sym is) (inl refl)
-for-error r e (inr is) = subst (λ (x : Result _ Status). IsErrAnd x (RefusedFor e)) (sym is) (inr (inl refl))
-
-pub first-is : (A B : Type 0) {T : Type 0} (r : Result T Status) (o : Option TantivyError) → IfSome o (λ e. ((r ≡ Err (Refused e)) ⊎ (r ≡ Err Memory)) × A × B) → IfSome o (λ e. IsErrAnd r (RefusedFor e) × A × B)
-first-is A B r None first = tt
-first-is A B r (Some e) first = (for-error r e first.0, first.1, first.2)
-
--- why it is refused at once, of the bytes that are all
-pub at-all : (A B : Type 0) {T : Type 0} (known : Known) (analyzer : Analyzer) (r : Result T Status) (bytes all : List ℕ) → bytes ≡ all
-    → (IsSome (json_of bytes) → IfSome (first_of known analyzer (script bytes)) (λ e. ((r ≡ Err (Refused e)) ⊎ (r ≡ Err Memory)) × A × B))
-    → IsSome (json_of all) → IfSome (first_of known analyzer (script all)) (λ e. ((r ≡ Err (Refused e)) ⊎ (r ≡ Err Memory)) × A × B)
-at-all A B known analyzer r bytes all is first =
-    subst (λ (xs : List ℕ). IsSome (json_of xs) → IfSome (first_of known analyzer (script xs)) (λ e. ((r ≡ Err (Refused e)) ⊎ (r ≡ Err Memory)) × A × B)) is first
+-- an input that nothing refuses at once is of what is built so far
+pub admitted_built : (known : Known) (analyzer : Analyzer) (input : Input) → first_error known analyzer input ≡ None → is_built_input input ≡ true
+admitted_built known analyzer input none = by (is_built_input input) (input_refusal known analyzer input) none
+  where
+    by : (b : Bool) (o : Option InputRefusal) → cond b (option_map input_error o) (Some (InvalidArgument Later)) ≡ None → b ≡ true
+    by true o is = refl
+    by false o is = absurd (cc is)
 
 -- ---- what ends well
 
@@ -127,10 +84,6 @@ not-refused known analyzer bytes e law v why =
     ∙ ap (λ b. if b then option_map build_error (build_refusal known analyzer v.meant) else Some (InvalidArgument Later)) v.built
     ∙ ap (option_map build_error) ((law known analyzer v.meant).0 (valid_told known analyzer v.meant v.valid)) in
     true≢false (ap is_some (sym why ∙ none))
-
--- no JSON text is a script
-no-script : (bytes : List ℕ) → json_of bytes ≡ None → script bytes ≡ None
-no-script bytes none = ap (λ o. given o script_from) none
 
 not-script : (known : Known) (analyzer : Analyzer) (bytes : List ℕ) → length bytes ≤ max_script → IsValidScript (Unit {0}) known analyzer bytes → IsNoScript bytes → ⊥
 not-script known analyzer bytes short v (inl none) = true≢false (ap is_some (sym v.is_script ∙ no-script bytes none))

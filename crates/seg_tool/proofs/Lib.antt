@@ -1,10 +1,10 @@
 mod Built
 mod CauseText
+mod Ended
 mod Endings
 mod Faults
-mod Kept
-mod OfScript
 mod Parts
 mod Printed
+mod Ran
 mod ReadBack
 mod ReadText

@@ -78,7 +78,7 @@ module _ (analyzer : Analyzer) (input : Input) (read : List KeptSegment) (output
       (output_is input.schema analyzer (output_id input.ids) (input_survivors analyzer input) output writes.schema is)
 
   -- the text of what was read back
-  text_of_read : (text : List ℕ) → (IsTrue before.work.tells → AreReadingsOf input.schema analyzer (input_batches analyzer input) (map part_of read))
+  pub text_of_read : (text : List ℕ) → (IsTrue before.work.tells → AreReadingsOf input.schema analyzer (input_batches analyzer input) (map part_of read))
       → (IsTrue before.work.tells → full_reading input.schema analyzer (input_survivors analyzer input) ≡ Some (contents_of output))
       → text ≡ read_text input.ids read output → IsTextOfInput analyzer input before after text
   text_of_read text are is printed = record {
@@ -88,16 +88,6 @@ module _ (analyzer : Analyzer) (input : Input) (read : List KeptSegment) (output
     printed = printed;
     told = λ told. printed ∙ read_is_build (are told) (is told);
   }
-
--- of an input that is the same
-pub text_of_same : (analyzer : Analyzer) (given input : Input) (read : List KeptSegment) (output : OpenSegment) (before after : Directories) (text : List ℕ) → given ≡ input
-    → WritesBoth (asked_of analyzer given) read output before after
-    → (IsTrue before.work.tells → AreReadingsOf given.schema analyzer (input_batches analyzer given) (map part_of read))
-    → (IsTrue before.work.tells → full_reading given.schema analyzer (input_survivors analyzer given) ≡ Some (contents_of output))
-    → text ≡ read_text input.ids read output → IsTextOfInput analyzer input before after text
-text_of_same analyzer given input read output before after text same writes are is printed =
-    subst (λ (s : Input). IsTextOfInput analyzer s before after text) same
-    (text_of_read analyzer given read output before after writes text are is (printed ∙ ap (λ (s : Input). read_text s.ids read output) (sym same)))
 
 -- ---- ids
 

@@ -1,5 +1,5 @@
-pub mod BuildInput
 pub mod DirectoryCalls
 pub mod Printing
 pub mod Run
+pub mod Runs
 pub mod Statuses

@@ -4,16 +4,14 @@
 //! the script gives: the work and the output directory have indexes that stand for the script's documents, and the sink
 //! gains their text, or the status says why not.
 //!
-//! Files in reading order: `command` (`run`), `building` (from a script to its indexes and their text), `input` and `filters`
-//! (what a script hands in), `printing` (the text of a segment that is read), `status`, `reporting` (the line that is said of
-//! a status), `damage` (the name of a file, in that line).
+//! Files in reading order: `command` (`run`), `building` (from a script to its indexes and their text), `printing` (the
+//! text of a segment that is read), `status`, `reporting` (the line that is said of a status), `damage` (the name of a
+//! file, in that line).
 #![tactic(auto)]
 
 mod building;
 mod command;
 mod damage;
-mod filters;
-mod input;
 mod printing;
 mod reporting;
 mod status;

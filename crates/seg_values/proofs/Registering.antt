@@ -1,7 +1,6 @@
 -- What is found by name after an item was replaced or put at the end.
-use Rattle.std.proofs.Common.{arith, length, ltb, ◌≡◌, ◌≢◌, ◌⊎◌, ◌↔◌, ℕ, ◌<◌, Bool, true, false, cond, List, [], ◌∷◌, ◌++◌, set, get_or, Some, None, Option, IsSome, sym, refl, ap, ◌∙◌, subst, inl, inr}
-use mathlib.Core.Bool.{true≢false}
-use Rattle.std.specs.Prelude.{position, MatchOption}
+use Rattle.std.proofs.Common.{arith, length, ltb, ◌≡◌, ◌≢◌, ℕ, ◌<◌, Bool, true, false, cond, List, [], ◌∷◌, ◌++◌, set, get_or, Some, None, Option, sym, refl, ap, ◌∙◌, subst}
+use Rattle.std.specs.Prelude.{position, MatchOption, is_some, ◌||◌}
 use Rattle.std.specs.Option.{option_map_or, option_or}
 use Rattle.std.specs.Str.{bytes_eq}
 use Rattle.std.specs.Cmp.Lexicographic.{bytes_decides}
@@ -78,7 +77,7 @@ module _ {X : Type 0} (name_of : X → List ℕ) where
       each true e = subst (λ r. option_or (item_named name_of xs r) (item_named name_of (x ∷ []) r) ≡ Some x) ((bytes_decides name q).0 e) (ap (λ o. option_or o (item_named name_of (x ∷ []) name)) (none_found name_of xs name at) ∙ ap (λ b. cond b (Some x) None) ((bytes_decides (name_of x) name).1 is))
       each false e = ap (λ b. option_or (item_named name_of xs q) (cond b (Some x) None)) (apart (name_of x) name q is e) ∙ option_or-None (item_named name_of xs q)
 
-  pub registers : (old new : List X) (name : List ℕ) (x : X) (tell : X → List ℕ → List Token) → Puts old new name x → Registers (λ q. IsSome (item_named name_of old q)) (λ q. IsSome (item_named name_of new q)) (λ q text. option_map_or (λ t. tell t text) (item_named name_of old q) []) (λ q text. option_map_or (λ t. tell t text) (item_named name_of new q) []) name (tell x)
+  pub registers : (old new : List X) (name : List ℕ) (x : X) (tell : X → List ℕ → List Token) → Puts old new name x → Registers (λ q. is_some (item_named name_of old q)) (λ q. is_some (item_named name_of new q)) (λ q text. option_map_or (λ t. tell t text) (item_named name_of old q) []) (λ q text. option_map_or (λ t. tell t text) (item_named name_of new q) []) name (tell x)
   registers old new name x tell puts = record { known = known; registered = λ text. ap (λ o. option_map_or (λ t. tell t text) o []) here; others = λ q text ne. ap (λ o. option_map_or (λ t. tell t text) o []) (there q ne) }
     where
       here : item_named name_of new name ≡ Some x
@@ -87,13 +86,9 @@ module _ {X : Type 0} (name_of : X → List ℕ) where
       there : (q : List ℕ) → q ≢ name → item_named name_of new q ≡ item_named name_of old q
       there q ne = puts q ∙ cond-false (bytes_eq name q) (Some x) (item_named name_of old q) (false_from_ne_true (bytes_eq name q) (λ e. ne (sym ((bytes_decides name q).0 e))))
 
-      old_or : (q : List ℕ) → bytes_eq name q ≡ false → (q ≡ name) ⊎ IsSome (item_named name_of old q) → IsSome (item_named name_of old q)
-      old_or q e (inl same) = absurd (true≢false (sym ((bytes_decides name q).1 (sym same)) ∙ e))
-      old_or q e (inr h) = h
+      known_by : (b : Bool) (o : Option X) → is_some (cond b (Some x) o) ≡ (b || is_some o)
+      known_by true o = refl
+      known_by false o = refl
 
-      known_by : (q : List ℕ) (b : Bool) → bytes_eq name q ≡ b → IsSome (cond b (Some x) (item_named name_of old q)) ↔ ((q ≡ name) ⊎ IsSome (item_named name_of old q))
-      known_by q true e = ((λ _. inl (sym ((bytes_decides name q).0 e))), (λ _. refl))
-      known_by q false e = ((λ h. inr h), (λ h. old_or q e h))
-
-      known : (q : List ℕ) → IsSome (item_named name_of new q) ↔ ((q ≡ name) ⊎ IsSome (item_named name_of old q))
-      known q = subst (λ o. IsSome o ↔ ((q ≡ name) ⊎ IsSome (item_named name_of old q))) (sym (puts q)) (known_by q (bytes_eq name q) refl)
+      known : (q : List ℕ) → is_some (item_named name_of new q) ≡ (bytes_eq name q || is_some (item_named name_of old q))
+      known q = ap is_some (puts q) ∙ known_by (bytes_eq name q) (item_named name_of old q)

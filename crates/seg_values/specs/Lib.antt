@@ -5,6 +5,7 @@ pub mod Falls
 pub mod FieldTypes
 pub mod Grows
 pub mod InWords
+pub mod Indexed
 pub mod NameSearch
 pub mod Names
 pub mod Registered

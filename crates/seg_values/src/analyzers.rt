@@ -1,5 +1,5 @@
 //! What turns texts into tokens.
-ghost use Rattle.std.specs.Prelude.{◌≡◌, ◌++◌, ◌↔◌, List, ℕ, IsTrue, OnOk, OnErr};
+ghost use Rattle.std.specs.Prelude.{◌≡◌, ◌++◌, List, ℕ, Bool, IsTrue, OnOk, OnErr};
 ghost use Rattle.seg_values.specs.Grows.{Keeps};
 ghost use Rattle.seg_values.specs.declared.token.Token.{Token};
 
@@ -8,15 +8,15 @@ use std::alloc::{AllocError, Global};
 
 /// Analyzers by name. The tokens of a text are a function of the name and the text.
 pub trait Analyzers {
-    /// The names that are known.
-    ghost knows: { Self → List ℕ → Type 0 };
+    /// Whether a name is known.
+    ghost knows: { Self → List ℕ → Bool };
 
     /// The tokens of a text by the analyzer with a name.
     ghost tokens_of: { Self → List ℕ → List ℕ → List Token };
 
     /// Whether there is an analyzer with a name.
     fn known(&self, name: &str) -> bool
-        ensures { IsTrue result ↔ knows self.now name.now };
+        ensures { result ≡ knows self.now name.now };
 
     /// Appends the tokens of a text. After an error some of them may have been appended.
     fn tokens(
@@ -26,7 +26,7 @@ pub trait Analyzers {
         text: &str,
         out: &mut Tokens,
     ) -> Result<(), AllocError>
-        requires { knows self.now name.now }
+        requires { IsTrue (knows self.now name.now) }
         ensures ok { OnOk result (out.new ≡ out.old ++ tokens_of self.now name.now text.now) }
         ensures err { OnErr result (Keeps out.old out.new) };
 }

@@ -4,7 +4,8 @@
 //! and a schema as the list of its entries.
 //!
 //! Read `text`, `token` and `tokenizer` first, then `tokenizers`, `analyzers` and `tokenizer_manager` with the law in
-//! `laws`; then `value_error`, `value`, `facet` and `document`; last `schema` with `schema_copy`, `field_type` and `name_search`, `term` and `error`.
+//! `laws`; then `value_error`, `value`, `facet` and `document`; last `schema` with `schema_fields`, `field_type` and
+//! `name_search`, `term` and `error`.
 #![tactic(auto)]
 
 mod analyzers;
@@ -16,7 +17,7 @@ mod field_type;
 mod laws;
 mod name_search;
 mod schema;
-mod schema_copy;
+mod schema_fields;
 mod term;
 mod text;
 mod token;
@@ -36,7 +37,7 @@ pub use laws::tokens_are_words;
 pub use schema::{Field, FieldEntry, FieldKind, IndexOption, Schema, SchemaBuilder};
 pub use term::Term;
 pub use text::{Bytes, Text};
-pub use token::{PreTokenizedString, Token, Tokens};
+pub use token::{MAX_TOKEN_LEN, PreTokenizedString, Token, Tokens};
 pub use tokenizer::Tokenizer;
 pub use tokenizer_manager::TokenizerManager;
 pub use tokenizers::{DefaultTokenizer, RawTokenizer, WhitespaceTokenizer};

@@ -1,13 +1,15 @@
 //! Fields and schemas.
 ghost use Rattle.std.specs.Prelude.{◌≡◌, List, ℕ, ◌<◌, ◌+◌, ◌-◌, ◌^◌, ◌++◌, [], ◌∷◌, ◌↔◌, ◌⊎◌, length, slice_get, Some, None, Err, true, IfOk, IfErr, IfSome, OnOk, OnErr, IsSome};
+ghost use Rattle.seg_values.specs.Indexed.{has_lengths, is_indexed};
 ghost use Rattle.seg_values.specs.Names.{field_named, kept_entry, is_allowed};
-ghost use Rattle.seg_values.specs.SchemaRules.{is_entry, is_schema};
+ghost use Rattle.seg_values.specs.SchemaRules.{is_schema};
 
 use crate::error::{SchemaCause, TResult, TantivyError};
+use crate::schema_fields::SchemaFields;
 use crate::text::Text;
-use seg_common::DateTimePrecision;
-use std::alloc::{AllocError, Global};
-use std::collections::HashMap;
+use seg_common::{DateTimePrecision, Room, Shared};
+use std::alloc::Global;
+use std::fmt::{self, Debug, Formatter, Write};
 use std::marker::Model;
 
 /// What a field's values are.
@@ -48,6 +50,24 @@ pub struct FieldEntry {
     pub expand_dots: bool,
 }
 
+impl FieldEntry {
+    pub fn is_indexed(&self) -> bool
+        ensures { result ≡ is_indexed self.now }
+    {
+        match self.index {
+            IndexOption::No => false,
+            _ => true,
+        }
+    }
+
+    /// Whether each document has a length in this field.
+    pub fn has_field_norms(&self) -> bool
+        ensures { result ≡ has_lengths self.now }
+    {
+        self.is_indexed() && self.norms
+    }
+}
+
 /// A place in a schema.
 #[derive(Clone, Copy, Debug, PartialEq, Eq, PartialOrd, Ord)]
 pub struct Field {
@@ -76,62 +96,53 @@ impl Field {
     }
 }
 
-/// Field entries, in order.
-#[derive(Debug, Drop)]
+/// Field entries, in order. A copy shares them.
+#[derive(Drop)]
 pub struct Schema {
-    entries: Vec<FieldEntry>,
-    places: HashMap<String, u32>,
+    // `None` where there is no field.
+    fields: Option<Shared<SchemaFields>>,
 }
 
 impl Model for Schema {
-    ghost use Rattle.std.specs.Prelude.{List, ℕ, ◌≡◌, true};
-    ghost use Rattle.std.specs.HashMap.{get_by_text};
+    ghost use Rattle.std.specs.Prelude.{List, []};
+    ghost use Rattle.std.specs.Option.{unwrap_or};
     ghost use Rattle.seg_values.specs.declared.schema.FieldEntry.{FieldEntry};
 
     ghost Value = { List FieldEntry };
 
-    ghost use Rattle.seg_values.specs.Names.{field_named};
-    ghost use Rattle.seg_values.specs.SchemaRules.{is_schema};
-
-    ghost view = { λ a. a.entries.items };
-
-    ghost invariant = { λ a. (is_schema a.entries.items ≡ true) × ((name : List ℕ) → get_by_text a.places name ≡ field_named a.entries.items name) };
+    ghost view = { λ a. unwrap_or a.fields [] };
 }
 
 impl Schema {
-    pub(crate) fn new(alloc: Global) -> Schema
-        ensures { result ≡ [] }
-    {
-        Schema {
-            entries: Vec::new(alloc),
-            places: HashMap::new(alloc),
-        }
-    }
-
     /// What a builder made sure of: distinct names, options that go with their kinds, and no more fields than can be numbered.
     pub fn fields_are_valid(&self)
         ensures { is_schema self.now ≡ true }
     {
-        let _entries = &self.entries;
+        if let Some(fields) = &self.fields {
+            fields.get().are_valid();
+        }
     }
 
     pub fn fields(&self) -> &[FieldEntry]
         ensures { result.now ≡ self.now }
     {
-        &self.entries
+        match &self.fields {
+            Some(fields) => fields.get().entries(),
+            None => &[],
+        }
     }
 
     pub fn num_fields(&self) -> usize
         ensures { result ≡ length self.now }
     {
-        self.entries.len()
+        self.fields().len()
     }
 
     pub fn get_field_entry(&self, field: Field) -> &FieldEntry
         requires { field < length self.now }
         ensures { slice_get self.now field ≡ Some result.now }
     {
-        &self.entries[field.id as usize]
+        &self.fields()[field.id as usize]
     }
 
     /// The field with a name.
@@ -139,46 +150,66 @@ impl Schema {
         ensures ok { IfOk result (λ f. field_named self.now name.now ≡ Some f) }
         ensures err { IfErr result (λ e. (e ≡ TantivyError.FieldNotFound) × (field_named self.now name.now ≡ None)) }
     {
-        match self.places.get(name).copied() {
+        match self.place(name) {
             Some(id) => Ok(Field { id }),
             None => Err(TantivyError::FieldNotFound),
         }
     }
 
-    /// Adds an entry whose name is new.
-    pub(crate) fn push(&mut self, entry: FieldEntry) -> Result<Field, AllocError>
-        requires few { length self.old + 1 < 2 ^ 32 - 1 }
-        requires entry { is_entry entry ≡ true }
-        requires new { field_named self.old entry.name ≡ None }
-        ensures ok { IfOk result (λ f. (f ≡ length self.old) × (self.new ≡ self.old ++ entry ∷ [])) }
-        ensures err { OnErr result (self.new ≡ self.old) }
+    fn place(&self, name: &str) -> Option<u32>
+        ensures { result ≡ field_named self.now name.now }
     {
-        let id = self.entries.len() as u32;
-        let name = String::from_str(*self.entries.allocator(), entry.name.as_str())?;
-        self.entries.push(entry)?;
-        match self.places.insert(name, id) {
-            Ok(_) => Ok(Field { id }),
-            Err(_) => {
-                self.entries.pop();
-                Err(AllocError)
-            }
+        match &self.fields {
+            Some(fields) => fields.get().place(name),
+            None => None,
         }
+    }
+
+    /// Another owner of the same entries: no memory is taken.
+    pub fn share(&self) -> Schema
+        ensures { result ≡ self.now }
+    {
+        match &self.fields {
+            Some(fields) => Schema {
+                fields: Some(fields.share()),
+            },
+            None => Schema { fields: None },
+        }
+    }
+
+    /// `share` in the form of the copies that take memory. It never fails.
+    pub fn try_clone(&self, _alloc: Global) -> TResult<Schema>
+        ensures { result ≡ Ok self.now }
+    {
+        Ok(self.share())
+    }
+}
+
+impl Debug for Schema {
+    fn fmt<W: Write>(&self, f: &mut Formatter<W>) -> fmt::Result {
+        f.debug_struct("Schema")
+            .field("entries", &self.fields())
+            .finish()
     }
 }
 
 /// A schema under way.
 #[derive(Drop)]
 pub struct SchemaBuilder {
-    schema: Schema,
+    fields: SchemaFields,
+    // For the fields of the schema, from the first one on: so `build` takes no memory.
+    room: Option<Room<SchemaFields>>,
 }
 
 impl Model for SchemaBuilder {
-    ghost use Rattle.std.specs.Prelude.{List};
+    ghost use Rattle.std.specs.Prelude.{◌≡◌, ◌⊎◌, List, [], IsSome};
     ghost use Rattle.seg_values.specs.declared.schema.FieldEntry.{FieldEntry};
 
     ghost Value = { List FieldEntry };
 
-    ghost view = { λ a. a.schema };
+    ghost view = { λ a. a.fields };
+
+    ghost invariant = { λ a. IsSome a.room ⊎ (a.fields ≡ []) };
 }
 
 impl SchemaBuilder {
@@ -186,7 +217,8 @@ impl SchemaBuilder {
         ensures { result ≡ [] }
     {
         SchemaBuilder {
-            schema: Schema::new(alloc),
+            fields: SchemaFields::new(alloc),
+            room: None,
         }
     }
 
@@ -200,16 +232,27 @@ impl SchemaBuilder {
         ensures causes { IfErr result (λ e. (e ≡ TantivyError.SchemaError SchemaCause.DuplicateName) ⊎ (e ≡ TantivyError.OutOfMemory)) }
         ensures err { OnErr result (self.new ≡ self.old) }
     {
-        if self.schema.get_field(entry.name.as_str()).is_ok() {
+        if self.fields.place(entry.name.as_str()).is_some() {
             return Err(TantivyError::SchemaError(SchemaCause::DuplicateName));
         }
-        Ok(self.schema.push(kept(entry))?)
+        let id = self.fields.entries().len() as u32;
+        if self.room.is_none() {
+            self.room = Some(Room::take(self.fields.allocator())?);
+        }
+        self.fields.push(kept(entry))?;
+        Ok(Field { id })
     }
 
     pub fn build(self) -> Schema
         ensures { result ≡ self }
     {
-        self.schema
+        let SchemaBuilder { fields, room } = self;
+        match room {
+            Some(room) => Schema {
+                fields: Some(room.fill(fields)),
+            },
+            None => Schema { fields: None },
+        }
     }
 }
 

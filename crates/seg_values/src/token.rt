@@ -5,6 +5,9 @@ use crate::text::Text;
 use std::alloc::{AllocError, Global};
 use std::marker::Model;
 
+/// The most bytes of a token that gives a term. A longer one isn't counted, and moves no position.
+pub const MAX_TOKEN_LEN: usize = 65_530;
+
 /// A token of a text: its byte range there, its position, how many positions it spans, and its own text.
 #[derive(Debug, Drop)]
 pub struct Token {

@@ -1,5 +1,5 @@
 //! Tokenizers by name.
-ghost use Rattle.std.specs.Prelude.{◌≡◌, ◌++◌, ◌↔◌, ◌<◌, List, ℕ, IsSome, IsTrue, OnOk, OnErr, [], slice_get, length, Some, None, position, IfSome, MatchOption};
+ghost use Rattle.std.specs.Prelude.{◌≡◌, ◌++◌, ◌<◌, List, ℕ, OnOk, OnErr, [], slice_get, length, Some, None, position, IfSome, MatchOption, is_some, false};
 ghost use Rattle.std.specs.Option.{option_map_or};
 ghost use Rattle.std.specs.Str.{bytes_eq};
 ghost use Rattle.seg_values.specs.Grows.{Keeps};
@@ -27,7 +27,7 @@ pub struct TokenizerManager {
 impl TokenizerManager {
     /// A manager that knows no name.
     pub fn new(alloc: Global) -> TokenizerManager
-        ensures { (name : List ℕ) → ¬ (⟦<TokenizerManager as Analyzers>⟧.knows result name) }
+        ensures { (name : List ℕ) → ⟦<TokenizerManager as Analyzers>⟧.knows result name ≡ false }
     {
         TokenizerManager {
             tokenizers: Vec::new(alloc),
@@ -65,7 +65,7 @@ fn place_of<T>(values: &[Named<T>], name: &str) -> Option<usize>
 }
 
 impl Analyzers for TokenizerManager {
-    ghost knows = { λ m name. IsSome (item_named (λ t. t.name) m.tokenizers.items name) };
+    ghost knows = { λ m name. is_some (item_named (λ t. t.name) m.tokenizers.items name) };
 
     ghost tokens_of = { λ m name text. option_map_or (λ t. (Tokenizer-box t.value).tokens_of t.value.value text) (item_named (λ t. t.name) m.tokenizers.items name) [] };
 

@@ -1,10 +1,9 @@
 use Rattle.std.proofs.Common.{Bool, false, List, subst}
 use Rattle.std.specs.Prelude.{not}
 use Rattle.std.specs.List.{Contains, count_by}
-use Rattle.seg_common.specs.declared.name.FileName.TheVariants.{Alive}
 use Rattle.seg_batches.specs.Segments.{deletes_of}
 use Rattle.seg_batches.proofs.AliveSteps.{not_wanted, nothing_told, told, wanted}
-use Rattle.seg_batches.proofs.MakingCalls.{does-write}
+use Rattle.seg_batches.proofs.Following.{follows}
 use Rattle.seg_batches.proofs.Marks.{all_listed_alive, lacking_listed}
 use Rattle.seg_batches.proofs.alive_writing.write_alive_file.Goals as goal
 
@@ -31,6 +30,5 @@ returns-clause-calls g c =
     let s = c.args.segment.now in
     let set = c.in-Some.ensures in
     let lacks = subst (λ (marks : List Bool). Contains marks false) set.0 set.2 in
-    let wrote = c.write_file.ensures in
     wanted s.id c.id.result (count_by not s.alive) c.args.stamp c.id.ensures (deletes_of c.args.stamp s.alive) (lacking_listed c.args.stamp s.alive lacks) c.write_file.result
-    _ _ (does-write (Alive c.id.result c.args.stamp) c.write_file.result _ _ wrote.seen wrote.others wrote.tells wrote.cause wrote.errors)
+    _ _ (follows (tt, tt) c.write_file.ensures.does)

@@ -1,5 +1,5 @@
 use Rattle.std.proofs.Common.{IsTrue, take, drop}
-use Rattle.seg_build.specs.SegmentFiles.{AreAbsent}
+use Rattle.seg_segment.specs.SegmentFiles.{AreAbsent}
 use Rattle.seg_batches.specs.Segments.{AllTellAlive, alive_files, all_listed}
 use Rattle.seg_batches.proofs.FilesTurn.{AllMade}
 use Rattle.seg_batches.proofs.alive_writing.write_alive_files.Given as goal

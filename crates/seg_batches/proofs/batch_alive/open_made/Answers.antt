@@ -4,10 +4,10 @@ use Rattle.seg_batches.proofs.batch_alive.open_made.Goals as goal
 
 pub unreachable-requires : goal.unreachable-requires
 unreachable-requires c =
-    undamaged c.in-Ok.schema c.args.schema.now c.share.result c.args.files.now c.args.max_doc c.in-Ok.ensures c.share.ensures
+    undamaged c.share.result c.args.schema.now c.share-2.result c.args.files.now c.args.max_doc c.share.ensures c.share-2.ensures
     c.in-Err-Damaged.field-0 c.in-Err-Damaged.field-0-0 c.in-Err-Damaged.field-0-is c.requires.whole c.in-Err-Damaged.ensures.err
 
-pub returns-in-Ok-open_files-clause-contents : goal.returns-in-Ok-open_files-clause-contents
-returns-in-Ok-open_files-clause-contents c =
-    one_contents c.in-Ok.schema c.args.schema.now c.share.result c.args.files.now c.args.max_doc c.in-Ok.ensures c.share.ensures
-    c.files_spell_one_contents.ensures (contents_of c.in-Ok-open_files.reader) c.in-Ok-open_files.ensures.ok
+pub returns-in-Ok-clause-contents : goal.returns-in-Ok-clause-contents
+returns-in-Ok-clause-contents c =
+    one_contents c.share.result c.args.schema.now c.share-2.result c.args.files.now c.args.max_doc c.share.ensures c.share-2.ensures
+    c.files_spell_one_contents.ensures (contents_of c.in-Ok.reader) c.in-Ok.ensures.ok

@@ -1,5 +1,5 @@
 use Rattle.std.proofs.Common.{◌+◌, map, subst, ◌∙◌}
-use Rattle.seg_build.specs.View.{operation_of}
+use Rattle.seg_input.specs.View.{operation_of}
 use Rattle.seg_batches.specs.Indexing.{IsTaken, IsNotTaken}
 use Rattle.seg_batches.proofs.Added.{one_more, not_taken, taken_unrefused}
 use Rattle.seg_batches.proofs.Refused.{still_none}

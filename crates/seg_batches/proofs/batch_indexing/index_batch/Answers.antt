@@ -1,6 +1,6 @@
 use Rattle.std.proofs.Common.{◌≤◌, ◌^◌, arith, ap, inr, length, map}
 use Rattle.seg_model.specs.Operations.{additions}
-use Rattle.seg_build.specs.View.{operation_of}
+use Rattle.seg_input.specs.View.{operation_of}
 use Rattle.seg_batches.proofs.Added.{of_batch}
 use Rattle.seg_batches.proofs.Refused.{too_many}
 use Rattle.seg_batches.proofs.batch_indexing.index_batch.Goals as goal

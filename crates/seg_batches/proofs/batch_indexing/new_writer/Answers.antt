@@ -4,5 +4,5 @@ use Rattle.seg_batches.proofs.Started.{caused_by}
 use Rattle.seg_batches.proofs.batch_indexing.new_writer.Goals as goal
 
 pub returns-clause-causes : goal.returns-clause-causes
-returns-clause-causes g c known tests =
-    caused_by known c.new-segment.result.schema c.args.schema.now c.args.settings.now c.for_segment.result (ap (λ (s : SegmentParts). s.schema) c.new-segment.ensures ∙ c.in-Ok.ensures) (c.for_segment.ensures.causes known tests)
+returns-clause-causes g c =
+    caused_by (g.Z.Analyzers.knows c.args.analyzers.now) c.new-segment.result.schema c.args.schema.now c.args.settings.now c.for_segment.result (ap (λ (s : SegmentParts). s.schema) c.new-segment.ensures ∙ c.share.ensures) c.for_segment.ensures.causes

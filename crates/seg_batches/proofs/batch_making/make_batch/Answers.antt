@@ -1,6 +1,6 @@
 use Rattle.std.proofs.Common.{◌≡◌, ap, sym, ◌∙◌, arith, length, map}
 use Rattle.seg_model.specs.Operations.{additions}
-use Rattle.seg_build.specs.View.{operation_of}
+use Rattle.seg_input.specs.View.{operation_of}
 use Rattle.seg_batches.proofs.Left.{made_whole, stamps_counted}
 use Rattle.seg_batches.proofs.batch_making.make_batch.Goals as goal
 

@@ -7,27 +7,29 @@ use Rattle.seg_values.specs.declared.error.TantivyError.{TantivyError}
 use Rattle.seg_model.specs.Built.{is_taken}
 use Rattle.seg_model.specs.Operations.{Operation, additions}
 use Rattle.seg_model.specs.Refused.{batch_refusal}
-use Rattle.seg_build.specs.View.{operation_of}
+use Rattle.seg_input.specs.View.{operation_of}
 use Rattle.seg_build.specs.WriterStart.{start_refusal}
-use Rattle.seg_batches.specs.Making.{IsMadeOf}
+use Rattle.seg_segment.specs.Standing.{StandFor}
 use Rattle.seg_refusals.specs.Refusals.{build_error}
 use Rattle.seg_batches.specs.Segments.{WrittenSegment}
-use Rattle.seg_batches.proofs.BatchSteps.{made_stands, not_begun, not_refused, range_mapped, segment_here, set_here, unless_memory}
+use Rattle.seg_batches.proofs.BatchSteps.{not_begun, not_refused, range_mapped, segment_here, set_here, unless_memory}
+use Rattle.seg_segment.proofs.SpelledFiles.{stands_there}
 use Rattle.seg_batches.proofs.batches_writing.write_batch.Goals as goal
 
 pub returns-in-Err-clause-calls : goal.returns-in-Err-clause-calls
 returns-in-Err-clause-calls g c = not_begun WrittenSegment (c.args.id ∷ []) c.in-Err.e _ c.in-Err.ensures.errors
 
 pub returns-in-Err-clause-refused : goal.returns-in-Err-clause-refused
-returns-in-Err-clause-refused g c known tests =
+returns-in-Err-clause-refused g c =
+    let knows = g.Z.Analyzers.knows c.args.analyzers.now in
     let F = g.Z.Analyzers.tokens_of c.args.analyzers.now in
     unless_memory
-    (λ (e : TantivyError). (start_refusal known 15000 c.args.schema.now c.args.settings.now ≡ Some e)
+    (λ (e : TantivyError). (start_refusal knows 15000 c.args.schema.now c.args.settings.now ≡ Some e)
     ⊎ (option_map build_error (batch_refusal c.args.schema.now F (enumerate_from c.args.first (slice_range (map operation_of c.args.operations.now) c.args.first c.args.end))) ≡ Some e))
     c.in-Err.e
-    (subst (λ (os : List Operation). (c.in-Err.e ≡ TantivyError.OutOfMemory) ⊎ ((start_refusal known 15000 c.args.schema.now c.args.settings.now ≡ Some c.in-Err.e)
+    (subst (λ (os : List Operation). (c.in-Err.e ≡ TantivyError.OutOfMemory) ⊎ ((start_refusal knows 15000 c.args.schema.now c.args.settings.now ≡ Some c.in-Err.e)
     ⊎ (option_map build_error (batch_refusal c.args.schema.now F (enumerate_from c.args.first os)) ≡ Some c.in-Err.e)))
-    (range_mapped c.args.operations.now c.args.first c.args.end) (c.in-Err.ensures.refused known tests))
+    (range_mapped c.args.operations.now c.args.first c.args.end) c.in-Err.ensures.refused)
 
 pub write_made-requires-clause-set : goal.write_made-requires-clause-set
 write_made-requires-clause-set g c =
@@ -64,5 +66,5 @@ returns-clause-accepted g c =
 pub returns-clause-stands : goal.returns-clause-stands
 returns-clause-stands g c told =
     let F = g.Z.Analyzers.tokens_of c.args.analyzers.now in
-    let made = subst (λ (os : List Operation). IsMadeOf c.args.schema.now F (additions os) c.in-Ok.made.files) (range_mapped c.args.operations.now c.args.first c.args.end) c.in-Ok.ensures.made in
-    on_ok_weaker c.write_made.result (made_stands c.args.schema.now F c.args.id _ c.in-Ok.made.files _ made) (c.write_made.ensures.files told)
+    let made = subst (λ (os : List Operation). StandFor c.args.schema.now F (additions os) c.in-Ok.made.files) (range_mapped c.args.operations.now c.args.first c.args.end) c.in-Ok.ensures.made in
+    on_ok_weaker c.write_made.result (stands_there c.args.schema.now F _ c.in-Ok.made.files _ c.args.id made) (c.write_made.ensures.files told)

@@ -9,7 +9,7 @@ use Rattle.seg_model.specs.Built.{is_taken}
 use Rattle.seg_model.specs.Operations.{batches}
 use Rattle.seg_model.specs.Refused.{batch_refusal, cut_from, first_of}
 use Rattle.seg_alive.specs.Laws.{as_operations}
-use Rattle.seg_build.specs.View.{operation_of}
+use Rattle.seg_input.specs.View.{operation_of}
 use Rattle.seg_build.specs.WriterStart.{start_refusal}
 use Rattle.seg_refusals.specs.Refusals.{build_error}
 use Rattle.seg_batches.specs.Segments.{segments_of}
@@ -43,7 +43,8 @@ returns-in-Err-write_batch-clause-calls g c =
     ids_stop c.args.ids.now c.loop-at.at c.index-ids-at.result found (Unit {0}) (Unit {0}) c.in-Err-write_batch.e _ _ _ c.loop-at.invariant.made c.in-Err-write_batch.ensures.calls
 
 pub returns-in-Err-write_batch-clause-refused : goal.returns-in-Err-write_batch-clause-refused
-returns-in-Err-write_batch-clause-refused g c known tests =
+returns-in-Err-write_batch-clause-refused g c =
+    let knows = g.Z.Analyzers.knows c.args.analyzers.now in
     let F = g.Z.Analyzers.tokens_of c.args.analyzers.now in
     let operations = map operation_of c.args.operations.now in
     let end = c.batch_end-end.result in
@@ -52,15 +53,15 @@ returns-in-Err-write_batch-clause-refused g c known tests =
     let le : at ≤ length c.args.cuts.now = omega (arith, c.loop-at-test.true, c.requires.ids) in
     let all = first_of (batch_refusal c.args.schema.now F) (cut_from 0 c.args.cuts.now (enumerate_from 0 operations)) in
     refusal_weaker
-    (λ (e : TantivyError). (start_refusal known 15000 c.args.schema.now c.args.settings.now ≡ Some e)
+    (λ (e : TantivyError). (start_refusal knows 15000 c.args.schema.now c.args.settings.now ≡ Some e)
     ⊎ (option_map build_error (batch_refusal c.args.schema.now F (enumerate_from c.loop-at.first (slice_range operations c.loop-at.first end))) ≡ Some e))
-    (λ (e : TantivyError). (start_refusal known 15000 c.args.schema.now c.args.settings.now ≡ Some e)
+    (λ (e : TantivyError). (start_refusal knows 15000 c.args.schema.now c.args.settings.now ≡ Some e)
     ⊎ (option_map build_error all ≡ Some e))
     (λ e h. elim h [
       | inl start ↦ inl start
       | inr batch ↦ inr (refused_turn c.args.schema.now F operations c.args.cuts.now at c.loop-at.first end t all e le c.loop-at.invariant.unrefused batch)
     ])
-    c.in-Err-write_batch.e (c.in-Err-write_batch.ensures.refused known tests)
+    c.in-Err-write_batch.e c.in-Err-write_batch.ensures.refused
 
 pub returns-in_default-clause-calls : goal.returns-in_default-clause-calls
 returns-in_default-clause-calls g c =

@@ -5,8 +5,8 @@ use Rattle.seg_model.specs.Operations.{additions, batches}
 use Rattle.seg_model.specs.Refused.{batch_refusal, cut_from, first_of}
 use Rattle.seg_removal.specs.Stamps.{stamped_deletes}
 use Rattle.seg_alive.specs.Laws.{as_operations}
-use Rattle.seg_build.specs.SegmentFiles.{AreAbsent}
-use Rattle.seg_build.specs.View.{operation_of}
+use Rattle.seg_segment.specs.SegmentFiles.{AreAbsent}
+use Rattle.seg_input.specs.View.{operation_of}
 use Rattle.seg_batches.specs.Making.{passed_below}
 use Rattle.seg_batches.specs.Segments.{AllStand, segments_of, six_files}
 use Rattle.seg_batches.specs.Writing.{MakesFiles}

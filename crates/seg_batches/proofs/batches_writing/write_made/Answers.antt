@@ -1,5 +1,5 @@
 use Rattle.std.proofs.Common.{Err}
-use Rattle.seg_build.specs.SegmentFiles.{segment_names, wrote}
+use Rattle.seg_segment.specs.SegmentFiles.{segment_names, wrote}
 use Rattle.seg_batches.specs.Segments.{WrittenSegment}
 use Rattle.seg_batches.proofs.MakingCalls.{as-failed, does-make}
 use Rattle.seg_batches.proofs.batches_writing.write_made.Goals as goal

@@ -1,7 +1,7 @@
-use Rattle.std.proofs.Common.{◌≡◌, ◌++◌, map, drop}
-use Rattle.seg_values.specs.declared.schema.FieldEntry.{FieldEntry}
-use Rattle.seg_build.specs.Checking.{at_start}
+use Rattle.std.proofs.Common.{◌≡◌, drop}
+use Rattle.seg_build.specs.Checking.{restarted}
 use Rattle.seg_build.proofs.checking.restart.Given as goal
 
-abbrev pub invariant-loop : goal.invariant-loop
-invariant-loop l = l.reached.items ++ map (λ (e : FieldEntry). at_start) (drop l.index l.schema) ≡ map (λ (e : FieldEntry). at_start) l.schema
+-- what is so far, with what is left, is all
+abbrev pub invariant-loop-at : goal.invariant-loop-at
+invariant-loop-at l = restarted l.reached.items (drop l.at l.document) ≡ restarted l.initial.reached.items l.document

@@ -1,13 +1,29 @@
-use Rattle.std.proofs.Common.{◌≡◌, ◌∙◌, sym, subst, ℕ, List, Option, None, length, ◌≤◌, arith, Bor}
-use Rattle.std.specs.Prelude.{IfSome, option_and_then}
+use Rattle.std.proofs.Common.{◌≡◌, false, true, option_map, length, Some, refl, sym, ap, ◌∙◌, subst, arith}
 use Rattle.std.specs.List.{slice_get}
-use Rattle.seg_postings.specs.FieldNorms.{with_length}
-use Rattle.seg_build.proofs.Counting.{none_as, unchanged}
+use Rattle.std.proofs.lemmas.Option.{slice_get_read}
+use Rattle.seg_common.specs.Growing.{HasGrown}
+use Rattle.seg_postings.specs.FieldNorms.{at_field, with_length}
+use Rattle.seg_build.specs.Lengths.{lacks_length, recorded_once, count_at}
+use Rattle.seg_build.proofs.RecordedLengths.{ids_at, stays_recorded, comes_recorded}
 use Rattle.seg_build.proofs.lengths.record_length.Goals as goal
 
-pub returns-then-is_none : goal.returns-then-is_none
-returns-then-is_none c =
-    let place : c.from_field_id-field.result ≡ c.args.place = omega (arith, c.from_field_id-field.ensures, c.in-Ok.ensures) in
-    unchanged (λ kept. IfSome (slice_get kept c.args.place) (λ k. IfSome k (λ ids. length ids ≤ c.args.document))) (with_length c.args.document c.args.count) c.args.norms.now c.args.place c.requires.room
-    (subst (λ n. option_and_then (λ (ks : List (Option (List ℕ))). option_and_then (λ (f : Option (List ℕ)). f) (slice_get ks n)) c.args.norms.now ≡ None) place
-    (sym c.ids.ensures ∙ none_as (λ (ids : Bor (List ℕ)). ids.now) c.ids.result c.if-is_none.ensures))
+pub returns-then-not-lacks_length : goal.returns-then-not-lacks_length
+returns-then-not-lacks_length c =
+    let fields = c.args.fields.now in
+    let place = c.args.field in
+    let same : c.from_field_id-field.result ≡ place = omega (arith, c.from_field_id-field.ensures) in
+    let there : lacks_length c.args.document (ids_at place c.args.norms.now) ≡ false = ap (λ n. lacks_length c.args.document (ids_at n c.args.norms.now)) (sym same) ∙ sym c.lacks_length.ensures ∙ c.if-not-lacks_length.true in
+    stays_recorded c.args.document (count_at c.args.document (slice_get fields place)) c.args.norms.now place there
+
+pub returns-in-Ok : goal.returns-in-Ok
+returns-in-Ok c =
+    let id = c.args.document in
+    let fields = c.args.fields.now in
+    let place = c.args.field in
+    let same : c.from_field_id-field.result ≡ place = omega (arith, c.from_field_id-field.ensures) in
+    let lacks : lacks_length id (ids_at place c.args.norms.now) ≡ true = ap (λ n. lacks_length id (ids_at n c.args.norms.now)) (sym same) ∙ sym c.lacks_length.ensures ∙ c.if-not-lacks_length.false in
+    let at : slice_get fields place ≡ Some c.index-fields-place.result = slice_get_read fields (length fields) place c.index-fields-place.result refl (omega (arith, c.if-place-fields.false)) c.index-fields-place.is in
+    let count : c.count_in-count.result ≡ count_at id (slice_get fields place) = c.count_in-count.ensures ∙ sym (ap (count_at id) at) in
+    comes_recorded id c.count_in-count.result c.args.norms.now c.record.new.self place lacks
+    (subst (λ n. HasGrown c.args.norms.now c.record.new.self (at_field n (with_length id c.count_in-count.result))) same c.in-Ok.ensures.ok)
+    ∙ ap (λ n. option_map (at_field place (recorded_once id n)) c.args.norms.now) count

@@ -1,6 +1,10 @@
-use Rattle.std.proofs.Common.{◌≡◌, take, option_map}
-use Rattle.seg_build.specs.Lengths.{with_counts}
+use Rattle.std.proofs.Common.{◌≡◌, drop, map, option_map}
+use Rattle.seg_build.specs.Lengths.{with_lengths}
+use Rattle.seg_build.specs.declared.field_text.FieldText.{FieldText}
 use Rattle.seg_build.proofs.lengths.record_lengths.Given as goal
 
-abbrev pub invariant-loop-place : goal.invariant-loop-place
-invariant-loop-place l = l.norms ≡ option_map (with_counts l.document (take l.place l.fields)) l.initial.norms
+-- what is so far, with what is left, is all
+abbrev pub invariant-loop-text : goal.invariant-loop-text
+invariant-loop-text l =
+    option_map (with_lengths l.document l.fields (map (λ (t : FieldText). t.field) (drop l.text-index l.texts))) l.norms
+    ≡ option_map (with_lengths l.document l.fields (map (λ (t : FieldText). t.field) l.texts)) l.initial.norms

@@ -1,7 +1,7 @@
 use Rattle.std.proofs.Common.{◌<◌, ◌^◌, refl, arith}
 use Rattle.seg_model.specs.Checked.{is_rising, is_u32}
 use Rattle.seg_model.specs.Occurrences.{counted, start_after}
-use Rattle.seg_build.proofs.BuiltEntries.{both_true}
+use Rattle.seg_segment.proofs.BuiltEntries.{both_true}
 use Rattle.seg_build.proofs.Fitting.{is_less}
 use Rattle.seg_build.proofs.tokens.add_tokens.Goals as goal
 

@@ -7,6 +7,6 @@ use Rattle.seg_build.proofs.writer_start.unknown_tokenizer.Goals as goal
 
 pub loop-place-init : goal.loop-place-init
 loop-place-init g c = record {
-  first = λ known tests. sym (position_from-zero (λ (e : FieldEntry). not (known (indexing_tokenizer e))) c.args.schema.now);
+  first = sym (position_from-zero (λ (e : FieldEntry). not (g.Z.Analyzers.knows c.args.analyzers.now (indexing_tokenizer e))) c.args.schema.now);
   known = λ h. h;
 }

@@ -1,17 +1,14 @@
-use Rattle.std.proofs.Common.{[], ◌∷◌}
-use Rattle.seg_common.specs.declared.name.FileName.TheVariants.{Meta}
-use Rattle.seg_merge.specs.IndexFiles.{begun_answers}
-use Rattle.seg_merge.proofs.IndexSteps.{never-there}
-use Rattle.seg_batches.proofs.Calls.{does-nothing}
-use Rattle.seg_merge.proofs.Steps.{does-create-failed}
+use Rattle.std.proofs.Common.{[], sym}
+use Rattle.seg_directory.proofs.Doing.{answers, stops}
+use Rattle.seg_directory.proofs.NeverThere.{never_there}
+use Rattle.seg_batches.proofs.Following.{follows}
 use Rattle.seg_merge.proofs.index_files.begin_index.Goals as goal
 
-pub returns-in_default-clause-calls : goal.returns-in_default-clause-calls
-returns-in_default-clause-calls g c = does-nothing begun_answers (Meta ∷ []) _
-
 pub returns-in-Err-clause-fresh : goal.returns-in-Err-clause-fresh
-returns-in-Err-clause-fresh g c told none = never-there _ c.in-Err.e (c.in-Err.ensures.number told) none
+returns-in-Err-clause-fresh g c told none = never_there told (sym none, (tt, (tt, tt))) (stops [] c.in-Err.ensures.does)
 
 pub returns-in-Err-clause-calls : goal.returns-in-Err-clause-calls
-returns-in-Err-clause-calls g c =
-    does-create-failed c.in-Err.e _ _ c.in-Err.ensures.seen c.in-Err.ensures.others c.in-Err.ensures.tells c.in-Err.ensures.listing c.in-Err.ensures.saving c.in-Err.ensures.errors
+returns-in-Err-clause-calls g c = follows (tt, (tt, (tt, tt))) (stops [] c.in-Err.ensures.does)
+
+pub returns-clause-calls : goal.returns-clause-calls
+returns-clause-calls g c = follows (tt, (tt, (tt, tt))) (answers c.in-Ok.ensures.does)

@@ -1,7 +1,17 @@
-use Rattle.std.proofs.Common.{ap, Err}
-use Rattle.seg_merge.proofs.Steps.{does-fail}
+use Rattle.std.proofs.Common.{sym}
+use Rattle.seg_directory.proofs.Listing.{listed_keeps, listed_none}
+use Rattle.seg_directory.proofs.NeverThere.{never_there}
+use Rattle.seg_batches.proofs.Following.{follows}
 use Rattle.seg_merge.proofs.index_files.refuse_files.Goals as goal
 
-pub returns-in-Err-clause-calls : goal.returns-in-Err-clause-calls
-returns-in-Err-clause-calls g c =
-    does-fail c.in-Err.e _ _ c.in-Err.ensures.errors c.in-Err.ensures.seen c.in-Err.ensures.files c.in-Err.ensures.tells c.in-Err.ensures.cause.later (λ is. c.in-Err.ensures.cause.failed (ap Err is))
+pub returns-clause-empty : goal.returns-clause-empty
+returns-clause-empty g c told = listed_none c.expect_no_files.result told c.expect_no_files.ensures
+
+pub returns-clause-fresh : goal.returns-clause-fresh
+returns-clause-fresh g c told none = never_there told (sym none, tt) c.expect_no_files.ensures
+
+pub returns-clause-files : goal.returns-clause-files
+returns-clause-files g c = listed_keeps c.expect_no_files.ensures
+
+pub returns-clause-calls : goal.returns-clause-calls
+returns-clause-calls g c = follows (tt, tt) c.expect_no_files.ensures

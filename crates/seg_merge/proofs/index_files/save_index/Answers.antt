@@ -1,19 +1,21 @@
-use Rattle.std.proofs.Common.{Ok, Err}
-use Rattle.seg_merge.proofs.Steps.{does-save, does-sync, does-save-sync, saved-if, index-synced}
+use Rattle.std.proofs.Common.{[], ◌∷◌, Err}
+use Rattle.seg_directory.proofs.Doing.{stops, then_does}
+use Rattle.seg_directory.proofs.NeverThere.{quiet_steps}
+use Rattle.seg_batches.proofs.Following.{follows}
+use Rattle.seg_merge.proofs.Steps.{saved_if}
 use Rattle.seg_merge.proofs.index_files.save_index.Goals as goal
 
 pub returns-in-Ok-clause-index : goal.returns-in-Ok-clause-index
-returns-in-Ok-clause-index g c told =
-    index-synced c.sync_files.result _ _ _ c.sync_files.ensures.files (saved-if (Ok tt) _ _ _ _ (c.in-Ok.ensures.file told) (c.metas_read_back.ensures c.requires.list))
+returns-in-Ok-clause-index g c told = saved_if c.sync_files.result _ _ (then_does c.in-Ok.ensures c.sync_files.ensures.does) (c.metas_read_back.ensures c.requires.list) told
+
+pub returns-in-Ok-clause-fresh : goal.returns-in-Ok-clause-fresh
+returns-in-Ok-clause-fresh g c = quiet_steps (tt, (tt, (tt, tt))) (then_does c.in-Ok.ensures c.sync_files.ensures.does)
 
 pub returns-in-Ok-clause-calls : goal.returns-in-Ok-clause-calls
-returns-in-Ok-clause-calls g c =
-    let saved = c.in-Ok.ensures in
-    let synced = c.sync_files.ensures in
-    does-save-sync c.sync_files.result _ _ _ (does-save (Ok tt) _ _ saved.seen saved.others saved.tells saved.cause saved.errors)
-    (does-sync c.sync_files.result _ _ synced.seen synced.files synced.tells synced.cause synced.errors)
+returns-in-Ok-clause-calls g c = follows (tt, (tt, (tt, tt))) (then_does c.in-Ok.ensures c.sync_files.ensures.does)
+
+pub returns-in-Err-clause-fresh : goal.returns-in-Err-clause-fresh
+returns-in-Err-clause-fresh g c = quiet_steps (tt, (tt, tt)) c.in-Err.ensures
 
 pub returns-in-Err-clause-calls : goal.returns-in-Err-clause-calls
-returns-in-Err-clause-calls g c =
-    let saved = c.in-Err.ensures in
-    does-save (Err c.in-Err.e) _ _ saved.seen saved.others saved.tells saved.cause saved.errors
+returns-in-Err-clause-calls g c = follows (tt, (tt, tt)) c.in-Err.ensures

@@ -4,7 +4,7 @@ use Rattle.seg_values.specs.declared.error.TantivyError.{TantivyError}
 use Rattle.seg_values.specs.declared.error.TantivyError.TheVariants.{IndexAlreadyExists}
 use Rattle.seg_model.specs.IndexOfFiles as index
 use Rattle.seg_model.specs.Valid.{are_distinct}
-use Rattle.seg_build.specs.View.{operation_of}
+use Rattle.seg_input.specs.View.{operation_of}
 use Rattle.seg_directory.specs.State.{DirectoryState}
 use Rattle.seg_refusals.specs.Inputs.{input_of}
 use Rattle.seg_open.specs.OpenSegment.{contents_of}
@@ -107,7 +107,7 @@ write_output-requires-clause-filters g c =
     read_fits F input ids read c.deref.result.now begun worked c.deref.ensures.value is c.requires.fits filled
 
 pub returns-in_err-written-clause-refused : goal.returns-in_err-written-clause-refused
-returns-in_err-written-clause-refused g c known tests none told =
+returns-in_err-written-clause-refused g c none told =
     let input = input_of c.args.schema.now c.args.settings.now c.args.operations.now c.args.cuts.now c.args.filters.now c.args.ids.now in
     let F = g.Z.Analyzers.tokens_of c.args.analyzers.now in
     let ids = c.split_ids-output_id.result.0.now in
@@ -123,7 +123,7 @@ returns-in_err-written-clause-refused g c known tests none told =
     let still = tells-still _ _ c.in_ok-begin_indexes.ensures.calls.0.tells told in
     let written : DirectoryState = g.O.Directory.state c.write_output.new.output in
     given_on _ c.in_err-written.field-0.0 c.from_residual-in_err-written.result c.from_residual-in_err-written.ensures.1
-    (output_refused F input known last read c.deref.result.now c.in_err-written.field-0.0 begun.output written c.deref.ensures.value c.requires.fits (c.in_ok-segments.ensures.readings still) c.built_schemas_have_no_columns.ensures
+    (output_refused F input (g.Z.Analyzers.knows c.args.analyzers.now) last read c.deref.result.now c.in_err-written.field-0.0 begun.output written c.deref.ensures.value c.requires.fits (c.in_ok-segments.ensures.readings still) c.built_schemas_have_no_columns.ensures
     (record { built = c.requires.fits.built; small = c.in_ok-segments.ensures.small; taken = c.in_ok-segments.ensures.taken }) none c.in_err-written.ensures.stops)
 
 pub returns-in_err-written-clause-stops : goal.returns-in_err-written-clause-stops

@@ -7,8 +7,8 @@ use Rattle.seg_meta.specs.View.{settings_of}
 use Rattle.seg_model.specs.IndexOfFiles as index
 use Rattle.seg_model.specs.IndexOfFiles.{ListedSegment}
 use Rattle.seg_model.specs.Operations.{batches}
-use Rattle.seg_build.specs.Forms.{segment_forms}
-use Rattle.seg_build.specs.View.{operation_of}
+use Rattle.seg_segment.specs.Forms.{segment_forms}
+use Rattle.seg_input.specs.View.{operation_of}
 use Rattle.seg_batches.specs.Reading.{ReadsAll, StopsReading}
 use Rattle.seg_batches.specs.Segments.{AllStand, AllTellAlive}
 use Rattle.seg_refusals.specs.Refusals.{IfRefusal, batches_error}
@@ -104,7 +104,7 @@ returns-clause-fresh g c told absent =
     never_exists c.read_segments.result (stops_then (λ read. read.items) c.read_segments.result c.args.schema.now segments mid last (λ (e : TantivyError). e ≡ IndexAlreadyExists → ⊥) (λ e h. read_exists e (stops_so c.args.schema.now segments e mid last h)) c.read_segments.ensures.stops)
 
 pub returns-clause-refused : goal.returns-clause-refused
-returns-clause-refused g c known tests none =
+returns-clause-refused g c none =
     let mid = g.W.Directory.state c.fill_work_index.new.work in
     let last = g.W.Directory.state c.read_segments.new.directory in
     let F = g.Z.Analyzers.tokens_of c.args.analyzers.now in

@@ -1,8 +1,8 @@
 use Rattle.std.proofs.Common.{Ok, Err}
-use Rattle.seg_build.specs.SegmentFiles.{segment_names}
+use Rattle.seg_segment.specs.SegmentFiles.{segment_names}
 use Rattle.seg_merge.proofs.IndexSteps.{tells-still}
 use Rattle.seg_merge.proofs.OutputSteps.{stops-make, comes-to-save, read-files-kept}
-use Rattle.seg_merge.proofs.Steps.{does-make}
+use Rattle.seg_batches.proofs.MakingCalls.{does-make}
 use Rattle.seg_merge.proofs.output_index.fill_output_index.Goals as goal
 
 pub returns-in-Err-clause-calls : goal.returns-in-Err-clause-calls

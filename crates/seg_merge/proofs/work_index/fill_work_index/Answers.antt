@@ -3,8 +3,8 @@ use Rattle.std.proofs.lemmas.List.{length-map}
 use Rattle.seg_model.specs.IndexOfFiles.{ListedSegment}
 use Rattle.seg_model.specs.Operations.{batches}
 use Rattle.seg_model.specs.Valid.{are_distinct}
-use Rattle.seg_build.specs.SegmentFiles.{AreAbsent}
-use Rattle.seg_build.specs.View.{operation_of}
+use Rattle.seg_segment.specs.SegmentFiles.{AreAbsent}
+use Rattle.seg_input.specs.View.{operation_of}
 use Rattle.seg_batches.specs.Segments.{alive_files, all_listed}
 use Rattle.seg_merge.specs.IndexFiles.{listed_of}
 use Rattle.seg_merge.proofs.IndexSteps.{error_in, tells-still}
@@ -13,7 +13,7 @@ use Rattle.seg_merge.proofs.FillSteps.{alive_absent, as_many, ids_are, ids_of, l
 use Rattle.seg_merge.proofs.work_index.fill_work_index.Goals as goal
 
 pub returns-in-Err-clause-refused : goal.returns-in-Err-clause-refused
-returns-in-Err-clause-refused g c known tests starts = second_reason _ _ c.in-Err.e starts (c.in-Err.ensures.refused known tests)
+returns-in-Err-clause-refused g c starts = second_reason _ _ c.in-Err.e starts c.in-Err.ensures.refused
 
 pub returns-in-Err-clause-fresh : goal.returns-in-Err-clause-fresh
 returns-in-Err-clause-fresh g c told absent = λ is.

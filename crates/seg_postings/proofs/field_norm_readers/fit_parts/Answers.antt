@@ -5,14 +5,14 @@ use Rattle.seg_directory.specs.Composite.{Part}
 use Rattle.seg_postings.specs.NormsRead.{lengths_of_parts}
 use Rattle.seg_postings.proofs.NormsFit.{goes_on, differs, with_lengths, without_lengths}
 use Rattle.seg_postings.proofs.field_norm_readers.fit_parts.Goals as goal
-use Rattle.seg_postings.proofs.field_norm_readers.fit_parts.Goals.{then-has_lengths+else-not-is_part, else-has_lengths}
+use Rattle.seg_postings.proofs.field_norm_readers.fit_parts.Goals.{then-has_field_norms+else-not-is_part, else-has_field_norms}
 
 pub returns-then-not-is_part : goal.returns-then-not-is_part
 returns-then-not-is_part c =
     let l = c.loop-field in
     let e = c.index-entries-field.result in
     let all = lengths_of_parts c.args.parts.now in
-    let more = with_lengths c.args.entries.now c.args.max_doc l.field e c.loop-field-test.true c.index-entries-field.is (sym c.has_lengths.ensures ∙ c.if-has_lengths.true) in
+    let more = with_lengths c.args.entries.now c.args.max_doc l.field e c.loop-field-test.true c.index-entries-field.is (sym c.has_field_norms.ensures ∙ c.if-has_field_norms.true) in
     differs all _ l.place (l.field, c.args.max_doc) _ l.invariant.within c.if-not-is_part.ensures (ap (λ (xs : List (ℕ × ℕ)). take l.place all ++ xs) (sym more) ∙ l.invariant.same)
 
 pub overflow_add-place : goal.overflow_add-place
@@ -25,16 +25,16 @@ loop-field-preserved c =
     let l = c.loop-field in
     let e = c.index-entries-field.result in
     let all = lengths_of_parts c.args.parts.now in
-    elim c.if-has_lengths.branch [
-      | then-has_lengths+else-not-is_part w ↦
-          let more = with_lengths c.args.entries.now c.args.max_doc l.field e c.loop-field-test.true c.index-entries-field.is (sym c.has_lengths.ensures ∙ w.if-has_lengths.true) in
+    elim c.if-has_field_norms.branch [
+      | then-has_field_norms+else-not-is_part w ↦
+          let more = with_lengths c.args.entries.now c.args.max_doc l.field e c.loop-field-test.true c.index-entries-field.is (sym c.has_field_norms.ensures ∙ w.if-has_field_norms.true) in
           let here = w.if-not-is_part.ensures in
           rw w.place-is (record {
             same = goes_on all _ l.place (l.field, c.args.max_doc) _ here (ap (λ (xs : List (ℕ × ℕ)). take l.place all ++ xs) (sym more) ∙ l.invariant.same);
             within = let lt : l.place < length all = slice_get_within all l.place _ here in omega (arith, lt);
           })
-      | else-has_lengths w ↦
-          let more = without_lengths c.args.entries.now c.args.max_doc l.field e c.loop-field-test.true c.index-entries-field.is (sym c.has_lengths.ensures ∙ w.if-has_lengths.false) in
+      | else-has_field_norms w ↦
+          let more = without_lengths c.args.entries.now c.args.max_doc l.field e c.loop-field-test.true c.index-entries-field.is (sym c.has_field_norms.ensures ∙ w.if-has_field_norms.false) in
           rw w.place-is (record {
             same = ap (λ (xs : List (ℕ × ℕ)). take l.place all ++ xs) (sym more) ∙ l.invariant.same;
             within = l.invariant.within;

@@ -1,4 +1,4 @@
-use Rattle.seg_build.specs.View.{operation_of}
+use Rattle.seg_input.specs.View.{operation_of}
 use Rattle.seg_refusals.proofs.Cuts.{all_fit}
 use Rattle.seg_refusals.proofs.batches.cuts_fit.Goals as goal
 

@@ -1,6 +1,6 @@
 use Rattle.std.proofs.Common.{◌≡◌, length, map, drop}
 use Rattle.seg_model.specs.Valid.{cuts_fit}
-use Rattle.seg_build.specs.View.{operation_of}
+use Rattle.seg_input.specs.View.{operation_of}
 use Rattle.seg_refusals.proofs.Cuts.{fit_from}
 use Rattle.seg_refusals.proofs.batches.cuts_fit.Given as goal
 

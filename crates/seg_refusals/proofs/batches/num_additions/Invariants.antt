@@ -1,6 +1,6 @@
 use Rattle.std.proofs.Common.{◌≡◌, ◌+◌, ◌≤◌, length, map, drop}
 use Rattle.seg_model.specs.Operations.{additions}
-use Rattle.seg_build.specs.View.{operation_of}
+use Rattle.seg_input.specs.View.{operation_of}
 use Rattle.seg_refusals.proofs.batches.num_additions.Given as goal
 
 -- those so far, with those that are left, are all

@@ -2,7 +2,7 @@ use Rattle.std.proofs.Common.{◌≡◌, ◌+◌, [], ◌∷◌, ◌++◌, lengt
 use Rattle.std.specs.Prelude.{◌&&◌}
 use Rattle.std.proofs.lemmas.List.{length-append}
 use Rattle.std.proofs.lemmas.Slice.Zip.{zip_turn, zip_end}
-use Rattle.seg_build.specs.View.{operation_of}
+use Rattle.seg_input.specs.View.{operation_of}
 use Rattle.seg_refusals.proofs.Cuts.{all_fit, one_cut}
 use Rattle.seg_refusals.proofs.Divided.{as_many, one_batch, last_batch, batch, left_fit}
 use Rattle.seg_refusals.proofs.filters.filters_fit.Goals as goal

@@ -2,7 +2,7 @@ use Rattle.std.proofs.Common.{◌≡◌, ◌+◌, length, map, drop, true}
 use Rattle.seg_model.specs.Fields as model
 use Rattle.seg_model.specs.Operations.{batches, batches_from}
 use Rattle.seg_model.specs.Valid.{filters_fit}
-use Rattle.seg_build.specs.View.{operation_of}
+use Rattle.seg_input.specs.View.{operation_of}
 use Rattle.seg_refusals.proofs.Cuts.{fit_from}
 use Rattle.seg_refusals.proofs.filters.filters_fit.Given as goal
 

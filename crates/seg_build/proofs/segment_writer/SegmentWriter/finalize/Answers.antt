@@ -7,10 +7,10 @@ use Rattle.std.proofs.lemmas.Result.{on_ok_weaker}
 use Rattle.seg_values.specs.Tree.{Document}
 use Rattle.seg_model.specs.IndexOfFiles as index
 use Rattle.seg_build.specs.FieldTerms.{fields_of}
-use Rattle.seg_build.specs.Forms.{segment_forms}
+use Rattle.seg_segment.specs.Forms.{segment_forms}
 use Rattle.seg_build.specs.SegmentWriting.{IsKeptOf, Writes}
 use Rattle.seg_build.proofs.Keeping.{of_parts}
-use Rattle.seg_build.proofs.NoneMade.{none_made}
+use Rattle.seg_segment.proofs.NoneMade.{none_made}
 use Rattle.seg_build.proofs.segment_writer.SegmentWriter.finalize.Goals as goal
 
 pub returns-in-Some-clause-stands : goal.returns-in-Some-clause-stands

@@ -1,8 +1,9 @@
 use Rattle.std.proofs.Common.{◌≡◌, true, [], refl, subst}
+use Rattle.std.specs.Prelude.{IsTrue}
 use Rattle.std.specs.List.{AllByRecursion}
 use Rattle.seg_values.specs.declared.schema.FieldEntry.{FieldEntry}
 use Rattle.seg_model.specs.Fields.{indexing_tokenizer}
-use Rattle.seg_build.specs.Built.{is_built_schema}
+use Rattle.seg_segment.specs.Built.{is_built_schema}
 use Rattle.seg_build.specs.SegmentWriting.{kept_of, IsKeptOf}
 use Rattle.seg_build.proofs.segment_writer.SegmentWriter.for_segment.Goals as goal
 
@@ -11,7 +12,7 @@ invariant_of-result g c =
     let F = g.Z.Analyzers.tokens_of c.args.analyzers.now in
     let knows = g.Z.Analyzers.knows c.args.analyzers.now in (
       subst (λ s. is_built_schema s ≡ true) c.schema-schema.ensures (c.in_default.ensures.built refl),
-      subst (λ s. AllByRecursion (λ (e : FieldEntry). knows (indexing_tokenizer e)) s) c.schema-schema.ensures (c.in_default.ensures.known refl),
+      subst (λ s. AllByRecursion (λ (e : FieldEntry). IsTrue (knows (indexing_tokenizer e))) s) c.schema-schema.ensures (c.in_default.ensures.known refl),
       record {
         documents = [];
         stamps = [];

@@ -1,9 +1,10 @@
 use Rattle.std.proofs.Common.{[], map, refl, sym, ap, ◌∙◌, subst, arith}
 use Rattle.std.specs.Prelude.{IsSomeAnd}
 use Rattle.seg_values.specs.declared.schema.FieldEntry.{FieldEntry}
+use Rattle.seg_build.specs.Lengths.{HaveLengths}
 use Rattle.seg_build.specs.SegmentWriting.{Stores}
 use Rattle.seg_build.specs.Steps.{fresh}
-use Rattle.seg_build.proofs.KeptLengths.{kept_before}
+use Rattle.seg_build.proofs.KeptLengths.{lengths_before}
 use Rattle.seg_build.proofs.writer_parts.WriterParts.new.Goals as goal
 
 pub returns : goal.returns
@@ -12,7 +13,7 @@ returns c = λ analyzer. record {
   few = omega arith;
   utf8 = tt;
   fields = c.in_ok-fields.ensures ∙ ap (map (λ (e : FieldEntry). fresh)) c.fields.ensures;
-  norms = c.in-Ok.ensures.ok ∙ kept_before c.args.schema.now analyzer;
+  norms = subst (λ o. IsSomeAnd o (HaveLengths c.args.schema.now analyzer [])) (sym c.in-Ok.ensures.ok) (lengths_before c.args.schema.now analyzer);
   store = subst (λ o. IsSomeAnd o (Stores c.args.schema.now [])) (sym c.in-Ok-new.ensures.ok) (record { read = refl; count = refl; forms = refl });
   stamped = c.new-2.ensures.items;
   each = refl;

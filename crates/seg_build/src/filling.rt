@@ -1,0 +1,41 @@
+//! What the components of a segment are to hold, from the documents that were indexed.
+ghost use Rattle.std.specs.Prelude.{◌≡◌, true, length, IfOk};
+ghost use Rattle.seg_segment.specs.Built.{is_built_schema};
+ghost use Rattle.seg_build.specs.Filling.{IsFilled};
+
+use crate::fields::IndexedBatch;
+use crate::norms_file::norms_file;
+use crate::terms_files::add_fields;
+use seg_columnar::ColumnarWriter;
+use seg_meta::Segment;
+use seg_postings::InvertedIndexSerializer;
+use seg_segment::SegmentSerializer;
+use seg_store::StoreWriter;
+use std::alloc::{AllocError, Global};
+
+/// A serializer of a segment, with a store, the terms and the lengths of a batch, and a row for each of `count` documents.
+/// There is no column yet.
+pub(crate) fn filled(
+    alloc: Global,
+    segment: Segment,
+    store: StoreWriter,
+    batch: &IndexedBatch,
+    count: u32,
+) -> Result<SegmentSerializer, AllocError>
+    requires fields { length batch.now.fields ≡ length segment.schema }
+    requires entries { is_built_schema segment.schema ≡ true }
+    ensures { IfOk result (IsFilled segment store batch.now count) }
+{
+    let schema = segment.schema();
+    let Ok(norms) = norms_file(alloc, schema, &batch.norms) else {
+        return Err(AllocError);
+    };
+    let Ok(fast) = ColumnarWriter::new(alloc).serialize(count) else {
+        return Err(AllocError);
+    };
+    let mut postings = InvertedIndexSerializer::new(alloc);
+    let Ok(()) = add_fields(alloc, schema, &batch.fields, &mut postings) else {
+        return Err(AllocError);
+    };
+    Ok(SegmentSerializer::from_parts(alloc, segment, postings, store, fast, norms))
+}

@@ -1,0 +1,65 @@
+-- What the building of an index comes to, from what its steps say.
+use Rattle.std.proofs.Common.{◌≡◌, ◌≢◌, ◌∙◌, Option, None, Some, Result, Err, refl, sym, ap, subst, inl, inr}
+use Rattle.std.specs.Prelude.{◌⊎◌, IfSome}
+use Rattle.seg_values.specs.declared.error.ArgumentCause.TheVariants.{Documents}
+use Rattle.seg_values.specs.declared.error.TantivyError.{TantivyError}
+use Rattle.seg_values.specs.declared.error.TantivyError.TheVariants.{IndexAlreadyExists, InvalidArgument, OutOfMemory}
+use Rattle.seg_model.specs.Fields.{Analyzer}
+use Rattle.seg_model.specs.Input.{Input}
+use Rattle.seg_model.specs.Valid.{Known}
+use Rattle.seg_open.specs.SegmentOpened.{IsNoDamage}
+use Rattle.seg_batches.proofs.Calls.{does-nothing}
+use Rattle.seg_refusals.specs.Refusals.{IsRefusal, first_error, refusal_error}
+use Rattle.seg_merge.specs.Builds.{StopsBuilding}
+use Rattle.seg_merge.specs.DirectoryCalls.{Asked, Directories, StopsIn, asked_of, at_once, work_listing}
+use Rattle.seg_merge.proofs.WholeExits.{any_first, refusal_then}
+use Rattle.seg_merge.proofs.WholeRefused.{caused_refusal, refusal_undamaged}
+
+-- ---- before a directory is called
+
+not_there : (e : TantivyError) → IsRefusal e ⊎ (e ≡ OutOfMemory) → e ≢ IndexAlreadyExists
+not_there e (inl refusal) is = subst IsRefusal is refusal
+not_there e (inr starved) is = absurd (cc (sym starved ∙ is))
+
+undamaged : (e : TantivyError) → IsRefusal e ⊎ (e ≡ OutOfMemory) → IsNoDamage e
+undamaged e (inl refusal) = refusal_undamaged e refusal
+undamaged e (inr starved) = subst IsNoDamage (sym starved) tt
+
+stops_at_once : (asked : Asked) (e : TantivyError) (state : Directories) → IsRefusal e ⊎ (e ≡ OutOfMemory) → StopsIn asked e state state
+stops_at_once asked e state (inl refusal) = at_once refusal refl
+stops_at_once asked e state (inr starved) = subst (λ (x : TantivyError). StopsIn asked x state state) (sym starved) (work_listing (does-nothing _ _ state.work) refl)
+
+first_or_memory : (o : Option TantivyError) (e : TantivyError) (P : Type 0) → P → (e ≡ OutOfMemory) ⊎ (o ≡ Some e) → IfSome o (λ x. ((e ≡ x) ⊎ (e ≡ OutOfMemory)) × P)
+first_or_memory o e P p (inl starved) = any (o)
+  where
+    any : (o : Option TantivyError) → IfSome o (λ x. ((e ≡ x) ⊎ (e ≡ OutOfMemory)) × P)
+    any None = tt
+    any (Some x) = (inr starved, p)
+first_or_memory o e P p (inr is) = subst (λ (o : Option TantivyError). IfSome o (λ x. ((e ≡ x) ⊎ (e ≡ OutOfMemory)) × P)) (sym is) (inl refl, p)
+
+pub not_begun : (known : Known) (analyzer : Analyzer) (input : Input) (e : TantivyError) (state : Directories)
+    → (e ≡ OutOfMemory) ⊎ (first_error known analyzer input ≡ Some e) → IsRefusal e ⊎ (e ≡ OutOfMemory) → StopsBuilding known analyzer input e state state
+not_begun known analyzer input e state cause kind = record {
+  first = first_or_memory (first_error known analyzer input) e _ refl cause;
+  refused = λ told. caused_refusal known analyzer input e cause;
+  untold = refusal_then (λ x. refusal_error known analyzer input ≡ Some x) (λ x. (refusal_error known analyzer input ≡ Some x) ⊎ (x ≡ InvalidArgument Documents)) e (λ x is. inl is) (caused_refusal known analyzer input e cause);
+  fresh = λ empty. not_there e kind;
+  whole = λ told. undamaged e kind;
+  stops = stops_at_once (asked_of analyzer input) e state kind;
+}
+
+-- ---- what is said of the answer
+
+abbrev failing : (T : Type 0) → TantivyError → Result T TantivyError
+failing T e = Err e
+
+module _ (T : Type 0) (e : TantivyError) (a b : Directories) where
+  pub first_answer : (o : Option TantivyError) → IfSome o (λ x. ((e ≡ x) ⊎ (e ≡ OutOfMemory)) × (b ≡ a)) → IfSome o (λ x. (failing T e ≡ Err x) ⊎ (failing T e ≡ Err OutOfMemory))
+  first_answer None first = tt
+  first_answer (Some x) (inl is, same) = inl (ap (failing T) is)
+  first_answer (Some x) (inr is, same) = inr (ap (failing T) is)
+
+-- nothing is touched
+pub first_same : (e : TantivyError) (a b : Directories) (o : Option TantivyError) → IfSome o (λ x. ((e ≡ x) ⊎ (e ≡ OutOfMemory)) × (b ≡ a)) → IfSome o (λ _. (b.work ≡ a.work) × (b.output ≡ a.output))
+first_same e a b None first = tt
+first_same e a b (Some x) (is, same) = (ap (λ (d : Directories). d.work) same, ap (λ (d : Directories). d.output) same)

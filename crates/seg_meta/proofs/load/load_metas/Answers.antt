@@ -1,0 +1,16 @@
+use Rattle.std.proofs.Common.{sym, ◌∙◌, ap, Err}
+use Rattle.seg_meta.proofs.Loads.{loads, can_not_read, says_none, no_memory}
+use Rattle.seg_meta.specs.MetaRead.{meta_read}
+use Rattle.seg_meta.proofs.load.load_metas.Goals as goal
+
+pub returns-in-Err-clause-does : goal.returns-in-Err-clause-does
+returns-in-Err-clause-does g c = can_not_read c.in-Err.ensures.does
+
+pub returns-in-Ok-read_meta-clause-does : goal.returns-in-Ok-read_meta-clause-does
+returns-in-Ok-read_meta-clause-does g c = loads c.in-Ok.bytes c.in-Ok-read_meta.metas c.in-Ok.ensures.does (ap meta_read (sym c.as_slice.ensures) ∙ c.in-Ok-read_meta.ensures.ok)
+
+pub returns-in-Err-NoMeta-clause-does : goal.returns-in-Err-NoMeta-clause-does
+returns-in-Err-NoMeta-clause-does g c = says_none c.in-Ok.bytes c.in-Ok.ensures.does (ap meta_read (sym c.as_slice.ensures) ∙ c.in-Err-NoMeta.ensures.none (ap Err c.in-Err-NoMeta.field-0-is))
+
+pub returns-clause-does : goal.returns-clause-does
+returns-clause-does g c = no_memory c.in-Ok.bytes c.in-Ok.ensures.does

@@ -1,5 +1,0 @@
-use Rattle.seg_open.proofs.SpelledFiles.{held_spells}
-use Rattle.seg_open.proofs.laws.held_files_spell.Goals as goal
-
-pub returns : goal.returns
-returns c = held_spells

@@ -1,8 +1,0 @@
-use Rattle.std.proofs.Common.{◌≡◌, drop}
-use Rattle.serde_json.specs.View.{view, items_view}
-use Rattle.seg_meta.specs.Reads.{below, list_of}
-use Rattle.seg_script.proofs.Each.{so_far}
-use Rattle.seg_script.proofs.filters_read.dropped_from.Given as goal
-
-abbrev pub invariant-loop-item : goal.invariant-loop-item
-invariant-loop-item l = so_far (below l.size) l.dropped.items (items_view (drop l.item-index l.item-items)) ≡ list_of (below l.size) (view l.json)

@@ -1,5 +1,0 @@
-use Rattle.std.proofs.Common.{◌≡◌, ◌+◌, replicate, None}
-use Rattle.seg_script.proofs.filters_read.no_filters.Given as goal
-
-abbrev pub invariant-loop-cut : goal.invariant-loop-cut
-invariant-loop-cut l = l.filters ≡ replicate (l._cut-index + 1) None

@@ -1,6 +1,0 @@
-use Rattle.std.proofs.Common.{◌≡◌}
-use Rattle.std.specs.List.{range_with_len}
-use Rattle.seg_script.proofs.ids_read.numbered_ids.Given as goal
-
-abbrev pub invariant-loop-before : goal.invariant-loop-before
-invariant-loop-before l = l.ids ≡ range_with_len 1 l.before

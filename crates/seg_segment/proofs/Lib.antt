@@ -1,0 +1,9 @@
+pub mod BuiltEntries
+pub mod FilesMade
+pub mod FilesStand
+pub mod LaidOut
+pub mod NoneMade
+pub mod OneContents
+pub mod ReadingSteps
+pub mod SpelledFiles
+pub mod Turns

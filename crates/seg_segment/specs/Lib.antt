@@ -1,0 +1,12 @@
+pub mod Built
+pub mod Forms
+pub mod HoldTerms
+pub mod Holds
+pub mod HoldsAlive
+pub mod Laws
+pub mod MadeFiles
+pub mod SegmentFiles
+pub mod SegmentRead
+pub mod Serializing
+pub mod Spelling
+pub mod Standing

@@ -1,0 +1,56 @@
+-- A serializer of a segment, and the files that it leaves.
+use Rattle.std.specs.Prelude.{◌≡◌, ℕ, List, [], Option, Some, None}
+use Rattle.seg_directory.specs.Composite.{composite}
+use Rattle.seg_directory.specs.Files.{NamedFiles}
+use Rattle.seg_meta.specs.Metas.{SegmentParts}
+use Rattle.seg_postings.specs.Files.{FieldFiles, no_fields}
+use Rattle.seg_store.specs.Store.{store_of}
+use Rattle.seg_store.specs.Writing.{Taken, all_blocks}
+use Rattle.seg_segment.specs.SegmentFiles.{HasFiles}
+use Rattle.seg_segment.specs.declared.segment_files.SegmentFiles.{SegmentFiles}
+
+-- the segment, and what its components have: parts of fields and stored documents, of which nothing is left once out of memory, the bytes of the columns, and those of the lengths where they were put
+pub record Serializing : Type 0 where
+  pub segment : SegmentParts
+  pub postings : Option FieldFiles
+  pub store : Option Taken
+  pub fast : List ℕ
+  pub norms : Option (List ℕ)
+
+-- nothing yet, with blocks that are closed once they have this many bytes
+abbrev pub unfilled : SegmentParts → ℕ → Serializing
+unfilled segment block_size = record {
+  segment = segment;
+  postings = Some no_fields;
+  store = Some (record { block_size = block_size; closed = []; open_block = [] });
+  fast = [];
+  norms = None;
+}
+
+-- these are all that the components are to hold
+abbrev pub filled_with : SegmentParts → Option FieldFiles → Option Taken → List ℕ → List ℕ → Serializing
+filled_with segment postings store fast norms = record { segment = segment; postings = postings; store = store; fast = fast; norms = Some norms }
+
+-- the file of lengths: those that were put, or else a composite without parts
+abbrev pub IsNormsFile : Option (List ℕ) → List ℕ → Type 0
+IsNormsFile (Some norms) file = file ≡ norms
+IsNormsFile None file = composite file ≡ Some []
+
+-- the bytes of six files are what a serializer has
+pub record IsLaidOut (s : Serializing) (files : SegmentFiles) : Type 0 where
+  pub fields : FieldFiles
+  pub kept : s.postings ≡ Some fields
+  pub terms : composite files.terms ≡ Some fields.terms
+  pub postings : composite files.postings ≡ Some fields.postings
+  pub positions : composite files.positions ≡ Some fields.positions
+  pub taken : Taken
+  pub stored : s.store ≡ Some taken
+  pub store : store_of files.store ≡ Some (all_blocks taken)
+  pub fast : files.fast_fields ≡ s.fast
+  pub norms : IsNormsFile s.norms files.field_norms
+
+-- the six files of its segment are what it has
+pub record AreLeft (s : Serializing) (directory : NamedFiles) : Type 0 where
+  pub files : SegmentFiles
+  pub laid : IsLaidOut s files
+  pub there : HasFiles directory s.segment.meta.id files

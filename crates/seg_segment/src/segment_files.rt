@@ -1,0 +1,176 @@
+//! The six files of a segment, as they are read or were just made.
+ghost use Rattle.std.specs.Prelude.{◌≡◌, ◌≢◌, ◌⊎◌, Err, IsTrue, OnOk, IfOk, IfErr};
+ghost use Rattle.seg_common.specs.declared.name.FileName.{FileName};
+ghost use Rattle.seg_directory.specs.Faults.{FaultHasCause};
+ghost use Rattle.seg_segment.specs.MadeFiles.{AreOfParts};
+ghost use Rattle.seg_segment.specs.SegmentFiles.{bytes_of, segment_names, AreAbsent, HasFiles, KeepsAllBut, MakingSeen};
+ghost use Rattle.seg_segment.specs.SegmentRead.{ReadingSeen, ReadsSegment};
+
+use crate::component_files::write_components;
+use seg_common::{FileName, OwnedBytes, SegmentComponent, SegmentId};
+use seg_directory::{Directory, read_file};
+use seg_postings::PostingsFiles;
+use seg_values::{TResult, TantivyError};
+use std::alloc::{AllocError, Global};
+
+/// The bytes of the six files of a segment.
+#[derive(Drop)]
+pub struct SegmentFiles {
+    pub terms: OwnedBytes,
+    pub store: OwnedBytes,
+    pub postings: OwnedBytes,
+    pub positions: OwnedBytes,
+    pub fast_fields: OwnedBytes,
+    pub field_norms: OwnedBytes,
+}
+
+impl SegmentFiles {
+    /// Reads the files of an id, each once, in the order terms, store, postings, positions, fast fields, field norms. The
+    /// first that is missing ends it.
+    pub fn read<W: Directory>(
+        alloc: Global,
+        id: SegmentId,
+        directory: &mut W,
+    ) -> TResult<SegmentFiles>
+        ensures read { IsTrue (W.state directory.old).tells → ReadsSegment (W.state directory.old).files id result }
+        ensures files { (W.state directory.new).files ≡ (W.state directory.old).files }
+        ensures tells { (W.state directory.new).tells ≡ (W.state directory.old).tells }
+        ensures seen { ReadingSeen id (W.state directory.old).seen result (W.state directory.new).seen }
+        ensures cause { FaultHasCause
+            TantivyError.OpenReadError (W.state directory.old).faults (W.state directory.new).faults result }
+    {
+        let terms = read_file(
+            alloc,
+            directory,
+            FileName::Part(id, SegmentComponent::Terms),
+        )?;
+        let store = read_file(
+            alloc,
+            directory,
+            FileName::Part(id, SegmentComponent::Store),
+        )?;
+        let postings = read_file(
+            alloc,
+            directory,
+            FileName::Part(id, SegmentComponent::Postings),
+        )?;
+        let positions = read_file(
+            alloc,
+            directory,
+            FileName::Part(id, SegmentComponent::Positions),
+        )?;
+        let fast_fields = read_file(
+            alloc,
+            directory,
+            FileName::Part(id, SegmentComponent::FastFields),
+        )?;
+        let field_norms = read_file(
+            alloc,
+            directory,
+            FileName::Part(id, SegmentComponent::FieldNorms),
+        )?;
+        Ok(SegmentFiles {
+            terms,
+            store,
+            postings,
+            positions,
+            fast_fields,
+            field_norms,
+        })
+    }
+
+    /// The files of a segment that was just made, whose bytes aren't copied.
+    pub fn from_parts(
+        alloc: Global,
+        terms: PostingsFiles,
+        store: Vec<u8>,
+        fast_fields: Vec<u8>,
+        field_norms: Vec<u8>,
+    ) -> Result<SegmentFiles, AllocError>
+        ensures { IfOk result (AreOfParts terms store.items fast_fields.items field_norms.items) }
+    {
+        let PostingsFiles {
+            terms,
+            postings,
+            positions,
+        } = terms;
+        Ok(SegmentFiles {
+            terms: shared(alloc, terms)?,
+            store: shared(alloc, store)?,
+            postings: shared(alloc, postings)?,
+            positions: shared(alloc, positions)?,
+            fast_fields: shared(alloc, fast_fields)?,
+            field_norms: shared(alloc, field_norms)?,
+        })
+    }
+
+    /// The same bytes once more; this takes no memory.
+    pub fn share(&self) -> SegmentFiles
+        ensures { result ≡ self.now }
+    {
+        SegmentFiles {
+            terms: self.terms.share(),
+            store: self.store.share(),
+            postings: self.postings.share(),
+            positions: self.positions.share(),
+            fast_fields: self.fast_fields.share(),
+            field_norms: self.field_norms.share(),
+        }
+    }
+
+    /// Makes the six files under an id, in the order field norms, fast fields, terms, postings, positions, store.
+    pub fn write<W: Directory>(
+        &self,
+        alloc: Global,
+        id: SegmentId,
+        directory: &mut W,
+    ) -> TResult<()>
+        ensures files { IsTrue (W.state directory.old).tells → OnOk result
+            (HasFiles (W.state directory.new).files id self.now) }
+        ensures fresh { IsTrue (W.state directory.old).tells
+            → AreAbsent (segment_names id) (W.state directory.old).files
+            → result ≢ Err TantivyError.IndexAlreadyExists }
+        ensures others { KeepsAllBut (segment_names id) (W.state directory.old).files (W.state directory.new).files }
+        ensures tells { (W.state directory.new).tells ≡ (W.state directory.old).tells }
+        ensures seen { MakingSeen (segment_names id) (W.state directory.old).seen result (W.state directory.new).seen }
+        ensures cause { FaultHasCause
+            TantivyError.OpenWriteError (W.state directory.old).faults (W.state directory.new).faults result }
+        ensures errors { IfErr result
+            (λ e. (e ≡ TantivyError.IndexAlreadyExists)
+            ⊎ (e ≡ TantivyError.OpenWriteError) ⊎ (e ≡ TantivyError.OutOfMemory)) }
+    {
+        let components = [
+            SegmentComponent::FieldNorms,
+            SegmentComponent::FastFields,
+            SegmentComponent::Terms,
+            SegmentComponent::Postings,
+            SegmentComponent::Positions,
+            SegmentComponent::Store,
+        ];
+        write_components(alloc, directory, id, self, &components)
+    }
+
+    /// The bytes of the file of a component.
+    pub(crate) fn of_component(&self, component: SegmentComponent) -> &[u8]
+        ensures { result.now ≡ bytes_of self.now component }
+    {
+        match component {
+            SegmentComponent::Terms => self.terms.as_slice(),
+            SegmentComponent::Store => self.store.as_slice(),
+            SegmentComponent::Postings => self.postings.as_slice(),
+            SegmentComponent::Positions => self.positions.as_slice(),
+            SegmentComponent::FastFields => self.fast_fields.as_slice(),
+            SegmentComponent::FieldNorms => self.field_norms.as_slice(),
+        }
+    }
+}
+
+/// The bytes of a file, without a copy.
+fn shared(alloc: Global, bytes: Vec<u8>) -> Result<OwnedBytes, AllocError>
+    ensures { IfOk result (λ owned. owned ≡ bytes.items) }
+{
+    match OwnedBytes::from_vec(alloc, bytes) {
+        Ok(owned) => Ok(owned),
+        Err(_) => Err(AllocError),
+    }
+}

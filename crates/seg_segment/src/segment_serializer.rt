@@ -1,0 +1,166 @@
+//! The serializer of a segment.
+ghost use Rattle.std.specs.Prelude.{◌≡◌, ◌≢◌, ◌⊎◌, ◌↔◌, true, Some, Err, option_map, IsTrue, IfOk, IfErr, OnOk};
+ghost use Rattle.seg_directory.specs.Faults.{FaultHasCause};
+ghost use Rattle.seg_segment.specs.Serializing.{IsNormsFile};
+ghost use Rattle.seg_segment.specs.SegmentFiles.{AreAbsent, KeepsAllBut, MakingSeen, segment_names};
+
+use crate::segment_files::SegmentFiles;
+use seg_directory::Directory;
+use seg_meta::{Compressor, IndexSettings, Segment};
+use seg_postings::{FieldNormsSerializer, InvertedIndexSerializer};
+use seg_store::StoreWriter;
+use seg_values::{ArgumentCause, TResult, TantivyError};
+use std::alloc::{AllocError, Global};
+use std::marker::Model;
+
+/// Has what the components of a segment are to hold. Their files are written when it is closed.
+#[derive(Drop)]
+pub struct SegmentSerializer {
+    alloc: Global,
+    segment: Segment,
+    postings: InvertedIndexSerializer,
+    store: StoreWriter,
+    fast: Vec<u8>,
+    norms: Option<Vec<u8>>,
+}
+
+impl Model for SegmentSerializer {
+    ghost use Rattle.std.specs.Prelude.{option_map};
+    ghost use Rattle.seg_segment.specs.Serializing.{Serializing};
+
+    ghost Value = { Serializing };
+
+    ghost view = { λ s. record {
+      segment = s.segment;
+      postings = s.postings;
+      store = s.store;
+      fast = s.fast.items;
+      norms = option_map (λ v. v.items) s.norms;
+    } };
+}
+
+impl SegmentSerializer {
+    ghost use Rattle.seg_segment.specs.Serializing.{unfilled, filled_with, IsLaidOut, AreLeft};
+
+    /// A serializer that has nothing yet.
+    pub fn for_segment(
+        alloc: Global,
+        segment: Segment,
+        settings: &IndexSettings,
+    ) -> TResult<SegmentSerializer>
+        ensures ok { IfOk result (λ s. s ≡ unfilled segment settings.now.docstore_blocksize) }
+        ensures refused { result ≡ Err (TantivyError.InvalidArgument ArgumentCause.Settings)
+            ↔ ((settings.now.docstore_compression ≢ Compressor.None) ⊎ (settings.now.docstore_compress_dedicated_thread ≡ true)) }
+        ensures causes { IfErr result (λ e. e ≡ TantivyError.InvalidArgument ArgumentCause.Settings) }
+    {
+        let Ok(store) = StoreWriter::new(
+            alloc,
+            settings.docstore_compression,
+            settings.docstore_blocksize,
+            settings.docstore_compress_dedicated_thread,
+        ) else {
+            return Err(TantivyError::InvalidArgument(ArgumentCause::Settings));
+        };
+        Ok(SegmentSerializer {
+            alloc,
+            segment,
+            postings: InvertedIndexSerializer::new(alloc),
+            store,
+            fast: Vec::new(alloc),
+            norms: None,
+        })
+    }
+
+    /// A serializer whose components have all that they are to hold.
+    pub fn from_parts(
+        alloc: Global,
+        segment: Segment,
+        postings: InvertedIndexSerializer,
+        store: StoreWriter,
+        fast: Vec<u8>,
+        norms: Vec<u8>,
+    ) -> SegmentSerializer
+        ensures { result ≡ filled_with segment postings store fast.items norms.items }
+    {
+        SegmentSerializer {
+            alloc,
+            segment,
+            postings,
+            store,
+            fast,
+            norms: Some(norms),
+        }
+    }
+
+    /// The segment whose files it writes.
+    pub fn segment(&self) -> &Segment
+        ensures { result.now ≡ self.now.segment }
+    {
+        &self.segment
+    }
+
+    /// Writes the six files, in the order field norms, fast fields, terms, postings, positions, store. Lengths that were
+    /// not put are a composite without parts.
+    pub fn close<W: Directory>(self, directory: &mut W) -> TResult<()>
+        ensures files { IsTrue (W.state directory.old).tells → OnOk result
+            (AreLeft self (W.state directory.new).files) }
+        ensures fresh { IsTrue (W.state directory.old).tells
+            → AreAbsent (segment_names self.segment.meta.id) (W.state directory.old).files
+            → result ≢ Err TantivyError.IndexAlreadyExists }
+        ensures others { KeepsAllBut (segment_names self.segment.meta.id) (W.state directory.old).files (W.state directory.new).files }
+        ensures tells { (W.state directory.new).tells ≡ (W.state directory.old).tells }
+        ensures seen { MakingSeen (segment_names self.segment.meta.id) (W.state directory.old).seen result (W.state directory.new).seen }
+        ensures cause { FaultHasCause
+            TantivyError.OpenWriteError (W.state directory.old).faults (W.state directory.new).faults result }
+        ensures errors { IfErr result
+            (λ e. (e ≡ TantivyError.IndexAlreadyExists)
+            ⊎ (e ≡ TantivyError.OpenWriteError) ⊎ (e ≡ TantivyError.OutOfMemory)) }
+    {
+        let alloc = self.alloc;
+        let id = self.segment.id();
+        let Ok(files) = self.into_files() else {
+            return Err(TantivyError::OutOfMemory);
+        };
+        files.write(alloc, id, directory)
+    }
+
+    /// The six files, of which none is made in a directory.
+    pub fn into_files(self) -> Result<SegmentFiles, AllocError>
+        ensures { IfOk result (IsLaidOut self) }
+    {
+        let SegmentSerializer {
+            alloc,
+            segment: _,
+            postings,
+            store,
+            fast,
+            norms,
+        } = self;
+        let Ok(norms) = norms_or_none(alloc, norms) else {
+            return Err(AllocError);
+        };
+        let Ok(terms) = postings.close() else {
+            return Err(AllocError);
+        };
+        let Ok(store) = store.close() else {
+            return Err(AllocError);
+        };
+        let Ok(files) = SegmentFiles::from_parts(alloc, terms, store, fast, norms) else {
+            return Err(AllocError);
+        };
+        Ok(files)
+    }
+}
+
+/// The file of lengths: those that were put, or else a composite without parts.
+fn norms_or_none(alloc: Global, norms: Option<Vec<u8>>) -> Result<Vec<u8>, AllocError>
+    ensures { IfOk result (λ file. IsNormsFile (option_map (λ v. v.items) norms) file.items) }
+{
+    match norms {
+        Some(norms) => Ok(norms),
+        None => match FieldNormsSerializer::new(alloc).close() {
+            Ok(file) => Ok(file),
+            Err(_) => Err(AllocError),
+        },
+    }
+}

@@ -1,5 +1,0 @@
-mod Count
-mod InThread
-mod LastOwner
-mod Owner
-mod Turn
