@@ -2,7 +2,6 @@
 use Rattle.std.proofs.Common.{◌≡◌, ℕ, zero, suc, ◌+◌, ◌≤◌, ◌<◌, ◌^◌, true, false, List, [], ◌∷◌, ◌++◌, length, map, take, drop, Some, None, Option, inl, inr, refl, sym, ap, ◌∙◌, subst, arith}
 use Rattle.std.specs.Prelude.{◌⊎◌, is_none, is_some, IsSomeAnd}
 use Rattle.std.specs.List.{list_all, slice_get}
-use Rattle.std.specs.Option.{option_map}
 use Rattle.std.proofs.lemmas.Bool.{false≢true}
 use Rattle.std.proofs.lemmas.List.{append-nil}
 use Rattle.std.proofs.lemmas.Option.{slice_get_within}
@@ -10,19 +9,18 @@ use Rattle.seg_values.specs.Tree.{Document}
 use Rattle.seg_values.specs.declared.error.ArgumentCause.TheVariants as argument
 use Rattle.seg_values.specs.declared.error.TantivyError.{TantivyError}
 use Rattle.seg_values.specs.declared.error.TantivyError.TheVariants.{SchemaError, InvalidArgument, SystemError, OutOfMemory}
-use Rattle.seg_check.specs.Refusals.{error_of}
 use Rattle.seg_model.specs.Built.{is_taken}
-use Rattle.seg_model.specs.Checked.{Refusal, document_refusal}
+use Rattle.seg_model.specs.Checked.{Cause, at_place, document_refusal}
 use Rattle.seg_model.specs.Fields.{Schema, Analyzer}
 use Rattle.seg_model.specs.Operations.{Operation, add, delete, delete_all, additions}
-use Rattle.seg_model.specs.Refused.{document_refused, operation_refusal}
+use Rattle.seg_model.specs.Refused.{operation_refusal}
 use Rattle.seg_removal.specs.Stamps.{addition_stamps}
 use Rattle.seg_segment.specs.Standing.{StandFor}
 use Rattle.seg_build.specs.declared.memory_segment.MemorySegment.{MemorySegment}
 use Rattle.seg_build.specs.Kept.{Kept}
 use Rattle.seg_build.specs.SegmentWriting.{SegmentWriting, AddsNone, IsKeptOf, IsFull, Tells, Writes}
-use Rattle.seg_batches.specs.Indexing.{HasAdditions, IsNotTaken, IsOfBatch, IsTaken}
-use Rattle.seg_refusals.specs.Refusals.{build_error, batch_error}
+use Rattle.seg_batches.specs.Indexing.{AreOfBatch, HasAdditions, IsNotTaken, IsTaken}
+use Rattle.seg_refusals.specs.Refusals.{batch_error}
 use Rattle.seg_batches.proofs.Refused.{refused_from, refused_at}
 use Rattle.seg_batches.proofs.Turns.{take-item, length-front}
 
@@ -62,7 +60,7 @@ module _ (analyzer : Analyzer) (place : ℕ) (old new : SegmentWriting) where
   pub taken_unrefused : (schema : Schema) (operation : Operation) → old.schema ≡ schema → IsTaken analyzer place operation old new → operation_refusal schema analyzer place operation ≡ None
   taken_unrefused schema (add document) same h = none_is (document_refusal schema analyzer document) (ap (λ s. is_taken s analyzer document) (sym same) ∙ h.taken)
     where
-      none_is : (o : Option Refusal) → is_none o ≡ true → option_map (document_refused place) o ≡ None
+      none_is : (o : Option Cause) → is_none o ≡ true → at_place place o ≡ None
       none_is None k = refl
       none_is (Some r) k = absurd (false≢true k)
   taken_unrefused schema (delete term) same h = refl
@@ -84,16 +82,8 @@ module _ (schema : Schema) (analyzer : Analyzer) (first : ℕ) (operations : Lis
   module _ (few : length (additions operations) < 2 ^ 31) (so_far : refused_from schema analyzer (first + i) (drop i operations) ≡ refused_from schema analyzer first operations) (old new : SegmentWriting) (same : old.schema ≡ schema) (has : HasAdditions analyzer first (take i operations) old) where
     module _ (document : Document) (at : slice_get operations i ≡ Some (add document)) where
       refusal_tells : (e : TantivyError) → Tells old.schema analyzer document (first + i) e → batch_error schema analyzer first operations ≡ Some e
-      refusal_tells e h = by (document_refusal schema analyzer document) refl
-        where
-          told : option_map (error_of (first + i)) (document_refusal schema analyzer document) ≡ Some e
-          told = ap (λ s. option_map (error_of (first + i)) (document_refusal s analyzer document)) (sym same) ∙ h
-
-          by : (o : Option Refusal) → document_refusal schema analyzer document ≡ o → batch_error schema analyzer first operations ≡ Some e
-          by None is = absurd (false≢true (ap is_some (ap (option_map (error_of (first + i))) (sym is) ∙ told)))
-          by (Some r) is =
-              refused_at schema analyzer first operations i (add document) at (document_refused (first + i) r) (ap (option_map (document_refused (first + i))) is) few so_far
-              ∙ ap (option_map (error_of (first + i))) (sym is) ∙ told
+      refusal_tells e h =
+          refused_at schema analyzer first operations i (add document) at e (ap (λ s. at_place (first + i) (document_refusal s analyzer document)) (sym same) ∙ h) few so_far
 
       not_added : (e : TantivyError) → AddsNone analyzer document (first + i) old new e → (e ≡ OutOfMemory) ⊎ (batch_error schema analyzer first operations ≡ Some e)
       not_added SystemError h = absurd (subst (λ o. IsSomeAnd o (IsKeptOf old.schema analyzer (additions (take i operations)) (addition_stamps first (take i operations)))) h.0 has)
@@ -135,13 +125,14 @@ module _ (schema : Schema) (analyzer : Analyzer) (first : ℕ) (operations : Lis
       by (Some kept) k = ap (λ s. list_all (is_taken s analyzer) (additions operations)) (sym same) ∙ k.taken
 
   -- the segment that is made of the writer
-  pub of_batch : (given : Analyzer) (segment : MemorySegment) → given ≡ analyzer
+  pub of_batch : (given : Analyzer) (segment : MemorySegment) → given ≡ analyzer → length (additions operations) < 2 ^ 31
       → ((ds : List Document) (stamps : List ℕ) → Writes given ds stamps writer → StandFor writer.schema given ds segment.files)
       → ((ds : List Document) (stamps : List ℕ) → Writes given ds stamps writer → segment.stamps.items ≡ stamps)
-      → IsOfBatch schema analyzer first operations segment
-  of_batch given segment is stand stamps = record {
+      → AreOfBatch schema analyzer first operations segment.files segment.stamps.items
+  of_batch given segment is few stand stamps = record {
     stand = subst (λ s. StandFor s analyzer (additions operations) segment.files) same (subst (λ a. StandFor writer.schema a (additions operations) segment.files) is (stand (additions operations) (addition_stamps first operations) writes));
-    stamps = stamps (additions operations) (addition_stamps first operations) writes;
+    stamped = stamps (additions operations) (addition_stamps first operations) writes;
+    few = few;
   }
     where
       writes : Writes given (additions operations) (addition_stamps first operations) writer

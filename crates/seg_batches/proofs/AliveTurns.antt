@@ -1,63 +1,81 @@
--- The alive files of segments, one after another.
-use Rattle.std.proofs.Common.{◌≡◌, ℕ, ◌+◌, true, List, [], ◌∷◌, ◌++◌, map, take, drop, Some, refl, sym, ap, ◌∙◌, subst}
+-- The alive files of segments, made one after another.
+use Rattle.std.proofs.Common.{◌≡◌, ◌∙◌, ℕ, ◌+◌, ◌≤◌, List, [], ◌∷◌, ◌++◌, length, take, drop, append_assoc, Some, Result, Ok, Err, refl, sym, ap, subst, arith}
+use Rattle.std.specs.Prelude.{OnOk}
 use Rattle.std.specs.List.{slice_get}
-use Rattle.std.specs.Option.{option_map}
-use Rattle.std.proofs.lemmas.Option.{slice_get-map}
-use Rattle.seg_common.specs.declared.name.FileName.{FileName}
+use Rattle.std.proofs.lemmas.List.{append-nil, length-append, take-append-drop, take_all}
 use Rattle.seg_values.specs.declared.error.TantivyError.{TantivyError}
-use Rattle.seg_directory.specs.Files.{NamedFiles}
-use Rattle.seg_model.specs.IndexOfFiles.{ListedSegment}
-use Rattle.seg_model.specs.Valid.{are_distinct}
-use Rattle.seg_segment.specs.SegmentFiles.{AreAbsent, KeepsAllBut}
+use Rattle.seg_directory.proofs.Doing.{then_does, stops}
 use Rattle.seg_directory.specs.State.{DirectoryState}
-use Rattle.seg_batches.specs.Segments.{AllTellAlive, TellsAlive, WrittenSegment, alive_file, alive_files, all_listed, deletes_of, listed}
-use Rattle.seg_batches.proofs.Apart.{alive_files_apart, files_apart, others_before, others_behind}
-use Rattle.seg_batches.proofs.FilesTurn.{AllMade, NotMade, turn_made, turn_stops, absent_here, absent_behind}
-use Rattle.seg_batches.proofs.Kept.{tell_kept}
-use Rattle.seg_batches.proofs.Members.{one_more}
+use Rattle.seg_directory.specs.Works.{Works}
+use Rattle.seg_batches.specs.AliveWriting.{AllTellMarks, WritesAlive, alive_step, alive_steps}
+use Rattle.seg_batches.specs.Segments.{WrittenSegment, deletes_of}
+use Rattle.seg_batches.proofs.Members.{left_from, one_more}
 
--- the alive file of a listed segment
-abbrev file_of : ListedSegment → List FileName
-file_of t = alive_file t.id t.deletes
+-- the files of these segments are made
+abbrev pub AliveSoFar : ℕ → List WrittenSegment → DirectoryState → DirectoryState → Type 0
+AliveSoFar stamp segments a b = WritesAlive {T = Unit {0}} stamp segments (Ok tt) a b
 
-ids_listed : (stamp : ℕ) (segments : List WrittenSegment) → map (λ (t : ListedSegment). t.id) (all_listed stamp segments) ≡ map (λ (s : WrittenSegment). s.id) segments
-ids_listed stamp [] = refl
-ids_listed stamp (s ∷ segments) = ap (λ l. s.id ∷ l) (ids_listed stamp segments)
+module _ (stamp : ℕ) where
+  steps_both : (files more : List (List ℕ)) (segments others : List WrittenSegment) → length files ≡ length segments → alive_steps stamp (files ++ more) (segments ++ others) ≡ alive_steps stamp files segments ++ alive_steps stamp more others
+  steps_both [] more [] others same = refl
+  steps_both [] more (s ∷ segments) others same = absurd (omega (arith, same))
+  steps_both (f ∷ files) more [] others same = absurd (omega (arith, same))
+  steps_both (f ∷ files) more (s ∷ segments) others same =
+      ap (λ steps. alive_step s.id (deletes_of stamp s.alive) f ++ steps) (steps_both files more segments others (omega (arith, same)))
+      ∙ sym (append_assoc (alive_step s.id (deletes_of stamp s.alive) f) (alive_steps stamp files segments) (alive_steps stamp more others))
 
-tell_both : (files : NamedFiles) (stamp : ℕ) (xs ys : List WrittenSegment) → AllTellAlive files stamp xs → AllTellAlive files stamp ys → AllTellAlive files stamp (xs ++ ys)
-tell_both files stamp [] ys h k = k
-tell_both files stamp (x ∷ xs) ys h k = (h.0, tell_both files stamp xs ys h.1 k)
+  tell_both : (files more : List (List ℕ)) (segments others : List WrittenSegment) → length files ≡ length segments → AllTellMarks stamp files segments → AllTellMarks stamp more others → AllTellMarks stamp (files ++ more) (segments ++ others)
+  tell_both [] more [] others same h k = k
+  tell_both [] more (s ∷ segments) others same h k = absurd (omega (arith, same))
+  tell_both (f ∷ files) more [] others same h k = absurd h
+  tell_both (f ∷ files) more (s ∷ segments) others same h k = (h.0, tell_both files more segments others (omega (arith, same)) h.1 k)
 
-module _ (stamp : ℕ) (segments : List WrittenSegment) (i : ℕ) (s : WrittenSegment) (found : slice_get segments i ≡ Some s) where
-  abbrev all : List ListedSegment
-  all = all_listed stamp segments
+  tell_front : (files : List (List ℕ)) (segments others : List WrittenSegment) → AllTellMarks stamp files segments → AllTellMarks stamp files (segments ++ others)
+  tell_front [] segments others h = tt
+  tell_front (f ∷ files) [] others h = absurd h
+  tell_front (f ∷ files) (s ∷ segments) others h = (h.0, tell_front files segments others h.1)
 
-  abbrev file : List FileName
-  file = alive_file s.id (deletes_of stamp s.alive)
+  steps_front : (files : List (List ℕ)) (segments others : List WrittenSegment) → AllTellMarks stamp files segments → alive_steps stamp files (segments ++ others) ≡ alive_steps stamp files segments
+  steps_front [] segments others h = refl
+  steps_front (f ∷ files) [] others h = absurd h
+  steps_front (f ∷ files) (s ∷ segments) others h = ap (λ steps. alive_step s.id (deletes_of stamp s.alive) f ++ steps) (steps_front files segments others h.1)
 
-  at : slice_get all i ≡ Some (listed stamp s)
-  at = slice_get-map (listed stamp) segments i ∙ ap (option_map (listed stamp)) found
+  -- before any of them
+  pub none_yet : (a : DirectoryState) → AliveSoFar stamp [] a a
+  none_yet a = record { files = []; tell = tt; whole = refl; works = record { on = (refl, tt) } }
 
-  pub alive_made : (a b c : DirectoryState) → AllMade (alive_files (take i all)) (alive_files all) a b → AllMade file file b c → AllMade (alive_files (take (i + 1) all)) (alive_files all) a c
-  alive_made a b c before here = turn_made file_of all i (listed stamp s) at a b c before here
+  module _ {T : Type 0} (segments others : List WrittenSegment) (r : Result T TantivyError) (a b c : DirectoryState) (so_far : AliveSoFar stamp segments a b) where
+    -- those of some segments, and then those of others
+    pub then_writes : WritesAlive stamp others r b c → WritesAlive stamp (segments ++ others) r a c
+    then_writes next = record {
+      files = so_far.files ++ next.files;
+      tell = tell_both so_far.files next.files segments others so_far.whole so_far.tell next.tell;
+      whole = on_whole r next.whole;
+      works = subst (λ steps. Works steps r a c) (sym (steps_both so_far.files next.files segments others so_far.whole)) (then_does so_far.works next.works);
+    }
+      where
+        on_whole : (x : Result T TantivyError) → OnOk x (length next.files ≡ length others) → OnOk x (length (so_far.files ++ next.files) ≡ length (segments ++ others))
+        on_whole (Ok y) same = omega (arith, same, so_far.whole, length-append so_far.files next.files, length-append segments others)
+        on_whole (Err e) same = tt
 
-  pub alive_stops : (e : TantivyError) (a b c : DirectoryState) → AllMade (alive_files (take i all)) (alive_files all) a b → NotMade (Unit {0}) file e b c → NotMade (Unit {0}) (alive_files all) e a c
-  alive_stops e a b c before here = turn_stops file_of all i (listed stamp s) at a b c before (Unit {0}) (Unit {0}) e here
+  -- where they end, those of more segments do
+  pub writes_more : {S T : Type 0} (segments others : List WrittenSegment) (e : TantivyError) (a b : DirectoryState) → WritesAlive {T = S} stamp segments (Err e) a b → WritesAlive {T = T} stamp (segments ++ others) (Err e) a b
+  writes_more {T = T} segments others e a b w = record {
+    files = w.files;
+    tell = tell_front w.files segments others w.tell;
+    whole = tt;
+    works = subst (λ steps. Works {T = T} steps (Err e) a b) (append-nil (alive_steps stamp w.files segments) ∙ sym (steps_front w.files segments others w.tell)) (stops [] w.works);
+  }
 
-  pub alive_absent : (files : NamedFiles) → AreAbsent (alive_files (drop i all)) files → AreAbsent file files
-  alive_absent files none = absent_here file_of all i (listed stamp s) at files none
+  module _ (segments : List WrittenSegment) (i : ℕ) (s : WrittenSegment) (at : slice_get segments i ≡ Some s) (a b c : DirectoryState) (so_far : AliveSoFar stamp (take i segments) a b) where
+    pub alive_turn : AliveSoFar stamp (s ∷ []) b c → AliveSoFar stamp (take (i + 1) segments) a c
+    alive_turn here = subst (λ (ss : List WrittenSegment). AliveSoFar stamp ss a c) (sym (one_more segments i s at)) (then_writes (take i segments) (s ∷ []) (Ok tt) a b c so_far here)
 
-  module _ (distinct : are_distinct (map (λ (t : WrittenSegment). t.id) segments) ≡ true) (old new : NamedFiles) (kept : KeepsAllBut file old new) where
-    pub alive_fresh : AreAbsent (alive_files (drop i all)) old → AreAbsent (alive_files (drop (i + 1) all)) new
-    alive_fresh none =
-        absent_behind file_of all i (listed stamp s) at old new
-        (files_apart (λ (t : ListedSegment). t.id) file_of (listed stamp s) (drop (i + 1) all) (λ t ne. alive_files_apart t (listed stamp s) ne)
-        (others_behind (λ (t : ListedSegment). t.id) all i (listed stamp s) (ap are_distinct (ids_listed stamp segments) ∙ distinct) at))
-        kept none
+    pub alive_ends : {S T : Type 0} (e : TantivyError) → WritesAlive {T = S} stamp (s ∷ []) (Err e) b c → WritesAlive {T = T} stamp segments (Err e) a c
+    alive_ends {T = T} e here =
+        subst (λ (ss : List WrittenSegment). WritesAlive {T = T} stamp ss (Err e) a c) (ap (λ l. take i segments ++ l) (sym (left_from segments i s at)) ∙ take-append-drop i segments)
+        (then_writes (take i segments) (s ∷ drop (i + 1) segments) (Err e) a b c so_far (writes_more (s ∷ []) (drop (i + 1) segments) e b c here))
 
-    pub alive_tell : TellsAlive new s.id s.documents s.alive (deletes_of stamp s.alive) → AllTellAlive old stamp (take i segments) → AllTellAlive new stamp (take (i + 1) segments)
-    alive_tell here before =
-        subst (AllTellAlive new stamp) (sym (one_more segments i s found))
-        (tell_both new stamp (take i segments) (s ∷ [])
-        (tell_kept s.id (deletes_of stamp s.alive) old new kept stamp (take i segments) (others_before (λ (t : WrittenSegment). t.id) segments i s distinct found) before)
-        (here, tt))
+-- all of them
+pub all_written : (stamp : ℕ) (segments : List WrittenSegment) (n : ℕ) (a b : DirectoryState) → length segments ≤ n → AliveSoFar stamp (take n segments) a b → AliveSoFar stamp segments a b
+all_written stamp segments n a b le so_far = subst (λ (ss : List WrittenSegment). AliveSoFar stamp ss a b) (take_all n segments le) so_far

@@ -1,5 +1,5 @@
 -- Things of which no two have one number, and files of other segments: their names differ.
-use Rattle.std.proofs.Common.{◌≡◌, ◌≢◌, ℕ, zero, suc, ◌+◌, Bool, true, false, List, [], ◌∷◌, map, take, drop, Some, None, Option, refl, sym, subst, arith}
+use Rattle.std.proofs.Common.{◌≡◌, ◌≢◌, ℕ, zero, suc, ◌+◌, Bool, true, false, List, [], ◌∷◌, map, drop, Some, refl, sym, subst, arith}
 use Rattle.std.specs.Prelude.{◌||◌, not, nat_eq}
 use Rattle.std.specs.List.{AllByRecursion, flat_map, list_any, slice_get}
 use Rattle.std.proofs.lemmas.Bool.{false≢true}
@@ -9,12 +9,10 @@ use Rattle.seg_common.specs.declared.name.FileName.{FileName}
 use Rattle.seg_common.specs.declared.name.FileName.TheVariants.{Alive, Part}
 use Rattle.seg_common.specs.declared.name.SegmentComponent.{SegmentComponent}
 use Rattle.seg_common.specs.declared.name.SegmentComponent.TheVariants.{Terms, Postings, Positions, Store, FastFields, FieldNorms}
-use Rattle.seg_model.specs.IndexOfFiles.{Deletes, ListedSegment}
 use Rattle.seg_model.specs.Valid.{are_distinct}
 use Rattle.seg_segment.specs.SegmentFiles.{segment_names}
-use Rattle.seg_batches.specs.Segments.{alive_file}
 use Rattle.seg_batches.proofs.BatchTurns.{both}
-use Rattle.seg_batches.proofs.FilesTurn.{AreApart, all_both}
+use Rattle.seg_batches.proofs.Names.{AreApart, all_both}
 
 -- ---- numbers
 
@@ -32,11 +30,6 @@ module _ {X : Type 0} (number : X → ℕ) where
       let parts = neither (nat_eq n (number x)) (list_any (nat_eq n) (map number xs)) h in
       ((λ is. differ n (number x) parts.0 (sym is)), none_has n xs parts.1)
 
-  that_has : (n : ℕ) (xs : List X) (i : ℕ) (x : X) → AllByRecursion (λ y. number y ≢ n) xs → slice_get xs i ≡ Some x → number x ≢ n
-  that_has n [] i x h at = absurd (none-some x at)
-  that_has n (y ∷ ys) zero x h at = subst (λ z. number z ≢ n) (same_Some y x at) h.0
-  that_has n (y ∷ ys) (suc i) x h at = that_has n ys i x h.1 at
-
   -- where no two have one number, those after one have others
   pub others_behind : (xs : List X) (i : ℕ) (x : X) → are_distinct (map number xs) ≡ true → slice_get xs i ≡ Some x → AllByRecursion (λ y. number y ≢ number x) (drop (i + 1) xs)
   others_behind [] i x h at = absurd (none-some x at)
@@ -46,14 +39,6 @@ module _ {X : Type 0} (number : X → ℕ) where
   others_behind (y ∷ ys) (suc i) x h at =
       let parts = both (not (list_any (nat_eq (number y)) (map number ys))) (are_distinct (map number ys)) h in
       subst (λ n. AllByRecursion (λ w. number w ≢ number x) (drop n (y ∷ ys))) (let e : suc (i + 1) ≡ suc i + 1 = omega arith in e) (others_behind ys i x parts.1 at)
-
-  -- and so have those before it
-  pub others_before : (xs : List X) (i : ℕ) (x : X) → are_distinct (map number xs) ≡ true → slice_get xs i ≡ Some x → AllByRecursion (λ y. number y ≢ number x) (take i xs)
-  others_before [] i x h at = absurd (none-some x at)
-  others_before (y ∷ ys) zero x h at = tt
-  others_before (y ∷ ys) (suc i) x h at =
-      let parts = both (not (list_any (nat_eq (number y)) (map number ys))) (are_distinct (map number ys)) h in
-      ((λ is. that_has (number y) ys i x (none_has (number y) ys parts.0) at (sym is)), others_before ys i x parts.1 at)
 
   -- the files of others are apart, where those of any two are that differ in their numbers
   pub files_apart : (names : X → List FileName) (x : X) (ys : List X) → ((y : X) → number y ≢ number x → AreApart (names y) (names x)) → AllByRecursion (λ y. number y ≢ number x) ys → AreApart (flat_map names ys) (names x)
@@ -89,16 +74,5 @@ parts_apart a b ne = (
 
 -- ---- alive files
 
-alive_apart : (a b s t : ℕ) → a ≢ b → Alive a s ≢ Alive b t
+pub alive_apart : (a b s t : ℕ) → a ≢ b → Alive a s ≢ Alive b t
 alive_apart a b s t ne is = ne (let e : a ≡ b = cc is in e)
-
-pub alive_from_file : (a s b : ℕ) (d : Option Deletes) → a ≢ b → AllByRecursion (λ other. Alive a s ≢ other) (alive_file b d)
-alive_from_file a s b None ne = tt
-alive_from_file a s b (Some d) ne = (alive_apart a b s d.stamp ne, tt)
-
-pub alive_files_apart : (s t : ListedSegment) → s.id ≢ t.id → AreApart (alive_file s.id s.deletes) (alive_file t.id t.deletes)
-alive_files_apart s t ne = by s.deletes
-  where
-    by : (d : Option Deletes) → AreApart (alive_file s.id d) (alive_file t.id t.deletes)
-    by None = tt
-    by (Some d) = (alive_from_file s.id d.stamp t.id t.deletes ne, tt)

@@ -1,6 +1,6 @@
 -- One batch: the operations that it is made of, which of its documents are alive, and why it is refused.
-use Rattle.std.proofs.Common.{◌≡◌, ℕ, suc, ◌+◌, ◌-◌, ◌^◌, ◌<◌, ◌≤◌, Bool, true, List, [], ◌∷◌, ◌++◌, length, map, take, drop, cond, Some, None, Option, refl, sym, ap, ◌∙◌, subst, Err, inl, inr, arith}
-use Rattle.std.specs.Prelude.{◌⊎◌, is_none, is_some, slice_get, slice_range, unwrap_or}
+use Rattle.std.proofs.Common.{◌≡◌, ℕ, suc, ◌+◌, ◌-◌, ◌^◌, ◌<◌, ◌≤◌, Bool, true, List, [], ◌∷◌, ◌++◌, length, map, take, drop, Some, None, Option, refl, sym, ap, ◌∙◌, subst, arith}
+use Rattle.std.specs.Prelude.{is_none, is_some, slice_get, slice_range, unwrap_or}
 use Rattle.std.specs.List.{enumerate_from, list_all, take-map, drop-map}
 use Rattle.std.specs.Option.{option_map, option_or}
 use Rattle.std.proofs.lemmas.Bool.{false≢true}
@@ -9,31 +9,28 @@ use Rattle.std.proofs.lemmas.List.{drop-drop, length-take-le, length-map, take-a
 use Rattle.std.proofs.lemmas.Option.{none-some}
 use Rattle.seg_values.specs.Tree.{Document}
 use Rattle.seg_values.specs.ValueBytes.{TermKey}
+use Rattle.seg_values.specs.declared.error.ArgumentCause.TheVariants.{Documents, Numbers}
 use Rattle.seg_values.specs.declared.error.TantivyError.{TantivyError}
 use Rattle.seg_values.specs.declared.error.TantivyError.TheVariants.{SchemaError, InvalidArgument, IndexAlreadyExists, OpenReadError, OpenWriteError, IoError, DataCorruption, SystemError, FieldNotFound, OutOfMemory}
 use Rattle.seg_deletes.specs.declared.operation.DeleteOperation.{DeleteOperation}
 use Rattle.seg_model.specs.Built.{is_taken}
-use Rattle.seg_model.specs.Checked.{Refusal, document_refusal}
+use Rattle.seg_model.specs.Checked.{Cause, at_place, document_refusal, first_of, unless}
 use Rattle.seg_model.specs.Columns.{Columns, columns}
 use Rattle.seg_model.specs.Contents.{Contents, full_reading, reading_with}
 use Rattle.seg_model.specs.Fields.{Schema, Analyzer}
 use Rattle.seg_model.specs.Operations.{Operation, add, delete, delete_all, additions, alive_after}
-use Rattle.seg_model.specs.Refused.{document_refused, too_many_documents, mixed_numbers, batch_refusal, count_refusal, first_of, numbers_refusal, operation_refusal, added_by}
+use Rattle.seg_model.specs.Refused.{batch_refusal, count_refusal, numbers_refusal, operation_refusal, added_by}
 use Rattle.seg_removal.specs.Stamps.{stamped_deletes}
 use Rattle.seg_alive.specs.Applying.{IsTold}
 use Rattle.seg_alive.specs.Laws.{as_operations}
-use Rattle.seg_segment.specs.SegmentFiles.{wrote}
 use Rattle.seg_input.specs.View.{operation_of}
 use Rattle.seg_input.specs.declared.user_operation.UserOperation.{UserOperation}
 use Rattle.seg_segment.specs.Standing.{StandFor}
 use Rattle.seg_segment.specs.declared.segment_files.SegmentFiles.{SegmentFiles}
-use Rattle.seg_directory.specs.State.{DirectoryState}
-use Rattle.seg_refusals.specs.Refusals.{IfRefusal, IsRefusal}
-use Rattle.seg_batches.specs.Segments.{LacksSome, WrittenSegment, alive_of, segment_of, six_files}
-use Rattle.seg_batches.specs.Writing.{WritesBatches, batch_between}
+use Rattle.seg_refusals.specs.Refusals.{IfRefusal}
+use Rattle.seg_batches.specs.Segments.{LacksSome, WrittenSegment, alive_of, segment_of}
+use Rattle.seg_batches.specs.Writing.{batch_between}
 use Rattle.seg_batches.proofs.BatchTurns.{both, end_at}
-use Rattle.seg_batches.proofs.Calls.{does-nothing}
-use Rattle.seg_batches.proofs.FilesTurn.{none_made}
 
 -- ---- which documents are alive
 
@@ -58,7 +55,7 @@ none_is : {X : Type 0} (o : Option X) → is_none o ≡ true → o ≡ None
 none_is None h = refl
 none_is (Some x) h = absurd (false≢true h)
 
-seconds : {X : Type 0} (n : ℕ) (xs : List X) → map (λ p. p.1) (enumerate_from n xs) ≡ xs
+pub seconds : {X : Type 0} (n : ℕ) (xs : List X) → map (λ p. p.1) (enumerate_from n xs) ≡ xs
 seconds n [] = refl
 seconds n (x ∷ xs) = ap (λ l. x ∷ l) (seconds (n + 1) xs)
 
@@ -68,7 +65,7 @@ module _ (schema : Schema) (analyzer : Analyzer) where
   none_refused n [] taken = refl
   none_refused n (add document ∷ operations) taken =
       let parts = both (is_taken schema analyzer document) (list_all (is_taken schema analyzer) (additions operations)) taken in
-      ap (λ (o : Option Refusal). option_or (option_map (document_refused n) o) (first_of (λ p. operation_refusal schema analyzer p.0 p.1) (enumerate_from (n + 1) operations))) (none_is (document_refusal schema analyzer document) parts.0)
+      ap (λ (o : Option Cause). option_or (at_place n o) (first_of (λ p. operation_refusal schema analyzer p.0 p.1) (enumerate_from (n + 1) operations))) (none_is (document_refusal schema analyzer document) parts.0)
       ∙ none_refused (n + 1) operations parts.1
   none_refused n (delete term ∷ operations) taken = none_refused (n + 1) operations taken
   none_refused n (delete_all terms ∷ operations) taken = none_refused (n + 1) operations taken
@@ -87,9 +84,9 @@ module _ (schema : Schema) (analyzer : Analyzer) where
   not_refused first operations files few taken made =
       let same : added_by (enumerate_from first operations) ≡ additions operations = ap additions (seconds first operations) in
       ap (λ ds. option_or (count_refusal ds) (option_or (first_of (λ p. operation_refusal schema analyzer p.0 p.1) (enumerate_from first operations)) (numbers_refusal schema analyzer ds))) same
-      ∙ ap (λ b. option_or (cond b None (Some too_many_documents)) (option_or (first_of (λ p. operation_refusal schema analyzer p.0 p.1) (enumerate_from first operations)) (numbers_refusal schema analyzer (additions operations)))) ((Decides-ltb (length (additions operations)) (2 ^ 31)).1 few)
+      ∙ ap (λ b. option_or (unless b (InvalidArgument Documents)) (option_or (first_of (λ p. operation_refusal schema analyzer p.0 p.1) (enumerate_from first operations)) (numbers_refusal schema analyzer (additions operations)))) ((Decides-ltb (length (additions operations)) (2 ^ 31)).1 few)
       ∙ ap (λ o. option_or o (numbers_refusal schema analyzer (additions operations))) (none_refused first operations taken)
-      ∙ ap (λ b. cond b None (Some mixed_numbers)) (have_columns (additions operations) made.contents made.read)
+      ∙ ap (λ b. unless b (InvalidArgument Numbers)) (have_columns (additions operations) made.contents made.read)
 
 -- ---- an error before a file is made
 
@@ -118,14 +115,6 @@ refusal_weaker P Q follows (DataCorruption name) h = tt
 refusal_weaker P Q follows SystemError h = tt
 refusal_weaker P Q follows FieldNotFound h = tt
 refusal_weaker P Q follows OutOfMemory h = tt
-
-pub unless_memory : (P : TantivyError → Type 0) (e : TantivyError) → (e ≡ OutOfMemory) ⊎ P e → IfRefusal P e
-unless_memory P e (inl is) = subst (IfRefusal P) (sym is) tt
-unless_memory P e (inr h) = if_refusal P e h
-
-pub not_begun : (T : Type 0) (ids : List ℕ) (e : TantivyError) (a : DirectoryState) → IsRefusal e ⊎ (e ≡ OutOfMemory) → WritesBatches {T = T} ids (Err e) a a
-not_begun T ids e a (inl refusal) = inr (record { refusal = refusal; made = 0; makes = none_made (six_files ids) a })
-not_begun T ids e a (inr is) = subst (λ (x : TantivyError). WritesBatches {T = T} ids (Err x) a a) (sym is) (inl (does-nothing (wrote (six_files ids)) (six_files ids) a))
 
 -- ---- the operations that it is made of
 

@@ -2,14 +2,13 @@
 use Rattle.std.proofs.Common.{◌≡◌, ℕ, zero, suc, ◌+◌, ◌-◌, ◌<◌, ◌≤◌, Bool, true, false, List, [], ◌∷◌, ◌++◌, length, take, drop, Some, None, Option, refl, sym, ap, ◌∙◌, subst, inl, inr, arith}
 use Rattle.std.specs.Prelude.{◌⊎◌, ◌&&◌, nat_le, unwrap_or, slice_range}
 use Rattle.std.specs.List.{list_all, slice_get, enumerate_from}
-use Rattle.std.specs.Option.{option_or}
 use Rattle.std.proofs.lemmas.Bool.{false≢true}
 use Rattle.std.proofs.lemmas.Bool.Decides.{nat_tests}
 use Rattle.std.proofs.lemmas.Option.{slice_get_within}
 use Rattle.std.proofs.lemmas.List.{take-append-drop, take-take, take_all, drop_all, drop-drop, drop-take, length-drop}
 use Rattle.seg_model.specs.Fields.{Schema, Analyzer}
 use Rattle.seg_model.specs.Operations.{Operation, Batch, additions, alive_after, batches_from}
-use Rattle.seg_model.specs.Refused.{BuildRefusal, cut_from, first_of, batch_refusal}
+use Rattle.seg_model.specs.Refused.{cut_from}
 use Rattle.seg_model.specs.Valid.{never_falls, cuts_fit}
 use Rattle.seg_batches.specs.Writing.{batch_between}
 use Rattle.seg_batches.proofs.Members.{left_from, not_within}
@@ -23,13 +22,6 @@ at_most n m h = grind (arith, nat_tests)
 
 from_zero : (n : ℕ) → nat_le 0 n ≡ true
 from_zero n = grind (arith, nat_tests)
-
--- the front of a list, and what follows it
-take-add : {X : Type 0} (n m : ℕ) (xs : List X) → take (n + m) xs ≡ take n xs ++ take m (drop n xs)
-take-add n m xs =
-    sym (take-append-drop n (take (n + m) xs))
-    ∙ ap (λ l. l ++ drop n (take (n + m) xs)) (take-take n (n + m) xs (omega arith))
-    ∙ ap (λ l. take n xs ++ l) (drop-take n m xs)
 
 -- members with their numbers, in two parts
 take-enumerate : {X : Type 0} (n k : ℕ) (xs : List X) → take n (enumerate_from k xs) ≡ enumerate_from k (take n xs)
@@ -70,29 +62,25 @@ first_place operations cuts h =
 abbrev pub batches_left : Schema → Analyzer → List Operation → List ℕ → ℕ → ℕ → List Batch
 batches_left schema analyzer operations cuts at first = batches_from schema analyzer first (drop at cuts) (drop first operations)
 
--- why they are refused: the first of them that is
-abbrev pub refused_left : Schema → Analyzer → List Operation → List ℕ → ℕ → ℕ → Option BuildRefusal
-refused_left schema analyzer operations cuts at first = first_of (batch_refusal schema analyzer) (cut_from first (drop at cuts) (enumerate_from first (drop first operations)))
+-- the parts of the operations that are left, each with its places
+abbrev pub parts_left : List Operation → List ℕ → ℕ → ℕ → List (List (ℕ × Operation))
+parts_left operations cuts at first = cut_from first (drop at cuts) (enumerate_from first (drop first operations))
 
--- why this one is
-abbrev pub refused_here : Schema → Analyzer → List Operation → ℕ → ℕ → Option BuildRefusal
-refused_here schema analyzer operations first end = batch_refusal schema analyzer (enumerate_from first (slice_range operations first end))
+-- the part of this one
+abbrev pub part_here : List Operation → ℕ → ℕ → List (ℕ × Operation)
+part_here operations first end = enumerate_from first (slice_range operations first end)
 
 -- a batch is the first of those that are left, and the others begin where it ends; or it is the last of all
 abbrev pub IsFirstLeft : Schema → Analyzer → List Operation → List ℕ → ℕ → ℕ → ℕ → Type 0
 IsFirstLeft schema analyzer operations cuts at first end =
-    ((at < length cuts) × (batches_left schema analyzer operations cuts at first ≡ batch_between schema analyzer first end operations ∷ batches_left schema analyzer operations cuts (at + 1) end))
-    ⊎ ((length cuts ≤ at) × (batches_left schema analyzer operations cuts at first ≡ batch_between schema analyzer first end operations ∷ []))
+    ((at < length cuts) × (batches_left schema analyzer operations cuts at first ≡ batch_between schema analyzer first end operations ∷ batches_left schema analyzer operations cuts (at + 1) end) × (parts_left operations cuts at first ≡ part_here operations first end ∷ parts_left operations cuts (at + 1) end))
+    ⊎ ((length cuts ≤ at) × (batches_left schema analyzer operations cuts at first ≡ batch_between schema analyzer first end operations ∷ []) × (parts_left operations cuts at first ≡ part_here operations first end ∷ []))
 
 -- what there is to say of a batch that begins and ends here
 pub record Turn (schema : Schema) (analyzer : Analyzer) (operations : List Operation) (cuts : List ℕ) (at first end : ℕ) : Type 0 where
   pub rises : first ≤ end
   pub next : IsPlace operations cuts (at + 1) end
-  pub up_to : take end operations ≡ take first operations ++ slice_range operations first end
   pub is_first : IsFirstLeft schema analyzer operations cuts at first end
-  pub others : Option BuildRefusal
-  pub refusals : refused_left schema analyzer operations cuts at first ≡ option_or (refused_here schema analyzer operations first end) others
-  pub are_others : at < length cuts → others ≡ refused_left schema analyzer operations cuts (at + 1) end
 
 module _ (schema : Schema) (analyzer : Analyzer) (operations : List Operation) (cuts : List ℕ) (at first : ℕ) (is : IsPlace operations cuts at first) where
   -- up to the next cut
@@ -116,9 +104,6 @@ module _ (schema : Schema) (analyzer : Analyzer) (operations : List Operation) (
     behind : drop (cut - first) (drop first operations) ≡ drop cut operations
     behind = drop-drop (cut - first) first operations ∙ ap (λ n. drop n operations) size
 
-    numbered : List (ℕ × Operation)
-    numbered = enumerate_from first (drop first operations)
-
     behind_numbered : drop (cut - first) (enumerate_from first (drop first operations)) ≡ enumerate_from cut (drop cut operations)
     behind_numbered = drop-enumerate (cut - first) first (drop first operations) ∙ ap (λ k. enumerate_from k (drop (cut - first) (drop first operations))) size ∙ ap (enumerate_from cut) behind
 
@@ -131,17 +116,14 @@ module _ (schema : Schema) (analyzer : Analyzer) (operations : List Operation) (
         fit = fits_there.1;
         ends = λ past. absurd (omega (arith, past, slice_get_within cuts at cut found));
       };
-      up_to = sym (ap (λ n. take n operations) size) ∙ take-add first (cut - first) operations;
       is_first = inl (
         slice_get_within cuts at cut found,
         ap (λ l. batches_from schema analyzer first l (drop first operations)) cut_here
             ∙ ap (λ (os : List Operation). (let b : Batch = record { documents = additions (slice_range operations first cut); alive = alive_after schema analyzer (slice_range operations first cut) os } in b) ∷ batches_from schema analyzer cut (drop (at + 1) cuts) os) behind,
+        ap (λ l. cut_from first l (enumerate_from first (drop first operations))) cut_here
+            ∙ ap (λ part. part ∷ cut_from cut (drop (at + 1) cuts) (drop (cut - first) (enumerate_from first (drop first operations)))) (take-enumerate (cut - first) first (drop first operations))
+            ∙ ap (λ rest. part_here operations first cut ∷ cut_from cut (drop (at + 1) cuts) rest) behind_numbered,
       );
-      others = refused_left schema analyzer operations cuts (at + 1) cut;
-      refusals = ap (λ l. first_of (batch_refusal schema analyzer) (cut_from first l (enumerate_from first (drop first operations)))) cut_here
-          ∙ ap (λ part. option_or (batch_refusal schema analyzer part) (first_of (batch_refusal schema analyzer) (cut_from cut (drop (at + 1) cuts) (drop (cut - first) (enumerate_from first (drop first operations)))))) (take-enumerate (cut - first) first (drop first operations))
-          ∙ ap (λ part. option_or (refused_here schema analyzer operations first cut) (first_of (batch_refusal schema analyzer) (cut_from cut (drop (at + 1) cuts) part))) behind_numbered;
-      are_others = λ lt. refl;
     }
 
   -- up to the end
@@ -167,17 +149,14 @@ module _ (schema : Schema) (analyzer : Analyzer) (operations : List Operation) (
         fit = ap (λ l. list_all (λ c. nat_le c (length operations)) l) gone;
         ends = λ past. refl;
       };
-      up_to = take_all (length operations) operations (omega arith) ∙ sym (take-append-drop first operations) ∙ ap (λ l. take first operations ++ l) (sym takes_all);
       is_first = inr (
         are_past,
         ap (λ l. batches_from schema analyzer first l (drop first operations)) (drop_all at cuts are_past)
             ∙ ap (λ (os : List Operation). (let b : Batch = record { documents = additions os; alive = alive_after schema analyzer os [] } in b) ∷ []) (sym takes_all)
             ∙ ap (λ (os : List Operation). (let b : Batch = record { documents = additions (slice_range operations first (length operations)); alive = alive_after schema analyzer (slice_range operations first (length operations)) os } in b) ∷ []) (sym leaves_none),
+        ap (λ l. cut_from first l (enumerate_from first (drop first operations))) (drop_all at cuts are_past)
+            ∙ ap (λ (os : List Operation). enumerate_from first os ∷ []) (sym takes_all),
       );
-      others = None;
-      refusals = ap (λ l. first_of (batch_refusal schema analyzer) (cut_from first l (enumerate_from first (drop first operations)))) (drop_all at cuts are_past)
-          ∙ ap (λ (os : List Operation). option_or (batch_refusal schema analyzer (enumerate_from first os)) None) (sym takes_all);
-      are_others = λ lt. absurd (omega (arith, are_past, lt));
     }
 
   pub turn_here : (end : ℕ) → end ≡ end_at operations cuts at → Turn schema analyzer operations cuts at first end

@@ -90,3 +90,7 @@ does-nothing answers names a = record {
   later = omega (arith);
   caused = tt;
 }
+
+-- and none where none is wanted
+pub does-none : (names : List FileName) (a : DirectoryState) → Does {T = Unit {0}} [] names (Ok tt) a a
+does-none names a = record { seen = sym (append-nil a.seen); others = λ other all. refl; tells = refl; later = omega (arith); caused = tt }

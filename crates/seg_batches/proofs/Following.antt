@@ -1,22 +1,21 @@
 -- Steps that write, as calls with their answers.
-use Rattle.std.proofs.Common.{◌≡◌, ◌≢◌, ◌++◌, ℕ, List, [], ◌∷◌, Result, Ok, Err, refl, sym, ap, subst, ◌∙◌, inl, inr, arith}
+use Rattle.std.proofs.Common.{◌≡◌, ◌++◌, ℕ, List, [], ◌∷◌, Result, Ok, Err, refl, sym, ap, subst, ◌∙◌, inl, inr, arith}
 use Rattle.std.proofs.lemmas.List.{append-nil}
-use Rattle.std.specs.FinMap.{get}
-use Rattle.std.specs.List.{AllByRecursion}
 use Rattle.seg_common.specs.declared.name.FileName.{FileName}
 use Rattle.seg_values.specs.declared.error.TantivyError.{TantivyError}
 use Rattle.seg_values.specs.declared.error.TantivyError.TheVariants.{IndexAlreadyExists, OutOfMemory}
-use Rattle.seg_directory.specs.Calls.{Call, listed, read, made, replaced, synced, kind_of, told, told_failing, CanFail, Keeps, Goes, Fails}
+use Rattle.seg_directory.specs.Calls.{Call, listed, read, made, replaced, synced, kind_of, told, told_failing, CanFail, Goes, Fails}
 use Rattle.seg_directory.specs.Does.{GoesOn}
 use Rattle.seg_directory.specs.Errors.{error_of, name_of}
-use Rattle.seg_directory.specs.Files.{NamedFiles}
 use Rattle.seg_directory.specs.State.{DirectoryState}
 use Rattle.seg_directory.specs.Works.{Step, calls, passes, StepGoes, StepBreaks, CallBreaks, failed, has_files, Works, all_told}
 use Rattle.seg_directory.specs.declared.answer.Answer.{Answer}
 use Rattle.seg_directory.specs.declared.answer.Answer.TheVariants as answer
 use Rattle.seg_directory.specs.declared.error.DirectoryError.{DirectoryError}
 use Rattle.seg_directory.specs.declared.error.DirectoryError.TheVariants as directory
-use Rattle.seg_segment.specs.SegmentFiles.{KeepsAllBut}
+use Rattle.seg_segment.specs.SegmentFiles.{segment_names, write_steps, wrote}
+use Rattle.seg_segment.specs.declared.segment_files.SegmentFiles.{SegmentFiles}
+use Rattle.seg_segment.proofs.KeptFiles.{touched, all_touched, keeps, among_front, among_back}
 use Rattle.seg_batches.specs.Calls.{IsWhy, Stops, HasRisen, Does}
 use Rattle.seg_batches.proofs.Calls.{does-then, does-stop, does-among, does-nothing}
 
@@ -26,19 +25,6 @@ use Rattle.seg_batches.proofs.Calls.{does-then, does-stop, does-among, does-noth
 abbrev IsWrite : Call → Type 0
 IsWrite (read name bytes) = ⊥
 IsWrite _ = Unit {0}
-
--- the names that it touches
-abbrev pub touched : Call → List FileName
-touched (made name bytes) = name ∷ []
-touched (replaced name bytes) = name ∷ []
-touched _ = []
-
-keeps : (call : Call) (old new : NamedFiles) → Keeps call old new → KeepsAllBut (touched call) old new
-keeps (listed n) old new same = λ other all. ap (λ (files : NamedFiles). get files other) same
-keeps (read name bytes) old new same = λ other all. ap (λ (files : NamedFiles). get files other) same
-keeps (made name bytes) old new others = λ other all. others other all.0
-keeps (replaced name bytes) old new others = λ other all. others other all.0
-keeps synced old new same = λ other all. ap (λ (files : NamedFiles). get files other) same
 
 call_went : (call : Call) (a b : DirectoryState) → Goes call a b → Does {T = Unit {0}} (told call) (touched call) (Ok tt) a b
 call_went call a b goes = record { seen = goes.seen; others = keeps call a.files b.files goes.others; tells = goes.tells; later = goes.later; caused = tt }
@@ -99,20 +85,6 @@ AreWrites [] = Unit {0}
 AreWrites (calls call ∷ steps) = IsWrite call × AreWrites steps
 AreWrites (passes refusal ∷ steps) = ⊥
 
--- the names that they touch
-abbrev pub all_touched : List Step → List FileName
-all_touched [] = []
-all_touched (calls call ∷ steps) = touched call ++ all_touched steps
-all_touched (passes refusal ∷ steps) = all_touched steps
-
-among_front : (other : FileName) (xs ys : List FileName) → AllByRecursion (λ name. other ≢ name) (xs ++ ys) → AllByRecursion (λ name. other ≢ name) xs
-among_front other [] ys all = tt
-among_front other (x ∷ xs) ys all = (all.0, among_front other xs ys all.1)
-
-among_back : (other : FileName) (xs ys : List FileName) → AllByRecursion (λ name. other ≢ name) (xs ++ ys) → AllByRecursion (λ name. other ≢ name) ys
-among_back other [] ys all = all
-among_back other (x ∷ xs) ys all = among_back other xs ys all.1
-
 starved : (T : Type 0) (answers : List Answer) (names : List FileName) (e : TantivyError) (a b : DirectoryState) → e ≡ OutOfMemory → b ≡ a → Does {T = T} answers names (Err e) a b
 starved T answers names e a b is same =
     subst (λ (s : DirectoryState). Does {T = T} answers names (Err e) a s) (sym same)
@@ -138,3 +110,7 @@ follow {T = T} (calls call ∷ steps) (Err e) a b (write, writes) (inr (inr brea
 -- steps that write do their calls
 pub follows : {T : Type 0} {steps : List Step} {r : Result T TantivyError} {a b : DirectoryState} → AreWrites steps → Works steps r a b → Does (all_told steps) (all_touched steps) r a b
 follows writes works = follow _ _ _ _ writes works.on
+
+-- the six files of an id are made
+pub six_follow : {T : Type 0} (id : ℕ) (files : SegmentFiles) {r : Result T TantivyError} {a b : DirectoryState} → Works (write_steps id files) r a b → Does (wrote (segment_names id)) (segment_names id) r a b
+six_follow id files works = follows (tt, (tt, (tt, (tt, (tt, (tt, tt)))))) works

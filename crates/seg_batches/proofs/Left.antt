@@ -20,7 +20,6 @@ use Rattle.seg_deletes.specs.declared.doc_opstamp_mapping.DocToOpstampMapping.{D
 use Rattle.seg_deletes.specs.declared.doc_opstamp_mapping.DocToOpstampMapping.TheVariants.{WithMap}
 use Rattle.seg_deletes.specs.declared.operation.DeleteOperation.{DeleteOperation}
 use Rattle.seg_segment.specs.Standing.{StandFor}
-use Rattle.seg_build.specs.declared.memory_segment.MemorySegment.{MemorySegment}
 use Rattle.seg_open.specs.OpenSegment.{OpenSegment, contents_of, terms_in}
 use Rattle.seg_segment.specs.SegmentFiles.{bytes_of}
 use Rattle.seg_segment.specs.Laws.{FilesSpellOneContents}
@@ -31,7 +30,7 @@ use Rattle.seg_open.specs.declared.open_error.OpenError.TheVariants.{Damaged}
 use Rattle.seg_segment.specs.declared.segment_files.SegmentFiles.{SegmentFiles}
 use Rattle.seg_alive.specs.Applying.{IsTold, left_by}
 use Rattle.seg_alive.specs.Laws.{as_operations, AppliedDeletesLeaveTheAlive}
-use Rattle.seg_batches.specs.Indexing.{IsOfBatch}
+use Rattle.seg_batches.specs.Indexing.{AreOfBatch}
 use Rattle.seg_batches.specs.Making.{AreWhole, passed_below}
 use Rattle.seg_batches.proofs.Passed.{batch_passes}
 
@@ -73,9 +72,9 @@ read_of schema analyzer documents contents read = by (columns schema analyzer do
         let same = some_is (reading_with schema analyzer documents cs) contents e in
         (ap (λ (c : Contents). c.documents) same, ap (λ (c : Contents). c.terms) same)
 
-pub made_stand : (given schema : Schema) (by analyzer : Analyzer) (first : ℕ) (operations : List Operation) (segment : MemorySegment) → given ≡ schema → by ≡ analyzer → IsOfBatch given by first operations segment → StandFor schema analyzer (additions operations) segment.files
-made_stand given schema by analyzer first operations segment same_schema same of =
-    subst (λ s. StandFor s analyzer (additions operations) segment.files) same_schema (subst (λ a. StandFor given a (additions operations) segment.files) same of.stand)
+pub of_given : (given schema : Schema) (by analyzer : Analyzer) (first : ℕ) (operations : List Operation) (files : SegmentFiles) (stamps : List ℕ) → given ≡ schema → by ≡ analyzer → AreOfBatch given by first operations files stamps → AreOfBatch schema analyzer first operations files stamps
+of_given given schema by analyzer first operations files stamps same_schema same of =
+    subst (λ s. AreOfBatch s analyzer first operations files stamps) same_schema (subst (λ a. AreOfBatch given a first operations files stamps) same of)
 
 pub made_whole : (schema : Schema) (analyzer : Analyzer) (documents : List Document) (files : SegmentFiles) (n : ℕ) → StandFor schema analyzer documents files → length documents ≡ n → AreWhole schema files n
 made_whole schema analyzer documents files n made counted = record {

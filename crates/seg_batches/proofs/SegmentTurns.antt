@@ -1,36 +1,37 @@
--- The segments of batches, one after another: those so far, and those that are left.
-use Rattle.std.proofs.Common.{◌≡◌, ℕ, zero, suc, ◌+◌, ◌^◌, ◌<◌, ◌≤◌, Bool, true, List, [], ◌∷◌, ◌++◌, length, take, drop, append_assoc, Some, None, Option, refl, sym, ap, ◌∙◌, subst, inl, inr, arith}
-use Rattle.std.specs.Prelude.{◌&&◌, slice_range}
-use Rattle.std.specs.List.{AllByRecursion, list_all, slice_get}
-use Rattle.std.specs.Option.{option_map, option_or}
-use Rattle.std.proofs.lemmas.List.{append-nil, drop_all, take_all}
-use Rattle.std.proofs.lemmas.Option.{none-some, same_Some, slice_get_within}
+-- The segments of batches, one after another: what holds of all of them.
+use Rattle.std.proofs.Common.{◌≡◌, ◌∙◌, ℕ, ◌-◌, ◌^◌, ◌<◌, ◌≤◌, Bool, true, false, List, [], ◌∷◌, ◌++◌, map, length, take, drop, Some, None, Option, refl, sym, ap, subst, arith}
+use Rattle.std.specs.Prelude.{◌&&◌, is_none, nat_lt}
+use Rattle.std.specs.List.{AllByRecursion, enumerate_from, list_all, take-map, drop-map}
+use Rattle.std.specs.Option.{option_or}
+use Rattle.std.proofs.lemmas.Bool.Decides.{nat_tests}
+use Rattle.std.proofs.lemmas.List.{append-nil, drop_all, map-append, take-append-drop}
 use Rattle.seg_values.specs.Tree.{Document}
 use Rattle.seg_values.specs.ValueBytes.{TermKey}
+use Rattle.seg_values.specs.declared.error.ArgumentCause.TheVariants.{Documents}
 use Rattle.seg_values.specs.declared.error.TantivyError.{TantivyError}
+use Rattle.seg_values.specs.declared.error.TantivyError.TheVariants.{InvalidArgument}
 use Rattle.seg_deletes.specs.declared.operation.DeleteOperation.{DeleteOperation}
-use Rattle.seg_directory.specs.Files.{NamedFiles}
+use Rattle.seg_model.specs.Built.{is_taken}
+use Rattle.seg_model.specs.Checked.{Cause, at_place, document_refusal, first_of}
 use Rattle.seg_model.specs.Fields.{Schema, Analyzer}
-use Rattle.seg_model.specs.IndexOfFiles as index
 use Rattle.seg_model.specs.Operations.{Operation, add, delete, delete_all, Batch, additions, batches_from}
-use Rattle.seg_model.specs.Refused.{BuildRefusal}
-use Rattle.seg_segment.specs.Forms.{segment_forms}
+use Rattle.seg_model.specs.Refused.{added_by, batch_refusal, count_refusal, cut_from, numbers_refusal, operation_refusal}
+use Rattle.seg_model.proofs.FirstAnswers.{none_map, or_both, unless_true}
 use Rattle.seg_batches.specs.Making.{passed_below}
-use Rattle.seg_refusals.specs.Refusals.{build_error}
-use Rattle.seg_batches.specs.Segments.{AllStand, WrittenSegment, segment_of, segments_of}
-use Rattle.seg_batches.specs.Writing.{batch_between}
-use Rattle.seg_batches.proofs.BatchTurns.{Turn, batches_left, refused_left, refused_here, both}
-use Rattle.seg_batches.proofs.Members.{left_behind, left_from}
+use Rattle.seg_batches.specs.Segments.{WrittenSegment, segments_of}
+use Rattle.seg_batches.specs.Writing.{batch_cause}
+use Rattle.seg_batches.proofs.BatchSteps.{seconds}
+use Rattle.seg_batches.proofs.BatchTurns.{both, batches_left}
 
 -- ---- documents
 
-additions-append : (xs ys : List Operation) → additions (xs ++ ys) ≡ additions xs ++ additions ys
+pub additions-append : (xs ys : List Operation) → additions (xs ++ ys) ≡ additions xs ++ additions ys
 additions-append [] ys = refl
 additions-append (add document ∷ xs) ys = ap (λ l. document ∷ l) (additions-append xs ys)
 additions-append (delete term ∷ xs) ys = additions-append xs ys
 additions-append (delete_all terms ∷ xs) ys = additions-append xs ys
 
-all_of_both : {X : Type 0} (p : X → Bool) (xs ys : List X) → list_all p xs ≡ true → list_all p ys ≡ true → list_all p (xs ++ ys) ≡ true
+pub all_of_both : {X : Type 0} (p : X → Bool) (xs ys : List X) → list_all p xs ≡ true → list_all p ys ≡ true → list_all p (xs ++ ys) ≡ true
 all_of_both p [] ys h k = k
 all_of_both p (x ∷ xs) ys h k =
     let parts = both (p x) (list_all p xs) h in
@@ -43,116 +44,75 @@ pub passed_further : (low high : ℕ) (operations : List (DeleteOperation TermKe
 passed_further low high [] le h = tt
 passed_further low high (o ∷ operations) le h = (omega (arith, le, h.0), passed_further low high operations le h.1)
 
--- ---- files
-
-module _ (schema : Schema) (analyzer : Analyzer) (files : NamedFiles) where
-  same_first : (b c : Batch) (bs cs : List Batch) → b ∷ bs ≡ c ∷ cs → b ≡ c
-  same_first b c bs cs is = cc
-
-  stand_next : (ids : List ℕ) (all : List Batch) (at id : ℕ) (batch : Batch) (rest : List Batch) → slice_get ids at ≡ Some id → drop at all ≡ batch ∷ rest
-      → index.StandsFor segment_forms files schema analyzer id batch.documents → AllStand schema analyzer files (take at ids) all → AllStand schema analyzer files (take (suc at) ids) all
-  stand_next [] all at id batch rest found here stands before = absurd (none-some id found)
-  stand_next (i ∷ ids) [] at id batch rest found here stands before = tt
-  stand_next (i ∷ ids) (b ∷ bs) zero id batch rest found here stands before = (
-    subst (λ n. index.StandsFor segment_forms files schema analyzer n b.documents) (sym (same_Some i id found))
-        (subst (λ (c : Batch). index.StandsFor segment_forms files schema analyzer id c.documents) (sym (same_first b batch bs rest here)) stands),
-    tt,
-  )
-  stand_next (i ∷ ids) (b ∷ bs) (suc at) id batch rest found here stands before = (before.0, stand_next ids bs at id batch rest found here stands before.1)
-
--- ---- a batch more
-
-module _ (schema : Schema) (analyzer : Analyzer) (operations : List Operation) (cuts : List ℕ) (at first end : ℕ) (t : Turn schema analyzer operations cuts at first end) where
-  -- this batch, and those after it
-  abbrev this : Batch
-  this = batch_between schema analyzer first end operations
-
-  abbrev left_now : List Batch
-  left_now = batches_left schema analyzer operations cuts at first
-
-  abbrev left_then : List Batch
-  left_then = batches_left schema analyzer operations cuts (at + 1) end
-
-  -- its segment
-  module _ (ids : List ℕ) (many : length ids ≡ length cuts + 1) (id : ℕ) (found : slice_get ids at ≡ Some id) where
-    no_cut_left : at ≤ length cuts
-    no_cut_left = omega (arith, many, slice_get_within ids at id found)
-
-    segments_here : segments_of (drop at ids) left_now ≡ segment_of id this ∷ segments_of (drop (at + 1) ids) left_then
-    segments_here = ap (λ l. segments_of l left_now) (left_from ids at id found) ∙ elim t.is_first [
-      | inl more ↦ ap (λ bs. segments_of (id ∷ drop (at + 1) ids) bs) more.1
-      | inr last ↦ ap (λ bs. segments_of (id ∷ drop (at + 1) ids) bs) last.1 ∙ ap (λ ss. segment_of id this ∷ ss) (no_ids last.0)
-    ]
-      where
-        no_ids : length cuts ≤ at → segments_of (drop (at + 1) ids) [] ≡ segments_of (drop (at + 1) ids) left_then
-        no_ids le =
-            let gone : drop (at + 1) ids ≡ [] = drop_all (at + 1) ids (omega (arith, many, le)) in
-            ap (λ l. segments_of l []) gone ∙ sym (ap (λ l. segments_of l left_then) gone)
-
-    pub segments_turn : (written now all : List WrittenSegment) (s : WrittenSegment) → now ≡ written ++ s ∷ [] → s ≡ segment_of id this → written ++ segments_of (drop at ids) left_now ≡ all → now ++ segments_of (drop (at + 1) ids) left_then ≡ all
-    segments_turn written now all s grown is so_far =
-        ap (λ l. l ++ segments_of (drop (at + 1) ids) left_then) (grown ∙ ap (λ (w : WrittenSegment). written ++ w ∷ []) is)
-        ∙ append_assoc written (segment_of id this ∷ []) (segments_of (drop (at + 1) ids) left_then)
-        ∙ ap (λ l. written ++ l) (sym segments_here)
-        ∙ so_far
-
-    -- it is among all batches
-    among_all : (all : List Batch) → (at ≤ length cuts → drop at all ≡ left_now) → (rest : List Batch) × (drop at all ≡ this ∷ rest)
-    among_all all behind = elim t.is_first [
-      | inl more ↦ (left_then, behind no_cut_left ∙ more.1)
-      | inr last ↦ ([], behind no_cut_left ∙ last.1)
-    ]
-
-    -- and its files stand for it, as those before do
-    pub stand_turn : (files : NamedFiles) (all : List Batch) → (at ≤ length cuts → drop at all ≡ left_now) → index.StandsFor segment_forms files schema analyzer id (additions (slice_range operations first end))
-        → AllStand schema analyzer files (take at ids) all → AllStand schema analyzer files (take (at + 1) ids) all
-    stand_turn files all behind stands before =
-        let here = among_all all behind in
-        subst (λ n. AllStand schema analyzer files (take n ids) all) (let e : suc at ≡ at + 1 = omega arith in e) (stand_next schema analyzer files ids all at id this here.0 found here.1 stands before)
-
-  pub behind_turn : (all : List Batch) → (at ≤ length cuts → drop at all ≡ left_now) → at + 1 ≤ length cuts → drop (at + 1) all ≡ left_then
-  behind_turn all behind le = elim t.is_first [
-    | inl more ↦ left_behind all at this left_then (behind (omega (arith, le)) ∙ more.1)
-    | inr last ↦ absurd (omega (arith, le, last.0))
-  ]
-
-  -- what holds of it and those after it
-  pub each_turn : (P : Batch → Type 0) (Q : Type 0) → P this → (AllByRecursion P left_now → Q) → AllByRecursion P left_then → Q
-  each_turn P Q here all rest = elim t.is_first [
-    | inl more ↦ all (subst (AllByRecursion P) (sym more.1) (here, rest))
-    | inr last ↦ all (subst (AllByRecursion P) (sym last.1) (here, tt))
-  ]
-
-  -- its documents are taken, as those before are
-  pub taken_turn : (p : Document → Bool) → list_all p (additions (take first operations)) ≡ true → list_all p (additions (slice_range operations first end)) ≡ true → list_all p (additions (take end operations)) ≡ true
-  taken_turn p before here =
-      ap (λ os. list_all p (additions os)) t.up_to
-      ∙ ap (list_all p) (additions-append (take first operations) (slice_range operations first end))
-      ∙ all_of_both p (additions (take first operations)) (additions (slice_range operations first end)) before here
-
-  -- it is not refused
-  pub unrefused_turn : (all : Option BuildRefusal) → (at ≤ length cuts → refused_left schema analyzer operations cuts at first ≡ all) → refused_here schema analyzer operations first end ≡ None
-      → at + 1 ≤ length cuts → refused_left schema analyzer operations cuts (at + 1) end ≡ all
-  unrefused_turn all so_far none le =
-      sym (t.are_others (omega (arith, le)))
-      ∙ sym (ap (λ o. option_or o t.others) none)
-      ∙ sym t.refusals
-      ∙ so_far (omega (arith, le))
-
-  -- or is, and tells why all are
-  pub refused_turn : (all : Option BuildRefusal) (e : TantivyError) → at ≤ length cuts → (at ≤ length cuts → refused_left schema analyzer operations cuts at first ≡ all)
-      → option_map build_error (refused_here schema analyzer operations first end) ≡ Some e → option_map build_error all ≡ Some e
-  refused_turn all e le so_far told = ap (option_map build_error) (sym (so_far le) ∙ t.refusals) ∙ by (refused_here schema analyzer operations first end) told
-    where
-      by : (o : Option BuildRefusal) → option_map build_error o ≡ Some e → option_map build_error (option_or o t.others) ≡ Some e
-      by None h = absurd (none-some e h)
-      by (Some r) h = h
-
--- ---- the end
+-- ---- where no batch is refused
 
 -- a segment can number the documents of a batch
 abbrev pub IsFew : Batch → Type 0
 IsFew batch = length batch.documents < 2 ^ 31
+
+below : (n m : ℕ) → nat_lt n m ≡ true → n < m
+below n m is = grind (arith, nat_tests)
+
+-- documents that are not too many are few
+few_of : (documents : List Document) → count_refusal documents ≡ None → length documents < 2 ^ 31
+few_of documents h = below (length documents) (2 ^ 31) (unless_true (nat_lt (length documents) (2 ^ 31)) (InvalidArgument Documents) h)
+
+module _ (schema : Schema) (analyzer : Analyzer) where
+  -- operations of which none is refused add documents that are taken
+  taken_of : (part : List (ℕ × Operation)) → first_of (λ p. operation_refusal schema analyzer p.0 p.1) part ≡ None → list_all (is_taken schema analyzer) (additions (map (λ p. p.1) part)) ≡ true
+  taken_of [] h = refl
+  taken_of (p ∷ part) h = by p.1 h (taken_of part)
+    where
+      by : (o : Operation) → option_or (operation_refusal schema analyzer p.0 o) (first_of (λ q. operation_refusal schema analyzer q.0 q.1) part) ≡ None
+          → (first_of (λ q. operation_refusal schema analyzer q.0 q.1) part ≡ None → list_all (is_taken schema analyzer) (additions (map (λ q. q.1) part)) ≡ true)
+          → list_all (is_taken schema analyzer) (additions (o ∷ map (λ q. q.1) part)) ≡ true
+      by (add document) none next =
+          let parts = or_both (at_place p.0 (document_refusal schema analyzer document)) (first_of (λ q. operation_refusal schema analyzer q.0 q.1) part) none in
+          ap (λ (r : Option Cause). is_none r && list_all (is_taken schema analyzer) (additions (map (λ q. q.1) part))) (none_map (λ (c : Cause). c p.0) (document_refusal schema analyzer document) parts.0) ∙ next parts.1
+      by (delete term) none next = next none
+      by (delete_all terms) none next = next none
+
+  -- a batch without a cause
+  module _ (start : Option TantivyError) (part : List (ℕ × Operation)) (none : batch_cause start schema analyzer part ≡ None) where
+    unrefused : batch_refusal schema analyzer part ≡ None
+    unrefused = (or_both start (batch_refusal schema analyzer part) none).1
+
+    part_few : length (added_by part) < 2 ^ 31
+    part_few = few_of (added_by part) (or_both (count_refusal (added_by part)) (option_or (first_of (λ p. operation_refusal schema analyzer p.0 p.1) part) (numbers_refusal schema analyzer (added_by part))) unrefused).0
+
+    part_taken : list_all (is_taken schema analyzer) (added_by part) ≡ true
+    part_taken = taken_of part
+        (or_both (first_of (λ p. operation_refusal schema analyzer p.0 p.1) part) (numbers_refusal schema analyzer (added_by part))
+        (or_both (count_refusal (added_by part)) (option_or (first_of (λ p. operation_refusal schema analyzer p.0 p.1) part) (numbers_refusal schema analyzer (added_by part))) unrefused).1).0
+
+  abbrev AllNone : Option TantivyError → ℕ → List ℕ → List (ℕ × Operation) → Type 0
+  AllNone start first cuts xs = AllByRecursion (λ cause. cause ≡ None) (map (batch_cause start schema analyzer) (cut_from first cuts xs))
+
+  few_from : (start : Option TantivyError) (first : ℕ) (cuts : List ℕ) (xs : List (ℕ × Operation)) → AllNone start first cuts xs → AllByRecursion IsFew (batches_from schema analyzer first cuts (map (λ p. p.1) xs))
+  few_from start first [] xs none = (part_few start xs none.0, tt)
+  few_from start first (cut ∷ cuts) xs none = (
+    subst (λ (os : List Operation). length (additions os) < 2 ^ 31) (sym (take-map (λ (p : ℕ × Operation). p.1) (cut - first) xs)) (part_few start (take (cut - first) xs) none.0),
+    subst (λ (os : List Operation). AllByRecursion IsFew (batches_from schema analyzer cut cuts os)) (sym (drop-map (λ (p : ℕ × Operation). p.1) (cut - first) xs)) (few_from start cut cuts (drop (cut - first) xs) none.1),
+  )
+
+  taken_from : (start : Option TantivyError) (first : ℕ) (cuts : List ℕ) (xs : List (ℕ × Operation)) → AllNone start first cuts xs → list_all (is_taken schema analyzer) (additions (map (λ p. p.1) xs)) ≡ true
+  taken_from start first [] xs none = part_taken start xs none.0
+  taken_from start first (cut ∷ cuts) xs none =
+      let front = take (cut - first) xs in
+      let rest = drop (cut - first) xs in
+      ap (λ (ps : List (ℕ × Operation)). list_all (is_taken schema analyzer) (additions (map (λ p. p.1) ps))) (sym (take-append-drop (cut - first) xs))
+      ∙ ap (λ (os : List Operation). list_all (is_taken schema analyzer) (additions os)) (map-append (λ (p : ℕ × Operation). p.1) front rest)
+      ∙ ap (list_all (is_taken schema analyzer)) (additions-append (map (λ p. p.1) front) (map (λ p. p.1) rest))
+      ∙ all_of_both (is_taken schema analyzer) (added_by front) (added_by rest) (part_taken start front none.0) (taken_from start cut cuts rest none.1)
+
+  module _ (start : Option TantivyError) (cuts : List ℕ) (operations : List Operation) (none : AllNone start 0 cuts (enumerate_from 0 operations)) where
+    pub all_few : AllByRecursion IsFew (batches_from schema analyzer 0 cuts operations)
+    all_few = subst (λ (os : List Operation). AllByRecursion IsFew (batches_from schema analyzer 0 cuts os)) (seconds 0 operations) (few_from start 0 cuts (enumerate_from 0 operations) none)
+
+    pub all_taken : list_all (is_taken schema analyzer) (additions operations) ≡ true
+    all_taken = subst (λ (os : List Operation). list_all (is_taken schema analyzer) (additions os) ≡ true) (seconds 0 operations) (taken_from start 0 cuts (enumerate_from 0 operations) none)
+
+-- ---- the end
 
 module _ (schema : Schema) (analyzer : Analyzer) (operations : List Operation) (cuts ids : List ℕ) (at first : ℕ) where
   pub all_segments : (written all : List WrittenSegment) → length ids ≤ at → written ++ segments_of (drop at ids) (batches_left schema analyzer operations cuts at first) ≡ all → written ≡ all
@@ -160,11 +120,3 @@ module _ (schema : Schema) (analyzer : Analyzer) (operations : List Operation) (
       sym (append-nil written)
       ∙ sym (ap (λ l. written ++ segments_of l (batches_left schema analyzer operations cuts at first)) (drop_all at ids le))
       ∙ so_far
-
-  pub all_few : (Q : Type 0) → length cuts ≤ at → first ≡ length operations → (AllByRecursion IsFew (batches_left schema analyzer operations cuts at first) → Q) → Q
-  all_few Q le is_end all =
-      all (subst (λ l. AllByRecursion IsFew (batches_from schema analyzer first l (drop first operations))) (sym (drop_all at cuts le))
-      (subst (λ os. AllByRecursion IsFew (batches_from schema analyzer first [] os)) (sym (drop_all first operations (omega (arith, is_end)))) (omega arith, tt)))
-
-  pub all_taken : (p : Document → Bool) → first ≡ length operations → list_all p (additions (take first operations)) ≡ true → list_all p (additions operations) ≡ true
-  all_taken p is_end h = subst (λ os. list_all p (additions os) ≡ true) (take_all first operations (omega (arith, is_end))) h

@@ -1,12 +1,12 @@
 -- The documents of a batch, added to a segment one by one.
-use Rattle.std.specs.Prelude.{ℕ, ◌≡◌, List, Bool, true, false}
+use Rattle.std.specs.Prelude.{ℕ, ◌≡◌, ◌<◌, ◌^◌, List, length, Bool, true, false}
 use Rattle.seg_values.specs.declared.error.TantivyError.{TantivyError}
 use Rattle.seg_model.specs.Fields.{Schema, Analyzer}
 use Rattle.seg_model.specs.Operations.{Operation, add, delete, delete_all, additions}
 use Rattle.seg_removal.specs.Stamps.{addition_stamps}
 use Rattle.seg_build.specs.SegmentWriting.{SegmentWriting, Adds, AddsNone, Writes}
 use Rattle.seg_segment.specs.Standing.{StandFor}
-use Rattle.seg_build.specs.declared.memory_segment.MemorySegment.{MemorySegment}
+use Rattle.seg_segment.specs.declared.segment_files.SegmentFiles.{SegmentFiles}
 
 -- an operation that adds a document
 abbrev pub is_addition : Operation → Bool
@@ -30,7 +30,8 @@ IsNotTaken analyzer at (add document) old new e = AddsNone analyzer document at 
 IsNotTaken analyzer at (delete term) old new e = ⊥
 IsNotTaken analyzer at (delete_all terms) old new e = ⊥
 
--- a segment in memory is that of a batch: its files stand for the documents that are added, and it has their stamps
-pub record IsOfBatch (schema : Schema) (analyzer : Analyzer) (first : ℕ) (operations : List Operation) (segment : MemorySegment) : Type 0 where
-  pub stand : StandFor schema analyzer (additions operations) segment.files
-  pub stamps : segment.stamps.items ≡ addition_stamps first operations
+-- six files and stamps are those of a batch, whose first operation has the place `first`: the files stand for the documents that it adds
+pub record AreOfBatch (schema : Schema) (analyzer : Analyzer) (first : ℕ) (operations : List Operation) (files : SegmentFiles) (stamps : List ℕ) : Type 0 where
+  pub stand : StandFor schema analyzer (additions operations) files
+  pub stamped : stamps ≡ addition_stamps first operations
+  pub few : length (additions operations) < 2 ^ 31

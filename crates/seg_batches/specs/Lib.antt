@@ -1,3 +1,4 @@
+pub mod AliveWriting
 pub mod Calls
 pub mod Indexing
 pub mod Making

@@ -1,114 +1,109 @@
 -- What the reading back of segments does, which changes no file.
-use Rattle.std.specs.Prelude.{ℕ, ◌≡◌, ◌⊎◌, ◌++◌, List, [], ◌∷◌, length, Bool, true, not, replicate, Option, Some, None, Result, Ok, Err, IfOk, IfErr, IsTrue}
+use Rattle.std.specs.Prelude.{ℕ, ◌≡◌, List, [], ◌∷◌, ◌++◌, length, Bool, true, not, ◌&&◌, ◌==◌, is_some, if◌then◌else◌, replicate, Option, Some, None, Result, Ok, Err, IfOk, IfSome}
 use Rattle.std.specs.List.{count_by}
 use Rattle.seg_common.specs.declared.name.FileName.TheVariants.{Alive}
 use Rattle.seg_values.specs.declared.error.TantivyError.{TantivyError}
-use Rattle.seg_values.specs.declared.error.TantivyError.TheVariants.{OpenReadError, DataCorruption, OutOfMemory}
-use Rattle.seg_directory.specs.CallAnswers.{seen_reading}
-use Rattle.seg_directory.specs.Faults.{FaultHasCause}
-use Rattle.seg_directory.specs.declared.answer.Answer.{Answer}
-use Rattle.seg_directory.specs.declared.answer.Answer.TheVariants as answer
+use Rattle.seg_values.specs.declared.error.TantivyError.TheVariants.{DataCorruption}
 use Rattle.seg_bits.specs.BitSets.{set_of}
-use Rattle.seg_model.specs.Contents.{Contents}
+use Rattle.seg_directory.specs.Calls.{read}
+use Rattle.seg_directory.specs.State.{DirectoryState}
+use Rattle.seg_directory.specs.Works.{Step, Works, calls, passes}
 use Rattle.seg_model.specs.Fields.{Schema}
 use Rattle.seg_model.specs.IndexOfFiles.{Deletes, ListedSegment}
-use Rattle.seg_segment.specs.Holds.{Holds}
-use Rattle.seg_segment.specs.HoldsAlive.{HoldsAlive}
-use Rattle.seg_open.specs.OpenSegment.{OpenSegment, contents_of}
-use Rattle.seg_open.specs.SegmentOpened.{IsNoDamage, OpeningSeen}
+use Rattle.seg_segment.specs.declared.segment_files.SegmentFiles.{SegmentFiles}
+use Rattle.seg_open.specs.SegmentOpened.{IsDamageOf, IsReaderOf, open_steps}
 use Rattle.seg_join.specs.KeptSegment.{KeptSegment}
-use Rattle.seg_directory.specs.State.{DirectoryState}
 
--- ---- the six files
-
--- a segment of this many documents is read back: the answers show it, no file changes, and a directory that tells is read as it is
-pub record ReadsBack (id : ℕ) (schema : Schema) (number : ℕ) (result : Result OpenSegment TantivyError) (before after : DirectoryState) : Type 0 where
-  pub seen : OpeningSeen id schema number before.seen result after.seen
-  pub of : IfOk result (λ r. (r.schema ≡ schema) × (r.documents ≡ number))
-  pub holds : IsTrue before.tells → IfOk result (λ r. Holds before.files id schema (contents_of r))
-  pub whole : IsTrue before.tells → (contents : Contents) → Holds before.files id schema contents → contents.documents ≡ number → IfErr result IsNoDamage
-  pub files : after.files ≡ before.files
-  pub tells : after.tells ≡ before.tells
-  pub cause : FaultHasCause OpenReadError before.faults after.faults result
+-- a result, by what is seen of its answer
+abbrev pub seen_as : {T U E : Type 0} → (T → U) → Result T E → Result U E
+seen_as f (Ok x) = Ok (f x)
+seen_as f (Err e) = Err e
 
 -- ---- the alive file
 
--- the set tells of this many documents which are alive, and of this many that they are not
-pub record AgreesWith (documents : ℕ) (d : Deletes) (alive : List Bool) : Type 0 where
-  pub counted : length alive ≡ documents
-  pub dead : count_by not alive ≡ d.number
+-- a set, where it tells of this many documents which are alive, and of this many that they are not
+abbrev pub agreeing : ℕ → Deletes → Option (List Bool) → Option (List Bool)
+agreeing documents d None = None
+agreeing documents d (Some alive) = if (length alive == documents) && (count_by not alive == d.number) then Some alive else None
 
--- bytes are no such set
-abbrev pub IsNoSuchSet : ℕ → Deletes → List ℕ → Type 0
-IsNoSuchSet documents d bytes = (alive : List Bool) → set_of bytes ≡ Some alive → AgreesWith documents d alive → ⊥
+-- the set that bytes are, where it agrees
+abbrev pub alive_in : ℕ → Deletes → List ℕ → Option (List Bool)
+alive_in documents d bytes = agreeing documents d (set_of bytes)
 
--- what the reading of an alive file adds to the answers: the file, which tells the set
-pub record ReadsSet (id documents : ℕ) (d : Deletes) (alive : List Bool) (old new : List Answer) : Type 0 where
-  pub file : List ℕ
-  pub seen : new ≡ old ++ answer.Read (Alive id d.stamp) file ∷ []
-  pub set : set_of file ≡ Some alive
-  pub agrees : AgreesWith documents d alive
+-- bytes that are no such set are damaged
+abbrev pub alive_damage : ℕ → ℕ → Deletes → List ℕ → Option TantivyError
+alive_damage id documents d bytes = if is_some (alive_in documents d bytes) then None else Some (DataCorruption (Alive id d.stamp))
 
--- or the file, which tells no such set
-pub record ReadsNoSet (id documents : ℕ) (d : Deletes) (old new : List Answer) : Type 0 where
-  pub file : List ℕ
-  pub seen : new ≡ old ++ answer.Read (Alive id d.stamp) file ∷ []
-  pub none : IsNoSuchSet documents d file
+-- the alive file of a segment with deletes is read, and is such a set; without deletes there is none
+abbrev pub alive_steps : ℕ → ℕ → Option Deletes → List ℕ → List Step
+alive_steps id documents None bytes = []
+alive_steps id documents (Some d) bytes = calls (read (Alive id d.stamp) bytes) ∷ (passes (alive_damage id documents d bytes) ∷ [])
 
--- either of them; that the file is missing or can't be read; or nothing, when out of memory
-abbrev pub AliveSeen : ℕ → ℕ → Deletes → List Answer → Result (List Bool) TantivyError → List Answer → Type 0
-AliveSeen id documents d old (Ok alive) new = ReadsSet id documents d alive old new
-AliveSeen id documents d old (Err (DataCorruption name)) new =
-    (name ≡ Alive id d.stamp) × ((new ≡ old ++ seen_reading (Alive id d.stamp) (Err (DataCorruption name))) ⊎ ReadsNoSet id documents d old new)
-AliveSeen id documents d old (Err e) new = ((e ≡ OpenReadError) ⊎ (e ≡ OutOfMemory)) × (new ≡ old ++ seen_reading (Alive id d.stamp) (Err e))
+-- which documents are alive: without deletes all
+abbrev pub alive_read : ℕ → Option Deletes → List ℕ → Option (List Bool)
+alive_read documents None bytes = Some (replicate documents true)
+alive_read documents (Some d) bytes = alive_in documents d bytes
 
--- the alive file of a segment with deletes is read
-pub record ReadsAlive (id documents : ℕ) (d : Deletes) (result : Result (List Bool) TantivyError) (before after : DirectoryState) : Type 0 where
-  pub seen : AliveSeen id documents d before.seen result after.seen
-  pub holds : IsTrue before.tells → IfOk result (HoldsAlive before.files id d.stamp documents)
-  pub whole : IsTrue before.tells → (alive : List Bool) → HoldsAlive before.files id d.stamp documents alive → count_by not alive ≡ d.number → IfErr result IsNoDamage
-  pub files : after.files ≡ before.files
-  pub tells : after.tells ≡ before.tells
-  pub cause : FaultHasCause OpenReadError before.faults after.faults result
+-- it is read which documents of a segment are alive
+pub record ReadsAlive (id documents : ℕ) (deletes : Option Deletes) (result : Result (List Bool) TantivyError) (before after : DirectoryState) : Type 0 where
+  pub bytes : List ℕ
+  pub works : Works (alive_steps id documents deletes bytes) result before after
+  pub is : IfOk result (λ alive. alive_read documents deletes bytes ≡ Some alive)
 
--- where there are deletes; else nothing is read, and all documents are alive
-abbrev pub ReadsDeletes : ℕ → ℕ → Option Deletes → Result (List Bool) TantivyError → DirectoryState → DirectoryState → Type 0
-ReadsDeletes id documents None (Ok alive) before after = (alive ≡ replicate documents true) × (after ≡ before)
-ReadsDeletes id documents None (Err e) before after = ⊥
-ReadsDeletes id documents (Some d) result before after = ReadsAlive id documents d result before after
+-- ---- one segment
 
--- ---- whole segments
+-- what is found of a listed segment: its six files, what their test tells, and its alive file
+pub record Found : Type 0 where
+  pub files : SegmentFiles
+  pub refusal : Option TantivyError
+  pub alive_file : List ℕ
 
--- a listed segment is read back: its six files, and then its alive file
-pub record ReadsSegment (schema : Schema) (s : ListedSegment) (read : KeptSegment) (before after : DirectoryState) : Type 0 where
-  pub opened : DirectoryState
-  pub six : ReadsBack s.id schema s.documents (Ok read.segment) before opened
-  pub alive : ReadsDeletes s.id s.documents s.deletes (Ok read.alive) opened after
+-- its six files are read and tested, and then its alive file is
+abbrev pub segment_steps : ListedSegment → Found → List Step
+segment_steps s found = open_steps s.id found.files found.refusal ++ alive_steps s.id s.documents s.deletes found.alive_file
 
--- or it is not: one of the six files tells why, or the alive file
-pub data StopsInSegment (schema : Schema) (s : ListedSegment) (e : TantivyError) (before after : DirectoryState) : Type 0 where
-  in_files : ReadsBack s.id schema s.documents (Err e) before after → StopsInSegment schema s e before after
-  in_alive : (opened : DirectoryState) (read : OpenSegment) → ReadsBack s.id schema s.documents (Ok read) before opened → ReadsDeletes s.id s.documents s.deletes (Err e) opened after → StopsInSegment schema s e before after
+-- what the test tells is damage of its files
+abbrev pub IsFound : Schema → ListedSegment → Found → Type 0
+IsFound schema s found = IfSome found.refusal (IsDamageOf s.id schema s.documents found.files)
 
--- each listed segment is read back, one after another
-abbrev pub ReadsAll : Schema → List ListedSegment → List KeptSegment → DirectoryState → DirectoryState → Type 0
-ReadsAll schema [] [] before after = after ≡ before
-ReadsAll schema [] (r ∷ read) before after = ⊥
-ReadsAll schema (s ∷ segments) [] before after = ⊥
-ReadsAll schema (s ∷ segments) (r ∷ read) before after = (next : DirectoryState) × ReadsSegment schema s r before next × ReadsAll schema segments read next after
+-- a segment is kept as it was found
+pub record IsKept (schema : Schema) (s : ListedSegment) (found : Found) (kept : KeptSegment) : Type 0 where
+  pub reader : IsReaderOf schema s.documents found.files kept.segment
+  pub alive : alive_read s.documents s.deletes found.alive_file ≡ Some kept.alive
 
--- some are read back, and the next is not
-pub record StopsReading (schema : Schema) (segments : List ListedSegment) (e : TantivyError) (before after : DirectoryState) : Type 0 where
-  pub first : List ListedSegment
-  pub stopped : ListedSegment
-  pub rest : List ListedSegment
-  pub cut : segments ≡ first ++ stopped ∷ rest
-  pub read : List KeptSegment
-  pub next : DirectoryState
-  pub reads : ReadsAll schema first read before next
-  pub stops : StopsInSegment schema stopped e next after
+-- a listed segment is read back
+pub record ReadsSegment (schema : Schema) (s : ListedSegment) (result : Result KeptSegment TantivyError) (before after : DirectoryState) : Type 0 where
+  pub found : Found
+  pub damaged : IsFound schema s found
+  pub works : Works (segment_steps s found) result before after
+  pub is : IfOk result (IsKept schema s found)
 
--- all, or up to the one that is not; or nothing, when out of memory
-abbrev pub ReadsUpTo : Schema → List ListedSegment → Result (List KeptSegment) TantivyError → DirectoryState → DirectoryState → Type 0
-ReadsUpTo schema segments (Ok read) before after = ReadsAll schema segments read before after
-ReadsUpTo schema segments (Err e) before after = StopsReading schema segments e before after
+-- ---- segments
+
+-- one after another
+abbrev pub all_steps : List ListedSegment → List Found → List Step
+all_steps [] found = []
+all_steps (s ∷ segments) [] = []
+all_steps (s ∷ segments) (f ∷ found) = segment_steps s f ++ all_steps segments found
+
+-- something is found of each of them
+abbrev pub AreFound : Schema → List ListedSegment → List Found → Type 0
+AreFound schema [] [] = Unit {0}
+AreFound schema [] (f ∷ found) = ⊥
+AreFound schema (s ∷ segments) [] = ⊥
+AreFound schema (s ∷ segments) (f ∷ found) = IsFound schema s f × AreFound schema segments found
+
+-- each is kept as it was found
+abbrev pub AreKept : Schema → List ListedSegment → List Found → List KeptSegment → Type 0
+AreKept schema [] found [] = Unit {0}
+AreKept schema [] found (k ∷ kept) = ⊥
+AreKept schema (s ∷ segments) [] kept = ⊥
+AreKept schema (s ∷ segments) (f ∷ found) [] = ⊥
+AreKept schema (s ∷ segments) (f ∷ found) (k ∷ kept) = IsKept schema s f k × AreKept schema segments found kept
+
+-- listed segments are read back, up to the first that is not
+pub record ReadsSegments (schema : Schema) (segments : List ListedSegment) (result : Result (List KeptSegment) TantivyError) (before after : DirectoryState) : Type 0 where
+  pub found : List Found
+  pub damaged : AreFound schema segments found
+  pub works : Works (all_steps segments found) result before after
+  pub are : IfOk result (AreKept schema segments found)

@@ -1,12 +1,18 @@
 -- What the writing of segments does to a directory.
-use Rattle.std.specs.Prelude.{ℕ, ◌⊎◌, List, take, drop, slice_range, Result, Ok, Err}
+use Rattle.std.specs.Prelude.{ℕ, ◌≡◌, ◌⊎◌, ◌++◌, List, [], ◌∷◌, map, length, take, drop, slice_range, Option, Result, Ok, Err, OnOk}
+use Rattle.std.specs.List.{enumerate_from}
+use Rattle.std.specs.Option.{option_or}
 use Rattle.seg_values.specs.declared.error.TantivyError.{TantivyError}
 use Rattle.seg_model.specs.Fields.{Schema, Analyzer}
 use Rattle.seg_model.specs.Operations.{Operation, Batch, additions, alive_after}
-use Rattle.seg_segment.specs.SegmentFiles.{wrote}
-use Rattle.seg_batches.specs.Calls.{Does}
+use Rattle.seg_model.specs.Refused.{batch_refusal, cut_from}
 use Rattle.seg_directory.specs.State.{DirectoryState}
+use Rattle.seg_directory.specs.Works.{Step, Works, passes}
+use Rattle.seg_segment.specs.SegmentFiles.{write_steps, wrote}
+use Rattle.seg_segment.specs.Standing.{StandFor}
+use Rattle.seg_segment.specs.declared.segment_files.SegmentFiles.{SegmentFiles}
 use Rattle.seg_refusals.specs.Refusals.{IsRefusal}
+use Rattle.seg_batches.specs.Calls.{Does}
 use Rattle.seg_batches.specs.Segments.{six_files}
 
 -- the batch of the operations from one place up to another, with what those after it leave alive
@@ -15,6 +21,50 @@ batch_between schema analyzer first end operations = record {
   documents = additions (slice_range operations first end);
   alive = alive_after schema analyzer (slice_range operations first end) (drop end operations);
 }
+
+-- ---- why a batch is not written
+
+-- no writer can be started, for the cause that is given, or the batch is refused
+abbrev pub batch_cause : Option TantivyError → Schema → Analyzer → List (ℕ × Operation) → Option TantivyError
+batch_cause start schema analyzer batch = option_or start (batch_refusal schema analyzer batch)
+
+-- of each batch of operations that are cut
+abbrev pub batch_causes : Option TantivyError → Schema → Analyzer → List ℕ → List Operation → List (Option TantivyError)
+batch_causes start schema analyzer cuts operations = map (batch_cause start schema analyzer) (cut_from 0 cuts (enumerate_from 0 operations))
+
+-- ---- steps
+
+-- a batch is refused where there is a cause; else its six files are made
+abbrev pub batch_steps : ℕ → Option TantivyError → SegmentFiles → List Step
+batch_steps id cause files = passes cause ∷ write_steps id files
+
+-- and so each, one after another
+abbrev pub batches_steps : List ℕ → List (Option TantivyError) → List SegmentFiles → List Step
+batches_steps [] causes files = []
+batches_steps (id ∷ ids) [] files = []
+batches_steps (id ∷ ids) (cause ∷ causes) [] = []
+batches_steps (id ∷ ids) (cause ∷ causes) (f ∷ files) = batch_steps id cause f ++ batches_steps ids causes files
+
+-- the segment of a batch is written: six files that stand for its documents
+pub record MakesBatch {T : Type 0} (cause : Option TantivyError) (schema : Schema) (analyzer : Analyzer) (id : ℕ) (batch : Batch) (result : Result T TantivyError) (before after : DirectoryState) : Type 0 where
+  pub files : SegmentFiles
+  pub stand : OnOk result (StandFor schema analyzer batch.documents files)
+  pub works : Works (batch_steps id cause files) result before after
+
+-- each of these files stand for the documents of a batch
+abbrev pub AllStandFor : Schema → Analyzer → List SegmentFiles → List Batch → Type 0
+AllStandFor schema analyzer [] batches = Unit {0}
+AllStandFor schema analyzer (f ∷ files) [] = ⊥
+AllStandFor schema analyzer (f ∷ files) (batch ∷ batches) = StandFor schema analyzer batch.documents f × AllStandFor schema analyzer files batches
+
+-- the segments of batches are written, each under its id: six files for each
+pub record MakesBatches {T : Type 0} (causes : List (Option TantivyError)) (schema : Schema) (analyzer : Analyzer) (ids : List ℕ) (batches : List Batch) (result : Result T TantivyError) (before after : DirectoryState) : Type 0 where
+  pub files : List SegmentFiles
+  pub many : length files ≡ length ids
+  pub stand : OnOk result (AllStandFor schema analyzer files batches)
+  pub works : Works (batches_steps ids causes files) result before after
+
+-- ---- in the words of calls with their answers
 
 -- the six files of each of these segments are made, and no others
 abbrev pub MakesFiles : Result (Unit {0}) TantivyError → List ℕ → List ℕ → DirectoryState → DirectoryState → Type 0

@@ -1,9 +1,8 @@
 //! The alive file of a segment, read back.
-ghost use Rattle.std.specs.Prelude.{◌≡◌, Some, Ok, Err, not, length, option_map, IfOk, IfErr, MatchOption};
+ghost use Rattle.std.specs.Prelude.{◌≡◌, Some, not, length, option_map, IfOk};
 ghost use Rattle.std.specs.List.{count_by};
-ghost use Rattle.seg_bits.specs.BitSets.{set_of};
 ghost use Rattle.seg_meta.specs.Metas.{deletes_of};
-ghost use Rattle.seg_batches.specs.Reading.{AgreesWith, IsNoSuchSet, ReadsAlive, ReadsDeletes};
+ghost use Rattle.seg_batches.specs.Reading.{ReadsAlive, alive_in, seen_as};
 ghost use Rattle.seg_batches.specs.Segments.{alive_of};
 
 use seg_bits::AliveBitSet;
@@ -22,12 +21,9 @@ pub(crate) fn read_deletes<W: Directory>(
     directory: &mut W,
 ) -> TResult<Option<AliveBitSet>>
     ensures size { IfOk result (λ alive. length (alive_of max_doc alive) ≡ max_doc) }
-    ensures read { IfOk result (λ alive. ReadsDeletes id max_doc (option_map deletes_of deletes) (Ok (alive_of max_doc alive))
+    ensures reads { ReadsAlive id max_doc (option_map deletes_of deletes) (seen_as (alive_of max_doc) result)
         (W.state directory.old)
-        (W.state directory.new)) }
-    ensures stops { IfErr result (λ e. ReadsDeletes id max_doc (option_map deletes_of deletes) (Err e)
-        (W.state directory.old)
-        (W.state directory.new)) }
+        (W.state directory.new) }
 {
     let Some(deletes) = deletes else {
         return Ok(None);
@@ -46,7 +42,7 @@ fn read_alive_file<W: Directory>(
     deletes: DeleteMeta,
     directory: &mut W,
 ) -> TResult<AliveBitSet>
-    ensures { ReadsAlive id max_doc (deletes_of deletes) result
+    ensures { ReadsAlive id max_doc (Some (deletes_of deletes)) result
         (W.state directory.old)
         (W.state directory.new) }
 {
@@ -65,8 +61,7 @@ fn read_alive_file<W: Directory>(
 
 /// The set that bytes have, where it says of this many documents which are alive, and as many are not as there are deletes.
 fn agreeing_set(bytes: OwnedBytes, max_doc: u32, deletes: DeleteMeta) -> Option<AliveBitSet>
-    ensures { MatchOption result (IsNoSuchSet max_doc (deletes_of deletes) bytes)
-        (λ alive. (set_of bytes ≡ Some alive) × AgreesWith max_doc (deletes_of deletes) alive) }
+    ensures { result ≡ alive_in max_doc (deletes_of deletes) bytes }
 {
     let Ok(alive) = AliveBitSet::open(bytes) else {
         return None;

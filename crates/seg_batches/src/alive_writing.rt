@@ -1,10 +1,11 @@
 //! The alive files of segments, in a directory.
-ghost use Rattle.std.specs.Prelude.{◌≡◌, ◌≢◌, true, map, Some, Err, IfOk, IsTrue, OnOk};
+ghost use Rattle.std.specs.Prelude.{◌≡◌, ◌≢◌, ◌∷◌, [], true, map, Some, Err, IfOk, IsTrue, OnOk};
 ghost use Rattle.seg_segment.specs.SegmentFiles.{AreAbsent, wrote};
 ghost use Rattle.seg_bits.specs.BitSets.{set_of};
 ghost use Rattle.seg_model.specs.Valid.{are_distinct};
 ghost use Rattle.seg_batches.specs.Calls.{Does};
-ghost use Rattle.seg_batches.specs.Segments.{AllTellAlive, TellsAlive, alive_file, alive_files, all_listed, deletes_of};
+ghost use Rattle.seg_batches.specs.AliveWriting.{WritesAlive};
+ghost use Rattle.seg_batches.specs.Segments.{AllTellAlive, alive_files, all_listed};
 
 use crate::written_segment::WrittenSegment;
 use seg_bits::{BitSet, write_alive_bitset};
@@ -23,6 +24,7 @@ pub fn write_alive_files<W: Directory>(
     directory: &mut W,
 ) -> TResult<()>
     requires distinct { are_distinct (map (λ s. s.id) segments.now) ≡ true }
+    ensures does { WritesAlive stamp segments.now result (W.state directory.old) (W.state directory.new) }
     ensures tell { IsTrue (W.state directory.old).tells → OnOk result
         (AllTellAlive (W.state directory.new).files stamp segments.now) }
     ensures fresh { IsTrue (W.state directory.old).tells
@@ -48,14 +50,7 @@ fn write_alive_file<W: Directory>(
     segment: &WrittenSegment,
     directory: &mut W,
 ) -> TResult<()>
-    ensures tells { IsTrue (W.state directory.old).tells → OnOk result
-        (TellsAlive (W.state directory.new).files segment.now.id segment.now.documents segment.now.alive (deletes_of stamp segment.now.alive)) }
-    ensures fresh { IsTrue (W.state directory.old).tells
-        → AreAbsent (alive_file segment.now.id (deletes_of stamp segment.now.alive)) (W.state directory.old).files
-        → result ≢ Err TantivyError.IndexAlreadyExists }
-    ensures calls { Does (wrote (alive_file segment.now.id (deletes_of stamp segment.now.alive))) (alive_file segment.now.id (deletes_of stamp segment.now.alive)) result
-        (W.state directory.old)
-        (W.state directory.new) }
+    ensures { WritesAlive stamp (segment.now ∷ []) result (W.state directory.old) (W.state directory.new) }
 {
     let Some(alive) = segment.alive() else {
         return Ok(());

@@ -1,12 +1,11 @@
 //! The segment of a batch, in memory.
-ghost use Rattle.std.specs.Prelude.{◌≡◌, ◌<◌, ◌+◌, ◌^◌, ◌⊎◌, [], true, map, length, Err, IfOk, IfErr, IfSome, OnOk};
-ghost use Rattle.std.specs.List.{list_all};
-ghost use Rattle.seg_model.specs.Built.{is_taken};
+ghost use Rattle.std.specs.Prelude.{◌≡◌, ◌<◌, ◌+◌, ◌^◌, ◌⊎◌, [], map, length, Some, IfOk, IfErr, OnOk};
 ghost use Rattle.seg_model.specs.Operations.{additions};
 ghost use Rattle.seg_build.specs.SegmentWriting.{IsOfSame, Writes};
 ghost use Rattle.seg_input.specs.View.{operation_of};
-ghost use Rattle.seg_build.specs.WriterStart.{IsStartError, start_refusal};
-ghost use Rattle.seg_batches.specs.Indexing.{HasAdditions, IsNotTaken, IsOfBatch, IsTaken, is_addition};
+ghost use Rattle.seg_build.specs.WriterStart.{start_refusal};
+ghost use Rattle.seg_batches.specs.Indexing.{AreOfBatch, HasAdditions, IsNotTaken, IsTaken, is_addition};
+ghost use Rattle.seg_batches.specs.Making.{Passes};
 ghost use Rattle.seg_refusals.specs.Refusals.{batch_error};
 
 use seg_build::{LEAST_BUDGET, MemorySegment, SegmentWriter};
@@ -28,10 +27,8 @@ pub(crate) fn index_batch<Z: Analyzers>(
 ) -> TResult<MemorySegment>
     requires places { first + length operations.now < 2 ^ 64 }
     requires fresh { Writes (Z.tokens_of writer.0) [] [] writer.1 }
-    ensures segment { IfOk result (IsOfBatch writer.entry.1.schema (Z.tokens_of writer.entry.0) first (map operation_of operations.now)) }
-    ensures few { OnOk result (length (additions (map operation_of operations.now)) < 2 ^ 31) }
-    ensures taken { OnOk result (list_all (is_taken writer.entry.1.schema (Z.tokens_of writer.entry.0)) (additions (map operation_of operations.now)) ≡ true) }
-    ensures err { IfErr result (λ e. (e ≡ TantivyError.OutOfMemory) ⊎ (batch_error writer.entry.1.schema (Z.tokens_of writer.entry.0) first (map operation_of operations.now) ≡ Some e)) }
+    ensures segment { IfOk result (λ s. AreOfBatch writer.entry.1.schema (Z.tokens_of writer.entry.0) first (map operation_of operations.now) s.files s.stamps.items) }
+    ensures passes { Passes (batch_error writer.entry.1.schema (Z.tokens_of writer.entry.0) first (map operation_of operations.now)) result }
 {
     if count_additions(operations) > MAX_DOCUMENTS {
         return Err(TantivyError::InvalidArgument(ArgumentCause::Documents));
@@ -115,9 +112,7 @@ pub(crate) fn new_writer<'a, Z: Analyzers>(
 ) -> TResult<SegmentWriter<'a, Z>>
     ensures unused { IfOk result (λ w. Writes (Z.tokens_of analyzers.now) [] [] w.1) }
     ensures of { IfOk result (λ w. (w.0 ≡ analyzers.now) × (w.1.schema ≡ schema.now)) }
-    ensures errors { IfErr result IsStartError }
-    ensures causes { IfErr result (λ e. (start_refusal (Z.knows analyzers.now) 15000 schema.now settings.now ≡ Some e)
-        ⊎ (e ≡ TantivyError.OutOfMemory)) }
+    ensures passes { Passes (start_refusal (Z.knows analyzers.now) 15000 schema.now settings.now) result }
 {
     let segment = Segment::new(schema.share(), SegmentMeta::new(id, 0, None));
     // A batch is kept whole, whatever it takes.

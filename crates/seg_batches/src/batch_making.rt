@@ -1,19 +1,17 @@
 //! The segment of a batch, and which of its documents later deletes leave.
-ghost use Rattle.std.specs.Prelude.{◌≡◌, ◌≤◌, ◌<◌, ◌+◌, ◌^◌, ◌⊎◌, ◌++◌, true, Some, List, length, map, take, IfOk, IfErr, OnOk};
-ghost use Rattle.std.specs.List.{enumerate_from, list_all};
-ghost use Rattle.std.specs.Option.{option_map};
-ghost use Rattle.seg_model.specs.Built.{is_taken};
+ghost use Rattle.std.specs.Prelude.{◌≡◌, ◌≤◌, ◌<◌, ◌+◌, ◌^◌, ◌++◌, true, List, length, map, take, IfOk};
+ghost use Rattle.std.specs.List.{enumerate_from};
 ghost use Rattle.seg_model.specs.Operations.{Operation, additions, alive_after};
-ghost use Rattle.seg_model.specs.Refused.{batch_refusal};
-ghost use Rattle.seg_removal.specs.Stamps.{addition_stamps, stamped_deletes};
+ghost use Rattle.seg_removal.specs.Stamps.{stamped_deletes};
 ghost use Rattle.seg_segment.specs.Built.{is_built_schema};
 ghost use Rattle.seg_segment.specs.Standing.{StandFor};
 ghost use Rattle.seg_input.specs.View.{operation_of};
 ghost use Rattle.seg_build.specs.WriterStart.{start_refusal};
 ghost use Rattle.seg_alive.specs.Applying.{IsTold};
 ghost use Rattle.seg_alive.specs.Laws.{as_operations};
-ghost use Rattle.seg_batches.specs.Making.{passed_below};
-ghost use Rattle.seg_refusals.specs.Refusals.{IsRefusal, build_error};
+ghost use Rattle.seg_batches.specs.Indexing.{AreOfBatch};
+ghost use Rattle.seg_batches.specs.Making.{Passes, passed_below};
+ghost use Rattle.seg_batches.specs.Writing.{batch_cause};
 
 use crate::batch_alive::alive_documents;
 use crate::batch_indexing::{index_batch, new_writer};
@@ -58,17 +56,13 @@ pub(crate) fn make_batch<Z: Analyzers>(
     requires passed { passed_below first (take cursor.old queue.old.operations) }
     ensures made { IfOk result (λ b. StandFor schema.now (Z.tokens_of analyzers.now) (additions (map operation_of operations.now)) b.files) }
     ensures number { IfOk result (λ b. (b.max_doc ≡ length (additions (map operation_of operations.now))) × (b.max_doc < 2 ^ 31)) }
-    ensures taken { OnOk result (list_all (is_taken schema.now (Z.tokens_of analyzers.now)) (additions (map operation_of operations.now)) ≡ true) }
     ensures alive { IfOk result (λ b. (before after : List Operation) → length before ≡ first
         → as_operations queue.old.operations ≡ stamped_deletes 0 (before ++ (map operation_of operations.now ++ after))
         → IsTold b.max_doc (alive_after schema.now (Z.tokens_of analyzers.now) (map operation_of operations.now) after) b.alive) }
     ensures queue { queue.new.operations ≡ queue.old.operations }
     ensures within { cursor.new ≤ queue.new.flushed }
     ensures passed { passed_below first (take cursor.new queue.new.operations) }
-    ensures errors { IfErr result (λ e. IsRefusal e ⊎ (e ≡ TantivyError.OutOfMemory)) }
-    ensures refused { IfErr result (λ e. (e ≡ TantivyError.OutOfMemory)
-        ⊎ (start_refusal (Z.knows analyzers.now) 15000 schema.now settings.now ≡ Some e)
-        ⊎ (option_map build_error (batch_refusal schema.now (Z.tokens_of analyzers.now) (enumerate_from first (map operation_of operations.now))) ≡ Some e)) }
+    ensures passes { Passes (batch_cause (start_refusal (Z.knows analyzers.now) 15000 schema.now settings.now) schema.now (Z.tokens_of analyzers.now) (enumerate_from first (map operation_of operations.now))) result }
 {
     let (files, stamps) = batch_files(alloc, schema, settings, analyzers, id, first, operations)?;
     let alive = alive_documents(alloc, schema, &files, first, &stamps, queue, cursor)?;
@@ -90,20 +84,15 @@ fn batch_files<Z: Analyzers>(
     operations: &[UserOperation<TantivyDocument>],
 ) -> TResult<(SegmentFiles, Vec<Opstamp>)>
     requires places { first + length operations.now < 2 ^ 64 }
-    ensures made { IfOk result (λ m. StandFor schema.now (Z.tokens_of analyzers.now) (additions (map operation_of operations.now)) m.0) }
-    ensures stamps { IfOk result (λ m. m.1.items ≡ addition_stamps first (map operation_of operations.now)) }
-    ensures few { OnOk result (length (additions (map operation_of operations.now)) < 2 ^ 31) }
-    ensures taken { OnOk result (list_all (is_taken schema.now (Z.tokens_of analyzers.now)) (additions (map operation_of operations.now)) ≡ true) }
-    ensures errors { IfErr result (λ e. IsRefusal e ⊎ (e ≡ TantivyError.OutOfMemory)) }
-    ensures refused { IfErr result (λ e. (e ≡ TantivyError.OutOfMemory)
-        ⊎ (start_refusal (Z.knows analyzers.now) 15000 schema.now settings.now ≡ Some e)
-        ⊎ (option_map build_error (batch_refusal schema.now (Z.tokens_of analyzers.now) (enumerate_from first (map operation_of operations.now))) ≡ Some e)) }
+    ensures made { IfOk result (λ m. AreOfBatch schema.now (Z.tokens_of analyzers.now) first (map operation_of operations.now) m.0 m.1.items) }
+    ensures passes { Passes (batch_cause (start_refusal (Z.knows analyzers.now) 15000 schema.now settings.now) schema.now (Z.tokens_of analyzers.now) (enumerate_from first (map operation_of operations.now))) result }
 {
-    let writer = new_writer(alloc, schema, settings, analyzers, id)?;
-    let MemorySegment {
-        files,
-        fields: _,
-        stamps,
-    } = index_batch(first, operations, writer)?;
-    Ok((files, stamps))
+    let writer = match new_writer(alloc, schema, settings, analyzers, id) {
+        Ok(writer) => writer,
+        Err(e) => return Err(e),
+    };
+    match index_batch(first, operations, writer) {
+        Ok(MemorySegment { files, stamps, .. }) => Ok((files, stamps)),
+        Err(e) => Err(e),
+    }
 }

@@ -1,24 +1,22 @@
 //! The segments of all batches, in a directory.
-ghost use Rattle.std.specs.Prelude.{◌≡◌, ◌≢◌, ◌+◌, ◌^◌, ◌<◌, ◌≤◌, ◌⊎◌, ◌∷◌, ◌++◌, [], true, Some, None, Err, length, map, take, slice_range, slice_get, unwrap_or, option_map, IfOk, IfErr, IsTrue, OnOk};
+ghost use Rattle.std.specs.Prelude.{◌≡◌, ◌≢◌, ◌+◌, ◌^◌, ◌<◌, ◌≤◌, ◌⊎◌, ◌∷◌, ◌++◌, [], true, Some, Err, length, map, take, slice_range, slice_get, unwrap_or, IfOk, IfErr, IsTrue, OnOk};
 ghost use Rattle.std.specs.List.{AllByRecursion, enumerate_from, list_all};
 ghost use Rattle.seg_alive.specs.Laws.{as_operations};
+ghost use Rattle.seg_directory.specs.Works.{Works};
 ghost use Rattle.seg_segment.specs.Built.{is_built_schema};
-ghost use Rattle.seg_segment.specs.Forms.{segment_forms};
-ghost use Rattle.seg_segment.specs.SegmentFiles.{AreAbsent, segment_names, wrote};
+ghost use Rattle.seg_segment.specs.SegmentFiles.{AreAbsent, write_steps};
 ghost use Rattle.seg_input.specs.View.{operation_of};
 ghost use Rattle.seg_build.specs.WriterStart.{start_refusal};
 ghost use Rattle.seg_model.specs.Built.{is_taken};
-ghost use Rattle.seg_model.specs.IndexOfFiles as index;
 ghost use Rattle.seg_model.specs.Operations.{Batch, additions, batches};
-ghost use Rattle.seg_model.specs.Refused.{batch_refusal, cut_from, first_of};
+ghost use Rattle.seg_model.specs.Checked.{first_of};
+ghost use Rattle.seg_model.specs.Refused.{batch_refusal, cut_from};
 ghost use Rattle.seg_model.specs.Valid.{are_distinct, cuts_fit};
-ghost use Rattle.seg_segment.specs.SegmentFiles.{HasFiles};
 ghost use Rattle.seg_removal.specs.Stamps.{stamped_deletes};
-ghost use Rattle.seg_batches.specs.Calls.{Does};
 ghost use Rattle.seg_batches.specs.Making.{passed_below};
-ghost use Rattle.seg_refusals.specs.Refusals.{IfRefusal, build_error};
+ghost use Rattle.seg_refusals.specs.Refusals.{IfRefusal};
 ghost use Rattle.seg_batches.specs.Segments.{AllStand, LacksSome, alive_of, segment_of, segments_of, six_files};
-ghost use Rattle.seg_batches.specs.Writing.{WritesBatches, batch_between};
+ghost use Rattle.seg_batches.specs.Writing.{MakesBatch, MakesBatches, WritesBatches, batch_between, batch_cause, batch_causes};
 
 use crate::batch_making::{MadeBatch, make_batch};
 use crate::delete_queue::delete_queue;
@@ -50,6 +48,10 @@ pub fn write_batches<Z: Analyzers, W: Directory>(
     requires cuts { cuts_fit (map operation_of operations.now) cuts.now ≡ true }
     requires ids { length ids.now ≡ length cuts.now + 1 }
     requires distinct { are_distinct ids.now ≡ true }
+    ensures does { MakesBatches (batch_causes (start_refusal (Z.knows analyzers.now) 15000 schema.now settings.now) schema.now (Z.tokens_of analyzers.now) cuts.now (map operation_of operations.now))
+        schema.now (Z.tokens_of analyzers.now) ids.now (batches schema.now (Z.tokens_of analyzers.now) cuts.now (map operation_of operations.now)) result
+        (W.state directory.old)
+        (W.state directory.new) }
     ensures segments { IfOk result (λ ws. ws.items ≡ segments_of ids.now (batches schema.now (Z.tokens_of analyzers.now) cuts.now (map operation_of operations.now))) }
     ensures few { OnOk result (AllByRecursion (λ (b : Batch). length b.documents < 2 ^ 31) (batches schema.now (Z.tokens_of analyzers.now) cuts.now (map operation_of operations.now))) }
     ensures taken { OnOk result (list_all (is_taken schema.now (Z.tokens_of analyzers.now)) (additions (map operation_of operations.now)) ≡ true) }
@@ -62,7 +64,7 @@ pub fn write_batches<Z: Analyzers, W: Directory>(
         (W.state directory.new) }
     ensures refused { IfErr result (IfRefusal (λ e.
         (start_refusal (Z.knows analyzers.now) 15000 schema.now settings.now ≡ Some e)
-        ⊎ (option_map build_error (first_of (batch_refusal schema.now (Z.tokens_of analyzers.now)) (cut_from 0 cuts.now (enumerate_from 0 (map operation_of operations.now)))) ≡ Some e))) }
+        ⊎ (first_of (batch_refusal schema.now (Z.tokens_of analyzers.now)) (cut_from 0 cuts.now (enumerate_from 0 (map operation_of operations.now))) ≡ Some e))) }
 {
     let mut queue = match delete_queue(alloc, operations) {
         Ok(queue) => queue,
@@ -133,20 +135,11 @@ fn write_batch<Z: Analyzers, W: Directory>(
     requires waits { as_operations queue.old.operations ≡ stamped_deletes 0 (map operation_of operations.now) }
     requires cursor { cursor.old ≤ queue.old.flushed }
     requires passed { passed_below first (take cursor.old queue.old.operations) }
-    ensures segment { IfOk result (λ s. s ≡ segment_of id (batch_between schema.now (Z.tokens_of analyzers.now) first end (map operation_of operations.now))) }
-    ensures few { OnOk result (length (additions (slice_range (map operation_of operations.now) first end)) < 2 ^ 31) }
-    ensures taken { OnOk result (list_all (is_taken schema.now (Z.tokens_of analyzers.now)) (additions (slice_range (map operation_of operations.now) first end)) ≡ true) }
-    ensures accepted { OnOk result (batch_refusal schema.now (Z.tokens_of analyzers.now) (enumerate_from first (slice_range (map operation_of operations.now) first end)) ≡ None) }
-    ensures stands { IsTrue (W.state directory.old).tells → OnOk result
-        (index.StandsFor segment_forms (W.state directory.new).files schema.now (Z.tokens_of analyzers.now) id (additions (slice_range (map operation_of operations.now) first end))) }
-    ensures fresh { IsTrue (W.state directory.old).tells → AreAbsent (segment_names id) (W.state directory.old).files
-        → result ≢ Err TantivyError.IndexAlreadyExists }
-    ensures calls { WritesBatches (id ∷ []) result
+    ensures does { MakesBatch (batch_cause (start_refusal (Z.knows analyzers.now) 15000 schema.now settings.now) schema.now (Z.tokens_of analyzers.now) (enumerate_from first (slice_range (map operation_of operations.now) first end)))
+        schema.now (Z.tokens_of analyzers.now) id (batch_between schema.now (Z.tokens_of analyzers.now) first end (map operation_of operations.now)) result
         (W.state directory.old)
         (W.state directory.new) }
-    ensures refused { IfErr result (IfRefusal (λ e.
-        (start_refusal (Z.knows analyzers.now) 15000 schema.now settings.now ≡ Some e)
-        ⊎ (option_map build_error (batch_refusal schema.now (Z.tokens_of analyzers.now) (enumerate_from first (slice_range (map operation_of operations.now) first end))) ≡ Some e))) }
+    ensures segment { IfOk result (λ s. s ≡ segment_of id (batch_between schema.now (Z.tokens_of analyzers.now) first end (map operation_of operations.now))) }
     ensures queue { queue.new.operations ≡ queue.old.operations }
     ensures within { cursor.new ≤ queue.new.flushed }
     ensures passed { passed_below first (take cursor.new queue.new.operations) }
@@ -179,12 +172,7 @@ fn write_made<W: Directory>(
     requires few { made.max_doc < 2 ^ 31 }
     requires set { LacksSome made.max_doc made.alive }
     ensures segment { IfOk result (λ s. s ≡ record { id = id; documents = made.max_doc; alive = alive_of made.max_doc made.alive }) }
-    ensures files { IsTrue (W.state directory.old).tells → OnOk result (HasFiles (W.state directory.new).files id made.files) }
-    ensures fresh { IsTrue (W.state directory.old).tells → AreAbsent (segment_names id) (W.state directory.old).files
-        → result ≢ Err TantivyError.IndexAlreadyExists }
-    ensures calls { Does (wrote (segment_names id)) (segment_names id) result
-        (W.state directory.old)
-        (W.state directory.new) }
+    ensures works { Works (write_steps id made.files) result (W.state directory.old) (W.state directory.new) }
 {
     let MadeBatch {
         files,

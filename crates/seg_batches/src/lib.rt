@@ -7,8 +7,8 @@
 //! under the stamp of the meta that lists it.
 //!
 //! To be read in this order: `delete_queue`, `batch_indexing`, `batch_alive`, `batch_making` (one batch, in memory);
-//! `written_segment`, `batches_writing`, `alive_writing`, `listing` (all of them, in a directory); `reading_back`,
-//! `alive_reading`, `read_segment`, `segments_reading` (and back).
+//! `written_segment`, `batches_writing`, `alive_writing`, `listing` (all of them, in a directory); `alive_reading`,
+//! `read_segment`, `segments_reading` (and back).
 #![tactic(auto)]
 
 mod alive_reading;
@@ -20,7 +20,6 @@ mod batches_writing;
 mod delete_queue;
 mod listing;
 mod read_segment;
-mod reading_back;
 mod segments_reading;
 mod written_segment;
 

@@ -1,14 +1,14 @@
 //! Segments, read back.
-ghost use Rattle.std.specs.Prelude.{◌≡◌, ◌<◌, ◌∷◌, ◌++◌, [], true, vec_len, vec_capacity, Ok, Err, IfOk, IfErr, OnOk};
+ghost use Rattle.std.specs.Prelude.{◌≡◌, ◌<◌, ◌∷◌, ◌++◌, [], true, vec_len, vec_capacity, Ok, Err, IfErr, OnOk};
 ghost use Rattle.seg_segment.specs.Built.{is_built_schema};
 ghost use Rattle.seg_join.specs.KeptSegment.{KeptSegment};
-ghost use Rattle.seg_batches.specs.Reading.{ReadsSegment, ReadsUpTo, StopsInSegment};
+ghost use Rattle.seg_batches.specs.Reading.{ReadsSegment, ReadsSegments, seen_as};
 
 use crate::alive_reading::read_deletes;
 use crate::read_segment::ReadSegment;
-use crate::reading_back::read_back;
 use seg_directory::Directory;
-use seg_meta::SegmentMeta;
+use seg_meta::{Segment, SegmentMeta};
+use seg_open::SegmentReader;
 use seg_values::{Schema, TResult, TantivyError};
 use std::alloc::Global;
 
@@ -24,12 +24,9 @@ pub fn read_segments<W: Directory>(
     directory: &mut W,
 ) -> TResult<Vec<ReadSegment>>
     requires built { is_built_schema schema.now ≡ true }
-    ensures read { IfOk result (λ read. ReadsUpTo schema.now segments.now (Ok read.items)
+    ensures { ReadsSegments schema.now segments.now (seen_as (λ read. read.items) result)
         (W.state directory.old)
-        (W.state directory.new)) }
-    ensures stops { IfErr result (λ e. ReadsUpTo schema.now segments.now (Err e)
-        (W.state directory.old)
-        (W.state directory.new)) }
+        (W.state directory.new) }
 {
     let mut read = Vec::new(alloc);
     for segment in segments {
@@ -50,16 +47,16 @@ fn read_next<W: Directory>(
     read: &mut Vec<ReadSegment>,
 ) -> TResult<()>
     requires built { is_built_schema schema.now ≡ true }
-    ensures read { OnOk result ((next : KeptSegment) × (read.new.items ≡ read.old.items ++ next ∷ []) × ReadsSegment schema.now segment.now next
+    ensures read { OnOk result ((next : KeptSegment) × (read.new.items ≡ read.old.items ++ next ∷ []) × ReadsSegment schema.now segment.now (Ok next)
         (W.state directory.old)
         (W.state directory.new)) }
-    ensures stops { IfErr result (λ e. StopsInSegment schema.now segment.now e
+    ensures stops { IfErr result (λ e. ReadsSegment schema.now segment.now (Err e)
         (W.state directory.old)
         (W.state directory.new)) }
 {
-    if read.reserve(1).is_err() {
+    let Ok(()) = read.reserve(1) else {
         return Err(TantivyError::OutOfMemory);
-    }
+    };
     match read_segment(alloc, schema, segment, directory) {
         Ok(next) => {
             keep(next, read);
@@ -79,7 +76,7 @@ fn keep(segment: ReadSegment, read: &mut Vec<ReadSegment>)
     }
 }
 
-/// Reads a segment.
+/// Reads a segment: its six files, and after them its alive file.
 fn read_segment<W: Directory>(
     alloc: Global,
     schema: &Schema,
@@ -87,16 +84,12 @@ fn read_segment<W: Directory>(
     directory: &mut W,
 ) -> TResult<ReadSegment>
     requires built { is_built_schema schema.now ≡ true }
-    ensures read { IfOk result (λ read. ReadsSegment schema.now segment.now read
-        (W.state directory.old)
-        (W.state directory.new)) }
-    ensures stops { IfErr result (λ e. StopsInSegment schema.now segment.now e
-        (W.state directory.old)
-        (W.state directory.new)) }
+    ensures { ReadsSegment schema.now segment.now result (W.state directory.old) (W.state directory.new) }
 {
     let id = segment.id();
     let max_doc = segment.max_doc();
-    let reader = match read_back(alloc, schema, id, max_doc, directory) {
+    let listed = Segment::new(schema.share(), *segment);
+    let reader = match SegmentReader::open(alloc, &listed, directory) {
         Ok(reader) => reader,
         Err(e) => return Err(e),
     };

@@ -1,13 +1,16 @@
 -- The values of a document in fields that are indexed.
 use Rattle.std.proofs.Common.{◌≡◌, ℕ, Bool, true, false, cond, [], ◌∷◌, map, Some, None, Option, sym, refl, ap, ◌∙◌, inl, inr, ◌⊎◌}
-use Rattle.std.specs.Prelude.{filter, nat_eq}
+use Rattle.std.specs.Prelude.{filter, nat_eq, ◌&&◌}
 use Rattle.std.specs.List.{slice_get}
 use Rattle.std.proofs.lemmas.Bool.{false≢true}
 use Rattle.std.proofs.lemmas.Bool.Decides.{eqb_tells}
 use Rattle.seg_values.specs.declared.schema.FieldEntry.{FieldEntry}
 use Rattle.seg_values.specs.Tree.{Tree, Document}
-use Rattle.seg_model.specs.Fields.{Schema, is_indexed, is_field, values_of}
+use Rattle.seg_model.specs.Fields.{Schema, is_indexed, is_text, is_field, values_of}
+use Rattle.seg_check.specs.Texts.{is_text_field, text_part}
+use Rattle.seg_segment.specs.Built.{is_built_schema}
 use Rattle.seg_build.specs.Steps.{indexed_part}
+use Rattle.seg_segment.proofs.BuiltEntries.{text_entry_at}
 
 pub either : (b : Bool) → (b ≡ true) ⊎ (b ≡ false)
 either true = inl refl
@@ -50,14 +53,6 @@ module _ (schema : Schema) where
       | inr is ↦ ap (values_of k) (part-passed p ps is)
     ]
 
-    -- none of another field is
-    pub values_left : (ps : Document) → is_indexed e ≡ false → values_of k (indexed_part schema ps) ≡ []
-    values_left [] off = refl
-    values_left (p ∷ ps) off = elim (eqb_tells k p.0) [
-      | inl h ↦ ap (values_of k) (part-passed p ps (own_test p h.1 ∙ off)) ∙ values_left ps off
-      | inr h ↦ values_past p ps h.0 ∙ values_left ps off
-    ]
-
     -- all values of an indexed field are among them
     pub values_kept : (ps : Document) → is_indexed e ≡ true → values_of k (indexed_part schema ps) ≡ values_of k ps
     values_kept [] on = refl
@@ -72,4 +67,16 @@ module _ (schema : Schema) where
     values_dropped (p ∷ ps) off = elim (eqb_tells k p.0) [
       | inl h ↦ ap (values_of k) (part-passed p ps (own_test p h.1 ∙ off)) ∙ values_dropped ps off
       | inr h ↦ values_past p ps h.0 ∙ values_dropped ps off
+    ]
+
+-- where fields are built, the pairs in indexed fields are those in indexed text fields
+pub text_part-built : (schema : Schema) → is_built_schema schema ≡ true → (ps : Document) → text_part schema ps ≡ indexed_part schema ps
+text_part-built schema built [] = refl
+text_part-built schema built (p ∷ ps) = λ i. cond (same (slice_get schema p.0) refl i) (p ∷ text_part-built schema built ps i) (text_part-built schema built ps i)
+  where
+    same : (o : Option FieldEntry) → slice_get schema p.0 ≡ o → is_field is_text_field o ≡ is_field is_indexed o
+    same None at = refl
+    same (Some e) at = elim (either (is_indexed e)) [
+      | inl on ↦ ap (λ b. b && is_text e.kind) on ∙ ap is_text (text_entry_at schema p.0 e built at on).kind ∙ sym on
+      | inr off ↦ ap (λ b. b && is_text e.kind) off ∙ sym off
     ]

@@ -15,22 +15,22 @@ use Rattle.seg_model.specs.StoredForm.{stored_form}
 use Rattle.seg_store.specs.BlockLaw.{AreTakenLast}
 use Rattle.seg_store.specs.Writing.{taken_count}
 use Rattle.seg_segment.specs.Built.{is_built_schema}
-use Rattle.seg_build.specs.Checking.{text_count, text_in, text_of, with_texts, document_texts}
+use Rattle.seg_check.specs.Texts.{text_in, text_of, document_texts}
+use Rattle.seg_check.specs.declared.field_text.FieldText.{FieldText}
 use Rattle.seg_build.specs.Kept.{Kept}
 use Rattle.seg_build.specs.Field.{count_in}
 use Rattle.seg_build.specs.Lengths.{HaveLengths, with_lengths}
-use Rattle.seg_build.specs.MemoryUsage.{total, occurrence_count}
+use Rattle.seg_build.specs.MemoryUsage.{total, occurrence_count, text_count}
 use Rattle.seg_build.specs.SegmentWriting.{kept_of, Stores, IsKeptOf, IsUnderWay, HasPlace, Adds, HasRoom, HasTaken}
-use Rattle.seg_build.specs.Steps.{fresh, indexed_part, with_documents, with_pairs}
-use Rattle.seg_build.specs.declared.field_text.FieldText.{FieldText}
+use Rattle.seg_build.specs.Steps.{fresh, indexed_part, with_documents, with_pairs, with_texts}
 use Rattle.seg_build.specs.declared.writer_parts.WriterParts.{WriterParts}
 use Rattle.seg_segment.proofs.BuiltEntries.{both_true}
-use Rattle.seg_build.proofs.Checks.{passed}
 use Rattle.seg_build.proofs.Fitting.{and_true}
 use Rattle.seg_build.proofs.KeptLengths.{fields_turn, tokens_in, lengths_turn}
+use Rattle.seg_build.proofs.IndexedParts.{text_part-built}
 use Rattle.seg_build.proofs.StoringDocuments.{HasStored, shallow_taken, stored_turn}
-use Rattle.seg_build.proofs.TextSteps.{with_texts-pairs}
-use Rattle.seg_build.proofs.Turns.{take-front}
+use Rattle.seg_build.proofs.Taken.{passed}
+use Rattle.seg_build.proofs.TextSteps.{texts-pairs}
 use Rattle.seg_build.proofs.MemoryTaken.{total-last, occurring, all_occurring}
 use Rattle.seg_build.proofs.TextCounts.{all_added, none_counted, texts_within}
 use Rattle.seg_build.proofs.Whole.{all_more, all_fresh, length-with_documents}
@@ -48,6 +48,14 @@ get_or-last (y ∷ ys) x = get_or-last ys x
 take-all : {X : Type 0} (xs : List X) → take (length xs) xs ≡ xs
 take-all [] = refl
 take-all (x ∷ xs) = ap (λ l. x ∷ l) (take-all xs)
+
+-- a list whose front is written anew, as long as it was
+take-front : {X : Type 0} (xs rest : List X) (n : ℕ) → length xs ≡ n → take n (xs ++ rest) ≡ xs
+take-front {X} xs rest n many = ap (λ m. take m (xs ++ rest)) (sym many) ∙ all xs
+  where
+    all : (ys : List X) → take (length ys) (ys ++ rest) ≡ ys
+    all [] = refl
+    all (y ∷ ys) = ap (λ l. y ∷ l) (all ys)
 
 all-last : {X : Type 0} (test : X → Bool) (xs : List X) (x : X) → list_all test xs ≡ true → test x ≡ true → list_all test (xs ++ x ∷ []) ≡ true
 all-last test [] x h t = and_true (test x) true t refl
@@ -103,8 +111,11 @@ module _ (schema : Schema) (analyzer : Analyzer) (entries : is_built_schema sche
     abbrev texts : List (ℕ × List Token)
     texts = map (text_in d) found
 
+    texts_are : texts ≡ map (text_of schema analyzer) (indexed_part schema d)
+    texts_are = found_are ∙ ap (map (text_of schema analyzer)) (text_part-built schema entries d)
+
     places : map (λ (t : FieldText). t.field) found ≡ map (λ (p : ℕ × Tree). p.0) (indexed_part schema d)
-    places = in_texts found ∙ ap (map (λ (t : ℕ × List Token). t.0)) found_are ∙ in_pairs (indexed_part schema d)
+    places = in_texts found ∙ ap (map (λ (t : ℕ × List Token). t.0)) texts_are ∙ in_pairs (indexed_part schema d)
       where
         in_texts : (ts : List FieldText) → map (λ (t : FieldText). t.field) ts ≡ map (λ (t : ℕ × List Token). t.0) (map (text_in d) ts)
         in_texts [] = refl
@@ -118,7 +129,7 @@ module _ (schema : Schema) (analyzer : Analyzer) (entries : is_built_schema sche
     now = are.fields ∙ ap (with_documents schema analyzer 0 (map (λ _. fresh) schema)) (sym before)
 
     after : new.fields ≡ with_pairs schema analyzer many old.fields (indexed_part schema d)
-    after = took.fields ∙ ap (λ n. with_texts n old.fields texts) count ∙ ap (with_texts many old.fields) found_are ∙ with_texts-pairs schema analyzer many old.fields d
+    after = took.fields ∙ ap (λ n. with_texts n old.fields texts) count ∙ ap (with_texts many old.fields) texts_are ∙ texts-pairs schema analyzer many old.fields (indexed_part schema d)
 
     here : drop many all ≡ d ∷ drop (many + 1) all
     here = drop-front documents d
@@ -150,7 +161,7 @@ module _ (schema : Schema) (analyzer : Analyzer) (entries : is_built_schema sche
     counted_as : text_count texts ≡ occurrence_count schema analyzer d
     counted_as =
         let put : new.fields ≡ with_texts many old.fields texts = took.fields ∙ ap (λ n. with_texts n old.fields texts) count in
-        let within_fields = subst (AllByRecursion (λ t. t.0 < length schema)) (sym found_are) (texts_within schema analyzer d) in
+        let within_fields = subst (AllByRecursion (λ t. t.0 < length schema)) (sym texts_are) (texts_within schema analyzer d) in
         let sum = all_added many (length schema) old.fields texts as_many_before within_fields in
         omega (arith, ap (total (count_in many)) put, sum, none_before, recorded)
 

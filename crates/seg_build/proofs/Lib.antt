@@ -1,7 +1,6 @@
 pub mod Added
-pub mod Advancing
-pub mod Checks
 pub mod Filled
+pub mod Finalized
 pub mod Fitting
 pub mod Grouping
 pub mod Growing
@@ -12,10 +11,10 @@ pub mod KeptBatch
 pub mod KeptLengths
 pub mod MemoryTaken
 pub mod NoColumns
+pub mod NoFast
 pub mod NormParts
-pub mod Passing
 pub mod Places
-pub mod Restarted
+pub mod Refused
 pub mod Rising
 pub mod RecordedTerms
 pub mod RecordedLengths
@@ -25,10 +24,10 @@ pub mod Sorting
 pub mod Sound
 pub mod Standing
 pub mod StoringDocuments
+pub mod Taken
 pub mod TextSteps
 pub mod TextCounts
 pub mod Totals
-pub mod Turns
 pub mod Whole
 pub mod WritableTerms
 pub mod WrittenFields

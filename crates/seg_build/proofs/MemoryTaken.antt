@@ -23,7 +23,7 @@ use Rattle.seg_build.specs.SegmentWriting.{Stores, IsKeptOf}
 use Rattle.seg_build.specs.Steps.{indexed_part}
 use Rattle.seg_build.specs.declared.field.FieldPostings.{FieldPostings}
 use Rattle.seg_segment.proofs.BuiltEntries.{text_entry_at}
-use Rattle.seg_build.proofs.IndexedParts.{either, values_kept, values_left}
+use Rattle.seg_build.proofs.IndexedParts.{either, values_kept, values_dropped}
 use Rattle.seg_build.proofs.KeptLengths.{HasTokens}
 use Rattle.seg_build.proofs.Places.{some_same, texts_of}
 
@@ -51,7 +51,7 @@ module _ (schema : Schema) (analyzer : Analyzer) (d : Document) where
             ∙ ap (λ b. cond {A = List Occurrence} b (kind_occurrences e.kind e.expand_dots analyze (values_of k d)) []) on
             ∙ ap (λ kind. kind_occurrences kind e.expand_dots analyze (values_of k d)) (text_entry_at schema k e entries at_e on).kind))
         | inr off ↦
-            ap (λ vs. count_of (map (value_tokens analyze) vs)) (values_left schema k e at_e d off)
+            ap (λ vs. count_of (map (value_tokens analyze) vs)) (values_dropped schema k e at_e d off)
             ∙ ap length (sym (
             ap (occurrences_at analyzer d k) at_e
             ∙ ap (λ b. cond {A = List Occurrence} b (kind_occurrences e.kind e.expand_dots analyze (values_of k d)) []) off))

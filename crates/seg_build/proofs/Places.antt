@@ -11,7 +11,8 @@ use Rattle.seg_model.specs.Fields.{Schema, Analyzer, indexing_tokenizer, values_
 use Rattle.seg_model.specs.Occurrences.{counted, start_after, start_after_all, value_tokens, placed_from, text_occurrences}
 use Rattle.seg_build.specs.Adding.{with_occurrences}
 use Rattle.seg_build.specs.Field.{start_in, count_in, added}
-use Rattle.seg_build.specs.Steps.{tokens_at, added_at, with_pair, with_pairs}
+use Rattle.seg_check.specs.Texts.{tokens_at}
+use Rattle.seg_build.specs.Steps.{added_at, with_pair, with_pairs}
 use Rattle.seg_build.specs.declared.field.FieldPostings.{FieldPostings}
 use Rattle.seg_build.proofs.Growing.{with_occurrences-append}
 use Rattle.seg_build.proofs.Rising.{reach-ge}

@@ -8,7 +8,7 @@ use Rattle.seg_model.specs.Fields.{Schema, Analyzer}
 use Rattle.seg_model.specs.Checked.{IsSound}
 use Rattle.seg_segment.specs.Built.{is_built_schema, are_built}
 use Rattle.seg_segment.proofs.BuiltEntries.{both_true}
-use Rattle.seg_build.proofs.Checks.{passed}
+use Rattle.seg_build.proofs.Taken.{passed}
 
 module _ (schema : Schema) (analyzer : Analyzer) where
   sound_document : (d : Document) → is_taken schema analyzer d ≡ true → IsUtf8Document d → IsSound schema d

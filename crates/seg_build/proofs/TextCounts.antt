@@ -9,12 +9,12 @@ use Rattle.seg_values.specs.declared.schema.FieldEntry.{FieldEntry}
 use Rattle.seg_values.specs.Tree.{Document}
 use Rattle.seg_model.specs.Fields.{Schema, Analyzer, is_indexed, is_field}
 use Rattle.seg_model.specs.Occurrences.{counted}
-use Rattle.seg_build.specs.Checking.{text_in, text_of, text_count, document_texts, with_texts}
+use Rattle.seg_check.specs.Texts.{text_in, text_of}
+use Rattle.seg_check.specs.declared.field_text.FieldText.{FieldText}
 use Rattle.seg_build.specs.Field.{count_in, added}
-use Rattle.seg_build.specs.MemoryUsage.{total, saturated}
-use Rattle.seg_build.specs.Steps.{added_at}
+use Rattle.seg_build.specs.MemoryUsage.{total, saturated, text_count}
+use Rattle.seg_build.specs.Steps.{added_at, indexed_part, with_texts}
 use Rattle.seg_build.specs.declared.field.FieldPostings.{FieldPostings}
-use Rattle.seg_build.specs.declared.field_text.FieldText.{FieldText}
 use Rattle.seg_build.proofs.Fitting.{element_at}
 use Rattle.seg_build.proofs.IndexedParts.{either, part-kept, part-passed, indexed_pair}
 use Rattle.seg_build.proofs.KeptLengths.{HasTokens}
@@ -77,7 +77,7 @@ module _ (id : ℕ) where
       omega (arith, here, rest)
 
 -- the texts of a document are of fields of the schema
-pub texts_within : (schema : Schema) (analyzer : Analyzer) (ps : Document) → AllByRecursion (λ t. t.0 < length schema) (document_texts schema analyzer ps)
+pub texts_within : (schema : Schema) (analyzer : Analyzer) (ps : Document) → AllByRecursion (λ t. t.0 < length schema) (map (text_of schema analyzer) (indexed_part schema ps))
 texts_within schema analyzer [] = tt
 texts_within schema analyzer (p ∷ ps) = elim (either (is_field is_indexed (slice_get schema p.0))) [
   | inl is ↦

@@ -18,7 +18,8 @@ use Rattle.seg_build.specs.Adding.{with_occurrences}
 use Rattle.seg_segment.specs.Built.{is_built_schema}
 use Rattle.seg_build.specs.Field.{start_in, count_in}
 use Rattle.seg_build.specs.FieldTerms.{positional, positional_terms}
-use Rattle.seg_build.specs.Steps.{fresh, tokens_at, added_at, with_pair, with_pairs, with_documents, indexed_part}
+use Rattle.seg_check.specs.Texts.{tokens_at}
+use Rattle.seg_build.specs.Steps.{fresh, added_at, with_pair, with_pairs, with_documents, indexed_part}
 use Rattle.seg_build.specs.declared.field.FieldPostings.{FieldPostings}
 use Rattle.seg_segment.proofs.BuiltEntries.{IsTextEntry, text_entry_at}
 use Rattle.seg_build.proofs.Growing.{terms_of-push}

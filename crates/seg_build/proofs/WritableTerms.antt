@@ -29,11 +29,13 @@ use Rattle.seg_build.specs.Entries.{TermEntries}
 use Rattle.seg_build.specs.FieldTerms.{positional}
 use Rattle.seg_build.specs.Writable.{PositionsCanBeWritten, BuiltTermsCanBeWritten}
 use Rattle.seg_segment.proofs.BuiltEntries.{IsTextEntry, both_true, text_entry_at}
-use Rattle.seg_build.proofs.Checks.{for_one_field, bounded_from, passed}
-use Rattle.seg_build.proofs.Fitting.{both_none, none_unless, positions_refusal-text}
+use Rattle.seg_check.proofs.FieldsFit.{for_one_field}
+use Rattle.seg_model.proofs.FirstAnswers.{or_both, unless_true}
+use Rattle.seg_build.proofs.Fitting.{positions_refusal-text}
 use Rattle.seg_build.proofs.Places.{some_same, start_after_all-ge, texts_of, texts_of-taken, texts_of-passed}
 use Rattle.seg_build.proofs.RecordedTerms.{option_of_text, no_terms_of}
 use Rattle.seg_build.proofs.Rising.{rises, rises-first, reach-ge}
+use Rattle.seg_build.proofs.Taken.{bounded, passed}
 use Rattle.seg_build.proofs.Whole.{occurrences-text}
 
 -- ---- positions that rise
@@ -113,13 +115,13 @@ module _ (schema : Schema) (analyzer : Analyzer) (k : ℕ) (e : FieldEntry) (at_
   rising_texts : (ps : Document) → order_refusal schema analyzer ps ≡ None → AllRising (texts_of analyzer e k ps)
   rising_texts [] none = tt
   rising_texts (p ∷ ps) none =
-      let two = both_none (positions_refusal analyzer p.1 (slice_get schema p.0)) (order_refusal schema analyzer ps) none in
+      let two = or_both (positions_refusal analyzer p.1 (slice_get schema p.0)) (order_refusal schema analyzer ps) none in
       let v = value_tokens (analyzer (indexing_tokenizer e)) p.1 in
       let rest = rising_texts ps two.1 in
       elim (eqb_tells k p.0) [
         | inl h ↦
             let refusal : unless (is_rising (counted v) && true) positions_fall ≡ None = sym (positions_refusal-text analyzer p.1 e text) ∙ ap (positions_refusal analyzer p.1) (sym (ap (slice_get schema) (sym h.1) ∙ at_e)) ∙ two.0 in
-            let rising = (both_true (is_rising (counted v)) true (none_unless _ positions_fall refusal)).0 in
+            let rising = (both_true (is_rising (counted v)) true (unless_true _ positions_fall refusal)).0 in
             subst AllRising (sym (texts_of-taken analyzer e k p ps h.0)) (rising, rest)
         | inr h ↦ subst AllRising (sym (texts_of-passed analyzer e k p ps h.0)) rest
       ]
@@ -128,11 +130,10 @@ module _ (schema : Schema) (analyzer : Analyzer) (k : ℕ) (e : FieldEntry) (at_
   taken_fits ps taken =
       let vs = texts_of analyzer e k ps in
       let h = passed schema analyzer ps taken in
-      let bounded = bounded_from analyzer k e ps text (for_one_field (field_fits analyzer ps) schema h.fit k e at_e) in
-      let low : start_after_all 0 vs < 2 ^ 32 = bounded.start in
-      let few : count_of vs < 2 ^ 32 = let b = bounded.count in omega (arith, b) in
+      let bounds = bounded analyzer k e ps text (for_one_field (field_fits analyzer ps) schema h.fit k e at_e) in
+      let few : count_of vs < 2 ^ 32 = bounds.count in
       let many : length (text_occurrences 0 vs) ≡ count_of vs = many_occur 0 vs in
-      subst Fit (sym (occurrences-text schema analyzer k e at_e ps text)) (record { rising = rise_texts 0 0 vs (rising_texts ps h.order) (omega arith) low; few = omega (arith, few, many) })
+      subst Fit (sym (occurrences-text schema analyzer k e at_e ps text)) (record { rising = rise_texts 0 0 vs (rising_texts ps h.order) (omega arith) bounds.end; few = omega (arith, few, many) })
 
   all_fit : (ds : List Document) → list_all (is_taken schema analyzer) ds ≡ true → AllByRecursion Fit (map (λ d. occurrences schema analyzer d k) ds)
   all_fit [] h = tt

@@ -1,14 +1,12 @@
 -- Hits that are written run by run.
-use Rattle.std.proofs.Common.{◌≡◌, ℕ, suc, ◌+◌, ◌-◌, ◌<◌, ◌≤◌, ◌^◌, List, [], ◌∷◌, ◌++◌, map, length, take, drop, Some, None, Option, sym, refl, ap, ◌∙◌, subst, arith, append_assoc}
+use Rattle.std.proofs.Common.{◌≡◌, ℕ, ◌+◌, ◌-◌, ◌<◌, ◌≤◌, ◌^◌, List, [], ◌∷◌, ◌++◌, map, length, take, drop, Some, None, Option, sym, refl, ap, ◌∙◌, subst, arith, append_assoc}
 use Rattle.std.specs.Prelude.{slice_index, option_map, IfSome, IsSomeAnd}
-use Rattle.std.specs.List.{fold, sum}
 use Rattle.std.proofs.lemmas.List.{length-map}
 use Rattle.seg_common.specs.Growing.{HasGrown}
 use Rattle.seg_model.specs.Reading.{positions, Posting}
 use Rattle.seg_postings.specs.declared.record_kind.RecordKind.{RecordKind}
 use Rattle.seg_postings.specs.declared.record_kind.RecordKind.TheVariants.{Positions}
 use Rattle.seg_postings.specs.FieldWriting.{TermWritten, FieldWriting, with_document, in_document, next_document, HasPositions, MayOccur}
-use Rattle.seg_postings.specs.PostingsForm.{differences, from_differences}
 use Rattle.seg_postings.specs.Written.{Rise, IsOfKind, AreWritable, recorded_as}
 use Rattle.seg_build.specs.declared.hits.Hit.{Hit}
 use Rattle.seg_build.specs.FieldTerms.{kept_as, postings_as}
@@ -16,25 +14,6 @@ use Rattle.seg_build.specs.Grouped.{grouped}
 use Rattle.seg_build.specs.Runs.{IsFirstRun}
 use Rattle.seg_build.specs.TermsWritten.{with_posting, with_postings, IsUnused, TakesDocument}
 use Rattle.seg_build.proofs.Places.{some_same}
-
--- ---- differences of positions that rise
-
-made_back : (before : ℕ) (ps : List ℕ) → Rise before ps → from_differences before (differences before ps) ≡ ps
-made_back before [] h = refl
-made_back before (p ∷ ps) (behind, small, rest) =
-    let e : before + (p - before) ≡ p = omega (arith, behind) in
-    ap (λ x. x ∷ from_differences x (differences p ps)) e ∙ ap (λ l. p ∷ l) (made_back p ps rest)
-
-as_many : (before : ℕ) (ps : List ℕ) → length (differences before ps) ≡ length ps
-as_many before [] = refl
-as_many before (p ∷ ps) = ap suc (as_many p ps)
-
--- the sum of the differences is the last position
-sum_low : (before : ℕ) (ps : List ℕ) → before < 2 ^ 32 → Rise before ps → fold ◌+◌ before (differences before ps) < 2 ^ 32
-sum_low before [] low h = low
-sum_low before (p ∷ ps) low (behind, small, rest) =
-    let e : before + (p - before) ≡ p = omega (arith, behind) in
-    subst (λ x. fold ◌+◌ x (differences p ps) < 2 ^ 32) (sym e) (sum_low p ps small rest)
 
 -- ---- the hits in one document
 
@@ -60,15 +39,15 @@ are_placed run (ps, some, few, rise, is) =
     record { some = omega (arith, some, many); rise = subst (Rise 0) same rise }
 
 -- a document with the positions of these hits
-module _ (kind : RecordKind) (keeps : kind ≡ Positions) (d : ℕ) (run : List Hit) (kept : IsOfKind kind (kept_as kind (positions (placed run)))) (count : ℕ) (many : count ≡ length run) (ds : List ℕ) (are : ds ≡ differences 0 (placed run)) where
+module _ (kind : RecordKind) (keeps : kind ≡ Positions) (d : ℕ) (run : List Hit) (kept : IsOfKind kind (kept_as kind (positions (placed run)))) (count : ℕ) (many : count ≡ length run) (ds : List ℕ) (are : ds ≡ placed run) where
   places : ArePlaced run
   places = are_placed run (subst (λ (k : RecordKind). IsOfKind k (kept_as k (positions (placed run)))) keeps kept)
 
   counted : HasPositions Positions count ds
-  counted = ap length are ∙ as_many 0 (placed run) ∙ length-map run (λ (h : Hit). h.position) ∙ sym many
+  counted = ap length are ∙ length-map run (λ (h : Hit). h.position) ∙ sym many
 
   recorded : recorded_as Positions count ds ≡ kept_as kind (positions (placed run))
-  recorded = ap (λ xs. positions (from_differences 0 xs)) are ∙ ap positions (made_back 0 (placed run) places.rise) ∙ ap (λ (k : RecordKind). kept_as k (positions (placed run))) (sym keeps)
+  recorded = ap positions are ∙ ap (λ (k : RecordKind). kept_as k (positions (placed run))) (sym keeps)
 
   may : (t : TermWritten) → TakesDocument kind d t → MayOccur d count ds t
   may t takes = record {
@@ -76,7 +55,7 @@ module _ (kind : RecordKind) (keeps : kind ≡ Positions) (d : ℕ) (run : List 
     limit = takes.limit;
     some = let some = places.some in omega (arith, some, many);
     counted = subst (λ (k : RecordKind). HasPositions k count ds) (sym (takes.keeps ∙ keeps)) counted;
-    low = subst (λ xs. sum xs < 2 ^ 32) (sym are) (sum_low 0 (placed run) (omega arith) places.rise);
+    rise = subst (Rise 0) (sym are) places.rise;
   }
 
   may_current : (c : Option TermWritten) → IsSomeAnd c (TakesDocument kind d) → IsSomeAnd c (MayOccur d count ds)

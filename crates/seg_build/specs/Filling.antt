@@ -1,5 +1,5 @@
 -- What fills a serializer of a segment.
-use Rattle.std.specs.Prelude.{◌≡◌, ℕ, List, map, Bool, true, false, Option, Some, IsSomeAnd}
+use Rattle.std.specs.Prelude.{◌≡◌, ℕ, List, map, Option, Some, IsSomeAnd}
 use Rattle.std.specs.FinMap.{entries}
 use Rattle.seg_columnar.specs.Columnar.{rows_of}
 use Rattle.seg_directory.specs.Composite.{composite}
@@ -8,8 +8,7 @@ use Rattle.seg_model.specs.Fields.{Schema, Analyzer}
 use Rattle.seg_model.specs.Norms.{all_norms}
 use Rattle.seg_model.specs.Reading.{Terms}
 use Rattle.seg_postings.specs.FieldNorms.{norms_parts}
-use Rattle.seg_postings.specs.Files.{FieldFiles, AddsField}
-use Rattle.seg_postings.specs.FieldWriting.{fresh}
+use Rattle.seg_postings.specs.Files.{FieldFiles}
 use Rattle.seg_postings.specs.Kinds.{kind_of}
 use Rattle.seg_store.specs.Writing.{Taken}
 use Rattle.seg_values.specs.Tree.{Document}
@@ -17,8 +16,6 @@ use Rattle.seg_build.specs.Batch.{kept_norms}
 use Rattle.seg_build.specs.FieldTerms.{FieldTerms}
 use Rattle.seg_segment.specs.HoldTerms.{HoldTerms}
 use Rattle.seg_segment.specs.Serializing.{Serializing}
-use Rattle.seg_build.specs.TermsWritten.{with_terms}
-use Rattle.seg_build.specs.TokenTotal.{token_total}
 use Rattle.seg_build.specs.Totals.{TotalsAreCounts}
 use Rattle.seg_build.specs.declared.fields.IndexedBatch.{IndexedBatch}
 
@@ -31,11 +28,6 @@ pub record AreFieldsOf (schema : Schema) (fields : List FieldTerms) (held : List
 abbrev pub HoldFields : Schema → List FieldTerms → FieldFiles → Type 0
 HoldFields schema fields parts =
     (terms postings positions : List ℕ) → composite terms ≡ Some parts.terms → composite postings ≡ Some parts.postings → composite positions ≡ Some parts.positions → ((held : List Terms) → AreFieldsOf schema fields held → HoldTerms schema terms postings positions held) × TotalsAreCounts postings fields
-
--- the terms of a field were added, where it is indexed
-abbrev pub AddsIndexed : Bool → Option FieldTerms → ℕ → Option FieldFiles → Option FieldFiles → Type 0
-AddsIndexed true found field old new = (terms : FieldTerms) × (found ≡ Some terms) × AddsField old new (with_terms terms (fresh field (token_total terms.terms)))
-AddsIndexed false found field old new = new ≡ old
 
 -- a file has the length ids of documents, where these were kept
 abbrev pub HoldsNorms : Schema → IndexedBatch → List ℕ → Type 0

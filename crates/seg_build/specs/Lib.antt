@@ -1,11 +1,11 @@
 pub mod Adding
 pub mod Batch
 pub mod ByBytes
-pub mod Checking
 pub mod Entries
 pub mod Field
 pub mod FieldTerms
 pub mod Filling
+pub mod Finishing
 pub mod Grouped
 pub mod Kept
 pub mod Laws

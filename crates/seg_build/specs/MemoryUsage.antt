@@ -1,8 +1,9 @@
 -- How much memory a writer says that it has taken: a formula over its documents, by which a budget is kept.
 use Rattle.std.specs.Prelude.{ℕ, ◌+◌, ◌*◌, ◌-◌, ◌^◌, min, List, [], ◌∷◌, map, filter, length}
+use Rattle.seg_values.specs.declared.token.Token.{Token}
 use Rattle.seg_values.specs.Tree.{Document}
 use Rattle.seg_model.specs.Fields.{Schema, Analyzer, fields, has_lengths}
-use Rattle.seg_model.specs.Occurrences.{occurrences}
+use Rattle.seg_model.specs.Occurrences.{counted, occurrences}
 use Rattle.seg_model.specs.StoredForm.{stored_form}
 use Rattle.seg_store.specs.Writing.{byte_count}
 
@@ -18,6 +19,10 @@ saturated n = min n (2 ^ 64 - 1)
 -- how often terms occur in a document, in all its fields
 abbrev pub occurrence_count : Schema → Analyzer → Document → ℕ
 occurrence_count schema analyzer document = total (λ f. length (occurrences schema analyzer document f.0)) (fields schema)
+
+-- how often terms occur in texts
+abbrev pub text_count : List (ℕ × List Token) → ℕ
+text_count texts = total (λ t. length (counted t.1)) texts
 
 -- how many fields have lengths
 abbrev pub length_fields : Schema → ℕ

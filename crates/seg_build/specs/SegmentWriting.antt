@@ -8,22 +8,21 @@ use Rattle.seg_values.specs.declared.error.TantivyError.TheVariants.{InvalidArgu
 use Rattle.seg_values.specs.Tree.{Document}
 use Rattle.seg_values.specs.Utf8.{IsUtf8Document}
 use Rattle.seg_model.specs.Built.{is_taken}
-use Rattle.seg_model.specs.Checked.{document_refusal}
+use Rattle.seg_model.specs.Checked.{at_place, document_refusal}
 use Rattle.seg_model.specs.Fields.{Schema, Analyzer}
 use Rattle.seg_model.specs.Reading.{stored_document}
 use Rattle.seg_model.specs.StoredForm.{stored_form}
-use Rattle.seg_check.specs.Refusals.{error_of}
+use Rattle.seg_check.specs.Texts.{text_in}
+use Rattle.seg_check.specs.declared.field_text.FieldText.{FieldText}
 use Rattle.seg_store.specs.BlockLaw.{all_documents}
 use Rattle.seg_store.specs.Store.{documents_of}
 use Rattle.seg_store.specs.StoredDocument.{stored_document_of}
 use Rattle.seg_store.specs.StoredLaw.{AreShallow}
 use Rattle.seg_store.specs.Writing.{Taken, with_document, all_blocks, taken_count}
-use Rattle.seg_build.specs.Checking.{text_count, text_in, with_texts}
 use Rattle.seg_build.specs.Kept.{Kept}
 use Rattle.seg_build.specs.Lengths.{HaveLengths, with_lengths}
-use Rattle.seg_build.specs.MemoryUsage.{total, saturated, occurrence_count}
-use Rattle.seg_build.specs.Steps.{fresh, with_documents}
-use Rattle.seg_build.specs.declared.field_text.FieldText.{FieldText}
+use Rattle.seg_build.specs.MemoryUsage.{total, saturated, occurrence_count, text_count}
+use Rattle.seg_build.specs.Steps.{fresh, with_documents, with_texts}
 use Rattle.seg_build.specs.declared.writer_parts.WriterParts.{WriterParts}
 
 -- what the parts of a writer keep
@@ -90,7 +89,7 @@ pub record Adds (analyzer : Analyzer) (document : Document) (stamp : ℕ) (old n
 
 -- an error tells why a document is not taken; `stamp` is the place that it tells
 abbrev pub Tells : Schema → Analyzer → Document → ℕ → TantivyError → Type 0
-Tells schema analyzer document stamp e = option_map (error_of stamp) (document_refusal schema analyzer document) ≡ Some e
+Tells schema analyzer document stamp e = at_place stamp (document_refusal schema analyzer document) ≡ Some e
 
 -- a document is not added, for a cause; only when out of memory the writer is not as before
 abbrev pub AddsNone : Analyzer → Document → ℕ → SegmentWriting → SegmentWriting → TantivyError → Type 0

@@ -3,10 +3,9 @@ use Rattle.std.specs.Prelude.{ℕ, ◌+◌, List, [], ◌∷◌, Option, Some, N
 use Rattle.std.specs.FinMap as fin
 use Rattle.std.specs.List.{slice_get}
 use Rattle.seg_values.specs.declared.token.Token.{Token}
-use Rattle.seg_values.specs.declared.schema.FieldEntry.{FieldEntry}
 use Rattle.seg_values.specs.Tree.{Tree, Document}
-use Rattle.seg_model.specs.Fields.{Schema, Analyzer, is_indexed, is_field, indexing_tokenizer}
-use Rattle.seg_model.specs.Occurrences.{value_tokens}
+use Rattle.seg_model.specs.Fields.{Schema, Analyzer, is_indexed, is_field}
+use Rattle.seg_check.specs.Texts.{tokens_at}
 use Rattle.seg_build.specs.Field.{added}
 use Rattle.seg_build.specs.declared.field.FieldPostings.{FieldPostings}
 
@@ -18,15 +17,15 @@ fresh = record { terms = fin.empty; document = 0; start = 0; count = 0 }
 abbrev pub indexed_part : Schema → Document → Document
 indexed_part schema document = filter (λ p. is_field is_indexed (slice_get schema p.0)) document
 
--- the tokens of a value of a field, if it is in the schema
-abbrev pub tokens_at : Analyzer → Tree → Option FieldEntry → List Token
-tokens_at analyzer value None = []
-tokens_at analyzer value (Some entry) = value_tokens (analyzer (indexing_tokenizer entry)) value
-
 -- the fields where the one at a place has one more text
 abbrev pub added_at : ℕ → ℕ → List FieldPostings → List Token → Option FieldPostings → List FieldPostings
 added_at id place fields tokens None = fields
 added_at id place fields tokens (Some field) = slice_set fields place (added id field tokens)
+
+-- the fields with some more texts of a document
+abbrev pub with_texts : ℕ → List FieldPostings → List (ℕ × List Token) → List FieldPostings
+with_texts id fields [] = fields
+with_texts id fields (t ∷ ts) = with_texts id (added_at id t.0 fields t.1 (slice_get fields t.0)) ts
 
 module _ (schema : Schema) (analyzer : Analyzer) where
   -- the fields with one more value of a document

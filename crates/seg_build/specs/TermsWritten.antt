@@ -1,9 +1,10 @@
 -- What writing terms makes of a field.
-use Rattle.std.specs.Prelude.{◌≡◌, ℕ, ◌<◌, ◌≤◌, ◌-◌, ◌^◌, List, [], ◌∷◌, ◌++◌, map, None, option_map}
+use Rattle.std.specs.Prelude.{◌≡◌, ℕ, ◌<◌, ◌≤◌, ◌-◌, ◌^◌, List, [], ◌∷◌, ◌++◌, map, Option, Some, None, option_map}
 use Rattle.seg_model.specs.Reading.{Posting}
 use Rattle.seg_postings.specs.declared.record_kind.RecordKind.{RecordKind}
 use Rattle.seg_postings.specs.FieldWriting.{TermWritten, FieldWriting, next_document}
 use Rattle.seg_build.specs.FieldTerms.{FieldTerms}
+use Rattle.seg_build.specs.TokenTotal.{token_total}
 
 -- a term with its postings, and what these keep
 abbrev pub written : RecordKind → List ℕ × List Posting → TermWritten
@@ -12,6 +13,16 @@ written kind e = record { bytes = e.0; kind = kind; postings = e.1 }
 -- these are the terms, and none is open
 abbrev pub with_terms : FieldTerms → FieldWriting → FieldWriting
 with_terms field w = record w { terms = map (written field.kind) field.terms; current = None }
+
+-- the terms of a field; none where there is no such field
+abbrev pub all_written : Option FieldTerms → List TermWritten
+all_written None = []
+all_written (Some field) = map (written field.kind) field.terms
+
+-- the total of their tokens
+abbrev pub written_total : Option FieldTerms → ℕ
+written_total None = 0
+written_total (Some field) = token_total field.terms
 
 -- a term came after the others, with its postings, and none is open
 abbrev pub with_whole_term : RecordKind → List ℕ → List Posting → FieldWriting → FieldWriting

@@ -1,11 +1,12 @@
 //! Adds the texts of a document to the fields.
 ghost use Rattle.std.specs.Prelude.{◌≡◌, [], ◌∷◌, map, length, IfOk, OnOk};
 ghost use Rattle.seg_model.specs.Occurrences.{counted};
-ghost use Rattle.seg_build.specs.Checking.{text_in, text_count, with_texts};
-ghost use Rattle.seg_build.specs.MemoryUsage.{saturated};
+ghost use Rattle.seg_check.specs.Texts.{text_in};
+ghost use Rattle.seg_build.specs.MemoryUsage.{saturated, text_count};
+ghost use Rattle.seg_build.specs.Steps.{with_texts};
 
 use crate::field::FieldPostings;
-use crate::field_text::{FieldText, text_tokens};
+use seg_check::FieldText;
 use seg_values::TantivyDocument;
 use std::alloc::{AllocError, Global};
 
@@ -49,5 +50,5 @@ fn add_text(
         return Err(AllocError);
     }
     let (_, value) = document.pair(text.at);
-    fields[place].add_text(alloc, id, text_tokens(&text.cut, value))
+    fields[place].add_text(alloc, id, text.tokens(value))
 }

@@ -5,10 +5,9 @@ ghost use Rattle.seg_build.specs.Filling.{IsFilled};
 
 use crate::fields::IndexedBatch;
 use crate::norms_file::norms_file;
-use crate::terms_files::add_fields;
+use crate::terms_files::field_files;
 use seg_columnar::ColumnarWriter;
 use seg_meta::Segment;
-use seg_postings::InvertedIndexSerializer;
 use seg_segment::SegmentSerializer;
 use seg_store::StoreWriter;
 use std::alloc::{AllocError, Global};
@@ -33,8 +32,7 @@ pub(crate) fn filled(
     let Ok(fast) = ColumnarWriter::new(alloc).serialize(count) else {
         return Err(AllocError);
     };
-    let mut postings = InvertedIndexSerializer::new(alloc);
-    let Ok(()) = add_fields(alloc, schema, &batch.fields, &mut postings) else {
+    let Ok(postings) = field_files(alloc, schema, &batch.fields) else {
         return Err(AllocError);
     };
     Ok(SegmentSerializer::from_parts(alloc, segment, postings, store, fast, norms))

@@ -4,7 +4,7 @@ ghost use Rattle.std.specs.List.{slice_get};
 ghost use Rattle.seg_build.specs.Lengths.{lacks_length, with_length_of, with_lengths};
 
 use crate::field::FieldPostings;
-use crate::field_text::FieldText;
+use seg_check::FieldText;
 use seg_postings::FieldNormsWriter;
 use seg_values::Field;
 use std::alloc::AllocError;

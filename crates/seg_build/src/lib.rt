@@ -10,18 +10,15 @@
 //! hash table), `record_kinds` and `sorted` (its terms in byte order, and what they record), `tokens` and `field` (what
 //! one more text adds), `lengths` (the field norms of a document), `usage` (how much memory documents take), `fields` (those
 //! of all documents); `writing` (the terms of a field, into a `FieldSerializer`), `terms_files` and `norms_file` (the parts
-//! of files), `filling` (what the components of a segment are to hold); `add_operation`, `entry`,
-//! `field_text` and `checking` (a document is checked before it is added, and its texts are cut), `adding` (to which they
-//! are added), `refused` (why one is not), `writer_start`, `writer_parts`, `memory_segment`, `finishing` and
-//! `segment_writer`; `laws` (terms that were indexed can be written).
+//! of files), `filling` (what the components of a segment are to hold); `add_operation`, `entry`, `adding` (the texts of a
+//! document that passed its check), `writer_start`, `writer_parts`, `memory_segment`, `finishing` and `segment_writer`;
+//! `laws` (terms that were indexed can be written).
 #![tactic(auto)]
 
 mod add_operation;
 mod adding;
-mod checking;
 mod entry;
 mod field;
-mod field_text;
 mod fields;
 mod filling;
 mod finishing;
@@ -31,7 +28,6 @@ mod lengths;
 mod memory_segment;
 mod norms_file;
 mod record_kinds;
-mod refused;
 mod runs;
 mod segment_writer;
 mod sorted;
@@ -52,5 +48,5 @@ pub use memory_segment::MemorySegment;
 pub use runs::first_run;
 pub use segment_writer::SegmentWriter;
 pub use sorted::SortedTerms;
-pub use writer_start::LEAST_BUDGET;
-pub use writing::{write_field, write_terms};
+pub use writer_start::{LEAST_BUDGET, start_refusal};
+pub use writing::write_terms;

@@ -1,25 +1,23 @@
 //! The writer of a segment.
-ghost use Rattle.std.specs.Prelude.{◌≡◌, ◌≢◌, ◌⊎◌, [], List, ℕ, Some, None, Err, IsTrue, IfOk, IfErr, IfSome, OnOk};
+ghost use Rattle.std.specs.Prelude.{◌≡◌, ◌⊎◌, [], List, ℕ, Some, None, Err, IsTrue, IfOk, IfErr, IfSome, OnOk};
 ghost use Rattle.std.specs.FinMap.{get};
-ghost use Rattle.seg_directory.specs.Faults.{FaultHasCause};
 ghost use Rattle.seg_values.specs.Tree.{Document};
 ghost use Rattle.seg_model.specs.IndexOfFiles as index;
 ghost use Rattle.seg_build.specs.FieldTerms.{fields_of};
+ghost use Rattle.seg_build.specs.Finishing.{Finalizes};
 ghost use Rattle.seg_segment.specs.Forms.{segment_forms};
 ghost use Rattle.seg_build.specs.MemoryUsage.{memory_usage, saturated};
-ghost use Rattle.seg_segment.specs.SegmentFiles.{AreAbsent, KeepsAllBut, MakingSeen, segment_names};
 ghost use Rattle.seg_segment.specs.Standing.{StandFor};
 ghost use Rattle.seg_build.specs.Totals.{TotalsAreCounts};
 ghost use Rattle.seg_build.specs.WriterStart.{IsStartError, start_refusal};
 
 use crate::add_operation::{AddOperation, Opstamp};
-use crate::checking::{Progress, checked_texts};
 use crate::finishing::{finish, memory_segment};
 use crate::memory_segment::MemorySegment;
-use crate::refused::refusal;
 use crate::usage::length_fields;
 use crate::writer_parts::WriterParts;
 use crate::writer_start::start_refusal;
+use seg_check::checked_texts;
 use seg_common::{FileName, SegmentComponent};
 use seg_directory::Directory;
 use seg_meta::{IndexSettings, Segment};
@@ -37,8 +35,6 @@ pub struct SegmentWriter<'a, Z: Analyzers> {
     alloc: Global,
     analyzers: &'a Z,
     segment: Segment,
-    /// Room for how far a document has come in each field.
-    reached: Vec<Progress>,
     parts: Option<WriterParts>,
 }
 
@@ -100,7 +96,6 @@ impl<'a, Z: Analyzers> SegmentWriter<'a, Z> {
             alloc,
             analyzers,
             segment,
-            reached: Vec::new(alloc),
             parts: Some(parts),
         })
     }
@@ -170,22 +165,21 @@ impl<'a, Z: Analyzers> SegmentWriter<'a, Z> {
         documents_stay_in_order();
         let alloc = self.alloc;
         let schema = self.segment.schema();
-        match checked_texts(alloc, self.analyzers, schema, document, &mut self.reached) {
-            Ok(Some(texts)) => match parts.with_document(alloc, schema, document, &texts, opstamp) {
+        match checked_texts(alloc, schema, self.analyzers, document, opstamp as usize) {
+            Ok(texts) => match parts.with_document(alloc, schema, document, &texts, opstamp) {
                 Ok(parts) => {
                     self.parts = Some(parts);
                     Ok(())
                 }
                 Err(_) => Err(TantivyError::OutOfMemory),
             },
-            Ok(None) => match refusal(alloc, self.analyzers, schema, document, opstamp) {
-                Ok(e) => {
+            Err(e) => match e {
+                TantivyError::OutOfMemory => Err(e),
+                _ => {
                     self.parts = Some(parts);
                     Err(e)
                 }
-                Err(_) => Err(TantivyError::OutOfMemory),
             },
-            Err(AllocError) => Err(TantivyError::OutOfMemory),
         }
     }
 
@@ -199,24 +193,12 @@ impl<'a, Z: Analyzers> SegmentWriter<'a, Z> {
             → (postings : List ℕ) → get (W.state directory.new).files (FileName.Part self.entry.1.id SegmentComponent.Postings) ≡ Some postings
             → TotalsAreCounts postings (fields_of self.entry.1.schema (Z.tokens_of self.entry.0) documents)) }
         ensures stamps { IfOk result (λ answer. (documents : List Document) (stamps : List ℕ) → Writes (Z.tokens_of self.entry.0) documents stamps self.entry.1 → answer.items ≡ stamps) }
-        ensures lacking { self.entry.1.kept ≡ None → result ≡ Err TantivyError.SystemError }
-        ensures fresh { IsTrue (W.state directory.old).tells
-            → AreAbsent (segment_names self.entry.1.id) (W.state directory.old).files
-            → result ≢ Err TantivyError.IndexAlreadyExists }
-        ensures others { KeepsAllBut (segment_names self.entry.1.id) (W.state directory.old).files (W.state directory.new).files }
-        ensures tells { (W.state directory.new).tells ≡ (W.state directory.old).tells }
-        ensures seen { MakingSeen (segment_names self.entry.1.id) (W.state directory.old).seen result (W.state directory.new).seen }
-        ensures cause { FaultHasCause
-            TantivyError.OpenWriteError (W.state directory.old).faults (W.state directory.new).faults result }
-        ensures errors { IfErr result
-            (λ e. ((e ≡ TantivyError.SystemError) × (self.entry.1.kept ≡ None)) ⊎ (e ≡ TantivyError.IndexAlreadyExists)
-            ⊎ (e ≡ TantivyError.OpenWriteError) ⊎ (e ≡ TantivyError.OutOfMemory)) }
+        ensures does { Finalizes self.entry.1 result (W.state directory.old) (W.state directory.new) }
     {
         let SegmentWriter {
             alloc,
             analyzers: _,
             segment,
-            reached: _,
             parts,
         } = self;
         match parts {
@@ -242,7 +224,6 @@ impl<'a, Z: Analyzers> SegmentWriter<'a, Z> {
             alloc,
             analyzers: _,
             segment,
-            reached: _,
             parts,
         } = self;
         let Some(parts) = parts else {

@@ -7,15 +7,16 @@ ghost use Rattle.seg_model.specs.Valid as valid;
 ghost use Rattle.seg_segment.specs.Built.{is_built_schema};
 ghost use Rattle.seg_build.specs.WriterStart.{IsStartError, start_refusal};
 
-use crate::entry::{is_built_schema, tokenizer_name};
+use crate::entry::is_built_schema;
+use seg_check::indexing_tokenizer;
 use seg_meta::{Compressor, IndexSettings};
 use seg_values::{Analyzers, ArgumentCause, Field, FieldEntry, Schema, SchemaCause, TantivyError};
 
 /// The fewest bytes of a budget.
 pub const LEAST_BUDGET: usize = 15_000;
 
-/// Why no writer is made, out of memory aside.
-pub(crate) fn start_refusal<Z: Analyzers>(
+/// Why no writer is made, out of memory aside: the first of `Budget`, `Later`, `FieldName`, `Settings`, `Tokenizer`.
+pub fn start_refusal<Z: Analyzers>(
     analyzers: &Z,
     budget: usize,
     schema: &Schema,
@@ -74,7 +75,7 @@ fn unknown_tokenizer<Z: Analyzers>(analyzers: &Z, schema: &[FieldEntry]) -> Opti
     ensures known { result ≡ None → AllByRecursion (λ e. IsTrue (Z.knows analyzers.now (indexing_tokenizer e))) schema.now }
 {
     for (place, entry) in schema.iter().enumerate() {
-        if !analyzers.known(tokenizer_name(entry)) {
+        if !analyzers.known(indexing_tokenizer(entry)) {
             return Some(Field::from_field_id(place as u32));
         }
     }

@@ -1,50 +1,19 @@
 //! The terms of a field, written as it records them.
-ghost use Rattle.std.specs.Prelude.{◌≡◌, ◌<◌, ◌≤◌, ◌-◌, ◌^◌, ◌⊎◌, length, map, Some, None, IfErr, IfSome, IsSomeAnd, OnOk, OnErr};
-ghost use Rattle.std.specs.List.{slice_get};
+ghost use Rattle.std.specs.Prelude.{◌≡◌, ◌<◌, length, map, IfErr, IfSome, IsSomeAnd, OnOk};
 ghost use Rattle.seg_common.specs.Growing.{HasGrown};
-ghost use Rattle.seg_directory.specs.Composite.{low_after};
 ghost use Rattle.seg_model.specs.Reading.{positions};
-ghost use Rattle.seg_postings.specs.FieldWriting.{MayOpen, fresh};
-ghost use Rattle.seg_postings.specs.Files.{AddsField};
-ghost use Rattle.seg_postings.specs.PostingsForm as form;
-ghost use Rattle.seg_postings.specs.Written.{AreWritable, IsOfKind, Rise};
-ghost use Rattle.seg_build.specs.FieldTerms.{FieldTerms, kept_as, postings_as};
+ghost use Rattle.seg_postings.specs.FieldWriting.{MayOpen};
+ghost use Rattle.seg_postings.specs.Written.{AreWritable, IsOfKind};
+ghost use Rattle.seg_build.specs.FieldTerms.{kept_as, postings_as};
 ghost use Rattle.seg_build.specs.Grouped.{grouped};
 ghost use Rattle.seg_build.specs.TermsWritten.{IsUnused, IsUnwritten, TakesDocument, with_posting, with_postings, with_terms, with_whole_term};
-ghost use Rattle.seg_build.specs.TokenTotal.{token_total};
 ghost use Rattle.seg_build.specs.Writable.{CanBeWritten};
 
-use crate::fields::IndexedFields;
 use crate::hits::Hit;
 use crate::runs::first_run;
 use crate::sorted::SortedTerms;
-use seg_postings::{FieldSerializer, InvertedIndexSerializer, PostingsError, RecordKind};
-use seg_values::Field;
+use seg_postings::{FieldSerializer, PostingsError, RecordKind};
 use std::alloc::{AllocError, Global};
-
-/// Adds a field, which is above those added before, to the files: its terms as they are recorded, and the total of their
-/// tokens.
-pub fn write_field(
-    alloc: Global,
-    fields: &IndexedFields,
-    field: Field,
-    files: &mut InvertedIndexSerializer,
-) -> Result<(), PostingsError>
-    requires indexed { field < length fields.now }
-    requires ascends { IfSome files.old (λ f. (low_after 0 f.terms ≤ field) × (low_after 0 f.postings ≤ field) × (low_after 0 f.positions ≤ field)) }
-    requires limit { field < 2 ^ 32 - 1 }
-    ensures ok { OnOk result ((found : FieldTerms) × (slice_get fields.now field ≡ Some found) × AddsField files.old files.new (with_terms found (fresh field (token_total found.terms)))) }
-    ensures err { IfErr result (λ e. e ≡ PostingsError.OutOfMemory) }
-    ensures files { OnErr result ((files.new ≡ files.old) ⊎ (files.new ≡ None)) }
-{
-    let terms = fields.writable_terms(field.field_id() as usize);
-    let Some(total) = terms.total_num_tokens() else {
-        return Err(PostingsError::OutOfMemory);
-    };
-    let mut writer = files.new_field(field, total)?;
-    write_terms(alloc, terms, &mut writer)?;
-    writer.close(files)
-}
 
 /// Writes all terms of a field, of which nothing was written. After an error the field is given up.
 pub fn write_terms(
@@ -58,25 +27,25 @@ pub fn write_terms(
     ensures err { IfErr result (λ e. e ≡ PostingsError.OutOfMemory) }
 {
     let kind = terms.kind();
-    let mut differences = Vec::new(alloc);
+    let mut places = Vec::new(alloc);
     for at in 0..terms.len() {
         write_term(
             kind,
             terms.bytes_at(at),
             terms.hits_at(at),
-            &mut differences,
+            &mut places,
             field,
         )?;
     }
     Ok(())
 }
 
-/// Writes a term, which is greater than those before it. `differences` is room for the positions of a document.
+/// Writes a term, which is greater than those before it. `places` is room for the positions of a document.
 fn write_term(
     kind: RecordKind,
     bytes: &[u8],
     hits: &[Hit],
-    differences: &mut Vec<u32>,
+    places: &mut Vec<u32>,
     field: &mut FieldSerializer,
 ) -> Result<(), PostingsError>
     requires ascends { IfSome field.old (λ w. MayOpen w bytes.now) }
@@ -86,7 +55,7 @@ fn write_term(
     ensures err { IfErr result (λ e. e ≡ PostingsError.OutOfMemory) }
 {
     field.new_term(bytes, kind)?;
-    write_hits(kind, hits, differences, field)?;
+    write_hits(kind, hits, places, field)?;
     field.close_term()
 }
 
@@ -94,7 +63,7 @@ fn write_term(
 fn write_hits(
     kind: RecordKind,
     hits: &[Hit],
-    differences: &mut Vec<u32>,
+    places: &mut Vec<u32>,
     field: &mut FieldSerializer,
 ) -> Result<(), PostingsError>
     requires unused { IsSomeAnd field.old (λ w. IsSomeAnd w.current (IsUnused kind)) }
@@ -105,7 +74,7 @@ fn write_hits(
     let mut rest = hits;
     while !rest.is_empty() {
         let (run, others) = rest.split_at(first_run(rest));
-        write_run(kind, rest[0].document, run, differences, field)?;
+        write_run(kind, rest[0].document, run, places, field)?;
         rest = others;
     }
     Ok(())
@@ -116,7 +85,7 @@ fn write_run(
     kind: RecordKind,
     document: u32,
     run: &[Hit],
-    differences: &mut Vec<u32>,
+    places: &mut Vec<u32>,
     field: &mut FieldSerializer,
 ) -> Result<(), PostingsError>
     requires takes { IfSome field.old (λ w. IsSomeAnd w.current (TakesDocument kind document)) }
@@ -128,23 +97,20 @@ fn write_run(
         RecordKind::Documents => field.write_doc(document, 1, &[])?,
         RecordKind::Counts => field.write_doc(document, run.len() as u32, &[])?,
         RecordKind::Positions => {
-            set_differences(differences, run)?;
-            field.write_doc(document, run.len() as u32, differences)?;
+            set_places(places, run)?;
+            field.write_doc(document, run.len() as u32, places)?;
         }
     }
     Ok(())
 }
 
-/// Replaces the differences by those of the hits: each position as its difference from the one before, the first from 0.
-fn set_differences(differences: &mut Vec<u32>, hits: &[Hit]) -> Result<(), AllocError>
-    requires { Rise 0 (map (λ h. h.position) hits.now) }
-    ensures { OnOk result (differences.new.items ≡ form.differences 0 (map (λ h. h.position) hits.now)) }
+/// Replaces the places by the positions of the hits.
+fn set_places(places: &mut Vec<u32>, hits: &[Hit]) -> Result<(), AllocError>
+    ensures { OnOk result (places.new.items ≡ map (λ h. h.position) hits.now) }
 {
-    differences.clear();
-    let mut before = 0;
+    places.clear();
     for hit in hits {
-        differences.push(hit.position - before)?;
-        before = hit.position;
+        places.push(hit.position)?;
     }
     Ok(())
 }

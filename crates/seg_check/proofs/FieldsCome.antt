@@ -1,9 +1,11 @@
 -- The values of a document come in one after another, each in its field.
-use Rattle.std.proofs.Common.{◌≡◌, ◌≢◌, ℕ, zero, suc, ◌+◌, ◌<◌, ◌≤◌, get_or, drop-cons, ◌⊎◌, inl, inr, Bool, true, false, cond, List, [], ◌∷◌, ◌++◌, map, length, set, take, drop, Some, None, Option, refl, sym, ap, ◌∙◌, subst, append-nil, add-one, arith}
+use Rattle.std.proofs.Common.{◌≡◌, ℕ, zero, suc, ◌+◌, ◌<◌, ◌≤◌, get_or, ◌⊎◌, inl, inr, Bool, true, false, cond, List, [], ◌∷◌, ◌++◌, map, length, take, drop, Some, None, Option, refl, sym, ap, ◌∙◌, subst, append-nil, add-one, arith}
 use Rattle.std.specs.Prelude.{filter, nat_eq, is_some, is_none}
-use Rattle.std.specs.List.{slice_get, enumerate_from}
+use Rattle.std.specs.HashMap.{HashMap, Updates, get}
+use Rattle.std.specs.List.{slice_get}
+use Rattle.std.specs.Option.{option_or}
 use Rattle.std.specs.Prelude.{IfOk, Ok, Err, Result}
-use Rattle.std.proofs.Math.ListN.{length-set}
+use Rattle.std.specs.Cmp.{nat_eq_equiv}
 use Rattle.std.proofs.lemmas.Bool.{false≢true}
 use Rattle.std.proofs.lemmas.Bool.Decides.{nat_tests}
 use Rattle.std.proofs.lemmas.List.{map-append}
@@ -11,38 +13,24 @@ use Rattle.std.proofs.lemmas.List.Elements.{filter-append}
 use Rattle.seg_values.specs.Tree.{Tree, Document}
 use Rattle.seg_values.specs.declared.schema.FieldEntry.{FieldEntry}
 use Rattle.seg_values.specs.declared.token.Token.{Token}
-use Rattle.seg_model.specs.Checked.{Refusal, or_else, unless, positions_fall, value_texts, positions_refusal, order_refusal, fields_refusal, leaves_refusal, limit_refusal, document_refusal}
+use Rattle.seg_model.specs.Checked.{Cause, unless, positions_fall, value_texts, positions_refusal, order_refusal, fields_refusal, leaves_refusal, limit_refusal, document_refusal}
 use Rattle.seg_model.specs.Fields.{Schema, Analyzer, is_indexed, indexing_tokenizer, values_of}
-use Rattle.seg_check.specs.AllFields.{AllStand}
+use Rattle.seg_check.specs.AllFields.{StandsAt, AllStand}
 use Rattle.seg_check.specs.Sizes.{all_rise}
 use Rattle.seg_check.specs.Standing.{Stands}
 use Rattle.seg_check.specs.declared.field_totals.FieldTotals.{FieldTotals}
 use Rattle.seg_check.proofs.Places.{drop_at}
 
--- ---- before any value
-
-abbrev pub IsFresh : FieldTotals → Type 0
-IsFresh t = (entry : FieldEntry) (analyze : List ℕ → List Token) → Stands entry analyze t []
-
 pub at-most-one : {X : Type 0} (x y : X) → Some x ≡ Some y → x ≡ y
 at-most-one x y e = cc
 
-pub fresh_push : (xs : List FieldTotals) (x : FieldTotals) → ((place : ℕ) (t : FieldTotals) → slice_get xs place ≡ Some t → IsFresh t) → IsFresh x → (place : ℕ) (t : FieldTotals) → slice_get (xs ++ x ∷ []) place ≡ Some t → IsFresh t
-fresh_push [] x all fresh zero t e = subst IsFresh (at-most-one x t e) fresh
-fresh_push [] x all fresh (suc place) t e = absurd (false≢true (ap is_some e))
-fresh_push (y ∷ xs) x all fresh zero t e = all zero t e
-fresh_push (y ∷ xs) x all fresh (suc place) t e = fresh_push xs x (λ k u is. all (suc k) u is) fresh place t e
-
-pub none_came : (schema : Schema) (analyzer : Analyzer) (totals : List FieldTotals) → length totals ≡ length schema → ((place : ℕ) (t : FieldTotals) → slice_get totals place ≡ Some t → IsFresh t) → AllStand schema analyzer totals []
-none_came schema analyzer totals many fresh = record { as_many = many; at = λ place entry t e is indexed. fresh place t is entry (analyzer (indexing_tokenizer entry)) }
-
 -- ---- one more value
 
-values-last : (place field : ℕ) (t : Tree) (b : Bool) (done : Document) → nat_eq place field ≡ b → values_of place (done ++ (field, t) ∷ []) ≡ values_of place done ++ cond b (t ∷ []) []
-values-last place field t b done e =
-    ap (map (λ (p : ℕ × Tree). p.1)) (filter-append (λ (p : ℕ × Tree). nat_eq place p.0) done ((field, t) ∷ []))
-    ∙ map-append (λ (p : ℕ × Tree). p.1) (filter (λ (p : ℕ × Tree). nat_eq place p.0) done) (cond (nat_eq place field) ((field, t) ∷ []) [])
-    ∙ ap (λ l. values_of place done ++ l) (by_case (nat_eq place field) b e)
+values-last : (place field : ℕ) (t : Tree) (b : Bool) (came : Document) → nat_eq place field ≡ b → values_of place (came ++ (field, t) ∷ []) ≡ values_of place came ++ cond b (t ∷ []) []
+values-last place field t b came e =
+    ap (map (λ (p : ℕ × Tree). p.1)) (filter-append (λ (p : ℕ × Tree). nat_eq place p.0) came ((field, t) ∷ []))
+    ∙ map-append (λ (p : ℕ × Tree). p.1) (filter (λ (p : ℕ × Tree). nat_eq place p.0) came) (cond (nat_eq place field) ((field, t) ∷ []) [])
+    ∙ ap (λ l. values_of place came ++ l) (by_case (nat_eq place field) b e)
   where
     by_case : (a b : Bool) → a ≡ b → map (λ (p : ℕ × Tree). p.1) (cond a ((field, t) ∷ []) []) ≡ cond b (t ∷ []) []
     by_case true true e = refl
@@ -53,54 +41,36 @@ values-last place field t b done e =
 same-place : (place field : ℕ) → nat_eq place field ≡ true → place ≡ field
 same-place place field e = grind (arith, nat_tests)
 
-other-place : (place field : ℕ) → nat_eq place field ≡ false → place ≢ field
-other-place place field e = λ same. false≢true (sym e ∙ yes place field same)
-  where
-    yes : (a b : ℕ) → a ≡ b → nat_eq a b ≡ true
-    yes a b e = grind (arith, nat_tests)
-
-get-set : {X : Type 0} (xs : List X) (place : ℕ) (x : X) → place < length xs → slice_get (set xs place x) place ≡ Some x
-get-set [] place x lt = absurd (omega arith)
-get-set (y ∷ xs) zero x lt = refl
-get-set (y ∷ xs) (suc place) x lt = get-set xs place x (omega arith)
-
-get-other : {X : Type 0} (xs : List X) (place k : ℕ) (x : X) → k ≢ place → slice_get (set xs place x) k ≡ slice_get xs k
-get-other [] place k x ne = refl
-get-other (y ∷ xs) zero zero x ne = absurd (ne refl)
-get-other (y ∷ xs) zero (suc k) x ne = refl
-get-other (y ∷ xs) (suc place) zero x ne = refl
-get-other (y ∷ xs) (suc place) (suc k) x ne = get-other xs place k x (λ e. ne (ap suc e))
-
-module _ (schema : Schema) (analyzer : Analyzer) (totals : List FieldTotals) (done : Document) (field : ℕ) (t : Tree) (stand : AllStand schema analyzer totals done) where
-  here-or-there : (place : ℕ) (entry : FieldEntry) (u : FieldTotals) (b : Bool) → nat_eq place field ≡ b → (b ≡ true → Stands entry (analyzer (indexing_tokenizer entry)) u (values_of place done ++ t ∷ [])) → (b ≡ false → Stands entry (analyzer (indexing_tokenizer entry)) u (values_of place done)) → Stands entry (analyzer (indexing_tokenizer entry)) u (values_of place (done ++ (field, t) ∷ []))
-  here-or-there place entry u true e here there = subst (λ l. Stands entry (analyzer (indexing_tokenizer entry)) u l) (sym (values-last place field t true done e)) (here refl)
-  here-or-there place entry u false e here there = subst (λ l. Stands entry (analyzer (indexing_tokenizer entry)) u l) (sym (values-last place field t false done e ∙ append-nil (values_of place done))) (there refl)
+module _ {S : Type 0} (schema : Schema) (analyzer : Analyzer) (totals : HashMap ℕ FieldTotals S) (came : Document) (field : ℕ) (t : Tree) (stand : AllStand schema analyzer totals came) where
+  here-or-there : (place : ℕ) (entry : FieldEntry) (o : Option FieldTotals) (b : Bool) → nat_eq place field ≡ b → (b ≡ true → StandsAt entry (analyzer (indexing_tokenizer entry)) o (values_of place came ++ t ∷ [])) → (b ≡ false → StandsAt entry (analyzer (indexing_tokenizer entry)) o (values_of place came)) → StandsAt entry (analyzer (indexing_tokenizer entry)) o (values_of place (came ++ (field, t) ∷ []))
+  here-or-there place entry o true e here there = subst (λ l. StandsAt entry (analyzer (indexing_tokenizer entry)) o l) (sym (values-last place field t true came e)) (here refl)
+  here-or-there place entry o false e here there = subst (λ l. StandsAt entry (analyzer (indexing_tokenizer entry)) o l) (sym (values-last place field t false came e ∙ append-nil (values_of place came))) (there refl)
 
   -- a field that is not indexed, or is not there
-  pub not-indexed : ((entry : FieldEntry) → slice_get schema field ≡ Some entry → is_indexed entry ≡ false) → AllStand schema analyzer totals (done ++ (field, t) ∷ [])
-  not-indexed out = record {
-    as_many = stand.as_many;
-    at = λ place entry u e is indexed. here-or-there place entry u (nat_eq place field) refl
-        (λ same. absurd (false≢true (sym (out entry (ap (slice_get schema) (sym (same-place place field same)) ∙ e)) ∙ indexed)))
-        (λ other. stand.at place entry u e is indexed);
-  }
+  pub not-indexed : ((entry : FieldEntry) → slice_get schema field ≡ Some entry → is_indexed entry ≡ false) → AllStand schema analyzer totals (came ++ (field, t) ∷ [])
+  not-indexed out place entry e indexed = here-or-there place entry (get nat_eq totals place) (nat_eq place field) refl
+      (λ same. absurd (false≢true (sym (out entry (ap (slice_get schema) (sym (same-place place field same)) ∙ e)) ∙ indexed)))
+      (λ other. stand place entry e indexed)
 
-  pub one-field : (entry : FieldEntry) (old new : FieldTotals) → slice_get schema field ≡ Some entry → is_indexed entry ≡ true → slice_get totals field ≡ Some old → field < length totals → ((values : List Tree) → Stands entry (analyzer (indexing_tokenizer entry)) old values → Stands entry (analyzer (indexing_tokenizer entry)) new (values ++ t ∷ [])) → AllStand schema analyzer (set totals field new) (done ++ (field, t) ∷ [])
-  one-field entry old new at_entry indexed at_old lt more = record {
-    as_many = length-set totals field new ∙ stand.as_many;
-    at = λ place other u e is on. here-or-there place other u (nat_eq place field) refl
-        (λ same. here place other u (same-place place field same) e is)
-        (λ apart. stand.at place other u e (sym (get-other totals field place new (other-place place field apart)) ∙ is) on);
-  }
+  pub one-field : (entry : FieldEntry) (after : HashMap ℕ FieldTotals S) (new : FieldTotals) → slice_get schema field ≡ Some entry → is_indexed entry ≡ true → Updates nat_eq totals after field (Some new) → (StandsAt entry (analyzer (indexing_tokenizer entry)) (get nat_eq totals field) (values_of field came) → Stands entry (analyzer (indexing_tokenizer entry)) new (values_of field came ++ t ∷ [])) → AllStand schema analyzer after (came ++ (field, t) ∷ [])
+  one-field entry after new at_entry indexed updates more place other e on = here-or-there place other (get nat_eq after place) (nat_eq place field) refl
+      (λ same. here place other (same-place place field same) e)
+      (λ apart. subst (λ o. StandsAt other (analyzer (indexing_tokenizer other)) o (values_of place came)) (sym (updates.2 place (nat_eq_equiv.symm field place ∙ apart))) (stand place other e on))
     where
-      here : (place : ℕ) (other : FieldEntry) (u : FieldTotals) → place ≡ field → slice_get schema place ≡ Some other → slice_get (set totals field new) place ≡ Some u → Stands other (analyzer (indexing_tokenizer other)) u (values_of place done ++ t ∷ [])
-      here place other u same e is =
+      here : (place : ℕ) (other : FieldEntry) → place ≡ field → slice_get schema place ≡ Some other → StandsAt other (analyzer (indexing_tokenizer other)) (get nat_eq after place) (values_of place came ++ t ∷ [])
+      here place other same e =
           let entry_is : entry ≡ other = at-most-one entry other (sym at_entry ∙ ap (slice_get schema) (sym same) ∙ e) in
-          let u_is : new ≡ u = at-most-one new u (sym (get-set totals field new lt) ∙ ap (slice_get (set totals field new)) (sym same) ∙ is) in
-          let before : Stands entry (analyzer (indexing_tokenizer entry)) old (values_of field done) = stand.at field entry old at_entry at_old indexed in
-          subst (λ k. Stands other (analyzer (indexing_tokenizer other)) u (values_of k done ++ t ∷ [])) (sym same)
-          (subst (λ x. Stands other (analyzer (indexing_tokenizer other)) x (values_of field done ++ t ∷ [])) u_is
-          (subst (λ x. Stands x (analyzer (indexing_tokenizer x)) new (values_of field done ++ t ∷ [])) entry_is (more (values_of field done) before)))
+          subst (λ k. StandsAt other (analyzer (indexing_tokenizer other)) (get nat_eq after k) (values_of k came ++ t ∷ [])) (sym same)
+          (subst (λ o. StandsAt other (analyzer (indexing_tokenizer other)) o (values_of field came ++ t ∷ [])) (sym updates.1)
+          (subst (λ x. Stands x (analyzer (indexing_tokenizer x)) new (values_of field came ++ t ∷ [])) entry_is (more (stand field entry at_entry indexed))))
+
+-- what a value adds to a field that has totals
+pub to-some : (entry : FieldEntry) (analyze : List ℕ → List Token) (o : Option FieldTotals) (old new : FieldTotals) (values : List Tree) (t : Tree) → o ≡ Some old → (Stands entry analyze old values → Stands entry analyze new (values ++ t ∷ [])) → StandsAt entry analyze o values → Stands entry analyze new (values ++ t ∷ [])
+to-some entry analyze o old new values t is more stands = more (subst (λ x. StandsAt entry analyze x values) is stands)
+
+-- and to one that has none
+pub to-none : (entry : FieldEntry) (analyze : List ℕ → List Token) (o : Option FieldTotals) (new : FieldTotals) (values : List Tree) (t : Tree) → o ≡ None → Stands entry analyze new ([] ++ t ∷ []) → StandsAt entry analyze o values → Stands entry analyze new (values ++ t ∷ [])
+to-none entry analyze o new values t is one stands = subst (λ vs. Stands entry analyze new (vs ++ t ∷ [])) (sym (subst (λ x. StandsAt entry analyze x values) is stands)) one
 
 -- ---- the order of positions
 
@@ -119,11 +89,11 @@ order-none analyzer schema field t entry at out =
     sym (ap (λ o. is_none (positions_refusal analyzer t o)) at
     ∙ ap (λ b. is_none (cond b (unless (all_rise (value_texts entry.kind (analyzer (indexing_tokenizer entry)) t)) positions_fall) None)) out)
 
-none-else : (o later : Option Refusal) → is_none o ≡ true → or_else o later ≡ later
+none-else : (o later : Option Cause) → is_none o ≡ true → option_or o later ≡ later
 none-else None later h = refl
 none-else (Some r) later h = absurd (false≢true h)
 
-some-else : (o later : Option Refusal) → is_none o ≡ false → is_none (or_else o later) ≡ false
+some-else : (o later : Option Cause) → is_none o ≡ false → is_none (option_or o later) ≡ false
 some-else None later h = absurd (false≢true (sym h))
 some-else (Some r) later h = refl
 
@@ -160,23 +130,10 @@ none-past {X} xs place k x le same e = past xs k (omega (arith, le, same)) e
     past (y ∷ ys) zero le e = absurd (omega arith)
     past (y ∷ ys) (suc i) le e = past ys i (omega arith) e
 
--- a list that was written through a slice of it
-pub written-back : {X : Type 0} (old new : List X) (len : ℕ) → len ≡ length old → length new ≡ length old → take len (new ++ drop (length new) old) ≡ new
-written-back {X} old new len many same = ap (λ n. take n (new ++ drop (length new) old)) (many ∙ sym same) ∙ front new
-  where
-    front : (xs : List X) → take (length xs) (xs ++ drop (length new) old) ≡ xs
-    front [] = refl
-    front (x ∷ xs) = ap (λ l. x ∷ l) (front xs)
-
 -- what holds of each beginning where the answer is Ok true
 pub stand-if : {T E : Type 0} (r : Result Bool E) (new : T) (All : T → Type 0) (Before : List Tree → Type 0) (After : T → List Tree → Type 0) → ((values : List Tree) → Before values → IfOk r (λ rises. rises ≡ true → After new values)) → (((values : List Tree) → Before values → After new values) → All new) → IfOk r (λ rises. rises ≡ true → All new)
 stand-if (Ok b) new All Before After each make = λ is. make (λ values before. each values before is)
 stand-if (Err e) new All Before After each make = tt
-
--- ---- each field of a schema
-
-pub field-here : {X : Type 0} (xs : List X) (i : ℕ) (x : X) → i < length xs → x ≡ get_or xs i x → enumerate_from i (drop i xs) ≡ (i, x) ∷ enumerate_from (i + 1) (drop (i + 1) xs)
-field-here xs i x lt is = ap (enumerate_from i) (drop-cons xs i x lt ∙ ap (λ y. y ∷ drop (suc i) xs) (sym is) ∙ ap (λ j. x ∷ drop j xs) (sym (add-one i)))
 
 -- the only refusal of the order
 pub only-falls : (schema : Schema) (analyzer : Analyzer) (document : Document) → is_none (order_refusal schema analyzer document) ≡ false → order_refusal schema analyzer document ≡ Some positions_fall
@@ -195,12 +152,12 @@ only-falls schema analyzer (p ∷ ps) h = by_case (one p.1 (slice_get schema p.0
         indexed true = falls-only (all_rise (value_texts entry.kind (analyzer (indexing_tokenizer entry)) t))
         indexed false = inl refl
 
-    by_case : (positions_refusal analyzer p.1 (slice_get schema p.0) ≡ None) ⊎ (positions_refusal analyzer p.1 (slice_get schema p.0) ≡ Some positions_fall) → (is_none (order_refusal schema analyzer ps) ≡ false → order_refusal schema analyzer ps ≡ Some positions_fall) → is_none (or_else (positions_refusal analyzer p.1 (slice_get schema p.0)) (order_refusal schema analyzer ps)) ≡ false → or_else (positions_refusal analyzer p.1 (slice_get schema p.0)) (order_refusal schema analyzer ps) ≡ Some positions_fall
-    by_case (inl none) rest h = ap (λ o. or_else o (order_refusal schema analyzer ps)) none ∙ rest (ap (λ o. is_none (or_else o (order_refusal schema analyzer ps))) (sym none) ∙ h)
-    by_case (inr some) rest h = ap (λ o. or_else o (order_refusal schema analyzer ps)) some
+    by_case : (positions_refusal analyzer p.1 (slice_get schema p.0) ≡ None) ⊎ (positions_refusal analyzer p.1 (slice_get schema p.0) ≡ Some positions_fall) → (is_none (order_refusal schema analyzer ps) ≡ false → order_refusal schema analyzer ps ≡ Some positions_fall) → is_none (option_or (positions_refusal analyzer p.1 (slice_get schema p.0)) (order_refusal schema analyzer ps)) ≡ false → option_or (positions_refusal analyzer p.1 (slice_get schema p.0)) (order_refusal schema analyzer ps) ≡ Some positions_fall
+    by_case (inl none) rest h = ap (λ o. option_or o (order_refusal schema analyzer ps)) none ∙ rest (ap (λ o. is_none (option_or o (order_refusal schema analyzer ps))) (sym none) ∙ h)
+    by_case (inr some) rest h = ap (λ o. option_or o (order_refusal schema analyzer ps)) some
 
 pub falls-third : (schema : Schema) (analyzer : Analyzer) (document : Document) → fields_refusal schema document ≡ None → leaves_refusal schema document ≡ None → is_none (order_refusal schema analyzer document) ≡ false → Some positions_fall ≡ document_refusal schema analyzer document
 falls-third schema analyzer document fields leaves falls =
-    sym (ap (λ o. or_else o (or_else (leaves_refusal schema document) (or_else (order_refusal schema analyzer document) (limit_refusal schema analyzer document)))) fields
-    ∙ ap (λ o. or_else o (or_else (order_refusal schema analyzer document) (limit_refusal schema analyzer document))) leaves
-    ∙ ap (λ o. or_else o (limit_refusal schema analyzer document)) (only-falls schema analyzer document falls))
+    sym (ap (λ o. option_or o (option_or (leaves_refusal schema document) (option_or (order_refusal schema analyzer document) (limit_refusal schema analyzer document)))) fields
+    ∙ ap (λ o. option_or o (option_or (order_refusal schema analyzer document) (limit_refusal schema analyzer document))) leaves
+    ∙ ap (λ o. option_or o (limit_refusal schema analyzer document)) (only-falls schema analyzer document falls))

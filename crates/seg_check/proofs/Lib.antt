@@ -1,6 +1,8 @@
 pub mod Adding
+pub mod Causes
 pub mod Deep
 pub mod FieldsCome
+pub mod FieldsFit
 pub mod FirstRefusals
 pub mod JsonTrees
 pub mod LeafWalks
@@ -9,4 +11,5 @@ pub mod OnPaths
 pub mod Places
 pub mod Rising
 pub mod StoredLens
+pub mod TextsCome
 pub mod ValuesCome

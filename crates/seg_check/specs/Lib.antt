@@ -2,8 +2,8 @@ pub mod AllFields
 pub mod Known
 pub mod Leaves
 pub mod Paths
-pub mod Refusals
 pub mod Sizes
 pub mod Standing
+pub mod Texts
 pub mod Totals
 pub mod Trees

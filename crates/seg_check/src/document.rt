@@ -1,18 +1,17 @@
 //! The check of a document: four passes, of which the first that finds something answers.
-ghost use Rattle.std.specs.Prelude.{◌≡◌, ◌⊎◌, None, Some, IfOk, IfErr, OnOk};
+ghost use Rattle.std.specs.Prelude.{◌≡◌, ◌⊎◌, None, Some, map, IfOk, IfErr, OnOk};
 ghost use Rattle.std.specs.List.{AllByRecursion};
-ghost use Rattle.std.specs.Option.{option_map};
 ghost use Rattle.seg_model.specs.Checked as checked;
 ghost use Rattle.seg_check.specs.Known.{KnowsTexts};
-ghost use Rattle.seg_check.specs.Refusals.{error_of, told};
+ghost use Rattle.seg_check.specs.Texts.{text_in, document_texts};
 
+use crate::field_text::FieldText;
 use crate::fields::fields_refusal;
 use crate::json::leaves_refusal;
 use crate::limits::is_within_limits;
-use crate::positions::field_totals;
-use crate::refusal::Refusal;
-use seg_values::{Analyzers, Schema, TResult, TantivyDocument, TantivyError};
-use std::alloc::{AllocError, Global};
+use crate::positions::{CutDocument, cut_texts};
+use seg_values::{Analyzers, ArgumentCause, Schema, TResult, TantivyDocument, TantivyError};
+use std::alloc::Global;
 
 /// Checks a document before it is indexed; `at` is the place that an error tells.
 pub fn check_document<Z: Analyzers>(
@@ -24,36 +23,40 @@ pub fn check_document<Z: Analyzers>(
 ) -> TResult<()>
     requires { AllByRecursion (KnowsTexts (Z.knows analyzers.now)) schema.now }
     ensures ok { OnOk result (checked.document_refusal schema.now (Z.tokens_of analyzers.now) document.now ≡ None) }
-    ensures err { IfErr result (λ e. (e ≡ TantivyError.OutOfMemory) ⊎ (option_map (error_of at) (checked.document_refusal schema.now (Z.tokens_of analyzers.now) document.now) ≡ Some e)) }
+    ensures err { IfErr result (λ e. (e ≡ TantivyError.OutOfMemory) ⊎ (checked.at_place at (checked.document_refusal schema.now (Z.tokens_of analyzers.now) document.now) ≡ Some e)) }
 {
-    match document_refusal(alloc, schema, analyzers, document) {
-        Ok(None) => Ok(()),
-        Ok(Some(refusal)) => Err(refusal.error(at)),
-        Err(AllocError) => Err(TantivyError::OutOfMemory),
-    }
+    checked_texts(alloc, schema, analyzers, document, at)?;
+    Ok(())
 }
 
-/// Why a document is not taken, if it is not.
-fn document_refusal<Z: Analyzers>(
+/// Checks a document before it is indexed, and answers its texts in indexed text fields, each cut once; `at` is the
+/// place that an error tells.
+pub fn checked_texts<Z: Analyzers>(
     alloc: Global,
     schema: &Schema,
     analyzers: &Z,
     document: &TantivyDocument,
-) -> Result<Option<Refusal>, AllocError>
+    at: usize,
+) -> TResult<Vec<FieldText>>
     requires { AllByRecursion (KnowsTexts (Z.knows analyzers.now)) schema.now }
-    ensures { IfOk result (λ found. told found ≡ checked.document_refusal schema.now (Z.tokens_of analyzers.now) document.now) }
+    ensures ok { OnOk result (checked.document_refusal schema.now (Z.tokens_of analyzers.now) document.now ≡ None) }
+    ensures texts { IfOk result (λ texts. map (text_in document.now) texts.items ≡ document_texts schema.now (Z.tokens_of analyzers.now) document.now) }
+    ensures err { IfErr result (λ e. (e ≡ TantivyError.OutOfMemory) ⊎ (checked.at_place at (checked.document_refusal schema.now (Z.tokens_of analyzers.now) document.now) ≡ Some e)) }
 {
-    if let Some(refusal) = fields_refusal(schema, document) {
-        return Ok(Some(refusal));
+    if let Some(refusal) = fields_refusal(schema, document, at) {
+        return Err(refusal);
     }
-    if let Some(refusal) = leaves_refusal(schema, document) {
-        return Ok(Some(refusal));
+    if let Some(refusal) = leaves_refusal(schema, document, at) {
+        return Err(refusal);
     }
-    let Some(totals) = field_totals(alloc, analyzers, schema, document)? else {
-        return Ok(Some(Refusal::PositionsFall));
+    let Ok(found) = cut_texts(alloc, analyzers, schema, document) else {
+        return Err(TantivyError::OutOfMemory);
+    };
+    let Some(CutDocument { texts, totals }) = found else {
+        return Err(TantivyError::InvalidArgument(ArgumentCause::Positions { at }));
     };
     if !is_within_limits(schema, &totals, document) {
-        return Ok(Some(Refusal::PastLimit));
+        return Err(TantivyError::InvalidArgument(ArgumentCause::Limit { at }));
     }
-    Ok(None)
+    Ok(texts)
 }

@@ -5,7 +5,7 @@ ghost use Rattle.seg_model.specs.Fields as fields;
 use seg_values::{FieldEntry, FieldKind};
 
 /// The name of the tokenizer under which a field is indexed.
-pub(crate) fn indexing_tokenizer(entry: &FieldEntry) -> &str
+pub fn indexing_tokenizer(entry: &FieldEntry) -> &str
     ensures { result.now ≡ fields.indexing_tokenizer entry.now }
 {
     let has_texts = match entry.kind {

@@ -8,14 +8,16 @@ ghost use Rattle.seg_model.specs.Fields as fields;
 ghost use Rattle.seg_check.specs.Known.{KnowsTexts};
 ghost use Rattle.seg_check.specs.Leaves.{path_leaf, paths_from};
 ghost use Rattle.seg_check.specs.Paths.{texts_of, PathsStand};
-ghost use Rattle.seg_check.specs.Sizes.{measured, all_rise};
-ghost use Rattle.seg_check.specs.Standing.{Stands, found_in};
+ghost use Rattle.seg_check.specs.Sizes.{measured};
+ghost use Rattle.seg_check.specs.Standing.{Stands, found_in, rises as rises_in};
+ghost use Rattle.seg_check.specs.Texts.{IsCut};
 
 use crate::entry::indexing_tokenizer;
+use crate::field_text::FieldText;
 use crate::leaves::{PathLeaf, leaves_of};
 use crate::paths::PathTotals;
-use crate::size::TextSize;
-use crate::texts::{leaf_size, value_size};
+use crate::size::{TextSize, text_size};
+use crate::texts::leaf_size;
 use crate::totals::{Totals, is_u32};
 use seg_values::{Analyzers, FieldEntry, FieldKind, OwnedValue};
 use std::alloc::{AllocError, Global};
@@ -38,20 +40,22 @@ impl FieldTotals {
         }
     }
 
-    /// One more value, unless positions decrease in one of its texts.
+    /// One more value, which in a text field is cut, unless positions decrease in one of its texts.
     pub fn add_value<Z: Analyzers>(
         &mut self,
         alloc: Global,
         analyzers: &Z,
         entry: &FieldEntry,
+        text: &FieldText,
         value: &OwnedValue,
     ) -> Result<bool, AllocError>
         requires known { KnowsTexts (Z.knows analyzers.now) entry.now }
         requires indexed { fields.is_indexed entry.now ≡ true }
-        ensures rises { IfOk result (λ rises. rises ≡ all_rise (checked.value_texts entry.now.kind (Z.tokens_of analyzers.now (fields.indexing_tokenizer entry.now)) (tree_of value.now))) }
+        requires cut { IsCut (Z.tokens_of analyzers.now) entry.now text.now.cut (tree_of value.now) }
+        ensures rises { IfOk result (λ rises. rises ≡ rises_in (Z.tokens_of analyzers.now) entry.now (tree_of value.now)) }
         ensures stands { (done : List Tree) → Stands entry.now (Z.tokens_of analyzers.now (fields.indexing_tokenizer entry.now)) self.old done → IfOk result (λ rises. rises ≡ true → Stands entry.now (Z.tokens_of analyzers.now (fields.indexing_tokenizer entry.now)) self.new (done ++ tree_of value.now ∷ [])) }
     {
-        match texts_size(&mut self.paths, alloc, analyzers, entry, value)? {
+        match texts_size(&mut self.paths, alloc, analyzers, entry, text, value)? {
             Some(size) => {
                 self.whole = self.whole.with(size);
                 Ok(true)
@@ -84,17 +88,19 @@ fn texts_size<Z: Analyzers>(
     alloc: Global,
     analyzers: &Z,
     entry: &FieldEntry,
+    text: &FieldText,
     value: &OwnedValue,
 ) -> Result<Option<TextSize>, AllocError>
     requires known { KnowsTexts (Z.knows analyzers.now) entry.now }
     requires indexed { fields.is_indexed entry.now ≡ true }
+    requires cut { IsCut (Z.tokens_of analyzers.now) entry.now text.now.cut (tree_of value.now) }
     ensures size { IfOk result (λ size. size ≡ measured (checked.value_texts entry.now.kind (Z.tokens_of analyzers.now (fields.indexing_tokenizer entry.now)) (tree_of value.now))) }
     ensures stands { (done : List Tree) → entry.now.kind ≡ FieldKind.Json → PathsStand (Z.tokens_of analyzers.now (fields.indexing_tokenizer entry.now)) paths.old (found_in entry.now.expand_dots done) → IfOk result (λ size. IsSome size → PathsStand (Z.tokens_of analyzers.now (fields.indexing_tokenizer entry.now)) paths.new (found_in entry.now.expand_dots (done ++ tree_of value.now ∷ []))) }
 {
-    let tokenizer = indexing_tokenizer(entry);
     match entry.kind {
-        FieldKind::Text => value_size(alloc, analyzers, tokenizer, value),
+        FieldKind::Text => Ok(text_size(text.tokens(value))),
         FieldKind::Json => {
+            let tokenizer = indexing_tokenizer(entry);
             let leaves = leaves_of(alloc, entry.expand_dots, value)?;
             add_leaves(paths, alloc, analyzers, tokenizer, leaves)
         }

@@ -2,21 +2,23 @@
 ghost use Rattle.std.specs.Prelude.{◌≡◌};
 ghost use Rattle.std.specs.List.{slice_get};
 ghost use Rattle.seg_model.specs.Checked as checked;
-ghost use Rattle.seg_check.specs.Refusals.{told};
 ghost use Rattle.seg_values.specs.View.{tree_of};
 
 use crate::kinds::takes;
-use crate::refusal::Refusal;
-use seg_values::{Field, OwnedValue, Schema, TantivyDocument};
+use seg_values::{Field, OwnedValue, Schema, SchemaCause, TantivyDocument, TantivyError};
 
-/// The first pair whose field is not in the schema, or does not take the value.
+/// The first pair whose field is not in the schema, or does not take the value, of a document that is added at `place`.
 #[tactic(auto, using(crate::proofs::Places::drop_at))]
-pub(crate) fn fields_refusal(schema: &Schema, document: &TantivyDocument) -> Option<Refusal>
-    ensures { told result ≡ checked.fields_refusal schema.now document.now }
+pub(crate) fn fields_refusal(
+    schema: &Schema,
+    document: &TantivyDocument,
+    place: usize,
+) -> Option<TantivyError>
+    ensures { result ≡ checked.at_place place (checked.fields_refusal schema.now document.now) }
 {
     for at in 0..document.len() {
         let (field, value) = document.pair(at);
-        let refusal = value_refusal(schema, field, value);
+        let refusal = value_refusal(schema, field, value, place);
         if refusal.is_some() {
             return refusal;
         }
@@ -24,12 +26,17 @@ pub(crate) fn fields_refusal(schema: &Schema, document: &TantivyDocument) -> Opt
     None
 }
 
-fn value_refusal(schema: &Schema, field: Field, value: &OwnedValue) -> Option<Refusal>
-    ensures { told result ≡ checked.value_refusal field (tree_of value.now) (slice_get schema.now field) }
+fn value_refusal(
+    schema: &Schema,
+    field: Field,
+    value: &OwnedValue,
+    at: usize,
+) -> Option<TantivyError>
+    ensures { result ≡ checked.at_place at (checked.value_refusal field (tree_of value.now) (slice_get schema.now field)) }
 {
     match schema.fields().get(field.field_id() as usize) {
         Some(entry) if takes(entry, value) => None,
-        Some(_) => Some(Refusal::WrongValue(field)),
-        None => Some(Refusal::UnknownField),
+        Some(_) => Some(TantivyError::SchemaError(SchemaCause::WrongValue { at, field })),
+        None => Some(TantivyError::SchemaError(SchemaCause::UnknownField { at })),
     }
 }

@@ -3,21 +3,25 @@ ghost use Rattle.std.specs.Prelude.{◌≡◌};
 ghost use Rattle.std.specs.List.{slice_get};
 ghost use Rattle.seg_model.specs.Checked as checked;
 ghost use Rattle.seg_check.specs.Trees.{leaf_in};
-ghost use Rattle.seg_check.specs.Refusals.{told};
 ghost use Rattle.seg_values.specs.View.{tree_of};
 
 use crate::kinds::is_json;
-use crate::refusal::Refusal;
-use seg_values::{Field, FieldEntry, OwnedValue, Schema, TantivyDocument};
+use seg_values::{
+    ArgumentCause, Field, FieldEntry, OwnedValue, Schema, TantivyDocument, TantivyError,
+};
 
-/// The first leaf or key that a JSON field which is indexed or fast may not have.
+/// The first leaf or key that a JSON field which is indexed or fast may not have, in a document that is added at `place`.
 #[tactic(auto, using(crate::proofs::Places::drop_at))]
-pub(crate) fn leaves_refusal(schema: &Schema, document: &TantivyDocument) -> Option<Refusal>
-    ensures { told result ≡ checked.leaves_refusal schema.now document.now }
+pub(crate) fn leaves_refusal(
+    schema: &Schema,
+    document: &TantivyDocument,
+    place: usize,
+) -> Option<TantivyError>
+    ensures { result ≡ checked.at_place place (checked.leaves_refusal schema.now document.now) }
 {
     for at in 0..document.len() {
         let (field, value) = document.pair(at);
-        let refusal = json_refusal(schema, field, value);
+        let refusal = json_refusal(schema, field, value, place);
         if refusal.is_some() {
             return refusal;
         }
@@ -25,11 +29,16 @@ pub(crate) fn leaves_refusal(schema: &Schema, document: &TantivyDocument) -> Opt
     None
 }
 
-fn json_refusal(schema: &Schema, field: Field, value: &OwnedValue) -> Option<Refusal>
-    ensures { told result ≡ checked.json_refusal (tree_of value.now) (slice_get schema.now field) }
+fn json_refusal(
+    schema: &Schema,
+    field: Field,
+    value: &OwnedValue,
+    place: usize,
+) -> Option<TantivyError>
+    ensures { result ≡ checked.at_place place (checked.json_refusal (tree_of value.now) (slice_get schema.now field)) }
 {
     match schema.fields().get(field.field_id() as usize) {
-        Some(entry) if is_checked_json(entry) => tree_refusal(value),
+        Some(entry) if is_checked_json(entry) => tree_refusal(value, place),
         _ => None,
     }
 }
@@ -41,13 +50,13 @@ fn is_checked_json(entry: &FieldEntry) -> bool
 }
 
 /// The first leaf or key that a JSON field may not have, from left to right, a key before its value.
-fn tree_refusal(value: &OwnedValue) -> Option<Refusal>
-    ensures { told result ≡ checked.tree_refusal (tree_of value.now) }
+fn tree_refusal(value: &OwnedValue, place: usize) -> Option<TantivyError>
+    ensures { result ≡ checked.at_place place (checked.tree_refusal (tree_of value.now)) }
 {
     match value {
         OwnedValue::Array(values) => {
             for at in 0..values.len() {
-                if let Some(refusal) = tree_refusal(values.get(at)) {
+                if let Some(refusal) = tree_refusal(values.get(at), place) {
                     return Some(refusal);
                 }
             }
@@ -57,15 +66,19 @@ fn tree_refusal(value: &OwnedValue) -> Option<Refusal>
             for index in 0..members.len() {
                 let (key, child) = members.get(index);
                 if !has_no_zero(key.as_bytes()) {
-                    return Some(Refusal::JsonKey);
+                    return Some(TantivyError::InvalidArgument(ArgumentCause::JsonKey {
+                        at: place,
+                    }));
                 }
-                if let Some(refusal) = tree_refusal(child) {
+                if let Some(refusal) = tree_refusal(child, place) {
                     return Some(refusal);
                 }
             }
             None
         }
-        _ if !is_json_leaf(value) => Some(Refusal::JsonLeaf),
+        _ if !is_json_leaf(value) => {
+            Some(TantivyError::InvalidArgument(ArgumentCause::JsonLeaf { at: place }))
+        }
         _ => None,
     }
 }

@@ -4,14 +4,14 @@
 //! tokens once, in the third pass, which also tells the fourth what came in each field; numbers there stay at the
 //! end of a `u64`, so that none is past it.
 //!
-//! To be read in this order: `refusal` and `entry`; `kinds` and `fields` (the first pass); `json` (the second); `size`,
+//! To be read in this order: `entry` and `field_text`; `kinds` and `fields` (the first pass); `json` (the second); `size`,
 //! `totals`, `paths`, `leaves`, `texts` and `field_totals` (what a document has in a field), and `positions` (the third
-//! pass); `levels`, `stored_len` and `limits` (the fourth); `document`; `untokenized`
-//! (what no token decides).
+//! pass); `levels`, `stored_len` and `limits` (the fourth); `document`.
 #![tactic(auto)]
 
 mod document;
 mod entry;
+mod field_text;
 mod field_totals;
 mod fields;
 mod json;
@@ -21,12 +21,11 @@ mod levels;
 mod limits;
 mod paths;
 mod positions;
-mod refusal;
 mod size;
 mod stored_len;
 mod texts;
 mod totals;
-mod untokenized;
 
-pub use document::check_document;
-pub use untokenized::passes_untokenized;
+pub use document::{check_document, checked_texts};
+pub use entry::indexing_tokenizer;
+pub use field_text::FieldText;

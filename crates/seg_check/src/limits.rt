@@ -1,49 +1,60 @@
 //! The fourth pass: limits.
-ghost use Rattle.std.specs.Prelude.{◌≡◌, ℕ, true, length};
-ghost use Rattle.std.specs.List.{list_all};
+ghost use Rattle.std.specs.Prelude.{◌≡◌};
+ghost use Rattle.std.specs.List.{slice_get, list_all};
 ghost use Rattle.seg_values.specs.Tree.{Document};
 ghost use Rattle.seg_model.specs.Checked as checked;
 ghost use Rattle.seg_model.specs.Fields as fields;
-ghost use Rattle.seg_check.specs.AllFields.{AllStand};
-ghost use Rattle.seg_check.specs.Standing.{Stands};
+ghost use Rattle.seg_check.specs.AllFields.{AllStand, fits_at};
 
 use crate::field_totals::FieldTotals;
 use crate::levels::are_shallow;
 use crate::stored_len::stored_len;
 use crate::totals::is_u32;
 use seg_values::{FieldEntry, Schema, TantivyDocument};
+use std::collections::HashMap;
 
 /// Whether a document is within the limits, by what it has in each field.
 pub(crate) fn is_within_limits(
     schema: &Schema,
-    totals: &[FieldTotals],
+    totals: &HashMap<u32, FieldTotals>,
     document: &TantivyDocument,
 ) -> bool
-    requires { length totals.now ≡ length schema.now }
     ensures { (analyzer : fields.Analyzer) → AllStand schema.now analyzer totals.now document.now → result ≡ checked.is_within_limits schema.now analyzer document.now }
 {
-    fields_fit(schema.fields(), totals)
+    fields_fit(schema.fields(), totals, document)
         && is_u32(stored_len(schema, document))
         && are_shallow(document)
 }
 
-fn fields_fit(schema: &[FieldEntry], totals: &[FieldTotals]) -> bool
-    requires { length totals.now ≡ length schema.now }
-    ensures { (analyzer : fields.Analyzer) → (document : Document) → AllStand schema.now analyzer totals.now document → result ≡ list_all (checked.field_fits analyzer document) (fields.fields schema.now) }
+/// Whether the values of each field that the document has are within the limits.
+fn fields_fit(
+    schema: &[FieldEntry],
+    totals: &HashMap<u32, FieldTotals>,
+    document: &TantivyDocument,
+) -> bool
+    ensures { (analyzer : fields.Analyzer) → AllStand schema.now analyzer totals.now document.now → result ≡ list_all (checked.field_fits analyzer document.now) (fields.fields schema.now) }
 {
-    for (place, entry) in schema.iter().enumerate() {
-        if !field_fits(entry, &totals[place]) {
+    for at in 0..document.len() {
+        let (field, _) = document.pair(at);
+        if !field_fits(schema, totals, field.field_id()) {
             return false;
         }
     }
     true
 }
 
-fn field_fits(entry: &FieldEntry, totals: &FieldTotals) -> bool
-    ensures { (analyzer : fields.Analyzer) → (document : Document) → (place : ℕ) → (fields.is_indexed entry.now ≡ true → Stands entry.now (analyzer (fields.indexing_tokenizer entry.now)) totals.now (fields.values_of place document)) → result ≡ checked.field_fits analyzer document (place, entry.now) }
+/// Whether the values of a field are within the limits.
+fn field_fits(schema: &[FieldEntry], totals: &HashMap<u32, FieldTotals>, field: u32) -> bool
+    ensures { (analyzer : fields.Analyzer) → (document : Document) → AllStand schema.now analyzer totals.now document → result ≡ fits_at analyzer document field (slice_get schema.now field) }
 {
+    let Some(entry) = schema.get(field as usize) else {
+        return true;
+    };
     if !entry.is_indexed() {
         return true;
     }
-    totals.fits(entry)
+    let Some(found) = totals.get(&field) else {
+        return true;
+    };
+    found.fits(entry)
 }

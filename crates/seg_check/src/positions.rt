@@ -1,69 +1,142 @@
-//! The third pass: positions in indexed texts, and what the document has in each field meanwhile.
-ghost use Rattle.std.specs.Prelude.{◌≡◌, [], ◌∷◌, ◌++◌, true, length, is_some, is_none, IfOk, IfSome};
+//! The third pass: texts are cut, the positions of their tokens are checked, and what came in each field is added up.
+ghost use Rattle.std.specs.Prelude.{◌≡◌, [], ◌∷◌, ◌++◌, true, nat_eq, is_some, is_none, Some, IfOk, IfSome, OnOk, if◌then◌else◌};
 ghost use Rattle.std.specs.List.{slice_get, AllByRecursion};
 ghost use Rattle.seg_model.specs.Checked as checked;
 ghost use Rattle.seg_model.specs.Fields as fields;
-ghost use Rattle.seg_check.specs.AllFields.{AllStand};
+ghost use Rattle.seg_check.specs.AllFields.{HasCut, CutsMore, TellMore};
 ghost use Rattle.seg_check.specs.Known.{KnowsTexts};
+ghost use Rattle.seg_check.specs.Standing.{rises as rises_in};
+ghost use Rattle.seg_check.specs.Texts.{IsCut};
 ghost use Rattle.seg_values.specs.Tree.{Document};
 ghost use Rattle.seg_values.specs.View.{tree_of};
 
+use crate::field_text::{FieldText, cut_tokens};
 use crate::field_totals::FieldTotals;
-use seg_values::{Analyzers, Field, FieldEntry, OwnedValue, Schema, TantivyDocument};
+use seg_values::{Analyzers, Field, FieldEntry, FieldKind, OwnedValue, Schema, TantivyDocument};
 use std::alloc::{AllocError, Global};
+use std::collections::HashMap;
 
-/// What a document has in each field that is indexed; none where positions decrease in a text of one.
-pub(crate) fn field_totals<Z: Analyzers>(
+/// What a document has in indexed fields: its texts in text fields, in their order, and the totals of each such field
+/// in which it has a value.
+#[derive(Drop)]
+pub(crate) struct CutDocument {
+    pub texts: Vec<FieldText>,
+    pub totals: HashMap<u32, FieldTotals>,
+}
+
+/// Cuts the texts of a document, each once; none where positions decrease in a text of an indexed field.
+pub(crate) fn cut_texts<Z: Analyzers>(
     alloc: Global,
     analyzers: &Z,
     schema: &Schema,
     document: &TantivyDocument,
-) -> Result<Option<Vec<FieldTotals>>, AllocError>
+) -> Result<Option<CutDocument>, AllocError>
     requires { AllByRecursion (KnowsTexts (Z.knows analyzers.now)) schema.now }
-    ensures order { IfOk result (λ totals. is_some totals ≡ is_none (checked.order_refusal schema.now (Z.tokens_of analyzers.now) document.now)) }
-    ensures stand { IfOk result (λ found. IfSome found (λ totals. AllStand schema.now (Z.tokens_of analyzers.now) totals.items document.now)) }
+    ensures order { IfOk result (λ found. is_some found ≡ is_none (checked.order_refusal schema.now (Z.tokens_of analyzers.now) document.now)) }
+    ensures cut { IfOk result (λ found. IfSome found (HasCut schema.now (Z.tokens_of analyzers.now) document.now document.now)) }
 {
-    let mut totals = no_totals(alloc, schema.fields())?;
+    let mut cut = CutDocument::new(alloc);
     for at in 0..document.len() {
         let (field, value) = document.pair(at);
-        if !add_value(alloc, analyzers, schema.fields(), &mut totals, field, value)? {
+        if !cut.add_pair(alloc, analyzers, schema.fields(), at, field, value)? {
             return Ok(None);
         }
     }
-    Ok(Some(totals))
+    Ok(Some(cut))
 }
 
-/// Before any value of any field.
-fn no_totals(alloc: Global, schema: &[FieldEntry]) -> Result<Vec<FieldTotals>, AllocError>
-    ensures { IfOk result (λ totals. (analyzer : fields.Analyzer) → AllStand schema.now analyzer totals.items []) }
-{
-    let mut totals = Vec::new(alloc);
-    for _entry in schema {
-        totals.push(FieldTotals::new(alloc))?;
+impl CutDocument {
+    /// Before any pair.
+    fn new(alloc: Global) -> CutDocument
+        ensures { (schema : fields.Schema) → (analyzer : fields.Analyzer) → (document : Document) → HasCut schema analyzer document [] result }
+    {
+        CutDocument {
+            texts: Vec::new(alloc),
+            totals: HashMap::new(alloc),
+        }
     }
-    Ok(totals)
+
+    /// One more pair, which is at a place of its document, unless positions decrease in one of its texts.
+    fn add_pair<Z: Analyzers>(
+        &mut self,
+        alloc: Global,
+        analyzers: &Z,
+        schema: &[FieldEntry],
+        at: usize,
+        field: Field,
+        value: &OwnedValue,
+    ) -> Result<bool, AllocError>
+        requires { AllByRecursion (KnowsTexts (Z.knows analyzers.now)) schema.now }
+        ensures order { IfOk result (λ rises. rises ≡ is_none (checked.positions_refusal (Z.tokens_of analyzers.now) (tree_of value.now) (slice_get schema.now field))) }
+        ensures cut { IfOk result (λ rises. rises ≡ true → CutsMore schema.now (Z.tokens_of analyzers.now) at (field, tree_of value.now) self.old self.new) }
+    {
+        let field = field.field_id();
+        let Some(entry) = schema.get(field as usize) else {
+            return Ok(true);
+        };
+        if !entry.is_indexed() {
+            return Ok(true);
+        }
+        let cut = cut_tokens(alloc, analyzers, entry, value)?;
+        self.add_text(alloc, analyzers, entry, FieldText { field, at, cut }, value)
+    }
+
+    /// One more value of an indexed field, unless positions decrease in one of its texts.
+    fn add_text<Z: Analyzers>(
+        &mut self,
+        alloc: Global,
+        analyzers: &Z,
+        entry: &FieldEntry,
+        text: FieldText,
+        value: &OwnedValue,
+    ) -> Result<bool, AllocError>
+        requires known { KnowsTexts (Z.knows analyzers.now) entry.now }
+        requires indexed { fields.is_indexed entry.now ≡ true }
+        requires cut { IsCut (Z.tokens_of analyzers.now) entry.now text.cut (tree_of value.now) }
+        ensures rises { IfOk result (λ rises. rises ≡ rises_in (Z.tokens_of analyzers.now) entry.now (tree_of value.now)) }
+        ensures cut { (schema : fields.Schema) → slice_get schema text.field ≡ Some entry.now → IfOk result (λ rises. rises ≡ true → CutsMore schema (Z.tokens_of analyzers.now) text.at (text.field, tree_of value.now) self.old self.new) }
+    {
+        let rises = add_value(&mut self.totals, alloc, analyzers, entry, &text, value)?;
+        keep_text(&mut self.texts, entry, text)?;
+        Ok(rises)
+    }
 }
 
-/// One more value of a field, unless positions decrease in one of its texts.
+/// A text is kept, if it is of a text field.
+fn keep_text(
+    texts: &mut Vec<FieldText>,
+    entry: &FieldEntry,
+    text: FieldText,
+) -> Result<(), AllocError>
+    ensures { OnOk result (texts.new.items ≡ (if fields.is_text entry.now.kind then texts.old.items ++ text ∷ [] else texts.old.items)) }
+{
+    match entry.kind {
+        FieldKind::Text => texts.push(text)?,
+        _ => {}
+    }
+    Ok(())
+}
+
+/// One more value of an indexed field, which in a text field is cut, unless positions decrease in one of its texts.
 fn add_value<Z: Analyzers>(
+    totals: &mut HashMap<u32, FieldTotals>,
     alloc: Global,
     analyzers: &Z,
-    schema: &[FieldEntry],
-    totals: &mut [FieldTotals],
-    field: Field,
+    entry: &FieldEntry,
+    text: &FieldText,
     value: &OwnedValue,
 ) -> Result<bool, AllocError>
-    requires known { AllByRecursion (KnowsTexts (Z.knows analyzers.now)) schema.now }
-    requires as_many { length totals.old ≡ length schema.now }
-    ensures order { IfOk result (λ rises. rises ≡ is_none (checked.positions_refusal (Z.tokens_of analyzers.now) (tree_of value.now) (slice_get schema.now field))) }
-    ensures stand { (done : Document) → AllStand schema.now (Z.tokens_of analyzers.now) totals.old done → IfOk result (λ rises. rises ≡ true → AllStand schema.now (Z.tokens_of analyzers.now) totals.new (done ++ (field, tree_of value.now) ∷ [])) }
+    requires known { KnowsTexts (Z.knows analyzers.now) entry.now }
+    requires indexed { fields.is_indexed entry.now ≡ true }
+    requires cut { IsCut (Z.tokens_of analyzers.now) entry.now text.now.cut (tree_of value.now) }
+    ensures rises { IfOk result (λ rises. rises ≡ rises_in (Z.tokens_of analyzers.now) entry.now (tree_of value.now)) }
+    ensures stand { (schema : fields.Schema) → slice_get schema text.now.field ≡ Some entry.now → IfOk result (λ rises. rises ≡ true → TellMore schema (Z.tokens_of analyzers.now) (text.now.field, tree_of value.now) totals.old totals.new) }
 {
-    let place = field.field_id() as usize;
-    let Some(entry) = schema.get(place) else {
-        return Ok(true);
-    };
-    if !entry.is_indexed() {
-        return Ok(true);
+    if let Some(found) = totals.get_mut(&text.field) {
+        return found.add_value(alloc, analyzers, entry, text, value);
     }
-    totals[place].add_value(alloc, analyzers, entry, value)
+    let mut first = FieldTotals::new(alloc);
+    let rises = first.add_value(alloc, analyzers, entry, text, value)?;
+    totals.insert(text.field, first)?;
+    Ok(rises)
 }

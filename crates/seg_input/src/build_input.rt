@@ -1,6 +1,6 @@
 //! The input of an index.
 
-use crate::UserOperation;
+use crate::{BuildInputRef, UserOperation};
 use seg_bits::AliveBitSet;
 use seg_common::SegmentId;
 use seg_meta::IndexSettings;
@@ -42,4 +42,21 @@ impl Model for BuildInput {
       filters = i.filters.items;
       ids = i.ids.items;
     } };
+}
+
+impl BuildInput {
+    ghost use Rattle.std.specs.Prelude.{◌≡◌};
+
+    pub fn as_ref(&self) -> BuildInputRef<'_>
+        ensures { result ≡ self.now }
+    {
+        BuildInputRef {
+            schema: &self.schema,
+            settings: &self.settings,
+            operations: &self.operations,
+            cuts: &self.cuts,
+            filters: &self.filters,
+            ids: &self.ids,
+        }
+    }
 }

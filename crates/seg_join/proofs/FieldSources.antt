@@ -1,12 +1,12 @@
 -- The terms of a field in segments of full shape, under the new ids of their documents.
-use Rattle.std.proofs.Common.{◌≡◌, ℕ, zero, suc, ◌+◌, ◌-◌, ◌^◌, ◌<◌, ◌≤◌, Bool, true, false, cond, T, List, [], ◌∷◌, ◌++◌, map, length, get_or, Some, None, Option, sym, refl, ap, ◌∙◌, subst, arith, append_assoc}
+use Rattle.std.proofs.Common.{◌≡◌, ℕ, suc, ◌+◌, ◌-◌, ◌^◌, ◌<◌, ◌≤◌, Bool, true, false, cond, List, [], ◌∷◌, ◌++◌, map, length, Some, None, Option, sym, refl, ap, ◌∙◌, subst, arith, append_assoc}
 use Rattle.std.specs.Prelude.{option_map, option_to_list, unwrap_or}
 use Rattle.std.specs.FinMap.{empty, find, get, get-from_sorted, is_sorted}
-use Rattle.std.specs.List.{AllByRecursion, flat_map, slice_get}
+use Rattle.std.specs.List.{AllByRecursion, flat_map}
 use Rattle.std.specs.Ordering.{nat_cmp, eq_by_cmp}
 use Rattle.std.specs.Cmp.Lexicographic.{slice_cmp}
 use Rattle.std.proofs.lemmas.List.{map-append, length-append}
-use Rattle.std.proofs.lemmas.Option.{same_Some, slice_get-map, get_or_from_slice_get}
+use Rattle.std.proofs.lemmas.Option.{slice_get-map, get_or_from_slice_get}
 use Rattle.seg_bits.specs.BitSets.{member_count}
 use Rattle.seg_values.specs.declared.schema.FieldEntry.{FieldEntry}
 use Rattle.seg_values.specs.declared.schema.IndexOption.{IndexOption}
@@ -14,7 +14,7 @@ use Rattle.seg_values.specs.declared.schema.IndexOption.TheVariants as options
 use Rattle.seg_model.specs.Contents.{terms_at}
 use Rattle.seg_model.specs.Join.{all_recorded, term_column, live_of, joined_postings}
 use Rattle.seg_model.specs.Operations.{kept}
-use Rattle.seg_model.specs.Reading.{Recorded, presence, frequency, positions, Posting, postings_from, term_option}
+use Rattle.seg_model.specs.Reading.{Recorded, Posting, postings_from, term_option}
 use Rattle.seg_model.specs.Shape.{IsRecordOf, ArePostings}
 use Rattle.seg_model.proofs.Grouped.{length-all_recorded}
 use Rattle.seg_model.proofs.ShapedTerms.{AreRecordsOf, each-append, each-kept, ArePostings-from, AreRecordsOf-all_recorded}
@@ -27,7 +27,7 @@ use Rattle.seg_postings.specs.Kinds.{kind_of}
 use Rattle.seg_postings.specs.PostingsReading.{kind_kept, count_of}
 use Rattle.seg_join.specs.JoinedTerms.{IsOfField, terms_read, source_of}
 use Rattle.seg_join.specs.KeptSegment.{KeptSegment, kept_count, part_of}
-use Rattle.seg_join.specs.MovedPostings.{SourceTerms, Ascend, moved, moved_from, moved_from_all, postings_with, term_at}
+use Rattle.seg_join.specs.MovedPostings.{SourceTerms, Ascend, moved_from, moved_from_all, postings_with, term_at}
 use Rattle.seg_join.specs.NewIds.{new_ids, numbered_from}
 use Rattle.seg_join.specs.SourcesJoined.{IsJoinable, AreJoinable}
 use Rattle.seg_join.specs.WritingTerms.{AscendBy, AreOfTerm, term_with}

@@ -5,7 +5,7 @@ use Rattle.std.proofs.lemmas.Option.{same_Some}
 use Rattle.seg_common.specs.Growing.{HasGrown}
 use Rattle.seg_model.specs.Reading.{Posting}
 use Rattle.seg_postings.specs.declared.record_kind.RecordKind.{RecordKind}
-use Rattle.seg_postings.specs.FieldWriting.{TermWritten, FieldWriting, MayOpen, closed, with_open}
+use Rattle.seg_postings.specs.FieldWriting.{FieldWriting, MayOpen, closed, with_open}
 use Rattle.seg_join.specs.WritingTerms.{term_with, open_postings, with_more, with_joined, AscendBy, AreOfTerm, MayTake}
 
 open_back : (key : List ℕ) (ps : List Posting) → open_postings (term_with key ps) ≡ ps

@@ -1,11 +1,9 @@
 -- The joined terms of a field, as a table of its keys.
-use Rattle.std.proofs.Common.{◌≡◌, ℕ, Bool, true, false, cond, T, ◌&&◌, List, [], ◌∷◌, ◌++◌, map, Some, None, Option, sym, refl, ap, ◌∙◌, subst}
+use Rattle.std.proofs.Common.{◌≡◌, ℕ, true, false, List, [], ◌∷◌, ◌++◌, map, Some, None, Option, sym, refl, ap, ◌∙◌}
 use Rattle.std.specs.Prelude.{is_some, option_to_list}
 use Rattle.std.specs.Cmp.Lexicographic.{nat_list_cmp_total}
-use Rattle.std.specs.FinMap.{contains_key-keys, entries, entries-from_sorted, entries_sorted, from_entries, from_sorted, get, get-from_entries, get-from_sorted, is_sorted, keys, same_map}
-use Rattle.std.specs.FinMap.Entries.{below_all}
+use Rattle.std.specs.FinMap.{contains_key-keys, entries, get, is_sorted, keys}
 use Rattle.std.specs.List.{AllByRecursion, flat_map}
-use Rattle.std.specs.Ordering.{is_lt}
 use Rattle.std.proofs.lemmas.Bool.{false≢true}
 use Rattle.std.proofs.lemmas.List.{map-append}
 use Rattle.seg_common.specs.declared.term_info.TermInfo.{TermInfo}
@@ -14,7 +12,7 @@ use Rattle.seg_model.specs.Join.{joined_postings, joined_terms}
 use Rattle.seg_model.specs.MergedTerms.{Standing, standings_from, if_stands, merged_terms}
 use Rattle.seg_model.specs.Reading.{Posting, if_any}
 use Rattle.seg_model.specs.SortedTerms.{key_cmp}
-use Rattle.seg_model.specs.Tables.{entry_of, is_among, tabulated}
+use Rattle.seg_model.specs.Tables.{entry_of, tabulated}
 use Rattle.seg_model.proofs.MergedTerms.{merged_terms_answer}
 use Rattle.seg_model.proofs.Tables.{IsComplete, same_table}
 use Rattle.seg_model.proofs.Terms.{texts_apart, complete_joined}

@@ -1,7 +1,6 @@
 pub mod FieldSources
 pub mod GivenPostings
 pub mod JoinedField
-pub mod JoinedFiles
 pub mod JoinedTables
 pub mod KeptCounts
 pub mod KeptLists

@@ -1,10 +1,10 @@
 -- Where a key is in segments, and the postings that it has there.
-use Rattle.std.proofs.Common.{◌≡◌, ℕ, zero, suc, ◌+◌, ◌<◌, ◌≤◌, Bool, true, false, cond, ◌&&◌, List, [], ◌∷◌, ◌++◌, map, length, take, drop, get_or, Some, None, Option, sym, refl, ap, ◌∙◌, subst, arith, append_assoc, length-append, inl, inr, ◌⊎◌}
+use Rattle.std.proofs.Common.{◌≡◌, ℕ, zero, suc, ◌+◌, ◌<◌, Bool, true, false, cond, List, [], ◌∷◌, ◌++◌, map, length, drop, get_or, Some, None, sym, refl, ap, ◌∙◌, subst, arith, append_assoc, length-append, inl, inr, ◌⊎◌}
 use Rattle.std.specs.Prelude.{IsSomeAnd, option_map, unwrap_or, filter}
-use Rattle.std.specs.FinMap.{find, is_sorted}
+use Rattle.std.specs.FinMap.{is_sorted}
 use Rattle.std.specs.FinMap.Entries.{below_all}
 use Rattle.std.specs.List.{AllByRecursion, flat_map, enumerate_from}
-use Rattle.std.specs.Ordering.{nat_cmp, eq_by_cmp, is_lt, is_eq}
+use Rattle.std.specs.Ordering.{nat_cmp, is_lt, is_eq}
 use Rattle.std.specs.Cmp.Lexicographic.{slice_cmp}
 use Rattle.std.specs.Str.{bytes_eq}
 use Rattle.std.specs.declared.cmp.Ordering.{Ordering}
@@ -21,7 +21,7 @@ use Rattle.seg_termdict.specs.Dictionary.{Term}
 use Rattle.seg_termdict.specs.Merging.{info_of}
 use Rattle.seg_termdict.specs.Streaming.{no_term}
 use Rattle.seg_postings.specs.FieldReading.{ReadTerm}
-use Rattle.seg_join.specs.MovedPostings.{SourceTerms, term_at, postings_with, moved, moved_from, moved_from_all, terms_of, ranked_of}
+use Rattle.seg_join.specs.MovedPostings.{SourceTerms, term_at, moved, moved_from, moved_from_all, ranked_of}
 use Rattle.seg_join.specs.SourcesJoined.{IsJoinable}
 use Rattle.seg_join.proofs.SortedEntries.{both_true}
 

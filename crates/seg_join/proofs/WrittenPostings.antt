@@ -1,52 +1,31 @@
 -- Terms that are written posting by posting.
-use Rattle.std.proofs.Common.{◌≡◌, ℕ, ◌+◌, ◌-◌, ◌<◌, ◌≤◌, ◌^◌, List, [], ◌∷◌, ◌++◌, map, length, take, drop, get_or, set, Some, None, Option, sym, refl, ap, ◌∙◌, subst, arith, suc}
+use Rattle.std.proofs.Common.{◌≡◌, ℕ, ◌+◌, ◌-◌, ◌<◌, ◌≤◌, ◌^◌, List, [], ◌∷◌, ◌++◌, map, take, Some, None, Option, sym, refl, ap, ◌∙◌, subst}
 use Rattle.std.specs.Prelude.{option_map, unwrap_or, IfSome, IsSomeAnd}
-use Rattle.std.specs.List.{fold, sum}
 use Rattle.std.proofs.lemmas.Option.{none-some, same_Some}
 use Rattle.seg_common.specs.Growing.{HasGrown}
 use Rattle.seg_model.specs.Reading.{Recorded, presence, frequency, positions, Posting}
 use Rattle.seg_postings.specs.declared.record_kind.RecordKind.{RecordKind}
 use Rattle.seg_postings.specs.FieldWriting.{TermWritten, FieldWriting, with_document, in_document, next_document, HasPositions, MayOccur, MayOpen}
-use Rattle.seg_postings.specs.PostingsForm.{differences, from_differences}
 use Rattle.seg_postings.specs.PostingsReading.{kind_kept, kept_kind_of, count_of, places_of, term_freq_of, positions_of}
 use Rattle.seg_postings.specs.Written.{Rise, recorded_as}
 use Rattle.seg_join.specs.MovedPostings.{under}
 use Rattle.seg_join.specs.WritingTerms.{term_with, open_postings, opened, with_more, with_postings, AscendBy, AreOfTerm, MayTake, MayTakeFirst}
 
--- ---- differences of positions that rise
-
-made_back : (before : ℕ) (ps : List ℕ) → Rise before ps → from_differences before (differences before ps) ≡ ps
-made_back before [] h = refl
-made_back before (p ∷ ps) (behind, small, rest) =
-    let e : before + (p - before) ≡ p = omega (arith, behind) in
-    ap (λ x. x ∷ from_differences x (differences p ps)) e ∙ ap (λ l. p ∷ l) (made_back p ps rest)
-
-as_many : (before : ℕ) (ps : List ℕ) → length (differences before ps) ≡ length ps
-as_many before [] = refl
-as_many before (p ∷ ps) = ap suc (as_many p ps)
-
--- the sum of the differences is the last position
-sum_low : (before : ℕ) (ps : List ℕ) → before < 2 ^ 32 → Rise before ps → fold ◌+◌ before (differences before ps) < 2 ^ 32
-sum_low before [] low h = low
-sum_low before (p ∷ ps) low (behind, small, rest) =
-    let e : before + (p - before) ≡ p = omega (arith, behind) in
-    subst (λ x. fold ◌+◌ x (differences p ps) < 2 ^ 32) (sym e) (sum_low p ps small rest)
-
 -- ---- what is written of a posting
 
-counted : (r : Recorded) → HasPositions (kind_kept r) (count_of r) (differences 0 (places_of r))
+counted : (r : Recorded) → HasPositions (kind_kept r) (count_of r) (places_of r)
 counted presence = refl
 counted (frequency n) = refl
-counted (positions ps) = as_many 0 ps
+counted (positions ps) = refl
 
-recorded : (r : Recorded) → Rise 0 (places_of r) → recorded_as (kind_kept r) (count_of r) (differences 0 (places_of r)) ≡ r
-recorded presence rise = refl
-recorded (frequency n) rise = refl
-recorded (positions ps) rise = ap positions (made_back 0 ps rise)
+recorded : (r : Recorded) → recorded_as (kind_kept r) (count_of r) (places_of r) ≡ r
+recorded presence = refl
+recorded (frequency n) = refl
+recorded (positions ps) = refl
 
 module _ (id : ℕ) (left : List Posting) (rise : Rise 0 (positions_of left)) where
   abbrev places : List ℕ
-  places = differences 0 (positions_of left)
+  places = positions_of left
 
   may : (t : TermWritten) → MayTakeFirst id left t → MayOccur id (term_freq_of left) places t
   may t takes = record {
@@ -54,12 +33,12 @@ module _ (id : ℕ) (left : List Posting) (rise : Rise 0 (positions_of left)) wh
     limit = takes.limit;
     some = takes.occurs;
     counted = by left takes.keeps;
-    low = sum_low 0 (positions_of left) (omega arith) rise;
+    rise = rise;
   }
     where
-      by : (ps : List Posting) → kept_kind_of ps ≡ Some t.kind → HasPositions t.kind (term_freq_of ps) (differences 0 (positions_of ps))
+      by : (ps : List Posting) → kept_kind_of ps ≡ Some t.kind → HasPositions t.kind (term_freq_of ps) (positions_of ps)
       by [] keeps = absurd (none-some t.kind keeps)
-      by (p ∷ ps) keeps = subst (λ (k : RecordKind). HasPositions k (count_of p.recorded) (differences 0 (places_of p.recorded))) (same_Some (kind_kept p.recorded) t.kind keeps) (counted p.recorded)
+      by (p ∷ ps) keeps = subst (λ (k : RecordKind). HasPositions k (count_of p.recorded) (places_of p.recorded)) (same_Some (kind_kept p.recorded) t.kind keeps) (counted p.recorded)
 
   may_current : (c : Option TermWritten) → IsSomeAnd c (MayTakeFirst id left) → IsSomeAnd c (MayOccur id (term_freq_of left) places)
   may_current None h = absurd h
@@ -70,13 +49,13 @@ module _ (id : ℕ) (left : List Posting) (rise : Rise 0 (positions_of left)) wh
   may_field (Some w) h = may_current w.current h
 
   more : (t : TermWritten) → MayTakeFirst id left t → in_document id (term_freq_of left) places t ≡ record t { postings = t.postings ++ map (under id) (take 1 left) }
-  more t takes = by left takes.keeps rise
+  more t takes = by left takes.keeps
     where
-      by : (ps : List Posting) → kept_kind_of ps ≡ Some t.kind → Rise 0 (positions_of ps) → in_document id (term_freq_of ps) (differences 0 (positions_of ps)) t ≡ record t { postings = t.postings ++ map (under id) (take 1 ps) }
-      by [] keeps up = absurd (none-some t.kind keeps)
-      by (p ∷ ps) keeps up =
-          let kept : recorded_as t.kind (count_of p.recorded) (differences 0 (places_of p.recorded)) ≡ p.recorded =
-          ap (λ (k : RecordKind). recorded_as k (count_of p.recorded) (differences 0 (places_of p.recorded))) (sym (same_Some (kind_kept p.recorded) t.kind keeps)) ∙ recorded p.recorded up in
+      by : (ps : List Posting) → kept_kind_of ps ≡ Some t.kind → in_document id (term_freq_of ps) (positions_of ps) t ≡ record t { postings = t.postings ++ map (under id) (take 1 ps) }
+      by [] keeps = absurd (none-some t.kind keeps)
+      by (p ∷ ps) keeps =
+          let kept : recorded_as t.kind (count_of p.recorded) (places_of p.recorded) ≡ p.recorded =
+          ap (λ (k : RecordKind). recorded_as k (count_of p.recorded) (places_of p.recorded)) (sym (same_Some (kind_kept p.recorded) t.kind keeps)) ∙ recorded p.recorded in
           ap (λ r. record t { postings = t.postings ++ record { document = id; recorded = r } ∷ [] }) kept
 
   more_current : (c : Option TermWritten) → IsSomeAnd c (MayTakeFirst id left) → option_map (in_document id (term_freq_of left) places) c ≡ option_map (λ (t : TermWritten). record t { postings = t.postings ++ map (under id) (take 1 left) }) c

@@ -1,5 +1,5 @@
 -- The terms of a field in segments, joined.
-use Rattle.std.specs.Prelude.{◌≡◌, ◌+◌, ◌*◌, ◌/◌, ◌==◌, if◌then◌else◌, ℕ, Bool, true, false, List, [], ◌∷◌, map, is_some, Option, Some, None}
+use Rattle.std.specs.Prelude.{◌≡◌, ◌+◌, ◌*◌, ◌/◌, ◌<◌, ◌^◌, ◌==◌, if◌then◌else◌, ℕ, List, [], ◌∷◌, map, is_some, Option, Some, None}
 use Rattle.std.specs.FinMap.{get, entries}
 use Rattle.std.specs.List.{slice_get, AllByRecursion}
 use Rattle.seg_bits.specs.BitSets.{member_count}
@@ -10,12 +10,11 @@ use Rattle.seg_model.specs.Reading.{Posting, term_option}
 use Rattle.seg_model.specs.Shape.{IsTermWith}
 use Rattle.seg_postings.specs.FieldReading.{ReadTerm, OpenField, written_terms}
 use Rattle.seg_postings.specs.FieldWriting.{TermWritten}
-use Rattle.seg_postings.specs.Files.{FieldFiles, AddsField}
 use Rattle.seg_postings.specs.HeldTerms.{terms_held}
 use Rattle.seg_postings.specs.Kinds.{kind_of}
-use Rattle.seg_join.specs.KeptSegment.{KeptSegment, IsMarked, part_of}
+use Rattle.seg_join.specs.KeptSegment.{KeptSegment, IsMarked, kept_count, part_of}
 use Rattle.seg_join.specs.MovedPostings.{SourceTerms}
-use Rattle.seg_join.specs.NewIds.{NumberedSegment}
+use Rattle.seg_join.specs.NewIds.{NumberedSegment, numbered_from, parts_of}
 
 -- each field that is indexed is open, and no other
 abbrev pub FieldsAreOpen : KeptSegment → Type 0
@@ -42,18 +41,17 @@ pub record IsOfField (entry : FieldEntry) (field : ℕ) (p : KeptSegment) : Type
   pub marked : IsMarked p
   pub shape : (term : List ℕ) (postings : List Posting) → get (terms_held (written_terms opened)) term ≡ Some postings → IsTermWith entry p.segment.documents term postings
 
--- the joined terms of a field were added to files, each recorded as the field asks
-pub record AddsJoined (entry : FieldEntry) (field : ℕ) (parts : List KeptSegment) (old new : Option FieldFiles) : Type 0 where
-  pub total : ℕ
-  pub written : List TermWritten
-  pub adds : AddsField old new (record { field = field; total = total; terms = written; current = None })
-  pub kinds : AllByRecursion (λ t. t.kind ≡ kind_of (term_option entry t.bytes)) written
-  pub are : map (λ t. (t.bytes, t.postings)) written ≡ entries (joined_terms (map part_of parts) (field, entry))
+-- the terms of a field can be joined: it is open in each segment, and the kept documents have their new ids
+pub record CanJoin (numbered : List NumberedSegment) (field : ℕ) : Type 0 where
+  pub ids : numbered ≡ numbered_from 0 (parts_of numbered)
+  pub few : kept_count (parts_of numbered) < 2 ^ 31
+  pub entry : FieldEntry
+  pub segments : AllByRecursion (IsOfField entry field) (parts_of numbered)
 
--- where the field is indexed; else none was added
-abbrev pub AddsIfIndexed : Bool → FieldEntry → ℕ → List KeptSegment → Option FieldFiles → Option FieldFiles → Type 0
-AddsIfIndexed true entry field parts old new = AddsJoined entry field parts old new
-AddsIfIndexed false entry field parts old new = new ≡ old
+-- these are the joined terms of a field, each recorded as the field asks
+pub record AreJoined (numbered : List NumberedSegment) (field : ℕ) (terms : List TermWritten) : Type 0 where
+  pub kinds : (entry : FieldEntry) → AllByRecursion (IsOfField entry field) (parts_of numbered) → AllByRecursion (λ t. t.kind ≡ kind_of (term_option entry t.bytes)) terms
+  pub are : (entry : FieldEntry) → AllByRecursion (IsOfField entry field) (parts_of numbered) → map (λ t. (t.bytes, t.postings)) terms ≡ entries (joined_terms (map part_of (parts_of numbered)) (field, entry))
 
 -- as large a part of the tokens of a segment as is kept of its documents, rounded down
 abbrev pub kept_tokens : ℕ → ℕ → ℕ → ℕ

@@ -34,6 +34,16 @@ impl<'a> MergePart<'a> {
         MergePart { reader, alive }
     }
 
+    /// The same segment once more.
+    pub(crate) fn share(&self) -> MergePart<'a>
+        ensures { result ≡ self.now }
+    {
+        MergePart {
+            reader: self.reader,
+            alive: self.alive,
+        }
+    }
+
     pub fn reader(&self) -> &SegmentReader
         ensures { result.now ≡ self.now.segment }
     {

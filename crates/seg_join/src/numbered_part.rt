@@ -17,26 +17,22 @@ use std::marker::Model;
 
 /// A segment that is merged, and the new ids of its documents.
 #[derive(Drop)]
-pub(crate) struct NumberedPart<'a, 'b> {
-    part: &'a MergePart<'b>,
+pub(crate) struct NumberedPart<'a> {
+    part: MergePart<'a>,
     ids: NewIds,
 }
 
-impl<'a, 'b> Model for NumberedPart<'a, 'b> {
+impl<'a> Model for NumberedPart<'a> {
     ghost use Rattle.seg_join.specs.NewIds.{NumberedSegment};
 
     ghost Value = { NumberedSegment };
 
-    ghost view = { λ n. record { part = n.part.now; ids = n.ids } };
+    ghost view = { λ n. record { part = n.part; ids = n.ids } };
 }
 
-impl<'a, 'b> NumberedPart<'a, 'b> {
+impl<'a> NumberedPart<'a> {
     /// Gives the kept documents their ids, from `first` on.
-    fn new(
-        alloc: Global,
-        part: &'a MergePart<'b>,
-        first: u32,
-    ) -> Result<NumberedPart<'a, 'b>, AllocError>
+    fn new(alloc: Global, part: &MergePart<'a>, first: u32) -> Result<NumberedPart<'a>, AllocError>
         requires { first + member_count part.now.alive < 2 ^ 31 }
         ensures is { IfOk result (λ n. n ≡ record { part = part.now; ids = new_ids first part.now.alive }) }
         ensures marked { IsMarked part.now }
@@ -45,7 +41,10 @@ impl<'a, 'b> NumberedPart<'a, 'b> {
         part.documents_are_marked();
         part.reader().indexed_fields_are_open();
         let ids = NewIds::new(alloc, part, first)?;
-        Ok(NumberedPart { part, ids })
+        Ok(NumberedPart {
+            part: part.share(),
+            ids,
+        })
     }
 
     /// The terms of an indexed field, with the new ids.
@@ -77,13 +76,36 @@ impl<'a, 'b> NumberedPart<'a, 'b> {
     }
 }
 
+/// Segments that are merged, one after another.
+#[derive(Drop)]
+pub(crate) struct NumberedParts<'a> {
+    parts: Vec<NumberedPart<'a>>,
+}
+
+impl<'a> Model for NumberedParts<'a> {
+    ghost use Rattle.std.specs.Prelude.{List};
+    ghost use Rattle.seg_join.specs.NewIds.{NumberedSegment};
+
+    ghost Value = { List NumberedSegment };
+
+    ghost view = { λ n. n.parts.items };
+}
+
+impl<'a> NumberedParts<'a> {
+    pub(crate) fn as_slice(&self) -> &[NumberedPart<'a>]
+        ensures { result.now ≡ self.now }
+    {
+        &self.parts
+    }
+}
+
 /// Gives the kept documents of segments their ids, one segment after another, from 0 on.
-pub(crate) fn number_parts<'a, 'b>(
+pub(crate) fn number_parts<'a>(
     alloc: Global,
-    parts: &'a [MergePart<'b>],
-) -> Result<Vec<NumberedPart<'a, 'b>>, AllocError>
+    parts: &[MergePart<'a>],
+) -> Result<NumberedParts<'a>, AllocError>
     requires few { kept_count parts.now < 2 ^ 31 }
-    ensures numbered { IfOk result (λ ns. ns.items ≡ numbered_from 0 parts.now) }
+    ensures numbered { IfOk result (λ ns. ns ≡ numbered_from 0 parts.now) }
     ensures marked { OnOk result (AllByRecursion IsMarked parts.now) }
     ensures fields { OnOk result (AllByRecursion FieldsAreOpen parts.now) }
 {
@@ -93,7 +115,7 @@ pub(crate) fn number_parts<'a, 'b>(
         numbered.push(NumberedPart::new(alloc, part, first)?)?;
         first += part.num_live() as u32;
     }
-    Ok(numbered)
+    Ok(NumberedParts { parts: numbered })
 }
 
 /// As large a part of the tokens of a segment as is kept of its documents, rounded down: tantivy's estimate for a field

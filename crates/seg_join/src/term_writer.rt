@@ -2,9 +2,7 @@
 ghost use Rattle.std.specs.Prelude.{◌≡◌, ◌<◌, Some, None, map, take, length, IfOk, IfErr, IfSome, IsSomeAnd, OnOk};
 ghost use Rattle.seg_common.specs.Growing.{HasGrown};
 ghost use Rattle.seg_postings.specs.FieldWriting.{MayOpen, closed};
-ghost use Rattle.seg_postings.specs.PostingsForm as form;
 ghost use Rattle.seg_postings.specs.PostingsReading.{kept_kind_of};
-ghost use Rattle.seg_postings.specs.Written.{Rise};
 ghost use Rattle.seg_join.specs.MovedPostings.{under};
 ghost use Rattle.seg_join.specs.WritingTerms.{MayTake, MayTakeFirst, opened, with_more, with_postings};
 
@@ -18,7 +16,7 @@ use std::marker::Model;
 pub(crate) struct TermWriter {
     field: FieldSerializer,
     is_open: bool,
-    differences: Vec<u32>,
+    positions: Vec<u32>,
 }
 
 impl Model for TermWriter {
@@ -41,7 +39,7 @@ impl TermWriter {
         TermWriter {
             field,
             is_open: false,
-            differences: Vec::new(alloc),
+            positions: Vec::new(alloc),
         }
     }
 
@@ -91,10 +89,9 @@ impl TermWriter {
         ensures ok { OnOk result (HasGrown self.old self.new (with_postings (map (under id) (take 1 postings.now.left)))) }
         ensures err { IfErr result (λ e. e ≡ PostingsError.OutOfMemory) }
     {
-        postings.positions(&mut self.differences)?;
-        set_differences(&mut self.differences);
+        postings.positions(&mut self.positions)?;
         self.field
-            .write_doc(id, postings.term_freq(), &self.differences)
+            .write_doc(id, postings.term_freq(), &self.positions)
     }
 
     /// Closes the term that is open, if one is.
@@ -109,18 +106,5 @@ impl TermWriter {
         self.field.close_term()?;
         self.is_open = false;
         Ok(())
-    }
-}
-
-/// Replaces positions by their differences: each from the one before, the first from 0.
-fn set_differences(positions: &mut Vec<u32>)
-    requires { Rise 0 positions.old.items }
-    ensures { positions.new.items ≡ form.differences 0 positions.old.items }
-{
-    let mut before = 0;
-    for position in positions.iter_mut() {
-        let difference = *position - before;
-        before = *position;
-        *position = difference;
     }
 }

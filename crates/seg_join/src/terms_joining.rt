@@ -1,23 +1,23 @@
 //! The terms of segments, joined.
-ghost use Rattle.std.specs.Prelude.{◌≡◌, ◌<◌, ◌≤◌, ◌-◌, ◌^◌, true, map, min, IfOk, IfErr, IfSome, OnOk};
+ghost use Rattle.std.specs.Prelude.{◌≡◌, ◌<◌, ◌-◌, ◌^◌, true, map, min, IfOk, IfErr};
 ghost use Rattle.std.specs.List.{AllByRecursion};
-ghost use Rattle.seg_directory.specs.Composite.{low_after};
 ghost use Rattle.seg_model.specs.Fields as model;
 ghost use Rattle.seg_model.specs.Join.{joined_terms};
 ghost use Rattle.seg_segment.specs.Built.{is_built_schema};
 ghost use Rattle.seg_segment.specs.HoldTerms.{HoldTerms};
-ghost use Rattle.seg_join.specs.JoinedTerms.{AddsIfIndexed, IsOfField, IsOpenAt, source_of, tokens_in};
+ghost use Rattle.seg_join.specs.JoinedTerms.{IsOpenAt, source_of, tokens_in};
 ghost use Rattle.seg_join.specs.KeptSegment.{IsOfSchema, kept_count, part_of};
 ghost use Rattle.seg_join.specs.MovedPostings.{Ascend};
-ghost use Rattle.seg_join.specs.NewIds.{numbered_from, parts_of};
+ghost use Rattle.seg_join.specs.NewIds.{parts_of};
 
 use crate::merge_part::MergePart;
-use crate::numbered_part::{NumberedPart, number_parts};
+use crate::numbered_part::{NumberedPart, NumberedParts, number_parts};
 use crate::term_merging::write_terms;
 use crate::term_source::TermSource;
 use crate::term_writer::TermWriter;
-use seg_postings::{InvertedIndexSerializer, PostingsError, PostingsFiles};
-use seg_values::{Field, FieldEntry, Schema};
+use seg_postings::{FieldSerializer, PostingsError, PostingsFiles};
+use seg_segment::{TermsByField, write_fields};
+use seg_values::{Field, Schema};
 use std::alloc::{AllocError, Global};
 
 /// The files of the terms, postings and positions of segments that are joined. A term is written where a kept document has
@@ -33,47 +33,43 @@ pub(crate) fn join_terms(
     ensures ok { IfOk result (λ files. HoldTerms schema.now files.terms.items files.postings.items files.positions.items (map (joined_terms (map part_of parts.now)) (model.fields schema.now))) }
     ensures err { IfErr result (λ e. e ≡ PostingsError.OutOfMemory) }
 {
-    schema.fields_are_valid();
     let numbered = number_parts(alloc, parts)?;
-    let mut files = InvertedIndexSerializer::new(alloc);
-    let entries = schema.fields();
-    for at in 0..entries.len() {
-        let field = Field::from_field_id(at as u32);
-        join_field(alloc, &entries[at], field, &numbered, &mut files)?;
-    }
-    files.close()
+    write_fields(alloc, schema, &numbered)?.close()
 }
 
-/// Adds the terms of a field, where it is indexed. It is above those added before.
-fn join_field(
-    alloc: Global,
-    entry: &FieldEntry,
-    field: Field,
-    parts: &[NumberedPart<'_, '_>],
-    files: &mut InvertedIndexSerializer,
-) -> Result<(), PostingsError>
-    requires numbered { parts.now ≡ numbered_from 0 (parts_of parts.now) }
-    requires few { kept_count (parts_of parts.now) < 2 ^ 31 }
-    requires segments { model.is_indexed entry.now ≡ true → AllByRecursion (IsOfField entry.now field) (parts_of parts.now) }
-    requires ascends { IfSome files.old (λ f. (low_after 0 f.terms ≤ field) × (low_after 0 f.postings ≤ field) × (low_after 0 f.positions ≤ field)) }
-    requires limit { field < 2 ^ 32 - 1 }
-    ensures ok { OnOk result (AddsIfIndexed (model.is_indexed entry.now) entry.now field (parts_of parts.now) files.old files.new) }
-    ensures err { IfErr result (λ e. e ≡ PostingsError.OutOfMemory) }
-{
-    if !entry.is_indexed() {
-        return Ok(());
+impl<'a> TermsByField for NumberedParts<'a> {
+    ghost use Rattle.std.specs.Prelude.{◌-◌, ◌^◌, min};
+    ghost use Rattle.seg_join.specs.JoinedTerms.{AreJoined, CanJoin, tokens_in};
+    ghost use Rattle.seg_join.specs.NewIds.{parts_of};
+
+    ghost total = { λ parts field. min (tokens_in field (parts_of parts)) (2 ^ 64 - 1) };
+
+    ghost has = { λ parts field terms. AreJoined parts field terms };
+
+    ghost can_write = { λ parts field. CanJoin parts field };
+
+    fn total_num_tokens(&self, field: Field) -> Result<u64, PostingsError> {
+        Ok(tokens_of(field, self.as_slice()))
     }
-    let sources = sources_of(alloc, field, parts)?;
-    let mut writer = TermWriter::new(alloc, files.new_field(field, tokens_of(field, parts))?);
-    write_terms(alloc, &sources, &mut writer)?;
-    writer.into_field().close(files)
+
+    fn write_terms(
+        &self,
+        alloc: Global,
+        field: Field,
+        writer: FieldSerializer,
+    ) -> Result<FieldSerializer, PostingsError> {
+        let sources = sources_of(alloc, field, self.as_slice())?;
+        let mut writer = TermWriter::new(alloc, writer);
+        write_terms(alloc, &sources, &mut writer)?;
+        Ok(writer.into_field())
+    }
 }
 
 /// The terms of an indexed field in each of the segments.
 fn sources_of<'a>(
     alloc: Global,
     field: Field,
-    parts: &'a [NumberedPart<'_, '_>],
+    parts: &'a [NumberedPart<'_>],
 ) -> Result<Vec<TermSource<'a>>, AllocError>
     requires { AllByRecursion (IsOpenAt field) (parts_of parts.now) }
     ensures are { IfOk result (λ sources. sources.items ≡ map (source_of field) parts.now) }
@@ -87,7 +83,7 @@ fn sources_of<'a>(
 }
 
 /// An estimate of the tokens of an indexed field in all kept documents; `u64::MAX` where it is more.
-fn tokens_of(field: Field, parts: &[NumberedPart<'_, '_>]) -> u64
+fn tokens_of(field: Field, parts: &[NumberedPart<'_>]) -> u64
     requires { AllByRecursion (IsOpenAt field) (parts_of parts.now) }
     ensures { result ≡ min (tokens_in field (parts_of parts.now)) (2 ^ 64 - 1) }
 {

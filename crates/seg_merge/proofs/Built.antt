@@ -10,9 +10,10 @@ use Rattle.seg_model.specs.Valid.{Known}
 use Rattle.seg_open.specs.SegmentOpened.{IsNoDamage}
 use Rattle.seg_batches.proofs.Calls.{does-nothing}
 use Rattle.seg_refusals.specs.Refusals.{IsRefusal, first_error, refusal_error}
+use Rattle.seg_refusals.proofs.Refusing.{first_is_refusal}
 use Rattle.seg_merge.specs.Builds.{StopsBuilding}
 use Rattle.seg_merge.specs.DirectoryCalls.{Asked, Directories, StopsIn, asked_of, at_once, work_listing}
-use Rattle.seg_merge.proofs.WholeExits.{any_first, refusal_then}
+use Rattle.seg_merge.proofs.WholeExits.{refusal_then}
 use Rattle.seg_merge.proofs.WholeRefused.{caused_refusal, refusal_undamaged}
 
 -- ---- before a directory is called
@@ -29,24 +30,27 @@ stops_at_once : (asked : Asked) (e : TantivyError) (state : Directories) → IsR
 stops_at_once asked e state (inl refusal) = at_once refusal refl
 stops_at_once asked e state (inr starved) = subst (λ (x : TantivyError). StopsIn asked x state state) (sym starved) (work_listing (does-nothing _ _ state.work) refl)
 
-first_or_memory : (o : Option TantivyError) (e : TantivyError) (P : Type 0) → P → (e ≡ OutOfMemory) ⊎ (o ≡ Some e) → IfSome o (λ x. ((e ≡ x) ⊎ (e ≡ OutOfMemory)) × P)
-first_or_memory o e P p (inl starved) = any (o)
-  where
-    any : (o : Option TantivyError) → IfSome o (λ x. ((e ≡ x) ⊎ (e ≡ OutOfMemory)) × P)
-    any None = tt
-    any (Some x) = (inr starved, p)
-first_or_memory o e P p (inr is) = subst (λ (o : Option TantivyError). IfSome o (λ x. ((e ≡ x) ⊎ (e ≡ OutOfMemory)) × P)) (sym is) (inl refl, p)
+first_or_memory : (o : Option TantivyError) (e : TantivyError) (P : Type 0) → P → (o ≡ Some e) ⊎ (e ≡ OutOfMemory) → IfSome o (λ x. ((e ≡ x) ⊎ (e ≡ OutOfMemory)) × P)
+first_or_memory o e P p (inl is) = subst (λ (o : Option TantivyError). IfSome o (λ x. ((e ≡ x) ⊎ (e ≡ OutOfMemory)) × P)) (sym is) (inl refl, p)
+first_or_memory None e P p (inr starved) = tt
+first_or_memory (Some x) e P p (inr starved) = (inr starved, p)
+
+refusal_or_memory : (known : Known) (analyzer : Analyzer) (input : Input) (e : TantivyError) → (first_error known analyzer input ≡ Some e) ⊎ (e ≡ OutOfMemory) → IsRefusal e ⊎ (e ≡ OutOfMemory)
+refusal_or_memory known analyzer input e (inl is) = inl (first_is_refusal known analyzer input e is)
+refusal_or_memory known analyzer input e (inr starved) = inr starved
 
 pub not_begun : (known : Known) (analyzer : Analyzer) (input : Input) (e : TantivyError) (state : Directories)
-    → (e ≡ OutOfMemory) ⊎ (first_error known analyzer input ≡ Some e) → IsRefusal e ⊎ (e ≡ OutOfMemory) → StopsBuilding known analyzer input e state state
-not_begun known analyzer input e state cause kind = record {
-  first = first_or_memory (first_error known analyzer input) e _ refl cause;
-  refused = λ told. caused_refusal known analyzer input e cause;
-  untold = refusal_then (λ x. refusal_error known analyzer input ≡ Some x) (λ x. (refusal_error known analyzer input ≡ Some x) ⊎ (x ≡ InvalidArgument Documents)) e (λ x is. inl is) (caused_refusal known analyzer input e cause);
-  fresh = λ empty. not_there e kind;
-  whole = λ told. undamaged e kind;
-  stops = stops_at_once (asked_of analyzer input) e state kind;
-}
+    → (first_error known analyzer input ≡ Some e) ⊎ (e ≡ OutOfMemory) → StopsBuilding known analyzer input e state state
+not_begun known analyzer input e state cause =
+    let kind = refusal_or_memory known analyzer input e cause in
+    record {
+      first = first_or_memory (first_error known analyzer input) e _ refl cause;
+      refused = λ told. caused_refusal known analyzer input e cause;
+      untold = refusal_then (λ x. refusal_error known analyzer input ≡ Some x) (λ x. (refusal_error known analyzer input ≡ Some x) ⊎ (x ≡ InvalidArgument Documents)) e (λ x is. inl is) (caused_refusal known analyzer input e cause);
+      fresh = λ empty. not_there e kind;
+      whole = λ told. undamaged e kind;
+      stops = stops_at_once (asked_of analyzer input) e state kind;
+    }
 
 -- ---- what is said of the answer
 

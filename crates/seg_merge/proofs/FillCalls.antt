@@ -1,5 +1,5 @@
 -- The calls that fill the work index: the six files of each segment, the alive files, and the meta.
-use Rattle.std.proofs.Common.{◌≡◌, ◌≢◌, ℕ, List, [], ◌∷◌, ◌++◌, map, take, sym, ap, ◌∙◌, subst, Result, Ok, Err, inl, inr}
+use Rattle.std.proofs.Common.{◌≡◌, ◌≢◌, ℕ, List, [], ◌∷◌, ◌++◌, map, take, sym, subst, Result, Ok, Err, inl, inr}
 use Rattle.std.specs.List.{AllByRecursion}
 use Rattle.seg_common.specs.declared.name.FileName.{FileName}
 use Rattle.seg_common.specs.declared.name.FileName.TheVariants.{Meta}
@@ -47,8 +47,8 @@ module _ (segments : List ListedSegment) where
   meta-last other all = (all.0, tt)
 
   -- it stops in an alive file
-  pub stops-alive : (T : Type 0) (e : TantivyError) (a b : DirectoryState) → Does {T = Unit {0}} (wrote alive) alive (Err e) a b → Does {T = T} last_answers last_names (Err e) a b
-  stops-alive T e a b d = does-stop {S = Unit {0}} {T = T} e (wrote alive) saved last_names a b (does-among (Err e) (wrote alive) alive last_names a b alive-last d)
+  pub stops-alive : (S T : Type 0) (e : TantivyError) (a b : DirectoryState) → Does {T = S} (wrote alive) alive (Err e) a b → Does {T = T} last_answers last_names (Err e) a b
+  stops-alive S T e a b d = does-stop {S = S} {T = T} e (wrote alive) saved last_names a b (does-among (Err e) (wrote alive) alive last_names a b alive-last d)
 
   -- or comes to the meta
   pub comes-to-meta : {T : Type 0} (r : Result T TantivyError) (a b c : DirectoryState) → Does {T = Unit {0}} (wrote alive) alive (Ok tt) a b → Does saved (Meta ∷ []) r b c → Does last_answers last_names r a c
@@ -98,9 +98,3 @@ module _ (segments : List ListedSegment) where
         made-first =
             subst (λ (ns : List ℕ). Does {T = Unit {0}} (wrote (six_files (take r.made ns))) (index_names segments) (Ok tt) a b) (sym same)
             (does-among (Ok tt) (wrote (six_files (take r.made ids))) (six_files ids) (index_names segments) a b among-ids r.makes)
-
--- the same, of the list that it is
-pub fills-as : {T : Type 0} (list segments : List ListedSegment) (ids : List ℕ) → list ≡ segments → map (λ (s : ListedSegment). s.id) segments ≡ ids → (r : Result T TantivyError) (a b c : DirectoryState) → MakesFiles (Ok tt) ids ids a b → Does (last_answers list) (last_names list) r b c
-    → FillsUpTo segments r a c
-fills-as list segments ids is same r a b c made last =
-    subst (λ (l : List ListedSegment). FillsUpTo l r a c) is (fills list ids (ap (λ (l : List ListedSegment). map (λ (s : ListedSegment). s.id) l) is ∙ same) r a b c made last)

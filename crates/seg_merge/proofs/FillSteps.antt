@@ -1,6 +1,6 @@
 -- The segments of batches as they are listed, and what stays of their files while the work index is filled.
-use Rattle.std.proofs.Common.{◌≡◌, ◌≢◌, ◌<◌, ◌^◌, ℕ, suc, ◌+◌, ◌-◌, Bool, true, false, List, [], ◌∷◌, ◌++◌, length, map, drop, refl, sym, ap, ◌∙◌, subst, Result, Ok, Err, None, Some, Option, inl, inr, arith}
-use Rattle.std.specs.Prelude.{OnOk, ◌⊎◌, ◌&&◌, ◌||◌, not, nat_eq}
+use Rattle.std.proofs.Common.{◌≡◌, ◌≢◌, ◌<◌, ◌^◌, ℕ, suc, ◌+◌, ◌-◌, Bool, true, false, List, [], ◌∷◌, ◌++◌, length, map, drop, refl, sym, ap, ◌∙◌, subst, None, Some, Option, inl, inr, arith}
+use Rattle.std.specs.Prelude.{◌⊎◌, ◌&&◌, ◌||◌, not, nat_eq}
 use Rattle.std.specs.FinMap.{get}
 use Rattle.std.specs.List.{AllByRecursion, list_any}
 use Rattle.std.proofs.lemmas.Bool.Decides.{nat_tests}
@@ -161,12 +161,6 @@ module _ (old new : NamedFiles) (kept : KeepsAllBut (Meta ∷ []) old new) where
   tell_kept stamp [] h = tt
   tell_kept stamp (s ∷ segments) h = (tells_kept s.id s.documents s.alive (deletes_of stamp s.alive) h.0, tell_kept stamp segments h.1)
 
--- ---- results
-
-pub on_ok : {T E : Type 0} (P : Type 0) (r : Result T E) → P → OnOk r P
-on_ok P (Ok x) h = h
-on_ok P (Err e) h = tt
-
 -- ---- refusals
 
 -- of two reasons there is the second
@@ -201,12 +195,6 @@ module _ (schema : Schema) (analyzer : Analyzer) (ids cuts : List ℕ) (operatio
 
   pub listed_are : map (λ (s : ListedSegment). s.id) (listed_of schema analyzer ids cuts operations) ≡ ids
   listed_are = listed_ids (length operations) (written_of schema analyzer ids cuts operations) ∙ ids_are
-
--- as they are listed, where there are this many operations
-pub listed_is : (schema : Schema) (analyzer : Analyzer) (ids cuts : List ℕ) (operations : List Operation) (stamp : ℕ) (segments : List WrittenSegment) → stamp ≡ length operations → segments ≡ written_of schema analyzer ids cuts operations
-    → all_listed stamp segments ≡ listed_of schema analyzer ids cuts operations
-listed_is schema analyzer ids cuts operations stamp segments counted are =
-    ap (λ n. all_listed n segments) counted ∙ ap (all_listed (length operations)) are
 
 -- where none of all files is there, none of the six is, and no alive file
 pub six_absent : (segments : List ListedSegment) (ids : List ℕ) (files : NamedFiles) → map (λ (s : ListedSegment). s.id) segments ≡ ids → AreAbsent (segments_files segments) files → AreAbsent (six_files ids) files

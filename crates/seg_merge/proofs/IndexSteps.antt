@@ -1,5 +1,5 @@
 -- The calls that write an index, all in turn.
-use Rattle.std.proofs.Common.{◌≡◌, ◌≢◌, ◌<◌, ℕ, List, [], ◌∷◌, ◌++◌, map, sym, ap, ◌∙◌, subst, append_assoc, Result, Ok, Err, Bool, arith}
+use Rattle.std.proofs.Common.{◌≡◌, ◌≢◌, List, [], ◌∷◌, ◌++◌, map, sym, ap, ◌∙◌, subst, append_assoc, Result, Ok, Err, Bool}
 use Rattle.std.specs.Prelude.{IsTrue}
 use Rattle.std.specs.List.{AllByRecursion}
 use Rattle.std.proofs.lemmas.List.{map-append}
@@ -14,11 +14,8 @@ use Rattle.seg_segment.specs.SegmentFiles.{wrote}
 use Rattle.seg_batches.specs.Calls.{Does}
 use Rattle.seg_directory.specs.State.{DirectoryState}
 use Rattle.seg_batches.specs.Segments.{six_files, alive_files}
-use Rattle.seg_batches.proofs.Calls.{does-then, does-stop, does-among}
-use Rattle.seg_merge.specs.IndexFiles.{begun_answers, filled_answers, index_answers, index_names}
-
-abbrev pub Outcome : Type 0
-Outcome = Result (Unit {0}) TantivyError
+use Rattle.seg_batches.proofs.Calls.{does-stop, does-among}
+use Rattle.seg_merge.specs.IndexFiles.{filled_answers, index_names}
 
 -- ---- names among others
 
@@ -41,17 +38,11 @@ module _ (segments : List ListedSegment) where
   abbrev pub alive : List FileName
   alive = alive_files segments
 
-  abbrev pub saved : List Answer
+  abbrev saved : List Answer
   saved = answer.Wrote Meta ∷ []
-
-  pub among-meta : Among (Meta ∷ []) (index_names segments)
-  among-meta other all = (all.0, tt)
 
   pub among-six : Among six (index_names segments)
   among-six other all = all-left (λ name. other ≢ name) six alive all.1
-
-  pub among-alive : Among alive (index_names segments)
-  among-alive other all = all-right (λ name. other ≢ name) six alive all.1
 
   -- the answers, file by file
   pub filled-is : wrote six ++ (wrote alive ++ saved) ≡ filled_answers segments
@@ -60,37 +51,9 @@ module _ (segments : List ListedSegment) where
   does-as : {T : Type 0} (r : Result T TantivyError) (a b : DirectoryState) → Does (wrote six ++ (wrote alive ++ saved)) (index_names segments) r a b → Does (filled_answers segments) (index_names segments) r a b
   does-as r a b d = subst (λ answers. Does answers (index_names segments) r a b) filled-is d
 
-  -- ---- the work index is filled
-
   -- it stops in the files of the segments
   pub stops-in-six : (e : TantivyError) (a b : DirectoryState) → Does {T = Unit {0}} (wrote six) six (Err e) a b → Does {T = Unit {0}} (filled_answers segments) (index_names segments) (Err e) a b
   stops-in-six e a b d = does-as (Err e) a b (does-stop e (wrote six) (wrote alive ++ saved) (index_names segments) a b (does-among (Err e) (wrote six) six (index_names segments) a b among-six d))
-
-  -- after them
-  pub behind-six : (r : Outcome) (a b c : DirectoryState) → Does {T = Unit {0}} (wrote six) six (Ok tt) a b → Does (wrote alive ++ saved) (index_names segments) r b c → Does (filled_answers segments) (index_names segments) r a c
-  behind-six r a b c d e = does-as r a c (does-then tt r (wrote six) (wrote alive ++ saved) (index_names segments) a b c (does-among (Ok tt) (wrote six) six (index_names segments) a b among-six d) e)
-
-  -- in an alive file
-  pub stops-in-alive : (e : TantivyError) (a b : DirectoryState) → Does {T = Unit {0}} (wrote alive) alive (Err e) a b → Does {T = Unit {0}} (wrote alive ++ saved) (index_names segments) (Err e) a b
-  stops-in-alive e a b d = does-stop e (wrote alive) saved (index_names segments) a b (does-among (Err e) (wrote alive) alive (index_names segments) a b among-alive d)
-
-  -- or it comes to the meta
-  pub behind-alive : (r : Outcome) (a b c : DirectoryState) → Does {T = Unit {0}} (wrote alive) alive (Ok tt) a b → Does saved (Meta ∷ []) r b c → Does (wrote alive ++ saved) (index_names segments) r a c
-  behind-alive r a b c d e =
-      does-then tt r (wrote alive) saved (index_names segments) a b c
-      (does-among (Ok tt) (wrote alive) alive (index_names segments) a b among-alive d)
-      (does-among r saved (Meta ∷ []) (index_names segments) b c among-meta e)
-
-  -- ---- an index is begun and filled
-
-  pub begun-among : (r : Outcome) (a b : DirectoryState) → Does begun_answers (Meta ∷ []) r a b → Does begun_answers (index_names segments) r a b
-  begun-among r a b d = does-among r begun_answers (Meta ∷ []) (index_names segments) a b among-meta d
-
-  pub stops-create : (e : TantivyError) (a b : DirectoryState) → Does {T = Unit {0}} begun_answers (Meta ∷ []) (Err e) a b → Does {T = Unit {0}} (index_answers segments) (index_names segments) (Err e) a b
-  stops-create e a b d = does-stop e begun_answers (filled_answers segments) (index_names segments) a b (begun-among (Err e) a b d)
-
-  pub comes-to-fill : (r : Outcome) (a b c : DirectoryState) → Does {T = Unit {0}} begun_answers (Meta ∷ []) (Ok tt) a b → Does (filled_answers segments) (index_names segments) r b c → Does (index_answers segments) (index_names segments) r a c
-  comes-to-fill r a b c begun filled = does-then tt r begun_answers (filled_answers segments) (index_names segments) a b c (begun-among (Ok tt) a b begun) filled
 
 -- ---- what stays
 

@@ -1,12 +1,14 @@
 mod Built
 mod FillCalls
 mod FillSteps
+mod FilledIndex
+mod FinishSteps
 mod FilteredSegments
 mod IndexSteps
 mod JoinedIds
 mod MergedFiles
 mod OutputSteps
-pub mod ReadErrors
+mod Parts
 mod Steps
 mod WholeCalls
 mod WholeExits

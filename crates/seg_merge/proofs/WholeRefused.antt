@@ -1,40 +1,40 @@
 -- The errors of building: which of them tell a refusal or damage, and which refusals there are.
-use Rattle.std.proofs.Common.{◌≡◌, ◌≤◌, ◌<◌, ◌^◌, ℕ, ◌-◌, ◌+◌, List, [], ◌∷◌, map, length, take, drop, Bool, true, false, cond, nat_lt, Option, None, Some, option_map, Err, refl, sym, ap, subst, ◌∙◌, inl, inr, arith}
-use Rattle.std.specs.Prelude.{◌⊎◌, not, is_none, is_some}
-use Rattle.std.specs.List.{AllByRecursion, enumerate_from, list_all, list_any, take-map, drop-map}
+use Rattle.std.proofs.Common.{◌≡◌, ◌≤◌, ◌<◌, ◌^◌, ℕ, ◌-◌, ◌+◌, List, [], ◌∷◌, map, length, take, drop, true, false, nat_lt, Option, None, Some, Err, refl, sym, ap, subst, ◌∙◌, inl, inr, arith}
+use Rattle.std.specs.Prelude.{◌⊎◌, is_none, is_some}
+use Rattle.std.specs.List.{AllByRecursion, enumerate_from, list_all, take-map, drop-map}
 use Rattle.std.specs.Option.{option_or}
 use Rattle.std.proofs.lemmas.Bool.{false≢true}
-use Rattle.std.proofs.lemmas.Bool.Decides.{Decides-ltb, nat_tests}
+use Rattle.std.proofs.lemmas.Bool.Decides.{nat_tests}
 use Rattle.std.proofs.lemmas.List.{take-append-drop}
 use Rattle.seg_common.specs.declared.name.FileName.{FileName}
 use Rattle.seg_directory.specs.declared.answer.Answer.{Answer}
 use Rattle.seg_values.specs.Tree.{Document}
 use Rattle.seg_values.specs.declared.error.ArgumentCause.TheVariants as argument
-use Rattle.seg_values.specs.declared.error.SchemaCause.TheVariants as schema_cause
 use Rattle.seg_values.specs.declared.error.TantivyError.{TantivyError}
 use Rattle.seg_values.specs.declared.error.TantivyError.TheVariants.{SchemaError, InvalidArgument, IndexAlreadyExists, OpenReadError, OpenWriteError, IoError, DataCorruption, SystemError, FieldNotFound, OutOfMemory}
 use Rattle.seg_meta.specs.View.{settings_of}
 use Rattle.seg_meta.specs.declared.index_settings.IndexSettings.{IndexSettings}
 use Rattle.seg_model.specs.Built.{is_taken}
-use Rattle.seg_model.specs.Checked.{Refusal, document_refusal}
-use Rattle.seg_model.specs.Columns.{columns}
+use Rattle.seg_model.specs.Checked.{Cause, at_place, document_refusal, first_of, unless}
 use Rattle.seg_model.specs.Fields.{Schema, Analyzer}
 use Rattle.seg_model.specs.Input.{Input, input_batches, input_survivors}
 use Rattle.seg_model.specs.Operations.{Operation, add, delete, delete_all, Batch, additions, batches_from}
-use Rattle.seg_model.specs.Refused.{BuildRefusal, document_refused, input_refused, first_of, cut_from, operation_refusal, count_refusal, numbers_refusal, added_by, batch_refusal, build_refusal}
-use Rattle.seg_model.specs.Valid.{Known, InputRefusal, bad_cuts, too_many_batches, bad_filters, bad_segment_ids, bad_field_name, unsupported_settings, unknown_tokenizer, unknown_fast_tokenizer, unindexed_delete, FitsSegment, refused_unless, cuts_fit, batches_fit, filters_fit, ids_fit, names_fit, settings_fit, unknown_tokenizer_of, has_unknown_fast_tokenizer, unindexed_delete_of, input_refusal}
+use Rattle.seg_model.specs.Refused.{cut_from, operation_refusal, count_refusal, numbers_refusal, added_by, batch_refusal, build_refusal}
+use Rattle.seg_model.specs.Valid.{Known, FitsSegment, shape_refusal, schema_refusal, input_refusal}
 use Rattle.seg_segment.specs.Built.{is_built_schema}
 use Rattle.seg_build.specs.Laws.{BuiltHaveNoColumns}
-use Rattle.seg_build.specs.WriterStart as start
+use Rattle.seg_build.specs.WriterStart.{start_refusal}
 use Rattle.seg_open.specs.SegmentOpened.{IsNoDamage}
 use Rattle.seg_batches.specs.Calls.{IsWhy, Does}
 use Rattle.seg_directory.specs.State.{DirectoryState}
 use Rattle.seg_refusals.specs.Admitted.{IsValidIf}
 use Rattle.seg_refusals.specs.Inputs.{is_built_input}
-use Rattle.seg_refusals.specs.Refusals.{IfRefusal, IsRefusal, batches_error, build_error, first_error, input_error, refusal_error}
+use Rattle.seg_refusals.specs.Refusals.{IfRefusal, IsRefusal, batches_error, first_error, later_refusal, refusal_error}
+use Rattle.seg_model.proofs.FirstAnswers.{or_second, or_both, or_none, first_none}
+use Rattle.seg_model.proofs.Refused.{count_none, numbers_none}
 use Rattle.seg_merge.proofs.IndexSteps.{all-left, all-right}
 use Rattle.seg_merge.proofs.WholeExits.{if_refusal}
-use Rattle.seg_merge.proofs.ReadErrors.{IsReadError}
+use Rattle.seg_segment.specs.SegmentRead.{IsReadError}
 use Rattle.seg_merge.proofs.WholeRead.{both_true}
 
 -- ---- kinds of errors
@@ -101,82 +101,32 @@ refusal_undamaged OutOfMemory h = tt
 
 -- ---- what the first tests leave
 
-none_map : {X Y : Type 0} (f : X → Y) (o : Option X) → option_map f o ≡ None → o ≡ None
-none_map f None h = refl
-none_map f (Some x) h = absurd (false≢true (sym (ap is_some h)))
-
-module _ (known : Known) (analyzer : Analyzer) (input : Input) (built : is_built_input input ≡ true) where
-  first_is : first_error known analyzer input ≡ option_map input_error (input_refusal known analyzer input)
-  first_is = ap (λ b. cond b (option_map input_error (input_refusal known analyzer input)) (Some (InvalidArgument argument.Later))) built
-
-  refusal_is : refusal_error known analyzer input ≡ option_map build_error (build_refusal known analyzer input)
-  refusal_is = ap (λ b. cond b (option_map build_error (build_refusal known analyzer input)) (Some (InvalidArgument argument.Later))) built
-
-  pub none_first : first_error known analyzer input ≡ None → input_refusal known analyzer input ≡ None
-  none_first h = none_map input_error (input_refusal known analyzer input) (sym first_is ∙ h)
+pub none_first : (known : Known) (analyzer : Analyzer) (input : Input) → first_error known analyzer input ≡ None → input_refusal known analyzer input ≡ None
+none_first known analyzer input h = or_second (later_refusal input) (input_refusal known analyzer input) h
 
 -- what is refused first is refused
 pub first_is_refused : (known : Known) (analyzer : Analyzer) (input : Input) (e : TantivyError) → first_error known analyzer input ≡ Some e → refusal_error known analyzer input ≡ Some e
-first_is_refused known analyzer input e h = by (is_built_input input) refl
+first_is_refused known analyzer input e h = over (later_refusal input) (input_refusal known analyzer input) _ h
   where
-    over : (o : Option InputRefusal) (rest : Option BuildRefusal) → option_map input_error o ≡ Some e → option_map build_error (option_or (option_map input_refused o) rest) ≡ Some e
-    over None rest k = absurd (false≢true (ap is_some k))
-    over (Some r) rest k = k
-
-    by : (b : Bool) → is_built_input input ≡ b → refusal_error known analyzer input ≡ Some e
-    by true is =
-        ap (λ b. cond b (option_map build_error (build_refusal known analyzer input)) (Some (InvalidArgument argument.Later))) is
-        ∙ over (input_refusal known analyzer input) (option_or (first_of (batch_refusal input.schema analyzer) (cut_from 0 input.cuts (enumerate_from 0 input.operations))) (option_or (count_refusal (input_survivors analyzer input)) (numbers_refusal input.schema analyzer (input_survivors analyzer input))))
-        (sym (ap (λ b. cond b (option_map input_error (input_refusal known analyzer input)) (Some (InvalidArgument argument.Later))) is) ∙ h)
-    by false is =
-        ap (λ b. cond b (option_map build_error (build_refusal known analyzer input)) (Some (InvalidArgument argument.Later))) is
-        ∙ sym (ap (λ b. cond b (option_map input_error (input_refusal known analyzer input)) (Some (InvalidArgument argument.Later))) is) ∙ h
+    over : (a b rest : Option TantivyError) → option_or a b ≡ Some e → option_or a (option_or b rest) ≡ Some e
+    over None b rest k = ap (λ o. option_or o rest) k
+    over (Some x) b rest k = k
 
 -- a first error that the tests told, or out of memory
-pub caused_refusal : (known : Known) (analyzer : Analyzer) (input : Input) (e : TantivyError) → (e ≡ OutOfMemory) ⊎ (first_error known analyzer input ≡ Some e) → IfRefusal (λ x. refusal_error known analyzer input ≡ Some x) e
-caused_refusal known analyzer input e (inl is) = subst (IfRefusal (λ x. refusal_error known analyzer input ≡ Some x)) (sym is) tt
-caused_refusal known analyzer input e (inr is) = if_refusal (λ x. refusal_error known analyzer input ≡ Some x) e (first_is_refused known analyzer input e is)
+pub caused_refusal : (known : Known) (analyzer : Analyzer) (input : Input) (e : TantivyError) → (first_error known analyzer input ≡ Some e) ⊎ (e ≡ OutOfMemory) → IfRefusal (λ x. refusal_error known analyzer input ≡ Some x) e
+caused_refusal known analyzer input e (inl is) = if_refusal (λ x. refusal_error known analyzer input ≡ Some x) e (first_is_refused known analyzer input e is)
+caused_refusal known analyzer input e (inr is) = subst (IfRefusal (λ x. refusal_error known analyzer input ≡ Some x)) (sym is) tt
 
 -- ---- a writer is made
 
-some-none : {X : Type 0} (x : X) → Some x ≡ None → ⊥
-some-none x e = false≢true (sym (ap is_some e))
-
-passed : (a b c d e f : Bool) (t rest : Option InputRefusal)
-    → option_or (refused_unless a bad_cuts) (option_or (refused_unless b too_many_batches) (option_or (refused_unless c bad_filters) (option_or (refused_unless d bad_segment_ids) (option_or (refused_unless e bad_field_name) (option_or (refused_unless f unsupported_settings) (option_or t rest)))))) ≡ None
-    → (e ≡ true) × (f ≡ true) × (t ≡ None)
-passed true true true true true true None rest h = (refl, refl, refl)
-passed true true true true true true (Some x) rest h = absurd (some-none x h)
-passed true true true true true false t rest h = absurd (some-none unsupported_settings h)
-passed true true true true false f t rest h = absurd (some-none bad_field_name h)
-passed true true true false e f t rest h = absurd (some-none bad_segment_ids h)
-passed true true false d e f t rest h = absurd (some-none bad_filters h)
-passed true false c d e f t rest h = absurd (some-none too_many_batches h)
-passed false b c d e f t rest h = absurd (some-none bad_cuts h)
-
-started : (known : Known) (schema : Schema) (settings : IndexSettings) → is_built_schema schema ≡ true → names_fit schema ≡ true → settings_fit (settings_of settings) ≡ true → unknown_tokenizer_of known schema ≡ None → start.start_refusal known 15000 schema settings ≡ None
-started known schema settings built names fit tokens =
-    ap (λ b. start.refused_unless b (InvalidArgument argument.Later) (start.refused_unless (names_fit schema) (InvalidArgument argument.FieldName) (start.refused_unless (settings_fit (settings_of settings)) (InvalidArgument argument.Settings) (option_map (λ field. SchemaError (schema_cause.Tokenizer field)) (unknown_tokenizer_of known schema))))) built
-    ∙ ap (λ b. start.refused_unless b (InvalidArgument argument.FieldName) (start.refused_unless (settings_fit (settings_of settings)) (InvalidArgument argument.Settings) (option_map (λ field. SchemaError (schema_cause.Tokenizer field)) (unknown_tokenizer_of known schema)))) names
-    ∙ ap (λ b. start.refused_unless b (InvalidArgument argument.Settings) (option_map (λ field. SchemaError (schema_cause.Tokenizer field)) (unknown_tokenizer_of known schema))) fit
-    ∙ ap (option_map (λ field. SchemaError (schema_cause.Tokenizer field))) tokens
-
-pub starts : (known : Known) (analyzer : Analyzer) (input : Input) (settings : IndexSettings) → input.settings ≡ settings_of settings → is_built_input input ≡ true → first_error known analyzer input ≡ None → start.start_refusal known 15000 input.schema settings ≡ None
+pub starts : (known : Known) (analyzer : Analyzer) (input : Input) (settings : IndexSettings) → input.settings ≡ settings_of settings → is_built_input input ≡ true → first_error known analyzer input ≡ None → start_refusal known 15000 input.schema settings ≡ None
 starts known analyzer input settings is built none =
-    let pass = passed (cuts_fit input.operations input.cuts) (batches_fit input.cuts) (filters_fit input.filters (input_batches analyzer input)) (ids_fit input.cuts input.ids) (names_fit input.schema) (settings_fit input.settings)
-    (option_map unknown_tokenizer (unknown_tokenizer_of known input.schema))
-    (option_or (refused_unless (not (list_any (has_unknown_fast_tokenizer known) input.schema)) unknown_fast_tokenizer) (option_map unindexed_delete (unindexed_delete_of input.schema input.operations)))
-    (none_first known analyzer input built none) in
-    started known input.schema settings built pass.0 (ap settings_fit (sym is) ∙ pass.1) (none_map unknown_tokenizer (unknown_tokenizer_of known input.schema) pass.2)
+    let shaped = or_both (shape_refusal input.operations input.cuts input.filters (input_batches analyzer input) input.ids) _ (none_first known analyzer input none) in
+    let begun = or_both (schema_refusal known input.schema input.settings) _ shaped.1 in
+    ap (λ b. option_or (unless b (InvalidArgument argument.Later)) (schema_refusal known input.schema (settings_of settings))) built
+    ∙ ap (schema_refusal known input.schema) (sym is) ∙ begun.0
 
 -- ---- no batch is refused
-
-or_none : {X : Type 0} (a b : Option X) → a ≡ None → b ≡ None → option_or a b ≡ None
-or_none a b e h = ap (λ o. option_or o b) e ∙ h
-
-first_none : {X R : Type 0} (f : X → Option R) (xs : List X) → AllByRecursion (λ x. f x ≡ None) xs → first_of f xs ≡ None
-first_none f [] h = refl
-first_none f (x ∷ xs) h = or_none (f x) (first_of f xs) h.0 (first_none f xs h.1)
 
 module _ {X : Type 0} (P : X → Type 0) where
   all_taken : (n : ℕ) (xs : List X) → AllByRecursion P xs → AllByRecursion P (take n xs)
@@ -190,12 +140,6 @@ unnumbered first [] = refl
 unnumbered first (x ∷ xs) = ap (λ l. x ∷ l) (unnumbered (first + 1) xs)
 
 module _ (schema : Schema) (analyzer : Analyzer) where
-  count_none : (ds : List Document) → length ds < 2 ^ 31 → count_refusal ds ≡ None
-  count_none ds h = ap (λ b. cond b None (Some BuildRefusal.too_many_documents)) ((Decides-ltb (length ds) (2 ^ 31)).1 h)
-
-  numbers_none : (ds : List Document) → is_some (columns schema analyzer ds) ≡ true → numbers_refusal schema analyzer ds ≡ None
-  numbers_none ds h = ap (λ b. cond b None (Some BuildRefusal.mixed_numbers)) h
-
   abbrev Passes : ℕ × Operation → Type 0
   Passes p = operation_refusal schema analyzer p.0 p.1 ≡ None
 
@@ -203,7 +147,7 @@ module _ (schema : Schema) (analyzer : Analyzer) where
   Taken d = document_refusal schema analyzer d ≡ None
 
   taken_step : (at : ℕ) (o : Operation) (os : List Operation) → AllByRecursion Taken (additions (o ∷ os)) → (operation_refusal schema analyzer at o ≡ None) × AllByRecursion Taken (additions os)
-  taken_step at (add d) os h = (ap (option_map (document_refused at)) h.0, h.1)
+  taken_step at (add d) os h = (ap (at_place at) h.0, h.1)
   taken_step at (delete t) os h = (refl, h)
   taken_step at (delete_all ts) os h = (refl, h)
 
@@ -218,8 +162,8 @@ module _ (schema : Schema) (analyzer : Analyzer) where
 
   part_none : (part : List (ℕ × Operation)) → AllByRecursion Passes part → FitsSegment schema analyzer (added_by part) → batch_refusal schema analyzer part ≡ None
   part_none part h f =
-      or_none (count_refusal (added_by part)) _ (count_none (added_by part) f.few)
-      (or_none (first_of (λ p. operation_refusal schema analyzer p.0 p.1) part) _ (first_none (λ p. operation_refusal schema analyzer p.0 p.1) part h) (numbers_none (added_by part) f.columns))
+      or_none (count_refusal (added_by part)) _ (count_none schema analyzer (added_by part) f.few)
+      (or_none (first_of (λ p. operation_refusal schema analyzer p.0 p.1) part) _ (first_none (λ p. operation_refusal schema analyzer p.0 p.1) part h) (numbers_none schema analyzer (added_by part) f.columns))
 
   abbrev operations_of : List (ℕ × Operation) → List Operation
   operations_of ps = map (λ p. p.1) ps
@@ -236,7 +180,7 @@ module _ (schema : Schema) (analyzer : Analyzer) where
   each_taken [] h = tt
   each_taken (d ∷ ds) h = (by (document_refusal schema analyzer d) refl, each_taken ds (both_true (is_taken schema analyzer d) (list_all (is_taken schema analyzer) ds) h).1)
     where
-      by : (o : Option Refusal) → document_refusal schema analyzer d ≡ o → document_refusal schema analyzer d ≡ None
+      by : (o : Option Cause) → document_refusal schema analyzer d ≡ o → document_refusal schema analyzer d ≡ None
       by None is = is
       by (Some r) is = absurd (false≢true (sym (ap is_none is) ∙ (both_true (is_taken schema analyzer d) (list_all (is_taken schema analyzer) ds) h).0))
 
@@ -262,21 +206,18 @@ module _ (known : Known) (analyzer : Analyzer) (input : Input) where
       (subst (λ os. AllByRecursion (FitsBatch input.schema analyzer) (batches_from input.schema analyzer 0 input.cuts os)) (sym (unnumbered 0 input.operations)) (each_fits input.schema analyzer law w.built (input_batches analyzer input) w.small)))
 
   -- what is after the tests of the input
-  abbrev behind_input : Option BuildRefusal → Option BuildRefusal
-  behind_input by_batches = option_or by_batches (option_or (count_refusal (input_survivors analyzer input)) (numbers_refusal input.schema analyzer (input_survivors analyzer input)))
+  abbrev after_input : Option TantivyError → Option TantivyError
+  after_input by_batches = option_or by_batches (option_or (count_refusal (input_survivors analyzer input)) (numbers_refusal input.schema analyzer (input_survivors analyzer input)))
 
-  past_input : is_built_input input ≡ true → first_error known analyzer input ≡ None → refusal_error known analyzer input ≡ option_map build_error (behind_input (first_of (batch_refusal input.schema analyzer) (cut_from 0 input.cuts numbered)))
-  past_input built none =
-      refusal_is known analyzer input built
-      ∙ ap (λ o. option_map build_error (option_or (option_map input_refused o) (behind_input (first_of (batch_refusal input.schema analyzer) (cut_from 0 input.cuts numbered))))) (none_first known analyzer input built none)
+  past_input : first_error known analyzer input ≡ None → refusal_error known analyzer input ≡ after_input (first_of (batch_refusal input.schema analyzer) (cut_from 0 input.cuts numbered))
+  past_input none =
+      let two = or_both (later_refusal input) (input_refusal known analyzer input) none in
+      ap (λ o. option_or o (build_refusal known analyzer input)) two.0
+      ∙ ap (λ o. option_or o (after_input (first_of (batch_refusal input.schema analyzer) (cut_from 0 input.cuts numbered)))) two.1
 
   -- a refusal of a batch, after the input's
   pub by_batches : (e : TantivyError) → is_built_input input ≡ true → first_error known analyzer input ≡ None → batches_error input.schema analyzer 0 input.cuts input.operations ≡ Some e → refusal_error known analyzer input ≡ Some e
-  by_batches e built none h = past_input built none ∙ over (first_of (batch_refusal input.schema analyzer) (cut_from 0 input.cuts numbered)) _ h
-    where
-      over : (o rest : Option BuildRefusal) → option_map build_error o ≡ Some e → option_map build_error (option_or o rest) ≡ Some e
-      over None rest k = absurd (false≢true (ap is_some k))
-      over (Some r) rest k = k
+  by_batches e built none h = past_input none ∙ ap after_input h
 
   not_below : (n m : ℕ) → m ≤ n → nat_lt n m ≡ false
   not_below n m le = grind (arith, nat_tests)
@@ -284,14 +225,14 @@ module _ (known : Known) (analyzer : Analyzer) (input : Input) where
   -- too many survivors, after both
   pub by_survivors : BuiltHaveNoColumns → IsWritten analyzer input → first_error known analyzer input ≡ None → 2 ^ 31 ≤ length (input_survivors analyzer input) → refusal_error known analyzer input ≡ Some (InvalidArgument argument.Documents)
   by_survivors law w none many =
-      past_input w.built none
-      ∙ ap (λ o. option_map build_error (behind_input o)) (batches_unrefused law w)
-      ∙ ap (λ b. option_map build_error (option_or (cond b None (Some BuildRefusal.too_many_documents)) (numbers_refusal input.schema analyzer (input_survivors analyzer input)))) (not_below (length (input_survivors analyzer input)) (2 ^ 31) many)
+      past_input none
+      ∙ ap after_input (batches_unrefused law w)
+      ∙ ap (λ b. option_or (unless b (InvalidArgument argument.Documents)) (numbers_refusal input.schema analyzer (input_survivors analyzer input))) (not_below (length (input_survivors analyzer input)) (2 ^ 31) many)
 
   -- an input of which both indexes are written is valid
   pub is_valid_if : (told : Type 0) → BuiltHaveNoColumns → IsWritten analyzer input → first_error known analyzer input ≡ None → (told → length (input_survivors analyzer input) < 2 ^ 31) → IsValidIf told known analyzer input
   is_valid_if told law w none few = record {
-    accepted = none_first known analyzer input w.built none;
+    accepted = none_first known analyzer input none;
     taken = each_taken input.schema analyzer (additions input.operations) w.taken;
     batches = each_fits input.schema analyzer law w.built (input_batches analyzer input) w.small;
     survivors = λ t. record { few = few t; columns = ap is_some (law input.schema analyzer (input_survivors analyzer input) w.built) };

@@ -1,9 +1,8 @@
 -- The work index, filled, and read back.
-use Rattle.std.proofs.Common.{◌≡◌, ◌≢◌, ◌≤◌, ◌^◌, ℕ, ◌+◌, List, [], ◌∷◌, ◌++◌, map, length, Option, None, Some, Result, Err, refl, sym, ap, subst, ◌∙◌, inl, inr}
+use Rattle.std.proofs.Common.{◌≡◌, ◌≢◌, ◌≤◌, ◌^◌, ℕ, ◌+◌, List, [], ◌∷◌, ◌++◌, map, length, Option, None, Some, Result, Ok, Err, refl, sym, ap, subst, ◌∙◌, inl, inr}
 use Rattle.std.specs.Prelude.{IsTrue, ◌⊎◌, IfErr, IfOk, OnOk}
 use Rattle.std.specs.FinMap.{get, len, empty_of_len, get-empty}
 use Rattle.std.specs.List.{AllByRecursion}
-use Rattle.std.proofs.lemmas.Result.{IfErr-weaker, IfOk-weaker}
 use Rattle.seg_common.specs.Names.{name_cmp}
 use Rattle.seg_common.specs.declared.name.FileName.{FileName}
 use Rattle.seg_common.specs.declared.name.FileName.TheVariants.{Alive, Meta, Part}
@@ -21,30 +20,31 @@ use Rattle.seg_segment.specs.SegmentFiles.{AreAbsent, KeepsAllBut}
 use Rattle.seg_open.specs.SegmentOpened.{IsNoDamage}
 use Rattle.seg_join.specs.KeptSegment.{KeptSegment, kept_count, part_of}
 use Rattle.seg_directory.specs.State.{DirectoryState}
-use Rattle.seg_batches.specs.Reading.{ReadsAll, StopsReading}
+use Rattle.seg_batches.specs.Reading.{ReadsSegments, seen_as}
 use Rattle.seg_batches.specs.Segments.{AllStand, AllTellAlive, alive_file, alive_files, six_files}
 use Rattle.seg_batches.proofs.Calls.{does-nothing}
 use Rattle.seg_merge.specs.Filling.{FillsUpTo, FillStops, in_filling, in_batch, OutputStops, too_many_kept, in_writing}
 use Rattle.seg_merge.specs.IndexFiles.{index_answers, index_names, listed_of, segments_files, undeleted, written_of}
-use Rattle.seg_merge.proofs.WholeRead.{batches_counted, batches_many, are_whole, readings, reads_stay, stops_undamaged}
+use Rattle.seg_batches.proofs.ReadLaws.{segments_held, segments_stay, segments_undamaged}
+use Rattle.seg_merge.proofs.WholeRead.{batches_counted, batches_many, are_whole, readings}
 use Rattle.seg_merge.proofs.WholeRefused.{does_undamaged, refusal_undamaged}
 
 -- ---- read back
 
 module _ (schema : Schema) (analyzer : Analyzer) (operations : List Operation) (cuts ids : List ℕ) (stamp : ℕ) (counted : stamp ≡ length operations) (segments : List ListedSegment) (same : segments ≡ listed_of schema analyzer ids cuts operations) where
   module _ (a b : DirectoryState) (stand : AllStand schema analyzer a.files ids (batches schema analyzer cuts operations)) (tell : AllTellAlive a.files stamp (written_of schema analyzer ids cuts operations)) (told : IsTrue a.tells) where
-    pub filled_readings : HoldsOneContents → length ids ≡ length cuts + 1 → (read : List KeptSegment) → ReadsAll schema segments read a b → AreReadingsOf schema analyzer (batches schema analyzer cuts operations) (map part_of read)
+    pub filled_readings : HoldsOneContents → length ids ≡ length cuts + 1 → (read : List KeptSegment) → ReadsSegments schema segments (Ok read) a b → AreReadingsOf schema analyzer (batches schema analyzer cuts operations) (map part_of read)
     filled_readings law many read h =
-        readings schema analyzer (length operations) law ids (batches schema analyzer cuts operations) read a b (many ∙ sym (batches_many schema analyzer 0 cuts operations)) (batches_counted schema analyzer 0 cuts operations) stand
-        (subst (λ n. AllTellAlive a.files n (written_of schema analyzer ids cuts operations)) counted tell) told
-        (subst (λ l. ReadsAll schema l read a b) same h)
+        readings schema analyzer (length operations) a.files law ids (batches schema analyzer cuts operations) read (many ∙ sym (batches_many schema analyzer 0 cuts operations)) (batches_counted schema analyzer 0 cuts operations) stand
+        (subst (λ n. AllTellAlive a.files n (written_of schema analyzer ids cuts operations)) counted tell)
+        (segments_held schema _ read a b told (subst (λ (l : List ListedSegment). ReadsSegments schema l (Ok read) a b) same h))
 
-    pub filled_undamaged : (e : TantivyError) → StopsReading schema segments e a b → IsNoDamage e
+    pub filled_undamaged : (e : TantivyError) → ReadsSegments schema segments (Err e) a b → IsNoDamage e
     filled_undamaged e h =
-        stops_undamaged schema (listed_of schema analyzer ids cuts operations) e a b
+        segments_undamaged schema (listed_of schema analyzer ids cuts operations) e a b
         (are_whole schema analyzer (length operations) a.files ids (batches schema analyzer cuts operations) (batches_counted schema analyzer 0 cuts operations) stand
         (subst (λ n. AllTellAlive a.files n (written_of schema analyzer ids cuts operations)) counted tell))
-        told (subst (λ l. StopsReading schema l e a b) same h)
+        told (subst (λ (l : List ListedSegment). ReadsSegments schema l (Err e) a b) same h)
 
 -- ---- not filled
 
@@ -64,18 +64,17 @@ merge_stops id kept e a (inr is) = too_many_kept is.0 is.1 refl
 -- ---- the last call
 
 -- the last call, which reads the segments back
-module _ {T : Type 0} (items : T → List KeptSegment) (r : Result T TantivyError) (schema : Schema) (segments : List ListedSegment) (a b : DirectoryState) where
-  abbrev IsRead : T → Type 0
-  IsRead x = ReadsAll schema segments (items x) a b
+pub files_after : {T : Type 0} (items : T → List KeptSegment) (r : Result T TantivyError) (schema : Schema) (segments : List ListedSegment) (a b : DirectoryState) (P : NamedFiles → Type 0) → ReadsSegments schema segments (seen_as items r) a b → P a.files → OnOk r (P b.files)
+files_after items (Ok x) schema segments a b P reads p = subst P (sym (segments_stay schema segments a b (Ok (items x)) reads).files) p
+files_after items (Err e) schema segments a b P reads p = tt
 
-  pub files_after : (P : NamedFiles → Type 0) → IfOk r IsRead → P a.files → OnOk r (P b.files)
-  files_after P read p = IfOk-weaker r IsRead (λ x. P b.files) (λ x h. subst P (sym (reads_stay schema segments (items x) a b h).files) p) read
+pub reads_then : {T : Type 0} (items : T → List KeptSegment) (r : Result T TantivyError) (schema : Schema) (segments : List ListedSegment) (a b : DirectoryState) (Q : T → Type 0) → ((x : T) → ReadsSegments schema segments (Ok (items x)) a b → Q x) → ReadsSegments schema segments (seen_as items r) a b → IfOk r Q
+reads_then items (Ok x) schema segments a b Q f reads = f x reads
+reads_then items (Err e) schema segments a b Q f reads = tt
 
-  pub reads_then : (Q : T → Type 0) → ((x : T) → ReadsAll schema segments (items x) a b → Q x) → IfOk r IsRead → IfOk r Q
-  reads_then Q f read = IfOk-weaker r IsRead Q f read
-
-  pub stops_then : (Q : TantivyError → Type 0) → ((e : TantivyError) → StopsReading schema segments e a b → Q e) → IfErr r (λ e. StopsReading schema segments e a b) → IfErr r Q
-  stops_then Q f stops = IfErr-weaker r (λ e. StopsReading schema segments e a b) Q f stops
+pub stops_then : {T : Type 0} (items : T → List KeptSegment) (r : Result T TantivyError) (schema : Schema) (segments : List ListedSegment) (a b : DirectoryState) (Q : TantivyError → Type 0) → ((e : TantivyError) → ReadsSegments schema segments (Err e) a b → Q e) → ReadsSegments schema segments (seen_as items r) a b → IfErr r Q
+stops_then items (Ok x) schema segments a b Q f reads = tt
+stops_then items (Err e) schema segments a b Q f reads = f e reads
 
 -- ---- files that are not there
 

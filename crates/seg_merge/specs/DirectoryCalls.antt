@@ -1,6 +1,5 @@
 -- What the building of an index does to the work directory and to the output directory.
 use Rattle.std.specs.Prelude.{ℕ, ◌≡◌, ◌≤◌, ◌^◌, List, [], ◌∷◌, ◌++◌, map, take, Option, Result, Ok, Err, IsTrue}
-use Rattle.seg_common.specs.declared.name.FileName.TheVariants.{Meta as meta_name}
 use Rattle.seg_directory.specs.declared.answer.Answer.TheVariants as answer
 use Rattle.seg_values.specs.declared.error.ArgumentCause.TheVariants.{Documents}
 use Rattle.seg_values.specs.declared.error.TantivyError.{TantivyError}
@@ -14,7 +13,7 @@ use Rattle.seg_open.specs.OpenSegment.{OpenSegment, contents_of}
 use Rattle.seg_join.specs.KeptSegment.{KeptSegment, kept_count}
 use Rattle.seg_batches.specs.Calls.{Does}
 use Rattle.seg_directory.specs.State.{DirectoryState}
-use Rattle.seg_batches.specs.Reading.{ReadsAll, StopsReading}
+use Rattle.seg_batches.specs.Reading.{ReadsSegments}
 use Rattle.seg_batches.specs.Segments.{six_files}
 use Rattle.seg_refusals.specs.Refusals.{IsRefusal}
 use Rattle.seg_merge.specs.IndexFiles.{output_id, work_listed, undeleted, index_answers, index_names, begun_answers}
@@ -50,13 +49,13 @@ Begins segments made before after =
 pub record WritesThenReads (schema : Schema) (segments : List ListedSegment) (read : List KeptSegment) (before after : DirectoryState) : Type 0 where
   pub filled : DirectoryState
   pub writes : Writes segments (Ok tt) before filled
-  pub reads : ReadsAll schema segments read filled after
+  pub reads : ReadsSegments schema segments (Ok read) filled after
 
 -- or one of them is not
 pub record WritesThenStops (schema : Schema) (segments : List ListedSegment) (e : TantivyError) (before after : DirectoryState) : Type 0 where
   pub filled : DirectoryState
   pub writes : Writes segments (Ok tt) before filled
-  pub stops : StopsReading schema segments e filled after
+  pub stops : ReadsSegments schema segments (Err e) filled after
 
 -- what is asked for: the schema, the segments of the work index as they are listed, their filters, and the id of the output segment
 pub record Asked : Type 0 where

@@ -12,7 +12,7 @@ use Rattle.seg_segment.specs.SegmentFiles.{wrote}
 use Rattle.seg_join.specs.KeptSegment.{KeptSegment, kept_count}
 use Rattle.seg_batches.specs.Calls.{Does}
 use Rattle.seg_directory.specs.State.{DirectoryState}
-use Rattle.seg_batches.specs.Reading.{ReadsAll, StopsReading}
+use Rattle.seg_batches.specs.Reading.{ReadsSegments}
 use Rattle.seg_batches.specs.Segments.{six_files}
 use Rattle.seg_refusals.specs.Refusals.{IsRefusal}
 use Rattle.seg_merge.specs.DirectoryCalls.{Directories, Ends, Lists}
@@ -52,22 +52,17 @@ abbrev pub FillsUpTo : {T : Type 0} → List ListedSegment → Result T TantivyE
 FillsUpTo segments (Ok _) before after = Does {T = Unit {0}} (filled_answers segments) (index_names segments) (Ok tt) before after
 FillsUpTo segments (Err e) before after = Does {T = Unit {0}} (filled_answers segments) (index_names segments) (Err e) before after ⊎ RefusesBatch segments e before after
 
--- an index of these segments is written, whatever the call answers
-abbrev pub ProceedsAs : {T : Type 0} → List ListedSegment → Result T TantivyError → DirectoryState → DirectoryState → Type 0
-ProceedsAs segments (Ok _) before after = Does {T = Unit {0}} (index_answers segments) (index_names segments) (Ok tt) before after
-ProceedsAs segments (Err e) before after = Does {T = Unit {0}} (index_answers segments) (index_names segments) (Err e) before after
-
 -- the index is filled, and each of its segments is read back
 pub record FillsThenReads (schema : Schema) (segments : List ListedSegment) (read : List KeptSegment) (before after : DirectoryState) : Type 0 where
   pub filled : DirectoryState
   pub fills : Does {T = Unit {0}} (filled_answers segments) (index_names segments) (Ok tt) before filled
-  pub reads : ReadsAll schema segments read filled after
+  pub reads : ReadsSegments schema segments (Ok read) filled after
 
 -- or not: a call fails while it is filled; a batch is refused; or a segment is not read back
 pub data FillStops (schema : Schema) (segments : List ListedSegment) (e : TantivyError) (before after : DirectoryState) : Type 0 where
   in_filling : Does {T = Unit {0}} (filled_answers segments) (index_names segments) (Err e) before after → FillStops schema segments e before after
   in_batch : RefusesBatch segments e before after → FillStops schema segments e before after
-  in_reading : (filled : DirectoryState) → Does {T = Unit {0}} (filled_answers segments) (index_names segments) (Ok tt) before filled → StopsReading schema segments e filled after → FillStops schema segments e before after
+  in_reading : (filled : DirectoryState) → Does {T = Unit {0}} (filled_answers segments) (index_names segments) (Ok tt) before filled → ReadsSegments schema segments (Err e) filled after → FillStops schema segments e before after
 
 -- ---- the output index
 

@@ -1,5 +1,5 @@
 -- The files of the indexes that are built.
-use Rattle.std.specs.Prelude.{ℕ, ◌≡◌, List, [], ◌∷◌, ◌++◌, map, length, Option, Some, None, codes}
+use Rattle.std.specs.Prelude.{ℕ, ◌≡◌, List, [], ◌∷◌, ◌++◌, map, length, Some, None, codes}
 use Rattle.std.specs.List.{join_with_byte}
 use Rattle.seg_common.specs.SegmentIds.{id_text}
 use Rattle.seg_common.specs.declared.name.FileName.{FileName}

@@ -3,3 +3,5 @@ pub mod DirectoryCalls
 pub mod Filling
 pub mod IndexFiles
 pub mod Joining
+pub mod WorkIndexWriting
+pub mod WritingSteps

@@ -19,7 +19,7 @@ use seg_bits::AliveBitSet;
 use seg_build::built_schemas_have_no_columns;
 use seg_common::SegmentId;
 use seg_directory::Directory;
-use seg_input::UserOperation;
+use seg_input::{BuildInputRef, UserOperation};
 use seg_meta::{Index, IndexSettings};
 use seg_open::SegmentReader;
 use seg_refusals::check_input;
@@ -120,9 +120,15 @@ pub fn build_index_with_readers<Z: Analyzers, W: Directory, O: Directory>(
         (both (W.state work.old) (O.state output.old)) (both (W.state work.new) (O.state output.new))) }
 {
     built_schemas_have_no_columns();
-    check_input(
-        alloc, schema, settings, analyzers, operations, cuts, filters, ids,
-    )?;
+    let input = BuildInputRef {
+        schema,
+        settings,
+        operations,
+        cuts,
+        filters,
+        ids,
+    };
+    check_input(alloc, analyzers, &input)?;
     let built = write_indexes(
         alloc, schema, settings, analyzers, operations, cuts, filters, ids, work, output,
     )?;

@@ -2,6 +2,7 @@
 ghost use Rattle.std.specs.Prelude.{◌≡◌, ◌≢◌, ◌<◌, ◌≤◌, ◌+◌, ◌^◌, ◌⊎◌, ◌∷◌, [], None, Some, true, length, map, Ok, Err, IfOk, IfErr, IsTrue, OnOk};
 ghost use Rattle.std.specs.FinMap.{len};
 ghost use Rattle.std.specs.List.{list_all, AllByRecursion};
+ghost use Rattle.seg_directory.specs.Works.{Works};
 ghost use Rattle.seg_meta.specs.Saving.{IsMetaList};
 ghost use Rattle.seg_meta.specs.View.{meta_of, settings_of};
 ghost use Rattle.seg_model.specs.Built.{is_taken};
@@ -19,19 +20,19 @@ ghost use Rattle.seg_input.specs.View.{operation_of};
 ghost use Rattle.seg_build.specs.WriterStart.{start_refusal};
 ghost use Rattle.seg_open.specs.OpenSegment.{contents_of};
 ghost use Rattle.seg_open.specs.SegmentOpened.{IsNoDamage};
-ghost use Rattle.seg_segment.specs.SegmentFiles as segment;
 ghost use Rattle.seg_join.specs.KeptSegment.{IsOfSchema, part_of};
 ghost use Rattle.seg_batches.specs.Segments.{AllStand, AllTellAlive};
 ghost use Rattle.seg_refusals.specs.Admitted.{Fits};
 ghost use Rattle.seg_refusals.specs.Inputs.{input_of};
 ghost use Rattle.seg_refusals.specs.Refusals.{IfRefusal, batches_error, first_error, refusal_error};
 ghost use Rattle.seg_merge.specs.DirectoryCalls.{StopsIn, WritesBoth, asked_of, both};
-ghost use Rattle.seg_merge.specs.Filling.{BeginsUpTo, FillStops, FillsThenReads, FiltersFit, OutputStops, ProceedsAs, WritesOne};
-ghost use Rattle.seg_merge.specs.IndexFiles.{IsMergedIndexOf, IsOutputIndexOf, IsWorkIndexOf, listed_of, merged_meta, output_id, segments_files, segments_meta, undeleted, work_ids, written_of};
+ghost use Rattle.seg_merge.specs.Filling.{BeginsUpTo, FillStops, FillsThenReads, FiltersFit, OutputStops, WritesOne};
+ghost use Rattle.seg_merge.specs.IndexFiles.{IsMergedIndexOf, IsOutputIndexOf, IsWorkIndexOf, listed_of, merged_meta, output_id, segments_files, segments_meta, work_ids, written_of};
+ghost use Rattle.seg_merge.specs.WritingSteps.{write_one_steps};
 ghost use Rattle.seg_merge.specs.Joining.{filtered_segments, joined};
 ghost use Rattle.seg_values.specs.declared.error.ArgumentCause.TheVariants.{Documents};
 
-use crate::index_files::{begin_index, refuse_files};
+use crate::index_files::begin_index;
 use crate::merging::{MergedSegment, merge_segments};
 use crate::metas::output_metas;
 use crate::output_index::write_output_index;
@@ -40,10 +41,10 @@ use seg_batches::{ReadSegment, read_segments};
 use seg_bits::AliveBitSet;
 use seg_build::built_schemas_have_no_columns;
 use seg_common::SegmentId;
-use seg_directory::Directory;
+use seg_directory::{Directory, expect_no_files};
 use seg_input::UserOperation;
 use seg_join::built_parts_join;
-use seg_meta::{IndexMeta, IndexSettings};
+use seg_meta::{IndexMeta, IndexSettings, metas_read_back};
 use seg_model::joining_is_invisible;
 use seg_open::SegmentReader;
 use seg_segment::files_hold_one_contents;
@@ -141,8 +142,14 @@ fn begin_indexes<W: Directory, O: Directory>(
     ensures calls { BeginsUpTo result
         (both (W.state work.old) (O.state output.old)) (both (W.state work.new) (O.state output.new)) }
 {
-    refuse_files(alloc, work)?;
-    refuse_files(alloc, output)?;
+    match expect_no_files(alloc, work) {
+        Ok(()) => {}
+        Err(e) => return Err(e),
+    }
+    match expect_no_files(alloc, output) {
+        Ok(()) => {}
+        Err(e) => return Err(e),
+    }
     begin_index(alloc, schema, settings, work)
 }
 
@@ -200,6 +207,7 @@ fn write_work<Z: Analyzers, W: Directory>(
     let metas = fill_work_index(
         alloc, schema, settings, analyzers, operations, cuts, ids, work,
     )?;
+    metas_read_back(&metas);
     read_segments(alloc, schema, metas.segments.as_slice(), work)
 }
 
@@ -245,6 +253,7 @@ fn write_output<O: Directory>(
     let metas = write_merged(
         alloc, schema, settings, work_ids, output_id, &merged, output,
     )?;
+    metas_read_back(&metas);
     Ok(WrittenOutput {
         metas,
         reader: merged.reader,
@@ -264,12 +273,7 @@ fn write_merged<O: Directory>(
     requires few { merged.now.reader.documents < 2 ^ 31 }
     ensures meta { IfOk result (λ metas. meta_of metas
         ≡ merged_meta (settings_of settings.now) schema.now work_ids.now output_id merged.now.reader.documents) }
-    ensures list { IfOk result (λ metas. IsMetaList metas.segments) }
-    ensures index { IsTrue (O.state output.old).tells → IfOk result (λ metas. index.index_of segment_forms (O.state output.new).files ≡ Some (meta_of metas)) }
-    ensures files { IsTrue (O.state output.old).tells → OnOk result (segment.HasFiles (O.state output.new).files output_id merged.now.files) }
-    ensures fresh { IsTrue (O.state output.old).tells → len (O.state output.old).files ≡ 0
-        → result ≢ Err TantivyError.IndexAlreadyExists }
-    ensures calls { ProceedsAs (undeleted output_id merged.now.reader.documents ∷ []) result
+    ensures works { Works (write_one_steps (merged_meta (settings_of settings.now) schema.now work_ids.now output_id merged.now.reader.documents) output_id merged.now.files) result
         (O.state output.old)
         (O.state output.new) }
 {
@@ -277,6 +281,8 @@ fn write_merged<O: Directory>(
     let Ok(metas) = output_metas(alloc, schema, settings, work_ids, output_id, documents) else {
         return Err(TantivyError::OutOfMemory);
     };
-    write_output_index(alloc, &metas, output_id, documents, &merged.files, output)?;
-    Ok(metas)
+    match write_output_index(alloc, &metas, output_id, &merged.files, output) {
+        Ok(()) => Ok(metas),
+        Err(e) => Err(e),
+    }
 }

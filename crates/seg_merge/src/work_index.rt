@@ -1,27 +1,19 @@
 //! The work index: the segments of the batches, their alive files, and the meta.
-ghost use Rattle.std.specs.Prelude.{◌≡◌, ◌≢◌, ◌<◌, ◌+◌, ◌++◌, ◌∷◌, ◌^◌, [], Some, None, true, map, length, Err, IfOk, IfErr, IsTrue, OnOk};
-ghost use Rattle.std.specs.List.{list_all, AllByRecursion};
-ghost use Rattle.seg_directory.specs.declared.answer.Answer.TheVariants as answer;
+ghost use Rattle.std.specs.Prelude.{◌≡◌, ◌<◌, ◌+◌, ◌^◌, true, map, length, IfOk};
+ghost use Rattle.seg_directory.specs.Works.{Works};
+ghost use Rattle.seg_input.specs.View.{operation_of};
 ghost use Rattle.seg_meta.specs.View.{meta_of, settings_of};
-ghost use Rattle.seg_model.specs.Built.{is_taken};
-ghost use Rattle.seg_model.specs.IndexOfFiles as index;
-ghost use Rattle.seg_model.specs.Operations.{Batch, additions, batches};
 ghost use Rattle.seg_model.specs.Valid.{are_distinct, cuts_fit};
 ghost use Rattle.seg_segment.specs.Built.{is_built_schema};
-ghost use Rattle.seg_segment.specs.Forms.{segment_forms};
-ghost use Rattle.seg_segment.specs.SegmentFiles.{AreAbsent, wrote};
-ghost use Rattle.seg_input.specs.View.{operation_of};
 ghost use Rattle.seg_build.specs.WriterStart.{start_refusal};
-ghost use Rattle.seg_batches.specs.Calls.{Does};
-ghost use Rattle.seg_batches.specs.Segments.{AllStand, AllTellAlive, alive_files, all_listed};
-ghost use Rattle.seg_refusals.specs.Refusals.{IfRefusal, batches_error};
-ghost use Rattle.seg_merge.specs.Filling.{FillsUpTo};
-ghost use Rattle.seg_merge.specs.IndexFiles.{listed_of, segments_files, segments_meta, written_of};
+ghost use Rattle.seg_merge.specs.IndexFiles.{listed_of, segments_meta};
+ghost use Rattle.seg_merge.specs.WorkIndexWriting.{FillsIndex, FinishesIndex, listing_meta};
+ghost use Rattle.seg_merge.specs.WritingSteps.{publish_steps};
 
 use crate::index_files::save_index;
 use crate::metas::work_metas;
 use seg_batches::{WrittenSegment, list_segments, write_alive_files, write_batches};
-use seg_common::{FileName, SegmentId};
+use seg_common::SegmentId;
 use seg_directory::Directory;
 use seg_input::UserOperation;
 use seg_meta::{IndexMeta, IndexSettings};
@@ -47,22 +39,8 @@ pub(crate) fn fill_work_index<Z: Analyzers, W: Directory>(
     requires distinct { are_distinct ids.now ≡ true }
     ensures meta { IfOk result (λ metas. meta_of metas ≡ segments_meta (settings_of settings.now) schema.now (length operations.now)
         (listed_of schema.now (Z.tokens_of analyzers.now) ids.now cuts.now (map operation_of operations.now))) }
-    ensures index { IsTrue (W.state work.old).tells → IfOk result (λ metas. index.index_of segment_forms (W.state work.new).files ≡ Some (meta_of metas)) }
-    ensures stand { IsTrue (W.state work.old).tells → OnOk result (AllStand schema.now (Z.tokens_of analyzers.now) (W.state work.new).files ids.now
-        (batches schema.now (Z.tokens_of analyzers.now) cuts.now (map operation_of operations.now))) }
-    ensures alive { IsTrue (W.state work.old).tells → OnOk result (AllTellAlive (W.state work.new).files (length operations.now)
-        (written_of schema.now (Z.tokens_of analyzers.now) ids.now cuts.now (map operation_of operations.now))) }
-    ensures small { OnOk result (AllByRecursion (λ (b : Batch). length b.documents < 2 ^ 31)
-        (batches schema.now (Z.tokens_of analyzers.now) cuts.now (map operation_of operations.now))) }
-    ensures taken { OnOk result (list_all (is_taken schema.now (Z.tokens_of analyzers.now)) (additions (map operation_of operations.now)) ≡ true) }
-    ensures fresh { IsTrue (W.state work.old).tells
-        → AreAbsent (segments_files (listed_of schema.now (Z.tokens_of analyzers.now) ids.now cuts.now (map operation_of operations.now))) (W.state work.old).files
-        → result ≢ Err TantivyError.IndexAlreadyExists }
-    ensures refused { start_refusal (Z.knows analyzers.now) 15000 schema.now settings.now ≡ None
-        → IfErr result (IfRefusal (λ e. batches_error schema.now (Z.tokens_of analyzers.now) 0 cuts.now (map operation_of operations.now) ≡ Some e)) }
-    ensures calls { FillsUpTo (listed_of schema.now (Z.tokens_of analyzers.now) ids.now cuts.now (map operation_of operations.now)) result
-        (W.state work.old)
-        (W.state work.new) }
+    ensures does { FillsIndex (start_refusal (Z.knows analyzers.now) 15000 schema.now settings.now) (settings_of settings.now) schema.now (Z.tokens_of analyzers.now)
+        ids.now cuts.now (map operation_of operations.now) result (W.state work.old) (W.state work.new) }
 {
     let segments = match write_batches(
         alloc, schema, settings, analyzers, operations, cuts, ids, work,
@@ -85,15 +63,8 @@ fn finish_work_index<W: Directory>(
 ) -> TResult<IndexMeta>
     requires few { length segments.now < 2 ^ 32 }
     requires distinct { are_distinct (map (λ s. s.id) segments.now) ≡ true }
-    ensures meta { IfOk result (λ metas. meta_of metas ≡ segments_meta (settings_of settings.now) schema.now stamp (all_listed stamp segments.now)) }
-    ensures index { IsTrue (W.state work.old).tells → IfOk result (λ metas. index.index_of segment_forms (W.state work.new).files ≡ Some (meta_of metas)) }
-    ensures alive { IsTrue (W.state work.old).tells → OnOk result (AllTellAlive (W.state work.new).files stamp segments.now) }
-    ensures fresh { IsTrue (W.state work.old).tells → AreAbsent (alive_files (all_listed stamp segments.now)) (W.state work.old).files
-        → result ≢ Err TantivyError.IndexAlreadyExists }
-    ensures calls { Does (wrote (alive_files (all_listed stamp segments.now)) ++ answer.Wrote FileName.Meta ∷ [])
-        (FileName.Meta ∷ alive_files (all_listed stamp segments.now)) result
-        (W.state work.old)
-        (W.state work.new) }
+    ensures meta { IfOk result (λ metas. meta_of metas ≡ listing_meta (settings_of settings.now) schema.now stamp segments.now) }
+    ensures does { FinishesIndex (settings_of settings.now) schema.now stamp segments.now result (W.state work.old) (W.state work.new) }
 {
     match write_alive_files(alloc, stamp, segments, work) {
         Ok(()) => {}
@@ -113,10 +84,8 @@ fn save_work_index<W: Directory>(
 ) -> TResult<IndexMeta>
     requires few { length segments.now < 2 ^ 32 }
     requires distinct { are_distinct (map (λ s. s.id) segments.now) ≡ true }
-    ensures meta { IfOk result (λ metas. meta_of metas ≡ segments_meta (settings_of settings.now) schema.now stamp (all_listed stamp segments.now)) }
-    ensures index { IsTrue (W.state work.old).tells → IfOk result (λ metas. index.index_of segment_forms (W.state work.new).files ≡ Some (meta_of metas)) }
-    ensures fresh { result ≢ Err TantivyError.IndexAlreadyExists }
-    ensures calls { Does (answer.Wrote FileName.Meta ∷ []) (FileName.Meta ∷ []) result
+    ensures meta { IfOk result (λ metas. meta_of metas ≡ listing_meta (settings_of settings.now) schema.now stamp segments.now) }
+    ensures works { Works (publish_steps (listing_meta (settings_of settings.now) schema.now stamp segments.now)) result
         (W.state work.old)
         (W.state work.new) }
 {

@@ -2,6 +2,9 @@
 use Rattle.std.proofs.Common.{◌≡◌, ℕ, true, false, List, [], ◌∷◌, Some, None, refl, arith}
 use Rattle.std.specs.Prelude.{codes}
 use Rattle.std.specs.Str.{bytes_eq}
+use Rattle.seg_values.specs.declared.error.ArgumentCause.TheVariants as argument
+use Rattle.seg_values.specs.declared.error.SchemaCause.TheVariants.{DeleteField, Tokenizer}
+use Rattle.seg_values.specs.declared.error.TantivyError.TheVariants.{SchemaError, InvalidArgument}
 use Rattle.seg_values.specs.declared.schema.FieldEntry.{FieldEntry}
 use Rattle.seg_values.specs.declared.schema.FieldKind.TheVariants.{Text}
 use Rattle.seg_values.specs.declared.schema.IndexOption.TheVariants.{No, Positions}
@@ -11,7 +14,7 @@ use Rattle.seg_values.specs.Tree.{text, leaf}
 use Rattle.seg_model.specs.Fields.{Analyzer}
 use Rattle.seg_model.specs.Operations.{Operation, add, delete, delete_all, TermKey}
 use Rattle.seg_model.specs.Input.{Input, uncompressed, lz4}
-use Rattle.seg_model.specs.Valid.{Known, bad_cuts, bad_filters, bad_segment_ids, bad_field_name, unsupported_settings, unknown_tokenizer, unknown_fast_tokenizer, unindexed_delete, input_refusal, IsValid}
+use Rattle.seg_model.specs.Valid.{Known, input_refusal, IsValid}
 
 -- the whole text is one token
 abbrev analyzer : Analyzer
@@ -55,43 +58,43 @@ valid = record {
   survivors = record { few = omega arith; columns = refl };
 }
 
-falling_cuts : input_refusal known analyzer (record input { cuts = 2 ∷ 1 ∷ [] }) ≡ Some bad_cuts
+falling_cuts : input_refusal known analyzer (record input { cuts = 2 ∷ 1 ∷ [] }) ≡ Some (InvalidArgument argument.Cuts)
 falling_cuts = refl
 
-cut_past_the_end : input_refusal known analyzer (record input { cuts = 4 ∷ [] }) ≡ Some bad_cuts
+cut_past_the_end : input_refusal known analyzer (record input { cuts = 4 ∷ [] }) ≡ Some (InvalidArgument argument.Cuts)
 cut_past_the_end = refl
 
-one_filter_short : input_refusal known analyzer (record input { filters = None ∷ [] }) ≡ Some bad_filters
+one_filter_short : input_refusal known analyzer (record input { filters = None ∷ [] }) ≡ Some (InvalidArgument argument.Filters)
 one_filter_short = refl
 
-filter_too_long : input_refusal known analyzer (record input { filters = None ∷ Some (true ∷ true ∷ []) ∷ [] }) ≡ Some bad_filters
+filter_too_long : input_refusal known analyzer (record input { filters = None ∷ Some (true ∷ true ∷ []) ∷ [] }) ≡ Some (InvalidArgument argument.Filters)
 filter_too_long = refl
 
-one_id_short : input_refusal known analyzer (record input { ids = 1 ∷ 2 ∷ [] }) ≡ Some bad_segment_ids
+one_id_short : input_refusal known analyzer (record input { ids = 1 ∷ 2 ∷ [] }) ≡ Some (InvalidArgument argument.SegmentIds)
 one_id_short = refl
 
-id_twice : input_refusal known analyzer (record input { ids = 1 ∷ 2 ∷ 1 ∷ [] }) ≡ Some bad_segment_ids
+id_twice : input_refusal known analyzer (record input { ids = 1 ∷ 2 ∷ 1 ∷ [] }) ≡ Some (InvalidArgument argument.SegmentIds)
 id_twice = refl
 
-zero_in_name : input_refusal known analyzer (record input { schema = title ∷ record note { name = 97 ∷ 0 ∷ [] } ∷ [] }) ≡ Some bad_field_name
+zero_in_name : input_refusal known analyzer (record input { schema = title ∷ record note { name = 97 ∷ 0 ∷ [] } ∷ [] }) ≡ Some (InvalidArgument argument.FieldName)
 zero_in_name = refl
 
-compressed : input_refusal known analyzer (record input { settings = record { compression = lz4; block_size = 16384; dedicated_thread = false } }) ≡ Some unsupported_settings
+compressed : input_refusal known analyzer (record input { settings = record { compression = lz4; block_size = 16384; dedicated_thread = false } }) ≡ Some (InvalidArgument argument.Settings)
 compressed = refl
 
 -- a field that is not indexed asks for `default` alone, whatever it names
-unknown_name : input_refusal known analyzer (record input { schema = title ∷ record note { index = Positions } ∷ [] }) ≡ Some (unknown_tokenizer 1)
+unknown_name : input_refusal known analyzer (record input { schema = title ∷ record note { index = Positions } ∷ [] }) ≡ Some (SchemaError (Tokenizer 1))
 unknown_name = refl
 
-unknown_default : input_refusal (λ name. false) analyzer input ≡ Some (unknown_tokenizer 0)
+unknown_default : input_refusal (λ name. false) analyzer input ≡ Some (SchemaError (Tokenizer 0))
 unknown_default = refl
 
-unknown_fast : input_refusal known analyzer (record input { schema = title ∷ record note { fast = true; fast_tokenizer = Some (codes "unknown") } ∷ [] }) ≡ Some unknown_fast_tokenizer
+unknown_fast : input_refusal known analyzer (record input { schema = title ∷ record note { fast = true; fast_tokenizer = Some (codes "unknown") } ∷ [] }) ≡ Some (InvalidArgument argument.FastTokenizer)
 unknown_fast = refl
 
 -- by a field that is not indexed, and by one past the schema
-deletes : input_refusal known analyzer (record input { operations = said (codes "mug") ∷ delete (term 1) ∷ said (codes "pan") ∷ [] }) ≡ Some (unindexed_delete 1)
+deletes : input_refusal known analyzer (record input { operations = said (codes "mug") ∷ delete (term 1) ∷ said (codes "pan") ∷ [] }) ≡ Some (SchemaError (DeleteField 1))
 deletes = refl
 
-deletes_of_several : input_refusal known analyzer (record input { operations = said (codes "mug") ∷ delete_all (term 0 ∷ term 2 ∷ []) ∷ said (codes "pan") ∷ [] }) ≡ Some (unindexed_delete 1)
+deletes_of_several : input_refusal known analyzer (record input { operations = said (codes "mug") ∷ delete_all (term 0 ∷ term 2 ∷ []) ∷ said (codes "pan") ∷ [] }) ≡ Some (SchemaError (DeleteField 1))
 deletes_of_several = refl

@@ -1,53 +1,25 @@
 -- An input is valid exactly where nothing refuses it.
 use Rattle.std.proofs.Common.{◌≡◌, ℕ, ◌+◌, ◌-◌, ◌^◌, ◌<◌, Bool, true, false, cond, nat_lt, List, [], ◌∷◌, ◌++◌, map, length, take, drop, Some, None, Option, option_map, sym, refl, ap, ◌∙◌, subst}
-use mathlib.Core.Bool.{true≢false}
 use Rattle.std.specs.Prelude.{is_some}
 use Rattle.std.specs.List.{enumerate_from, AllByRecursion, take-map, drop-map}
 use Rattle.std.specs.Option.{option_or}
 use Rattle.std.proofs.lemmas.List.{take-append-drop}
 use Rattle.std.proofs.lemmas.Bool.Decides.{Decides-ltb}
 use Rattle.seg_values.specs.Tree.{Document}
+use Rattle.seg_values.specs.declared.error.ArgumentCause.TheVariants.{Documents, Numbers}
+use Rattle.seg_values.specs.declared.error.TantivyError.{TantivyError}
+use Rattle.seg_values.specs.declared.error.TantivyError.TheVariants.{InvalidArgument}
 use Rattle.seg_model.specs.Fields.{Schema, Analyzer}
 use Rattle.seg_model.specs.Operations.{Operation, add, delete, delete_all, additions, Batch, batches_from}
-use Rattle.seg_model.specs.Checked.{document_refusal}
+use Rattle.seg_model.specs.Checked.{Cause, document_refusal, first_of, unless}
 use Rattle.seg_model.specs.Columns.{columns}
 use Rattle.seg_model.specs.Input.{Input, input_survivors}
 use Rattle.seg_model.specs.Valid.{Known, input_refusal, FitsSegment, IsValid}
-use Rattle.seg_model.specs.Refused.{BuildRefusal, document_refused, input_refused, first_of, cut_from, operation_refusal, count_refusal, numbers_refusal, added_by, batch_refusal, build_refusal}
+use Rattle.seg_model.specs.Refused.{cut_from, operation_refusal, count_refusal, numbers_refusal, added_by, batch_refusal, build_refusal}
 use Rattle.seg_model.specs.Laws.{ValidInputsAreNotRefused}
+use Rattle.seg_model.proofs.FirstAnswers.{unless_true, or_first, or_second, or_none, map_none, none_map, first_none, none_first}
 
--- ---- no answer
-
-module _ {X : Type 0} where
-  some-none : (x : X) → Some x ≡ None → ⊥
-  some-none x e = true≢false (ap is_some e)
-
-  or_first : (a b : Option X) → option_or a b ≡ None → a ≡ None
-  or_first None b e = refl
-  or_first (Some x) b e = e
-
-  or_second : (a b : Option X) → option_or a b ≡ None → b ≡ None
-  or_second None b e = e
-  or_second (Some x) b e = absurd (some-none x e)
-
-  or_none : (a b : Option X) → a ≡ None → b ≡ None → option_or a b ≡ None
-  or_none a b e h = ap (λ o. option_or o b) e ∙ h
-
-map_none : {X Y : Type 0} (f : X → Y) (a : Option X) → a ≡ None → option_map f a ≡ None
-map_none f a e = ap (option_map f) e
-
-none_map : {X Y : Type 0} (f : X → Y) (a : Option X) → option_map f a ≡ None → a ≡ None
-none_map f None e = refl
-none_map f (Some x) e = absurd (some-none (f x) e)
-
-module _ {X R : Type 0} (f : X → Option R) where
-  first_none : (xs : List X) → AllByRecursion (λ x. f x ≡ None) xs → first_of f xs ≡ None
-  first_none [] h = refl
-  first_none (x ∷ xs) h = or_none (f x) (first_of f xs) h.0 (first_none xs h.1)
-
-  none_first : (xs : List X) → first_of f xs ≡ None → AllByRecursion (λ x. f x ≡ None) xs
-  none_first [] e = tt
-  none_first (x ∷ xs) e = (or_first (f x) (first_of f xs) e, none_first xs (or_second (f x) (first_of f xs) e))
+-- ---- parts of a list
 
 module _ {X : Type 0} (P : X → Type 0) where
   all_front : (xs ys : List X) → AllByRecursion P (xs ++ ys) → AllByRecursion P xs
@@ -78,22 +50,20 @@ unnumbered first (x ∷ xs) = ap (λ l. x ∷ l) (unnumbered (first + 1) xs)
 module _ (schema : Schema) (analyzer : Analyzer) where
   -- ---- documents that one segment can hold
 
-  count_none : (ds : List Document) → length ds < 2 ^ 31 → count_refusal ds ≡ None
-  count_none ds h = ap (λ b. cond b None (Some BuildRefusal.too_many_documents)) ((Decides-ltb (length ds) (2 ^ 31)).1 h)
+  pub count_none : (ds : List Document) → length ds < 2 ^ 31 → count_refusal ds ≡ None
+  count_none ds h = ap (λ b. unless b (InvalidArgument Documents)) ((Decides-ltb (length ds) (2 ^ 31)).1 h)
 
-  none_count : (ds : List Document) (b : Bool) → nat_lt (length ds) (2 ^ 31) ≡ b → count_refusal ds ≡ None → length ds < 2 ^ 31
-  none_count ds true t e = (Decides-ltb (length ds) (2 ^ 31)).0 t
-  none_count ds false t e = absurd (some-none BuildRefusal.too_many_documents (sym (ap (λ b. cond b None (Some BuildRefusal.too_many_documents)) t) ∙ e))
+  pub none_count : (ds : List Document) → count_refusal ds ≡ None → length ds < 2 ^ 31
+  none_count ds e = (Decides-ltb (length ds) (2 ^ 31)).0 (unless_true _ (InvalidArgument Documents) e)
 
-  numbers_none : (ds : List Document) → is_some (columns schema analyzer ds) ≡ true → numbers_refusal schema analyzer ds ≡ None
-  numbers_none ds h = ap (λ b. cond b None (Some BuildRefusal.mixed_numbers)) h
+  pub numbers_none : (ds : List Document) → is_some (columns schema analyzer ds) ≡ true → numbers_refusal schema analyzer ds ≡ None
+  numbers_none ds h = ap (λ b. unless b (InvalidArgument Numbers)) h
 
-  none_numbers : (ds : List Document) (b : Bool) → is_some (columns schema analyzer ds) ≡ b → numbers_refusal schema analyzer ds ≡ None → is_some (columns schema analyzer ds) ≡ true
-  none_numbers ds true t e = t
-  none_numbers ds false t e = absurd (some-none BuildRefusal.mixed_numbers (sym (ap (λ b. cond b None (Some BuildRefusal.mixed_numbers)) t) ∙ e))
+  pub none_numbers : (ds : List Document) → numbers_refusal schema analyzer ds ≡ None → is_some (columns schema analyzer ds) ≡ true
+  none_numbers ds e = unless_true _ (InvalidArgument Numbers) e
 
   fits : (ds : List Document) → count_refusal ds ≡ None → numbers_refusal schema analyzer ds ≡ None → FitsSegment schema analyzer ds
-  fits ds c n = record { few = none_count ds (nat_lt (length ds) (2 ^ 31)) refl c; columns = none_numbers ds (is_some (columns schema analyzer ds)) refl n }
+  fits ds c n = record { few = none_count ds c; columns = none_numbers ds n }
 
   -- ---- documents that pass the check
 
@@ -104,12 +74,12 @@ module _ (schema : Schema) (analyzer : Analyzer) where
   Taken d = document_refusal schema analyzer d ≡ None
 
   taken_step : (at : ℕ) (o : Operation) (os : List Operation) → AllByRecursion Taken (additions (o ∷ os)) → (operation_refusal schema analyzer at o ≡ None) × AllByRecursion Taken (additions os)
-  taken_step at (add d) os h = (map_none (document_refused at) (document_refusal schema analyzer d) h.0, h.1)
+  taken_step at (add d) os h = (map_none (λ (c : Cause). c at) (document_refusal schema analyzer d) h.0, h.1)
   taken_step at (delete t) os h = (refl, h)
   taken_step at (delete_all ts) os h = (refl, h)
 
   pass_step : (at : ℕ) (o : Operation) (os : List Operation) → operation_refusal schema analyzer at o ≡ None → AllByRecursion Taken (additions os) → AllByRecursion Taken (additions (o ∷ os))
-  pass_step at (add d) os e h = (none_map (document_refused at) (document_refusal schema analyzer d) e, h)
+  pass_step at (add d) os e h = (none_map (λ (c : Cause). c at) (document_refusal schema analyzer d) e, h)
   pass_step at (delete t) os e h = h
   pass_step at (delete_all ts) os e h = h
 
@@ -134,7 +104,7 @@ module _ (schema : Schema) (analyzer : Analyzer) where
       (or_none (first_of (λ p. operation_refusal schema analyzer p.0 p.1) part) _ (first_none (λ p. operation_refusal schema analyzer p.0 p.1) part h) (numbers_none (added_by part) f.columns))
 
   -- what is after the first test of a batch
-  abbrev later : List (ℕ × Operation) → Option BuildRefusal
+  abbrev later : List (ℕ × Operation) → Option TantivyError
   later part = option_or (first_of (λ p. operation_refusal schema analyzer p.0 p.1) part) (numbers_refusal schema analyzer (added_by part))
 
   none_part : (part : List (ℕ × Operation)) → batch_refusal schema analyzer part ≡ None → AllByRecursion Passes part × FitsSegment schema analyzer (added_by part)
@@ -175,16 +145,16 @@ module _ (known : Known) (analyzer : Analyzer) (input : Input) where
   abbrev numbered : List (ℕ × Operation)
   numbered = enumerate_from 0 input.operations
 
-  abbrev by_input : Option BuildRefusal
-  by_input = option_map input_refused (input_refusal known analyzer input)
+  abbrev by_input : Option TantivyError
+  by_input = input_refusal known analyzer input
 
-  abbrev by_batches : Option BuildRefusal
+  abbrev by_batches : Option TantivyError
   by_batches = first_of (batch_refusal input.schema analyzer) (cut_from 0 input.cuts numbered)
 
-  abbrev by_count : Option BuildRefusal
+  abbrev by_count : Option TantivyError
   by_count = count_refusal (input_survivors analyzer input)
 
-  abbrev by_numbers : Option BuildRefusal
+  abbrev by_numbers : Option TantivyError
   by_numbers = numbers_refusal input.schema analyzer (input_survivors analyzer input)
 
   same : map (λ p. p.1) numbered ≡ input.operations
@@ -192,7 +162,7 @@ module _ (known : Known) (analyzer : Analyzer) (input : Input) where
 
   valid_none : IsValid known analyzer input → build_refusal known analyzer input ≡ None
   valid_none v =
-      or_none by_input (option_or by_batches (option_or by_count by_numbers)) (map_none input_refused (input_refusal known analyzer input) v.accepted)
+      or_none by_input (option_or by_batches (option_or by_count by_numbers)) v.accepted
       (or_none by_batches (option_or by_count by_numbers) (first_none (batch_refusal input.schema analyzer) (cut_from 0 input.cuts numbered) (parts_none input.schema analyzer 0 input.cuts numbered
       (taken_pass input.schema analyzer numbered (subst (λ os. AllByRecursion (Taken input.schema analyzer) (additions os)) (sym same) v.taken))
       (subst (λ os. AllByRecursion (Fits input.schema analyzer) (batches_from input.schema analyzer 0 input.cuts os)) (sym same) v.batches)))
@@ -204,7 +174,7 @@ module _ (known : Known) (analyzer : Analyzer) (input : Input) where
       let behind_batches : option_or by_count by_numbers ≡ None = or_second by_batches (option_or by_count by_numbers) behind_input in
       let parts = none_parts input.schema analyzer 0 input.cuts numbered (none_first (batch_refusal input.schema analyzer) (cut_from 0 input.cuts numbered) (or_first by_batches (option_or by_count by_numbers) behind_input)) in
       record {
-        accepted = none_map input_refused (input_refusal known analyzer input) (or_first by_input (option_or by_batches (option_or by_count by_numbers)) e);
+        accepted = or_first by_input (option_or by_batches (option_or by_count by_numbers)) e;
         taken = subst (λ os. AllByRecursion (Taken input.schema analyzer) (additions os)) same (pass_taken input.schema analyzer numbered parts.0);
         batches = subst (λ os. AllByRecursion (Fits input.schema analyzer) (batches_from input.schema analyzer 0 input.cuts os)) same parts.1;
         survivors = fits input.schema analyzer (input_survivors analyzer input) (or_first by_count by_numbers behind_batches) (or_second by_count by_numbers behind_batches);

@@ -25,26 +25,13 @@ use Rattle.seg_model.specs.Tables.{is_among}
 use Rattle.seg_values.specs.ValueBytes.{raised}
 use Rattle.seg_model.specs.Occurrences.{Occurrence, counted, facet_prefixes, at_zero, value_terms, leaf_occurrences, json_occurrences, kind_occurrences, occurrences_at, occurrences}
 use Rattle.seg_model.specs.Reading.{Posting, positions_of, if_occurs, term_option, recorded_in, postings_of, terms_of}
-use Rattle.seg_model.specs.Checked.{Refusal, or_else, first_refusal, unless, value_refusal, is_json_leaf, has_no_zero, tree_refusal, trees_refusal, members_refusal, is_checked_json, json_refusal, wrong_value, json_leaf, json_key, IsSound}
+use Rattle.seg_model.specs.Checked.{first_of, unless, value_refusal, is_json_leaf, has_no_zero, tree_refusal, trees_refusal, members_refusal, is_checked_json, json_refusal, wrong_value, json_leaf, json_key, IsSound}
 use Rattle.seg_model.specs.Shape.{IsTermOf, IsTermWith, ArePostings, is_type_code}
+use Rattle.seg_model.proofs.FirstAnswers.{or_first, or_second, unless_true}
 use Rattle.seg_model.proofs.Tables.{same_key}
 use Rattle.seg_model.proofs.Terms.{texts_apart, get-terms_of, complete_terms}
 use Rattle.seg_model.proofs.ShapedTerms.{IsMaybeRecordOf, each-append, ArePostings-from, some_if_any}
 use Rattle.seg_model.proofs.Utf8.{AreUtf8, HaveNoZero, IsUtf8-joined_path, has_no_zero-joined_path, path_part-path, type_code-path, AreUtf8-facet_prefixes}
-
--- ---- refusals
-
-pub none_first : (a b : Option Refusal) → or_else a b ≡ None → a ≡ None
-none_first None b e = refl
-none_first (Some r) b e = e
-
-pub none_second : (a b : Option Refusal) → or_else a b ≡ None → b ≡ None
-none_second None b e = e
-none_second (Some r) b e = absurd (true≢false (ap is_some e))
-
-pub unless_true : (b : Bool) (r : Refusal) → unless b r ≡ None → b ≡ true
-unless_true true r e = refl
-unless_true false r e = absurd (true≢false (ap is_some e))
 
 -- ---- sound values of a field
 
@@ -63,12 +50,12 @@ module _ (schema : Schema) (i : ℕ) (e : FieldEntry) (at : slice_get schema i �
         utf8 = u;
       }
 
-  sound_values : (d : Document) → first_refusal (λ p. value_refusal p.0 p.1 (slice_get schema p.0)) d ≡ None → first_refusal (λ p. json_refusal p.1 (slice_get schema p.0)) d ≡ None → IsUtf8Document d → AllByRecursion (IsSoundValue e) (values_of i d)
+  sound_values : (d : Document) → first_of (λ p. value_refusal p.0 p.1 (slice_get schema p.0)) d ≡ None → first_of (λ p. json_refusal p.1 (slice_get schema p.0)) d ≡ None → IsUtf8Document d → AllByRecursion (IsSoundValue e) (values_of i d)
   sound_values [] v j u = tt
-  sound_values (p ∷ ps) v j u = by (nat_eq i p.0) refl (sound_values ps (none_second (value_refusal p.0 p.1 (slice_get schema p.0)) _ v) (none_second (json_refusal p.1 (slice_get schema p.0)) _ j) u.1)
+  sound_values (p ∷ ps) v j u = by (nat_eq i p.0) refl (sound_values ps (or_second (value_refusal p.0 p.1 (slice_get schema p.0)) _ v) (or_second (json_refusal p.1 (slice_get schema p.0)) _ j) u.1)
     where
       by : (b : Bool) → nat_eq i p.0 ≡ b → AllByRecursion (IsSoundValue e) (values_of i ps) → AllByRecursion (IsSoundValue e) (map (λ (x : ℕ × Tree). x.1) (cond b (p ∷ filter (λ x. nat_eq i x.0) ps) (filter (λ x. nat_eq i x.0) ps)))
-      by true is rest = (sound_pair p (let z : i ≡ p.0 = grind (arith, nat_tests) in z) (none_first (value_refusal p.0 p.1 (slice_get schema p.0)) _ v) (none_first (json_refusal p.1 (slice_get schema p.0)) _ j) u.0, rest)
+      by true is rest = (sound_pair p (let z : i ≡ p.0 = grind (arith, nat_tests) in z) (or_first (value_refusal p.0 p.1 (slice_get schema p.0)) _ v) (or_first (json_refusal p.1 (slice_get schema p.0)) _ j) u.0, rest)
       by false is rest = rest
 
   pub values_sound : (d : Document) → IsSound schema d → AllByRecursion (IsSoundValue e) (values_of i d)
@@ -89,14 +76,14 @@ mutual
 
   sound_tree_leaves : (keys : List (List ℕ)) (level : ℕ) (ts : Trees) → AreUtf8 keys → HaveNoZero keys → trees_refusal ts ≡ None → AreUtf8Trees ts → AllByRecursion IsSoundLeaf (leaves_of_trees keys level ts)
   sound_tree_leaves keys level no_trees u z r h = tt
-  sound_tree_leaves keys level (tree t ts) u z r h = each-append IsSoundLeaf _ _ (sound_leaves keys level t u z (none_first (tree_refusal t) _ r) h.0) (sound_tree_leaves keys level ts u z (none_second (tree_refusal t) _ r) h.1)
+  sound_tree_leaves keys level (tree t ts) u z r h = each-append IsSoundLeaf _ _ (sound_leaves keys level t u z (or_first (tree_refusal t) _ r) h.0) (sound_tree_leaves keys level ts u z (or_second (tree_refusal t) _ r) h.1)
 
   sound_member_leaves : (keys : List (List ℕ)) (level : ℕ) (ms : Members) → AreUtf8 keys → HaveNoZero keys → members_refusal ms ≡ None → AreUtf8Members ms → AllByRecursion IsSoundLeaf (leaves_of_members keys level ms)
   sound_member_leaves keys level no_members u z r h = tt
   sound_member_leaves keys level (member key t ms) u z r h =
       each-append IsSoundLeaf _ _
-      (sound_leaves (keys ++ key ∷ []) level t (each-append IsUtf8 keys (key ∷ []) u (h.0, tt)) (each-append _ keys (key ∷ []) z (unless_true (has_no_zero key) json_key (none_first (unless (has_no_zero key) json_key) _ r), tt)) (none_first (tree_refusal t) _ (none_second (unless (has_no_zero key) json_key) _ r)) h.1)
-      (sound_member_leaves keys level ms u z (none_second (tree_refusal t) _ (none_second (unless (has_no_zero key) json_key) _ r)) h.2)
+      (sound_leaves (keys ++ key ∷ []) level t (each-append IsUtf8 keys (key ∷ []) u (h.0, tt)) (each-append _ keys (key ∷ []) z (unless_true (has_no_zero key) json_key (or_first (unless (has_no_zero key) json_key) _ r), tt)) (or_first (tree_refusal t) _ (or_second (unless (has_no_zero key) json_key) _ r)) h.1)
+      (sound_member_leaves keys level ms u z (or_second (tree_refusal t) _ (or_second (unless (has_no_zero key) json_key) _ r)) h.2)
 
 pub sound_leaves_of : (e : FieldEntry) → is_checked_json e ≡ true → (values : List Tree) → AllByRecursion (IsSoundValue e) values → AllByRecursion IsSoundLeaf (leaves_of values)
 sound_leaves_of e c [] h = tt

@@ -1,11 +1,16 @@
 -- The check of a document that is to be added: four passes over its pairs, of which the first that finds something answers.
 use Rattle.std.specs.Prelude.{ℕ, ◌+◌, ◌^◌, List, [], ◌∷◌, map, filter, length, Option, Some, None, Bool, true, false, ◌&&◌, ◌||◌, ◌==◌, nat_le, nat_lt, if◌then◌else◌, ◌≡◌}
 use Rattle.std.specs.List.{slice_get, list_all, flat_map}
+use Rattle.std.specs.Option.{option_or, option_map}
 use Rattle.std.specs.Str.{bytes_eq}
 use Rattle.seg_values.specs.declared.token.Token.{Token}
 use Rattle.seg_values.specs.declared.schema.FieldEntry.{FieldEntry}
 use Rattle.seg_values.specs.declared.schema.FieldKind.{FieldKind}
 use Rattle.seg_values.specs.declared.schema.FieldKind.TheVariants as kinds
+use Rattle.seg_values.specs.declared.error.ArgumentCause.TheVariants as argument
+use Rattle.seg_values.specs.declared.error.SchemaCause.TheVariants as schema_cause
+use Rattle.seg_values.specs.declared.error.TantivyError.{TantivyError}
+use Rattle.seg_values.specs.declared.error.TantivyError.TheVariants.{SchemaError, InvalidArgument}
 use Rattle.seg_values.specs.Tree.{Leaf, pre_tokenized, facet, byte_string, ip, Tree, leaf, array, object, Trees, no_trees, tree, Members, no_members, member, levels, Document}
 use Rattle.seg_values.specs.Utf8.{IsUtf8Document}
 use Rattle.seg_model.specs.Fields.{Schema, Analyzer, is_json, is_indexed, indexing_tokenizer, values_of, fields}
@@ -14,34 +19,46 @@ use Rattle.seg_model.specs.Takes.{takes}
 use Rattle.seg_model.specs.StoredForm.{stored_form}
 use Rattle.seg_model.specs.Occurrences.{counted, start_after_all, value_tokens, leaf_text, texts_at}
 
--- why a document is not taken
-pub data Refusal : Type 0 where
-  unknown_field : Refusal
-  wrong_value : ℕ → Refusal
-  json_leaf : Refusal
-  json_key : Refusal
-  positions_fall : Refusal
-  past_limit : Refusal
+-- why a document is not taken: the error, given the place at which the document is added
+abbrev pub Cause : Type 0
+Cause = ℕ → TantivyError
 
--- the first refusal, and else the second
-abbrev pub or_else : Option Refusal → Option Refusal → Option Refusal
-or_else None later = later
-or_else (Some r) later = Some r
+abbrev pub unknown_field : Cause
+unknown_field at = SchemaError (schema_cause.UnknownField at)
 
--- the first refusal of a list
-abbrev pub first_refusal : {X : Type 0} → (X → Option Refusal) → List X → Option Refusal
-first_refusal f [] = None
-first_refusal f (x ∷ xs) = or_else (f x) (first_refusal f xs)
+abbrev pub wrong_value : ℕ → Cause
+wrong_value field at = SchemaError (schema_cause.WrongValue at field)
+
+abbrev pub json_leaf : Cause
+json_leaf at = InvalidArgument (argument.JsonLeaf at)
+
+abbrev pub json_key : Cause
+json_key at = InvalidArgument (argument.JsonKey at)
+
+abbrev pub positions_fall : Cause
+positions_fall at = InvalidArgument (argument.Positions at)
+
+abbrev pub past_limit : Cause
+past_limit at = InvalidArgument (argument.Limit at)
+
+-- the error of a document at a place, if it is not taken
+abbrev pub at_place : ℕ → Option Cause → Option TantivyError
+at_place at cause = option_map (λ (c : Cause). c at) cause
+
+-- the first answer that there is
+abbrev pub first_of : {X R : Type 0} → (X → Option R) → List X → Option R
+first_of f [] = None
+first_of f (x ∷ xs) = option_or (f x) (first_of f xs)
 
 -- a refusal where a test fails
-abbrev pub unless : Bool → Refusal → Option Refusal
+abbrev pub unless : {R : Type 0} → Bool → R → Option R
 unless true r = None
 unless false r = Some r
 
 -- ---- the first pass: fields, and the trees that they take
 
 -- the refusal of a value of a field: there is no such field, or the field does not take it
-abbrev pub value_refusal : ℕ → Tree → Option FieldEntry → Option Refusal
+abbrev pub value_refusal : ℕ → Tree → Option FieldEntry → Option Cause
 value_refusal field t None = Some unknown_field
 value_refusal field t (Some entry) = unless (takes entry t) (wrong_value field)
 
@@ -62,25 +79,25 @@ has_no_zero (b ∷ bs) = if b == 0 then false else has_no_zero bs
 
 -- from left to right, a key before its value
 abbrev mutual
-  pub tree_refusal : Tree → Option Refusal
+  pub tree_refusal : Tree → Option Cause
   tree_refusal (leaf l) = unless (is_json_leaf l) json_leaf
   tree_refusal (array ts) = trees_refusal ts
   tree_refusal (object ms) = members_refusal ms
 
-  pub trees_refusal : Trees → Option Refusal
+  pub trees_refusal : Trees → Option Cause
   trees_refusal no_trees = None
-  trees_refusal (tree t ts) = or_else (tree_refusal t) (trees_refusal ts)
+  trees_refusal (tree t ts) = option_or (tree_refusal t) (trees_refusal ts)
 
-  pub members_refusal : Members → Option Refusal
+  pub members_refusal : Members → Option Cause
   members_refusal no_members = None
-  members_refusal (member key t ms) = or_else (unless (has_no_zero key) json_key) (or_else (tree_refusal t) (members_refusal ms))
+  members_refusal (member key t ms) = option_or (unless (has_no_zero key) json_key) (option_or (tree_refusal t) (members_refusal ms))
 
 -- a JSON field that is indexed or fast
 abbrev pub is_checked_json : FieldEntry → Bool
 is_checked_json entry = is_json entry.kind && (is_indexed entry || entry.fast)
 
 -- the refusal of a value of a field, where that is a JSON field that is indexed or fast
-abbrev pub json_refusal : Tree → Option FieldEntry → Option Refusal
+abbrev pub json_refusal : Tree → Option FieldEntry → Option Cause
 json_refusal t None = None
 json_refusal t (Some entry) = if is_checked_json entry then tree_refusal t else None
 
@@ -99,7 +116,7 @@ value_texts kinds.Json analyze t = flat_map (λ p. map analyze (leaf_text p.leaf
 value_texts _ analyze t = []
 
 -- the refusal of a value of a field, where that is indexed and the positions in one of its texts decrease
-abbrev pub positions_refusal : Analyzer → Tree → Option FieldEntry → Option Refusal
+abbrev pub positions_refusal : Analyzer → Tree → Option FieldEntry → Option Cause
 positions_refusal analyzer t None = None
 positions_refusal analyzer t (Some entry) =
     if is_indexed entry then unless (list_all (λ tokens. is_rising (counted tokens)) (value_texts entry.kind (analyzer (indexing_tokenizer entry)) t)) positions_fall else None
@@ -148,27 +165,27 @@ is_within_limits schema analyzer document =
 -- ---- all passes
 
 -- the first pass
-abbrev pub fields_refusal : Schema → Document → Option Refusal
-fields_refusal schema document = first_refusal (λ p. value_refusal p.0 p.1 (slice_get schema p.0)) document
+abbrev pub fields_refusal : Schema → Document → Option Cause
+fields_refusal schema document = first_of (λ p. value_refusal p.0 p.1 (slice_get schema p.0)) document
 
 -- the second pass
-abbrev pub leaves_refusal : Schema → Document → Option Refusal
-leaves_refusal schema document = first_refusal (λ p. json_refusal p.1 (slice_get schema p.0)) document
+abbrev pub leaves_refusal : Schema → Document → Option Cause
+leaves_refusal schema document = first_of (λ p. json_refusal p.1 (slice_get schema p.0)) document
 
 -- the third pass
-abbrev pub order_refusal : Schema → Analyzer → Document → Option Refusal
-order_refusal schema analyzer document = first_refusal (λ p. positions_refusal analyzer p.1 (slice_get schema p.0)) document
+abbrev pub order_refusal : Schema → Analyzer → Document → Option Cause
+order_refusal schema analyzer document = first_of (λ p. positions_refusal analyzer p.1 (slice_get schema p.0)) document
 
 -- the fourth pass
-abbrev pub limit_refusal : Schema → Analyzer → Document → Option Refusal
+abbrev pub limit_refusal : Schema → Analyzer → Document → Option Cause
 limit_refusal schema analyzer document = unless (is_within_limits schema analyzer document) past_limit
 
 -- why a document is not taken, if it is not
-abbrev pub document_refusal : Schema → Analyzer → Document → Option Refusal
+abbrev pub document_refusal : Schema → Analyzer → Document → Option Cause
 document_refusal schema analyzer document =
-    or_else (fields_refusal schema document)
-    (or_else (leaves_refusal schema document)
-    (or_else (order_refusal schema analyzer document)
+    option_or (fields_refusal schema document)
+    (option_or (leaves_refusal schema document)
+    (option_or (order_refusal schema analyzer document)
     (limit_refusal schema analyzer document)))
 
 -- a document that passes the first two passes, with texts

@@ -4,27 +4,19 @@ use Rattle.std.specs.List.{list_any, list_all, slice_get, AllByRecursion}
 use Rattle.std.specs.Option.{option_or, option_map}
 use Rattle.seg_values.specs.declared.schema.FieldEntry.{FieldEntry}
 use Rattle.seg_values.specs.Tree.{Document}
+use Rattle.seg_values.specs.declared.error.ArgumentCause.TheVariants as argument
+use Rattle.seg_values.specs.declared.error.SchemaCause.TheVariants as schema_cause
+use Rattle.seg_values.specs.declared.error.TantivyError.{TantivyError}
+use Rattle.seg_values.specs.declared.error.TantivyError.TheVariants.{SchemaError, InvalidArgument}
 use Rattle.seg_model.specs.Fields.{Schema, Analyzer, is_text, is_json, is_indexed, is_field, indexing_tokenizer}
 use Rattle.seg_model.specs.Operations.{TermKey, Operation, add, delete, delete_all, Batch, additions}
-use Rattle.seg_model.specs.Checked.{document_refusal}
+use Rattle.seg_model.specs.Checked.{document_refusal, unless}
 use Rattle.seg_model.specs.Columns.{columns}
 use Rattle.seg_model.specs.Input.{Compression, uncompressed, Settings, Filter, Input, input_batches, input_survivors}
 
 -- the names under which an analyzer is known
 abbrev pub Known : Type 0
 Known = List ℕ → Bool
-
--- why an input is refused before anything is read or written; a tokenizer is told by its field, a delete by its place
-pub data InputRefusal : Type 0 where
-  bad_cuts : InputRefusal
-  too_many_batches : InputRefusal
-  bad_filters : InputRefusal
-  bad_segment_ids : InputRefusal
-  bad_field_name : InputRefusal
-  unsupported_settings : InputRefusal
-  unknown_tokenizer : ℕ → InputRefusal
-  unknown_fast_tokenizer : InputRefusal
-  unindexed_delete : ℕ → InputRefusal
 
 -- ---- the list of operations and how it is cut
 
@@ -105,23 +97,32 @@ unindexed_delete_of schema operations = position (is_unindexed_delete schema) op
 
 -- ---- all tests, in their order
 
--- a refusal where a test fails
-abbrev pub refused_unless : Bool → InputRefusal → Option InputRefusal
-refused_unless true refusal = None
-refused_unless false refusal = Some refusal
+-- why the operations are refused by how they are cut in batches, filtered and named
+abbrev pub shape_refusal : List Operation → List ℕ → List (Option Filter) → List Batch → List ℕ → Option TantivyError
+shape_refusal operations cuts filters batches ids =
+    option_or (unless (cuts_fit operations cuts) (InvalidArgument argument.Cuts))
+    (option_or (unless (batches_fit cuts) (InvalidArgument argument.Batches))
+    (option_or (unless (filters_fit filters batches) (InvalidArgument argument.Filters))
+    (unless (ids_fit cuts ids) (InvalidArgument argument.SegmentIds))))
+
+-- why no segment is begun: by the names of its fields, its settings, or their tokenizers
+abbrev pub schema_refusal : Known → Schema → Settings → Option TantivyError
+schema_refusal known schema settings =
+    option_or (unless (names_fit schema) (InvalidArgument argument.FieldName))
+    (option_or (unless (settings_fit settings) (InvalidArgument argument.Settings))
+    (option_or (option_map (λ field. SchemaError (schema_cause.Tokenizer field)) (unknown_tokenizer_of known schema))
+    (unless (not (list_any (has_unknown_fast_tokenizer known) schema)) (InvalidArgument argument.FastTokenizer))))
+
+-- why a delete is refused
+abbrev pub delete_refusal : Schema → List Operation → Option TantivyError
+delete_refusal schema operations = option_map (λ at. SchemaError (schema_cause.DeleteField at)) (unindexed_delete_of schema operations)
 
 -- why an input is refused, if it is: the first test that fails tells
-abbrev pub input_refusal : Known → Analyzer → Input → Option InputRefusal
+abbrev pub input_refusal : Known → Analyzer → Input → Option TantivyError
 input_refusal known analyzer input =
-    option_or (refused_unless (cuts_fit input.operations input.cuts) bad_cuts)
-    (option_or (refused_unless (batches_fit input.cuts) too_many_batches)
-    (option_or (refused_unless (filters_fit input.filters (input_batches analyzer input)) bad_filters)
-    (option_or (refused_unless (ids_fit input.cuts input.ids) bad_segment_ids)
-    (option_or (refused_unless (names_fit input.schema) bad_field_name)
-    (option_or (refused_unless (settings_fit input.settings) unsupported_settings)
-    (option_or (option_map unknown_tokenizer (unknown_tokenizer_of known input.schema))
-    (option_or (refused_unless (not (list_any (has_unknown_fast_tokenizer known) input.schema)) unknown_fast_tokenizer)
-    (option_map unindexed_delete (unindexed_delete_of input.schema input.operations)))))))))
+    option_or (shape_refusal input.operations input.cuts input.filters (input_batches analyzer input) input.ids)
+    (option_or (schema_refusal known input.schema input.settings)
+    (delete_refusal input.schema input.operations))
 
 -- ---- valid inputs
 

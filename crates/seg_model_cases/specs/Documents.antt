@@ -1,20 +1,25 @@
 -- Cases of the check of documents, and of what is stored of them.
 use Rattle.std.specs.Prelude.{◌≡◌, pos, negsuc, ◌^◌, ◌-◌, List, [], ◌∷◌, map, replicate, codes, true, false, Option, Some, None}
+use Rattle.seg_values.specs.declared.error.ArgumentCause.TheVariants as argument
+use Rattle.seg_values.specs.declared.error.SchemaCause.TheVariants.{UnknownField, WrongValue}
+use Rattle.seg_values.specs.declared.error.TantivyError.{TantivyError}
+use Rattle.seg_values.specs.declared.error.TantivyError.TheVariants.{SchemaError, InvalidArgument}
 use Rattle.seg_values.specs.declared.schema.FieldKind.TheVariants.{Text, Json}
 use Rattle.seg_values.specs.declared.schema.IndexOption.TheVariants.{No, Positions}
 use Rattle.seg_values.specs.Tree.{null, unsigned, signed, boolean, date, facet, byte_string, ip, Tree, leaf, array, tree, no_trees, Document}
 use Rattle.seg_model.specs.Fields.{Schema}
 use Rattle.seg_model.specs.Reading.{stored_document}
 use Rattle.seg_model.specs.StoredForm.{tree_form, stored_form}
-use Rattle.seg_model.specs.Checked.{Refusal, document_refusal, unknown_field, wrong_value, json_leaf, json_key, positions_fall, past_limit, is_u32}
+use Rattle.seg_model.specs.Checked.{at_place, document_refusal, is_u32}
 use Rattle.seg_model_cases.specs.Given.{analyzer, entry, only, said, token, cut, keyed, in_arrays}
 
 -- field 0 has texts, field 1 JSON
 abbrev pub two_fields : Schema
 two_fields = entry Text Positions ∷ entry Json Positions ∷ []
 
-abbrev pub refusals : List Document → List (Option Refusal)
-refusals documents = map (document_refusal two_fields analyzer) documents
+-- each as the document at place 9
+abbrev pub refusals : List Document → List (Option TantivyError)
+refusals documents = map (λ d. at_place 9 (document_refusal two_fields analyzer d)) documents
 
 abbrev pub seven : Tree
 seven = leaf (unsigned 7)
@@ -29,11 +34,11 @@ falling = cut (token 1 (codes "a") ∷ token 0 (codes "a") ∷ [])
 pub record DocumentCases : Type 0 where
   -- no such field; no value of a text; no leaf of JSON, twice; no key of JSON, whose value is no leaf of it either; tokens that fall
   pub refused : refusals (((2, seven) ∷ []) ∷ ((0, seven) ∷ []) ∷ ((1, bytes) ∷ []) ∷ ((1, falling) ∷ []) ∷ ((1, keyed (0 ∷ []) falling) ∷ []) ∷ ((0, falling) ∷ []) ∷ []) ≡
-      Some unknown_field ∷ Some (wrong_value 0) ∷ Some json_leaf ∷ Some json_leaf ∷ Some json_key ∷ Some positions_fall ∷ []
+      Some (SchemaError (UnknownField 9)) ∷ Some (SchemaError (WrongValue 9 0)) ∷ Some (InvalidArgument (argument.JsonLeaf 9)) ∷ Some (InvalidArgument (argument.JsonLeaf 9)) ∷ Some (InvalidArgument (argument.JsonKey 9)) ∷ Some (InvalidArgument (argument.Positions 9)) ∷ []
   -- what is found in a later field, by an earlier pass, comes first
-  pub in_passes : refusals (((1, bytes) ∷ (0, seven) ∷ []) ∷ ((0, falling) ∷ (1, bytes) ∷ []) ∷ ((1, in_arrays 200 seven) ∷ (0, falling) ∷ []) ∷ []) ≡ Some (wrong_value 0) ∷ Some json_leaf ∷ Some positions_fall ∷ []
+  pub in_passes : refusals (((1, bytes) ∷ (0, seven) ∷ []) ∷ ((0, falling) ∷ (1, bytes) ∷ []) ∷ ((1, in_arrays 200 seven) ∷ (0, falling) ∷ []) ∷ []) ≡ Some (SchemaError (WrongValue 9 0)) ∷ Some (InvalidArgument (argument.JsonLeaf 9)) ∷ Some (InvalidArgument (argument.Positions 9)) ∷ []
   -- an array without values has a level too: 200 are taken
-  pub empty_arrays : refusals (((1, in_arrays 199 (array no_trees)) ∷ []) ∷ ((1, in_arrays 200 (array no_trees)) ∷ []) ∷ []) ≡ None ∷ Some past_limit ∷ []
+  pub empty_arrays : refusals (((1, in_arrays 199 (array no_trees)) ∷ []) ∷ ((1, in_arrays 200 (array no_trees)) ∷ []) ∷ []) ≡ None ∷ Some (InvalidArgument (argument.Limit 9)) ∷ []
   -- what is counted stays below 2^32
   pub counted : map is_u32 ((2 ^ 32 - 1) ∷ (2 ^ 32) ∷ []) ≡ true ∷ false ∷ []
   -- a text that was cut is stored as its text, and a field that is not stored, or not there, is left out

@@ -1,78 +1,52 @@
--- What the opening of a segment shows, once its files are read.
-use Rattle.std.proofs.Common.{◌≡◌, ℕ, List, [], ◌∷◌, ◌++◌, Option, Some, None, Err, refl, sym, ap, ◌∙◌, subst, inl, inr}
-use Rattle.std.specs.FinMap.{get}
-use Rattle.std.specs.List.{AllByRecursion}
+-- The opening of a segment, by how it ends.
+use Rattle.std.proofs.Common.{◌≡◌, ℕ, None, Some, Ok, Err, refl, sym, subst}
+use Rattle.std.specs.Prelude.{Result}
 use Rattle.seg_common.specs.declared.name.FileName.TheVariants.{Part}
-use Rattle.seg_common.specs.declared.name.SegmentComponent.{SegmentComponent}
-use Rattle.seg_common.specs.declared.name.SegmentComponent.TheVariants.{Terms, Store, Postings, Positions, FastFields, FieldNorms}
 use Rattle.seg_values.specs.declared.error.TantivyError.{TantivyError}
-use Rattle.seg_model.specs.Contents.{Contents}
+use Rattle.seg_values.specs.declared.error.TantivyError.TheVariants.{DataCorruption}
 use Rattle.seg_model.specs.Fields.{Schema}
-use Rattle.seg_directory.specs.Files.{NamedFiles}
-use Rattle.seg_directory.specs.declared.answer.Answer.{Answer}
-use Rattle.seg_segment.specs.Holds.{Holds}
-use Rattle.seg_open.specs.OpenSegment.{OpenSegment, contents_of}
-use Rattle.seg_open.specs.SegmentOpened.{IsNoDamage, OpeningSeen, ReadsWhole, error_of}
-use Rattle.seg_segment.specs.SegmentFiles.{HasFiles, bytes_of, read_order}
-use Rattle.seg_segment.specs.SegmentRead.{ReadsSegment, ReadingEnds, reads}
-use Rattle.seg_segment.specs.Spelling.{Spell}
-use Rattle.seg_open.specs.Disagreement.{Disagree, IsWhyNotOpen, up_to}
+use Rattle.seg_directory.proofs.Doing.{broke, does_nothing, stops, then_does, went}
+use Rattle.seg_directory.specs.State.{DirectoryState}
+use Rattle.seg_directory.specs.Works.{WorksFor}
+use Rattle.seg_segment.specs.SegmentRead.{read_steps}
+use Rattle.seg_segment.specs.declared.segment_files.SegmentFiles.{SegmentFiles}
+use Rattle.seg_open.specs.Disagreement.{IsWhyNotOpen}
+use Rattle.seg_open.specs.OpenSegment.{OpenSegment}
+use Rattle.seg_open.specs.SegmentOpened.{IsReaderOf, Opens, error_of}
 use Rattle.seg_open.specs.declared.open_error.OpenError.{OpenError}
 use Rattle.seg_open.specs.declared.open_error.OpenError.TheVariants.{Damaged, OutOfMemory}
-use Rattle.seg_segment.specs.declared.segment_files.SegmentFiles.{SegmentFiles}
-use Rattle.seg_segment.proofs.SpelledFiles.{held_spells}
 
-module _ (directory : NamedFiles) (id : ℕ) (schema : Schema) (documents : ℕ) (contents : Contents) (held : Holds directory id schema contents) (number : contents.documents ≡ documents) (files : SegmentFiles) (has : HasFiles directory id files) where
-  same : (c : SegmentComponent) → Disagree schema documents files c → ⊥
-  same c disagree = disagree files contents (all (up_to c)) (held_spells directory id schema files contents has held) number
-    where
-      all : (cs : List SegmentComponent) → AllByRecursion (λ c. bytes_of files c ≡ bytes_of files c) cs
-      all [] = tt
-      all (c ∷ cs) = (refl, all cs)
+module _ (id : ℕ) (schema : Schema) (documents : ℕ) {a b : DirectoryState} where
+  -- a file can't be read
+  unread : (e : TantivyError) → WorksFor {T = SegmentFiles} (read_steps id) (Err e) a b → Opens id schema documents (Err e) a b
+  unread e failed = record { files = failed.does.0; refusal = None; works = stops _ failed.does.1; damaged = tt; is = tt }
 
-  -- files that hold contents of this many documents are not damaged
-  pub not_damaged : (e : OpenError) → IsWhyNotOpen schema documents files e → IsNoDamage (error_of id e)
-  not_damaged (Damaged c) why = same c why
-  not_damaged OutOfMemory why = tt
+  module _ (files : SegmentFiles) (first : WorksFor (read_steps id) (Ok files) a b) where
+    opened : (s : OpenSegment) → IsReaderOf schema documents files s → Opens id schema documents (Ok s) a b
+    opened s is = record { files = files; refusal = None; works = then_does first.does (went (refl, refl)); damaged = tt; is = is }
 
--- files that are there are not missing
-pub not_missing : (directory : NamedFiles) (id : ℕ) (schema : Schema) (contents : Contents) → Holds directory id schema contents → (e : TantivyError) (old new : List Answer) → ReadingEnds id e old new → ReadsSegment directory id (Err e) → IsNoDamage e
-not_missing directory id schema contents held e old new ends reads = elim ends.why [
-  | inl told ↦ absurd (there ends.component (subst (λ x. ReadsSegment directory id (Err x)) told reads))
-  | inr (inl told) ↦ subst IsNoDamage (sym told) tt
-  | inr (inr told) ↦ subst IsNoDamage (sym told) tt
-]
-  where
-    lacks : (o : Option (List ℕ)) (bytes : List ℕ) → o ≡ Some bytes → o ≡ None → ⊥
-    lacks o bytes some none = let both : (let m : Option (List ℕ) = Some bytes in m) ≡ None = sym some ∙ none in cc both
+    -- the files can't be opened
+    unopened : (e : OpenError) → IsWhyNotOpen schema documents files e → Opens id schema documents (Err (error_of id e)) a b
+    unopened (Damaged c) why = record {
+      files = files;
+      refusal = Some (DataCorruption (Part id c));
+      works = then_does first.does (broke (refl, refl));
+      damaged = record { component = c; told = refl; disagree = why };
+      is = tt;
+    }
+    unopened OutOfMemory why = record { files = files; refusal = None; works = then_does first.does (does_nothing _); damaged = tt; is = tt }
 
-    there : (c : SegmentComponent) → get directory (Part id c) ≡ None → ⊥
-    there Terms none = lacks _ held.files.terms held.there.0 none
-    there Store none = lacks _ held.files.store held.there.1.0 none
-    there Postings none = lacks _ held.files.postings held.there.1.1.0 none
-    there Positions none = lacks _ held.files.positions held.there.1.1.1.0 none
-    there FastFields none = lacks _ held.files.fast_fields held.there.1.1.1.1.0 none
-    there FieldNorms none = lacks _ held.files.field_norms held.there.1.1.1.1.1.0 none
+-- what the code calls them
+module _ (own_id id : ℕ) (own_schema schema : Schema) (own_number documents : ℕ) (id_is : own_id ≡ id) (schema_is : own_schema ≡ schema) (number_is : own_number ≡ documents) {a b : DirectoryState} where
+  as_listed : (r : Result OpenSegment TantivyError) → Opens own_id own_schema own_number r a b → Opens id schema documents r a b
+  as_listed r h = subst (λ i. Opens i schema documents r a b) id_is (subst (λ s. Opens own_id s documents r a b) schema_is (subst (λ n. Opens own_id own_schema n r a b) number_is h))
 
--- a reading that ended is what the opening shows
-pub unread_seen : (id : ℕ) (schema : Schema) (documents : ℕ) (old new : List Answer) (e : TantivyError) → ReadingEnds id e old new → OpeningSeen id schema documents old (Err e) new
-unread_seen id schema documents old new e ends = elim ends.why [
-  | inl told ↦ subst (λ x. OpeningSeen id schema documents old (Err x) new) (sym told) (inl (subst (λ x. ReadingEnds id x old new) told ends))
-  | inr (inl told) ↦ subst (λ x. OpeningSeen id schema documents old (Err x) new) (sym told) (subst (λ x. ReadingEnds id x old new) told ends)
-  | inr (inr told) ↦ subst (λ x. OpeningSeen id schema documents old (Err x) new) (sym told) (inl (subst (λ x. ReadingEnds id x old new) told ends))
-]
+  pub is_unread : (e : TantivyError) → WorksFor {T = SegmentFiles} (read_steps own_id) (Err e) a b → Opens id schema documents (Err e) a b
+  is_unread e failed = as_listed _ (unread _ _ _ e failed)
 
--- and so is what can't be opened after it
-pub unopened_seen : (id : ℕ) (schema : Schema) (documents : ℕ) (old new : List Answer) (files : SegmentFiles) (e : OpenError) → new ≡ old ++ reads id files read_order → IsWhyNotOpen schema documents files e → OpeningSeen id schema documents old (Err (error_of id e)) new
-unopened_seen id schema documents old new files (Damaged c) seen why = inr (record { all = record { files = files; seen = seen }; component = c; told = refl; disagree = why })
-unopened_seen id schema documents old new files OutOfMemory seen why = inr (record { files = files; seen = seen })
+  module _ (files : SegmentFiles) (first : WorksFor (read_steps own_id) (Ok files) a b) where
+    pub is_opened : (s : OpenSegment) → IsReaderOf own_schema own_number files s → Opens id schema documents (Ok s) a b
+    is_opened s is = as_listed _ (opened _ _ _ files first s is)
 
--- with what the code read
-pub whole_seen : (id read_id : ℕ) (schema : Schema) (s : OpenSegment) (files : SegmentFiles) (old new : List Answer) → read_id ≡ id → s.schema ≡ schema → new ≡ old ++ reads read_id files read_order → Spell schema files (contents_of s) → ReadsWhole id s old new
-whole_seen id read_id schema s files old new same is seen spell = record {
-  all = record { files = files; seen = seen ∙ ap (λ i. old ++ reads i files read_order) same };
-  spell = subst (λ x. Spell x files (contents_of s)) (sym is) spell;
-}
-
-pub why_as : (schema other : Schema) (documents number : ℕ) (files : SegmentFiles) (e : OpenError) → other ≡ schema → number ≡ documents → IsWhyNotOpen other number files e → IsWhyNotOpen schema documents files e
-why_as schema other documents number files e same count why = subst (λ s. IsWhyNotOpen s documents files e) same (subst (λ n. IsWhyNotOpen other n files e) count why)
+    pub is_unopened : (e : OpenError) (told : TantivyError) → told ≡ error_of own_id e → IsWhyNotOpen own_schema own_number files e → Opens id schema documents (Err told) a b
+    is_unopened e told is why = subst (λ x. Opens id schema documents (Err x) a b) (sym is) (as_listed _ (unopened _ _ _ files first e why))

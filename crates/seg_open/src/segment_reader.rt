@@ -2,11 +2,10 @@
 ghost use Rattle.std.specs.Prelude.{◌≡◌, true, map, is_some, Some, None, slice_get, IfOk, IfErr, IfSome, IsTrue, MatchOption};
 ghost use Rattle.seg_model.specs.Contents.{Contents};
 ghost use Rattle.seg_model.specs.Fields.{is_indexed};
-ghost use Rattle.seg_directory.specs.Faults.{FaultHasCause};
 ghost use Rattle.seg_segment.specs.Built.{is_built_schema};
 ghost use Rattle.seg_segment.specs.Holds.{Holds};
 ghost use Rattle.seg_open.specs.OpenSegment.{contents_of};
-ghost use Rattle.seg_open.specs.SegmentOpened.{IsNoDamage, OpeningSeen};
+ghost use Rattle.seg_open.specs.SegmentOpened.{IsNoDamage, Opens};
 ghost use Rattle.seg_segment.specs.Spelling.{Spell};
 ghost use Rattle.seg_open.specs.Disagreement.{IsWhyNotOpen};
 
@@ -20,7 +19,7 @@ use seg_meta::Segment;
 use seg_postings::{FieldNormReaders, InvertedIndexReader, terms_read_have_shape};
 use seg_segment::SegmentFiles;
 use seg_store::StoreReader;
-use seg_values::{Field, Schema, TResult, TantivyError};
+use seg_values::{Field, Schema, TResult};
 use std::alloc::Global;
 use std::marker::Model;
 
@@ -56,19 +55,14 @@ impl SegmentReader {
         directory: &mut W,
     ) -> TResult<SegmentReader>
         requires built { is_built_schema segment.now.schema ≡ true }
-        ensures of { IfOk result (λ r. (r.schema ≡ segment.now.schema) × (r.documents ≡ segment.now.meta.documents)) }
+        ensures does { Opens segment.now.meta.id segment.now.schema segment.now.meta.documents
+            result (W.state directory.old) (W.state directory.new) }
         ensures holds { IsTrue (W.state directory.old).tells → IfOk result
             (λ r. Holds (W.state directory.new).files segment.now.meta.id segment.now.schema (contents_of r)) }
         ensures whole { IsTrue (W.state directory.old).tells → (contents : Contents)
             → Holds (W.state directory.old).files segment.now.meta.id segment.now.schema contents
             → contents.documents ≡ segment.now.meta.documents
             → IfErr result IsNoDamage }
-        ensures files { (W.state directory.new).files ≡ (W.state directory.old).files }
-        ensures tells { (W.state directory.new).tells ≡ (W.state directory.old).tells }
-        ensures seen { OpeningSeen segment.now.meta.id segment.now.schema segment.now.meta.documents
-            (W.state directory.old).seen result (W.state directory.new).seen }
-        ensures cause { FaultHasCause
-            TantivyError.OpenReadError (W.state directory.old).faults (W.state directory.new).faults result }
     {
         let schema = segment.schema().share();
         let id = segment.id();

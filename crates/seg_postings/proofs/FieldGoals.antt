@@ -12,6 +12,8 @@ use Rattle.seg_postings.specs.declared.open_term.OpenTerm.{OpenTerm}
 use Rattle.seg_postings.specs.Kinds.{kind_byte}
 use Rattle.seg_postings.specs.FieldWriting.{TermWritten, FieldWriting, with_term, with_document, closed, MayOccur}
 use Rattle.seg_postings.specs.FieldParts.{occurrence_form, writing, AreParts}
+use Rattle.seg_postings.specs.PostingsForm.{differences}
+use Rattle.seg_postings.specs.Written.{Rise}
 use Rattle.seg_postings.proofs.FieldSteps.{opened_parts, opened_view, behind, occurred_parts, occurred_view, closed_parts, term_closed_view, open_view}
 
 some_is : {A : Type 0} {x y : A} → Some x ≡ Some y → x ≡ y
@@ -58,10 +60,13 @@ module _ (field total : ℕ) (dictionary : Option Building) (postings positions 
     m : MayOccur document count ds (record { bytes = unwrap_or parts.built.waiting []; kind = o.kind; postings = parts.is_open.1.0 })
     m = given (MayOccur document count ds) self.current _ shown may
 
+    pub places_rise : Rise 0 ds
+    places_rise = m.rise
+
     pub lies_behind : (o.last ≤ document) × (o.doc_freq < 2 ^ 32 - 1)
     lies_behind = behind field total dictionary postings positions o parts document count ds m
 
-    pub occur_step : count < 2 ^ 32 → (after positions_after : List ℕ) → after ≡ postings ++ occurrence_form o.kind (document - o.last) count → positions_after ≡ positions ++ flat_map varint ds → Step field total dictionary after positions_after (Some (record { kind = o.kind; doc_freq = o.doc_freq + 1; last = document; postings_start = o.postings_start; positions_start = o.positions_start })) (with_document document count ds self)
+    pub occur_step : count < 2 ^ 32 → (after positions_after : List ℕ) → after ≡ postings ++ occurrence_form o.kind (document - o.last) count → positions_after ≡ positions ++ flat_map varint (differences 0 ds) → Step field total dictionary after positions_after (Some (record { kind = o.kind; doc_freq = o.doc_freq + 1; last = document; postings_start = o.postings_start; positions_start = o.positions_start })) (with_document document count ds self)
     occur_step small after positions_after f g = rw (f, g) (record {
       parts = occurred_parts field total dictionary postings positions o parts document count ds m small;
       view = occurred_view field total dictionary postings positions o parts document count ds m small ∙ ap (with_document document count ds) (sym seen);

@@ -15,7 +15,7 @@ use Rattle.seg_model.specs.Reading.{Posting}
 use Rattle.seg_postings.specs.declared.record_kind.RecordKind.{RecordKind}
 use Rattle.seg_postings.specs.declared.open_term.OpenTerm.{OpenTerm}
 use Rattle.seg_postings.specs.Kinds.{kind_byte}
-use Rattle.seg_postings.specs.PostingsForm.{postings_form, positions_form, document_form, documents_form}
+use Rattle.seg_postings.specs.PostingsForm.{differences, postings_form, positions_form, document_form, documents_form}
 use Rattle.seg_postings.specs.Postings.{TermPostings, term_postings}
 use Rattle.seg_postings.specs.Written.{recorded_as}
 use Rattle.seg_postings.specs.Field.{term_at, terms_at}
@@ -160,8 +160,8 @@ module _ (field total : ℕ) (dictionary : Option Building) (postings positions 
     body_grows : length (drop 8 postings) ≤ length (drop 8 (postings ++ more))
     body_grows = let size : length (drop 8 (postings ++ more)) ≡ length (drop 8 postings) + length more = ap length body ∙ length-append (drop 8 postings) more in omega (arith, size)
 
-    positions_grow : length positions ≤ length (positions ++ flat_map varint ds)
-    positions_grow = let size : length (positions ++ flat_map varint ds) ≡ length positions + length (flat_map varint ds) = length-append positions (flat_map varint ds) in omega (arith, size)
+    positions_grow : length positions ≤ length (positions ++ flat_map varint (differences 0 ds))
+    positions_grow = let size : length (positions ++ flat_map varint (differences 0 ds)) ≡ length positions + length (flat_map varint (differences 0 ds)) = length-append positions (flat_map varint (differences 0 ds)) in omega (arith, size)
 
     more_is : more ≡ document_form (last_document 0 ps) p
     more_is = ap (λ n. occurrence_form o.kind (document - n) count) i.is_open.1.1.last ∙ ap (λ x. varint (document - last_document 0 ps) ++ x) (sym (count_form_is o.kind count ds m.counted))
@@ -174,23 +174,23 @@ module _ (field total : ℕ) (dictionary : Option Building) (postings positions 
         ∙ ap (λ x. kind_byte o.kind ∷ (documents_form 0 ps ++ x)) more_is
         ∙ ap (λ x. kind_byte o.kind ∷ x) (sym (documents_form-push p 0 ps))
 
-    positions_now : drop o.positions_start (positions ++ flat_map varint ds) ≡ positions_form (ps ++ p ∷ [])
+    positions_now : drop o.positions_start (positions ++ flat_map varint (differences 0 ds)) ≡ positions_form (ps ++ p ∷ [])
     positions_now =
-        drop-append-le o.positions_start positions (flat_map varint ds) i.is_open.1.1.positions_room
-        ∙ ap (λ x. x ++ flat_map varint ds) i.is_open.1.1.positions_are
+        drop-append-le o.positions_start positions (flat_map varint (differences 0 ds)) i.is_open.1.1.positions_room
+        ∙ ap (λ x. x ++ flat_map varint (differences 0 ds)) i.is_open.1.1.positions_are
         ∙ ap (λ x. positions_form ps ++ x) (sym (position_form_is o.kind count ds m.counted))
         ∙ sym (positions_form-push p ps)
 
-    pub occurred_parts : AreParts total dictionary (postings ++ occurrence_form o.kind (document - o.last) count) (positions ++ flat_map varint ds) (Some (record { kind = o.kind; doc_freq = o.doc_freq + 1; last = document; postings_start = o.postings_start; positions_start = o.positions_start }))
+    pub occurred_parts : AreParts total dictionary (postings ++ occurrence_form o.kind (document - o.last) count) (positions ++ flat_map varint (differences 0 ds)) (Some (record { kind = o.kind; doc_freq = o.doc_freq + 1; last = document; postings_start = o.postings_start; positions_start = o.positions_start }))
     occurred_parts = record {
       built = i.built;
       is_built = i.is_built;
       room = (let size : length (postings ++ more) ≡ length postings + length more = length-append postings more in omega (arith, size, i.room));
       counted = u64_at-front postings more 0 i.room ∙ i.counted;
       terms = i.terms;
-      read = ap (λ bs. terms_at bs (positions ++ flat_map varint ds) i.built.terms) body ∙ terms_at-front (drop 8 postings) more positions (flat_map varint ds) i.built.terms i.within ∙ i.read;
+      read = ap (λ bs. terms_at bs (positions ++ flat_map varint (differences 0 ds)) i.built.terms) body ∙ terms_at-front (drop 8 postings) more positions (flat_map varint (differences 0 ds)) i.built.terms i.within ∙ i.read;
       occur = i.occur;
-      within = within-more (length (drop 8 postings)) (length positions) (length (drop 8 (postings ++ more))) (length (positions ++ flat_map varint ds)) i.built.terms body_grows positions_grow i.within;
+      within = within-more (length (drop 8 postings)) (length positions) (length (drop 8 (postings ++ more))) (length (positions ++ flat_map varint (differences 0 ds))) i.built.terms body_grows positions_grow i.within;
       is_open = (
         i.is_open.0,
         (
@@ -202,7 +202,7 @@ module _ (field total : ℕ) (dictionary : Option Building) (postings positions 
             positions_room = (let room = i.is_open.1.1.positions_room in omega (arith, room, positions_grow));
             form = form_now;
             positions_are = positions_now;
-            writable = writable-push p o.kind 0 0 ps (is_of_kind o.kind count ds m.counted m.some small m.low) m.limit m.ascends i.is_open.1.1.writable;
+            writable = writable-push p o.kind 0 0 ps (is_of_kind o.kind count ds m.counted m.some small m.rise) m.limit m.ascends i.is_open.1.1.writable;
             number = (let number = i.is_open.1.1.number in let size : length (ps ++ p ∷ []) ≡ length ps + 1 = length-append ps (p ∷ []) in omega (arith, number, size));
             few = (let few = i.is_open.1.1.few in let next : next_document 0 (ps ++ p ∷ []) ≡ document + 1 = next_document-push p 0 ps in let ascends = m.ascends in omega (arith, few, next, ascends));
             last = sym (last_document-push p 0 ps);
@@ -211,9 +211,9 @@ module _ (field total : ℕ) (dictionary : Option Building) (postings positions 
       );
     }
 
-    pub occurred_view : writing field total dictionary (drop 8 (postings ++ occurrence_form o.kind (document - o.last) count)) (positions ++ flat_map varint ds) (Some (record { kind = o.kind; doc_freq = o.doc_freq + 1; last = document; postings_start = o.postings_start; positions_start = o.positions_start })) ≡ with_document document count ds (writing field total dictionary (drop 8 postings) positions (Some o))
+    pub occurred_view : writing field total dictionary (drop 8 (postings ++ occurrence_form o.kind (document - o.last) count)) (positions ++ flat_map varint (differences 0 ds)) (Some (record { kind = o.kind; doc_freq = o.doc_freq + 1; last = document; postings_start = o.postings_start; positions_start = o.positions_start })) ≡ with_document document count ds (writing field total dictionary (drop 8 postings) positions (Some o))
     unfolding occurred_parts
-    occurred_view = open_view field total dictionary (postings ++ more) (positions ++ flat_map varint ds) after occurred_parts ∙ sym (ap (with_document document count ds) (open_view field total dictionary postings positions o i))
+    occurred_view = open_view field total dictionary (postings ++ more) (positions ++ flat_map varint (differences 0 ds)) after occurred_parts ∙ sym (ap (with_document document count ds) (open_view field total dictionary postings positions o i))
 
   -- ---- the term is closed
 

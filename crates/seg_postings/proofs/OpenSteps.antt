@@ -1,60 +1,31 @@
 -- The postings of a term as a document is added.
-use Rattle.std.proofs.Common.{◌≡◌, ℕ, suc, ◌+◌, ◌-◌, ◌<◌, ◌≤◌, ◌^◌, List, [], ◌∷◌, ◌++◌, length, refl, ap, sym, ◌∙◌, arith}
-use Rattle.std.specs.List.{flat_map, sum, fold}
+use Rattle.std.proofs.Common.{◌≡◌, ℕ, ◌+◌, ◌-◌, ◌<◌, ◌≤◌, ◌^◌, List, [], ◌∷◌, ◌++◌, length, refl, ap, sym, ◌∙◌, arith}
+use Rattle.std.specs.List.{flat_map}
 use Rattle.std.proofs.lemmas.List.{append_assoc, append-nil}
 use Rattle.seg_common.specs.Varint.{varint}
 use Rattle.seg_model.specs.Reading.{Posting}
 use Rattle.seg_postings.specs.declared.record_kind.RecordKind.{RecordKind}
 use Rattle.seg_postings.specs.declared.record_kind.RecordKind.TheVariants.{Documents, Counts, Positions}
-use Rattle.seg_postings.specs.PostingsForm.{differences, from_differences, count_form, position_form, document_form, documents_form, positions_form}
+use Rattle.seg_postings.specs.PostingsForm.{differences, count_form, position_form, document_form, documents_form, positions_form}
 use Rattle.seg_postings.specs.Written.{recorded_as, Rise, IsOfKind, AreWritable}
 use Rattle.seg_postings.specs.FieldWriting.{next_document, HasPositions}
 use Rattle.seg_postings.specs.FieldParts.{last_document, kept_count}
-
--- differences of what was made from differences
-differences_of : (before : ℕ) (ds : List ℕ) → differences before (from_differences before ds) ≡ ds
-differences_of before [] = refl
-differences_of before (d ∷ ds) =
-    let e : before + d - before ≡ d = omega arith in
-    ap (λ x. x ∷ differences (before + d) (from_differences (before + d) ds)) e ∙ ap (λ xs. d ∷ xs) (differences_of (before + d) ds)
-
-length_of_made : (before : ℕ) (ds : List ℕ) → length (from_differences before ds) ≡ length ds
-length_of_made before [] = refl
-length_of_made before (d ∷ ds) = ap suc (length_of_made (before + d) ds)
-
-fold_from : (start : ℕ) (ns : List ℕ) → fold ◌+◌ start ns ≡ start + fold ◌+◌ 0 ns
-fold_from start [] = omega arith
-fold_from start (n ∷ ns) =
-    let here = fold_from (start + n) ns in
-    let zero_here = fold_from (0 + n) ns in
-    omega (arith, here, zero_here)
-
-sum-cons : (d : ℕ) (ds : List ℕ) → sum (d ∷ ds) ≡ d + sum ds
-sum-cons d ds = let all = fold_from (0 + d) ds in omega (arith, all)
-
-rise_of_made : (before : ℕ) (ds : List ℕ) → before + sum ds < 2 ^ 32 → Rise before (from_differences before ds)
-rise_of_made before [] low = tt
-rise_of_made before (d ∷ ds) low =
-    let all : sum (d ∷ ds) ≡ d + sum ds = sum-cons d ds in
-    (omega arith, omega (arith, low, all), rise_of_made (before + d) ds (omega (arith, low, all)))
 
 -- what is kept of a count
 pub count_form_is : (kind : RecordKind) (count : ℕ) (ds : List ℕ) → HasPositions kind count ds → count_form (recorded_as kind count ds) ≡ kept_count kind count
 count_form_is Documents count ds has = refl
 count_form_is Counts count ds has = refl
-count_form_is Positions count ds has = ap varint (length_of_made 0 ds ∙ has)
+count_form_is Positions count ds has = ap varint has
 
-pub position_form_is : (kind : RecordKind) (count : ℕ) (ds : List ℕ) → HasPositions kind count ds → position_form (recorded_as kind count ds) ≡ flat_map varint ds
+pub position_form_is : (kind : RecordKind) (count : ℕ) (ds : List ℕ) → HasPositions kind count ds → position_form (recorded_as kind count ds) ≡ flat_map varint (differences 0 ds)
 position_form_is Documents count ds has = rw has refl
 position_form_is Counts count ds has = rw has refl
-position_form_is Positions count ds has = ap (flat_map varint) (differences_of 0 ds)
+position_form_is Positions count ds has = refl
 
-pub is_of_kind : (kind : RecordKind) (count : ℕ) (ds : List ℕ) → HasPositions kind count ds → 1 ≤ count → count < 2 ^ 32 → sum ds < 2 ^ 32 → IsOfKind kind (recorded_as kind count ds)
-is_of_kind Documents count ds has some few low = refl
-is_of_kind Counts count ds has some few low = (count, some, few, refl)
-is_of_kind Positions count ds has some few low =
-    let as_many : length (from_differences 0 ds) ≡ count = length_of_made 0 ds ∙ has in
-    (from_differences 0 ds, omega (arith, as_many, some), omega (arith, as_many, few), rise_of_made 0 ds (omega (arith, low)), refl)
+pub is_of_kind : (kind : RecordKind) (count : ℕ) (ds : List ℕ) → HasPositions kind count ds → 1 ≤ count → count < 2 ^ 32 → Rise 0 ds → IsOfKind kind (recorded_as kind count ds)
+is_of_kind Documents count ds has some few rise = refl
+is_of_kind Counts count ds has some few rise = (count, some, few, refl)
+is_of_kind Positions count ds has some few rise = (ds, omega (arith, has, some), omega (arith, has, few), rise, refl)
 
 module _ (p : Posting) where
   -- one document more

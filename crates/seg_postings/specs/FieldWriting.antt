@@ -1,13 +1,12 @@
 -- What the postings of a field are while they are written: the terms so far, and the one that is open.
 use Rattle.std.specs.Prelude.{◌≡◌, ℕ, ◌+◌, ◌-◌, ◌<◌, ◌≤◌, ◌^◌, List, [], ◌∷◌, ◌++◌, length, Option, Some, None, option_map, IfSome}
-use Rattle.std.specs.List.{sum}
 use Rattle.std.specs.Ordering.{nat_cmp}
 use Rattle.std.specs.Cmp.Lexicographic.{slice_cmp}
 use Rattle.std.specs.declared.cmp.Ordering.TheVariants.{Less}
 use Rattle.seg_model.specs.Reading.{Posting}
 use Rattle.seg_postings.specs.declared.record_kind.RecordKind.{RecordKind}
 use Rattle.seg_postings.specs.declared.record_kind.RecordKind.TheVariants.{Positions}
-use Rattle.seg_postings.specs.Written.{recorded_as}
+use Rattle.seg_postings.specs.Written.{recorded_as, Rise}
 
 -- a term with its postings, and what these keep
 pub record TermWritten : Type 0 where
@@ -32,11 +31,11 @@ with_term bytes kind w = record w { current = Some (record { bytes = bytes; kind
 
 -- the open term occurs in a document
 abbrev pub in_document : ℕ → ℕ → List ℕ → TermWritten → TermWritten
-in_document document count differences t =
-    record t { postings = t.postings ++ record { document = document; recorded = recorded_as t.kind count differences } ∷ [] }
+in_document document count places t =
+    record t { postings = t.postings ++ record { document = document; recorded = recorded_as t.kind count places } ∷ [] }
 
 abbrev pub with_document : ℕ → ℕ → List ℕ → FieldWriting → FieldWriting
-with_document document count differences w = record w { current = option_map (in_document document count differences) w.current }
+with_document document count places w = record w { current = option_map (in_document document count places) w.current }
 
 -- the terms, with the open one
 abbrev pub with_open : List TermWritten → Option TermWritten → List TermWritten
@@ -64,13 +63,13 @@ pub record MayOpen (w : FieldWriting) (bytes : List ℕ) : Type 0 where
 
 -- as many positions as the count where positions are kept, else none
 abbrev pub HasPositions : RecordKind → ℕ → List ℕ → Type 0
-HasPositions Positions count differences = length differences ≡ count
-HasPositions _ count differences = differences ≡ []
+HasPositions Positions count places = length places ≡ count
+HasPositions _ count places = places ≡ []
 
--- a document may be added to a term: it comes after the others, and the term occurs in it at positions below 2 ^ 32
-pub record MayOccur (document count : ℕ) (differences : List ℕ) (t : TermWritten) : Type 0 where
+-- a document may be added to a term: it comes after the others, and the term occurs in it, at positions that don't fall, below 2 ^ 32
+pub record MayOccur (document count : ℕ) (places : List ℕ) (t : TermWritten) : Type 0 where
   pub ascends : next_document 0 t.postings ≤ document
   pub limit : document < 2 ^ 32 - 1
   pub some : 1 ≤ count
-  pub counted : HasPositions t.kind count differences
-  pub low : sum differences < 2 ^ 32
+  pub counted : HasPositions t.kind count places
+  pub rise : Rise 0 places

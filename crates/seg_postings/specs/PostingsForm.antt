@@ -1,5 +1,5 @@
 -- The bytes that the postings of a term are written as.
-use Rattle.std.specs.Prelude.{ℕ, ◌+◌, ◌-◌, List, [], ◌∷◌, ◌++◌, length}
+use Rattle.std.specs.Prelude.{ℕ, ◌-◌, List, [], ◌∷◌, ◌++◌, length}
 use Rattle.std.specs.List.{flat_map}
 use Rattle.seg_common.specs.Varint.{varint}
 use Rattle.seg_model.specs.Reading.{Recorded, presence, frequency, positions, Posting}
@@ -10,11 +10,6 @@ use Rattle.seg_postings.specs.Kinds.{kind_byte}
 abbrev pub differences : ℕ → List ℕ → List ℕ
 differences before [] = []
 differences before (n ∷ ns) = (n - before) ∷ differences n ns
-
--- numbers from their differences
-abbrev pub from_differences : ℕ → List ℕ → List ℕ
-from_differences before [] = []
-from_differences before (d ∷ ds) = (before + d) ∷ from_differences (before + d) ds
 
 -- how often the term occurs, where that is kept
 abbrev pub count_form : Recorded → List ℕ

@@ -3,13 +3,12 @@ use Rattle.std.specs.Prelude.{◌≡◌, ℕ, ◌+◌, ◌-◌, ◌<◌, ◌≤�
 use Rattle.seg_model.specs.Reading.{Recorded, presence, frequency, positions, Posting}
 use Rattle.seg_postings.specs.declared.record_kind.RecordKind.{RecordKind}
 use Rattle.seg_postings.specs.declared.record_kind.RecordKind.TheVariants.{Documents, Counts, Positions}
-use Rattle.seg_postings.specs.PostingsForm.{from_differences}
 
--- what a kind records of a count, and of positions given as differences
+-- what a kind records of a count, and of positions
 abbrev pub recorded_as : RecordKind → ℕ → List ℕ → Recorded
-recorded_as Documents count differences = presence
-recorded_as Counts count differences = frequency count
-recorded_as Positions count differences = positions (from_differences 0 differences)
+recorded_as Documents count places = presence
+recorded_as Counts count places = frequency count
+recorded_as Positions count places = positions places
 
 -- positions that don't fall, from `before` on, below 2 ^ 32
 abbrev pub Rise : ℕ → List ℕ → Type 0

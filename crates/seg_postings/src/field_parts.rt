@@ -97,10 +97,10 @@ impl FieldParts {
         &mut self,
         document: u32,
         count: u32,
-        differences: &[u32],
+        positions: &[u32],
     ) -> Result<(), AllocError>
-        requires { IsSomeAnd self.old.current (MayOccur document count differences.now) }
-        ensures ok { OnOk result (self.new ≡ with_document document count differences.now self.old) }
+        requires { IsSomeAnd self.old.current (MayOccur document count positions.now) }
+        ensures ok { OnOk result (self.new ≡ with_document document count positions.now self.old) }
         ensures err { OnErr result (self.new ≡ self.old) }
     {
         let Some(term) = self.current else {
@@ -113,7 +113,7 @@ impl FieldParts {
             term.kind,
             gap,
             count,
-            differences,
+            positions,
         )?;
         self.current = Some(OpenTerm {
             doc_freq: term.doc_freq + 1,

@@ -57,21 +57,21 @@ impl FieldSerializer {
     }
 
     /// Adds a document to the open term: how often the term occurs in it, and, where positions are kept, at which
-    /// positions, each as its difference from the one before.
+    /// positions, which don't fall.
     pub fn write_doc(
         &mut self,
         doc: u32,
         count: u32,
-        position_deltas: &[u32],
+        positions: &[u32],
     ) -> Result<(), PostingsError>
-        requires { IfSome self.old (λ w. IsSomeAnd w.current (MayOccur doc count position_deltas.now)) }
-        ensures ok { OnOk result (HasGrown self.old self.new (with_document doc count position_deltas.now)) }
+        requires { IfSome self.old (λ w. IsSomeAnd w.current (MayOccur doc count positions.now)) }
+        ensures ok { OnOk result (HasGrown self.old self.new (with_document doc count positions.now)) }
         ensures err { IfErr result (λ e. (e ≡ PostingsError.OutOfMemory) × (self.new ≡ None)) }
     {
         let Some(parts) = &mut self.parts else {
             return Err(PostingsError::OutOfMemory);
         };
-        if parts.write_doc(doc, count, position_deltas).is_ok() {
+        if parts.write_doc(doc, count, positions).is_ok() {
             return Ok(());
         }
         self.parts = None;

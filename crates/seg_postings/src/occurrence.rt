@@ -3,6 +3,8 @@ ghost use Rattle.std.specs.Prelude.{◌≡◌, ◌++◌, length, take, OnOk, OnE
 ghost use Rattle.std.specs.List.{flat_map};
 ghost use Rattle.seg_common.specs.Varint.{varint};
 ghost use Rattle.seg_postings.specs.FieldParts.{kept_count, occurrence_form};
+ghost use Rattle.seg_postings.specs.PostingsForm.{differences};
+ghost use Rattle.seg_postings.specs.Written.{Rise};
 
 use crate::record_kind::RecordKind;
 use seg_common::VInt;
@@ -16,14 +18,15 @@ pub(crate) fn put_occurrence(
     kind: RecordKind,
     gap: u32,
     count: u32,
-    differences: &[u32],
+    places: &[u32],
 ) -> Result<(), AllocError>
+    requires { Rise 0 places.now }
     ensures postings { OnOk result (postings.new.items ≡ postings.old.items ++ occurrence_form kind gap count) }
-    ensures positions { OnOk result (positions.new.items ≡ positions.old.items ++ flat_map varint differences.now) }
+    ensures positions { OnOk result (positions.new.items ≡ positions.old.items ++ flat_map varint (differences 0 places.now)) }
     ensures err { OnErr result ((postings.new.items ≡ postings.old.items) × (positions.new.items ≡ positions.old.items)) }
 {
     let before = positions.len();
-    if put_all(positions, differences).is_ok() && put_document(postings, kind, gap, count).is_ok() {
+    if put_gaps(positions, places).is_ok() && put_document(postings, kind, gap, count).is_ok() {
         return Ok(());
     }
     positions.truncate(before);
@@ -58,12 +61,16 @@ fn put_count(postings: &mut Vec<u8>, kind: RecordKind, count: u32) -> Result<(),
     }
 }
 
-fn put_all(positions: &mut Vec<u8>, differences: &[u32]) -> Result<(), AllocError>
-    ensures ok { OnOk result (positions.new.items ≡ positions.old.items ++ flat_map varint differences.now) }
+/// Adds positions, each as its difference from the one before, the first from 0.
+fn put_gaps(positions: &mut Vec<u8>, places: &[u32]) -> Result<(), AllocError>
+    requires { Rise 0 places.now }
+    ensures ok { OnOk result (positions.new.items ≡ positions.old.items ++ flat_map varint (differences 0 places.now)) }
     ensures begins { take (length positions.old.items) positions.new.items ≡ positions.old.items }
 {
-    for difference in differences {
-        put_number(positions, *difference)?;
+    let mut before = 0;
+    for place in places {
+        put_number(positions, *place - before)?;
+        before = *place;
     }
     Ok(())
 }

@@ -3,3 +3,4 @@ pub mod Distinct
 pub mod Divided
 pub mod FirstErrors
 pub mod Places
+pub mod Refusing

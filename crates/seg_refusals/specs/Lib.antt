@@ -1,4 +1,4 @@
 pub mod Inputs
 pub mod Refusals
 pub mod Admitted
-pub mod Steps
+pub mod Telling

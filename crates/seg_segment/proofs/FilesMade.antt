@@ -1,100 +1,114 @@
--- Files that are made one after the other.
-use Rattle.std.proofs.Common.{◌≡◌, ◌≢◌, ℕ, ◌+◌, ◌<◌, List, [], ◌∷◌, ◌++◌, length, take, drop, get_or, Option, None, Some, Result, Ok, Err, sym, ap, ◌∙◌, subst, append_assoc}
-use Rattle.std.specs.Prelude.{IsSome}
-use Rattle.std.specs.FinMap.{get, insert}
+-- Files of a segment that are made one after the other.
+use Rattle.std.proofs.Common.{◌≡◌, ◌≢◌, ℕ, ◌+◌, ◌<◌, List, [], ◌∷◌, ◌++◌, length, take, drop, get_or, Some, Result, Ok, Err, IsTrue, cond, refl, sym, ap, ◌∙◌, subst}
+use Rattle.std.specs.Prelude.{OnOk}
+use Rattle.std.specs.FinMap.{get, insert, get-insert}
 use Rattle.std.specs.List.{AllByRecursion}
+use Rattle.std.proofs.lemmas.Cmp.{eq_by_cmp_equiv}
 use Rattle.std.proofs.lemmas.Grind.{take_at_read}
 use Rattle.std.proofs.lemmas.List.{map-append, take-append-drop}
+use Rattle.seg_common.specs.Names.{name_cmp_total}
 use Rattle.seg_common.specs.declared.name.FileName.{FileName}
 use Rattle.seg_common.specs.declared.name.FileName.TheVariants.{Part}
 use Rattle.seg_common.specs.declared.name.SegmentComponent.{SegmentComponent}
+use Rattle.seg_common.specs.declared.name.SegmentComponent.TheVariants.{Terms, Postings, Positions, Store, FastFields, FieldNorms}
 use Rattle.seg_values.specs.declared.error.TantivyError.{TantivyError}
-use Rattle.seg_values.specs.declared.error.TantivyError.TheVariants.{IndexAlreadyExists, OpenWriteError, OutOfMemory}
-use Rattle.seg_directory.specs.CallAnswers.{seen_writing, WritesFile}
-use Rattle.seg_directory.specs.Changes.{KeepsOthers}
+use Rattle.seg_directory.proofs.Doing.{then_does, stops}
+use Rattle.seg_directory.proofs.OtherFiles.{keeps_others}
+use Rattle.seg_directory.proofs.WorkLaws.{all_went}
+use Rattle.seg_directory.specs.Calls.{made}
 use Rattle.seg_directory.specs.Files.{NamedFiles}
-use Rattle.seg_directory.specs.declared.answer.Answer.{Answer}
-use Rattle.seg_directory.specs.declared.answer.Answer.TheVariants as answer
-use Rattle.seg_directory.specs.declared.answer.CallKind.TheVariants as kind
-use Rattle.seg_segment.specs.SegmentFiles.{component_names, component_files, bytes_of, with_files, AreNew, KeepsAllBut, wrote, EndsAt, MakingSeen}
+use Rattle.seg_directory.specs.State.{DirectoryState}
+use Rattle.seg_directory.specs.Works.{Works, Step, calls, AllSuit, all_files_after}
+use Rattle.seg_segment.specs.SegmentFiles.{bytes_of, component_steps, write_steps, write_order, segment_names, AreAbsent, HasFiles, KeepsAllBut}
 use Rattle.seg_segment.specs.declared.segment_files.SegmentFiles.{SegmentFiles}
+use Rattle.seg_segment.proofs.KeptFiles.{keeps_untouched}
 use Rattle.seg_segment.proofs.Turns.{drop-item}
 
--- what holds of all holds of one between the others
-one_of_all : {X : Type 0} (P : X → Type 0) (before : List X) (x : X) (after : List X) → AllByRecursion P (before ++ x ∷ after) → P x
-one_of_all P [] x after all = all.0
-one_of_all P (y ∷ ys) x after all = one_of_all P ys x after all.1
+-- ---- a turn of the loop
 
--- one more name was written
-wrote-more : (old mid new : List Answer) (made : List FileName) (end : List Answer) → mid ≡ old ++ wrote made → new ≡ mid ++ end → new ≡ old ++ (wrote made ++ end)
-wrote-more old mid new made end so then_end = then_end ∙ ap (λ a. a ++ end) so ∙ append_assoc old (wrote made) end
+module _ (id : ℕ) (files : SegmentFiles) (components : List SegmentComponent) (i : ℕ) (c : SegmentComponent) (lt : i < length components) (is : c ≡ get_or components i c) (bytes : List ℕ) (same : bytes ≡ bytes_of files c) where
+  abbrev step_of : SegmentComponent → Step
+  step_of d = calls (made (Part id d) (bytes_of files d))
 
--- what is new stays so while another file is made
-keeps_new : (names : List FileName) (name : FileName) (old new : NamedFiles) → AllByRecursion (λ other. other ≢ name) names → KeepsOthers name old new → AreNew names old → AreNew names new
-keeps_new [] name old new apart kept are = tt
-keeps_new (n ∷ ns) name old new apart kept are = (kept n apart.0 ∙ are.0, are.1, keeps_new ns name old new apart.1 kept are.2)
+  abbrev so_far : List Step
+  so_far = component_steps id files (take i components)
 
--- how the making of a file ends that is not made
-abbrev pub failed : TantivyError → Result (Unit {0}) TantivyError
-failed e = Err e
+  here : calls (made (Part id c) bytes) ≡ step_of c
+  here = ap (λ b. calls (made (Part id c) b)) same
 
-abbrev error_of : Result (Unit {0}) TantivyError → TantivyError
-error_of (Ok x) = OutOfMemory
-error_of (Err e) = e
+  -- the file of the next component is made
+  pub one_more : {a m b : DirectoryState} → Works {T = Unit {0}} so_far (Ok tt) a m → Works {T = Unit {0}} (calls (made (Part id c) bytes) ∷ []) (Ok tt) m b → Works {T = Unit {0}} (component_steps id files (take (i + 1) components)) (Ok tt) a b
+  one_more {a = a} {b = b} first next =
+      subst (λ (steps : List Step). Works {T = Unit {0}} steps (Ok tt) a b)
+      (ap (λ s. so_far ++ s ∷ []) here ∙ sym (map-append step_of (take i components) (c ∷ [])) ∙ ap (component_steps id files) (sym ((take_at_read components i c lt).1 ∙ ap (λ x. take i components ++ x ∷ []) (sym is))))
+      (then_does first next)
 
-there_none : (file : Option (List ℕ)) → file ≡ None → IsSome file → ⊥
-there_none None is some = cc some
-there_none (Some bytes) is some = cc
+  -- or it isn't, which ends all
+  pub ends_there : {e : TantivyError} {a m b : DirectoryState} → Works {T = Unit {0}} so_far (Ok tt) a m → Works {T = Unit {0}} (calls (made (Part id c) bytes) ∷ []) (Err e) m b → Works {T = Unit {0}} (component_steps id files components) (Err e) a b
+  ends_there {e = e} {a = a} {b = b} first next =
+      subst (λ (steps : List Step). Works {T = Unit {0}} steps (Err e) a b)
+      (ap (λ s. so_far ++ s ∷ component_steps id files (drop (i + 1) components)) here ∙ sym (map-append step_of (take i components) (c ∷ drop (i + 1) components))
+      ∙ ap (component_steps id files) (ap (λ r. take i components ++ r) (sym (drop-item components i c lt is)) ∙ take-append-drop i components))
+      (then_does first (stops (component_steps id files (drop (i + 1) components)) next))
 
-module _ (id : ℕ) (segment : SegmentFiles) (files : List SegmentComponent) (i : ℕ) (f : SegmentComponent) (lt : i < length files) (is : f ≡ get_or files i f) where
-  -- the file at a place, between those before it and those after it
-  here : drop i files ≡ f ∷ drop (i + 1) files
-  here = drop-item files i f lt is
+-- ---- what there is then
 
-  cut : component_names id files ≡ component_names id (take i files) ++ (Part id f) ∷ component_names id (drop (i + 1) files)
-  cut = ap (component_names id) (sym (take-append-drop i files) ∙ ap (λ r. take i files ++ r) here) ∙ map-append (Part id) (take i files) (f ∷ drop (i + 1) files)
+-- a file has the bytes that it was last given
+pub newest : (files : NamedFiles) (name : FileName) (bytes : List ℕ) → get (insert files name bytes) name ≡ Some bytes
+newest files name bytes = get-insert name_cmp_total files name bytes name ∙ ap (λ b. cond b (Some bytes) (get files name)) ((eq_by_cmp_equiv name_cmp_total).refl name)
 
-  made : component_names id (take (i + 1) files) ≡ component_names id (take i files) ++ (Part id f) ∷ []
-  made = ap (component_names id) ((take_at_read files i f lt).1 ∙ ap (λ x. take i files ++ x ∷ []) (sym is)) ∙ map-append (Part id) (take i files) (f ∷ [])
+module _ (id : ℕ) (files : SegmentFiles) where
+  kept : (components : List SegmentComponent) (old : NamedFiles) (c : SegmentComponent) → AllByRecursion (λ d. Part id c ≢ Part id d) components → get (all_files_after (component_steps id files components) old) (Part id c) ≡ get old (Part id c)
+  kept [] old c apart = refl
+  kept (d ∷ ds) old c apart = kept ds (insert old (Part id d) (bytes_of files d)) c apart.1 ∙ keeps_others old (Part id d) (bytes_of files d) (Part id c) apart.0
 
-  -- all names but those of the files stay
-  pub others_turn : (old mid new : NamedFiles) → KeepsAllBut (component_names id files) old mid → KeepsOthers (Part id f) mid new → KeepsAllBut (component_names id files) old new
-  others_turn old mid new before now other apart =
-      now other (one_of_all (λ name. other ≢ name) (component_names id (take i files)) (Part id f) (component_names id (drop (i + 1) files)) (subst (AllByRecursion (λ name. other ≢ name)) cut apart)) ∙ before other apart
+  found : (before : List SegmentComponent) (c : SegmentComponent) (after : List SegmentComponent) (old : NamedFiles) → AllByRecursion (λ d. Part id c ≢ Part id d) after → get (all_files_after (component_steps id files (before ++ c ∷ after)) old) (Part id c) ≡ Some (bytes_of files c)
+  found [] c after old apart = kept after (insert old (Part id c) (bytes_of files c)) c apart ∙ newest old (Part id c) (bytes_of files c)
+  found (b ∷ bs) c after old apart = found bs c after (insert old (Part id b) (bytes_of files b)) apart
 
-  -- the file was made, and the others make all
-  pub made_turn : (bytes : List ℕ) (mid new : NamedFiles) → bytes ≡ bytes_of segment f → new ≡ insert mid (Part id f) bytes → with_files (component_files id segment (drop (i + 1) files)) new ≡ with_files (component_files id segment (drop i files)) mid
-  made_turn bytes mid new same now = ap (with_files (component_files id segment (drop (i + 1) files))) (now ∙ ap (insert mid (Part id f)) same) ∙ ap (λ fs. with_files (component_files id segment fs) mid) (sym here)
+  pub six_there : (old : NamedFiles) → HasFiles (all_files_after (write_steps id files) old) id files
+  six_there old = (
+    found (FieldNorms ∷ FastFields ∷ []) Terms (Postings ∷ Positions ∷ Store ∷ []) old ((λ e. cc e), ((λ e. cc e), ((λ e. cc e), tt))),
+    (
+      found (FieldNorms ∷ FastFields ∷ Terms ∷ Postings ∷ Positions ∷ []) Store [] old tt,
+      (
+        found (FieldNorms ∷ FastFields ∷ Terms ∷ []) Postings (Positions ∷ Store ∷ []) old ((λ e. cc e), ((λ e. cc e), tt)),
+        (
+          found (FieldNorms ∷ FastFields ∷ Terms ∷ Postings ∷ []) Positions (Store ∷ []) old ((λ e. cc e), tt),
+          (
+            found (FieldNorms ∷ []) FastFields (Terms ∷ Postings ∷ Positions ∷ Store ∷ []) old ((λ e. cc e), ((λ e. cc e), ((λ e. cc e), ((λ e. cc e), tt)))),
+            (found [] FieldNorms (FastFields ∷ Terms ∷ Postings ∷ Positions ∷ Store ∷ []) old ((λ e. cc e), ((λ e. cc e), ((λ e. cc e), ((λ e. cc e), ((λ e. cc e), tt))))), tt),
+          ),
+        ),
+      ),
+    ),
+  )
 
-  -- the file was made, as its answer says
-  pub seen_turn : (old mid new : List Answer) → mid ≡ old ++ wrote (component_names id (take i files)) → new ≡ mid ++ answer.Wrote (Part id f) ∷ [] → new ≡ old ++ wrote (component_names id (take (i + 1) files))
-  seen_turn old mid new before now =
-      wrote-more old mid new (component_names id (take i files)) (answer.Wrote (Part id f) ∷ []) before now
-      ∙ ap (λ a. old ++ a) (sym (map-append answer.Wrote (component_names id (take i files)) ((Part id f) ∷ [])) ∙ ap wrote (sym made))
+  -- once they are made, the six files are there
+  pub are_made : {T : Type 0} (r : Result T TantivyError) {a b : DirectoryState} → IsTrue a.tells → Works (write_steps id files) r a b → OnOk r (HasFiles b.files id files)
+  are_made (Ok x) {a = a} told works = subst (λ (now : NamedFiles). HasFiles now id files) (sym ((all_went works).files told)) (six_there a.files)
+  are_made (Err e) told works = tt
 
-  -- the file was not made, and its answer ends all
-  ends : (end : FileName → List Answer) (old mid new : List Answer) → mid ≡ old ++ wrote (component_names id (take i files)) → new ≡ mid ++ end (Part id f) → EndsAt (component_names id files) end old new
-  ends end old mid new before now = record {
-    made = component_names id (take i files);
-    name = (Part id f);
-    rest = component_names id (drop (i + 1) files);
-    cut = cut;
-    seen = wrote-more old mid new (component_names id (take i files)) (end (Part id f)) before now;
-  }
+  -- the files of all other names stay
+  pub others_stay : {T : Type 0} {r : Result T TantivyError} {a b : DirectoryState} → Works (write_steps id files) r a b → KeepsAllBut (segment_names id) a.files b.files
+  others_stay works = keeps_untouched works
 
-  pub seen_end : (e : TantivyError) (old mid new : List Answer) → mid ≡ old ++ wrote (component_names id (take i files)) → new ≡ mid ++ seen_writing (Part id f) (Err e) → MakingSeen {A = Unit {0}} (component_names id files) old (Err e) new
-  seen_end IndexAlreadyExists old mid new before now = ends (λ name. answer.There name ∷ []) old mid new before now
-  seen_end OpenWriteError old mid new before now = ends (λ name. answer.Failed kind.WriteNew ∷ []) old mid new before now
-  seen_end _ old mid new before now = ends (λ name. []) old mid new before now
+-- ---- where none of them was there
 
-  -- the others stay new once the file is made
-  here_new : (mid : NamedFiles) → AreNew (component_names id (drop i files)) mid → AreNew (Part id f ∷ component_names id (drop (i + 1) files)) mid
-  here_new mid are = subst (λ (cs : List SegmentComponent). AreNew (component_names id cs) mid) here are
+still_absent : (names : List FileName) (files : NamedFiles) (name : FileName) (bytes : List ℕ) → AllByRecursion (λ other. other ≢ name) names → AreAbsent names files → AreAbsent names (insert files name bytes)
+still_absent [] files name bytes apart absent = tt
+still_absent (n ∷ ns) files name bytes apart absent = (keeps_others files name bytes n apart.0 ∙ absent.0, still_absent ns files name bytes apart.1 absent.1)
 
-  pub new_turn : (mid new : NamedFiles) → KeepsOthers (Part id f) mid new → AreNew (component_names id (drop i files)) mid → AreNew (component_names id (drop (i + 1) files)) new
-  new_turn mid new kept are = keeps_new (component_names id (drop (i + 1) files)) (Part id f) mid new (here_new mid are).1 kept (here_new mid are).2
-
-  -- a file that is new is not found there
-  pub new_end : (e : TantivyError) (bytes : List ℕ) (mid new : NamedFiles) → WritesFile (Part id f) bytes (failed e) mid new → AreNew (component_names id (drop i files)) mid → failed e ≢ Err IndexAlreadyExists
-  new_end e bytes mid new writes are is =
-      there_none (get mid (Part id f)) (here_new mid are).0 (subst (λ (x : TantivyError). WritesFile (Part id f) bytes (failed x) mid new) (ap error_of is) writes).0
+-- files that are absent can be made
+pub absent_suit : (id : ℕ) (files : SegmentFiles) (old : NamedFiles) → AreAbsent (segment_names id) old → AllSuit (write_steps id files) old
+absent_suit id files old none =
+    let norms = insert old (Part id FieldNorms) files.field_norms in
+    let fast = insert norms (Part id FastFields) files.fast_fields in
+    let terms = insert fast (Part id Terms) files.terms in
+    let postings = insert terms (Part id Postings) files.postings in
+    let second = still_absent (Part id FastFields ∷ Part id Terms ∷ Part id Postings ∷ Part id Positions ∷ Part id Store ∷ []) old (Part id FieldNorms) files.field_norms ((λ e. cc e), ((λ e. cc e), ((λ e. cc e), ((λ e. cc e), ((λ e. cc e), tt))))) none.1 in
+    let third = still_absent (Part id Terms ∷ Part id Postings ∷ Part id Positions ∷ Part id Store ∷ []) norms (Part id FastFields) files.fast_fields ((λ e. cc e), ((λ e. cc e), ((λ e. cc e), ((λ e. cc e), tt)))) second.1 in
+    let fourth = still_absent (Part id Postings ∷ Part id Positions ∷ Part id Store ∷ []) fast (Part id Terms) files.terms ((λ e. cc e), ((λ e. cc e), ((λ e. cc e), tt))) third.1 in
+    let fifth = still_absent (Part id Positions ∷ Part id Store ∷ []) terms (Part id Postings) files.postings ((λ e. cc e), ((λ e. cc e), tt)) fourth.1 in
+    let sixth = still_absent (Part id Store ∷ []) postings (Part id Positions) files.positions ((λ e. cc e), tt) fifth.1 in
+    (none.0, (second.0, (third.0, (fourth.0, (fifth.0, (sixth.0, tt))))))

@@ -1,9 +1,10 @@
 pub mod BuiltEntries
+pub mod FieldsInTurn
 pub mod FilesMade
-pub mod FilesStand
+pub mod KeptFiles
 pub mod LaidOut
-pub mod NoneMade
 pub mod OneContents
-pub mod ReadingSteps
+pub mod OnlyReads
+pub mod ReadLaws
 pub mod SpelledFiles
 pub mod Turns

@@ -1,4 +1,5 @@
 pub mod Built
+pub mod FieldsWritten
 pub mod Forms
 pub mod HoldTerms
 pub mod Holds

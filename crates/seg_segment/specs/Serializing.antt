@@ -1,12 +1,15 @@
 -- A serializer of a segment, and the files that it leaves.
-use Rattle.std.specs.Prelude.{◌≡◌, ℕ, List, [], Option, Some, None}
+use Rattle.std.specs.Prelude.{◌≡◌, ℕ, List, [], Option, Some, None, Result, Err}
 use Rattle.seg_directory.specs.Composite.{composite}
-use Rattle.seg_directory.specs.Files.{NamedFiles}
+use Rattle.seg_directory.specs.State.{DirectoryState}
+use Rattle.seg_directory.specs.Works.{Works}
 use Rattle.seg_meta.specs.Metas.{SegmentParts}
 use Rattle.seg_postings.specs.Files.{FieldFiles, no_fields}
 use Rattle.seg_store.specs.Store.{store_of}
 use Rattle.seg_store.specs.Writing.{Taken, all_blocks}
-use Rattle.seg_segment.specs.SegmentFiles.{HasFiles}
+use Rattle.seg_values.specs.declared.error.TantivyError.{TantivyError}
+use Rattle.seg_values.specs.declared.error.TantivyError.TheVariants.{OutOfMemory}
+use Rattle.seg_segment.specs.SegmentFiles.{write_steps}
 use Rattle.seg_segment.specs.declared.segment_files.SegmentFiles.{SegmentFiles}
 
 -- the segment, and what its components have: parts of fields and stored documents, of which nothing is left once out of memory, the bytes of the columns, and those of the lengths where they were put
@@ -49,8 +52,7 @@ pub record IsLaidOut (s : Serializing) (files : SegmentFiles) : Type 0 where
   pub fast : files.fast_fields ≡ s.fast
   pub norms : IsNormsFile s.norms files.field_norms
 
--- the six files of its segment are what it has
-pub record AreLeft (s : Serializing) (directory : NamedFiles) : Type 0 where
-  pub files : SegmentFiles
-  pub laid : IsLaidOut s files
-  pub there : HasFiles directory s.segment.meta.id files
+-- it is closed: out of memory before any call, or the six files of its segment are made of what it has
+pub data Closes {T : Type 0} (s : Serializing) (result : Result T TantivyError) (before after : DirectoryState) : Type 0 where
+  starves : result ≡ Err OutOfMemory → after ≡ before → Closes s result before after
+  makes : (files : SegmentFiles) → IsLaidOut s files → Works (write_steps s.segment.meta.id files) result before after → Closes s result before after

@@ -1,10 +1,10 @@
 //! The six files of a segment, as they are read or were just made.
-ghost use Rattle.std.specs.Prelude.{◌≡◌, ◌≢◌, ◌⊎◌, Err, IsTrue, OnOk, IfOk, IfErr};
+ghost use Rattle.std.specs.Prelude.{◌≡◌, IfOk};
 ghost use Rattle.seg_common.specs.declared.name.FileName.{FileName};
-ghost use Rattle.seg_directory.specs.Faults.{FaultHasCause};
+ghost use Rattle.seg_directory.specs.Works.{Works, WorksFor};
 ghost use Rattle.seg_segment.specs.MadeFiles.{AreOfParts};
-ghost use Rattle.seg_segment.specs.SegmentFiles.{bytes_of, segment_names, AreAbsent, HasFiles, KeepsAllBut, MakingSeen};
-ghost use Rattle.seg_segment.specs.SegmentRead.{ReadingSeen, ReadsSegment};
+ghost use Rattle.seg_segment.specs.SegmentFiles.{bytes_of, write_steps};
+ghost use Rattle.seg_segment.specs.SegmentRead.{read_steps};
 
 use crate::component_files::write_components;
 use seg_common::{FileName, OwnedBytes, SegmentComponent, SegmentId};
@@ -32,12 +32,7 @@ impl SegmentFiles {
         id: SegmentId,
         directory: &mut W,
     ) -> TResult<SegmentFiles>
-        ensures read { IsTrue (W.state directory.old).tells → ReadsSegment (W.state directory.old).files id result }
-        ensures files { (W.state directory.new).files ≡ (W.state directory.old).files }
-        ensures tells { (W.state directory.new).tells ≡ (W.state directory.old).tells }
-        ensures seen { ReadingSeen id (W.state directory.old).seen result (W.state directory.new).seen }
-        ensures cause { FaultHasCause
-            TantivyError.OpenReadError (W.state directory.old).faults (W.state directory.new).faults result }
+        ensures { WorksFor (read_steps id) result (W.state directory.old) (W.state directory.new) }
     {
         let terms = read_file(
             alloc,
@@ -125,19 +120,7 @@ impl SegmentFiles {
         id: SegmentId,
         directory: &mut W,
     ) -> TResult<()>
-        ensures files { IsTrue (W.state directory.old).tells → OnOk result
-            (HasFiles (W.state directory.new).files id self.now) }
-        ensures fresh { IsTrue (W.state directory.old).tells
-            → AreAbsent (segment_names id) (W.state directory.old).files
-            → result ≢ Err TantivyError.IndexAlreadyExists }
-        ensures others { KeepsAllBut (segment_names id) (W.state directory.old).files (W.state directory.new).files }
-        ensures tells { (W.state directory.new).tells ≡ (W.state directory.old).tells }
-        ensures seen { MakingSeen (segment_names id) (W.state directory.old).seen result (W.state directory.new).seen }
-        ensures cause { FaultHasCause
-            TantivyError.OpenWriteError (W.state directory.old).faults (W.state directory.new).faults result }
-        ensures errors { IfErr result
-            (λ e. (e ≡ TantivyError.IndexAlreadyExists)
-            ⊎ (e ≡ TantivyError.OpenWriteError) ⊎ (e ≡ TantivyError.OutOfMemory)) }
+        ensures { Works (write_steps id self.now) result (W.state directory.old) (W.state directory.new) }
     {
         let components = [
             SegmentComponent::FieldNorms,

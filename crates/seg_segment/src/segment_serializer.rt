@@ -1,8 +1,6 @@
 //! The serializer of a segment.
-ghost use Rattle.std.specs.Prelude.{◌≡◌, ◌≢◌, ◌⊎◌, ◌↔◌, true, Some, Err, option_map, IsTrue, IfOk, IfErr, OnOk};
-ghost use Rattle.seg_directory.specs.Faults.{FaultHasCause};
+ghost use Rattle.std.specs.Prelude.{◌≡◌, ◌≢◌, ◌⊎◌, ◌↔◌, true, Err, option_map, IfOk, IfErr};
 ghost use Rattle.seg_segment.specs.Serializing.{IsNormsFile};
-ghost use Rattle.seg_segment.specs.SegmentFiles.{AreAbsent, KeepsAllBut, MakingSeen, segment_names};
 
 use crate::segment_files::SegmentFiles;
 use seg_directory::Directory;
@@ -40,7 +38,7 @@ impl Model for SegmentSerializer {
 }
 
 impl SegmentSerializer {
-    ghost use Rattle.seg_segment.specs.Serializing.{unfilled, filled_with, IsLaidOut, AreLeft};
+    ghost use Rattle.seg_segment.specs.Serializing.{unfilled, filled_with, IsLaidOut, Closes};
 
     /// A serializer that has nothing yet.
     pub fn for_segment(
@@ -102,19 +100,7 @@ impl SegmentSerializer {
     /// Writes the six files, in the order field norms, fast fields, terms, postings, positions, store. Lengths that were
     /// not put are a composite without parts.
     pub fn close<W: Directory>(self, directory: &mut W) -> TResult<()>
-        ensures files { IsTrue (W.state directory.old).tells → OnOk result
-            (AreLeft self (W.state directory.new).files) }
-        ensures fresh { IsTrue (W.state directory.old).tells
-            → AreAbsent (segment_names self.segment.meta.id) (W.state directory.old).files
-            → result ≢ Err TantivyError.IndexAlreadyExists }
-        ensures others { KeepsAllBut (segment_names self.segment.meta.id) (W.state directory.old).files (W.state directory.new).files }
-        ensures tells { (W.state directory.new).tells ≡ (W.state directory.old).tells }
-        ensures seen { MakingSeen (segment_names self.segment.meta.id) (W.state directory.old).seen result (W.state directory.new).seen }
-        ensures cause { FaultHasCause
-            TantivyError.OpenWriteError (W.state directory.old).faults (W.state directory.new).faults result }
-        ensures errors { IfErr result
-            (λ e. (e ≡ TantivyError.IndexAlreadyExists)
-            ⊎ (e ≡ TantivyError.OpenWriteError) ⊎ (e ≡ TantivyError.OutOfMemory)) }
+        ensures { Closes self result (W.state directory.old) (W.state directory.new) }
     {
         let alloc = self.alloc;
         let id = self.segment.id();

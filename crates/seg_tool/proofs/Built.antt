@@ -1,25 +1,23 @@
 -- What was built, or why not, as a status.
-use Rattle.std.proofs.Common.{◌≡◌, Bool, true, false, cond, List, Option, None, Some, inl, inr, refl, sym, ◌∙◌, subst}
+use Rattle.std.proofs.Common.{◌≡◌, List, Option, None, Some, inl, inr, refl, sym, ◌∙◌, subst}
 use Rattle.std.specs.Prelude.{IfSome}
-use Rattle.std.specs.Option.{option_map}
 use Rattle.seg_common.specs.declared.name.FileName.{FileName}
 use Rattle.seg_values.specs.declared.error.TantivyError.{TantivyError}
 use Rattle.seg_values.specs.declared.error.TantivyError.TheVariants.{SchemaError, InvalidArgument, IndexAlreadyExists, OpenReadError, OpenWriteError, IoError, DataCorruption, SystemError, FieldNotFound, OutOfMemory}
-use Rattle.seg_values.specs.declared.error.ArgumentCause.TheVariants.{Later}
 use Rattle.seg_model.specs.Fields.{Analyzer}
 use Rattle.seg_model.specs.Input.{Input}
-use Rattle.seg_model.specs.Valid.{Known, InputRefusal, bad_cuts, too_many_batches, bad_filters, bad_segment_ids, bad_field_name, unsupported_settings, unknown_tokenizer, unknown_fast_tokenizer, unindexed_delete, input_refusal}
+use Rattle.seg_model.specs.Valid.{Known}
 use Rattle.seg_directory.specs.declared.answer.Answer.{Answer}
-use Rattle.seg_open.specs.SegmentOpened.{IsNoDamage}
+use Rattle.seg_open.specs.SegmentOpened.{IsNoDamage, IsReadError}
 use Rattle.seg_batches.specs.Calls.{IsWhy}
-use Rattle.seg_refusals.specs.Inputs.{is_built_input}
-use Rattle.seg_refusals.specs.Refusals.{IfRefusal, IsRefusal, first_error, input_error}
+use Rattle.seg_refusals.proofs.Refusing.{first_is_refusal}
+use Rattle.seg_refusals.specs.Refusals.{IfRefusal, IsRefusal, first_error}
 use Rattle.seg_merge.specs.DirectoryCalls.{Asked, Directories, StopsIn, at_once, work_listing, output_listing, documents, work_index, reading_back, too_many, output_index}
 use Rattle.seg_tool.specs.DirectoryCalls.{BuildDoes, Stopped}
 use Rattle.seg_tool.specs.Statuses.{IfRefused, status_of}
 use Rattle.seg_tool.specs.declared.status.Status.{Status}
 use Rattle.seg_tool.specs.declared.status.Status.TheVariants.{Refused, Damaged}
-use Rattle.seg_merge.proofs.ReadErrors.{IsReadError, stops_so}
+use Rattle.seg_batches.proofs.ReadLaws.{segments_so}
 
 -- ---- statuses
 
@@ -30,7 +28,7 @@ stops-why asked e a b (work_listing d same) no_why no_refusal no_read = no_why d
 stops-why asked e a b (output_listing x d) no_why no_refusal no_read = no_why d.seen.why d.seen.is_why
 stops-why asked e a b (documents made r x y) no_why no_refusal no_read = no_refusal r
 stops-why asked e a b (work_index d x) no_why no_refusal no_read = no_why d.seen.why d.seen.is_why
-stops-why asked e a b (reading_back w x) no_why no_refusal no_read = no_read (stops_so asked.schema asked.segments e w.filled b.work w.stops)
+stops-why asked e a b (reading_back w x) no_why no_refusal no_read = no_read (segments_so asked.schema asked.segments w.filled b.work e w.stops)
 stops-why asked e a b (too_many read is many w x) no_why no_refusal no_read = no_refusal (subst IsRefusal (sym is) tt)
 stops-why asked e a b (output_index read number w d) no_why no_refusal no_read = no_why d.seen.why d.seen.is_why
 
@@ -80,24 +78,24 @@ refused_as P FieldNotFound h = tt
 refused_as P OutOfMemory h = tt
 
 -- each first error is a refusal's
-status_is : (r : InputRefusal) → status_of (input_error r) ≡ Refused (input_error r)
-status_is bad_cuts = refl
-status_is too_many_batches = refl
-status_is bad_filters = refl
-status_is bad_segment_ids = refl
-status_is bad_field_name = refl
-status_is unsupported_settings = refl
-status_is (unknown_tokenizer field) = refl
-status_is unknown_fast_tokenizer = refl
-status_is (unindexed_delete at) = refl
+status_is : (e : TantivyError) → IsRefusal e → status_of e ≡ Refused e
+status_is (SchemaError cause) h = refl
+status_is (InvalidArgument cause) h = refl
+status_is IndexAlreadyExists h = absurd h
+status_is OpenReadError h = absurd h
+status_is OpenWriteError h = absurd h
+status_is IoError h = absurd h
+status_is (DataCorruption name) h = absurd h
+status_is SystemError h = absurd h
+status_is FieldNotFound h = absurd h
+status_is OutOfMemory h = absurd h
 
 pub first_statuses : (known : Known) (analyzer : Analyzer) (input : Input) → IfSome (first_error known analyzer input) (λ x. status_of x ≡ Refused x)
-first_statuses known analyzer input = by (is_built_input input) (input_refusal known analyzer input)
+first_statuses known analyzer input = by (first_error known analyzer input) refl
   where
-    by : (b : Bool) (o : Option InputRefusal) → IfSome (cond b (option_map input_error o) (Some (InvalidArgument Later))) (λ x. status_of x ≡ Refused x)
-    by false o = refl
-    by true None = tt
-    by true (Some r) = status_is r
+    by : (o : Option TantivyError) → first_error known analyzer input ≡ o → IfSome o (λ x. status_of x ≡ Refused x)
+    by None is = tt
+    by (Some x) is = status_is x (first_is_refusal known analyzer input x is)
 
 pub ends-with : (status : Status) (asked : Asked) (e : TantivyError) (a b : Directories) → status ≡ status_of e → StopsIn asked e a b → BuildDoes status a b
 ends-with status asked e a b is stops = subst (λ (s : Status). BuildDoes s a b) (sym is) (ends-as asked a b e stops)

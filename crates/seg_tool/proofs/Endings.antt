@@ -1,7 +1,7 @@
 -- How a run ends.
-use Rattle.std.proofs.Common.{◌≡◌, ◌≢◌, ◌≤◌, Bool, true, false, cond, ◌⊎◌, ℕ, List, [], ◌∷◌, length, Option, None, Some, refl, sym, ap, subst, ◌∙◌, inl, inr, arith}
-use Rattle.std.specs.Prelude.{Err, IfSome, IsSome, is_some, if◌then◌else◌}
-use Rattle.std.specs.Option.{option_map}
+use Rattle.std.proofs.Common.{◌≡◌, ◌≢◌, ◌≤◌, Bool, true, false, ◌⊎◌, ℕ, List, [], ◌∷◌, length, Option, None, Some, refl, sym, ap, subst, ◌∙◌, inl, inr, arith}
+use Rattle.std.specs.Prelude.{Err, IfSome, IsSome, is_some}
+use Rattle.std.specs.Option.{option_or}
 use Rattle.std.proofs.lemmas.List.{append-nil}
 use mathlib.Core.Bool.{true≢false}
 use Rattle.seg_common.specs.Causes.{Rose}
@@ -12,26 +12,29 @@ use Rattle.seg_values.specs.declared.error.TantivyError.TheVariants.{InvalidArgu
 use Rattle.seg_directory.specs.declared.answer.Answer.{Answer}
 use Rattle.seg_directory.specs.declared.answer.Answer.TheVariants as answer
 use Rattle.seg_meta.specs.Reads.{given}
+use Rattle.seg_model.specs.Checked.{unless}
 use Rattle.seg_model.specs.Fields.{Analyzer}
 use Rattle.seg_model.specs.Laws.{ValidInputsAreNotRefused}
 use Rattle.seg_model.specs.Refused.{build_refusal}
 use Rattle.seg_model.specs.Input.{Input}
-use Rattle.seg_model.specs.Valid.{Known, InputRefusal, IsValid, input_refusal}
+use Rattle.seg_model.specs.Valid.{Known, IsValid, input_refusal}
+use Rattle.seg_model.proofs.FirstAnswers.{or_first, unless_true}
 use Rattle.seg_batches.specs.Calls.{HasRisen, Does}
 use Rattle.seg_directory.specs.State.{DirectoryState}
-use Rattle.seg_batches.specs.Reading.{StopsReading}
+use Rattle.seg_batches.specs.Reading.{ReadsSegments}
 use Rattle.seg_merge.specs.DirectoryCalls.{Asked, Directories, WritesThenStops, StopsIn, at_once, work_listing, output_listing, documents, work_index, reading_back, too_many, output_index}
 use Rattle.seg_refusals.specs.Admitted.{IsValidIf}
 use Rattle.seg_refusals.specs.Inputs.{is_built_input}
-use Rattle.seg_refusals.specs.Refusals.{IsRefusal, build_error, first_error, input_error}
+use Rattle.seg_refusals.specs.Refusals.{IsRefusal, first_error, later_refusal}
 use Rattle.seg_script.specs.Script.{json_of, script, script_from}
 use Rattle.seg_tool.specs.DirectoryCalls.{Stopped, IsFault, BuildDoes}
 use Rattle.seg_tool.specs.Run.{max_script, refusal_of, IsNoScript, IsValidScript, IsWhyRefused}
 use Rattle.seg_tool.specs.Statuses.{IfRefused}
 use Rattle.seg_tool.specs.declared.status.Status.{Status}
 use Rattle.seg_tool.specs.declared.status.Status.TheVariants.{Done, Words, Script, Refused, Exists, Directory, Damaged, Stream, Memory}
-use Rattle.seg_merge.proofs.ReadErrors.{IsReadError, stops_so}
-use Rattle.seg_tool.proofs.ReadBack.{rose_before, stops_rose}
+use Rattle.seg_open.specs.SegmentOpened.{IsReadError}
+use Rattle.seg_batches.proofs.ReadLaws.{segments_rose, segments_so}
+use Rattle.seg_tool.proofs.ReadBack.{rose_before}
 
 -- ---- before any call
 
@@ -64,11 +67,7 @@ json_some bytes meant is = some_given (json_of bytes) script_from meant is
 
 -- an input that nothing refuses at once is of what is built so far
 pub admitted_built : (known : Known) (analyzer : Analyzer) (input : Input) → first_error known analyzer input ≡ None → is_built_input input ≡ true
-admitted_built known analyzer input none = by (is_built_input input) (input_refusal known analyzer input) none
-  where
-    by : (b : Bool) (o : Option InputRefusal) → cond b (option_map input_error o) (Some (InvalidArgument Later)) ≡ None → b ≡ true
-    by true o is = refl
-    by false o is = absurd (cc is)
+admitted_built known analyzer input none = unless_true (is_built_input input) (InvalidArgument Later) (or_first (later_refusal input) (input_refusal known analyzer input) none)
 
 -- ---- what ends well
 
@@ -81,8 +80,8 @@ not-refused : (known : Known) (analyzer : Analyzer) (bytes : List ℕ) (e : Tant
 not-refused known analyzer bytes e law v why =
     let none : refusal_of known analyzer (script bytes) ≡ None =
     ap (refusal_of known analyzer) v.is_script
-    ∙ ap (λ b. if b then option_map build_error (build_refusal known analyzer v.meant) else Some (InvalidArgument Later)) v.built
-    ∙ ap (option_map build_error) ((law known analyzer v.meant).0 (valid_told known analyzer v.meant v.valid)) in
+    ∙ ap (λ b. option_or (unless b (InvalidArgument Later)) (build_refusal known analyzer v.meant)) v.built
+    ∙ ((law known analyzer v.meant).0 (valid_told known analyzer v.meant v.valid)) in
     true≢false (ap is_some (sym why ∙ none))
 
 not-script : (known : Known) (analyzer : Analyzer) (bytes : List ℕ) → length bytes ≤ max_script → IsValidScript (Unit {0}) known analyzer bytes → IsNoScript bytes → ⊥
@@ -104,10 +103,10 @@ no-refusal e (inr (inr is)) refusal = subst IsRefusal is refusal
 -- nor do segments that are written and read back
 no-read-fault : (asked : Asked) (e : TantivyError) (a b : DirectoryState) → IsFault e → (Rose a.faults b.faults → ⊥) → WritesThenStops asked.schema asked.segments e a b → ⊥
 no-read-fault asked e a b (inl is) sound w =
-    let stops : StopsReading asked.schema asked.segments OpenReadError w.filled b = subst (λ (x : TantivyError). StopsReading asked.schema asked.segments x w.filled b) is w.stops in
-    sound (rose_before a.faults w.filled.faults b.faults w.writes.later (stops_rose asked.schema asked.segments w.filled b stops))
-no-read-fault asked e a b (inr (inl is)) sound w = subst IsReadError is (stops_so asked.schema asked.segments e w.filled b w.stops)
-no-read-fault asked e a b (inr (inr is)) sound w = subst IsReadError is (stops_so asked.schema asked.segments e w.filled b w.stops)
+    let stops : ReadsSegments asked.schema asked.segments (Err OpenReadError) w.filled b = subst (λ (x : TantivyError). ReadsSegments asked.schema asked.segments (Err x) w.filled b) is w.stops in
+    sound (rose_before a.faults w.filled.faults b.faults w.writes.later (segments_rose asked.schema asked.segments w.filled b stops))
+no-read-fault asked e a b (inr (inl is)) sound w = subst IsReadError is (segments_so asked.schema asked.segments w.filled b e w.stops)
+no-read-fault asked e a b (inr (inr is)) sound w = subst IsReadError is (segments_so asked.schema asked.segments w.filled b e w.stops)
 
 never-stops : (asked : Asked) (e : TantivyError) (a b : Directories) → IsFault e → (Rose a.work.faults b.work.faults → ⊥) → (Rose a.output.faults b.output.faults → ⊥) → StopsIn asked e a b → ⊥
 never-stops asked e a b fault work output (at_once refusal same) = no-refusal e fault refusal

@@ -1,12 +1,14 @@
-use Rattle.std.proofs.Common.{◌≤◌, ◌^◌, arith, ap, inr, length, map}
+use Rattle.std.proofs.Common.{◌<◌, ◌≤◌, ◌^◌, arith, ap, inr, length, map}
 use Rattle.seg_model.specs.Operations.{additions}
 use Rattle.seg_input.specs.View.{operation_of}
-use Rattle.seg_batches.proofs.Added.{of_batch}
+use Rattle.seg_batches.specs.Indexing.{AreOfBatch}
+use Rattle.seg_batches.proofs.Added.{of_batch, were_taken}
+use Rattle.seg_batches.proofs.BatchSteps.{not_refused}
 use Rattle.seg_batches.proofs.Refused.{too_many}
 use Rattle.seg_batches.proofs.batch_indexing.index_batch.Goals as goal
 
-pub returns-then-count_additions-gt-MAX_DOCUMENTS-clause-err : goal.returns-then-count_additions-gt-MAX_DOCUMENTS-clause-err
-returns-then-count_additions-gt-MAX_DOCUMENTS-clause-err g c =
+pub returns-then-count_additions-gt-MAX_DOCUMENTS-clause-passes : goal.returns-then-count_additions-gt-MAX_DOCUMENTS-clause-passes
+returns-then-count_additions-gt-MAX_DOCUMENTS-clause-passes g c =
     let operations = map operation_of c.args.operations.now in
     let many : 2 ^ 31 ≤ length (additions operations) = omega (arith, c.if-count_additions-gt-MAX_DOCUMENTS.true, c.count_additions.ensures) in
     inr (too_many c.args.writer.1.schema (g.Z.Analyzers.tokens_of c.args.writer.0) c.args.first operations many)
@@ -14,7 +16,18 @@ returns-then-count_additions-gt-MAX_DOCUMENTS-clause-err g c =
 pub returns-in-Ok-into_segment-clause-segment : goal.returns-in-Ok-into_segment-clause-segment
 returns-in-Ok-into_segment-clause-segment g c =
     let F = g.Z.Analyzers.tokens_of in
+    let operations = map operation_of c.args.operations.now in
     let made = c.in-Ok-into_segment in
     let writer = c.add_operations.new.writer in
-    of_batch c.args.writer.1.schema (F c.args.writer.0) c.args.first (map operation_of c.args.operations.now) writer.1 c.in-Ok.ensures.schema c.in-Ok.ensures.added
-    (F writer.0) made.segment (ap F c.in-Ok.ensures.analyzers) made.ensures.stands made.ensures.stamps
+    let few : length (additions operations) < 2 ^ 31 = omega (arith, c.if-count_additions-gt-MAX_DOCUMENTS.false, c.count_additions.ensures) in
+    of_batch c.args.writer.1.schema (F c.args.writer.0) c.args.first operations writer.1 c.in-Ok.ensures.schema c.in-Ok.ensures.added
+    (F writer.0) made.segment (ap F c.in-Ok.ensures.analyzers) few made.ensures.stands made.ensures.stamps
+
+pub returns-in-Ok-into_segment-clause-passes : goal.returns-in-Ok-into_segment-clause-passes
+returns-in-Ok-into_segment-clause-passes g c =
+    let F = g.Z.Analyzers.tokens_of c.args.writer.0 in
+    let schema = c.args.writer.1.schema in
+    let operations = map operation_of c.args.operations.now in
+    let made : AreOfBatch schema F c.args.first operations c.in-Ok-into_segment.segment.files c.in-Ok-into_segment.segment.stamps.items = returns-in-Ok-into_segment-clause-segment g c in
+    let taken = were_taken schema F c.args.first operations c.add_operations.new.writer.1 c.in-Ok.ensures.schema c.in-Ok.ensures.added in
+    not_refused schema F c.args.first operations c.in-Ok-into_segment.segment.files made.few taken made.stand

@@ -1,6 +1,7 @@
 use Rattle.std.proofs.Common.{◌≡◌, ◌+◌, ◌-◌, ◌^◌, ◌≤◌, map, drop}
-use Rattle.seg_build.specs.Checking.{text_in, text_count, with_texts}
-use Rattle.seg_build.specs.MemoryUsage.{saturated}
+use Rattle.seg_check.specs.Texts.{text_in}
+use Rattle.seg_build.specs.MemoryUsage.{saturated, text_count}
+use Rattle.seg_build.specs.Steps.{with_texts}
 use Rattle.seg_build.proofs.adding.add_texts.Given as goal
 
 -- what is so far, with what is left, is all

@@ -1,23 +1,14 @@
-use Rattle.std.proofs.Common.{ℕ, subst}
-use Rattle.seg_segment.specs.SegmentFiles.{HasFiles, KeepsAllBut, segment_names}
-use Rattle.seg_segment.proofs.NoneMade.{none_made}
-use Rattle.seg_segment.proofs.SpelledFiles.{stands_there}
+use Rattle.std.proofs.Common.{[], refl}
+use Rattle.seg_directory.proofs.Doing.{answers, stops}
+use Rattle.seg_build.specs.Finishing.{starves}
+use Rattle.seg_build.proofs.Finalized.{finishes}
 use Rattle.seg_build.proofs.finishing.finish.Goals as goal
 
-pub returns-in_default-clause-seen : goal.returns-in_default-clause-seen
-returns-in_default-clause-seen g c = none_made c.args.segment.meta.id (g.W.Directory.state c.args.directory.now).seen
+pub returns-in_default-clause-does : goal.returns-in_default-clause-does
+returns-in_default-clause-does g c = starves refl refl
 
-pub returns-in-Ok-write-clause-stands : goal.returns-in-Ok-write-clause-stands
-returns-in-Ok-write-clause-stands g c = λ told analyzer documents stamps are.
-    let after = (g.W.Directory.state c.write.new.directory).files in
-    stands_there c.args.segment.schema analyzer documents c.in-Ok.made.files after c.args.segment.meta.id
-    (c.in-Ok.ensures.stand analyzer documents stamps are)
-    (subst (λ (id : ℕ). HasFiles after id c.in-Ok.made.files) c.id-id.ensures (c.in-Ok-write.ensures.files told))
+pub returns-in-Ok-write-clause-does : goal.returns-in-Ok-write-clause-does
+returns-in-Ok-write-clause-does g c = finishes c.in-Ok.ensures c.id-id.ensures (answers c.in-Ok-write.ensures)
 
-pub returns-in-Ok-write-clause-others : goal.returns-in-Ok-write-clause-others
-returns-in-Ok-write-clause-others g c =
-    subst (λ (id : ℕ). KeepsAllBut (segment_names id) (g.W.Directory.state c.args.directory.now).files (g.W.Directory.state c.write.new.directory).files) c.id-id.ensures c.in-Ok-write.ensures.others
-
-pub returns-in-Err-clause-others : goal.returns-in-Err-clause-others
-returns-in-Err-clause-others g c =
-    subst (λ (id : ℕ). KeepsAllBut (segment_names id) (g.W.Directory.state c.args.directory.now).files (g.W.Directory.state c.write.new.directory).files) c.id-id.ensures c.in-Err.ensures.others
+pub returns-in-Err-clause-does : goal.returns-in-Err-clause-does
+returns-in-Err-clause-does g c = finishes c.in-Ok.ensures c.id-id.ensures (stops [] c.in-Err.ensures)

@@ -1,6 +1,6 @@
 use Rattle.std.proofs.Common.{◌≡◌, drop, map, option_map}
 use Rattle.seg_build.specs.Lengths.{with_lengths}
-use Rattle.seg_build.specs.declared.field_text.FieldText.{FieldText}
+use Rattle.seg_check.specs.declared.field_text.FieldText.{FieldText}
 use Rattle.seg_build.proofs.lengths.record_lengths.Given as goal
 
 -- what is so far, with what is left, is all

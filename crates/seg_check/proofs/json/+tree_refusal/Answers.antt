@@ -2,7 +2,7 @@ use Rattle.std.proofs.Common.{◌<◌, ap, sym, ◌∙◌, arith}
 use Rattle.seg_values.specs.Tree.{levels, array, object, trees_from, members_from}
 use Rattle.seg_values.specs.View.{tree_of}
 use Rattle.seg_values.proofs.Levels.{levels-at, member_levels-at}
-use Rattle.seg_model.specs.Checked.{has_no_zero, tree_refusal}
+use Rattle.seg_model.specs.Checked.{at_place, has_no_zero, tree_refusal}
 use Rattle.seg_check.proofs.JsonTrees.{tree_passes, member_passes, tree_refused, member_refused, key_refused}
 use Rattle.seg_check.proofs.json.+tree_refusal.Goals as goal
 
@@ -13,7 +13,7 @@ tree_refusal-requires t c =
     (omega (arith, c.decreases, is, below), tt)
 
 pub loop-at-preserved : goal.loop-at-preserved
-loop-at-preserved t c = tree_passes c.tree_refusal.result (tree_of c.get.result.now) c.tree_refusal.ensures c.in_default-tree_refusal.not-Some c.in-Array.values c.loop-at.at c.get.ensures ∙ c.loop-at.invariant
+loop-at-preserved t c = tree_passes c.args.place c.tree_refusal.result (tree_of c.get.result.now) c.tree_refusal.ensures c.in_default-tree_refusal.not-Some c.in-Array.values c.loop-at.at c.get.ensures ∙ c.loop-at.invariant
 
 pub tree_refusal-requires-in-loop-index : goal.tree_refusal-requires-in-loop-index
 tree_refusal-requires-in-loop-index t c =
@@ -25,22 +25,22 @@ tree_refusal-requires-in-loop-index t c =
 pub loop-index-preserved : goal.loop-index-preserved
 loop-index-preserved t c =
     let child = c.get-in-loop-index.result.1.now in
-    member_passes c.tree_refusal-in-loop-index.result (tree_of child) c.tree_refusal-in-loop-index.ensures c.in_default-tree_refusal-2.not-Some c.in-Object.members c.loop-index.index c.get-in-loop-index.result.0.now c.get-in-loop-index.ensures
+    member_passes c.args.place c.tree_refusal-in-loop-index.result (tree_of child) c.tree_refusal-in-loop-index.ensures c.in_default-tree_refusal-2.not-Some c.in-Object.members c.loop-index.index c.get-in-loop-index.result.0.now c.get-in-loop-index.ensures
     (ap has_no_zero (sym c.as_bytes.ensures.value) ∙ sym c.has_no_zero.ensures ∙ c.if-not-has_no_zero.false) ∙ c.loop-index.invariant
 
 pub returns-in-Some : goal.returns-in-Some
 returns-in-Some t c =
-    tree_refused c.tree_refusal.result (tree_of c.get.result.now) c.tree_refusal.ensures c.in-Some.refusal c.in-Some.is c.in-Array.values c.loop-at.at c.get.ensures
-    ∙ c.loop-at.invariant ∙ ap (λ v. tree_refusal (tree_of v)) (sym c.in-Array.is)
+    tree_refused c.args.place c.tree_refusal.result (tree_of c.get.result.now) c.tree_refusal.ensures c.in-Some.refusal c.in-Some.is c.in-Array.values c.loop-at.at c.get.ensures
+    ∙ ap (at_place c.args.place) (c.loop-at.invariant ∙ ap (λ v. tree_refusal (tree_of v)) (sym c.in-Array.is))
 
 pub returns-then-not-has_no_zero : goal.returns-then-not-has_no_zero
 returns-then-not-has_no_zero t c =
-    key_refused c.in-Object.members c.loop-index.index c.get-in-loop-index.result.0.now (tree_of c.get-in-loop-index.result.1.now) c.get-in-loop-index.ensures
+    key_refused c.args.place c.in-Object.members c.loop-index.index c.get-in-loop-index.result.0.now (tree_of c.get-in-loop-index.result.1.now) c.get-in-loop-index.ensures
     (ap has_no_zero (sym c.as_bytes.ensures.value) ∙ sym c.has_no_zero.ensures ∙ c.if-not-has_no_zero.true)
-    ∙ c.loop-index.invariant ∙ ap (λ v. tree_refusal (tree_of v)) (sym c.in-Object.is)
+    ∙ ap (at_place c.args.place) (c.loop-index.invariant ∙ ap (λ v. tree_refusal (tree_of v)) (sym c.in-Object.is))
 
 pub returns-in-Some-tree_refusal : goal.returns-in-Some-tree_refusal
 returns-in-Some-tree_refusal t c =
-    member_refused c.tree_refusal-in-loop-index.result (tree_of c.get-in-loop-index.result.1.now) c.tree_refusal-in-loop-index.ensures c.in-Some-tree_refusal.refusal c.in-Some-tree_refusal.is c.in-Object.members c.loop-index.index c.get-in-loop-index.result.0.now c.get-in-loop-index.ensures
+    member_refused c.args.place c.tree_refusal-in-loop-index.result (tree_of c.get-in-loop-index.result.1.now) c.tree_refusal-in-loop-index.ensures c.in-Some-tree_refusal.refusal c.in-Some-tree_refusal.is c.in-Object.members c.loop-index.index c.get-in-loop-index.result.0.now c.get-in-loop-index.ensures
     (ap has_no_zero (sym c.as_bytes.ensures.value) ∙ sym c.has_no_zero.ensures ∙ c.if-not-has_no_zero.false)
-    ∙ c.loop-index.invariant ∙ ap (λ v. tree_refusal (tree_of v)) (sym c.in-Object.is)
+    ∙ ap (at_place c.args.place) (c.loop-index.invariant ∙ ap (λ v. tree_refusal (tree_of v)) (sym c.in-Object.is))

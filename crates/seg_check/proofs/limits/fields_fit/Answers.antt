@@ -1,32 +1,35 @@
-use Rattle.std.proofs.Common.{◌≡◌, ◌<◌, ◌+◌, length, drop, true, false, refl, ap, sym, ◌∙◌, arith}
+use Rattle.std.proofs.Common.{◌+◌, drop, sym, ap, ◌∙◌, arith}
 use Rattle.std.specs.Prelude.{◌&&◌}
-use Rattle.std.specs.List.{list_all, enumerate_from}
-use Rattle.seg_model.specs.Checked.{field_fits}
-use Rattle.seg_check.proofs.FieldsCome.{field-here, read-at}
+use Rattle.std.specs.List.{list_all, slice_get}
+use Rattle.std.proofs.lemmas.List.{at_drop_all}
+use Rattle.seg_values.specs.View.{tree_of}
+use Rattle.seg_check.specs.AllFields.{fits_at}
+use Rattle.seg_check.proofs.FieldsFit.{left-fit, by-pairs}
 use Rattle.seg_check.proofs.limits.fields_fit.Goals as goal
 
-pub loop-place-preserved : goal.loop-place-preserved
-loop-place-preserved c analyzer document stand =
+pub loop-at-preserved : goal.loop-at-preserved
+loop-at-preserved c analyzer stand =
     let schema = c.args.schema.now in
-    let totals = c.args.totals.now in
-    let i = c.loop-place.place in
-    let entry = c.index-schema-place.result in
-    let lt : i < length schema = c.loop-place-test.true in
-    let few : i < length totals = omega (arith, lt, c.requires) in
-    let fits : field_fits analyzer document (i, entry) ≡ true = sym (c.field_fits.ensures analyzer document i (λ indexed.
-    stand.at i entry c.index-totals-place.result (read-at schema i i entry lt c.index-schema-place.is refl) (read-at totals i i c.index-totals-place.result few c.index-totals-place.is refl) indexed)) ∙ c.if-not-field_fits.false in
-    sym (ap (list_all (field_fits analyzer document)) (field-here schema i entry lt c.index-schema-place.is)
-    ∙ ap (λ b. b && list_all (field_fits analyzer document) (enumerate_from (i + 1) (drop (i + 1) schema))) fits) ∙ c.loop-place.invariant analyzer document stand
+    let document = c.args.document.now in
+    let left = list_all (λ p. fits_at analyzer document p.0 (slice_get schema p.0)) (drop (c.loop-at.at + 1) document) in
+    ap (λ b. b && left) (sym c.if-not-field_fits.false)
+    ∙ sym (left-fit schema analyzer document c.loop-at.at c.pair-field.result.0 c.field_id.result (tree_of c.pair-field.result.1.now) c.field_fits.result c.pair-field.ensures c.field_id.ensures (c.field_fits.ensures analyzer document stand))
+    ∙ c.loop-at.invariant analyzer stand
 
 pub returns-then-not-field_fits : goal.returns-then-not-field_fits
-returns-then-not-field_fits c analyzer document stand =
+returns-then-not-field_fits c analyzer stand =
     let schema = c.args.schema.now in
-    let totals = c.args.totals.now in
-    let i = c.loop-place.place in
-    let entry = c.index-schema-place.result in
-    let lt : i < length schema = c.loop-place-test.true in
-    let few : i < length totals = omega (arith, lt, c.requires) in
-    let fits : field_fits analyzer document (i, entry) ≡ false = sym (c.field_fits.ensures analyzer document i (λ indexed.
-    stand.at i entry c.index-totals-place.result (read-at schema i i entry lt c.index-schema-place.is refl) (read-at totals i i c.index-totals-place.result few c.index-totals-place.is refl) indexed)) ∙ c.if-not-field_fits.true in
-    sym (ap (list_all (field_fits analyzer document)) (field-here schema i entry lt c.index-schema-place.is)
-    ∙ ap (λ b. b && list_all (field_fits analyzer document) (enumerate_from (i + 1) (drop (i + 1) schema))) fits) ∙ c.loop-place.invariant analyzer document stand
+    let document = c.args.document.now in
+    let left = list_all (λ p. fits_at analyzer document p.0 (slice_get schema p.0)) (drop (c.loop-at.at + 1) document) in
+    ap (λ b. b && left) (sym c.if-not-field_fits.true)
+    ∙ sym (left-fit schema analyzer document c.loop-at.at c.pair-field.result.0 c.field_id.result (tree_of c.pair-field.result.1.now) c.field_fits.result c.pair-field.ensures c.field_id.ensures (c.field_fits.ensures analyzer document stand))
+    ∙ c.loop-at.invariant analyzer stand
+    ∙ by-pairs schema analyzer document
+
+pub returns : goal.returns
+returns c analyzer stand =
+    let schema = c.args.schema.now in
+    let document = c.args.document.now in
+    sym (at_drop_all (list_all (λ p. fits_at analyzer document p.0 (slice_get schema p.0))) document c.loop-at.at (omega (arith, c.len-at-end.ensures, c.loop-at-test.false)))
+    ∙ c.loop-at.invariant analyzer stand
+    ∙ by-pairs schema analyzer document

@@ -1,48 +1,37 @@
-use Rattle.std.proofs.Common.{◌<◌, ◌++◌, ◌∷◌, [], set, get_or, length, Some, ap, sym, ◌∙◌, subst, arith}
-use Rattle.std.proofs.lemmas.Result.{IfOk-weaker}
+use Rattle.std.proofs.Common.{rules, [], ◌∷◌, ◌++◌, Some, sym, subst}
+use Rattle.std.specs.HashMap.{Updates}
+use Rattle.std.specs.Prelude.{nat_eq}
 use Rattle.seg_values.specs.View.{tree_of}
-use Rattle.seg_model.specs.Fields.{is_indexed, indexing_tokenizer}
-use Rattle.seg_check.specs.AllFields.{AllStand}
+use Rattle.seg_model.specs.Fields.{indexing_tokenizer, values_of}
+use Rattle.seg_check.specs.AllFields.{TellMore}
 use Rattle.seg_check.specs.Standing.{Stands}
-use Rattle.seg_check.proofs.FieldsCome.{not-indexed, one-field, order-of, order-none, read-at, none-past, at-most-one, stand-if}
+use Rattle.seg_check.proofs.FieldsCome.{one-field, to-some, to-none, stand-if}
 use Rattle.seg_check.proofs.positions.add_value.Goals as goal
 
-pub returns-in_default-clause-stand : goal.returns-in_default-clause-stand
-returns-in_default-clause-stand g c done stand passes =
-    not-indexed c.args.schema.now (g.Z.Analyzers.tokens_of c.args.analyzers.now) c.args.totals.now done c.args.field (tree_of c.args.value.now) stand
-    (λ entry at. absurd (none-past c.args.schema.now c.field_id-place.result c.args.field entry c.in_default.ensures.lookup.3 c.field_id-place.ensures at))
-
-pub returns-then-not-is_indexed-clause-order : goal.returns-then-not-is_indexed-clause-order
-returns-then-not-is_indexed-clause-order g c =
-    let here = read-at c.args.schema.now c.field_id-place.result c.args.field c.in-Some.entry.now c.in-Some.ensures.lookup.3.0 c.in-Some.ensures.lookup.1 c.field_id-place.ensures in
-    order-none (g.Z.Analyzers.tokens_of c.args.analyzers.now) c.args.schema.now c.args.field (tree_of c.args.value.now) c.in-Some.entry.now here (sym c.is_indexed.ensures ∙ c.if-not-is_indexed.true)
-
-pub returns-then-not-is_indexed-clause-stand : goal.returns-then-not-is_indexed-clause-stand
-returns-then-not-is_indexed-clause-stand g c done stand passes =
-    let here = read-at c.args.schema.now c.field_id-place.result c.args.field c.in-Some.entry.now c.in-Some.ensures.lookup.3.0 c.in-Some.ensures.lookup.1 c.field_id-place.ensures in
-    not-indexed c.args.schema.now (g.Z.Analyzers.tokens_of c.args.analyzers.now) c.args.totals.now done c.args.field (tree_of c.args.value.now) stand
-    (λ entry at. ap is_indexed (at-most-one entry c.in-Some.entry.now (sym at ∙ here)) ∙ sym c.is_indexed.ensures ∙ c.if-not-is_indexed.true)
-
-pub returns-clause-order : goal.returns-clause-order
-returns-clause-order g c =
-    let here = read-at c.args.schema.now c.field_id-place.result c.args.field c.in-Some.entry.now c.in-Some.ensures.lookup.3.0 c.in-Some.ensures.lookup.1 c.field_id-place.ensures in
-    let same = order-of (g.Z.Analyzers.tokens_of c.args.analyzers.now) c.args.schema.now c.args.field (tree_of c.args.value.now) c.in-Some.entry.now here (sym c.is_indexed.ensures ∙ c.if-not-is_indexed.false) in
-    IfOk-weaker c.add_value.result _ _ (λ rises is. is ∙ same) c.add_value.ensures.rises
+pub returns-in-Some-clause-stand : goal.returns-in-Some-clause-stand
+returns-in-Some-clause-stand g c schema here =
+    let F = g.Z.Analyzers.tokens_of c.args.analyzers.now in
+    let field = c.args.text.now.field in
+    let t = tree_of c.args.value.now in
+    let entry = c.args.entry.now in
+    let A = F (indexing_tokenizer entry) in
+    let new = c.add_value.new.self in
+    let updates = (c.get_mut.follows.holds new).3 (search rules) in
+    stand-if c.add_value.result new (λ u. TellMore schema F (field, t) c.args.totals.now (c.get_mut.follows.lender u))
+    (λ values. Stands entry A c.in-Some.found.now values) (λ u values. Stands entry A u (values ++ t ∷ [])) c.add_value.ensures.stands
+    (λ more came stand. one-field schema F c.args.totals.now came field t stand entry (c.get_mut.follows.lender new) new here c.requires.indexed updates
+    (to-some entry A _ c.in-Some.found.now new (values_of field came) t (sym c.in-Some.ensures.value) (more (values_of field came))))
 
 pub returns-clause-stand : goal.returns-clause-stand
-returns-clause-stand g c done stand =
-    let here = read-at c.args.schema.now c.field_id-place.result c.args.field c.in-Some.entry.now c.in-Some.ensures.lookup.3.0 c.in-Some.ensures.lookup.1 c.field_id-place.ensures in
-    let schema = c.args.schema.now in
+returns-clause-stand g c schema here rises came stand =
     let F = g.Z.Analyzers.tokens_of c.args.analyzers.now in
-    let totals = c.args.totals.now in
+    let field = c.args.text.now.field in
     let t = tree_of c.args.value.now in
-    let entry = c.in-Some.entry.now in
-    let place = c.field_id-place.ensures in
-    let lt : c.args.field < length totals = omega (arith, c.in-Some.ensures.lookup.3.0, place, c.requires.as_many) in
-    let lt_place : c.field_id-place.result < length totals = omega (arith, c.in-Some.ensures.lookup.3.0, c.requires.as_many) in
-    let at_old = read-at totals c.field_id-place.result c.args.field c.index-totals-place.result lt_place c.index-totals-place.is place ∙ ap Some c.index-totals-place.is in
-    let old = get_or totals c.field_id-place.result c.index-totals-place.result in
-    let indexed = sym c.is_indexed.ensures ∙ c.if-not-is_indexed.false in
-    stand-if c.add_value.result c.add_value.new.self (λ new. AllStand schema F (set totals c.field_id-place.result new) (done ++ (c.args.field, t) ∷ []))
-    (λ values. Stands entry (F (indexing_tokenizer entry)) old values) (λ new values. Stands entry (F (indexing_tokenizer entry)) new (values ++ t ∷ [])) c.add_value.ensures.stands
-    (λ more. subst (λ k. AllStand schema F (set totals k c.add_value.new.self) (done ++ (c.args.field, t) ∷ [])) (sym place) (one-field schema F totals done c.args.field t stand entry old c.add_value.new.self here indexed at_old lt more))
+    let entry = c.args.entry.now in
+    let A = F (indexing_tokenizer entry) in
+    let new = c.add_value-2.new.self in
+    -- the map that is lent to nobody is as it was
+    let same = c.get_mut.follows.holds-at-none in
+    let updates = subst (λ m. Updates nat_eq m c.insert.new.self field (Some new)) same c.in_ok-insert.ensures.updates in
+    one-field schema F c.args.totals.now came field t stand entry c.insert.new.self new here c.requires.indexed updates
+    (to-none entry A _ new (values_of field came) t (sym c.in_default.ensures.value) (c.in_ok-rises.ensures.stands [] (c.new-first.ensures entry A) rises))

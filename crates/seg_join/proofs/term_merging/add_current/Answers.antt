@@ -1,4 +1,4 @@
-use Rattle.std.proofs.Common.{◌≡◌, Some, None, sym, subst, ◌∙◌, ap}
+use Rattle.std.proofs.Common.{Some, None, sym, subst}
 use Rattle.std.specs.Prelude.{IsSomeAnd}
 use Rattle.std.proofs.lemmas.Result.{on_ok_weaker}
 use Rattle.seg_common.specs.Growing.{HasGrown}

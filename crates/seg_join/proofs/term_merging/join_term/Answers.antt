@@ -1,8 +1,8 @@
-use Rattle.std.proofs.Common.{◌≡◌, drop, sym, ap, subst, ◌∙◌, arith}
+use Rattle.std.proofs.Common.{sym, ap, subst, ◌∙◌, arith}
 use Rattle.std.specs.List.{flat_map}
 use Rattle.std.proofs.lemmas.Result.{on_ok_weaker}
 use Rattle.std.proofs.lemmas.List.{drop_all}
-use Rattle.seg_join.specs.MovedPostings.{moved_from, moved_from_all}
+use Rattle.seg_join.specs.MovedPostings.{moved_from_all}
 use Rattle.seg_join.proofs.Standings.{all_given_at, given_at, segment_within, source_joinable, source_has, next_given}
 use Rattle.seg_join.proofs.GivenPostings.{AreGiven, none_given, may_begin, may_take, given_more, all_given, may_close, is_joined}
 use Rattle.seg_join.proofs.term_merging.join_term.Goals as goal

@@ -1,4 +1,4 @@
-use Rattle.seg_join.specs.JoinedTerms.{IsOpenAt, source_of}
+use Rattle.seg_join.specs.JoinedTerms.{IsOpenAt}
 use Rattle.seg_join.proofs.NumberedParts.{part_at, one_source, all_pushed}
 use Rattle.seg_join.proofs.terms_joining.sources_of.Goals as goal
 

@@ -1,4 +1,4 @@
-use Rattle.std.proofs.Common.{◌∙◌, ap, Err}
+use Rattle.std.proofs.Common.{◌∙◌, ap}
 use Rattle.seg_meta.specs.View.{settings_of}
 use Rattle.seg_open.specs.OpenSegment.{contents_of}
 use Rattle.seg_refusals.specs.Inputs.{input_of}

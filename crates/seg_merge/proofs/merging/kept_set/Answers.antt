@@ -1,4 +1,4 @@
-use Rattle.seg_merge.proofs.FillSteps.{on_ok}
+use Rattle.seg_merge.proofs.WholeExits.{at-ok}
 use Rattle.seg_merge.proofs.FilteredSegments.{all_alive_kept, filtered_long}
 use Rattle.seg_merge.proofs.merging.kept_set.Goals as goal
 
@@ -10,4 +10,4 @@ pub returns-in_ok-clone-in-None-Some-clause-marked : goal.returns-in_ok-clone-in
 returns-in_ok-clone-in-None-Some-clause-marked c = filtered_long c.args.filter.now c.args.segment.now c.in-None-Some.ensures.size c.requires
 
 pub returns-in-Some-Some-clause-marked : goal.returns-in-Some-Some-clause-marked
-returns-in-Some-Some-clause-marked c = on_ok _ c.kept_of_both.result (filtered_long c.args.filter.now c.args.segment.now c.in-Some-Some.ensures.size c.requires)
+returns-in-Some-Some-clause-marked c = at-ok c.kept_of_both.result (filtered_long c.args.filter.now c.args.segment.now c.in-Some-Some.ensures.size c.requires)

@@ -1,92 +1,37 @@
-use Rattle.std.proofs.Common.{rules, ◌≡◌, ◌∙◌, sym, ap, refl, true, inl, Err}
-use Rattle.seg_values.specs.declared.error.SchemaCause.TheVariants as schema_cause
-use Rattle.seg_values.specs.declared.error.TantivyError.TheVariants.{SchemaError}
+use Rattle.std.proofs.Common.{◌≡◌, ◌∙◌, ap, sym, subst, true, None, Some, map, inl}
+use Rattle.std.specs.Option.{option_map, option_or}
+use Rattle.seg_values.specs.declared.error.ArgumentCause.TheVariants.{Later}
+use Rattle.seg_values.specs.declared.error.SchemaCause.TheVariants.{DeleteField}
+use Rattle.seg_values.specs.declared.error.TantivyError.TheVariants.{InvalidArgument, SchemaError}
+use Rattle.seg_meta.specs.View.{settings_of}
+use Rattle.seg_model.specs.Checked.{unless}
+use Rattle.seg_model.specs.Input.{Input}
+use Rattle.seg_model.specs.Valid.{schema_refusal}
 use Rattle.seg_segment.specs.Built.{is_built_schema}
-use Rattle.seg_refusals.specs.Inputs.{input_of}
+use Rattle.seg_input.specs.View.{operation_of}
+use Rattle.seg_refusals.specs.Admitted.{Fits}
+use Rattle.seg_refusals.specs.Inputs.{is_built_input}
 use Rattle.seg_refusals.specs.Refusals.{first_error}
-use Rattle.seg_refusals.proofs.FirstErrors.{all_fit, by_shape, by_start, by_deletes, first_comes, none_comes, cause_of, no_index}
+use Rattle.seg_refusals.proofs.FirstErrors.{all_fit, by_deletes}
 use Rattle.seg_refusals.proofs.checking.check_input.Goals as goal
 
-pub returns-in_err-check_shape-clause-first : goal.returns-in_err-check_shape-clause-first
-returns-in_err-check_shape-clause-first g c =
+pub returns-in-Some-unindexed_delete-clause-told : goal.returns-in-Some-unindexed_delete-clause-told
+returns-in-Some-unindexed_delete-clause-told g c =
     let knows = g.Z.Analyzers.knows c.args.analyzers.now in
-    let analyzer = g.Z.Analyzers.tokens_of c.args.analyzers.now in
-    let first = first_error knows analyzer (input_of c.args.schema.now c.args.settings.now c.args.operations.now c.args.cuts.now c.args.filters.now c.args.ids.now) in
-    let built : is_built_schema c.args.schema.now ≡ true = ap is_built_schema (sym c.fields.ensures) ∙ sym c.is_built_schema.ensures ∙ c.if-not-is_built_schema.false in
-    let e = c.in_err-check_shape.field-0.0 in
-    let is : c.from_residual.result ≡ Err e = search rules in
-    first_comes first c.from_residual.result e is
-    (by_shape knows analyzer c.args.schema.now c.args.settings.now c.args.operations.now c.args.cuts.now c.args.filters.now c.args.ids.now built e (c.in_err-check_shape.ensures.told c.args.schema.now analyzer))
-
-pub returns-in_err-check_shape-clause-causes : goal.returns-in_err-check_shape-clause-causes
-returns-in_err-check_shape-clause-causes g c =
-    let knows = g.Z.Analyzers.knows c.args.analyzers.now in
-    let analyzer = g.Z.Analyzers.tokens_of c.args.analyzers.now in
-    let first = first_error knows analyzer (input_of c.args.schema.now c.args.settings.now c.args.operations.now c.args.cuts.now c.args.filters.now c.args.ids.now) in
-    let built : is_built_schema c.args.schema.now ≡ true = ap is_built_schema (sym c.fields.ensures) ∙ sym c.is_built_schema.ensures ∙ c.if-not-is_built_schema.false in
-    let e = c.in_err-check_shape.field-0.0 in
-    let is : c.from_residual.result ≡ Err e = search rules in
-    cause_of first c.from_residual.result e is
-    (by_shape knows analyzer c.args.schema.now c.args.settings.now c.args.operations.now c.args.cuts.now c.args.filters.now c.args.ids.now built e (c.in_err-check_shape.ensures.told c.args.schema.now analyzer))
-
-pub returns-in_err-check_start-clause-first : goal.returns-in_err-check_start-clause-first
-returns-in_err-check_start-clause-first g c =
-    let knows = g.Z.Analyzers.knows c.args.analyzers.now in
-    let analyzer = g.Z.Analyzers.tokens_of c.args.analyzers.now in
-    let first = first_error knows analyzer (input_of c.args.schema.now c.args.settings.now c.args.operations.now c.args.cuts.now c.args.filters.now c.args.ids.now) in
-    let built : is_built_schema c.args.schema.now ≡ true = ap is_built_schema (sym c.fields.ensures) ∙ sym c.is_built_schema.ensures ∙ c.if-not-is_built_schema.false in
-    let e = c.in_err-check_start.field-0.0 in
-    let is : c.from_residual-in_err-check_start.result ≡ Err e = search rules in
-    first_comes first c.from_residual-in_err-check_start.result e is
-    (by_start knows analyzer c.args.schema.now c.args.settings.now c.args.operations.now c.args.cuts.now c.args.filters.now c.args.ids.now built (c.in_ok-check_shape.ensures.told c.args.schema.now analyzer) e c.in_err-check_start.ensures.told)
-
-pub returns-in_err-check_start-clause-causes : goal.returns-in_err-check_start-clause-causes
-returns-in_err-check_start-clause-causes g c =
-    let knows = g.Z.Analyzers.knows c.args.analyzers.now in
-    let analyzer = g.Z.Analyzers.tokens_of c.args.analyzers.now in
-    let first = first_error knows analyzer (input_of c.args.schema.now c.args.settings.now c.args.operations.now c.args.cuts.now c.args.filters.now c.args.ids.now) in
-    let built : is_built_schema c.args.schema.now ≡ true = ap is_built_schema (sym c.fields.ensures) ∙ sym c.is_built_schema.ensures ∙ c.if-not-is_built_schema.false in
-    let e = c.in_err-check_start.field-0.0 in
-    let is : c.from_residual-in_err-check_start.result ≡ Err e = search rules in
-    cause_of first c.from_residual-in_err-check_start.result e is
-    (by_start knows analyzer c.args.schema.now c.args.settings.now c.args.operations.now c.args.cuts.now c.args.filters.now c.args.ids.now built (c.in_ok-check_shape.ensures.told c.args.schema.now analyzer) e c.in_err-check_start.ensures.told)
-
-pub returns-in-Some-clause-first : goal.returns-in-Some-clause-first
-returns-in-Some-clause-first g c =
-    let knows = g.Z.Analyzers.knows c.args.analyzers.now in
-    let analyzer = g.Z.Analyzers.tokens_of c.args.analyzers.now in
-    let first = first_error knows analyzer (input_of c.args.schema.now c.args.settings.now c.args.operations.now c.args.cuts.now c.args.filters.now c.args.ids.now) in
-    let built : is_built_schema c.args.schema.now ≡ true = ap is_built_schema (sym c.fields.ensures) ∙ sym c.is_built_schema.ensures ∙ c.if-not-is_built_schema.false in
-    let e = SchemaError (schema_cause.DeleteField c.in-Some.at) in
-    first_comes first (Err e) e refl
-    (inl (by_deletes knows analyzer c.args.schema.now c.args.settings.now c.args.operations.now c.args.cuts.now c.args.filters.now c.args.ids.now built (c.in_ok-check_shape.ensures.told c.args.schema.now analyzer) c.in_ok-check_start.ensures.told ∙ ap no_index (sym c.unindexed_delete.ensures ∙ c.in-Some.is)))
-
-pub returns-in-Some-clause-causes : goal.returns-in-Some-clause-causes
-returns-in-Some-clause-causes g c =
-    let knows = g.Z.Analyzers.knows c.args.analyzers.now in
-    let analyzer = g.Z.Analyzers.tokens_of c.args.analyzers.now in
-    let first = first_error knows analyzer (input_of c.args.schema.now c.args.settings.now c.args.operations.now c.args.cuts.now c.args.filters.now c.args.ids.now) in
-    let built : is_built_schema c.args.schema.now ≡ true = ap is_built_schema (sym c.fields.ensures) ∙ sym c.is_built_schema.ensures ∙ c.if-not-is_built_schema.false in
-    let e = SchemaError (schema_cause.DeleteField c.in-Some.at) in
-    cause_of {T = Unit {0}} first (Err e) e refl
-    (inl (by_deletes knows analyzer c.args.schema.now c.args.settings.now c.args.operations.now c.args.cuts.now c.args.filters.now c.args.ids.now built (c.in_ok-check_shape.ensures.told c.args.schema.now analyzer) c.in_ok-check_start.ensures.told ∙ ap no_index (sym c.unindexed_delete.ensures ∙ c.in-Some.is)))
-
-pub returns-in-None-clause-first : goal.returns-in-None-clause-first
-returns-in-None-clause-first g c =
-    let knows = g.Z.Analyzers.knows c.args.analyzers.now in
-    let analyzer = g.Z.Analyzers.tokens_of c.args.analyzers.now in
-    let first = first_error knows analyzer (input_of c.args.schema.now c.args.settings.now c.args.operations.now c.args.cuts.now c.args.filters.now c.args.ids.now) in
-    let built : is_built_schema c.args.schema.now ≡ true = ap is_built_schema (sym c.fields.ensures) ∙ sym c.is_built_schema.ensures ∙ c.if-not-is_built_schema.false in
-    none_comes first _ (by_deletes knows analyzer c.args.schema.now c.args.settings.now c.args.operations.now c.args.cuts.now c.args.filters.now c.args.ids.now built (c.in_ok-check_shape.ensures.told c.args.schema.now analyzer) c.in_ok-check_start.ensures.told ∙ ap no_index (sym c.unindexed_delete.ensures ∙ c.in-None.is))
-
-pub returns-in-None-clause-admitted : goal.returns-in-None-clause-admitted
-returns-in-None-clause-admitted g c =
-    let analyzer = g.Z.Analyzers.tokens_of c.args.analyzers.now in
-    let built : is_built_schema c.args.schema.now ≡ true = ap is_built_schema (sym c.fields.ensures) ∙ sym c.is_built_schema.ensures ∙ c.if-not-is_built_schema.false in
-    by_deletes (g.Z.Analyzers.knows c.args.analyzers.now) analyzer c.args.schema.now c.args.settings.now c.args.operations.now c.args.cuts.now c.args.filters.now c.args.ids.now built (c.in_ok-check_shape.ensures.told c.args.schema.now analyzer) c.in_ok-check_start.ensures.told ∙ ap no_index (sym c.unindexed_delete.ensures ∙ c.in-None.is)
+    let F = g.Z.Analyzers.tokens_of c.args.analyzers.now in
+    let i = c.input.inside in
+    let meant : Input = record { schema = i.schema.now; settings = settings_of i.settings.now; operations = map operation_of i.operations.now; cuts = i.cuts.now; filters = i.filters.now; ids = i.ids.now } in
+    let built : is_built_input meant ≡ true = ap is_built_schema (sym c.fields.ensures) ∙ sym c.is_built_schema.ensures ∙ c.if-not-is_built_schema.false in
+    let begun : schema_refusal knows i.schema.now (settings_of i.settings.now) ≡ None =
+    sym (ap (λ b. option_or (unless b (InvalidArgument Later)) (schema_refusal knows i.schema.now (settings_of i.settings.now))) built) ∙ sym c.start_refusal.ensures.first ∙ c.in_default.is in
+    inl (subst (λ (x : Input). first_error knows F x ≡ Some (SchemaError (DeleteField c.in-Some-unindexed_delete.at))) c.input.view_is
+    (by_deletes knows F meant built (c.in_ok-check_shape.ensures i.schema.now F) begun
+    ∙ ap (option_map (λ at. SchemaError (DeleteField at))) (sym c.unindexed_delete.ensures ∙ c.in-Some-unindexed_delete.is)))
 
 pub returns-in-None-clause-fits : goal.returns-in-None-clause-fits
 returns-in-None-clause-fits g c =
-    let analyzer = g.Z.Analyzers.tokens_of c.args.analyzers.now in
-    let built : is_built_schema c.args.schema.now ≡ true = ap is_built_schema (sym c.fields.ensures) ∙ sym c.is_built_schema.ensures ∙ c.if-not-is_built_schema.false in
-    all_fit analyzer c.args.schema.now c.args.settings.now c.args.operations.now c.args.cuts.now c.args.filters.now c.args.ids.now built (c.in_ok-check_shape.ensures.told c.args.schema.now analyzer)
+    let F = g.Z.Analyzers.tokens_of c.args.analyzers.now in
+    let i = c.input.inside in
+    let meant : Input = record { schema = i.schema.now; settings = settings_of i.settings.now; operations = map operation_of i.operations.now; cuts = i.cuts.now; filters = i.filters.now; ids = i.ids.now } in
+    let built : is_built_input meant ≡ true = ap is_built_schema (sym c.fields.ensures) ∙ sym c.is_built_schema.ensures ∙ c.if-not-is_built_schema.false in
+    subst (λ (x : Input). Fits F x) c.input.view_is (all_fit (g.Z.Analyzers.knows c.args.analyzers.now) F meant built (c.in_ok-check_shape.ensures i.schema.now F))

@@ -1,37 +1,27 @@
-use Rattle.std.proofs.Common.{◌≡◌, List, ℕ, Some, IsTrue, OnOk, subst}
-use Rattle.std.specs.FinMap.{get}
-use Rattle.seg_common.specs.declared.name.FileName.TheVariants.{Part}
-use Rattle.seg_common.specs.declared.name.SegmentComponent.TheVariants.{Postings}
-use Rattle.seg_build.specs.Totals.{TotalsAreCounts}
+use Rattle.std.proofs.Common.{sym, subst}
 use Rattle.std.proofs.lemmas.Result.{on_ok_weaker}
-use Rattle.seg_values.specs.Tree.{Document}
-use Rattle.seg_model.specs.IndexOfFiles as index
-use Rattle.seg_build.specs.FieldTerms.{fields_of}
-use Rattle.seg_segment.specs.Forms.{segment_forms}
-use Rattle.seg_build.specs.SegmentWriting.{IsKeptOf, Writes}
-use Rattle.seg_build.proofs.Keeping.{of_parts}
-use Rattle.seg_segment.proofs.NoneMade.{none_made}
+use Rattle.std.specs.Option.{option_map}
+use Rattle.seg_build.specs.Finishing.{Finalizes, FinishesKept}
+use Rattle.seg_build.specs.SegmentWriting.{kept_of}
+use Rattle.seg_build.proofs.Finalized.{are_finished}
 use Rattle.seg_build.proofs.segment_writer.SegmentWriter.finalize.Goals as goal
 
-pub returns-in-Some-clause-stands : goal.returns-in-Some-clause-stands
-returns-in-Some-clause-stands g c =
-    let tokens = g.Z.Analyzers.tokens_of in
-    let F = tokens c.self.inside.analyzers.now in
-    let files = (g.W.Directory.state c.finish.new.directory).files in
-    let schema = c.self.inside.segment.schema in
-    subst (λ v. IsTrue (g.W.Directory.state c.args.directory.now).tells → OnOk c.finish.result ((documents : List Document) (stamps : List ℕ) → Writes (tokens v.0) documents stamps v.1 → index.StandsFor segment_forms files v.1.schema (tokens v.0) v.1.id documents)) c.self.view_is
-    (λ told. on_ok_weaker c.finish.result (λ all documents stamps w.
-    all F documents stamps (of_parts (IsKeptOf schema F documents stamps) c.self.inside.parts c.in-Some.parts c.in-Some.is w)) (c.finish.ensures.stands told))
+pub returns-in-Some-clause-does : goal.returns-in-Some-clause-does
+returns-in-Some-clause-does g c =
+    let a = g.W.Directory.state c.args.directory.now in
+    let b = g.W.Directory.state c.finish.new.directory in
+    let segment = c.self.inside.segment in
+    subst (λ v. Finalizes v.1 c.finish.result a b) c.self.view_is
+    (subst (λ o. FinishesKept segment.schema segment.meta.id (option_map kept_of o) c.finish.result a b) (sym c.in-Some.is) c.finish.ensures.does)
 
-pub returns-clause-seen : goal.returns-clause-seen
-returns-clause-seen g c = none_made c.args.self.1.id (g.W.Directory.state c.args.directory.now).seen
+pub returns-in-Some-clause-stands : goal.returns-in-Some-clause-stands
+returns-in-Some-clause-stands g c told =
+    let writer = c.args.self.1 in
+    on_ok_weaker c.finish.result (λ all documents stamps w. (all (g.Z.Analyzers.tokens_of c.args.self.0) documents stamps w).0)
+    (are_finished writer.schema writer.id c.finish.result _ _ told writer.kept (returns-in-Some-clause-does g c))
 
 pub returns-in-Some-clause-totals : goal.returns-in-Some-clause-totals
-returns-in-Some-clause-totals g c =
-    let tokens = g.Z.Analyzers.tokens_of in
-    let F = tokens c.self.inside.analyzers.now in
-    let files = (g.W.Directory.state c.finish.new.directory).files in
-    let schema = c.self.inside.segment.schema in
-    subst (λ v. IsTrue (g.W.Directory.state c.args.directory.now).tells → OnOk c.finish.result ((documents : List Document) (stamps : List ℕ) → Writes (tokens v.0) documents stamps v.1 → (postings : List ℕ) → get files (Part v.1.id Postings) ≡ Some postings → TotalsAreCounts postings (fields_of v.1.schema (tokens v.0) documents))) c.self.view_is
-    (λ told. on_ok_weaker c.finish.result (λ all documents stamps w.
-    all F documents stamps (of_parts (IsKeptOf schema F documents stamps) c.self.inside.parts c.in-Some.parts c.in-Some.is w)) (c.finish.ensures.totals told))
+returns-in-Some-clause-totals g c told =
+    let writer = c.args.self.1 in
+    on_ok_weaker c.finish.result (λ all documents stamps w. (all (g.Z.Analyzers.tokens_of c.args.self.0) documents stamps w).1)
+    (are_finished writer.schema writer.id c.finish.result _ _ told writer.kept (returns-in-Some-clause-does g c))

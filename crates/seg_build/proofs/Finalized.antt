@@ -1,0 +1,59 @@
+-- What a writer kept, once its files are made.
+use Rattle.std.proofs.Common.{◌≡◌, ℕ, List, Option, Some, None, Result, IsTrue, sym, subst}
+use Rattle.std.specs.Prelude.{OnOk, IsSomeAnd}
+use Rattle.std.specs.FinMap.{get}
+use Rattle.std.proofs.lemmas.Result.{on_ok_weaker}
+use Rattle.seg_common.specs.declared.name.FileName.TheVariants.{Part}
+use Rattle.seg_common.specs.declared.name.SegmentComponent.TheVariants.{Postings}
+use Rattle.seg_values.specs.Tree.{Document}
+use Rattle.seg_values.specs.declared.error.TantivyError.{TantivyError}
+use Rattle.seg_model.specs.Fields.{Schema, Analyzer}
+use Rattle.seg_model.specs.IndexOfFiles as index
+use Rattle.seg_directory.specs.State.{DirectoryState}
+use Rattle.seg_directory.specs.Works.{Works}
+use Rattle.seg_segment.specs.Forms.{segment_forms}
+use Rattle.seg_segment.specs.SegmentFiles.{HasFiles, write_steps}
+use Rattle.seg_segment.proofs.FilesMade.{are_made}
+use Rattle.seg_segment.proofs.OneContents.{one}
+use Rattle.seg_segment.proofs.SpelledFiles.{stands_there}
+use Rattle.seg_build.specs.FieldTerms.{fields_of}
+use Rattle.seg_build.specs.Finishing.{AreOfKept, Finishes, FinishesKept, IsMadeOfKept, starves, makes}
+use Rattle.seg_build.specs.Kept.{Kept}
+use Rattle.seg_build.specs.SegmentWriting.{IsKeptOf}
+use Rattle.seg_build.specs.Totals.{TotalsAreCounts}
+use Rattle.seg_build.specs.declared.memory_segment.MemorySegment.{MemorySegment}
+
+of_kept : (schema : Schema) (kept : Kept) (made : MemorySegment) → IsMadeOfKept schema kept made → AreOfKept schema kept made.files
+of_kept schema kept made is analyzer documents stamps are = record {
+  stand = is.stand analyzer documents stamps are;
+  totals = subst (TotalsAreCounts made.files.postings) (is.fields analyzer documents stamps are) is.totals;
+}
+
+-- the files of a segment in memory are made
+pub finishes : {T : Type 0} {schema : Schema} {kept : Kept} {made : MemorySegment} {id at : ℕ} {r : Result T TantivyError} {a b : DirectoryState} → IsMadeOfKept schema kept made → at ≡ id → Works (write_steps at made.files) r a b → Finishes schema id kept r a b
+finishes {schema = schema} {kept = kept} {made = made} {r = r} {a = a} {b = b} is same works =
+    makes made.files (of_kept schema kept made is) (subst (λ (i : ℕ). Works (write_steps i made.files) r a b) same works)
+
+module _ {T : Type 0} (schema : Schema) (id : ℕ) (r : Result T TantivyError) (a b : DirectoryState) (told : IsTrue a.tells) where
+  -- the files, where they are made
+  abbrev Made : Kept → Type 0
+  Made kept = (analyzer : Analyzer) (documents : List Document) (stamps : List ℕ) → IsKeptOf schema analyzer documents stamps kept →
+      index.StandsFor segment_forms b.files schema analyzer id documents
+      × ((postings : List ℕ) → get b.files (Part id Postings) ≡ Some postings → TotalsAreCounts postings (fields_of schema analyzer documents))
+
+  kept_made : (kept : Kept) → Finishes schema id kept r a b → OnOk r (Made kept)
+  kept_made kept (starves is same) = subst (λ (x : Result T TantivyError). OnOk x (Made kept)) (sym is) tt
+  kept_made kept (makes files of works) = on_ok_weaker r
+      (λ (has : HasFiles b.files id files) analyzer documents stamps are. (
+        stands_there schema analyzer documents files b.files id (of analyzer documents stamps are).stand has,
+        λ postings there. subst (λ (bytes : List ℕ). TotalsAreCounts bytes (fields_of schema analyzer documents)) (one (get b.files (Part id Postings)) files.postings postings has.1.1.0 there) (of analyzer documents stamps are).totals,
+      )) (are_made id files r told works)
+
+  -- they stand for the documents, and the totals are counts
+  pub are_finished : (kept : Option Kept) → FinishesKept schema id kept r a b
+      → OnOk r ((analyzer : Analyzer) (documents : List Document) (stamps : List ℕ) → IsSomeAnd kept (IsKeptOf schema analyzer documents stamps) →
+      index.StandsFor segment_forms b.files schema analyzer id documents
+      × ((postings : List ℕ) → get b.files (Part id Postings) ≡ Some postings → TotalsAreCounts postings (fields_of schema analyzer documents)))
+  are_finished None (is, same) = subst (λ (x : Result T TantivyError). OnOk x ((analyzer : Analyzer) (documents : List Document) (stamps : List ℕ) → ⊥ → index.StandsFor segment_forms b.files schema analyzer id documents
+      × ((postings : List ℕ) → get b.files (Part id Postings) ≡ Some postings → TotalsAreCounts postings (fields_of schema analyzer documents)))) (sym is) tt
+  are_finished (Some kept) finishes = kept_made kept finishes

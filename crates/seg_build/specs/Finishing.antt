@@ -1,0 +1,46 @@
+-- The six files of what a writer kept, made in a directory.
+use Rattle.std.specs.Prelude.{ℕ, ◌≡◌, List, Option, Some, None, Result, Err}
+use Rattle.seg_values.specs.Tree.{Document}
+use Rattle.seg_values.specs.declared.error.TantivyError.{TantivyError}
+use Rattle.seg_values.specs.declared.error.TantivyError.TheVariants.{SystemError, OutOfMemory}
+use Rattle.seg_model.specs.Fields.{Schema, Analyzer}
+use Rattle.seg_directory.specs.State.{DirectoryState}
+use Rattle.seg_directory.specs.Works.{Works}
+use Rattle.seg_segment.specs.SegmentFiles.{write_steps}
+use Rattle.seg_segment.specs.Standing.{StandFor}
+use Rattle.seg_segment.specs.declared.segment_files.SegmentFiles.{SegmentFiles}
+use Rattle.seg_build.specs.FieldTerms.{fields_of}
+use Rattle.seg_build.specs.Kept.{Kept}
+use Rattle.seg_build.specs.SegmentWriting.{SegmentWriting, IsKeptOf}
+use Rattle.seg_build.specs.declared.memory_segment.MemorySegment.{MemorySegment}
+use Rattle.seg_build.specs.Totals.{TotalsAreCounts}
+
+-- six files stand for documents, and the totals of their postings are counts
+pub record AreOfDocuments (schema : Schema) (analyzer : Analyzer) (documents : List Document) (files : SegmentFiles) : Type 0 where
+  pub stand : StandFor schema analyzer documents files
+  pub totals : TotalsAreCounts files.postings (fields_of schema analyzer documents)
+
+-- six files are of any documents that made what is kept
+abbrev pub AreOfKept : Schema → Kept → SegmentFiles → Type 0
+AreOfKept schema kept files = (analyzer : Analyzer) (documents : List Document) (stamps : List ℕ) → IsKeptOf schema analyzer documents stamps kept → AreOfDocuments schema analyzer documents files
+
+-- a segment in memory is of what is kept: its files and terms, and the stamps of its documents
+pub record IsMadeOfKept (schema : Schema) (kept : Kept) (made : MemorySegment) : Type 0 where
+  pub stand : (analyzer : Analyzer) (documents : List Document) (stamps : List ℕ) → IsKeptOf schema analyzer documents stamps kept → StandFor schema analyzer documents made.files
+  pub fields : (analyzer : Analyzer) (documents : List Document) (stamps : List ℕ) → IsKeptOf schema analyzer documents stamps kept → made.fields ≡ fields_of schema analyzer documents
+  pub totals : TotalsAreCounts made.files.postings made.fields
+  pub stamps : made.stamps.items ≡ kept.stamps
+
+-- what is kept is written: out of memory before any call, or six files of it are made under the id
+pub data Finishes {T : Type 0} (schema : Schema) (id : ℕ) (kept : Kept) (result : Result T TantivyError) (before after : DirectoryState) : Type 0 where
+  starves : result ≡ Err OutOfMemory → after ≡ before → Finishes schema id kept result before after
+  makes : (files : SegmentFiles) → AreOfKept schema kept files → Works (write_steps id files) result before after → Finishes schema id kept result before after
+
+-- where anything is kept; else there is only an error
+abbrev pub FinishesKept : {T : Type 0} → Schema → ℕ → Option Kept → Result T TantivyError → DirectoryState → DirectoryState → Type 0
+FinishesKept schema id None result before after = (result ≡ Err SystemError) × (after ≡ before)
+FinishesKept schema id (Some kept) result before after = Finishes schema id kept result before after
+
+-- what a writer has is written
+abbrev pub Finalizes : {T : Type 0} → SegmentWriting → Result T TantivyError → DirectoryState → DirectoryState → Type 0
+Finalizes writer result before after = FinishesKept writer.schema writer.id writer.kept result before after

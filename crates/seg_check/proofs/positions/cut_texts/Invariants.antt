@@ -1,0 +1,13 @@
+use Rattle.std.proofs.Common.{◌≡◌, take, drop}
+use Rattle.seg_model.specs.Checked.{order_refusal}
+use Rattle.seg_check.specs.AllFields.{HasCut}
+use Rattle.seg_check.proofs.positions.cut_texts.Given as goal
+
+abbrev pub invariant-loop-at : goal.invariant-loop-at
+invariant-loop-at g l =
+    let analyzer = g.Z.Analyzers.tokens_of l.analyzers in
+    record {
+      -- what is left decides
+      order : order_refusal l.schema analyzer (drop l.at l.document) ≡ order_refusal l.schema analyzer l.document;
+      cut : HasCut l.schema analyzer l.document (take l.at l.document) l.cut;
+    }

@@ -1,0 +1,26 @@
+use Rattle.std.proofs.Common.{◌-◌, ◌^◌, ℕ, List, min, map, sym, ap, subst, ◌∙◌}
+use Rattle.std.specs.List.{AllByRecursion}
+use Rattle.seg_join.specs.JoinedTerms.{AreJoined, IsOpenAt, source_of, tokens_in}
+use Rattle.seg_join.specs.MovedPostings.{SourceTerms, Ascend}
+use Rattle.seg_join.specs.NewIds.{NumberedSegment, parts_of}
+use Rattle.seg_segment.specs.FieldsWritten.{IsWhole}
+use Rattle.seg_join.proofs.JoinedField.{joinable, whole}
+use Rattle.seg_join.proofs.NumberedParts.{all_open}
+use Rattle.seg_join.proofs.terms_joining.NumberedPartsTermsByField.write_terms.Goals as goal
+
+pub sources_of-requires : goal.sources_of-requires
+sources_of-requires c =
+    subst (λ (ns : List NumberedSegment). AllByRecursion (IsOpenAt c.args.field) (parts_of ns)) (sym c.as_slice.ensures) (all_open c.requires.can.entry c.args.field (parts_of c.args.self.now) c.requires.can.segments)
+
+pub write_terms-requires-clause-joinable : goal.write_terms-requires-clause-joinable
+write_terms-requires-clause-joinable c =
+    let up = subst (AllByRecursion (λ (s : SourceTerms). Ascend s.terms)) (sym c.deref.ensures.value) c.in_ok-sources.ensures.ascend in
+    joinable c.args.field c.args.self.now c.requires.can.ids c.requires.can.few c.deref.result.now (c.deref.ensures.value ∙ c.in_ok-sources.ensures.are ∙ ap (map (source_of c.args.field)) c.as_slice.ensures) up c.requires.can.entry c.requires.can.segments
+
+pub returns-clause-ok : goal.returns-clause-ok
+returns-clause-ok c =
+    let up = subst (AllByRecursion (λ (s : SourceTerms). Ascend s.terms)) (sym c.deref.ensures.value) c.in_ok-sources.ensures.ascend in
+    let total : ℕ → ℕ = λ field. min (tokens_in field (parts_of c.args.self.now)) (2 ^ 64 - 1) in
+    subst (IsWhole total (AreJoined c.args.self.now) c.args.field) (sym c.into_field.ensures)
+    (whole c.args.field c.args.self.now c.requires.can.ids c.requires.can.few c.deref.result.now (c.deref.ensures.value ∙ c.in_ok-sources.ensures.are ∙ ap (map (source_of c.args.field)) c.as_slice.ensures) up
+    total c.new-writer.result c.write_terms.new.writer (c.new-writer.ensures ∙ c.requires.begins) c.in_ok-write_terms.ensures.ok)

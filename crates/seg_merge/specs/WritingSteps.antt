@@ -1,0 +1,28 @@
+-- What is done with a directory in turn while an index is written.
+use Rattle.std.specs.Prelude.{List, [], ◌∷◌, ◌++◌, ℕ}
+use Rattle.seg_directory.specs.Calls.{synced}
+use Rattle.seg_directory.specs.Works.{Step, calls}
+use Rattle.seg_meta.specs.MetaSteps.{create_steps, save_steps}
+use Rattle.seg_meta.specs.MetaText.{meta_text}
+use Rattle.seg_meta.specs.Saving.{empty_meta}
+use Rattle.seg_model.specs.Fields.{Schema}
+use Rattle.seg_model.specs.IndexOfFiles.{Meta}
+use Rattle.seg_model.specs.Input.{Settings}
+use Rattle.seg_segment.specs.SegmentFiles.{write_steps}
+use Rattle.seg_segment.specs.declared.segment_files.SegmentFiles.{SegmentFiles}
+
+-- an index without segments is begun where there is no file
+abbrev pub begin_steps : Settings → Schema → List Step
+begin_steps settings schema = create_steps (meta_text (empty_meta settings schema))
+
+-- a meta is saved, and reaches the disk
+abbrev pub publish_steps : Meta → List Step
+publish_steps meta = save_steps (meta_text meta) ++ calls synced ∷ []
+
+-- an index that was begun is filled with the six files of one segment, and then its meta is saved
+abbrev pub fill_one_steps : Meta → ℕ → SegmentFiles → List Step
+fill_one_steps meta id files = write_steps id files ++ publish_steps meta
+
+-- an index of one segment is begun, and filled
+abbrev pub write_one_steps : Meta → ℕ → SegmentFiles → List Step
+write_one_steps meta id files = begin_steps meta.settings meta.schema ++ fill_one_steps meta id files

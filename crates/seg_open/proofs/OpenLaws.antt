@@ -1,0 +1,68 @@
+-- What the opening of a segment says of the directory.
+use Rattle.std.proofs.Common.{◌≡◌, ℕ, List, [], ◌∷◌, Option, Some, None, Result, Ok, Err, IfOk, IfErr, refl, sym, subst}
+use Rattle.std.specs.Prelude.{IfSome, IsTrue}
+use Rattle.std.specs.List.{AllByRecursion}
+use Rattle.seg_common.specs.declared.name.SegmentComponent.{SegmentComponent}
+use Rattle.seg_values.specs.declared.error.TantivyError.{TantivyError}
+use Rattle.seg_model.specs.Contents.{Contents}
+use Rattle.seg_model.specs.Fields.{Schema}
+use Rattle.seg_directory.proofs.WorkLaws.{all_went}
+use Rattle.seg_directory.specs.Files.{NamedFiles}
+use Rattle.seg_directory.specs.State.{DirectoryState}
+use Rattle.seg_directory.specs.Works.{AllSuit, passes}
+use Rattle.seg_segment.specs.Holds.{Holds}
+use Rattle.seg_segment.specs.SegmentFiles.{HasFiles, bytes_of}
+use Rattle.seg_segment.specs.SegmentRead.{IsNoDamage, read_steps}
+use Rattle.seg_segment.specs.declared.segment_files.SegmentFiles.{SegmentFiles}
+use Rattle.seg_segment.proofs.OnlyReads.{FindWhole, FindsDamage, OnlyReads, found_whole, reads_stay, suits_both, whole_both}
+use Rattle.seg_segment.proofs.ReadLaws.{has_read, only_six, six_whole}
+use Rattle.seg_segment.proofs.SpelledFiles.{held_spells}
+use Rattle.seg_open.specs.Disagreement.{Disagree, up_to}
+use Rattle.seg_open.specs.OpenSegment.{OpenSegment, contents_of}
+use Rattle.seg_open.specs.SegmentOpened.{IsDamageOf, Opens, open_steps}
+
+module _ (id : ℕ) (schema : Schema) (documents : ℕ) where
+  -- a file that can't be completed is damage
+  finds : (files : SegmentFiles) (refusal : Option TantivyError) → IfSome refusal (IsDamageOf id schema documents files) → FindsDamage refusal
+  finds files None damaged = tt
+  finds files (Some e) damaged = subst (λ x. FindsDamage (Some x)) (sym damaged.told) tt
+
+  pub open_only : (files : SegmentFiles) (refusal : Option TantivyError) → IfSome refusal (IsDamageOf id schema documents files) → OnlyReads (open_steps id files refusal)
+  open_only files refusal damaged = (finds files refusal damaged, tt)
+
+  -- files that were read and opened are there
+  pub open_has : (directory : NamedFiles) (files : SegmentFiles) (refusal : Option TantivyError) → AllSuit (open_steps id files refusal) directory → HasFiles directory id files
+  open_has directory files refusal suits = has_read directory id files (suits_both (read_steps id files) (passes refusal ∷ []) directory (only_six id files) suits).0
+
+  module _ (directory : NamedFiles) (contents : Contents) (held : Holds directory id schema contents) (number : contents.documents ≡ documents) where
+    same : (files : SegmentFiles) (c : SegmentComponent) → HasFiles directory id files → Disagree schema documents files c → ⊥
+    same files c has disagree = disagree files contents (all (up_to c)) (held_spells directory id schema files contents has held) number
+      where
+        all : (cs : List SegmentComponent) → AllByRecursion (λ c. bytes_of files c ≡ bytes_of files c) cs
+        all [] = tt
+        all (c ∷ cs) = (refl, all cs)
+
+    no_damage : (files : SegmentFiles) (refusal : Option TantivyError) → IfSome refusal (IsDamageOf id schema documents files) → HasFiles directory id files → refusal ≡ None
+    no_damage files None damaged has = refl
+    no_damage files (Some e) damaged has = absurd (same files damaged.component has damaged.disagree)
+
+    -- files that hold contents of this many documents are not damaged
+    pub open_whole : (files : SegmentFiles) (refusal : Option TantivyError) → IfSome refusal (IsDamageOf id schema documents files) → FindWhole directory (open_steps id files refusal)
+    open_whole files refusal damaged =
+        whole_both directory (read_steps id files) (passes refusal ∷ []) (six_whole directory id held.files files held.there)
+        (λ suits. (no_damage files refusal damaged (has_read directory id files suits), tt))
+
+  module _ (a b : DirectoryState) where
+    -- what is open is held
+    pub opens_held : (r : Result OpenSegment TantivyError) → Opens id schema documents r a b → IsTrue a.tells → IfOk r (λ s. Holds b.files id schema (contents_of s))
+    opens_held (Ok s) o told = record {
+      files = o.files;
+      there = subst (λ (fs : NamedFiles). HasFiles fs id o.files) (sym (reads_stay (open_only o.files o.refusal o.damaged) o.works).files) (open_has a.files o.files o.refusal ((all_went o.works).suits told));
+      spelled = o.is.spell;
+    }
+    opens_held (Err e) o told = tt
+
+    -- a segment that is whole is not found damaged
+    pub opens_whole : (r : Result OpenSegment TantivyError) → Opens id schema documents r a b → IsTrue a.tells → (contents : Contents) → Holds a.files id schema contents → contents.documents ≡ documents → IfErr r IsNoDamage
+    opens_whole (Ok s) o told contents held number = tt
+    opens_whole (Err e) o told contents held number = found_whole told (open_whole a.files contents held number o.files o.refusal o.damaged) o.works

@@ -1,0 +1,83 @@
+//! The terms of the indexed fields of a segment, written field by field.
+ghost use Rattle.std.specs.Prelude.{◌≡◌, ◌<◌, ◌≤◌, ◌-◌, ◌^◌, true, ℕ, List, Some, IfOk, IfErr, IfSome, IsSomeAnd, OnOk};
+ghost use Rattle.std.specs.List.{slice_get};
+ghost use Rattle.seg_directory.specs.Composite.{low_after};
+ghost use Rattle.seg_model.specs.Fields.{is_indexed};
+ghost use Rattle.seg_postings.specs.FieldWriting.{TermWritten, fresh};
+ghost use Rattle.seg_segment.specs.FieldsWritten.{AddsIfIndexed, HaveFields, IsWhole};
+ghost use Rattle.seg_values.specs.declared.schema.FieldEntry.{FieldEntry};
+
+use seg_postings::{FieldSerializer, InvertedIndexSerializer, PostingsError};
+use seg_values::{Field, FieldEntry, Schema};
+use std::alloc::Global;
+
+/// The terms of each field of a segment that is made: of documents that were indexed, or of segments that are joined.
+pub trait TermsByField {
+    /// The total of the tokens of a field.
+    ghost total: { Self → ℕ → ℕ };
+
+    /// Whether these are the terms of a field.
+    ghost has: { Self → ℕ → List TermWritten → Type 0 };
+
+    /// Whether the terms of a field can be written.
+    ghost can_write: { Self → ℕ → Type 0 };
+
+    /// The total of the tokens of a field.
+    fn total_num_tokens(&self, field: Field) -> Result<u64, PostingsError>
+        requires { can_write self.now field }
+        ensures ok { IfOk result (λ n. n ≡ total self.now field) }
+        ensures err { IfErr result (λ e. e ≡ PostingsError.OutOfMemory) };
+
+    /// Writes all terms of a field, of which nothing was written.
+    fn write_terms(
+        &self,
+        alloc: Global,
+        field: Field,
+        writer: FieldSerializer,
+    ) -> Result<FieldSerializer, PostingsError>
+        requires can { can_write self.now field }
+        requires begins { writer ≡ Some (fresh field (total self.now field)) }
+        ensures ok { IfOk result (IsWhole (total self.now) (has self.now) field) }
+        ensures err { IfErr result (λ e. e ≡ PostingsError.OutOfMemory) };
+}
+
+/// The files of terms, postings and positions, with the terms of each indexed field.
+pub fn write_fields<T: TermsByField>(
+    alloc: Global,
+    schema: &Schema,
+    terms: &T,
+) -> Result<InvertedIndexSerializer, PostingsError>
+    requires { (field : ℕ) (entry : FieldEntry) → slice_get schema.now field ≡ Some entry → is_indexed entry ≡ true → T.can_write terms.now field }
+    ensures ok { IfOk result (λ files. IsSomeAnd files (HaveFields (T.total terms.now) (T.has terms.now) schema.now)) }
+    ensures err { IfErr result (λ e. e ≡ PostingsError.OutOfMemory) }
+{
+    schema.fields_are_valid();
+    let mut files = InvertedIndexSerializer::new(alloc);
+    let entries = schema.fields();
+    for at in 0..entries.len() {
+        let field = Field::from_field_id(at as u32);
+        write_field(alloc, &entries[at], field, terms, &mut files)?;
+    }
+    Ok(files)
+}
+
+/// Adds the terms of a field, where it is indexed. It is above those added before.
+fn write_field<T: TermsByField>(
+    alloc: Global,
+    entry: &FieldEntry,
+    field: Field,
+    terms: &T,
+    files: &mut InvertedIndexSerializer,
+) -> Result<(), PostingsError>
+    requires can { is_indexed entry.now ≡ true → T.can_write terms.now field }
+    requires ascends { IfSome files.old (λ f. (low_after 0 f.terms ≤ field) × (low_after 0 f.postings ≤ field) × (low_after 0 f.positions ≤ field)) }
+    requires limit { field < 2 ^ 32 - 1 }
+    ensures ok { OnOk result (AddsIfIndexed (T.total terms.now) (T.has terms.now) (is_indexed entry.now) field files.old files.new) }
+    ensures err { IfErr result (λ e. e ≡ PostingsError.OutOfMemory) }
+{
+    if !entry.is_indexed() {
+        return Ok(());
+    }
+    let writer = files.new_field(field, terms.total_num_tokens(field)?)?;
+    terms.write_terms(alloc, field, writer)?.close(files)
+}
