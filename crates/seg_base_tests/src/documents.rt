@@ -3,9 +3,10 @@
 use seg_check::check_document;
 use seg_testing::{Repeats, entry, schema};
 use seg_values::{
-    ArgumentCause, Bytes, Field, FieldEntry, FieldKind, IndexOption, Members, OwnedValue, Schema,
-    SchemaBuilder, SchemaCause, TResult, TantivyDocument, TantivyError, Text, Values,
+    ArgumentCause, Field, FieldEntry, FieldKind, IndexOption, Members, OwnedValue, Schema,
+    SchemaBuilder, SchemaCause, TResult, TantivyDocument, TantivyError, Values,
 };
+use seg_words::{Bytes, Text};
 use std::alloc::{AllocError, Global};
 use std::test::Fail;
 

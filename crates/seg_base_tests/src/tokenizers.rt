@@ -1,6 +1,6 @@
 //! Texts, and the tokens that they are cut into.
 
-use seg_values::{DefaultTokenizer, RawTokenizer, Tokenizer, Tokens, WhitespaceTokenizer};
+use seg_words::{DefaultTokenizer, RawTokenizer, Tokenizer, Tokens, WhitespaceTokenizer};
 use std::alloc::{AllocError, Global};
 use std::test::Fail;
 

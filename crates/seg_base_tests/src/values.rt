@@ -2,7 +2,7 @@
 
 use seg_common::DateTime;
 use seg_testing::schema;
-use seg_values::{Facet, Field, FieldKind, IndexOption, Schema, Term, ValueError};
+use seg_values::{Facet, Field, FieldKind, FieldType, IndexOption, Schema, Term, ValueError};
 use std::alloc::Global;
 use std::net::Ipv6Addr;
 use std::test::Fail;
@@ -109,4 +109,20 @@ fn names_with_paths(rt: HostRuntime) -> Result<(), Fail> {
     }
     assert!(rt; schema.find_field_with_default("b.a", None).is_none());
     Ok(())
+}
+
+#[test]
+fn types_of_fields_have_an_order(rt: HostRuntime) {
+    let types = [
+        FieldType::Bytes,
+        FieldType::Date,
+        FieldType::Facet,
+        FieldType::I64,
+        FieldType::Json,
+        FieldType::Bool,
+        FieldType::IpAddr,
+        FieldType::Str,
+        FieldType::U64,
+    ];
+    assert!(rt; types.windows(2).all(|pair| pair[0] < pair[1]));
 }

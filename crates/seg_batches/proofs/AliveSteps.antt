@@ -8,13 +8,14 @@ use Rattle.seg_directory.specs.Calls.{made}
 use Rattle.seg_directory.specs.State.{DirectoryState}
 use Rattle.seg_directory.specs.Works.{Works, calls}
 use Rattle.seg_bits.specs.BitSets.{set_of}
-use Rattle.seg_model.specs.IndexOfFiles.{Deletes}
+use Rattle.seg_meta.specs.IndexOfFiles.{Deletes}
 use Rattle.seg_batches.specs.AliveWriting.{TellMarks, WritesAlive, alive_step}
 use Rattle.seg_batches.specs.Segments.{WrittenSegment, deletes_of}
 
 module _ (stamp : ℕ) (s : WrittenSegment) where
   -- without deletes there is no file
-  pub not_wanted : (a : DirectoryState) → deletes_of stamp s.alive ≡ None → WritesAlive {T = Unit {0}} stamp (s ∷ []) (Ok tt) a a
+  pub not_wanted : (a : DirectoryState) → deletes_of stamp s.alive ≡ None
+      → WritesAlive {T = Unit {0}} stamp (s ∷ []) (Ok tt) a a
   not_wanted a none = record {
     files = [] ∷ [];
     tell = (subst (TellMarks [] s.documents s.alive) (sym none) tt, tt);
@@ -27,7 +28,8 @@ module _ (stamp : ℕ) (s : WrittenSegment) where
   starved a = record { files = []; tell = tt; whole = tt; works = record { on = (refl, refl) } }
 
   -- with deletes there is a file, whose bytes tell
-  pub wanted : (named number : ℕ) (file bytes : List ℕ) (set : List Bool) (r : Result (Unit {0}) TantivyError) (a b : DirectoryState) → named ≡ s.id → deletes_of stamp s.alive ≡ Some (record { number = number; stamp = stamp })
+  pub wanted : (named number : ℕ) (file bytes : List ℕ) (set : List Bool) (r : Result (Unit {0}) TantivyError) (a b : DirectoryState)
+      → named ≡ s.id → deletes_of stamp s.alive ≡ Some (record { number = number; stamp = stamp })
       → file ≡ bytes → set_of bytes ≡ Some set → set ≡ s.alive → length set ≡ s.documents → Works (calls (made (Alive named stamp) file) ∷ []) r a b → WritesAlive stamp (s ∷ []) r a b
   wanted named number file bytes set r a b same some is holds of counted works = record {
     files = file ∷ [];

@@ -1,27 +1,17 @@
 -- The batches of operations, one after the other: where each begins and ends, and what it leaves to those after it.
-use Rattle.std.proofs.Common.{◌≡◌, ℕ, zero, suc, ◌+◌, ◌-◌, ◌<◌, ◌≤◌, Bool, true, false, List, [], ◌∷◌, ◌++◌, length, take, drop, Some, None, Option, refl, sym, ap, ◌∙◌, subst, inl, inr, arith}
+use Rattle.std.proofs.Common.{◌≡◌, ℕ, zero, suc, ◌+◌, ◌-◌, ◌<◌, ◌≤◌, true, List, [], ◌∷◌, length, take, drop, Some, None, Option, refl, sym, ap, ◌∙◌, subst, inl, inr, arith}
 use Rattle.std.specs.Prelude.{◌⊎◌, ◌&&◌, nat_le, unwrap_or, slice_range}
 use Rattle.std.specs.List.{list_all, slice_get, enumerate_from}
-use Rattle.std.proofs.lemmas.Bool.{false≢true}
-use Rattle.std.proofs.lemmas.Bool.Decides.{nat_tests}
+use Rattle.std.proofs.lemmas.Bool.{and_parts, le-leb, leb-true}
 use Rattle.std.proofs.lemmas.Option.{slice_get_within}
-use Rattle.std.proofs.lemmas.List.{take-append-drop, take-take, take_all, drop_all, drop-drop, drop-take, length-drop}
+use Rattle.std.proofs.lemmas.List.{take_all, drop_all, drop-drop, length-drop}
+use Rattle.seg_common.proofs.Lists.{drop-slice_get}
 use Rattle.seg_model.specs.Fields.{Schema, Analyzer}
 use Rattle.seg_model.specs.Operations.{Operation, Batch, additions, alive_after, batches_from}
 use Rattle.seg_model.specs.Refused.{cut_from}
 use Rattle.seg_model.specs.Valid.{never_falls, cuts_fit}
 use Rattle.seg_batches.specs.Writing.{batch_between}
-use Rattle.seg_batches.proofs.Members.{left_from, not_within}
-
-pub both : (a b : Bool) → (a && b) ≡ true → (a ≡ true) × (b ≡ true)
-both true b h = (refl, h)
-both false b h = absurd (false≢true h)
-
-at_most : (n m : ℕ) → nat_le n m ≡ true → n ≤ m
-at_most n m h = grind (arith, nat_tests)
-
-from_zero : (n : ℕ) → nat_le 0 n ≡ true
-from_zero n = grind (arith, nat_tests)
+use Rattle.seg_batches.proofs.Members.{not_within}
 
 -- members with their numbers, in two parts
 take-enumerate : {X : Type 0} (n k : ℕ) (xs : List X) → take n (enumerate_from k xs) ≡ enumerate_from k (take n xs)
@@ -29,10 +19,12 @@ take-enumerate zero k xs = refl
 take-enumerate (suc n) k [] = refl
 take-enumerate (suc n) k (x ∷ xs) = ap (λ l. (k, x) ∷ l) (take-enumerate n (k + 1) xs)
 
-drop-enumerate : {X : Type 0} (n k : ℕ) (xs : List X) → drop n (enumerate_from k xs) ≡ enumerate_from (k + n) (drop n xs)
+drop-enumerate : {X : Type 0} (n k : ℕ) (xs : List X)
+    → drop n (enumerate_from k xs) ≡ enumerate_from (k + n) (drop n xs)
 drop-enumerate zero k xs = ap (λ m. enumerate_from m xs) (let z : k ≡ k + 0 = omega arith in z)
 drop-enumerate (suc n) k [] = refl
-drop-enumerate (suc n) k (x ∷ xs) = drop-enumerate n (k + 1) xs ∙ ap (λ m. enumerate_from m (drop n xs)) (let z : k + 1 + n ≡ k + suc n = omega arith in z)
+drop-enumerate (suc n) k (x ∷ xs) =
+    drop-enumerate n (k + 1) xs ∙ ap (λ m. enumerate_from m (drop n xs)) (let z : k + 1 + n ≡ k + suc n = omega arith in z)
 
 -- ---- places
 
@@ -49,18 +41,20 @@ pub record IsPlace (operations : List Operation) (cuts : List ℕ) (at first : �
 
 never_falls-zero : (cuts : List ℕ) → never_falls cuts ≡ true → never_falls (0 ∷ cuts) ≡ true
 never_falls-zero [] h = refl
-never_falls-zero (cut ∷ cuts) h = ap (λ b. b && never_falls (cut ∷ cuts)) (from_zero cut) ∙ h
+never_falls-zero (cut ∷ cuts) h = ap (λ b. b && never_falls (cut ∷ cuts)) (le-leb 0 cut (omega arith)) ∙ h
 
-pub first_place : (operations : List Operation) (cuts : List ℕ) → cuts_fit operations cuts ≡ true → IsPlace operations cuts 0 0
+pub first_place : (operations : List Operation) (cuts : List ℕ) → cuts_fit operations cuts ≡ true
+    → IsPlace operations cuts 0 0
 first_place operations cuts h =
-    let parts = both (never_falls cuts) (list_all (λ cut. nat_le cut (length operations)) cuts) h in
+    let parts = and_parts (never_falls cuts) (list_all (λ cut. nat_le cut (length operations)) cuts) h in
     record { within = omega arith; rising = never_falls-zero cuts parts.0; fit = parts.1; ends = λ behind. absurd (omega (arith, behind)) }
 
 -- ---- one batch, and those after it
 
 -- the batches from here on
 abbrev pub batches_left : Schema → Analyzer → List Operation → List ℕ → ℕ → ℕ → List Batch
-batches_left schema analyzer operations cuts at first = batches_from schema analyzer first (drop at cuts) (drop first operations)
+batches_left schema analyzer operations cuts at first =
+    batches_from schema analyzer first (drop at cuts) (drop first operations)
 
 -- the parts of the operations that are left, each with its places
 abbrev pub parts_left : List Operation → List ℕ → ℕ → ℕ → List (List (ℕ × Operation))
@@ -77,26 +71,28 @@ IsFirstLeft schema analyzer operations cuts at first end =
     ⊎ ((length cuts ≤ at) × (batches_left schema analyzer operations cuts at first ≡ batch_between schema analyzer first end operations ∷ []) × (parts_left operations cuts at first ≡ part_here operations first end ∷ []))
 
 -- what there is to say of a batch that begins and ends here
-pub record Turn (schema : Schema) (analyzer : Analyzer) (operations : List Operation) (cuts : List ℕ) (at first end : ℕ) : Type 0 where
+pub record Turn (schema : Schema) (analyzer : Analyzer) (operations : List Operation) (cuts : List ℕ) (at first end : ℕ)
+    : Type 0 where
   pub rises : first ≤ end
   pub next : IsPlace operations cuts (at + 1) end
   pub is_first : IsFirstLeft schema analyzer operations cuts at first end
 
-module _ (schema : Schema) (analyzer : Analyzer) (operations : List Operation) (cuts : List ℕ) (at first : ℕ) (is : IsPlace operations cuts at first) where
+module _ (schema : Schema) (analyzer : Analyzer) (operations : List Operation) (cuts : List ℕ) (at first : ℕ)
+    (is : IsPlace operations cuts at first) where
   -- up to the next cut
   module _ (cut : ℕ) (found : slice_get cuts at ≡ Some cut) where
     cut_here : drop at cuts ≡ cut ∷ drop (at + 1) cuts
-    cut_here = left_from cuts at cut found
+    cut_here = drop-slice_get cuts at cut found
 
     rises_there : (first ≤ cut) × (never_falls (cut ∷ drop (at + 1) cuts) ≡ true)
     rises_there =
-        let parts = both (nat_le first cut) (never_falls (cut ∷ drop (at + 1) cuts)) (subst (λ l. never_falls (first ∷ l) ≡ true) cut_here is.rising) in
-        (at_most first cut parts.0, parts.1)
+        let parts = and_parts (nat_le first cut) (never_falls (cut ∷ drop (at + 1) cuts)) (subst (λ l. never_falls (first ∷ l) ≡ true) cut_here is.rising) in
+        (leb-true first cut parts.0, parts.1)
 
     fits_there : (cut ≤ length operations) × (list_all (λ c. nat_le c (length operations)) (drop (at + 1) cuts) ≡ true)
     fits_there =
-        let parts = both (nat_le cut (length operations)) (list_all (λ c. nat_le c (length operations)) (drop (at + 1) cuts)) (subst (λ l. list_all (λ c. nat_le c (length operations)) l ≡ true) cut_here is.fit) in
-        (at_most cut (length operations) parts.0, parts.1)
+        let parts = and_parts (nat_le cut (length operations)) (list_all (λ c. nat_le c (length operations)) (drop (at + 1) cuts)) (subst (λ l. list_all (λ c. nat_le c (length operations)) l ≡ true) cut_here is.fit) in
+        (leb-true cut (length operations) parts.0, parts.1)
 
     size : first + (cut - first) ≡ cut
     size = omega (arith, rises_there.0)
@@ -105,7 +101,8 @@ module _ (schema : Schema) (analyzer : Analyzer) (operations : List Operation) (
     behind = drop-drop (cut - first) first operations ∙ ap (λ n. drop n operations) size
 
     behind_numbered : drop (cut - first) (enumerate_from first (drop first operations)) ≡ enumerate_from cut (drop cut operations)
-    behind_numbered = drop-enumerate (cut - first) first (drop first operations) ∙ ap (λ k. enumerate_from k (drop (cut - first) (drop first operations))) size ∙ ap (enumerate_from cut) behind
+    behind_numbered =
+        drop-enumerate (cut - first) first (drop first operations) ∙ ap (λ k. enumerate_from k (drop (cut - first) (drop first operations))) size ∙ ap (enumerate_from cut) behind
 
     to_cut : Turn schema analyzer operations cuts at first cut
     to_cut = record {
@@ -135,7 +132,8 @@ module _ (schema : Schema) (analyzer : Analyzer) (operations : List Operation) (
     gone = drop_all (at + 1) cuts (omega (arith, are_past))
 
     takes_all : slice_range operations first (length operations) ≡ drop first operations
-    takes_all = take_all (length operations - first) (drop first operations) (omega (arith, length-drop first operations))
+    takes_all =
+        take_all (length operations - first) (drop first operations) (omega (arith, length-drop first operations))
 
     leaves_none : drop (length operations) operations ≡ []
     leaves_none = drop_all (length operations) operations (omega arith)
@@ -162,6 +160,7 @@ module _ (schema : Schema) (analyzer : Analyzer) (operations : List Operation) (
   pub turn_here : (end : ℕ) → end ≡ end_at operations cuts at → Turn schema analyzer operations cuts at first end
   turn_here end ends = subst (Turn schema analyzer operations cuts at first) (sym ends) (by (slice_get cuts at) refl)
     where
-      by : (o : Option ℕ) → slice_get cuts at ≡ o → Turn schema analyzer operations cuts at first (unwrap_or o (length operations))
+      by : (o : Option ℕ) → slice_get cuts at ≡ o
+          → Turn schema analyzer operations cuts at first (unwrap_or o (length operations))
       by None none = to_end none
       by (Some cut) found = to_cut cut found

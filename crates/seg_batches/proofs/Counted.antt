@@ -7,7 +7,8 @@ use Rattle.seg_input.specs.declared.user_operation.UserOperation.{UserOperation}
 use Rattle.seg_input.specs.declared.user_operation.UserOperation.TheVariants.{Add, Delete}
 use Rattle.seg_batches.specs.Indexing.{is_addition}
 
-pub counted : (operations : List (UserOperation Document)) → length (filter (λ o. is_addition (operation_of o)) operations) ≡ length (additions (map operation_of operations))
+pub counted : (operations : List (UserOperation Document))
+    → length (filter (λ o. is_addition (operation_of o)) operations) ≡ length (additions (map operation_of operations))
 counted [] = refl
 counted (Add document ∷ operations) = ap suc (counted operations)
 counted (Delete term ∷ operations) = counted operations

@@ -1,22 +1,23 @@
 -- What the deletes that wait leave of a batch.
-use Rattle.std.proofs.Common.{◌≡◌, ℕ, zero, suc, ◌+◌, Bool, true, false, List, [], ◌∷◌, ◌++◌, length, map, take, drop, replicate, Some, None, Option, refl, sym, ap, subst, ◌∙◌, arith, append_assoc, take-append-drop}
+use Rattle.std.proofs.Common.{◌≡◌, ℕ, zero, suc, ◌+◌, Bool, true, false, List, [], ◌∷◌, ◌++◌, length, map, take, drop, replicate, Some, None, Option, refl, sym, ap, subst, ◌∙◌, append_assoc, take-append-drop}
 use Rattle.std.specs.Prelude.{is_some, option_copied}
 use Rattle.std.specs.Borrow.{Bor}
 use Rattle.std.specs.List.{AllByRecursion, range_with_len, slice_get}
 use Rattle.std.specs.Option.{option_map}
 use Rattle.std.proofs.lemmas.Bool.{false≢true}
-use Rattle.std.proofs.lemmas.Option.{none-some}
+use Rattle.std.proofs.lemmas.Option.{same_Some}
 use Rattle.seg_common.specs.declared.name.SegmentComponent.{SegmentComponent}
+use Rattle.seg_common.proofs.Lists.{drop-slice_get_none}
 use Rattle.seg_values.specs.ValueBytes.{TermKey}
 use Rattle.seg_values.specs.Tree.{Document}
 use Rattle.seg_model.specs.Columns.{Columns, columns}
 use Rattle.seg_model.specs.Contents.{Contents, full_reading, reading_with}
 use Rattle.seg_model.specs.Fields.{Schema, Analyzer}
-use Rattle.seg_model.specs.Operations.{Operation, add, delete, delete_all, additions, alive_after}
-use Rattle.seg_model.specs.Reading.{Terms, all_terms}
+use Rattle.seg_model.specs.Operations.{Operation, additions, alive_after}
+use Rattle.seg_model.specs.Reading.{all_terms}
 use Rattle.seg_removal.specs.Laws.{ArePassed}
 use Rattle.seg_removal.specs.Stamps.{addition_stamps, stamped_deletes}
-use Rattle.seg_deletes.specs.declared.doc_opstamp_mapping.DocToOpstampMapping.{DocToOpstampMapping}
+use Rattle.seg_removal.proofs.Posted.{length-additions}
 use Rattle.seg_deletes.specs.declared.doc_opstamp_mapping.DocToOpstampMapping.TheVariants.{WithMap}
 use Rattle.seg_deletes.specs.declared.operation.DeleteOperation.{DeleteOperation}
 use Rattle.seg_segment.specs.Standing.{StandFor}
@@ -25,89 +26,94 @@ use Rattle.seg_segment.specs.SegmentFiles.{bytes_of}
 use Rattle.seg_segment.specs.Laws.{FilesSpellOneContents}
 use Rattle.seg_segment.specs.Spelling.{Spell}
 use Rattle.seg_open.specs.Disagreement.{Disagree, IsWhyNotOpen, up_to}
+use Rattle.seg_open.specs.SegmentOpened.{IsReaderOf}
 use Rattle.seg_open.specs.declared.open_error.OpenError.{OpenError}
 use Rattle.seg_open.specs.declared.open_error.OpenError.TheVariants.{Damaged}
 use Rattle.seg_segment.specs.declared.segment_files.SegmentFiles.{SegmentFiles}
-use Rattle.seg_alive.specs.Applying.{IsTold, left_by}
-use Rattle.seg_alive.specs.Laws.{as_operations, AppliedDeletesLeaveTheAlive}
+use Rattle.seg_batches.specs.Applying.{IsTold, left_by}
+use Rattle.seg_batches.specs.Laws.{as_operations, AppliedDeletesLeaveTheAlive}
 use Rattle.seg_batches.specs.Indexing.{AreOfBatch}
-use Rattle.seg_batches.specs.Making.{AreWhole, passed_below}
+use Rattle.seg_batches.specs.Making.{AreWhole}
+use Rattle.seg_batches.specs.Waiting.{passed_below}
 use Rattle.seg_batches.proofs.Passed.{batch_passes}
 
 -- ---- lists
 
-none_left : {X : Type 0} (xs : List X) (i : ℕ) → slice_get xs i ≡ None → drop i xs ≡ []
-none_left [] zero is = refl
-none_left [] (suc i) is = refl
-none_left (y ∷ ys) zero is = absurd (none-some y (sym is))
-none_left (y ∷ ys) (suc i) is = none_left ys i is
-
 -- a look-up that finds nothing is at the end
-pub at_end : {X : Type 0} (found : Option (Bor X)) (asked xs : List X) (i : ℕ) → asked ≡ xs → option_copied found ≡ slice_get asked i → is_some found ≡ false → drop i xs ≡ []
-at_end None asked xs i same is none = none_left xs i (ap (λ l. slice_get l i) (sym same) ∙ sym is)
+pub at_end : {X : Type 0} (found : Option (Bor X)) (asked xs : List X) (i : ℕ) → asked ≡ xs
+    → option_copied found ≡ slice_get asked i → is_some found ≡ false → drop i xs ≡ []
+at_end None asked xs i same is none = drop-slice_get_none xs i (ap (λ l. slice_get l i) (sym same) ∙ sym is)
 at_end (Some x) asked xs i same is none = absurd (false≢true (sym none))
 
 all_pass : (from n : ℕ) → map (λ d. true) (range_with_len from n) ≡ replicate n true
 all_pass from zero = refl
 all_pass from (suc n) = ap (λ l. true ∷ l) (all_pass (from + 1) n)
 
-pub stamps_counted : (first : ℕ) (batch : List Operation) → length (addition_stamps first batch) ≡ length (additions batch)
-stamps_counted first [] = refl
-stamps_counted first (add document ∷ batch) = ap suc (stamps_counted (first + 1) batch)
-stamps_counted first (delete term ∷ batch) = stamps_counted (first + 1) batch
-stamps_counted first (delete_all terms ∷ batch) = stamps_counted (first + 1) batch
-
 -- ---- files that were just made
 
 -- what is read of documents
-pub read_of : (schema : Schema) (analyzer : Analyzer) (documents : List Document) (contents : Contents) → full_reading schema analyzer documents ≡ Some contents → (contents.documents ≡ length documents) × (contents.terms ≡ all_terms schema analyzer documents)
+pub read_of : (schema : Schema) (analyzer : Analyzer) (documents : List Document) (contents : Contents)
+    → full_reading schema analyzer documents ≡ Some contents
+    → (contents.documents ≡ length documents) × (contents.terms ≡ all_terms schema analyzer documents)
 read_of schema analyzer documents contents read = by (columns schema analyzer documents) read
   where
-    some_is : (x y : Contents) → Some x ≡ Some y → y ≡ x
-    some_is x y e = cc
-
-    by : (cs : Option Columns) → option_map (reading_with schema analyzer documents) cs ≡ Some contents → (contents.documents ≡ length documents) × (contents.terms ≡ all_terms schema analyzer documents)
+    by : (cs : Option Columns) → option_map (reading_with schema analyzer documents) cs ≡ Some contents
+        → (contents.documents ≡ length documents) × (contents.terms ≡ all_terms schema analyzer documents)
     by None e = absurd (false≢true (ap is_some e))
     by (Some cs) e =
-        let same = some_is (reading_with schema analyzer documents cs) contents e in
+        let same = sym (same_Some (reading_with schema analyzer documents cs) contents e) in
         (ap (λ (c : Contents). c.documents) same, ap (λ (c : Contents). c.terms) same)
 
-pub of_given : (given schema : Schema) (by analyzer : Analyzer) (first : ℕ) (operations : List Operation) (files : SegmentFiles) (stamps : List ℕ) → given ≡ schema → by ≡ analyzer → AreOfBatch given by first operations files stamps → AreOfBatch schema analyzer first operations files stamps
+pub of_given : (given schema : Schema) (by analyzer : Analyzer) (first : ℕ) (operations : List Operation) (files : SegmentFiles) (stamps : List ℕ)
+    → given ≡ schema → by ≡ analyzer → AreOfBatch given by first operations files stamps
+    → AreOfBatch schema analyzer first operations files stamps
 of_given given schema by analyzer first operations files stamps same_schema same of =
     subst (λ s. AreOfBatch s analyzer first operations files stamps) same_schema (subst (λ a. AreOfBatch given a first operations files stamps) same of)
 
-pub made_whole : (schema : Schema) (analyzer : Analyzer) (documents : List Document) (files : SegmentFiles) (n : ℕ) → StandFor schema analyzer documents files → length documents ≡ n → AreWhole schema files n
+pub made_whole : (schema : Schema) (analyzer : Analyzer) (documents : List Document) (files : SegmentFiles) (n : ℕ)
+    → StandFor schema analyzer documents files → length documents ≡ n → AreWhole schema files n
 made_whole schema analyzer documents files n made counted = record {
   contents = made.contents;
   spelled = made.spelled;
   counted = (read_of schema analyzer documents made.contents made.read).0 ∙ counted;
 }
 
-module _ (given schema : Schema) (shared files : SegmentFiles) (n : ℕ) (same : given ≡ schema) (share : shared ≡ files) where
+module _ (given schema : Schema) (shared files : SegmentFiles) (n : ℕ) (same : given ≡ schema)
+    (share : shared ≡ files) where
   -- files that are whole disagree nowhere
-  pub undamaged : (e : OpenError) (component : SegmentComponent) → e ≡ Damaged component → AreWhole schema files n → IsWhyNotOpen given n shared e → ⊥
-  undamaged e component is whole damaged = disagree files whole.contents (all (up_to component)) whole.spelled whole.counted
+  pub undamaged : (e : OpenError) (component : SegmentComponent) → e ≡ Damaged component → AreWhole schema files n
+      → IsWhyNotOpen given n shared e → ⊥
+  undamaged e component is whole damaged =
+      disagree files whole.contents (all (up_to component)) whole.spelled whole.counted
     where
       disagree : Disagree schema n files component
-      disagree = subst (λ s. Disagree s n files component) same (subst (λ fs. Disagree given n fs component) share (subst (IsWhyNotOpen given n shared) is damaged))
+      disagree =
+          subst (λ s. Disagree s n files component) same (subst (λ fs. Disagree given n fs component) share (subst (IsWhyNotOpen given n shared) is damaged))
 
       all : (cs : List SegmentComponent) → AllByRecursion (λ c. bytes_of files c ≡ bytes_of files c) cs
       all [] = tt
       all (c ∷ cs) = (refl, all cs)
 
-  -- what is read of them is what they spell
-  pub one_contents : FilesSpellOneContents → (read : Contents) → Spell given shared read → (contents : Contents) → Spell schema files contents → read ≡ contents
-  one_contents one read spelled contents h = one schema files read contents (subst (λ s. Spell s files read) same (subst (λ fs. Spell given fs read) share spelled)) h
+  -- a reader has what they spell
+  pub reader_of : (reader : OpenSegment) → (reader.schema ≡ given) × (reader.documents ≡ n)
+      → Spell given shared (contents_of reader) → IsReaderOf schema n files reader
+  reader_of reader of spelled = record {
+    of_schema = of.0 ∙ same;
+    of_number = of.1;
+    spell = subst (λ s. Spell s files (contents_of reader)) same (subst (λ fs. Spell given fs (contents_of reader)) share spelled);
+  }
 
 -- ---- deletes that wait
 
-told_of : (n m : ℕ) (left alive : List Bool) (told : Option (List Bool)) → n ≡ m → left ≡ alive → IsTold n left told → IsTold m alive told
-told_of n m left alive told counted same h = subst (λ k. IsTold k alive told) counted (subst (λ l. IsTold n l told) same h)
+told_of : (n m : ℕ) (left alive : List Bool) (told : Option (List Bool)) → n ≡ m → left ≡ alive → IsTold n left told
+    → IsTold m alive told
+told_of n m left alive told counted same h =
+    subst (λ k. IsTold k alive told) counted (subst (λ l. IsTold n l told) same h)
 
 module _ (law : AppliedDeletesLeaveTheAlive) (schema : Schema) (analyzer : Analyzer) (before batch after : List Operation) (first : ℕ) (place : length before ≡ first) (stamps : Bor (List ℕ)) (are : stamps.now ≡ addition_stamps first batch)
     (operations : List (DeleteOperation TermKey)) (all : as_operations operations ≡ stamped_deletes 0 (before ++ (batch ++ after))) (at : ℕ) (passed : passed_below first (take at operations)) where
   counted : length (additions batch) ≡ length stamps.now
-  counted = sym (ap length are ∙ stamps_counted first batch)
+  counted = sym (ap length are ∙ length-additions first batch)
 
   -- those from a place on leave what no later operation removes
   waiting_leave : left_by (all_terms schema analyzer (additions batch)) (WithMap stamps) (length (additions batch)) (drop at operations) ≡ alive_after schema analyzer batch after
@@ -125,15 +131,17 @@ module _ (law : AppliedDeletesLeaveTheAlive) (schema : Schema) (analyzer : Analy
       ∙ ap (λ n. replicate n true) counted
 
   -- what is told of those that a reader of the batch's files finds
-  pub told_alive : (files : SegmentFiles) (reader : OpenSegment) (waiting : List (DeleteOperation TermKey)) (told : Option (List Bool)) → StandFor schema analyzer (additions batch) files
-      → ((contents : Contents) → Spell schema files contents → contents_of reader ≡ contents) → reader.documents ≡ length stamps.now → waiting ≡ operations
+  pub told_alive : FilesSpellOneContents
+      → (files : SegmentFiles) (reader : OpenSegment) (waiting : List (DeleteOperation TermKey)) (told : Option (List Bool))
+      → StandFor schema analyzer (additions batch) files
+      → IsReaderOf schema (length stamps.now) files reader → waiting ≡ operations
       → IsTold reader.documents (left_by (map terms_in reader.fields) (WithMap stamps) reader.documents (drop at waiting)) told
       → IsTold (length stamps.now) (alive_after schema analyzer batch after) told
-  told_alive files reader waiting told made one number same h =
+  told_alive one files reader waiting told made is same h =
       let terms : map terms_in reader.fields ≡ all_terms schema analyzer (additions batch) =
-      ap (λ (c : Contents). c.terms) (one made.contents made.spelled) ∙ (read_of schema analyzer (additions batch) made.contents made.read).1 in
-      told_of reader.documents (length stamps.now) (left_by (map terms_in reader.fields) (WithMap stamps) reader.documents (drop at waiting)) (alive_after schema analyzer batch after) told number
+      ap (λ (c : Contents). c.terms) (one schema files (contents_of reader) made.contents is.spell made.spelled) ∙ (read_of schema analyzer (additions batch) made.contents made.read).1 in
+      told_of reader.documents (length stamps.now) (left_by (map terms_in reader.fields) (WithMap stamps) reader.documents (drop at waiting)) (alive_after schema analyzer batch after) told is.of_number
       (ap (λ os. left_by (map terms_in reader.fields) (WithMap stamps) reader.documents (drop at os)) same
       ∙ ap (λ ts. left_by ts (WithMap stamps) reader.documents (drop at operations)) terms
-      ∙ ap (λ n. left_by (all_terms schema analyzer (additions batch)) (WithMap stamps) n (drop at operations)) (number ∙ sym counted)
+      ∙ ap (λ n. left_by (all_terms schema analyzer (additions batch)) (WithMap stamps) n (drop at operations)) (is.of_number ∙ sym counted)
       ∙ waiting_leave) h

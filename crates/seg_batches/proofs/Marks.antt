@@ -6,12 +6,13 @@ use Rattle.std.proofs.lemmas.Bool.{false≢true}
 use Rattle.std.proofs.lemmas.List.Filters.{length-filter_both}
 use Rattle.std.proofs.lemmas.List.Sums.{length-filter, sum_by-cons}
 use Rattle.seg_bits.specs.BitSets.{member_count}
-use Rattle.seg_model.specs.IndexOfFiles.{Deletes}
+use Rattle.seg_meta.specs.IndexOfFiles.{Deletes}
 use Rattle.seg_batches.specs.Segments.{LacksSome, alive_of, deletes_of}
 
 -- those that are alive, and those that are not, are all
 pub counts_both : (set : List Bool) → member_count set + count_by not set ≡ length set
-counts_both set = omega (arith, length-filter_both (λ b. b) not (λ b. refl) set, length-filter (λ b. b) set, length-filter not set)
+counts_both set =
+    omega (arith, length-filter_both (λ b. b) not (λ b. refl) set, length-filter (λ b. b) set, length-filter not set)
 
 -- ---- all
 
@@ -37,26 +38,33 @@ some_lacks (true ∷ set) (suc k, lt, is) =
 
 -- without a set there are none
 no_deletes : (stamp n : ℕ) → deletes_of stamp (replicate n true) ≡ None
-no_deletes stamp n = ap (λ b. cond b None (Some (let d : Deletes = record { number = count_by not (replicate n true); stamp = stamp } in d))) (all_alive n)
+no_deletes stamp n =
+    ap (λ b. cond b None (Some (let d : Deletes = record { number = count_by not (replicate n true); stamp = stamp } in d))) (all_alive n)
 
-pub none_listed : (documents stamp : ℕ) (o : Option (List Bool)) → o ≡ None → deletes_of stamp (alive_of documents o) ≡ None
+pub none_listed : (documents stamp : ℕ) (o : Option (List Bool)) → o ≡ None
+    → deletes_of stamp (alive_of documents o) ≡ None
 none_listed documents stamp o none = ap (λ p. deletes_of stamp (alive_of documents p)) none ∙ no_deletes stamp documents
 
-pub all_listed_alive : (documents stamp : ℕ) (alive : List Bool) → alive ≡ replicate documents true → deletes_of stamp alive ≡ None
+pub all_listed_alive : (documents stamp : ℕ) (alive : List Bool) → alive ≡ replicate documents true
+    → deletes_of stamp alive ≡ None
 all_listed_alive documents stamp alive all = ap (deletes_of stamp) all ∙ no_deletes stamp documents
 
-pub lacking_listed : (stamp : ℕ) (alive : List Bool) → Contains alive false → deletes_of stamp alive ≡ Some (record { number = count_by not alive; stamp = stamp })
-lacking_listed stamp alive lacks = ap (λ b. cond b None (Some (let d : Deletes = record { number = count_by not alive; stamp = stamp } in d))) (some_lacks alive lacks).0
+pub lacking_listed : (stamp : ℕ) (alive : List Bool) → Contains alive false
+    → deletes_of stamp alive ≡ Some (record { number = count_by not alive; stamp = stamp })
+lacking_listed stamp alive lacks =
+    ap (λ b. cond b None (Some (let d : Deletes = record { number = count_by not alive; stamp = stamp } in d))) (some_lacks alive lacks).0
 
 -- a set that lacks some has as many as it lacks
-module _ (documents count : ℕ) (o : Option (List Bool)) (set : List Bool) (is : o ≡ Some set) (lacks : LacksSome documents o) (counted : count ≡ member_count set) where
+module _ (documents count : ℕ) (o : Option (List Bool)) (set : List Bool) (is : o ≡ Some set)
+    (lacks : LacksSome documents o) (counted : count ≡ member_count set) where
   parts : LacksSome documents (Some set)
   parts = subst (LacksSome documents) is lacks
 
   number_is : count_by not set ≡ documents - count
   number_is = omega (arith, counts_both set, counted, parts.0)
 
-  pub some_listed : (stamp : ℕ) → deletes_of stamp (alive_of documents o) ≡ Some (record { number = documents - count; stamp = stamp })
+  pub some_listed : (stamp : ℕ)
+      → deletes_of stamp (alive_of documents o) ≡ Some (record { number = documents - count; stamp = stamp })
   some_listed stamp =
       ap (λ p. deletes_of stamp (alive_of documents p)) is
       ∙ ap (λ b. cond b None (Some (let d : Deletes = record { number = count_by not set; stamp = stamp } in d))) (some_lacks set parts.1).0

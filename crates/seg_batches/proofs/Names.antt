@@ -1,28 +1,17 @@
 -- Names of files that are apart, and files that stay absent.
-use Rattle.std.proofs.Common.{◌≢◌, ◌∙◌, List, [], ◌∷◌, ◌++◌}
+use Rattle.std.proofs.Common.{◌≢◌, ◌∙◌, List, [], ◌∷◌}
 use Rattle.std.specs.List.{AllByRecursion}
 use Rattle.seg_common.specs.declared.name.FileName.{FileName}
 use Rattle.seg_directory.specs.Files.{NamedFiles}
 use Rattle.seg_segment.specs.SegmentFiles.{AreAbsent, KeepsAllBut}
-
-module _ {X : Type 0} (P : X → Type 0) where
-  pub all_front : (xs ys : List X) → AllByRecursion P (xs ++ ys) → AllByRecursion P xs
-  all_front [] ys h = tt
-  all_front (x ∷ xs) ys h = (h.0, all_front xs ys h.1)
-
-  pub all_back : (xs ys : List X) → AllByRecursion P (xs ++ ys) → AllByRecursion P ys
-  all_back [] ys h = h
-  all_back (x ∷ xs) ys h = all_back xs ys h.1
-
-  pub all_both : (xs ys : List X) → AllByRecursion P xs → AllByRecursion P ys → AllByRecursion P (xs ++ ys)
-  all_both [] ys h k = k
-  all_both (x ∷ xs) ys h k = (h.0, all_both xs ys h.1 k)
 
 -- each of these names differs from each of those
 abbrev pub AreApart : List FileName → List FileName → Type 0
 AreApart names others = AllByRecursion (λ name. AllByRecursion (λ other. name ≢ other) others) names
 
 -- what is absent stays so where names that are apart are made
-pub still_absent : (names made : List FileName) (old new : NamedFiles) → AreApart names made → KeepsAllBut made old new → AreAbsent names old → AreAbsent names new
+pub still_absent : (names made : List FileName) (old new : NamedFiles) → AreApart names made → KeepsAllBut made old new
+    → AreAbsent names old → AreAbsent names new
 still_absent [] made old new apart kept none = tt
-still_absent (name ∷ names) made old new apart kept none = (kept name apart.0 ∙ none.0, still_absent names made old new apart.1 kept none.1)
+still_absent (name ∷ names) made old new apart kept none =
+    (kept name apart.0 ∙ none.0, still_absent names made old new apart.1 kept none.1)

@@ -1,27 +1,20 @@
--- The segments of batches, one after another: what holds of all of them.
-use Rattle.std.proofs.Common.{◌≡◌, ◌∙◌, ℕ, ◌-◌, ◌^◌, ◌<◌, ◌≤◌, Bool, true, false, List, [], ◌∷◌, ◌++◌, map, length, take, drop, Some, None, Option, refl, sym, ap, subst, arith}
-use Rattle.std.specs.Prelude.{◌&&◌, is_none, nat_lt}
+-- What holds of all batches where none is refused: their documents are taken, and a segment can number those of each.
+use Rattle.std.proofs.Common.{◌≡◌, ◌∙◌, ℕ, ◌-◌, ◌^◌, ◌<◌, Bool, true, List, [], ◌∷◌, ◌++◌, map, length, take, drop, None, Option, refl, sym, ap, subst}
+use Rattle.std.specs.Prelude.{◌&&◌, is_none}
 use Rattle.std.specs.List.{AllByRecursion, enumerate_from, list_all, take-map, drop-map}
 use Rattle.std.specs.Option.{option_or}
-use Rattle.std.proofs.lemmas.Bool.Decides.{nat_tests}
-use Rattle.std.proofs.lemmas.List.{append-nil, drop_all, map-append, take-append-drop}
-use Rattle.seg_values.specs.Tree.{Document}
-use Rattle.seg_values.specs.ValueBytes.{TermKey}
-use Rattle.seg_values.specs.declared.error.ArgumentCause.TheVariants.{Documents}
+use Rattle.std.proofs.lemmas.List.{map-append, take-append-drop}
+use Rattle.std.proofs.lemmas.Bool.{and_parts}
+use Rattle.seg_common.proofs.Lists.{unnumbered}
 use Rattle.seg_values.specs.declared.error.TantivyError.{TantivyError}
-use Rattle.seg_values.specs.declared.error.TantivyError.TheVariants.{InvalidArgument}
-use Rattle.seg_deletes.specs.declared.operation.DeleteOperation.{DeleteOperation}
 use Rattle.seg_model.specs.Built.{is_taken}
 use Rattle.seg_model.specs.Checked.{Cause, at_place, document_refusal, first_of}
 use Rattle.seg_model.specs.Fields.{Schema, Analyzer}
 use Rattle.seg_model.specs.Operations.{Operation, add, delete, delete_all, Batch, additions, batches_from}
 use Rattle.seg_model.specs.Refused.{added_by, batch_refusal, count_refusal, cut_from, numbers_refusal, operation_refusal}
-use Rattle.seg_model.proofs.FirstAnswers.{none_map, or_both, unless_true}
-use Rattle.seg_batches.specs.Making.{passed_below}
-use Rattle.seg_batches.specs.Segments.{WrittenSegment, segments_of}
+use Rattle.seg_model.proofs.FirstAnswers.{none_map, or_both}
+use Rattle.seg_model.proofs.Refused.{none_count}
 use Rattle.seg_batches.specs.Writing.{batch_cause}
-use Rattle.seg_batches.proofs.BatchSteps.{seconds}
-use Rattle.seg_batches.proofs.BatchTurns.{both, batches_left}
 
 -- ---- documents
 
@@ -31,18 +24,12 @@ additions-append (add document ∷ xs) ys = ap (λ l. document ∷ l) (additions
 additions-append (delete term ∷ xs) ys = additions-append xs ys
 additions-append (delete_all terms ∷ xs) ys = additions-append xs ys
 
-pub all_of_both : {X : Type 0} (p : X → Bool) (xs ys : List X) → list_all p xs ≡ true → list_all p ys ≡ true → list_all p (xs ++ ys) ≡ true
+pub all_of_both : {X : Type 0} (p : X → Bool) (xs ys : List X) → list_all p xs ≡ true → list_all p ys ≡ true
+    → list_all p (xs ++ ys) ≡ true
 all_of_both p [] ys h k = k
 all_of_both p (x ∷ xs) ys h k =
-    let parts = both (p x) (list_all p xs) h in
+    let parts = and_parts (p x) (list_all p xs) h in
     ap (λ b. b && list_all p (xs ++ ys)) parts.0 ∙ all_of_both p xs ys parts.1 k
-
--- ---- deletes
-
--- what is below a number is below a greater one
-pub passed_further : (low high : ℕ) (operations : List (DeleteOperation TermKey)) → low ≤ high → passed_below low operations → passed_below high operations
-passed_further low high [] le h = tt
-passed_further low high (o ∷ operations) le h = (omega (arith, le, h.0), passed_further low high operations le h.1)
 
 -- ---- where no batch is refused
 
@@ -50,20 +37,15 @@ passed_further low high (o ∷ operations) le h = (omega (arith, le, h.0), passe
 abbrev pub IsFew : Batch → Type 0
 IsFew batch = length batch.documents < 2 ^ 31
 
-below : (n m : ℕ) → nat_lt n m ≡ true → n < m
-below n m is = grind (arith, nat_tests)
-
--- documents that are not too many are few
-few_of : (documents : List Document) → count_refusal documents ≡ None → length documents < 2 ^ 31
-few_of documents h = below (length documents) (2 ^ 31) (unless_true (nat_lt (length documents) (2 ^ 31)) (InvalidArgument Documents) h)
-
 module _ (schema : Schema) (analyzer : Analyzer) where
   -- operations of which none is refused add documents that are taken
-  taken_of : (part : List (ℕ × Operation)) → first_of (λ p. operation_refusal schema analyzer p.0 p.1) part ≡ None → list_all (is_taken schema analyzer) (additions (map (λ p. p.1) part)) ≡ true
+  taken_of : (part : List (ℕ × Operation)) → first_of (λ p. operation_refusal schema analyzer p.0 p.1) part ≡ None
+      → list_all (is_taken schema analyzer) (additions (map (λ p. p.1) part)) ≡ true
   taken_of [] h = refl
   taken_of (p ∷ part) h = by p.1 h (taken_of part)
     where
-      by : (o : Operation) → option_or (operation_refusal schema analyzer p.0 o) (first_of (λ q. operation_refusal schema analyzer q.0 q.1) part) ≡ None
+      by : (o : Operation)
+          → option_or (operation_refusal schema analyzer p.0 o) (first_of (λ q. operation_refusal schema analyzer q.0 q.1) part) ≡ None
           → (first_of (λ q. operation_refusal schema analyzer q.0 q.1) part ≡ None → list_all (is_taken schema analyzer) (additions (map (λ q. q.1) part)) ≡ true)
           → list_all (is_taken schema analyzer) (additions (o ∷ map (λ q. q.1) part)) ≡ true
       by (add document) none next =
@@ -73,12 +55,14 @@ module _ (schema : Schema) (analyzer : Analyzer) where
       by (delete_all terms) none next = next none
 
   -- a batch without a cause
-  module _ (start : Option TantivyError) (part : List (ℕ × Operation)) (none : batch_cause start schema analyzer part ≡ None) where
+  module _ (start : Option TantivyError) (part : List (ℕ × Operation))
+      (none : batch_cause start schema analyzer part ≡ None) where
     unrefused : batch_refusal schema analyzer part ≡ None
     unrefused = (or_both start (batch_refusal schema analyzer part) none).1
 
     part_few : length (added_by part) < 2 ^ 31
-    part_few = few_of (added_by part) (or_both (count_refusal (added_by part)) (option_or (first_of (λ p. operation_refusal schema analyzer p.0 p.1) part) (numbers_refusal schema analyzer (added_by part))) unrefused).0
+    part_few =
+        none_count schema analyzer (added_by part) (or_both (count_refusal (added_by part)) (option_or (first_of (λ p. operation_refusal schema analyzer p.0 p.1) part) (numbers_refusal schema analyzer (added_by part))) unrefused).0
 
     part_taken : list_all (is_taken schema analyzer) (added_by part) ≡ true
     part_taken = taken_of part
@@ -86,16 +70,19 @@ module _ (schema : Schema) (analyzer : Analyzer) where
         (or_both (count_refusal (added_by part)) (option_or (first_of (λ p. operation_refusal schema analyzer p.0 p.1) part) (numbers_refusal schema analyzer (added_by part))) unrefused).1).0
 
   abbrev AllNone : Option TantivyError → ℕ → List ℕ → List (ℕ × Operation) → Type 0
-  AllNone start first cuts xs = AllByRecursion (λ cause. cause ≡ None) (map (batch_cause start schema analyzer) (cut_from first cuts xs))
+  AllNone start first cuts xs =
+      AllByRecursion (λ cause. cause ≡ None) (map (batch_cause start schema analyzer) (cut_from first cuts xs))
 
-  few_from : (start : Option TantivyError) (first : ℕ) (cuts : List ℕ) (xs : List (ℕ × Operation)) → AllNone start first cuts xs → AllByRecursion IsFew (batches_from schema analyzer first cuts (map (λ p. p.1) xs))
+  few_from : (start : Option TantivyError) (first : ℕ) (cuts : List ℕ) (xs : List (ℕ × Operation))
+      → AllNone start first cuts xs → AllByRecursion IsFew (batches_from schema analyzer first cuts (map (λ p. p.1) xs))
   few_from start first [] xs none = (part_few start xs none.0, tt)
   few_from start first (cut ∷ cuts) xs none = (
     subst (λ (os : List Operation). length (additions os) < 2 ^ 31) (sym (take-map (λ (p : ℕ × Operation). p.1) (cut - first) xs)) (part_few start (take (cut - first) xs) none.0),
     subst (λ (os : List Operation). AllByRecursion IsFew (batches_from schema analyzer cut cuts os)) (sym (drop-map (λ (p : ℕ × Operation). p.1) (cut - first) xs)) (few_from start cut cuts (drop (cut - first) xs) none.1),
   )
 
-  taken_from : (start : Option TantivyError) (first : ℕ) (cuts : List ℕ) (xs : List (ℕ × Operation)) → AllNone start first cuts xs → list_all (is_taken schema analyzer) (additions (map (λ p. p.1) xs)) ≡ true
+  taken_from : (start : Option TantivyError) (first : ℕ) (cuts : List ℕ) (xs : List (ℕ × Operation))
+      → AllNone start first cuts xs → list_all (is_taken schema analyzer) (additions (map (λ p. p.1) xs)) ≡ true
   taken_from start first [] xs none = part_taken start xs none.0
   taken_from start first (cut ∷ cuts) xs none =
       let front = take (cut - first) xs in
@@ -105,18 +92,12 @@ module _ (schema : Schema) (analyzer : Analyzer) where
       ∙ ap (list_all (is_taken schema analyzer)) (additions-append (map (λ p. p.1) front) (map (λ p. p.1) rest))
       ∙ all_of_both (is_taken schema analyzer) (added_by front) (added_by rest) (part_taken start front none.0) (taken_from start cut cuts rest none.1)
 
-  module _ (start : Option TantivyError) (cuts : List ℕ) (operations : List Operation) (none : AllNone start 0 cuts (enumerate_from 0 operations)) where
+  module _ (start : Option TantivyError) (cuts : List ℕ) (operations : List Operation)
+      (none : AllNone start 0 cuts (enumerate_from 0 operations)) where
     pub all_few : AllByRecursion IsFew (batches_from schema analyzer 0 cuts operations)
-    all_few = subst (λ (os : List Operation). AllByRecursion IsFew (batches_from schema analyzer 0 cuts os)) (seconds 0 operations) (few_from start 0 cuts (enumerate_from 0 operations) none)
+    all_few =
+        subst (λ (os : List Operation). AllByRecursion IsFew (batches_from schema analyzer 0 cuts os)) (unnumbered 0 operations) (few_from start 0 cuts (enumerate_from 0 operations) none)
 
     pub all_taken : list_all (is_taken schema analyzer) (additions operations) ≡ true
-    all_taken = subst (λ (os : List Operation). list_all (is_taken schema analyzer) (additions os) ≡ true) (seconds 0 operations) (taken_from start 0 cuts (enumerate_from 0 operations) none)
-
--- ---- the end
-
-module _ (schema : Schema) (analyzer : Analyzer) (operations : List Operation) (cuts ids : List ℕ) (at first : ℕ) where
-  pub all_segments : (written all : List WrittenSegment) → length ids ≤ at → written ++ segments_of (drop at ids) (batches_left schema analyzer operations cuts at first) ≡ all → written ≡ all
-  all_segments written all le so_far =
-      sym (append-nil written)
-      ∙ sym (ap (λ l. written ++ segments_of l (batches_left schema analyzer operations cuts at first)) (drop_all at ids le))
-      ∙ so_far
+    all_taken =
+        subst (λ (os : List Operation). list_all (is_taken schema analyzer) (additions os) ≡ true) (unnumbered 0 operations) (taken_from start 0 cuts (enumerate_from 0 operations) none)

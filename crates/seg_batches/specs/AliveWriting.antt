@@ -6,7 +6,7 @@ use Rattle.seg_directory.specs.Calls.{made}
 use Rattle.seg_directory.specs.State.{DirectoryState}
 use Rattle.seg_directory.specs.Works.{Step, Works, calls}
 use Rattle.seg_bits.specs.BitSets.{set_of}
-use Rattle.seg_model.specs.IndexOfFiles.{Deletes}
+use Rattle.seg_meta.specs.IndexOfFiles.{Deletes}
 use Rattle.seg_batches.specs.Segments.{WrittenSegment, deletes_of}
 
 -- the alive file of an id is made of these bytes, where there are deletes
@@ -18,7 +18,8 @@ alive_step id (Some d) bytes = calls (made (Alive id d.stamp) bytes) ∷ []
 abbrev pub alive_steps : ℕ → List (List ℕ) → List WrittenSegment → List Step
 alive_steps stamp [] segments = []
 alive_steps stamp (bytes ∷ files) [] = []
-alive_steps stamp (bytes ∷ files) (s ∷ segments) = alive_step s.id (deletes_of stamp s.alive) bytes ++ alive_steps stamp files segments
+alive_steps stamp (bytes ∷ files) (s ∷ segments) =
+    alive_step s.id (deletes_of stamp s.alive) bytes ++ alive_steps stamp files segments
 
 -- bytes tell which of this many documents are alive, where there are deletes
 abbrev pub TellMarks : List ℕ → ℕ → List Bool → Option Deletes → Type 0
@@ -29,10 +30,12 @@ TellMarks bytes documents alive (Some d) = (set_of bytes ≡ Some alive) × (len
 abbrev pub AllTellMarks : ℕ → List (List ℕ) → List WrittenSegment → Type 0
 AllTellMarks stamp [] segments = Unit {0}
 AllTellMarks stamp (bytes ∷ files) [] = ⊥
-AllTellMarks stamp (bytes ∷ files) (s ∷ segments) = TellMarks bytes s.documents s.alive (deletes_of stamp s.alive) × AllTellMarks stamp files segments
+AllTellMarks stamp (bytes ∷ files) (s ∷ segments) =
+    TellMarks bytes s.documents s.alive (deletes_of stamp s.alive) × AllTellMarks stamp files segments
 
 -- the alive files of segments are made of bytes that tell, up to the first that isn't
-pub record WritesAlive {T : Type 0} (stamp : ℕ) (segments : List WrittenSegment) (result : Result T TantivyError) (before after : DirectoryState) : Type 0 where
+pub record WritesAlive {T : Type 0} (stamp : ℕ) (segments : List WrittenSegment) (result : Result T TantivyError)
+    (before after : DirectoryState) : Type 0 where
   pub files : List (List ℕ)
   pub tell : AllTellMarks stamp files segments
   pub whole : OnOk result (length files ≡ length segments)

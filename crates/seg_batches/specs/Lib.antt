@@ -1,7 +1,9 @@
 pub mod AliveWriting
-pub mod Calls
+pub mod Applying
 pub mod Indexing
+pub mod Laws
 pub mod Making
 pub mod Reading
 pub mod Segments
+pub mod Waiting
 pub mod Writing

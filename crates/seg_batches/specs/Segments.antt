@@ -5,8 +5,8 @@ use Rattle.seg_common.specs.declared.name.FileName.{FileName}
 use Rattle.seg_common.specs.declared.name.FileName.TheVariants.{Alive}
 use Rattle.seg_directory.specs.Files.{NamedFiles}
 use Rattle.seg_model.specs.Fields.{Schema, Analyzer}
-use Rattle.seg_model.specs.IndexOfFiles as index
-use Rattle.seg_model.specs.IndexOfFiles.{Deletes, ListedSegment}
+use Rattle.seg_meta.specs.IndexOfFiles as index
+use Rattle.seg_meta.specs.IndexOfFiles.{Deletes, ListedSegment}
 use Rattle.seg_model.specs.Operations.{Batch}
 use Rattle.seg_segment.specs.Forms.{segment_forms}
 use Rattle.seg_segment.specs.HoldsAlive.{HoldsAlive}
@@ -42,7 +42,8 @@ segments_of (id ∷ ids) (batch ∷ batches) = segment_of id batch ∷ segments_
 
 -- the deletes of a segment: none where all its documents are alive
 abbrev pub deletes_of : ℕ → List Bool → Option Deletes
-deletes_of stamp alive = if list_all (λ b. b) alive then None else Some (record { number = count_by not alive; stamp = stamp })
+deletes_of stamp alive =
+    if list_all (λ b. b) alive then None else Some (record { number = count_by not alive; stamp = stamp })
 
 -- as the meta lists a segment
 abbrev pub listed : ℕ → WrittenSegment → ListedSegment
@@ -84,4 +85,5 @@ TellsAlive files id documents alive (Some d) = HoldsAlive files id d.stamp docum
 -- and of each segment
 abbrev pub AllTellAlive : NamedFiles → ℕ → List WrittenSegment → Type 0
 AllTellAlive files stamp [] = Unit {0}
-AllTellAlive files stamp (s ∷ segments) = TellsAlive files s.id s.documents s.alive (deletes_of stamp s.alive) × AllTellAlive files stamp segments
+AllTellAlive files stamp (s ∷ segments) =
+    TellsAlive files s.id s.documents s.alive (deletes_of stamp s.alive) × AllTellAlive files stamp segments

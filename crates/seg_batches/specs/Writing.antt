@@ -1,19 +1,20 @@
 -- What the writing of segments does to a directory.
-use Rattle.std.specs.Prelude.{ℕ, ◌≡◌, ◌⊎◌, ◌++◌, List, [], ◌∷◌, map, length, take, drop, slice_range, Option, Result, Ok, Err, OnOk}
+use Rattle.std.specs.Prelude.{ℕ, ◌≡◌, ◌++◌, List, [], ◌∷◌, map, length, drop, slice_range, Option, Result, IfOk, OnOk}
 use Rattle.std.specs.List.{enumerate_from}
 use Rattle.std.specs.Option.{option_or}
+use Rattle.seg_values.specs.ValueBytes.{TermKey}
 use Rattle.seg_values.specs.declared.error.TantivyError.{TantivyError}
 use Rattle.seg_model.specs.Fields.{Schema, Analyzer}
 use Rattle.seg_model.specs.Operations.{Operation, Batch, additions, alive_after}
 use Rattle.seg_model.specs.Refused.{batch_refusal, cut_from}
 use Rattle.seg_directory.specs.State.{DirectoryState}
 use Rattle.seg_directory.specs.Works.{Step, Works, passes}
-use Rattle.seg_segment.specs.SegmentFiles.{write_steps, wrote}
+use Rattle.seg_deletes.specs.Queues.{Queue}
+use Rattle.seg_segment.specs.SegmentFiles.{write_steps}
 use Rattle.seg_segment.specs.Standing.{StandFor}
 use Rattle.seg_segment.specs.declared.segment_files.SegmentFiles.{SegmentFiles}
-use Rattle.seg_refusals.specs.Refusals.{IsRefusal}
-use Rattle.seg_batches.specs.Calls.{Does}
-use Rattle.seg_batches.specs.Segments.{six_files}
+use Rattle.seg_batches.specs.Segments.{WrittenSegment, segment_of}
+use Rattle.seg_batches.specs.Waiting.{PassesEarlier}
 
 -- the batch of the operations from one place up to another, with what those after it leave alive
 abbrev pub batch_between : Schema → Analyzer → ℕ → ℕ → List Operation → Batch
@@ -30,7 +31,8 @@ batch_cause start schema analyzer batch = option_or start (batch_refusal schema 
 
 -- of each batch of operations that are cut
 abbrev pub batch_causes : Option TantivyError → Schema → Analyzer → List ℕ → List Operation → List (Option TantivyError)
-batch_causes start schema analyzer cuts operations = map (batch_cause start schema analyzer) (cut_from 0 cuts (enumerate_from 0 operations))
+batch_causes start schema analyzer cuts operations =
+    map (batch_cause start schema analyzer) (cut_from 0 cuts (enumerate_from 0 operations))
 
 -- ---- steps
 
@@ -46,37 +48,32 @@ batches_steps (id ∷ ids) (cause ∷ causes) [] = []
 batches_steps (id ∷ ids) (cause ∷ causes) (f ∷ files) = batch_steps id cause f ++ batches_steps ids causes files
 
 -- the segment of a batch is written: six files that stand for its documents
-pub record MakesBatch {T : Type 0} (cause : Option TantivyError) (schema : Schema) (analyzer : Analyzer) (id : ℕ) (batch : Batch) (result : Result T TantivyError) (before after : DirectoryState) : Type 0 where
+pub record MakesBatch {T : Type 0} (cause : Option TantivyError) (schema : Schema) (analyzer : Analyzer) (id : ℕ)
+    (batch : Batch) (result : Result T TantivyError) (before after : DirectoryState) : Type 0 where
   pub files : SegmentFiles
   pub stand : OnOk result (StandFor schema analyzer batch.documents files)
   pub works : Works (batch_steps id cause files) result before after
+
+-- and its segment is answered, while the deletes that wait are passed by; its first operation has the place `first`
+pub record WritesBatch (cause : Option TantivyError) (schema : Schema) (analyzer : Analyzer) (id first : ℕ)
+    (batch : Batch) (result : Result WrittenSegment TantivyError) (old new : Queue TermKey) (cursor : ℕ)
+    (before after : DirectoryState) : Type 0 where
+  pub does : MakesBatch cause schema analyzer id batch result before after
+  pub segment : IfOk result (λ s. s ≡ segment_of id batch)
+  pub earlier : PassesEarlier first old new cursor
 
 -- each of these files stand for the documents of a batch
 abbrev pub AllStandFor : Schema → Analyzer → List SegmentFiles → List Batch → Type 0
 AllStandFor schema analyzer [] batches = Unit {0}
 AllStandFor schema analyzer (f ∷ files) [] = ⊥
-AllStandFor schema analyzer (f ∷ files) (batch ∷ batches) = StandFor schema analyzer batch.documents f × AllStandFor schema analyzer files batches
+AllStandFor schema analyzer (f ∷ files) (batch ∷ batches) =
+    StandFor schema analyzer batch.documents f × AllStandFor schema analyzer files batches
 
 -- the segments of batches are written, each under its id: six files for each
-pub record MakesBatches {T : Type 0} (causes : List (Option TantivyError)) (schema : Schema) (analyzer : Analyzer) (ids : List ℕ) (batches : List Batch) (result : Result T TantivyError) (before after : DirectoryState) : Type 0 where
+pub record MakesBatches {T : Type 0} (causes : List (Option TantivyError)) (schema : Schema) (analyzer : Analyzer)
+    (ids : List ℕ) (batches : List Batch) (result : Result T TantivyError) (before after : DirectoryState)
+    : Type 0 where
   pub files : List SegmentFiles
   pub many : length files ≡ length ids
   pub stand : OnOk result (AllStandFor schema analyzer files batches)
   pub works : Works (batches_steps ids causes files) result before after
-
--- ---- in the words of calls with their answers
-
--- the six files of each of these segments are made, and no others
-abbrev pub MakesFiles : Result (Unit {0}) TantivyError → List ℕ → List ℕ → DirectoryState → DirectoryState → Type 0
-MakesFiles end made ids before after = Does (wrote (six_files made)) (six_files ids) end before after
-
--- a batch is refused: the files of the batches before it are made
-pub record RefusesBatch (ids : List ℕ) (e : TantivyError) (before after : DirectoryState) : Type 0 where
-  pub refusal : IsRefusal e
-  pub made : ℕ
-  pub makes : MakesFiles (Ok tt) (take made ids) ids before after
-
--- all batches are written, a call of the directory fails, or a batch is refused
-abbrev pub WritesBatches : {T : Type 0} → List ℕ → Result T TantivyError → DirectoryState → DirectoryState → Type 0
-WritesBatches ids (Ok _) before after = MakesFiles (Ok tt) ids ids before after
-WritesBatches ids (Err e) before after = MakesFiles (Err e) ids ids before after ⊎ RefusesBatch ids e before after

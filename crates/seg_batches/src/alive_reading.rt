@@ -1,5 +1,5 @@
 //! The alive file of a segment, read back.
-ghost use Rattle.std.specs.Prelude.{◌≡◌, Some, not, length, option_map, IfOk};
+ghost use Rattle.std.specs.Prelude.{◌≡◌, Some, not, option_map};
 ghost use Rattle.std.specs.List.{count_by};
 ghost use Rattle.seg_meta.specs.Metas.{deletes_of};
 ghost use Rattle.seg_batches.specs.Reading.{ReadsAlive, alive_in, seen_as};
@@ -20,8 +20,7 @@ pub(crate) fn read_deletes<W: Directory>(
     deletes: Option<DeleteMeta>,
     directory: &mut W,
 ) -> TResult<Option<AliveBitSet>>
-    ensures size { IfOk result (λ alive. length (alive_of max_doc alive) ≡ max_doc) }
-    ensures reads { ReadsAlive id max_doc (option_map deletes_of deletes) (seen_as (alive_of max_doc) result)
+    ensures { ReadsAlive id max_doc (option_map deletes_of deletes) (seen_as (alive_of max_doc) result)
         (W.state directory.old)
         (W.state directory.new) }
 {

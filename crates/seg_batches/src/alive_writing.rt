@@ -1,11 +1,7 @@
 //! The alive files of segments, in a directory.
-ghost use Rattle.std.specs.Prelude.{◌≡◌, ◌≢◌, ◌∷◌, [], true, map, Some, Err, IfOk, IsTrue, OnOk};
-ghost use Rattle.seg_segment.specs.SegmentFiles.{AreAbsent, wrote};
+ghost use Rattle.std.specs.Prelude.{◌≡◌, ◌∷◌, [], Some, IfOk};
 ghost use Rattle.seg_bits.specs.BitSets.{set_of};
-ghost use Rattle.seg_model.specs.Valid.{are_distinct};
-ghost use Rattle.seg_batches.specs.Calls.{Does};
 ghost use Rattle.seg_batches.specs.AliveWriting.{WritesAlive};
-ghost use Rattle.seg_batches.specs.Segments.{AllTellAlive, alive_files, all_listed};
 
 use crate::written_segment::WrittenSegment;
 use seg_bits::{BitSet, write_alive_bitset};
@@ -23,16 +19,7 @@ pub fn write_alive_files<W: Directory>(
     segments: &[WrittenSegment],
     directory: &mut W,
 ) -> TResult<()>
-    requires distinct { are_distinct (map (λ s. s.id) segments.now) ≡ true }
     ensures does { WritesAlive stamp segments.now result (W.state directory.old) (W.state directory.new) }
-    ensures tell { IsTrue (W.state directory.old).tells → OnOk result
-        (AllTellAlive (W.state directory.new).files stamp segments.now) }
-    ensures fresh { IsTrue (W.state directory.old).tells
-        → AreAbsent (alive_files (all_listed stamp segments.now)) (W.state directory.old).files
-        → result ≢ Err TantivyError.IndexAlreadyExists }
-    ensures calls { Does (wrote (alive_files (all_listed stamp segments.now))) (alive_files (all_listed stamp segments.now)) result
-        (W.state directory.old)
-        (W.state directory.new) }
 {
     for segment in segments {
         match write_alive_file(alloc, stamp, segment, directory) {

@@ -1,25 +1,21 @@
 //! Which documents of a batch deletes leave.
-ghost use Rattle.std.specs.Prelude.{◌≡◌, ◌≤◌, ◌<◌, ◌^◌, ◌++◌, [], true, false, List, length, map, take, drop, IfOk, IfErr};
-ghost use Rattle.seg_model.specs.Contents.{Contents};
-ghost use Rattle.seg_model.specs.Fields.{Analyzer};
-ghost use Rattle.seg_model.specs.Operations.{Operation, additions, alive_after};
-ghost use Rattle.seg_removal.specs.Stamps.{addition_stamps, stamped_deletes};
+ghost use Rattle.std.specs.Prelude.{◌≡◌, ◌≤◌, ◌<◌, ◌^◌, true, length, map, take, drop, IfOk};
 ghost use Rattle.seg_deletes.specs.declared.doc_opstamp_mapping.DocToOpstampMapping.TheVariants.{WithMap};
 ghost use Rattle.seg_segment.specs.Built.{is_built_schema};
-ghost use Rattle.seg_open.specs.OpenSegment.{contents_of, terms_in};
-ghost use Rattle.seg_segment.specs.Spelling.{Spell};
-ghost use Rattle.seg_segment.specs.Standing.{StandFor};
-ghost use Rattle.seg_alive.specs.Applying.{IsTold, left_by};
-ghost use Rattle.seg_alive.specs.Laws.{as_operations};
-ghost use Rattle.seg_batches.specs.Making.{AreWhole, passed_below};
+ghost use Rattle.seg_open.specs.OpenSegment.{terms_in};
+ghost use Rattle.seg_open.specs.SegmentOpened.{IsReaderOf};
+ghost use Rattle.seg_batches.specs.Applying.{IsTold, KeepsDeletes, left_by};
+ghost use Rattle.seg_batches.specs.Making.{AreWhole, FindsLeft};
+ghost use Rattle.seg_batches.specs.Waiting.{SkipsEarlier, passed_below};
 
-use seg_alive::{applied_deletes_leave_the_alive, apply_deletes};
+use crate::applying::apply_deletes;
+use crate::laws::applied_deletes_leave_the_alive;
 use seg_bits::BitSet;
 use seg_deletes::{DeleteCursor, DeleteQueue, DocToOpstampMapping, Opstamp};
 use seg_open::{OpenError, SegmentReader};
 use seg_segment::{SegmentFiles, files_spell_one_contents};
-use seg_values::{Schema, TResult, TantivyError, Term};
-use std::alloc::Global;
+use seg_values::{Schema, Term};
+use std::alloc::{AllocError, Global};
 
 /// Which documents of a segment the deletes of a queue leave, and `None` where they leave all. The files are those of a
 /// batch whose first operation has the place `first`, and `stamps` are those of its documents.
@@ -34,23 +30,16 @@ pub(crate) fn alive_documents(
     stamps: &[Opstamp],
     queue: &mut DeleteQueue<Term>,
     cursor: &mut DeleteCursor,
-) -> TResult<Option<BitSet>>
+) -> Result<Option<BitSet>, AllocError>
     requires built { is_built_schema schema.now ≡ true }
     requires few { length stamps.now < 2 ^ 31 }
     requires whole { AreWhole schema.now files.now (length stamps.now) }
     requires cursor { cursor.old ≤ queue.old.flushed }
     requires passed { passed_below first (take cursor.old queue.old.operations) }
-    ensures alive { IfOk result (λ alive. (analyzer : Analyzer) (before batch after : List Operation) → length before ≡ first
-        → StandFor schema.now analyzer (additions batch) files.now
-        → stamps.now ≡ addition_stamps first batch
-        → as_operations queue.old.operations ≡ stamped_deletes 0 (before ++ (batch ++ after))
-        → IsTold (length stamps.now) (alive_after schema.now analyzer batch after) alive) }
-    ensures error { IfErr result (λ e. e ≡ TantivyError.OutOfMemory) }
-    ensures queue { queue.new.operations ≡ queue.old.operations }
-    ensures within { cursor.new ≤ queue.new.flushed }
-    ensures passed { passed_below first (take cursor.new queue.new.operations) }
+    ensures { FindsLeft schema.now files.now first stamps.now result queue.old queue.new cursor.new }
 {
     applied_deletes_leave_the_alive();
+    files_spell_one_contents();
     if !skip_earlier(queue, cursor, first) {
         return Ok(None);
     }
@@ -62,10 +51,7 @@ pub(crate) fn alive_documents(
 fn skip_earlier(queue: &mut DeleteQueue<Term>, cursor: &mut DeleteCursor, first: Opstamp) -> bool
     requires cursor { cursor.old ≤ queue.old.flushed }
     requires passed { passed_below first (take cursor.old queue.old.operations) }
-    ensures end { result ≡ false → drop cursor.new queue.old.operations ≡ [] }
-    ensures queue { queue.new.operations ≡ queue.old.operations }
-    ensures within { cursor.new ≤ queue.new.flushed }
-    ensures passed { passed_below first (take cursor.new queue.old.operations) }
+    ensures { SkipsEarlier first result queue.old queue.new cursor.new }
 {
     cursor.skip_to(queue, first);
     queue.get(cursor).is_some()
@@ -77,17 +63,14 @@ fn open_made(
     schema: &Schema,
     max_doc: u32,
     files: &SegmentFiles,
-) -> TResult<SegmentReader>
+) -> Result<SegmentReader, AllocError>
     requires built { is_built_schema schema.now ≡ true }
     requires whole { AreWhole schema.now files.now max_doc }
-    ensures documents { IfOk result (λ r. r.documents ≡ max_doc) }
-    ensures contents { IfOk result (λ r. (contents : Contents) → Spell schema.now files.now contents → contents_of r ≡ contents) }
-    ensures error { IfErr result (λ e. e ≡ TantivyError.OutOfMemory) }
+    ensures { IfOk result (IsReaderOf schema.now max_doc files.now) }
 {
-    files_spell_one_contents();
     match SegmentReader::open_files(alloc, schema.share(), max_doc, files.share()) {
         Ok(reader) => Ok(reader),
-        Err(OpenError::OutOfMemory) => Err(TantivyError::OutOfMemory),
+        Err(OpenError::OutOfMemory) => Err(AllocError),
         Err(OpenError::Damaged(_)) => unreachable!(),
     }
 }
@@ -99,14 +82,12 @@ fn apply_from(
     queue: &mut DeleteQueue<Term>,
     mut cursor: DeleteCursor,
     stamps: &[Opstamp],
-) -> TResult<Option<BitSet>>
+) -> Result<Option<BitSet>, AllocError>
     requires stamps { length stamps.now ≡ reader.documents }
     requires cursor { cursor ≤ queue.old.flushed }
     ensures left { IfOk result (IsTold reader.documents
         (left_by (map terms_in reader.fields) (WithMap stamps.entry) reader.documents (drop cursor queue.old.operations))) }
-    ensures error { IfErr result (λ e. e ≡ TantivyError.OutOfMemory) }
-    ensures queue { queue.new.operations ≡ queue.old.operations }
-    ensures rises { queue.old.flushed ≤ queue.new.flushed }
+    ensures keeps { KeepsDeletes queue.old queue.new }
 {
     let mapping = DocToOpstampMapping::WithMap(stamps);
     apply_deletes(alloc, &reader, queue, &mut cursor, &mapping)

@@ -1,19 +1,20 @@
 //! The segment of a batch, in memory.
-ghost use Rattle.std.specs.Prelude.{◌≡◌, ◌<◌, ◌+◌, ◌^◌, ◌⊎◌, [], map, length, Some, IfOk, IfErr, OnOk};
+ghost use Rattle.std.specs.Prelude.{◌≡◌, ◌<◌, ◌+◌, ◌^◌, [], map, length, IfOk};
 ghost use Rattle.seg_model.specs.Operations.{additions};
-ghost use Rattle.seg_build.specs.SegmentWriting.{IsOfSame, Writes};
+ghost use Rattle.seg_build.specs.SegmentWriting.{Writes};
 ghost use Rattle.seg_input.specs.View.{operation_of};
 ghost use Rattle.seg_build.specs.WriterStart.{start_refusal};
-ghost use Rattle.seg_batches.specs.Indexing.{AreOfBatch, HasAdditions, IsNotTaken, IsTaken, is_addition};
-ghost use Rattle.seg_batches.specs.Making.{Passes};
-ghost use Rattle.seg_refusals.specs.Refusals.{batch_error};
+ghost use Rattle.seg_batches.specs.Indexing.{AddsAll, AreOfBatch, IsUnused, Takes, is_addition};
+ghost use Rattle.seg_model.specs.Refused.{batch_error};
+ghost use Rattle.seg_model.specs.Telling.{Tells};
 
 use seg_build::{LEAST_BUDGET, MemorySegment, SegmentWriter};
 use seg_common::SegmentId;
 use seg_deletes::Opstamp;
 use seg_input::UserOperation;
 use seg_meta::{IndexSettings, Segment, SegmentMeta};
-use seg_values::{Analyzers, ArgumentCause, Schema, TResult, TantivyDocument, TantivyError};
+use seg_values::{ArgumentCause, Schema, TResult, TantivyDocument, TantivyError};
+use seg_words::Analyzers;
 use std::alloc::Global;
 
 /// The most documents of a segment.
@@ -28,7 +29,7 @@ pub(crate) fn index_batch<Z: Analyzers>(
     requires places { first + length operations.now < 2 ^ 64 }
     requires fresh { Writes (Z.tokens_of writer.0) [] [] writer.1 }
     ensures segment { IfOk result (λ s. AreOfBatch writer.entry.1.schema (Z.tokens_of writer.entry.0) first (map operation_of operations.now) s.files s.stamps.items) }
-    ensures passes { Passes (batch_error writer.entry.1.schema (Z.tokens_of writer.entry.0) first (map operation_of operations.now)) result }
+    ensures tells { Tells (batch_error writer.entry.1.schema (Z.tokens_of writer.entry.0) first (map operation_of operations.now)) result }
 {
     if count_additions(operations) > MAX_DOCUMENTS {
         return Err(TantivyError::InvalidArgument(ArgumentCause::Documents));
@@ -71,10 +72,7 @@ fn add_operations<Z: Analyzers>(
     requires places { first + length operations.now < 2 ^ 64 }
     requires few { length (additions (map operation_of operations.now)) < 2 ^ 31 }
     requires fresh { Writes (Z.tokens_of writer.old.0) [] [] writer.old.1 }
-    ensures added { OnOk result (HasAdditions (Z.tokens_of writer.old.0) first (map operation_of operations.now) writer.new.1) }
-    ensures analyzers { writer.new.0 ≡ writer.old.0 }
-    ensures schema { writer.new.1.schema ≡ writer.old.1.schema }
-    ensures err { IfErr result (λ e. (e ≡ TantivyError.OutOfMemory) ⊎ (batch_error writer.old.1.schema (Z.tokens_of writer.old.0) first (map operation_of operations.now) ≡ Some e)) }
+    ensures { AddsAll Z.tokens_of first (map operation_of operations.now) result writer.old writer.new }
 {
     for (at, operation) in operations.iter().enumerate() {
         match add_operation(first + at as u64, operation, writer) {
@@ -91,10 +89,7 @@ fn add_operation<Z: Analyzers>(
     operation: &UserOperation<TantivyDocument>,
     writer: &mut SegmentWriter<'_, Z>,
 ) -> TResult<()>
-    ensures ok { OnOk result (IsTaken (Z.tokens_of writer.old.0) place (operation_of operation.now) writer.old.1 writer.new.1) }
-    ensures err { IfErr result (IsNotTaken (Z.tokens_of writer.old.0) place (operation_of operation.now) writer.old.1 writer.new.1) }
-    ensures analyzers { writer.new.0 ≡ writer.old.0 }
-    ensures same { IsOfSame writer.old.1 writer.new.1 }
+    ensures { Takes Z.tokens_of place (operation_of operation.now) result writer.old writer.new }
 {
     match operation {
         UserOperation::Add(document) => writer.add_ref(place, document),
@@ -110,9 +105,8 @@ pub(crate) fn new_writer<'a, Z: Analyzers>(
     analyzers: &'a Z,
     id: SegmentId,
 ) -> TResult<SegmentWriter<'a, Z>>
-    ensures unused { IfOk result (λ w. Writes (Z.tokens_of analyzers.now) [] [] w.1) }
-    ensures of { IfOk result (λ w. (w.0 ≡ analyzers.now) × (w.1.schema ≡ schema.now)) }
-    ensures passes { Passes (start_refusal (Z.knows analyzers.now) 15000 schema.now settings.now) result }
+    ensures unused { IfOk result (λ w. (w.0 ≡ analyzers.now) × IsUnused schema.now (Z.tokens_of analyzers.now) w.1) }
+    ensures tells { Tells (start_refusal (Z.knows analyzers.now) 15000 schema.now settings.now) result }
 {
     let segment = Segment::new(schema.share(), SegmentMeta::new(id, 0, None));
     // A batch is kept whole, whatever it takes.

@@ -1,16 +1,13 @@
 //! The segment of a batch, and which of its documents later deletes leave.
-ghost use Rattle.std.specs.Prelude.{◌≡◌, ◌≤◌, ◌<◌, ◌+◌, ◌^◌, ◌++◌, true, List, length, map, take, IfOk};
+ghost use Rattle.std.specs.Prelude.{◌≡◌, ◌≤◌, ◌<◌, ◌+◌, ◌^◌, true, length, map, take, IfOk};
 ghost use Rattle.std.specs.List.{enumerate_from};
-ghost use Rattle.seg_model.specs.Operations.{Operation, additions, alive_after};
-ghost use Rattle.seg_removal.specs.Stamps.{stamped_deletes};
 ghost use Rattle.seg_segment.specs.Built.{is_built_schema};
-ghost use Rattle.seg_segment.specs.Standing.{StandFor};
 ghost use Rattle.seg_input.specs.View.{operation_of};
 ghost use Rattle.seg_build.specs.WriterStart.{start_refusal};
-ghost use Rattle.seg_alive.specs.Applying.{IsTold};
-ghost use Rattle.seg_alive.specs.Laws.{as_operations};
 ghost use Rattle.seg_batches.specs.Indexing.{AreOfBatch};
-ghost use Rattle.seg_batches.specs.Making.{Passes, passed_below};
+ghost use Rattle.seg_model.specs.Telling.{Tells};
+ghost use Rattle.seg_batches.specs.Making.{IsSegmentOf, MakesSegment};
+ghost use Rattle.seg_batches.specs.Waiting.{passed_below};
 ghost use Rattle.seg_batches.specs.Writing.{batch_cause};
 
 use crate::batch_alive::alive_documents;
@@ -22,7 +19,8 @@ use seg_deletes::{DeleteCursor, DeleteQueue, Opstamp};
 use seg_input::UserOperation;
 use seg_meta::IndexSettings;
 use seg_segment::SegmentFiles;
-use seg_values::{Analyzers, Schema, TResult, TantivyDocument, TantivyError, Term};
+use seg_values::{Schema, TResult, TantivyDocument, TantivyError, Term};
+use seg_words::Analyzers;
 use std::alloc::Global;
 
 /// The segment of a batch, whose files aren't made yet, and which of its documents later deletes leave; `None` where they
@@ -54,18 +52,16 @@ pub(crate) fn make_batch<Z: Analyzers>(
     requires places { first + length operations.now < 2 ^ 64 }
     requires cursor { cursor.old ≤ queue.old.flushed }
     requires passed { passed_below first (take cursor.old queue.old.operations) }
-    ensures made { IfOk result (λ b. StandFor schema.now (Z.tokens_of analyzers.now) (additions (map operation_of operations.now)) b.files) }
-    ensures number { IfOk result (λ b. (b.max_doc ≡ length (additions (map operation_of operations.now))) × (b.max_doc < 2 ^ 31)) }
-    ensures alive { IfOk result (λ b. (before after : List Operation) → length before ≡ first
-        → as_operations queue.old.operations ≡ stamped_deletes 0 (before ++ (map operation_of operations.now ++ after))
-        → IsTold b.max_doc (alive_after schema.now (Z.tokens_of analyzers.now) (map operation_of operations.now) after) b.alive) }
-    ensures queue { queue.new.operations ≡ queue.old.operations }
-    ensures within { cursor.new ≤ queue.new.flushed }
-    ensures passed { passed_below first (take cursor.new queue.new.operations) }
-    ensures passes { Passes (batch_cause (start_refusal (Z.knows analyzers.now) 15000 schema.now settings.now) schema.now (Z.tokens_of analyzers.now) (enumerate_from first (map operation_of operations.now))) result }
+    ensures segment { IfOk result (λ b. IsSegmentOf schema.now (Z.tokens_of analyzers.now) first (map operation_of operations.now)
+        queue.old.operations b.files b.max_doc b.alive) }
+    ensures makes { MakesSegment (batch_cause (start_refusal (Z.knows analyzers.now) 15000 schema.now settings.now) schema.now
+        (Z.tokens_of analyzers.now) (enumerate_from first (map operation_of operations.now)))
+        first result queue.old queue.new cursor.new }
 {
     let (files, stamps) = batch_files(alloc, schema, settings, analyzers, id, first, operations)?;
-    let alive = alive_documents(alloc, schema, &files, first, &stamps, queue, cursor)?;
+    let Ok(alive) = alive_documents(alloc, schema, &files, first, &stamps, queue, cursor) else {
+        return Err(TantivyError::OutOfMemory);
+    };
     Ok(MadeBatch {
         files,
         max_doc: stamps.len() as u32,
@@ -85,7 +81,7 @@ fn batch_files<Z: Analyzers>(
 ) -> TResult<(SegmentFiles, Vec<Opstamp>)>
     requires places { first + length operations.now < 2 ^ 64 }
     ensures made { IfOk result (λ m. AreOfBatch schema.now (Z.tokens_of analyzers.now) first (map operation_of operations.now) m.0 m.1.items) }
-    ensures passes { Passes (batch_cause (start_refusal (Z.knows analyzers.now) 15000 schema.now settings.now) schema.now (Z.tokens_of analyzers.now) (enumerate_from first (map operation_of operations.now))) result }
+    ensures tells { Tells (batch_cause (start_refusal (Z.knows analyzers.now) 15000 schema.now settings.now) schema.now (Z.tokens_of analyzers.now) (enumerate_from first (map operation_of operations.now))) result }
 {
     let writer = match new_writer(alloc, schema, settings, analyzers, id) {
         Ok(writer) => writer,

@@ -1,22 +1,18 @@
 //! The segments of all batches, in a directory.
-ghost use Rattle.std.specs.Prelude.{◌≡◌, ◌≢◌, ◌+◌, ◌^◌, ◌<◌, ◌≤◌, ◌⊎◌, ◌∷◌, ◌++◌, [], true, Some, Err, length, map, take, slice_range, slice_get, unwrap_or, IfOk, IfErr, IsTrue, OnOk};
-ghost use Rattle.std.specs.List.{AllByRecursion, enumerate_from, list_all};
-ghost use Rattle.seg_alive.specs.Laws.{as_operations};
+ghost use Rattle.std.specs.Prelude.{◌≡◌, ◌+◌, ◌^◌, ◌<◌, ◌≤◌, ◌∷◌, ◌++◌, [], true, length, map, take, slice_range, slice_get, unwrap_or, IfOk, OnOk};
+ghost use Rattle.std.specs.List.{enumerate_from};
+ghost use Rattle.seg_batches.specs.Laws.{as_operations};
 ghost use Rattle.seg_directory.specs.Works.{Works};
 ghost use Rattle.seg_segment.specs.Built.{is_built_schema};
-ghost use Rattle.seg_segment.specs.SegmentFiles.{AreAbsent, write_steps};
+ghost use Rattle.seg_segment.specs.SegmentFiles.{write_steps};
 ghost use Rattle.seg_input.specs.View.{operation_of};
 ghost use Rattle.seg_build.specs.WriterStart.{start_refusal};
-ghost use Rattle.seg_model.specs.Built.{is_taken};
-ghost use Rattle.seg_model.specs.Operations.{Batch, additions, batches};
-ghost use Rattle.seg_model.specs.Checked.{first_of};
-ghost use Rattle.seg_model.specs.Refused.{batch_refusal, cut_from};
-ghost use Rattle.seg_model.specs.Valid.{are_distinct, cuts_fit};
+ghost use Rattle.seg_model.specs.Operations.{batches};
+ghost use Rattle.seg_model.specs.Valid.{cuts_fit};
 ghost use Rattle.seg_removal.specs.Stamps.{stamped_deletes};
-ghost use Rattle.seg_batches.specs.Making.{passed_below};
-ghost use Rattle.seg_refusals.specs.Refusals.{IfRefusal};
-ghost use Rattle.seg_batches.specs.Segments.{AllStand, LacksSome, alive_of, segment_of, segments_of, six_files};
-ghost use Rattle.seg_batches.specs.Writing.{MakesBatch, MakesBatches, WritesBatches, batch_between, batch_cause, batch_causes};
+ghost use Rattle.seg_batches.specs.Segments.{LacksSome, alive_of, segments_of};
+ghost use Rattle.seg_batches.specs.Waiting.{passed_below};
+ghost use Rattle.seg_batches.specs.Writing.{MakesBatches, WritesBatch, batch_between, batch_cause, batch_causes};
 
 use crate::batch_making::{MadeBatch, make_batch};
 use crate::delete_queue::delete_queue;
@@ -26,7 +22,8 @@ use seg_deletes::{DeleteCursor, DeleteQueue, Opstamp};
 use seg_directory::Directory;
 use seg_input::UserOperation;
 use seg_meta::IndexSettings;
-use seg_values::{Analyzers, Schema, TResult, TantivyDocument, TantivyError, Term};
+use seg_values::{Schema, TResult, TantivyDocument, TantivyError, Term};
+use seg_words::Analyzers;
 use std::alloc::{AllocError, Global};
 
 /// Writes the segment of each batch, one after another: the operations up to each cut, and those after the last. Each has
@@ -47,28 +44,14 @@ pub fn write_batches<Z: Analyzers, W: Directory>(
     requires built { is_built_schema schema.now ≡ true }
     requires cuts { cuts_fit (map operation_of operations.now) cuts.now ≡ true }
     requires ids { length ids.now ≡ length cuts.now + 1 }
-    requires distinct { are_distinct ids.now ≡ true }
     ensures does { MakesBatches (batch_causes (start_refusal (Z.knows analyzers.now) 15000 schema.now settings.now) schema.now (Z.tokens_of analyzers.now) cuts.now (map operation_of operations.now))
         schema.now (Z.tokens_of analyzers.now) ids.now (batches schema.now (Z.tokens_of analyzers.now) cuts.now (map operation_of operations.now)) result
         (W.state directory.old)
         (W.state directory.new) }
     ensures segments { IfOk result (λ ws. ws.items ≡ segments_of ids.now (batches schema.now (Z.tokens_of analyzers.now) cuts.now (map operation_of operations.now))) }
-    ensures few { OnOk result (AllByRecursion (λ (b : Batch). length b.documents < 2 ^ 31) (batches schema.now (Z.tokens_of analyzers.now) cuts.now (map operation_of operations.now))) }
-    ensures taken { OnOk result (list_all (is_taken schema.now (Z.tokens_of analyzers.now)) (additions (map operation_of operations.now)) ≡ true) }
-    ensures stand { IsTrue (W.state directory.old).tells → OnOk result
-        (AllStand schema.now (Z.tokens_of analyzers.now) (W.state directory.new).files ids.now (batches schema.now (Z.tokens_of analyzers.now) cuts.now (map operation_of operations.now))) }
-    ensures fresh { IsTrue (W.state directory.old).tells → AreAbsent (six_files ids.now) (W.state directory.old).files
-        → result ≢ Err TantivyError.IndexAlreadyExists }
-    ensures calls { WritesBatches ids.now result
-        (W.state directory.old)
-        (W.state directory.new) }
-    ensures refused { IfErr result (IfRefusal (λ e.
-        (start_refusal (Z.knows analyzers.now) 15000 schema.now settings.now ≡ Some e)
-        ⊎ (first_of (batch_refusal schema.now (Z.tokens_of analyzers.now)) (cut_from 0 cuts.now (enumerate_from 0 (map operation_of operations.now))) ≡ Some e))) }
 {
-    let mut queue = match delete_queue(alloc, operations) {
-        Ok(queue) => queue,
-        Err(e) => return Err(e),
+    let Ok(mut queue) = delete_queue(alloc, operations) else {
+        return Err(TantivyError::OutOfMemory);
     };
     let mut cursor = queue.cursor();
     let mut written = Vec::new(alloc);
@@ -135,14 +118,11 @@ fn write_batch<Z: Analyzers, W: Directory>(
     requires waits { as_operations queue.old.operations ≡ stamped_deletes 0 (map operation_of operations.now) }
     requires cursor { cursor.old ≤ queue.old.flushed }
     requires passed { passed_below first (take cursor.old queue.old.operations) }
-    ensures does { MakesBatch (batch_cause (start_refusal (Z.knows analyzers.now) 15000 schema.now settings.now) schema.now (Z.tokens_of analyzers.now) (enumerate_from first (slice_range (map operation_of operations.now) first end)))
-        schema.now (Z.tokens_of analyzers.now) id (batch_between schema.now (Z.tokens_of analyzers.now) first end (map operation_of operations.now)) result
+    ensures { WritesBatch (batch_cause (start_refusal (Z.knows analyzers.now) 15000 schema.now settings.now) schema.now (Z.tokens_of analyzers.now) (enumerate_from first (slice_range (map operation_of operations.now) first end)))
+        schema.now (Z.tokens_of analyzers.now) id first (batch_between schema.now (Z.tokens_of analyzers.now) first end (map operation_of operations.now)) result
+        queue.old queue.new cursor.new
         (W.state directory.old)
         (W.state directory.new) }
-    ensures segment { IfOk result (λ s. s ≡ segment_of id (batch_between schema.now (Z.tokens_of analyzers.now) first end (map operation_of operations.now))) }
-    ensures queue { queue.new.operations ≡ queue.old.operations }
-    ensures within { cursor.new ≤ queue.new.flushed }
-    ensures passed { passed_below first (take cursor.new queue.new.operations) }
 {
     let batch = &operations[first..end];
     let made = match make_batch(

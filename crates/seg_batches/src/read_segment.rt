@@ -1,6 +1,6 @@
 //! A segment that was read back.
 ghost use Rattle.std.specs.Prelude.{◌≡◌, length};
-ghost use Rattle.seg_join.specs.KeptSegment.{marks_of};
+ghost use Rattle.seg_open.specs.KeptSegment.{marks_of};
 ghost use Rattle.seg_batches.specs.Segments.{alive_of};
 
 use seg_bits::AliveBitSet;
@@ -17,7 +17,7 @@ pub struct ReadSegment {
 
 impl Model for ReadSegment {
     ghost use Rattle.std.specs.Prelude.{◌≡◌, length};
-    ghost use Rattle.seg_join.specs.KeptSegment.{KeptSegment};
+    ghost use Rattle.seg_open.specs.KeptSegment.{KeptSegment};
     ghost use Rattle.seg_batches.specs.Segments.{alive_of};
 
     ghost Value = { KeptSegment };
@@ -29,9 +29,8 @@ impl Model for ReadSegment {
 
 impl ReadSegment {
     pub(crate) fn new(reader: SegmentReader, alive: Option<AliveBitSet>) -> ReadSegment
-        requires size { length (alive_of reader.documents alive) ≡ reader.documents }
-        ensures segment { result.segment ≡ reader }
-        ensures alive { result.alive ≡ alive_of reader.documents alive }
+        requires { length (alive_of reader.documents alive) ≡ reader.documents }
+        ensures { result ≡ record { segment = reader; alive = alive_of reader.documents alive } }
     {
         ReadSegment { reader, alive }
     }

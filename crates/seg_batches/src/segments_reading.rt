@@ -1,8 +1,7 @@
 //! Segments, read back.
-ghost use Rattle.std.specs.Prelude.{◌≡◌, ◌<◌, ◌∷◌, ◌++◌, [], true, vec_len, vec_capacity, Ok, Err, IfErr, OnOk};
+ghost use Rattle.std.specs.Prelude.{◌≡◌, ◌<◌, ◌∷◌, ◌++◌, [], true, vec_len, vec_capacity};
 ghost use Rattle.seg_segment.specs.Built.{is_built_schema};
-ghost use Rattle.seg_join.specs.KeptSegment.{KeptSegment};
-ghost use Rattle.seg_batches.specs.Reading.{ReadsSegment, ReadsSegments, seen_as};
+ghost use Rattle.seg_batches.specs.Reading.{ReadsNext, ReadsSegment, ReadsSegments, seen_as};
 
 use crate::alive_reading::read_deletes;
 use crate::read_segment::ReadSegment;
@@ -47,12 +46,7 @@ fn read_next<W: Directory>(
     read: &mut Vec<ReadSegment>,
 ) -> TResult<()>
     requires built { is_built_schema schema.now ≡ true }
-    ensures read { OnOk result ((next : KeptSegment) × (read.new.items ≡ read.old.items ++ next ∷ []) × ReadsSegment schema.now segment.now (Ok next)
-        (W.state directory.old)
-        (W.state directory.new)) }
-    ensures stops { IfErr result (λ e. ReadsSegment schema.now segment.now (Err e)
-        (W.state directory.old)
-        (W.state directory.new)) }
+    ensures { ReadsNext schema.now segment.now result read.old.items read.new.items (W.state directory.old) (W.state directory.new) }
 {
     let Ok(()) = read.reserve(1) else {
         return Err(TantivyError::OutOfMemory);

@@ -5,7 +5,8 @@ use anyhow::Result;
 use seg_common::{DateTimePrecision, OwnedBytes};
 use seg_postings::FieldTerms;
 use seg_termdict::TermDictionary;
-use seg_values::{FieldEntry, FieldKind, IndexOption, Text};
+use seg_values::{FieldEntry, FieldKind, IndexOption};
+use seg_words::Text;
 use std::alloc::{AllocError, Global};
 
 /// How many of the keys that are looked up a dictionary has. They are drawn from the numbers below twice that of its terms, each in four

@@ -2,6 +2,7 @@ pub mod Bits
 pub mod Found
 pub mod Kept
 pub mod Lowest
+mod Meet
 pub mod Members
 pub mod OneForm
 pub mod Shared

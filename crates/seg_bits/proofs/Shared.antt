@@ -11,7 +11,7 @@ use Rattle.std.proofs.lemmas.List.FromFn.{get_or-map-range_with_len, length-map-
 use Rattle.std.proofs.lemmas.Nat.Bits.{bit_at_and, bit_at-lt, bit_at-zero}
 use Rattle.std.proofs.lemmas.Nat.{and_le_l}
 use Rattle.seg_common.specs.LittleEndian.{u32_at}
-use Rattle.seg_model.specs.Operations.{both_marked}
+use Rattle.seg_common.specs.Marks.{both_marked}
 use Rattle.seg_bits.specs.BitSets.{words_for, members, is_clear_from, words_of, is_bit_set, set_in}
 use Rattle.seg_bits.proofs.Bits.{has}
 use Rattle.seg_bits.proofs.Members.{clear_at, clear_from, length-members, get_or-members}

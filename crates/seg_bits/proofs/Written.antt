@@ -1,25 +1,21 @@
 -- Sets that are written are read back, and what a write that fails leaves.
-use Rattle.std.proofs.Common.{◌≡◌, ◌<◌, ℕ, zero, suc, ◌+◌, ◌*◌, ◌^◌, true, List, [], ◌∷◌, ◌++◌, Option, Some, length, take, drop, get_or, refl, sym, ap, ◌∙◌, subst, arith, append_assoc, length-append}
+use Rattle.std.proofs.Common.{◌≡◌, ◌<◌, ℕ, zero, suc, ◌+◌, ◌*◌, ◌^◌, true, List, [], ◌∷◌, ◌++◌, Option, Some, length, take, drop, get_or, sym, ap, ◌∙◌, subst, arith, append_assoc, length-append}
 use Rattle.std.specs.Int.{w32, w64, to_le_bytes, from_le_bytes}
 use Rattle.std.specs.List.{flat_map}
 use Rattle.std.specs.Io.KnownBytes.{Appends}
 use Rattle.std.proofs.lemmas.Grind.{flat_map-append}
-use Rattle.std.specs.Prelude.{Result, Ok, Err, OnErr}
 use Rattle.std.proofs.lemmas.List.{drop-drop, ext_get_or, take-append-drop, take_more, append-nil}
 use Rattle.std.proofs.lemmas.Nat.{from_le_bytes-to_le_bytes_4, from_le_bytes-to_le_bytes_8}
 use Rattle.seg_common.specs.LittleEndian.{u32_at, u64_at}
 use Rattle.seg_common.specs.Streams.{AppendsPart}
-use Rattle.seg_common.proofs.Known.{Appends-append}
+use Rattle.seg_common.proofs.Known.{part_of_front, front_and_part}
+use Rattle.seg_common.proofs.Bytes.{length-numbers}
 use Rattle.seg_bits.specs.BitSets.{words_for, members, is_clear_from, words_of, is_bit_set, set_in, set_of}
 use Rattle.seg_bits.proofs.Spelled.{length-words_of, get_or-words_of, is_set, reads_some}
 
 -- a size, and words after it
 abbrev pub spelled : ℕ → List ℕ → List ℕ
 spelled size words = to_le_bytes w32 size ++ flat_map (to_le_bytes w64) words
-
-length-words : (words : List ℕ) → length (flat_map (to_le_bytes w64) words) ≡ 8 * length words
-length-words [] = refl
-length-words (w ∷ ws) = omega (arith, length-append (to_le_bytes w64 w) (flat_map (to_le_bytes w64) ws), length-words ws)
 
 pub size_at : (size : ℕ) (words : List ℕ) → size < 2 ^ 32 → u32_at (spelled size words) 0 ≡ size
 unfolding u32_at
@@ -53,7 +49,7 @@ module _ (size : ℕ) (words : List ℕ) (small : size < 2 ^ 32) (enough : lengt
   pub is_set_back : is_clear_from size words ≡ true → is_bit_set (spelled size words) ≡ true
   is_set_back clear =
       let long : length (spelled size words) ≡ 4 + 8 * words_for (u32_at (spelled size words) 0) =
-      length-append (to_le_bytes w32 size) (flat_map (to_le_bytes w64) words) ∙ ap (λ n. 4 + n) (length-words words ∙ ap (λ n. 8 * n) (enough ∙ ap words_for (sym (size_at size words small)))) in
+      length-append (to_le_bytes w32 size) (flat_map (to_le_bytes w64) words) ∙ ap (λ n. 4 + n) (length-numbers words ∙ ap (λ n. 8 * n) (enough ∙ ap words_for (sym (size_at size words small)))) in
       is_set (spelled size words) long
       (ap (λ n. is_clear_from n (words_of (spelled size words))) (size_at size words small) ∙ ap (is_clear_from size) words_back ∙ clear)
 
@@ -61,19 +57,6 @@ module _ (size : ℕ) (words : List ℕ) (small : size < 2 ^ 32) (enough : lengt
   read_back clear = reads_some (spelled size words) (is_set_back clear) ∙ ap Some set_back
 
 -- ---- parts
-
--- a part of the front is a part of the whole
-pub part_of_front : (a b : Option (List ℕ)) (xs ys : List ℕ) → AppendsPart a b xs → AppendsPart a b (xs ++ ys)
-part_of_front a b xs ys (part, rest, is, appended) = (part, rest ++ ys, ap (λ zs. zs ++ ys) is ∙ append_assoc part rest ys, appended)
-
--- the front, and a part of what follows it
-pub front_and_part : (a b c : Option (List ℕ)) (xs ys : List ℕ) → Appends a b xs → AppendsPart b c ys → AppendsPart a c (xs ++ ys)
-front_and_part a b c xs ys front (part, rest, is, appended) = (xs ++ part, rest, ap (λ zs. xs ++ zs) is ∙ sym (append_assoc xs part rest), Appends-append a b c xs part front appended)
-
--- what holds anyway holds at an error
-pub at_error : {T E Q : Type 0} (r : Result T E) → Q → OnErr r Q
-at_error (Ok x) q = tt
-at_error (Err e) q = q
 
 pub words_more : (words : List ℕ) (i : ℕ) → i < length words → flat_map (to_le_bytes w64) (take (i + 1) words) ≡ flat_map (to_le_bytes w64) (take i words) ++ to_le_bytes w64 (get_or words i 0)
 words_more words i h =

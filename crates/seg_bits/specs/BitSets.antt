@@ -5,7 +5,7 @@ use Rattle.std.specs.List.{flat_map, list_all, range_with_len, count_by}
 use Rattle.std.specs.Io.KnownBytes.{Appends}
 use Rattle.seg_common.specs.LittleEndian.{u32_at, u64_at}
 use Rattle.seg_common.specs.Streams.{AppendsPart}
-use Rattle.seg_model.specs.Operations.{kept}
+use Rattle.seg_common.specs.Marks.{kept, both_marked}
 
 -- how many words hold this many bits
 abbrev pub words_for : ℕ → ℕ
@@ -73,3 +73,9 @@ AreBytes bytes = (i : ℕ) → get_or bytes i 0 < 256
 -- bytes that read as one set are the same
 abbrev pub SetsHaveOneForm : Type 0
 SetsHaveOneForm = (a b : List ℕ) (set : List Bool) → AreBytes a → AreBytes b → set_of a ≡ Some set → set_of b ≡ Some set → a ≡ b
+
+-- what two alive sets share does not depend on their order or grouping
+pub record AliveSetsMeet : Type 0 where
+  pub commutative : (as' bs : List Bool) → both_marked as' bs ≡ both_marked bs as'
+  pub associative : (as' bs cs : List Bool) → both_marked (both_marked as' bs) cs ≡ both_marked as' (both_marked bs cs)
+  pub idempotent : (as' : List Bool) → both_marked as' as' ≡ as'

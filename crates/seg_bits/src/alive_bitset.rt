@@ -4,7 +4,7 @@ ghost use Rattle.seg_common.specs.Causes.{HasCause};
 ghost use Rattle.seg_common.specs.Streams.{StaysTold};
 ghost use Rattle.seg_common.specs.declared.error.CommonError.TheVariants.{Malformed, OutOfMemory, WriteFault};
 ghost use Rattle.seg_bits.specs.BitSets.{set_of, words_for, member_count, numbers_from, AppendsSet, AppendsPartOfSet};
-ghost use Rattle.seg_model.specs.Operations.{both_marked};
+ghost use Rattle.seg_common.specs.Marks.{both_marked};
 
 use crate::bit_set::BitSet;
 use crate::bit_set_iter::BitSetIter;

@@ -2,7 +2,7 @@
 ghost use Rattle.std.specs.Prelude.{◌≡◌, true, IfOk};
 ghost use Rattle.seg_common.specs.LittleEndian as little_endian;
 ghost use Rattle.seg_bits.specs.BitSets.{is_bit_set, set_in};
-ghost use Rattle.seg_model.specs.Operations.{both_marked};
+ghost use Rattle.seg_common.specs.Marks.{both_marked};
 
 use crate::words::{num_words, word_at};
 use seg_common::{put_u32, put_u64};

@@ -20,5 +20,5 @@ mod write;
 pub use alive_bitset::{AliveBitSet, intersect_alive_bitsets, write_alive_bitset};
 pub use bit_set::BitSet;
 pub use bit_set_iter::BitSetIter;
-pub use laws::sets_have_one_form;
+pub use laws::{alive_sets_meet, sets_have_one_form};
 pub use read_only_bit_set::{ReadOnlyBitSet, intersect_bitsets};

@@ -2,7 +2,7 @@
 ghost use Rattle.std.specs.Prelude.{◌≡◌, ◌+◌, ◌*◌, Some, None, false, length, get_or, IfOk, IfErr};
 ghost use Rattle.seg_common.specs.declared.error.CommonError.TheVariants.{Malformed, OutOfMemory};
 ghost use Rattle.seg_bits.specs.BitSets.{set_of, words_for, member_count, numbers_from};
-ghost use Rattle.seg_model.specs.Operations.{both_marked};
+ghost use Rattle.seg_common.specs.Marks.{both_marked};
 
 use crate::bit_set_iter::BitSetIter;
 use crate::intersect::shared_words;

@@ -10,8 +10,9 @@ use Rattle.seg_build.specs.Adding.{with_position, with_occurrence}
 use Rattle.seg_build.specs.declared.hits.Hit.{Hit}
 use Rattle.seg_build.specs.Grouped.{grouped}
 use Rattle.seg_build.specs.ByBytes.{by_bytes}
+use Rattle.seg_check.proofs.OnPaths.{Key, has_bytes}
 use Rattle.seg_build.proofs.Grouping.{grouped-push}
-use Rattle.seg_build.proofs.Hashed.{Key, has_bytes, get-by_bytes, by_bytes-updates, insert_same}
+use Rattle.seg_build.proofs.Hashed.{get-by_bytes, by_bytes-updates, insert_same}
 
 module _ {S : Type 0} (m n : HashMap Key (List Hit) S) (s : Terms) (is : by_bytes grouped m.entries ≡ s) (bs : List ℕ) (h : Hit) where
   had : (old : Option (List Hit)) → old ≡ hash.get_by (has_bytes bs) m → get s bs ≡ option_map grouped old

@@ -6,7 +6,7 @@ use Rattle.seg_columnar.specs.Columnar.{rows_of}
 use Rattle.seg_meta.specs.Metas.{SegmentParts}
 use Rattle.seg_model.specs.Fields.{Analyzer}
 use Rattle.seg_model.specs.Reading.{Terms}
-use Rattle.seg_postings.specs.FieldNorms.{filled}
+use Rattle.seg_norms.specs.FieldNorms.{filled}
 use Rattle.seg_store.specs.Writing.{Taken, all_blocks}
 use Rattle.seg_values.specs.Tree.{Document}
 use Rattle.seg_segment.specs.Built.{is_built_schema}

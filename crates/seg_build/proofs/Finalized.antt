@@ -8,7 +8,7 @@ use Rattle.seg_common.specs.declared.name.SegmentComponent.TheVariants.{Postings
 use Rattle.seg_values.specs.Tree.{Document}
 use Rattle.seg_values.specs.declared.error.TantivyError.{TantivyError}
 use Rattle.seg_model.specs.Fields.{Schema, Analyzer}
-use Rattle.seg_model.specs.IndexOfFiles as index
+use Rattle.seg_meta.specs.IndexOfFiles as index
 use Rattle.seg_directory.specs.State.{DirectoryState}
 use Rattle.seg_directory.specs.Works.{Works}
 use Rattle.seg_segment.specs.Forms.{segment_forms}

@@ -1,20 +1,13 @@
--- Tests that hold, and positions that are not refused.
-use Rattle.std.proofs.Common.{◌≡◌, ℕ, zero, suc, ◌<◌, Bool, true, cond, List, [], ◌∷◌, Some, None, length, refl, ap, ◌∙◌, arith}
-use Rattle.std.specs.Prelude.{nat_lt, ◌&&◌}
+-- Elements within lists, and positions that are not refused.
+use Rattle.std.proofs.Common.{◌≡◌, ℕ, zero, suc, ◌<◌, true, cond, List, [], ◌∷◌, Some, None, length, refl, ap, ◌∙◌, arith}
+use Rattle.std.specs.Prelude.{◌&&◌}
 use Rattle.std.specs.List.{slice_get, list_all}
-use Rattle.std.proofs.lemmas.Bool.Decides.{nat_tests}
 use Rattle.seg_values.specs.declared.schema.FieldEntry.{FieldEntry}
 use Rattle.seg_values.specs.Tree.{Tree}
 use Rattle.seg_model.specs.Fields.{Analyzer, indexing_tokenizer}
 use Rattle.seg_model.specs.Checked.{positions_fall, unless, is_rising, value_texts, positions_refusal}
 use Rattle.seg_model.specs.Occurrences.{counted, value_tokens}
 use Rattle.seg_segment.proofs.BuiltEntries.{IsTextEntry}
-
-pub is_less : (n m : ℕ) → nat_lt n m ≡ true → n < m
-is_less n m h = grind (arith, nat_tests)
-
-pub and_true : (a b : Bool) → a ≡ true → b ≡ true → (a && b) ≡ true
-and_true a b h k = ap (λ x. x && b) h ∙ k
 
 -- an element within a list
 pub record IsElement {X : Type 0} (xs : List X) (i : ℕ) : Type 0 where

@@ -1,35 +1,21 @@
 -- A hash table with byte vectors as keys, read by their bytes.
-use Rattle.std.proofs.Common.{◌≡◌, ℕ, Bool, true, false, cond, List, [], ◌∷◌, map, Some, Option, sym, refl, ap, ◌∙◌, Vec}
+use Rattle.std.proofs.Common.{◌≡◌, ℕ, Bool, true, false, cond, List, [], ◌∷◌, map, Some, Option, sym, refl, ap, ◌∙◌}
 use Rattle.std.specs.Ordering.{nat_cmp}
 use Rattle.std.specs.Option.{option_map}
 use Rattle.std.specs.Cmp.Lexicographic.{slice_cmp, bytes_decides, nat_list_cmp_total, nat_list_eq_equiv}
 use Rattle.std.specs.Str.{bytes_eq}
-use Rattle.std.specs.Map.{lookup, KeepsOthers}
+use Rattle.std.specs.Map.{lookup}
 use Rattle.std.specs.HashMap as hash
 use Rattle.std.specs.HashMap.{HashMap}
 use Rattle.std.specs.FinMap.{FinMap, get, find, insert, get-from_entries, get-insert, same_map, slice_cmp-IsAntisymmetric, nat_cmp-IsAntisymmetric}
-use Rattle.std.specs.declared.alloc.Global.{Global}
 use Rattle.std.proofs.lemmas.Bool.{cond-true, cond-false}
 use Rattle.std.proofs.lemmas.Map.Text.{is_eq-slice_cmp}
 use Rattle.seg_build.specs.ByBytes.{by_bytes}
-
-abbrev pub Key : Type 0
-Key = Vec ℕ Global
-
--- whether a key has the bytes
-abbrev pub has_bytes : List ℕ → Key → Bool
-has_bytes q k = bytes_eq q k.items
+use Rattle.seg_check.proofs.OnPaths.{Key, has_bytes, others_stay}
 
 -- maps that tell the same of each bytes are the same
 pub same_by_bytes : {Y : Type 0} (m n : FinMap (slice_cmp nat_cmp) Y) → ((q : List ℕ) → get m q ≡ get n q) → m ≡ n
 same_by_bytes = same_map nat_list_cmp_total (slice_cmp-IsAntisymmetric nat_cmp-IsAntisymmetric)
-
-apart : (bs cs ks : List ℕ) → bytes_eq bs cs ≡ false → bytes_eq bs ks ≡ true → bytes_eq cs ks ≡ false
-apart bs cs ks n y = nat_list_eq_equiv.symm cs ks ∙ sym (nat_list_eq_equiv.congr bs ks cs y) ∙ n
-
-others_stay : {X : Type 0} (bs : List ℕ) (old new : List (Key × X)) → KeepsOthers (λ x y. bytes_eq x.items y.items) (has_bytes bs) old new → (cs : List ℕ) → bytes_eq bs cs ≡ false → lookup (has_bytes cs) new ≡ lookup (has_bytes cs) old
-unfolding KeepsOthers
-others_stay bs old new h cs n = h (has_bytes cs) (λ x y. nat_list_eq_equiv.congr cs x.items y.items) (λ k. apart bs cs k.items n)
 
 module _ {X Y : Type 0} (see : X → Y) where
   -- what the view has is what a look-up finds

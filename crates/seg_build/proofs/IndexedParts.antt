@@ -1,8 +1,8 @@
 -- The values of a document in fields that are indexed.
-use Rattle.std.proofs.Common.{◌≡◌, ℕ, Bool, true, false, cond, [], ◌∷◌, map, Some, None, Option, sym, refl, ap, ◌∙◌, inl, inr, ◌⊎◌}
+use Rattle.std.proofs.Common.{◌≡◌, ℕ, true, false, cond, [], ◌∷◌, map, Some, None, Option, sym, refl, ap, ◌∙◌, inl, inr}
 use Rattle.std.specs.Prelude.{filter, nat_eq, ◌&&◌}
 use Rattle.std.specs.List.{slice_get}
-use Rattle.std.proofs.lemmas.Bool.{false≢true}
+use Rattle.std.proofs.lemmas.Bool.{false≢true, cases_Bool}
 use Rattle.std.proofs.lemmas.Bool.Decides.{eqb_tells}
 use Rattle.seg_values.specs.declared.schema.FieldEntry.{FieldEntry}
 use Rattle.seg_values.specs.Tree.{Tree, Document}
@@ -11,10 +11,6 @@ use Rattle.seg_check.specs.Texts.{is_text_field, text_part}
 use Rattle.seg_segment.specs.Built.{is_built_schema}
 use Rattle.seg_build.specs.Steps.{indexed_part}
 use Rattle.seg_segment.proofs.BuiltEntries.{text_entry_at}
-
-pub either : (b : Bool) → (b ≡ true) ⊎ (b ≡ false)
-either true = inl refl
-either false = inr refl
 
 module _ (k : ℕ) where
   values-own : (p : ℕ × Tree) (ps : Document) → nat_eq k p.0 ≡ true → values_of k (p ∷ ps) ≡ p.1 ∷ values_of k ps
@@ -48,7 +44,7 @@ module _ (schema : Schema) where
     own_test p same = ap (λ n. is_field is_indexed (slice_get schema n)) (sym same) ∙ ap (is_field is_indexed) at_e
 
     values_past : (p : ℕ × Tree) (ps : Document) → nat_eq k p.0 ≡ false → values_of k (indexed_part schema (p ∷ ps)) ≡ values_of k (indexed_part schema ps)
-    values_past p ps other = elim (either (is_field is_indexed (slice_get schema p.0))) [
+    values_past p ps other = elim (cases_Bool (is_field is_indexed (slice_get schema p.0))) [
       | inl is ↦ ap (values_of k) (part-kept p ps is) ∙ values-other k p (indexed_part schema ps) other
       | inr is ↦ ap (values_of k) (part-passed p ps is)
     ]
@@ -76,7 +72,7 @@ text_part-built schema built (p ∷ ps) = λ i. cond (same (slice_get schema p.0
   where
     same : (o : Option FieldEntry) → slice_get schema p.0 ≡ o → is_field is_text_field o ≡ is_field is_indexed o
     same None at = refl
-    same (Some e) at = elim (either (is_indexed e)) [
+    same (Some e) at = elim (cases_Bool (is_indexed e)) [
       | inl on ↦ ap (λ b. b && is_text e.kind) on ∙ ap is_text (text_entry_at schema p.0 e built at on).kind ∙ sym on
       | inr off ↦ ap (λ b. b && is_text e.kind) off ∙ sym off
     ]

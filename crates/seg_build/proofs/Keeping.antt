@@ -2,8 +2,9 @@
 use Rattle.std.proofs.Common.{◌≡◌, ℕ, suc, ◌+◌, ◌<◌, ◌≤◌, ◌^◌, ◌-◌, Bool, true, List, [], ◌∷◌, ◌++◌, map, length, take, drop, get_or, Some, None, Option, option_map, refl, sym, ap, ◌∙◌, subst, arith, length-append}
 use Rattle.std.specs.Prelude.{IsSomeAnd, IfSome}
 use Rattle.std.specs.List.{slice_get, list_all, AllByRecursion}
-use Rattle.std.proofs.lemmas.List.{length-map}
-use Rattle.seg_values.specs.declared.token.Token.{Token}
+use Rattle.std.proofs.lemmas.Bool.{and_from, and_parts}
+use Rattle.std.proofs.lemmas.List.{length-map, take_at}
+use Rattle.seg_words.specs.declared.token.Token.{Token}
 use Rattle.seg_values.specs.declared.schema.FieldEntry.{FieldEntry}
 use Rattle.seg_values.specs.Tree.{Tree, Document}
 use Rattle.seg_values.specs.Utf8.{IsUtf8Document}
@@ -11,7 +12,7 @@ use Rattle.seg_model.specs.Built.{is_taken}
 use Rattle.seg_model.specs.Fields.{Schema, Analyzer}
 use Rattle.seg_model.specs.Occurrences.{occurrences}
 use Rattle.seg_model.specs.Reading.{stored_document}
-use Rattle.seg_model.specs.StoredForm.{stored_form}
+use Rattle.seg_values.specs.StoredForm.{stored_form}
 use Rattle.seg_store.specs.BlockLaw.{AreTakenLast}
 use Rattle.seg_store.specs.Writing.{taken_count}
 use Rattle.seg_segment.specs.Built.{is_built_schema}
@@ -22,10 +23,11 @@ use Rattle.seg_build.specs.Field.{count_in}
 use Rattle.seg_build.specs.Lengths.{HaveLengths, with_lengths}
 use Rattle.seg_build.specs.MemoryUsage.{total, occurrence_count, text_count}
 use Rattle.seg_build.specs.SegmentWriting.{kept_of, Stores, IsKeptOf, IsUnderWay, HasPlace, Adds, HasRoom, HasTaken}
-use Rattle.seg_build.specs.Steps.{fresh, indexed_part, with_documents, with_pairs, with_texts}
+use Rattle.seg_build.specs.Steps.{AllFit, fresh, indexed_part, with_documents, with_pairs, with_texts}
+use Rattle.seg_build.specs.declared.field.FieldPostings.{FieldPostings}
 use Rattle.seg_build.specs.declared.writer_parts.WriterParts.{WriterParts}
-use Rattle.seg_segment.proofs.BuiltEntries.{both_true}
-use Rattle.seg_build.proofs.Fitting.{and_true}
+use Rattle.seg_common.proofs.Lists.{all_push}
+use Rattle.seg_build.proofs.FittingTexts.{document_fits}
 use Rattle.seg_build.proofs.KeptLengths.{fields_turn, tokens_in, lengths_turn}
 use Rattle.seg_build.proofs.IndexedParts.{text_part-built}
 use Rattle.seg_build.proofs.StoringDocuments.{HasStored, shallow_taken, stored_turn}
@@ -49,23 +51,11 @@ take-all : {X : Type 0} (xs : List X) → take (length xs) xs ≡ xs
 take-all [] = refl
 take-all (x ∷ xs) = ap (λ l. x ∷ l) (take-all xs)
 
--- a list whose front is written anew, as long as it was
-take-front : {X : Type 0} (xs rest : List X) (n : ℕ) → length xs ≡ n → take n (xs ++ rest) ≡ xs
-take-front {X} xs rest n many = ap (λ m. take m (xs ++ rest)) (sym many) ∙ all xs
-  where
-    all : (ys : List X) → take (length ys) (ys ++ rest) ≡ ys
-    all [] = refl
-    all (y ∷ ys) = ap (λ l. y ∷ l) (all ys)
-
 all-last : {X : Type 0} (test : X → Bool) (xs : List X) (x : X) → list_all test xs ≡ true → test x ≡ true → list_all test (xs ++ x ∷ []) ≡ true
-all-last test [] x h t = and_true (test x) true t refl
+all-last test [] x h t = and_from (test x) true t refl
 all-last test (y ∷ ys) x h t =
-    let two = both_true (test y) (list_all test ys) h in
-    and_true (test y) (list_all test (ys ++ x ∷ [])) two.0 (all-last test ys x two.1 t)
-
-every-last : {X : Type 0} (P : X → Type 0) (xs : List X) (x : X) → AllByRecursion P xs → P x → AllByRecursion P (xs ++ x ∷ [])
-every-last P [] x h p = (p, tt)
-every-last P (y ∷ ys) x h p = (h.0, every-last P ys x h.1 p)
+    let two = and_parts (test y) (list_all test ys) h in
+    and_from (test y) (list_all test (ys ++ x ∷ [])) two.0 (all-last test ys x two.1 t)
 
 weaker : {X : Type 0} (P Q : X → Type 0) (o : Option X) → ((x : X) → P x → Q x) → IsSomeAnd o P → IsSomeAnd o Q
 weaker P Q (Some x) f h = f x h
@@ -89,7 +79,7 @@ module _ (schema : Schema) (analyzer : Analyzer) (entries : is_built_schema sche
   within = omega (arith, more)
 
   before : take many all ≡ documents
-  before = take-front documents (d ∷ []) many refl
+  before = take_at documents (d ∷ []) many refl
 
   whole : take (many + 1) all ≡ all
   whole = ap (λ n. take n all) (sym more) ∙ take-all all
@@ -100,10 +90,16 @@ module _ (schema : Schema) (analyzer : Analyzer) (entries : is_built_schema sche
   few : many < 2 ^ 31 - 1
   few = omega (arith, count, place)
 
-  pub has_room : HasRoom d old
-  has_room = record {
+  pub has_room : (found : List FieldText) → map (text_in d) found ≡ document_texts schema analyzer d → HasRoom d found old
+  has_room found found_are = record {
     place = place;
     shallow = shallow_taken d (passed schema analyzer d taken).shallow;
+    fit =
+        let fit = document_fits schema analyzer entries d taken documents (with_documents schema analyzer 0 (map (λ _. fresh) schema) documents) (all_more schema analyzer entries [] (map (λ _. fresh) schema) documents (all_fresh schema analyzer entries)) in
+        let texts_are : map (text_in d) found ≡ map (text_of schema analyzer) (indexed_part schema d) = found_are ∙ ap (map (text_of schema analyzer)) (text_part-built schema entries d) in
+        subst (λ (n : ℕ). AllFit n old.fields (map (text_in d) found)) (sym count)
+        (subst (λ (fs : List FieldPostings). AllFit many fs (map (text_in d) found)) (sym are.fields)
+        (subst (λ (ts : List (ℕ × List Token)). AllFit many (with_documents schema analyzer 0 (map (λ _. fresh) schema) documents) ts) (sym texts_are) fit));
     store = if_some _ old.store (weaker (Stores schema documents) (λ w. taken_count w < 2 ^ 31 - 1) old.store (λ w s. omega (arith, s.count, few)) are.store);
   }
 
@@ -169,7 +165,7 @@ module _ (schema : Schema) (analyzer : Analyzer) (entries : is_built_schema sche
     one_more = record {
       taken = all-last (is_taken schema analyzer) documents d are.taken taken;
       few = omega (arith, few, more);
-      utf8 = every-last IsUtf8Document documents d are.utf8 utf8;
+      utf8 = all_push IsUtf8Document documents d are.utf8 utf8;
       fields = fields_now;
       norms = subst (λ ds. IsSomeAnd new.norms (HaveLengths schema analyzer ds)) whole
           (lengths_turn schema analyzer all many within entries d here (map (λ _. fresh) schema) old.fields new.fields refl now after as_many (map (λ (t : FieldText). t.field) found) places old.norms new.norms
@@ -194,8 +190,8 @@ module _ (schema : Schema) (analyzer : Analyzer) (entries : is_built_schema sche
   under h = subst (λ x. IfSome x (λ p. IsUnderWay schema analyzer (kept_of p))) is h
 
   -- a writer under way can take one more document
-  pub room_of : IfSome parts (λ p. IsUnderWay schema analyzer (kept_of p)) → HasRoom d (kept_of p)
-  room_of h = let u = under h in has_room schema analyzer entries u.documents d taken utf8 u.stamps stamp (kept_of p) u.are place
+  pub room_of : (texts : List FieldText) → map (text_in d) texts ≡ document_texts schema analyzer d → IfSome parts (λ p. IsUnderWay schema analyzer (kept_of p)) → HasRoom d texts (kept_of p)
+  room_of texts texts_are h = let u = under h in has_room schema analyzer entries u.documents d taken utf8 u.stamps stamp (kept_of p) u.are place texts texts_are
 
   module _ (in_order : AreTakenLast) (texts : List FieldText) (texts_are : map (text_in d) texts ≡ document_texts schema analyzer d) (new : WriterParts) (took : HasTaken schema d texts stamp (kept_of p) (kept_of new)) where
     -- is under way after it

@@ -4,6 +4,7 @@ use Rattle.std.specs.Prelude.{IsSomeAnd}
 use Rattle.std.specs.FinMap.{entries}
 use Rattle.std.specs.List.{list_all, AllByRecursion}
 use Rattle.std.specs.Option.{option_map}
+use Rattle.std.proofs.lemmas.Bool.{and_from}
 use Rattle.std.proofs.lemmas.List.{length-map}
 use Rattle.seg_common.specs.Growing.{HasGrown}
 use Rattle.seg_values.specs.declared.schema.FieldEntry.{FieldEntry}
@@ -14,7 +15,7 @@ use Rattle.seg_model.specs.Reading.{stored_document}
 use Rattle.seg_store.specs.Block.{Block}
 use Rattle.seg_store.specs.Store.{store_of, documents_of}
 use Rattle.seg_store.specs.Writing.{Taken, all_blocks}
-use Rattle.seg_postings.specs.FieldNorms.{filled}
+use Rattle.seg_norms.specs.FieldNorms.{filled}
 use Rattle.seg_build.specs.Batch.{kept_norms}
 use Rattle.seg_segment.specs.Built.{is_built_schema, are_built}
 use Rattle.seg_build.specs.Entries.{TermEntries}
@@ -27,7 +28,6 @@ use Rattle.seg_build.specs.StoredBatch.{IsStoredBatch}
 use Rattle.seg_build.specs.Writable.{PositionsCanBeWritten}
 use Rattle.seg_build.specs.declared.field.FieldPostings.{FieldPostings}
 use Rattle.seg_build.specs.declared.fields.IndexedBatch.{IndexedBatch}
-use Rattle.seg_build.proofs.Fitting.{and_true}
 use Rattle.seg_build.proofs.RecordedTerms.{recorded_are_fields, length-recorded_fields}
 use Rattle.seg_build.proofs.Whole.{terms_of_all, length-with_documents}
 use Rattle.seg_build.proofs.WritableTerms.{built_terms_can_be_written}
@@ -42,7 +42,7 @@ read_from schema documents None file is so = absurd so
 
 module _ (schema : Schema) (analyzer : Analyzer) (built : is_built_schema schema ≡ true) (documents : List Document) (stamps : List ℕ) (kept : Kept) (are : IsKeptOf schema analyzer documents stamps kept) where
   are_all_built : are_built schema analyzer documents ≡ true
-  are_all_built = and_true (is_built_schema schema) (list_all (is_taken schema analyzer) documents) built are.taken
+  are_all_built = and_from (is_built_schema schema) (list_all (is_taken schema analyzer) documents) built are.taken
 
   terms : listed kept.fields ≡ map entries (positional_terms schema analyzer documents)
   terms = ap listed are.fields ∙ terms_of_all schema analyzer built documents

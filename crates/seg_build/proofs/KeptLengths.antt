@@ -2,35 +2,35 @@
 use Rattle.std.proofs.Common.{◌≡◌, ℕ, zero, suc, ◌+◌, ◌-◌, ◌≤◌, true, false, cond, List, [], ◌∷◌, ◌++◌, map, length, take, drop, replicate, Some, None, Option, option_map, refl, sym, ap, ◌∙◌, subst, arith, append-nil, length-append, inl, inr}
 use Rattle.std.specs.Prelude.{is_some, IfSome, IsSomeAnd}
 use Rattle.std.specs.List.{slice_get, enumerate_from}
-use Rattle.std.proofs.lemmas.Bool.{false≢true}
+use Rattle.std.proofs.lemmas.Bool.{false≢true, and_parts}
 use Rattle.std.proofs.lemmas.Bool.Decides.{eqb_tells}
 use Rattle.std.proofs.lemmas.List.{length-map, length-take-le, map-append}
 use Rattle.std.proofs.lemmas.List.FromFn.{length-enumerate_from}
-use Rattle.std.proofs.lemmas.Option.{slice_get_within}
-use Rattle.seg_values.specs.declared.token.Token.{Token}
+use Rattle.std.proofs.lemmas.Option.{same_Some, slice_get_within}
+use Rattle.seg_words.specs.declared.token.Token.{Token}
 use Rattle.seg_values.specs.declared.schema.FieldEntry.{FieldEntry}
 use Rattle.seg_values.specs.Tree.{Tree, Document}
 use Rattle.seg_model.specs.Checked.{count_of}
 use Rattle.seg_model.specs.Fields.{Schema, Analyzer, fields, is_indexed, has_lengths, indexing_tokenizer, values_of}
 use Rattle.seg_model.specs.Norms.{token_count, kind_length, field_length, length_id, field_norms}
 use Rattle.seg_model.specs.Occurrences.{counted, value_tokens}
-use Rattle.seg_postings.specs.FieldNorms.{no_norms, filled, with_length}
+use Rattle.seg_norms.specs.FieldNorms.{no_norms, filled, with_length}
 use Rattle.seg_build.specs.Batch.{kept_norms}
 use Rattle.seg_segment.specs.Built.{is_built_schema}
 use Rattle.seg_build.specs.Field.{count_in, added}
 use Rattle.seg_build.specs.Lengths.{AreUpTo, HaveLengths, with_counts, with_lengths}
 use Rattle.seg_build.specs.Steps.{fresh, indexed_part, with_pairs, with_documents}
 use Rattle.seg_build.specs.declared.field.FieldPostings.{FieldPostings}
-use Rattle.seg_segment.proofs.BuiltEntries.{both_true, text_entry_at}
+use Rattle.seg_segment.proofs.BuiltEntries.{text_entry_at}
 use Rattle.seg_build.proofs.Fitting.{element_at}
 use Rattle.seg_build.proofs.IndexedParts.{values_kept}
-use Rattle.seg_build.proofs.Places.{some_same, texts_of, texts_of-passed, added_all, count_in-added, field_after}
+use Rattle.seg_build.proofs.Places.{texts_of, texts_of-passed, added_all, count_in-added, field_after}
 use Rattle.seg_build.proofs.RecordedLengths.{Kept, IsNoneOf, AreRecorded, length-with_lengths, recorded_at, all_recorded, counts_filled}
 use Rattle.seg_build.proofs.Whole.{all_more, all_fresh}
 
 -- ---- the count of a document's tokens
 
-count_in-added_all : (id : ℕ) (field : FieldPostings) (vs : List (List Token)) → count_in id (added_all id field vs) ≡ count_in id field + count_of vs
+pub count_in-added_all : (id : ℕ) (field : FieldPostings) (vs : List (List Token)) → count_in id (added_all id field vs) ≡ count_in id field + count_of vs
 count_in-added_all id field [] = omega arith
 count_in-added_all id field (v ∷ vs) = omega (arith, count_in-added_all id (added id field v) vs, count_in-added id field v)
 
@@ -109,7 +109,7 @@ module _ (analyzer : Analyzer) where
     all_more_ids (f ∷ now) n (x ∷ xs) h =
         let first = h 0 x refl in
         let count : has_lengths x ≡ true → count_in id f ≡ field_length analyzer x (values_of n d) = λ on.
-        ap (count_in id) (some_same f first.field first.at) ∙ first.count on ∙ ap (λ m. field_length analyzer x (values_of m d)) (let z : n + 0 ≡ n = omega arith in z) in
+        ap (count_in id) (same_Some f first.field first.at) ∙ first.count on ∙ ap (λ m. field_length analyzer x (values_of m d)) (let z : n + 0 ≡ n = omega arith in z) in
         let here = one_more (n, x) (count_in id f) count in
         let rest = all_more_ids now (n + 1) xs (λ i e at. let s = h (suc i) e at in record { field = s.field; at = s.at; count = λ on. s.count on ∙ ap (λ m. field_length analyzer e (values_of m d)) (let z : n + suc i ≡ n + 1 + i = omega arith in z) }) in
         λ j. here j ∷ rest j
@@ -150,7 +150,7 @@ length-kept schema analyzer ds kept have =
 
 up_to_at : (n : ℕ) (kept : Kept) (k : ℕ) (o : Option (List ℕ)) → AreUpTo n kept → slice_get kept k ≡ Some o → IfSome o (λ ids. length ids ≤ n)
 up_to_at n [] k o h at = absurd (false≢true (ap is_some at))
-up_to_at n (x ∷ xs) zero o h at = subst (λ y. IfSome y (λ ids. length ids ≤ n)) (some_same x o at) h.0
+up_to_at n (x ∷ xs) zero o h at = subst (λ y. IfSome y (λ ids. length ids ≤ n)) (same_Some x o at) h.0
 up_to_at n (x ∷ xs) (suc k) o h at = up_to_at n xs k o h.1 at
 
 -- a field with no value among these has no text
@@ -194,7 +194,7 @@ module _ (schema : Schema) (analyzer : Analyzer) (ds : List Document) (i : ℕ) 
           field = has.field;
           at = has.at;
           count = λ long.
-              let on = (both_true (is_indexed e) e.norms long).0 in
+              let on = (and_parts (is_indexed e) e.norms long).0 in
               has.count
               ∙ count_of_texts (analyzer (indexing_tokenizer e)) (values_of k (indexed_part schema d))
               ∙ ap (token_count (analyzer (indexing_tokenizer e))) (values_kept schema k e at_e d on)
@@ -207,7 +207,7 @@ module _ (schema : Schema) (analyzer : Analyzer) (ds : List Document) (i : ℕ) 
       none_counted k f at_f none =
           let entry = element_at schema k (omega (arith, many, slice_get_within after k f at_f)) in
           let has = tokens_in first is more k entry.element entry.at in
-          ap (count_in i) (some_same f has.field (sym at_f ∙ has.at))
+          ap (count_in i) (same_Some f has.field (sym at_f ∙ has.at))
           ∙ has.count
           ∙ ap count_of (no_texts analyzer entry.element k (indexed_part schema d) (subst (IsNoneOf k) are none))
 

@@ -1,17 +1,16 @@
 -- How much memory documents take, added up document by document.
-use Rattle.std.proofs.Common.{◌≡◌, ℕ, suc, ◌+◌, ◌-◌, ◌*◌, ◌^◌, min, true, cond, List, [], ◌∷◌, ◌++◌, map, length, Some, None, Option, refl, sym, ap, ◌∙◌, inl, inr, arith, length-append}
+use Rattle.std.proofs.Common.{◌≡◌, ℕ, suc, ◌+◌, ◌-◌, ◌*◌, ◌^◌, min, true, cond, List, [], ◌∷◌, ◌++◌, map, length, Some, None, Option, refl, sym, ap, ◌∙◌, inl, inr, arith}
 use Rattle.std.specs.Prelude.{is_some, IsSomeAnd}
 use Rattle.std.specs.List.{slice_get, enumerate_from, flat_map}
-use Rattle.std.proofs.lemmas.Bool.{false≢true}
-use Rattle.std.proofs.lemmas.List.{length-map}
+use Rattle.std.proofs.lemmas.Bool.{false≢true, cases_Bool}
 use Rattle.std.proofs.lemmas.Grind.{flat_map-append}
-use Rattle.seg_values.specs.declared.token.Token.{Token}
+use Rattle.std.proofs.lemmas.Option.{same_Some}
 use Rattle.seg_values.specs.declared.schema.FieldEntry.{FieldEntry}
 use Rattle.seg_values.specs.Tree.{Document}
 use Rattle.seg_model.specs.Checked.{count_of}
 use Rattle.seg_model.specs.Fields.{Schema, Analyzer, is_indexed, indexing_tokenizer, values_of}
-use Rattle.seg_model.specs.Occurrences.{Occurrence, counted, start_after, placed_from, text_occurrences, kind_occurrences, occurrences_at, occurrences, value_tokens}
-use Rattle.seg_model.specs.StoredForm.{stored_form}
+use Rattle.seg_model.specs.Occurrences.{Occurrence, kind_occurrences, occurrences_at, occurrences, value_tokens}
+use Rattle.seg_values.specs.StoredForm.{stored_form}
 use Rattle.seg_store.specs.Block.{Block}
 use Rattle.seg_store.specs.BlockLaw.{all_documents}
 use Rattle.seg_store.specs.Writing.{Taken, byte_count, block_bytes, last_block, taken_bytes}
@@ -23,9 +22,9 @@ use Rattle.seg_build.specs.SegmentWriting.{Stores, IsKeptOf}
 use Rattle.seg_build.specs.Steps.{indexed_part}
 use Rattle.seg_build.specs.declared.field.FieldPostings.{FieldPostings}
 use Rattle.seg_segment.proofs.BuiltEntries.{text_entry_at}
-use Rattle.seg_build.proofs.IndexedParts.{either, values_kept, values_dropped}
+use Rattle.seg_build.proofs.IndexedParts.{values_kept, values_dropped}
 use Rattle.seg_build.proofs.KeptLengths.{HasTokens}
-use Rattle.seg_build.proofs.Places.{some_same, texts_of}
+use Rattle.seg_build.proofs.Places.{length_texts, texts_of}
 
 pub total-last : {A : Type 0} (count : A → ℕ) (xs : List A) (x : A) → total count (xs ++ x ∷ []) ≡ total count xs + count x
 total-last count [] x = omega arith
@@ -33,16 +32,11 @@ total-last count (y ∷ ys) x = omega (arith, total-last count ys x)
 
 -- ---- the tokens of a document are the occurrences of its terms
 
-length_texts : (start : ℕ) (vs : List (List Token)) → length (text_occurrences start vs) ≡ count_of vs
-length_texts start [] = refl
-length_texts start (v ∷ vs) =
-    omega (arith, length-append (placed_from start [] v) (text_occurrences (start_after start v) vs), length-map {B = Occurrence} (counted v) (λ (t : Token). record { bytes = [] ++ t.text; position = start + t.position }), length_texts (start_after start v) vs)
-
 module _ (schema : Schema) (analyzer : Analyzer) (d : Document) where
   pub occurring : (k : ℕ) (e : FieldEntry) → is_built_schema schema ≡ true → slice_get schema k ≡ Some e → count_of (texts_of analyzer e k (indexed_part schema d)) ≡ length (occurrences schema analyzer d k)
   occurring k e entries at_e =
       let analyze = analyzer (indexing_tokenizer e) in
-      elim (either (is_indexed e)) [
+      elim (cases_Bool (is_indexed e)) [
         | inl on ↦
             ap (λ vs. count_of (map (value_tokens analyze) vs)) (values_kept schema k e at_e d on)
             ∙ sym (length_texts 0 (map (value_tokens analyze) (values_of k d)))
@@ -67,7 +61,7 @@ module _ (schema : Schema) (analyzer : Analyzer) (d : Document) where
   all_occurring id (f ∷ now) n (x ∷ xs) many h =
       let first = h 0 x refl in
       let here : count_in id f ≡ length (occurrences schema analyzer d n) =
-      ap (count_in id) (some_same f first.field first.at) ∙ first.count ∙ ap (λ m. length (occurrences schema analyzer d m)) (let z : n + 0 ≡ n = omega arith in z) in
+      ap (count_in id) (same_Some f first.field first.at) ∙ first.count ∙ ap (λ m. length (occurrences schema analyzer d m)) (let z : n + 0 ≡ n = omega arith in z) in
       let rest = all_occurring id now (n + 1) xs (omega (arith, many)) (λ i e at. let s = h (suc i) e at in record { field = s.field; at = s.at; count = s.count ∙ ap (λ m. length (occurrences schema analyzer d m)) (let z : n + suc i ≡ n + 1 + i = omega arith in z) }) in
       λ j. here j + rest j
 

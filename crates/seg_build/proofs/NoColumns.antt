@@ -1,32 +1,28 @@
 -- Documents have no columns where no field is fast.
-use Rattle.std.proofs.Common.{◌≡◌, ℕ, ◌+◌, Bool, true, false, cond, List, [], ◌∷◌, ◌++◌, map, Some, refl, ap, ◌∙◌}
+use Rattle.std.proofs.Common.{◌≡◌, ℕ, ◌+◌, true, cond, List, [], ◌∷◌, ◌++◌, map, Some, refl, ap, ◌∙◌}
 use Rattle.std.specs.Prelude.{not, ◌&&◌}
 use Rattle.std.specs.FinMap.{empty}
 use Rattle.std.specs.List.{list_all, flat_map, enumerate_from}
-use Rattle.std.proofs.lemmas.Bool.{false≢true}
+use Rattle.std.proofs.lemmas.Bool.{not-true, and_parts}
 use Rattle.seg_values.specs.Tree.{Document}
 use Rattle.seg_model.specs.Fields.{Schema, Analyzer, values_of}
 use Rattle.seg_model.specs.Columns.{values_at, kind_fast_values, field_fast_values, fast_values, declared_type, column_named, declared_columns, value_keys, columns_from, columns}
 use Rattle.seg_values.specs.declared.schema.FieldEntry.{FieldEntry}
 use Rattle.seg_segment.specs.Built.{is_built_entry, is_built_schema}
-use Rattle.seg_segment.proofs.BuiltEntries.{both_true, not_fast}
-
-is_off : (b : Bool) → not b ≡ true → b ≡ false
-is_off false h = refl
-is_off true h = absurd (false≢true h)
+use Rattle.seg_segment.proofs.BuiltEntries.{not_fast}
 
 none_declared : (schema : Schema) → list_all (λ e. not e.fast) schema ≡ true → declared_columns schema ≡ []
 none_declared [] h = refl
 none_declared (e ∷ es) h =
-    let two = both_true (not e.fast) (list_all (λ e. not e.fast) es) h in
-    ap (λ b. cond b (column_named e.name (declared_type e.kind)) [] ++ declared_columns es) (is_off e.fast two.0) ∙ none_declared es two.1
+    let two = and_parts (not e.fast) (list_all (λ e. not e.fast) es) h in
+    ap (λ b. cond b (column_named e.name (declared_type e.kind)) [] ++ declared_columns es) (not-true e.fast two.0) ∙ none_declared es two.1
 
 module _ (analyzer : Analyzer) where
   none_recorded : (d : Document) (n : ℕ) (schema : Schema) → list_all (λ e. not e.fast) schema ≡ true → flat_map (field_fast_values analyzer d) (enumerate_from n schema) ≡ []
   none_recorded d n [] h = refl
   none_recorded d n (e ∷ es) h =
-      let two = both_true (not e.fast) (list_all (λ e. not e.fast) es) h in
-      ap (λ b. cond b (kind_fast_values e.kind analyzer e (values_of n d)) [] ++ flat_map (field_fast_values analyzer d) (enumerate_from (n + 1) es)) (is_off e.fast two.0)
+      let two = and_parts (not e.fast) (list_all (λ e. not e.fast) es) h in
+      ap (λ b. cond b (kind_fast_values e.kind analyzer e (values_of n d)) [] ++ flat_map (field_fast_values analyzer d) (enumerate_from (n + 1) es)) (not-true e.fast two.0)
       ∙ none_recorded d (n + 1) es two.1
 
   module _ (schema : Schema) (off : list_all (λ e. not e.fast) schema ≡ true) where
@@ -38,10 +34,11 @@ module _ (analyzer : Analyzer) where
     no_columns ds = ap (columns_from (declared_columns schema) (λ key. map (values_at key) (map (fast_values schema analyzer) ds)))
         (ap (λ keys. keys ++ flat_map (flat_map value_keys) (map (fast_values schema analyzer) ds)) (none_declared schema off) ∙ no_keys ds)
 
-all_off : (schema : Schema) → is_built_schema schema ≡ true → list_all (λ e. not e.fast) schema ≡ true
+-- no field that is built is fast
+pub all_off : (schema : Schema) → is_built_schema schema ≡ true → list_all (λ e. not e.fast) schema ≡ true
 all_off [] h = refl
 all_off (e ∷ es) h =
-    let two = both_true (is_built_entry e) (list_all is_built_entry es) h in
+    let two = and_parts (is_built_entry e) (list_all is_built_entry es) h in
     ap (λ b. not b && list_all (λ (x : FieldEntry). not x.fast) es) (not_fast e two.0) ∙ all_off es two.1
 
 -- of a schema that is built

@@ -2,6 +2,7 @@
 use Rattle.std.proofs.Common.{◌≡◌, ℕ, ◌≤◌, arith, true, false, [], ◌∷◌, None, option_map, refl, ap, ◌∙◌}
 use Rattle.std.specs.Prelude.{nat_le, not, ◌&&◌, ◌||◌, unwrap_or}
 use Rattle.std.specs.List.{list_any}
+use Rattle.std.proofs.lemmas.Bool.{and_parts}
 use Rattle.std.proofs.lemmas.Bool.Decides.{nat_tests}
 use Rattle.seg_values.specs.declared.error.ArgumentCause.TheVariants.{Budget, Later, FieldName, Settings, FastTokenizer}
 use Rattle.seg_values.specs.declared.error.SchemaCause.TheVariants.{Tokenizer}
@@ -14,12 +15,12 @@ use Rattle.seg_model.specs.Valid.{Known, names_fit, settings_fit, unknown_tokeni
 use Rattle.seg_model.proofs.FirstAnswers.{or_none, map_none}
 use Rattle.seg_build.specs.WriterStart.{least_budget, start_refusal}
 use Rattle.seg_segment.specs.Built.{is_built_entry, is_built_schema}
-use Rattle.seg_segment.proofs.BuiltEntries.{both_true, not_fast}
+use Rattle.seg_segment.proofs.BuiltEntries.{not_fast}
 
 pub no_fast_tokenizer : (known : Known) (schema : Schema) → is_built_schema schema ≡ true → list_any (has_unknown_fast_tokenizer known) schema ≡ false
 no_fast_tokenizer known [] h = refl
 no_fast_tokenizer known (e ∷ es) h =
-    let two = both_true (is_built_entry e) (is_built_schema es) h in
+    let two = and_parts (is_built_entry e) (is_built_schema es) h in
     ap (λ b. (b && (is_text e.kind || is_json e.kind) && unwrap_or (option_map (λ name. not (known name)) e.fast_tokenizer) false) || list_any (has_unknown_fast_tokenizer known) es) (not_fast e two.0)
     ∙ no_fast_tokenizer known es two.1
 

@@ -1,26 +1,16 @@
 -- The parts of the file of length ids.
-use Rattle.std.proofs.Common.{◌≡◌, ℕ, ◌+◌, ◌≤◌, true, false, cond, List, [], ◌∷◌, ◌++◌, map, Some, None, Option, option_map, refl, sym, ap, ◌∙◌, subst, arith}
-use Rattle.std.specs.Prelude.{IfSome, option_and_then, unwrap_or}
+use Rattle.std.proofs.Common.{◌≡◌, ℕ, true, false, cond, List, [], ◌∷◌, map, Some, None, Option, option_map, refl, sym, ap, ◌∙◌}
+use Rattle.std.specs.Prelude.{option_and_then, unwrap_or}
 use Rattle.std.specs.List.{slice_get, slice_index_or}
 use Rattle.std.proofs.lemmas.Option.{slice_get-map, unwrap_or-slice_get}
 use Rattle.seg_values.specs.declared.schema.FieldEntry.{FieldEntry}
 use Rattle.seg_values.specs.Tree.{Document}
 use Rattle.seg_model.specs.Fields.{Schema, Analyzer, has_lengths, values_of, fields}
 use Rattle.seg_model.specs.Norms.{length_id, field_norms, field_length, all_norms}
-use Rattle.seg_directory.specs.Composite.{Part, low_after}
-use Rattle.seg_postings.specs.FieldNorms.{fields_with_lengths, norms_parts}
+use Rattle.seg_norms.specs.FieldNorms.{fields_with_lengths, norms_parts}
+use Rattle.seg_segment.specs.LengthsWritten.{parts_with}
 use Rattle.seg_build.specs.Batch.{kept_norms}
-use Rattle.seg_build.specs.NormsFile.{kept_ids, kept_parts}
-
-low_after-last : (low : ℕ) (parts : List Part) (p : Part) → low_after low (parts ++ p ∷ []) ≡ p.0 + 1
-low_after-last low [] p = refl
-low_after-last low (q ∷ parts) p = low_after-last (q.0 + 1) parts p
-
--- the lowest field that may follow another part
-pub low_after_part : (after : Option (List Part)) (parts : List Part) (p : Part) (next : ℕ) → after ≡ Some (parts ++ p ∷ []) → next ≡ p.0 + 1 → IfSome after (λ ps. low_after 0 ps ≤ next)
-low_after_part after parts p next is past =
-    let last = low_after-last 0 parts p in
-    subst (λ o. IfSome o (λ ps. low_after 0 ps ≤ next)) (sym is) (omega (arith, last, past))
+use Rattle.seg_build.specs.NormsFile.{kept_ids}
 
 module _ (schema : Schema) (analyzer : Analyzer) (documents : List Document) where
   -- what is kept of a field, and its ids
@@ -35,10 +25,10 @@ module _ (schema : Schema) (analyzer : Analyzer) (documents : List Document) whe
       ∙ ap (λ o. unwrap_or o []) (sym (slice_get-map (field_norms analyzer documents) (fields schema) k))
       ∙ unwrap_or-slice_get (all_norms schema analyzer documents) k []
 
-  parts_are : (fs : List ℕ) → kept_parts (Some (kept_norms schema analyzer documents)) fs ≡ map (λ f. (f, slice_index_or (all_norms schema analyzer documents) f [])) fs
+  parts_are : (fs : List ℕ) → parts_with (kept_ids (Some (kept_norms schema analyzer documents))) fs ≡ map (λ f. (f, slice_index_or (all_norms schema analyzer documents) f [])) fs
   parts_are [] = refl
   parts_are (f ∷ fs) = λ i. (f, kept_ids_are f i) ∷ parts_are fs i
 
   -- the ids that are kept of documents are the ids of their fields
-  pub kept_parts_are : (kept : Option (List (Option (List ℕ)))) → kept ≡ Some (kept_norms schema analyzer documents) → kept_parts kept (fields_with_lengths schema) ≡ norms_parts schema (all_norms schema analyzer documents)
-  kept_parts_are kept is = ap (λ k. kept_parts k (fields_with_lengths schema)) is ∙ parts_are (fields_with_lengths schema)
+  pub kept_parts_are : (kept : Option (List (Option (List ℕ)))) → kept ≡ Some (kept_norms schema analyzer documents) → parts_with (kept_ids kept) (fields_with_lengths schema) ≡ norms_parts schema (all_norms schema analyzer documents)
+  kept_parts_are kept is = ap (λ k. parts_with (kept_ids k) (fields_with_lengths schema)) is ∙ parts_are (fields_with_lengths schema)

@@ -1,26 +1,24 @@
 -- One field of a schema while the values of a document come.
-use Rattle.std.proofs.Common.{◌≡◌, ◌≢◌, ℕ, zero, suc, ◌+◌, ◌≤◌, true, false, cond, List, [], ◌∷◌, map, Some, None, Option, length, set, sym, refl, ap, ◌∙◌, arith, inl, inr, ◌⊎◌, eq-eqb}
+use Rattle.std.proofs.Common.{◌≡◌, ◌≢◌, ℕ, zero, suc, ◌+◌, ◌≤◌, true, false, cond, List, [], ◌∷◌, ◌++◌, map, Some, None, Option, length, set, sym, refl, ap, ◌∙◌, arith, inl, inr, ◌⊎◌, eq-eqb, length-append}
 use Rattle.std.specs.Prelude.{filter, nat_eq, is_some}
 use Rattle.std.specs.List.{slice_get}
 use Rattle.std.proofs.lemmas.Bool.{false≢true}
 use Rattle.std.proofs.lemmas.Bool.Decides.{eqb_tells}
-use Rattle.seg_values.specs.declared.token.Token.{Token}
+use Rattle.std.proofs.lemmas.List.{length-map}
+use Rattle.seg_words.specs.declared.token.Token.{Token}
 use Rattle.seg_values.specs.declared.schema.FieldEntry.{FieldEntry}
 use Rattle.seg_values.specs.Tree.{Tree, Document}
 use Rattle.seg_model.specs.Fields.{Schema, Analyzer, indexing_tokenizer, values_of}
-use Rattle.seg_model.specs.Occurrences.{counted, start_after, start_after_all, value_tokens, placed_from, text_occurrences}
+use Rattle.seg_model.specs.Checked.{count_of}
+use Rattle.seg_model.specs.Occurrences.{Occurrence, counted, reach, start_after, start_after_all, value_tokens, placed_from, text_occurrences}
 use Rattle.seg_build.specs.Adding.{with_occurrences}
 use Rattle.seg_build.specs.Field.{start_in, count_in, added}
 use Rattle.seg_check.specs.Texts.{tokens_at}
 use Rattle.seg_build.specs.Steps.{added_at, with_pair, with_pairs}
 use Rattle.seg_build.specs.declared.field.FieldPostings.{FieldPostings}
 use Rattle.seg_build.proofs.Growing.{with_occurrences-append}
-use Rattle.seg_build.proofs.Rising.{reach-ge}
 
 -- ---- elements of lists
-
-pub some_same : {X : Type 0} (x y : X) → Some x ≡ Some y → x ≡ y
-some_same x y e = cc
 
 pub slice_get-set_same : {X : Type 0} (xs : List X) (i : ℕ) (x v : X) → slice_get xs i ≡ Some x → slice_get (set xs i v) i ≡ Some v
 slice_get-set_same [] i x v at = absurd (false≢true (ap is_some at))
@@ -58,6 +56,10 @@ pub document-added_all : (id : ℕ) (field : FieldPostings) (vs : List (List Tok
 document-added_all id field [] le = le
 document-added_all id field (v ∷ vs) le = document-added_all id (added id field v) vs (omega arith)
 
+pub reach-ge : (start : ℕ) (tokens : List Token) → start ≤ reach start tokens
+reach-ge start [] = omega arith
+reach-ge start (t ∷ ts) = omega (arith, reach-ge start ts)
+
 pub start_after-ge : (start : ℕ) (v : List Token) → start + 1 ≤ start_after start v
 start_after-ge start v = omega (arith, reach-ge start (counted v))
 
@@ -66,12 +68,15 @@ pub start_after_all-ge : (start : ℕ) (vs : List (List Token)) → start + leng
 start_after_all-ge start [] = omega arith
 start_after_all-ge start (v ∷ vs) = omega (arith, start_after-ge start v, start_after_all-ge (start_after start v) vs)
 
+-- as many terms occur in texts as their tokens tell
+pub length_texts : (start : ℕ) (vs : List (List Token)) → length (text_occurrences start vs) ≡ count_of vs
+length_texts start [] = refl
+length_texts start (v ∷ vs) =
+    omega (arith, length-append (placed_from start [] v) (text_occurrences (start_after start v) vs), length-map {B = Occurrence} (counted v) (λ (t : Token). record { bytes = [] ++ t.text; position = start + t.position }), length_texts (start_after start v) vs)
+
 -- ---- the texts of a field
 
 module _ (analyzer : Analyzer) (e : FieldEntry) (k : ℕ) where
-  abbrev pub tokens_of_value : Tree → List Token
-  tokens_of_value = value_tokens (analyzer (indexing_tokenizer e))
-
   -- the texts of a field in a document, each as its tokens
   abbrev pub texts_of : Document → List (List Token)
   texts_of ps = map (value_tokens (analyzer (indexing_tokenizer e))) (values_of k ps)

@@ -2,16 +2,16 @@
 use Rattle.std.proofs.Common.{◌≡◌, ◌≢◌, ℕ, zero, suc, ◌+◌, ◌-◌, ◌≤◌, true, false, cond, List, [], ◌∷◌, ◌++◌, map, length, replicate, Some, None, Option, option_map, refl, sym, ap, ◌∙◌, subst, arith, inl, inr, ◌⊎◌, append-nil, append_assoc, length-append}
 use Rattle.std.specs.Prelude.{is_some, option_and_then, IfSome}
 use Rattle.std.specs.List.{slice_get, AllByRecursion}
-use Rattle.std.proofs.lemmas.Bool.{false≢true, lt-leb, le-leb, leb-true}
+use Rattle.std.proofs.lemmas.Bool.{false≢true, lt-leb, le-leb}
 use Rattle.std.proofs.lemmas.Bool.Decides.{eqb_tells}
 use Rattle.std.proofs.lemmas.List.{length-replicate, replicate_more}
+use Rattle.std.proofs.lemmas.Option.{same_Some}
 use Rattle.seg_common.specs.Growing.{HasGrown}
 use Rattle.seg_model.specs.Norms.{length_id}
-use Rattle.seg_postings.specs.FieldNorms.{at_field, filled, with_length}
+use Rattle.seg_norms.specs.FieldNorms.{at_field, filled, with_length}
 use Rattle.seg_build.specs.Field.{count_in}
 use Rattle.seg_build.specs.Lengths.{AreUpTo, lacks_length, recorded_once, count_at, with_length_of, with_lengths, with_counts}
 use Rattle.seg_build.specs.declared.field.FieldPostings.{FieldPostings}
-use Rattle.seg_build.proofs.Places.{some_same}
 
 -- what is kept of all fields
 abbrev pub Kept : Type 0
@@ -67,24 +67,8 @@ module _ (id count : ℕ) where
 
   pub comes_recorded : (old new : Option Kept) (place : ℕ) → lacks_length id (ids_at place old) ≡ true → HasGrown old new (at_field place (with_length id count)) → new ≡ option_map (at_field place (recorded_once id count)) old
   comes_recorded (Some ks) new place h grown =
-      grown.is ∙ ap (λ l. Some (at_field place (with_length id count) l)) (sym (some_same ks grown.kept grown.was)) ∙ ap Some (new_field ks place h)
+      grown.is ∙ ap (λ l. Some (at_field place (with_length id count) l)) (sym (same_Some ks grown.kept grown.was)) ∙ ap Some (new_field ks place h)
   comes_recorded None new place h grown = absurd (false≢true (ap is_some grown.was))
-
--- a field of which a length is lacking
-abbrev IsLacking : ℕ → ℕ → Kept → Type 0
-IsLacking id place kept = (ids : List ℕ) × (slice_get kept place ≡ Some (Some ids)) × (length ids ≤ id)
-
-few_from : (id : ℕ) (ids : List ℕ) → lacks_length id (Some ids) ≡ true → length ids ≤ id
-few_from id ids h = leb-true (length ids) id h
-
-pub lacking_at : (id place : ℕ) (kept : Option Kept) → lacks_length id (ids_at place kept) ≡ true → IfSome kept (IsLacking id place)
-lacking_at id place None h = tt
-lacking_at id place (Some ks) h = by (slice_get ks place) refl h
-  where
-    by : (o : Option (Option (List ℕ))) → slice_get ks place ≡ o → lacks_length id (option_and_then (λ ids. ids) o) ≡ true → IsLacking id place ks
-    by None at h = absurd (false≢true h)
-    by (Some None) at h = absurd (false≢true h)
-    by (Some (Some ids)) at h = (ids, at, few_from id ids h)
 
 -- ---- the ids of one field, filled up
 
@@ -228,7 +212,7 @@ all_recorded id (f ∷ fs) [] new as_many same h = absurd (let z : ⊥ = omega (
 all_recorded id (f ∷ fs) (o ∷ old) [] as_many same h = absurd (let z : ⊥ = omega (arith, same) in z)
 all_recorded id (f ∷ fs) (o ∷ old) (n ∷ new) as_many same h =
     let first = h 0 f o refl refl in
-    let here : first.new ≡ n = sym (some_same n first.new first.at) in
+    let here : first.new ≡ n = sym (same_Some n first.new first.at) in
     let rest = all_recorded id fs old new (omega (arith, as_many)) (omega (arith, same)) (λ k g p at_f at_o.
     let r = h (suc k) g p at_f at_o in record { new = r.new; at = r.at; is = r.is; up_to = r.up_to }) in
     record {

@@ -6,6 +6,7 @@ use Rattle.std.specs.FinMap.Entries.{put, by_order}
 use Rattle.std.specs.List.{slice_get, list_all, flat_map, enumerate_from}
 use Rattle.std.specs.Ordering.{nat_cmp}
 use Rattle.std.specs.Cmp.Lexicographic.{slice_cmp, nat_list_cmp_total}
+use Rattle.std.proofs.lemmas.List.{nil_from_length}
 use Rattle.seg_values.specs.declared.schema.FieldEntry.{FieldEntry}
 use Rattle.seg_values.specs.declared.schema.FieldKind.TheVariants.{Text}
 use Rattle.seg_values.specs.declared.schema.IndexOption.{IndexOption}
@@ -14,7 +15,7 @@ use Rattle.seg_values.specs.Tree.{Document}
 use Rattle.seg_model.specs.Fields.{Schema, Analyzer, is_text, is_json, is_indexed}
 use Rattle.seg_model.specs.Occurrences.{Occurrence, occurrences}
 use Rattle.seg_model.specs.Reading.{Recorded, positions, Posting, Terms, record_of, positions_of, if_occurs, recorded_in, listed, postings_from, postings_of, if_any, terms_of, field_terms, all_terms, type_code, term_option}
-use Rattle.seg_model.specs.Tables.{entry_of}
+use Rattle.seg_common.specs.Tables.{entry_of}
 use Rattle.seg_postings.specs.Kinds.{kind_of}
 use Rattle.seg_postings.specs.declared.record_kind.RecordKind.{RecordKind}
 use Rattle.seg_segment.specs.Built.{is_built_entry}
@@ -76,12 +77,8 @@ put_as kind k v (e ∷ es) =
       | Greater ↦ ap (λ l. (e.0, postings_as kind e.1) ∷ l) (put_as kind k v es)
     ]
 
-nil_of : {X : Type 0} (xs : List X) → length xs ≡ 0 → xs ≡ []
-nil_of [] h = refl
-nil_of (x ∷ xs) h = absurd (omega arith)
-
 no_entries : entries (empty {X = List Posting} {R = slice_cmp nat_cmp}) ≡ []
-no_entries = nil_of (entries (empty {X = List Posting} {R = slice_cmp nat_cmp})) (sym (len-entries (empty {X = List Posting} {R = slice_cmp nat_cmp})) ∙ len-empty (slice_cmp nat_cmp) (List Posting))
+no_entries = nil_from_length (entries (empty {X = List Posting} {R = slice_cmp nat_cmp})) (sym (len-entries (empty {X = List Posting} {R = slice_cmp nat_cmp})) ∙ len-empty (slice_cmp nat_cmp) (List Posting))
 
 entries_kept : (kind : RecordKind) (es : TermEntries) → entries_as kind (entries (from_entries {R = slice_cmp nat_cmp} es)) ≡ entries (from_entries {R = slice_cmp nat_cmp} (entries_as kind es))
 entries_kept kind [] = ap (entries_as kind) no_entries ∙ sym no_entries

@@ -10,6 +10,7 @@ use Rattle.std.specs.Ordering.{nat_cmp, is_lt}
 use Rattle.std.specs.Cmp.Lexicographic.{slice_cmp}
 use Rattle.std.proofs.lemmas.Bool.{false≢true}
 use Rattle.std.proofs.lemmas.List.{length-map}
+use Rattle.std.proofs.lemmas.Option.{same_Some}
 use Rattle.seg_model.specs.Fields.{Schema}
 use Rattle.seg_model.specs.Reading.{Recorded, Posting}
 use Rattle.seg_postings.specs.Kinds.{kind_of}
@@ -22,7 +23,6 @@ use Rattle.seg_build.specs.FieldTerms.{FieldTerms, kept_as, postings_as, entries
 use Rattle.seg_build.specs.Grouped.{grouped}
 use Rattle.seg_build.specs.Writable.{CanBeWritten, PositionsCanBeWritten}
 use Rattle.seg_build.specs.declared.hits.Hit.{Hit}
-use Rattle.seg_build.proofs.Places.{some_same}
 use Rattle.seg_build.proofs.Sorting.{key_at, value_at}
 
 -- ---- order and places
@@ -42,7 +42,7 @@ keys_as kind (e ∷ es) = ap (λ ks. e.0 ∷ ks) (keys_as kind es)
 
 value_as : (kind : RecordKind) (es : TermEntries) (i : ℕ) (ps : List Posting) → slice_get (values_of es) i ≡ Some ps → slice_get (values_of (entries_as kind es)) i ≡ Some (postings_as kind ps)
 value_as kind [] i ps at = absurd (false≢true (ap is_some at))
-value_as kind (e ∷ es) zero ps at = ap (λ x. Some (postings_as kind x)) (some_same e.1 ps at)
+value_as kind (e ∷ es) zero ps at = ap (λ x. Some (postings_as kind x)) (same_Some e.1 ps at)
 value_as kind (e ∷ es) (suc i) ps at = value_as kind es i ps at
 
 abbrev pub listed_as : RecordKind → List (Vec ℕ Global × List Hit) → FieldTerms

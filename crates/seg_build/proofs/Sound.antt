@@ -1,13 +1,13 @@
 -- Documents that are built are sound where their texts are UTF-8.
 use Rattle.std.proofs.Common.{◌≡◌, true, List, [], ◌∷◌}
 use Rattle.std.specs.List.{list_all, AllByRecursion}
+use Rattle.std.proofs.lemmas.Bool.{and_parts}
 use Rattle.seg_values.specs.Tree.{Document}
 use Rattle.seg_values.specs.Utf8.{IsUtf8Document}
 use Rattle.seg_model.specs.Built.{is_taken}
 use Rattle.seg_model.specs.Fields.{Schema, Analyzer}
 use Rattle.seg_model.specs.Checked.{IsSound}
 use Rattle.seg_segment.specs.Built.{is_built_schema, are_built}
-use Rattle.seg_segment.proofs.BuiltEntries.{both_true}
 use Rattle.seg_build.proofs.Taken.{passed}
 
 module _ (schema : Schema) (analyzer : Analyzer) where
@@ -17,8 +17,8 @@ module _ (schema : Schema) (analyzer : Analyzer) where
   all_sound : (ds : List Document) → list_all (is_taken schema analyzer) ds ≡ true → AllByRecursion IsUtf8Document ds → AllByRecursion (IsSound schema) ds
   all_sound [] h utf8 = tt
   all_sound (d ∷ ds) h utf8 =
-      let two = both_true (is_taken schema analyzer d) (list_all (is_taken schema analyzer) ds) h in
+      let two = and_parts (is_taken schema analyzer d) (list_all (is_taken schema analyzer) ds) h in
       (sound_document d two.0 utf8.0, all_sound ds two.1 utf8.1)
 
   pub built_are_sound : (ds : List Document) → are_built schema analyzer ds ≡ true → AllByRecursion IsUtf8Document ds → AllByRecursion (IsSound schema) ds
-  built_are_sound ds h utf8 = all_sound ds (both_true (is_built_schema schema) (list_all (is_taken schema analyzer) ds) h).1 utf8
+  built_are_sound ds h utf8 = all_sound ds (and_parts (is_built_schema schema) (list_all (is_taken schema analyzer) ds) h).1 utf8

@@ -1,37 +1,28 @@
 -- Files that spell what was indexed stand for its documents.
-use Rattle.std.proofs.Common.{◌≡◌, true, List, [], ◌∷◌, map, length, Some, refl, sym, ap, ◌∙◌, subst}
-use Rattle.std.specs.Prelude.{◌&&◌, ◌||◌, not}
+use Rattle.std.proofs.Common.{◌≡◌, true, List, map, length, Some, refl, sym, ap, subst}
 use Rattle.std.specs.FinMap.{empty}
-use Rattle.std.specs.List.{list_all, AllByRecursion}
+use Rattle.std.specs.List.{AllByRecursion}
 use Rattle.std.specs.Option.{option_map}
+use Rattle.std.proofs.lemmas.Bool.{and_parts}
 use Rattle.seg_columnar.specs.Columnar.{rows_of}
 use Rattle.seg_store.specs.Store.{store_of, documents_of}
-use Rattle.seg_values.specs.declared.schema.FieldEntry.{FieldEntry}
 use Rattle.seg_values.specs.Tree.{Document}
 use Rattle.seg_values.specs.Utf8.{IsUtf8Document}
 use Rattle.seg_model.specs.Contents.{reading_with, full_reading}
-use Rattle.seg_model.specs.Fields.{Schema, Analyzer, is_text, is_indexed}
+use Rattle.seg_model.specs.Fields.{Schema, Analyzer}
 use Rattle.seg_model.specs.Reading.{Terms, stored_document, all_terms}
 use Rattle.seg_model.proofs.ShapedReading.{readings_have_full_shape}
 use Rattle.seg_build.specs.declared.fields.IndexedBatch.{IndexedBatch}
 use Rattle.seg_segment.specs.declared.segment_files.SegmentFiles.{SegmentFiles}
 use Rattle.seg_build.specs.Batch.{IsBatchOf}
-use Rattle.seg_segment.specs.Built.{is_built_entry, is_built_schema, are_built}
+use Rattle.seg_segment.specs.Built.{is_built_schema, are_built}
 use Rattle.seg_build.specs.FieldTerms.{FieldTerms}
 use Rattle.seg_build.specs.Filling.{AreFieldsOf, HoldsNorms}
 use Rattle.seg_segment.specs.HoldTerms.{HoldTerms}
 use Rattle.seg_segment.specs.Standing.{StandFor}
-use Rattle.seg_segment.proofs.BuiltEntries.{both_true}
-use Rattle.seg_build.proofs.NoColumns.{no_columns}
+use Rattle.seg_build.proofs.NoColumns.{all_off, no_columns}
 use Rattle.seg_build.proofs.RecordedTerms.{fields_have_terms}
 use Rattle.seg_build.proofs.Sound.{built_are_sound}
-
--- no field that is built is fast
-none_fast : (schema : Schema) → is_built_schema schema ≡ true → list_all (λ e. not e.fast) schema ≡ true
-none_fast [] h = refl
-none_fast (e ∷ es) h =
-    let two = both_true (is_built_entry e) (list_all is_built_entry es) h in
-    ap (λ b. b && list_all (λ (x : FieldEntry). not x.fast) es) (both_true (not e.fast) (is_text e.kind || not (is_indexed e)) two.0).0 ∙ none_fast es two.1
 
 -- files that spell a batch, and documents
 pub record Spells (schema : Schema) (batch : IndexedBatch) (documents : List Document) (files : SegmentFiles) : Type 0 where
@@ -42,7 +33,7 @@ pub record Spells (schema : Schema) (batch : IndexedBatch) (documents : List Doc
 
 module _ (schema : Schema) (analyzer : Analyzer) (documents : List Document) (built : are_built schema analyzer documents ≡ true) (utf8 : AllByRecursion IsUtf8Document documents) where
   read : full_reading schema analyzer documents ≡ Some (reading_with schema analyzer documents empty)
-  read = ap (option_map (reading_with schema analyzer documents)) (no_columns analyzer schema (none_fast schema (both_true (is_built_schema schema) _ built).0) documents)
+  read = ap (option_map (reading_with schema analyzer documents)) (no_columns analyzer schema (all_off schema (and_parts (is_built_schema schema) _ built).0) documents)
 
   pub stands : (batch : IndexedBatch) (files : SegmentFiles) → IsBatchOf schema analyzer documents batch → Spells schema batch documents files → StandFor schema analyzer documents files
   stands batch files is spells = record {

@@ -3,6 +3,7 @@ use Rattle.std.proofs.Common.{◌≡◌, ℕ, ◌+◌, ◌≤◌, ◌<◌, true,
 use Rattle.std.specs.Prelude.{nat_le, IsSomeAnd}
 use Rattle.std.specs.List.{list_all, flat_map}
 use Rattle.std.specs.Option.{option_to_list}
+use Rattle.std.proofs.lemmas.Bool.{and_parts}
 use Rattle.std.proofs.lemmas.Bool.Decides.{nat_tests}
 use Rattle.std.proofs.lemmas.Grind.{flat_map-append, take_at_read}
 use Rattle.std.proofs.lemmas.List.{map-append}
@@ -10,14 +11,13 @@ use Rattle.seg_common.specs.Growing.{HasGrown}
 use Rattle.seg_values.specs.Tree.{levels, Document}
 use Rattle.seg_model.specs.Fields.{Schema}
 use Rattle.seg_model.specs.Reading.{stored_document}
-use Rattle.seg_model.specs.StoredForm.{stored_form}
+use Rattle.seg_values.specs.StoredForm.{stored_form}
 use Rattle.seg_store.specs.Block.{Block}
 use Rattle.seg_store.specs.BlockLaw.{all_documents, AreTakenLast}
 use Rattle.seg_store.specs.Store.{documents_of}
-use Rattle.seg_store.specs.StoredDocument.{stored_document_of, most_levels_read}
-use Rattle.seg_store.specs.StoredLaw.{AreShallow}
+use Rattle.seg_stored.specs.StoredDocument.{stored_document_of, most_levels_read}
+use Rattle.seg_stored.specs.StoredLaw.{AreShallow}
 use Rattle.seg_store.specs.Writing.{Taken, with_document, all_blocks, taken_count}
-use Rattle.seg_segment.proofs.BuiltEntries.{both_true}
 
 low_enough : (n : ℕ) → nat_le n 200 ≡ true → n ≤ most_levels_read
 low_enough n h = grind (arith, nat_tests)
@@ -26,7 +26,7 @@ low_enough n h = grind (arith, nat_tests)
 pub shallow_taken : (ps : Document) → list_all (λ p. nat_le (levels p.1) 200) ps ≡ true → AreShallow ps
 shallow_taken [] h = tt
 shallow_taken (p ∷ ps) h =
-    let two = both_true (nat_le (levels p.1) 200) (list_all (λ p. nat_le (levels p.1) 200) ps) h in
+    let two = and_parts (nat_le (levels p.1) 200) (list_all (λ p. nat_le (levels p.1) 200) ps) h in
     (low_enough (levels p.1) two.0, shallow_taken ps two.1)
 
 -- what a stored document reads as, in a list

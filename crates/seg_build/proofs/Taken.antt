@@ -2,18 +2,17 @@
 use Rattle.std.proofs.Common.{◌≡◌, ℕ, ◌<◌, ◌^◌, true, cond, List, None, Some, Option, length, refl, sym, ap, ◌∙◌}
 use Rattle.std.specs.Prelude.{nat_le, is_none, ◌&&◌}
 use Rattle.std.specs.List.{list_all}
-use Rattle.std.proofs.lemmas.Bool.{false≢true}
+use Rattle.std.proofs.lemmas.Bool.{false≢true, and_parts, ltb-true}
 use Rattle.seg_values.specs.declared.schema.FieldEntry.{FieldEntry}
-use Rattle.seg_values.specs.declared.token.Token.{Token}
+use Rattle.seg_words.specs.declared.token.Token.{Token}
 use Rattle.seg_values.specs.Tree.{levels, Document}
 use Rattle.seg_model.specs.Built.{is_taken}
 use Rattle.seg_model.specs.Checked.{Cause, past_limit, is_u32, count_of, texts_fit, kind_fits, field_fits, is_within_limits, fields_refusal, leaves_refusal, order_refusal, limit_refusal, document_refusal}
 use Rattle.seg_model.specs.Fields.{Schema, Analyzer, indexing_tokenizer, values_of, fields}
 use Rattle.seg_model.specs.Occurrences.{start_after_all}
-use Rattle.seg_model.specs.StoredForm.{stored_form}
+use Rattle.seg_values.specs.StoredForm.{stored_form}
 use Rattle.seg_model.proofs.FirstAnswers.{or_first, or_second, unless_true}
-use Rattle.seg_segment.proofs.BuiltEntries.{IsTextEntry, both_true}
-use Rattle.seg_build.proofs.Fitting.{is_less}
+use Rattle.seg_segment.proofs.BuiltEntries.{IsTextEntry}
 use Rattle.seg_build.proofs.Places.{texts_of}
 
 none_is : (o : Option Cause) → is_none o ≡ true → o ≡ None
@@ -34,12 +33,12 @@ passed schema analyzer ps h =
     let second = or_second (fields_refusal schema ps) _ all in
     let third = or_second (leaves_refusal schema ps) _ second in
     let fourth = or_second (order_refusal schema analyzer ps) (limit_refusal schema analyzer ps) third in
-    let limits = both_true (list_all (field_fits analyzer ps) (fields schema) && is_u32 (length (stored_form schema ps))) (list_all (λ p. nat_le (levels p.1) 200) ps) (unless_true (is_within_limits schema analyzer ps) past_limit fourth) in
+    let limits = and_parts (list_all (field_fits analyzer ps) (fields schema) && is_u32 (length (stored_form schema ps))) (list_all (λ p. nat_le (levels p.1) 200) ps) (unless_true (is_within_limits schema analyzer ps) past_limit fourth) in
     record {
       taken = or_first (fields_refusal schema ps) _ all;
       json = or_first (leaves_refusal schema ps) _ second;
       order = or_first (order_refusal schema analyzer ps) (limit_refusal schema analyzer ps) third;
-      fit = (both_true (list_all (field_fits analyzer ps) (fields schema)) (is_u32 (length (stored_form schema ps))) limits.0).0;
+      fit = (and_parts (list_all (field_fits analyzer ps) (fields schema)) (is_u32 (length (stored_form schema ps))) limits.0).0;
       shallow = limits.1;
     }
 
@@ -55,5 +54,5 @@ bounded analyzer k e ps text h =
     let fits : (many && texts_fit texts) ≡ true = ap (λ kind. many && kind_fits kind e.expand_dots (analyzer (indexing_tokenizer e)) (values_of k ps)) (sym text.kind)
     ∙ ap (λ b. cond b (many && kind_fits e.kind e.expand_dots (analyzer (indexing_tokenizer e)) (values_of k ps)) true) (sym text.indexed)
     ∙ h in
-    let both = both_true (is_u32 (start_after_all 0 texts)) (is_u32 (count_of texts)) (both_true (is_u32 (start_after_all 0 texts) && is_u32 (count_of texts)) (is_u32 (length texts)) (both_true many (texts_fit texts) fits).1).0 in
-    record { end = is_less _ _ both.0; count = is_less _ _ both.1 }
+    let both = and_parts (is_u32 (start_after_all 0 texts)) (is_u32 (count_of texts)) (and_parts (is_u32 (start_after_all 0 texts) && is_u32 (count_of texts)) (is_u32 (length texts)) (and_parts many (texts_fit texts) fits).1).0 in
+    record { end = ltb-true (start_after_all 0 texts) (2 ^ 32) both.0; count = ltb-true (count_of texts) (2 ^ 32) both.1 }

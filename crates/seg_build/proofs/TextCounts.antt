@@ -2,9 +2,9 @@
 use Rattle.std.proofs.Common.{◌≡◌, ℕ, zero, suc, ◌+◌, ◌-◌, ◌^◌, ◌<◌, ◌≤◌, min, List, [], ◌∷◌, map, length, drop, get_or, set, Some, refl, sym, ap, ◌∙◌, subst, arith, inl, inr}
 use Rattle.std.specs.Prelude.{is_some}
 use Rattle.std.specs.List.{slice_get, AllByRecursion}
-use Rattle.std.proofs.lemmas.Bool.{false≢true}
-use Rattle.std.proofs.lemmas.Option.{slice_get_within}
-use Rattle.seg_values.specs.declared.token.Token.{Token}
+use Rattle.std.proofs.lemmas.Bool.{false≢true, cases_Bool}
+use Rattle.std.proofs.lemmas.Option.{same_Some, slice_get_within}
+use Rattle.seg_words.specs.declared.token.Token.{Token}
 use Rattle.seg_values.specs.declared.schema.FieldEntry.{FieldEntry}
 use Rattle.seg_values.specs.Tree.{Document}
 use Rattle.seg_model.specs.Fields.{Schema, Analyzer, is_indexed, is_field}
@@ -16,9 +16,9 @@ use Rattle.seg_build.specs.MemoryUsage.{total, saturated, text_count}
 use Rattle.seg_build.specs.Steps.{added_at, indexed_part, with_texts}
 use Rattle.seg_build.specs.declared.field.FieldPostings.{FieldPostings}
 use Rattle.seg_build.proofs.Fitting.{element_at}
-use Rattle.seg_build.proofs.IndexedParts.{either, part-kept, part-passed, indexed_pair}
+use Rattle.seg_build.proofs.IndexedParts.{part-kept, part-passed, indexed_pair}
 use Rattle.seg_build.proofs.KeptLengths.{HasTokens}
-use Rattle.seg_build.proofs.Places.{some_same, count_in-added}
+use Rattle.seg_build.proofs.Places.{count_in-added}
 use Rattle.seg_segment.proofs.Turns.{drop-item}
 use Rattle.seg_build.proofs.Whole.{length-added_at}
 
@@ -47,7 +47,7 @@ counted_end document (t ∷ ts) (suc i) count past few = counted_end document ts
 
 total-set : {A : Type 0} (count : A → ℕ) (xs : List A) (i : ℕ) (x y : A) → slice_get xs i ≡ Some x → total count (set xs i y) + count x ≡ total count xs + count y
 total-set count [] i x y at = absurd (false≢true (ap is_some at))
-total-set count (z ∷ zs) zero x y at = omega (arith, ap count (some_same z x at))
+total-set count (z ∷ zs) zero x y at = omega (arith, ap count (same_Some z x at))
 total-set count (z ∷ zs) (suc i) x y at = omega (arith, total-set count zs i x y at)
 
 module _ (id : ℕ) where
@@ -72,14 +72,14 @@ module _ (id : ℕ) where
   none_counted (f ∷ now) [] many h = absurd (let none : ⊥ = omega (arith, many) in none)
   none_counted (f ∷ now) (x ∷ xs) many h =
       let first = h 0 x refl in
-      let here : count_in id f ≡ 0 = ap (count_in id) (some_same f first.field first.at) ∙ first.count in
+      let here : count_in id f ≡ 0 = ap (count_in id) (same_Some f first.field first.at) ∙ first.count in
       let rest = none_counted now xs (omega (arith, many)) (λ k e at. let s = h (suc k) e at in record { field = s.field; at = s.at; count = s.count }) in
       omega (arith, here, rest)
 
 -- the texts of a document are of fields of the schema
 pub texts_within : (schema : Schema) (analyzer : Analyzer) (ps : Document) → AllByRecursion (λ t. t.0 < length schema) (map (text_of schema analyzer) (indexed_part schema ps))
 texts_within schema analyzer [] = tt
-texts_within schema analyzer (p ∷ ps) = elim (either (is_field is_indexed (slice_get schema p.0))) [
+texts_within schema analyzer (p ∷ ps) = elim (cases_Bool (is_field is_indexed (slice_get schema p.0))) [
   | inl is ↦
       let own = indexed_pair schema p is in
       subst (λ qs. AllByRecursion (λ t. t.0 < length schema) (map (text_of schema analyzer) qs)) (sym (part-kept schema p ps is)) (slice_get_within schema p.0 own.entry own.at, texts_within schema analyzer ps)

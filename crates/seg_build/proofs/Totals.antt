@@ -1,8 +1,7 @@
 -- The counts of postings that hits make, and their sums.
-use Rattle.std.proofs.Common.{◌≡◌, ℕ, zero, suc, ◌+◌, ◌≤◌, true, false, cond, List, [], ◌∷◌, length, drop, Some, sym, refl, ap, ◌∙◌, arith}
-use Rattle.std.specs.Prelude.{◌==◌, is_some}
+use Rattle.std.proofs.Common.{◌≡◌, ℕ, suc, ◌+◌, ◌≤◌, true, false, cond, List, [], ◌∷◌, length, drop, Some, sym, refl, ap, ◌∙◌, arith}
+use Rattle.std.specs.Prelude.{◌==◌}
 use Rattle.std.specs.List.{fold, slice_get, AllByRecursion}
-use Rattle.std.proofs.lemmas.Bool.{false≢true}
 use Rattle.seg_model.specs.Reading.{Recorded, presence, frequency, positions, Posting}
 use Rattle.seg_postings.specs.declared.record_kind.RecordKind.{RecordKind}
 use Rattle.seg_postings.specs.declared.record_kind.RecordKind.TheVariants.{Documents, Counts, Positions}
@@ -10,7 +9,7 @@ use Rattle.seg_build.specs.FieldTerms.{kept_as, postings_as}
 use Rattle.seg_build.specs.declared.hits.Hit.{Hit}
 use Rattle.seg_build.specs.Grouped.{from_position, joined, grouped}
 use Rattle.seg_build.specs.TokenTotal.{recorded_count, count_total}
-use Rattle.seg_build.proofs.Places.{some_same}
+use Rattle.seg_common.proofs.Lists.{drop-slice_get}
 
 abbrev and_count : ℕ → Posting → ℕ
 and_count a p = a + recorded_count p.recorded
@@ -104,18 +103,11 @@ grouped_few (h ∷ hs) = let one = joined_few h (grouped hs) in let rest = group
 abbrev pub and_total : ℕ → List Posting → ℕ
 and_total a ps = a + count_total ps
 
-drop-at : {X : Type 0} (xs : List X) (i : ℕ) (x : X) → slice_get xs i ≡ Some x → drop i xs ≡ x ∷ drop (suc i) xs
-drop-at [] i x at = absurd (false≢true (ap is_some at))
-drop-at (y ∷ ys) zero x at = ap (λ z. z ∷ ys) (some_same y x at)
-drop-at (y ∷ ys) (suc i) x at = drop-at ys i x at
-
 -- one term more
 pub total_more : (total n : ℕ) (terms : List (List Posting)) (i : ℕ) (ps : List Posting) → slice_get terms i ≡ Some ps → n ≡ count_total ps → fold and_total (total + n) (drop (i + 1) terms) ≡ fold and_total total (drop i terms)
 total_more total n terms i ps at many =
-    let next : i + 1 ≡ suc i = omega arith in
-    ap (λ m. fold and_total (total + n) (drop m terms)) next
-    ∙ ap (λ m. fold and_total (total + m) (drop (suc i) terms)) many
-    ∙ sym (ap (fold and_total total) (drop-at terms i ps at))
+    ap (λ m. fold and_total (total + m) (drop (i + 1) terms)) many
+    ∙ sym (ap (fold and_total total) (drop-slice_get terms i ps at))
 
 -- a sum is no less than what it begins with
 pub total-ge : (total : ℕ) (terms : List (List Posting)) → total ≤ fold and_total total terms

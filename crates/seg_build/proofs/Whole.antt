@@ -3,17 +3,18 @@ use Rattle.std.proofs.Common.{◌≡◌, ℕ, suc, ◌+◌, ◌≤◌, true, fal
 use Rattle.std.specs.FinMap as fin
 use Rattle.std.specs.List.{slice_get, flat_map, enumerate_from}
 use Rattle.std.specs.Option.{option_map}
+use Rattle.std.proofs.lemmas.Bool.{cases_Bool}
 use Rattle.std.proofs.lemmas.Bool.Decides.{nat_tests}
 use Rattle.std.proofs.lemmas.List.{length-map, map-append}
-use Rattle.std.proofs.lemmas.Option.{slice_get-map}
+use Rattle.std.proofs.lemmas.Option.{same_Some, slice_get-map}
 use Rattle.std.proofs.Math.ListN.{length-set}
-use Rattle.seg_values.specs.declared.token.Token.{Token}
+use Rattle.seg_words.specs.declared.token.Token.{Token}
 use Rattle.seg_values.specs.declared.schema.FieldEntry.{FieldEntry}
 use Rattle.seg_values.specs.Tree.{Document}
 use Rattle.seg_model.specs.Fields.{Schema, Analyzer, is_indexed, indexing_tokenizer, values_of}
 use Rattle.seg_model.specs.Occurrences.{Occurrence, value_tokens, text_occurrences, kind_occurrences, occurrences_at, occurrences}
 use Rattle.seg_model.specs.Reading.{Terms, postings_of, if_any, terms_of}
-use Rattle.seg_model.specs.Tables.{tabulated}
+use Rattle.seg_common.specs.Tables.{tabulated}
 use Rattle.seg_build.specs.Adding.{with_occurrences}
 use Rattle.seg_segment.specs.Built.{is_built_schema}
 use Rattle.seg_build.specs.Field.{start_in, count_in}
@@ -23,8 +24,8 @@ use Rattle.seg_build.specs.Steps.{fresh, added_at, with_pair, with_pairs, with_d
 use Rattle.seg_build.specs.declared.field.FieldPostings.{FieldPostings}
 use Rattle.seg_segment.proofs.BuiltEntries.{IsTextEntry, text_entry_at}
 use Rattle.seg_build.proofs.Growing.{terms_of-push}
-use Rattle.seg_build.proofs.IndexedParts.{either, values_kept, values_dropped}
-use Rattle.seg_build.proofs.Places.{some_same, texts_of, added_all, terms-added_all, document-added_all, field_after}
+use Rattle.seg_build.proofs.IndexedParts.{values_kept, values_dropped}
+use Rattle.seg_build.proofs.Places.{texts_of, added_all, terms-added_all, document-added_all, field_after}
 
 -- ---- as many fields as before
 
@@ -83,7 +84,7 @@ module _ (schema : Schema) (analyzer : Analyzer) (k : ℕ) (e : FieldEntry) (at_
 
     -- one more document
     terms_turn : with_occurrences before (length (map occurred ds)) (text_occurrences 0 (indexed_texts ps)) ≡ terms_of (positional e) (map occurred (ds ++ ps ∷ []))
-    terms_turn = elim (either (is_indexed e)) [
+    terms_turn = elim (cases_Bool (is_indexed e)) [
       | inl on ↦
           let text = text_entry_at schema k e entries at_e on in
           let same : text_occurrences 0 (indexed_texts ps) ≡ occurred ps = ap (λ vs. text_occurrences 0 (map (value_tokens (analyzer (indexing_tokenizer e))) vs)) (values_kept schema k e at_e ps on) ∙ sym (occurrences-text ps text) in
@@ -165,7 +166,7 @@ listed_from F n [] (f ∷ fs) many h = absurd (omega arith)
 listed_from F n (x ∷ xs) [] many h = absurd (omega arith)
 listed_from F n (x ∷ xs) (f ∷ fs) many h =
     let first = h 0 x refl in
-    let here : f.terms ≡ F (n, x) = ap (λ (g : FieldPostings). g.terms) (some_same f first.field first.at) ∙ first.is ∙ ap (λ m. F (m, x)) (let z : n + 0 ≡ n = omega arith in z) in
+    let here : f.terms ≡ F (n, x) = ap (λ (g : FieldPostings). g.terms) (same_Some f first.field first.at) ∙ first.is ∙ ap (λ m. F (m, x)) (let z : n + 0 ≡ n = omega arith in z) in
     let rest = listed_from F (n + 1) xs fs (omega arith) (λ i e at. let s = h (suc i) e at in record { field = s.field; at = s.at; is = s.is ∙ ap (λ m. F (m, e)) (let z : n + suc i ≡ n + 1 + i = omega arith in z) }) in
     λ j. fin.entries (here j) ∷ rest j
 

@@ -1,5 +1,5 @@
 -- The terms of documents that are built can be written.
-use Rattle.std.proofs.Common.{◌≡◌, ℕ, suc, ◌+◌, ◌<◌, ◌≤◌, ◌^◌, Bool, true, false, cond, List, [], ◌∷◌, ◌++◌, map, length, Some, None, Option, Less, Equal, Greater, sym, refl, ap, ◌∙◌, subst, arith, inl, inr, length-append}
+use Rattle.std.proofs.Common.{◌≡◌, ℕ, suc, ◌+◌, ◌<◌, ◌≤◌, ◌^◌, Bool, true, false, cond, List, [], ◌∷◌, ◌++◌, map, length, Some, None, Option, Less, Equal, Greater, sym, refl, ap, ◌∙◌, subst, arith, inl, inr}
 use Rattle.std.specs.Prelude.{filter, nat_le, is_some, ◌&&◌}
 use Rattle.std.specs.FinMap.{entries, empty, from_entries, entries_sorted, entries-insert, len-empty, len-entries}
 use Rattle.std.specs.FinMap.Entries.{put, by_order}
@@ -7,11 +7,12 @@ use Rattle.std.specs.List.{AllByRecursion, slice_get, list_all, flat_map, enumer
 use Rattle.std.specs.Ordering.{nat_cmp}
 use Rattle.std.specs.Cmp.Lexicographic.{slice_cmp, nat_list_cmp_total}
 use Rattle.std.specs.Str.{bytes_eq}
-use Rattle.std.proofs.lemmas.Bool.{false≢true}
-use Rattle.std.proofs.lemmas.Bool.Decides.{nat_tests, eqb_tells}
+use Rattle.std.proofs.lemmas.Bool.{false≢true, and_parts, leb-true}
+use Rattle.std.proofs.lemmas.Bool.Decides.{eqb_tells}
 use Rattle.std.proofs.lemmas.List.{length-map}
+use Rattle.std.proofs.lemmas.Option.{same_Some}
 use lib.Dec.{T}
-use Rattle.seg_values.specs.declared.token.Token.{Token}
+use Rattle.seg_words.specs.declared.token.Token.{Token}
 use Rattle.seg_values.specs.declared.schema.FieldEntry.{FieldEntry}
 use Rattle.seg_values.specs.declared.schema.FieldKind.TheVariants.{Text}
 use Rattle.seg_values.specs.declared.schema.IndexOption.TheVariants as options
@@ -19,22 +20,22 @@ use Rattle.seg_values.specs.Tree.{Document}
 use Rattle.seg_model.specs.Built.{is_taken}
 use Rattle.seg_model.specs.Checked.{positions_fall, unless, is_rising, count_of, positions_refusal, field_fits, order_refusal}
 use Rattle.seg_model.specs.Fields.{Schema, Analyzer, is_indexed, indexing_tokenizer}
-use Rattle.seg_model.specs.Occurrences.{Occurrence, counted, reach, start_after, start_after_all, value_tokens, placed_from, text_occurrences, occurrences}
+use Rattle.seg_model.specs.Occurrences.{Occurrence, counted, reach, start_after, start_after_all, value_tokens, text_occurrences, occurrences}
 use Rattle.seg_model.specs.Reading.{Recorded, Posting, Terms, positions_of, if_occurs, recorded_in, postings_from, postings_of, if_any, terms_of}
-use Rattle.seg_model.specs.Tables.{entry_of}
+use Rattle.seg_common.specs.Tables.{entry_of}
 use Rattle.seg_postings.specs.declared.record_kind.RecordKind.TheVariants.{Positions}
 use Rattle.seg_postings.specs.Written.{Rise, IsOfKind, AreWritable}
 use Rattle.seg_segment.specs.Built.{is_built_entry}
 use Rattle.seg_build.specs.Entries.{TermEntries}
 use Rattle.seg_build.specs.FieldTerms.{positional}
 use Rattle.seg_build.specs.Writable.{PositionsCanBeWritten, BuiltTermsCanBeWritten}
-use Rattle.seg_segment.proofs.BuiltEntries.{IsTextEntry, both_true, text_entry_at}
+use Rattle.seg_segment.proofs.BuiltEntries.{IsTextEntry, text_entry_at}
 use Rattle.seg_check.proofs.FieldsFit.{for_one_field}
 use Rattle.seg_model.proofs.FirstAnswers.{or_both, unless_true}
+use Rattle.seg_check.proofs.Rising.{rises, rises_first}
 use Rattle.seg_build.proofs.Fitting.{positions_refusal-text}
-use Rattle.seg_build.proofs.Places.{some_same, start_after_all-ge, texts_of, texts_of-taken, texts_of-passed}
+use Rattle.seg_build.proofs.Places.{length_texts, reach-ge, start_after_all-ge, texts_of, texts_of-taken, texts_of-passed}
 use Rattle.seg_build.proofs.RecordedTerms.{option_of_text, no_terms_of}
-use Rattle.seg_build.proofs.Rising.{rises, rises-first, reach-ge}
 use Rattle.seg_build.proofs.Taken.{bounded, passed}
 use Rattle.seg_build.proofs.Whole.{occurrences-text}
 
@@ -66,9 +67,6 @@ fewer q (o ∷ os) =
       | false ↦ omega (arith, rest)
     ]
 
-no_more : (a b : ℕ) → nat_le a b ≡ true → a ≤ b
-no_more a b h = grind (arith, nat_tests)
-
 abbrev placed : ℕ → Token → Occurrence
 placed start t = record { bytes = t.text; position = start + t.position }
 
@@ -76,8 +74,8 @@ placed start t = record { bytes = t.text; position = start + t.position }
 rise_placed : (start top : ℕ) → top < 2 ^ 32 → (before low : ℕ) (ts : List Token) (more : List Occurrence) → rises low ts ≡ true → before ≤ start + low → before ≤ top → reach start ts ≤ top → Rise top (placed_at more) → Rise before (placed_at (map (placed start) ts ++ more))
 rise_placed start top small before low [] more up from le reaches rest = rise_lower before top (placed_at more) le rest
 rise_placed start top small before low (t ∷ ts) more up from le reaches rest =
-    let two = both_true (nat_le low t.position) (rises t.position ts) up in
-    let higher = no_more low t.position two.0 in
+    let two = and_parts (nat_le low t.position) (rises t.position ts) up in
+    let higher = leb-true low t.position two.0 in
     let here : start + t.position ≤ top = omega (arith, reaches) in
     let others : reach start ts ≤ top = omega (arith, reaches) in
     (omega (arith, higher, from), omega (arith, here, small), rise_placed start top small (start + t.position) t.position ts more two.1 (omega arith) here others rest)
@@ -93,16 +91,8 @@ rise_texts start before (v ∷ vs) up le low =
     let next : start_after start v ≡ 1 + top = refl in
     let ge = start_after_all-ge (start_after start v) vs in
     let reaches = reach-ge start (counted v) in
-    rise_placed start top (omega (arith, low, ge, next)) before 0 (counted v) (text_occurrences (start_after start v) vs) (rises-first (counted v) ∙ up.0) (omega (arith, le)) (omega (arith, le, reaches)) (omega arith)
+    rise_placed start top (omega (arith, low, ge, next)) before 0 (counted v) (text_occurrences (start_after start v) vs) (rises_first (counted v) ∙ up.0) (omega (arith, le)) (omega (arith, le, reaches)) (omega arith)
     (rise_texts (start_after start v) top vs up.1 (omega (arith, next)) low)
-
-many_occur : (start : ℕ) (vs : List (List Token)) → length (text_occurrences start vs) ≡ count_of vs
-many_occur start [] = refl
-many_occur start (v ∷ vs) =
-    let all = length-append (placed_from start [] v) (text_occurrences (start_after start v) vs) in
-    let here : length (placed_from start [] v) ≡ length (counted v) = length-map (counted v) (placed start) in
-    let rest = many_occur (start_after start v) vs in
-    omega (arith, all, here, rest)
 
 -- the occurrences of a document in a field rise, and are few
 record Fit (os : List Occurrence) : Type 0 where
@@ -121,7 +111,7 @@ module _ (schema : Schema) (analyzer : Analyzer) (k : ℕ) (e : FieldEntry) (at_
       elim (eqb_tells k p.0) [
         | inl h ↦
             let refusal : unless (is_rising (counted v) && true) positions_fall ≡ None = sym (positions_refusal-text analyzer p.1 e text) ∙ ap (positions_refusal analyzer p.1) (sym (ap (slice_get schema) (sym h.1) ∙ at_e)) ∙ two.0 in
-            let rising = (both_true (is_rising (counted v)) true (unless_true _ positions_fall refusal)).0 in
+            let rising = (and_parts (is_rising (counted v)) true (unless_true _ positions_fall refusal)).0 in
             subst AllRising (sym (texts_of-taken analyzer e k p ps h.0)) (rising, rest)
         | inr h ↦ subst AllRising (sym (texts_of-passed analyzer e k p ps h.0)) rest
       ]
@@ -132,13 +122,13 @@ module _ (schema : Schema) (analyzer : Analyzer) (k : ℕ) (e : FieldEntry) (at_
       let h = passed schema analyzer ps taken in
       let bounds = bounded analyzer k e ps text (for_one_field (field_fits analyzer ps) schema h.fit k e at_e) in
       let few : count_of vs < 2 ^ 32 = bounds.count in
-      let many : length (text_occurrences 0 vs) ≡ count_of vs = many_occur 0 vs in
+      let many : length (text_occurrences 0 vs) ≡ count_of vs = length_texts 0 vs in
       subst Fit (sym (occurrences-text schema analyzer k e at_e ps text)) (record { rising = rise_texts 0 0 vs (rising_texts ps h.order) (omega arith) bounds.end; few = omega (arith, few, many) })
 
   all_fit : (ds : List Document) → list_all (is_taken schema analyzer) ds ≡ true → AllByRecursion Fit (map (λ d. occurrences schema analyzer d k) ds)
   all_fit [] h = tt
   all_fit (d ∷ ds) h =
-      let two = both_true (is_taken schema analyzer d) (list_all (is_taken schema analyzer) ds) h in
+      let two = and_parts (is_taken schema analyzer d) (list_all (is_taken schema analyzer) ds) h in
       (taken_fits d two.0, all_fit ds two.1)
 
 -- ---- the postings of a term
@@ -198,11 +188,11 @@ module _ {Y : Type 0} (P : Y → Type 0) where
 
 any_occurs : (ps v : List Posting) → if_any ps ≡ Some v → 0 < length v
 any_occurs [] v e = absurd (false≢true (ap is_some e))
-any_occurs (p ∷ ps) v e = subst (λ x. 0 < length x) (some_same (p ∷ ps) v e) (omega arith)
+any_occurs (p ∷ ps) v e = subst (λ x. 0 < length x) (same_Some (p ∷ ps) v e) (omega arith)
 
 any_writable : (ps v : List Posting) → AreWritable Positions 0 0 ps → if_any ps ≡ Some v → AreWritable Positions 0 0 v
 any_writable [] v w e = absurd (false≢true (ap is_some e))
-any_writable (p ∷ ps) v w e = subst (AreWritable Positions 0 0) (some_same (p ∷ ps) v e) w
+any_writable (p ∷ ps) v w e = subst (AreWritable Positions 0 0) (same_Some (p ∷ ps) v e) w
 
 truth : (b : _) → T b → b ≡ true
 truth true h = refl
@@ -238,6 +228,6 @@ module _ (schema : Schema) (analyzer : Analyzer) (ds : List Document) (built : l
 
 pub built_terms_can_be_written : BuiltTermsCanBeWritten
 built_terms_can_be_written schema analyzer ds built few =
-    let two = both_true (list_all is_built_entry schema) (list_all (is_taken schema analyzer) ds) built in
+    let two = and_parts (list_all is_built_entry schema) (list_all (is_taken schema analyzer) ds) built in
     all_fields PositionsCanBeWritten (λ f. terms_of (positional f.1) (map (λ d. occurrences schema analyzer d f.0) ds)) 0 schema (λ i e at.
     subst (λ n. PositionsCanBeWritten (entries (terms_of (positional e) (map (λ d. occurrences schema analyzer d n) ds)))) (let z : i ≡ 0 + i = omega arith in z) (each_can schema analyzer ds two.0 two.1 few i e at (is_indexed e) refl))

@@ -1,30 +1,28 @@
 -- What files hold in which the terms of fields are written.
-use Rattle.std.proofs.Common.{◌≡◌, ◌≢◌, ℕ, zero, suc, ◌<◌, true, List, [], ◌∷◌, map, length, Some, None, Option, sym, refl, ap, ◌∙◌, subst, arith}
+use Rattle.std.proofs.Common.{◌≡◌, ℕ, zero, suc, ◌<◌, true, List, [], ◌∷◌, map, length, Some, None, Option, sym, refl, ap, ◌∙◌, subst, arith}
 use Rattle.std.specs.Prelude.{is_some, option_map, IsSomeAnd}
 use Rattle.std.specs.FinMap.{entries, empty}
 use Rattle.std.specs.List.{slice_get, slice_index_or, AllByRecursion}
 use Rattle.std.proofs.lemmas.Bool.{false≢true}
 use Rattle.std.proofs.lemmas.List.{length-map}
-use Rattle.std.proofs.lemmas.Option.{slice_get_within, slice_get-map}
-use Rattle.seg_common.specs.Growing.{HasGrown}
+use Rattle.std.proofs.lemmas.Option.{same_Some, slice_get_within, slice_get-map}
 use Rattle.seg_values.specs.declared.schema.FieldEntry.{FieldEntry}
 use Rattle.seg_model.specs.Fields.{Schema, is_indexed}
 use Rattle.seg_model.specs.Reading.{Terms, term_option}
 use Rattle.seg_directory.specs.Composite.{composite, field_of}
 use Rattle.seg_postings.specs.declared.record_kind.RecordKind.{RecordKind}
-use Rattle.seg_postings.specs.FieldWriting.{TermWritten, FieldWriting, fresh}
+use Rattle.seg_postings.specs.FieldWriting.{TermWritten}
 use Rattle.seg_postings.specs.Files.{FieldFiles}
 use Rattle.seg_postings.specs.Kinds.{kind_of}
 use Rattle.seg_segment.specs.Built.{is_built_schema}
-use Rattle.seg_segment.specs.FieldsWritten.{IsWhole, HaveFields}
+use Rattle.seg_segment.specs.FieldsWritten.{HaveFields}
 use Rattle.seg_segment.proofs.BuiltEntries.{IsTextEntry, text_entry_at}
 use Rattle.seg_segment.proofs.FieldsInTurn.{AreTermsOf, hold_terms}
 use Rattle.seg_build.specs.Entries.{TermEntries}
 use Rattle.seg_build.specs.FieldTerms.{FieldTerms}
 use Rattle.seg_build.specs.Filling.{AreFieldsOf, HoldFields}
-use Rattle.seg_build.specs.TermsWritten.{written, with_terms, all_written, written_total}
+use Rattle.seg_build.specs.TermsWritten.{written, all_written, written_total}
 use Rattle.seg_build.specs.Totals.{TotalsAreCounts}
-use Rattle.seg_build.proofs.Places.{some_same}
 use Rattle.seg_build.proofs.RecordedTerms.{option_of_text}
 
 abbrev pub total_in : List FieldTerms → ℕ → ℕ
@@ -32,14 +30,6 @@ total_in fields field = written_total (slice_get fields field)
 
 abbrev pub AreIn : List FieldTerms → ℕ → List TermWritten → Type 0
 AreIn fields field terms = terms ≡ all_written (slice_get fields field)
-
--- a field is whole with the terms that it has
-pub whole : (fields : List FieldTerms) (field : ℕ) (found : FieldTerms) → slice_get fields field ≡ Some found → (begun after : Option FieldWriting) → begun ≡ Some (fresh field (total_in fields field)) → HasGrown begun after (with_terms found) → IsWhole (total_in fields) (AreIn fields) field after
-whole fields field found at begun after begins grown = record {
-  written = map (written found.kind) found.terms;
-  are = ap all_written (sym at);
-  is = grown.is ∙ ap (λ w. Some (with_terms found w)) (some_same grown.kept (fresh field (total_in fields field)) (sym grown.was ∙ begins));
-}
 
 -- ---- what the files hold
 
@@ -57,7 +47,7 @@ record StandsFor (o : Option FieldTerms) (kind : RecordKind) (terms : TermEntrie
 
 stands_for : (o : Option FieldTerms) (kind : RecordKind) (terms : TermEntries) → option_map (λ f. f.kind) o ≡ Some kind → option_map (λ f. f.terms) o ≡ Some terms → StandsFor o kind terms
 stands_for None kind terms k t = absurd (false≢true (ap is_some k))
-stands_for (Some found) kind terms k t = record { found = found; is = refl; keeps = some_same found.kind kind k; has = some_same found.terms terms t }
+stands_for (Some found) kind terms k t = record { found = found; is = refl; keeps = same_Some found.kind kind k; has = same_Some found.terms terms t }
 
 kinds_of : (e : FieldEntry) (kind : RecordKind) (terms : TermEntries) → IsTextEntry e → kind ≡ kind_of e.index → AllByRecursion (λ t. t.kind ≡ kind_of (term_option e t.bytes)) (map (written kind) terms)
 kinds_of e kind [] text is = tt
@@ -89,7 +79,7 @@ module _ (schema : Schema) (built : is_built_schema schema ≡ true) (fields : L
 
   totals_are_counts : (postings : List ℕ) → composite postings ≡ Some files.postings → TotalsAreCounts postings fields
   totals_are_counts postings parts_are parts file field found at part has =
-      let same : parts ≡ files.postings = some_same parts files.postings (sym file ∙ parts_are) in
+      let same : parts ≡ files.postings = same_Some parts files.postings (sym file ∙ parts_are) in
       have.totals field part (ap (λ ps. field_of ps field) (sym same) ∙ has) ∙ ap written_total at
 
   all_held : HoldFields schema fields files

@@ -1,117 +1,94 @@
 -- Hits that are written run by run.
-use Rattle.std.proofs.Common.{◌≡◌, ℕ, ◌+◌, ◌-◌, ◌<◌, ◌≤◌, ◌^◌, List, [], ◌∷◌, ◌++◌, map, length, take, drop, Some, None, Option, sym, refl, ap, ◌∙◌, subst, arith, append_assoc}
-use Rattle.std.specs.Prelude.{slice_index, option_map, IfSome, IsSomeAnd}
+use Rattle.std.proofs.Common.{◌≡◌, ◌≢◌, ℕ, ◌+◌, ◌≤◌, List, [], ◌∷◌, ◌++◌, map, length, take, drop, Option, sym, refl, ap, ◌∙◌, subst, arith}
+use Rattle.std.specs.Prelude.{slice_index, IsSomeAnd}
 use Rattle.std.proofs.lemmas.List.{length-map}
 use Rattle.seg_common.specs.Growing.{HasGrown}
-use Rattle.seg_model.specs.Reading.{positions, Posting}
+use Rattle.seg_model.specs.Reading.{Recorded, Posting}
 use Rattle.seg_postings.specs.declared.record_kind.RecordKind.{RecordKind}
-use Rattle.seg_postings.specs.declared.record_kind.RecordKind.TheVariants.{Positions}
-use Rattle.seg_postings.specs.FieldWriting.{TermWritten, FieldWriting, with_document, in_document, next_document, HasPositions, MayOccur}
-use Rattle.seg_postings.specs.Written.{Rise, IsOfKind, AreWritable, recorded_as}
+use Rattle.seg_postings.specs.declared.record_kind.RecordKind.TheVariants.{Documents, Counts, Positions}
+use Rattle.seg_postings.specs.FieldWriting.{FieldWriting}
+use Rattle.seg_postings.specs.PostingsReading.{kind_kept, count_of, places_of}
+use Rattle.seg_postings.specs.Written.{Rise, IsOfKind, AreWritable}
+use Rattle.seg_segment.specs.WritingTerms.{AscendBy, AreOfTerm, MayTake, with_more}
+use Rattle.seg_segment.proofs.GivenPostings.{AreGiven, may_take, given_more}
+use Rattle.seg_segment.proofs.WrittenDocuments.{IsRecorded}
 use Rattle.seg_build.specs.declared.hits.Hit.{Hit}
-use Rattle.seg_build.specs.FieldTerms.{kept_as, postings_as}
+use Rattle.seg_build.specs.FieldTerms.{postings_as}
 use Rattle.seg_build.specs.Grouped.{grouped}
 use Rattle.seg_build.specs.Runs.{IsFirstRun}
-use Rattle.seg_build.specs.TermsWritten.{with_posting, with_postings, IsUnused, TakesDocument}
-use Rattle.seg_build.proofs.Places.{some_same}
+use Rattle.seg_build.specs.TermsWritten.{kept_hits}
+
+-- ---- what can be written
+
+kept_of : (kind : RecordKind) (r : Recorded) → IsOfKind kind r
+    → (kind_kept r ≡ kind) × (1 ≤ count_of r) × Rise 0 (places_of r)
+kept_of Documents r is =
+    subst (λ (x : Recorded). (kind_kept x ≡ Documents) × (1 ≤ count_of x) × Rise 0 (places_of x)) (sym is) (refl, omega arith, tt)
+kept_of Counts r (n, some, few, is) =
+    subst (λ (x : Recorded). (kind_kept x ≡ Counts) × (1 ≤ count_of x) × Rise 0 (places_of x)) (sym is) (refl, some, tt)
+kept_of Positions r (ps, some, few, rise, is) =
+    subst (λ (x : Recorded). (kind_kept x ≡ Positions) × (1 ≤ count_of x) × Rise 0 (places_of x)) (sym is) (refl, some, rise)
+
+ascend_by : (kind : RecordKind) (before least : ℕ) (ps : List Posting) → AreWritable kind before least ps
+    → AscendBy kind (before + least) ps
+ascend_by kind before least [] h = tt
+ascend_by kind before least (p ∷ ps) (behind, limit, is, rest) = let kept = kept_of kind p.recorded is in (behind, limit, kept.0, kept.1, ascend_by kind p.document 1 ps rest)
+
+-- the kind of the first posting is the one of all
+pub first_keeps : (kind : RecordKind) (p : Posting) (ps : List Posting) → AreWritable kind 0 0 (p ∷ ps)
+    → kind_kept p.recorded ≡ kind
+first_keeps kind p ps (behind, limit, is, rest) = (kept_of kind p.recorded is).0
+
+pub are_of_term : (kind : RecordKind) (ps : List Posting) → AreWritable kind 0 0 ps → AreOfTerm ps
+are_of_term kind [] h = tt
+are_of_term kind (p ∷ ps) h =
+    subst (λ (k : RecordKind). AscendBy k 0 (p ∷ ps)) (sym (first_keeps kind p ps h)) (ascend_by kind 0 0 (p ∷ ps) h)
+
+kept_at : (kind : RecordKind) (before least : ℕ) (done : List Posting) (p : Posting) (later : List Posting)
+    → AreWritable kind before least (done ++ p ∷ later) → IsOfKind kind p.recorded
+kept_at kind before least [] p later (behind, limit, is, rest) = is
+kept_at kind before least (q ∷ done) p later (behind, limit, is, rest) = kept_at kind q.document 1 done p later rest
 
 -- ---- the hits in one document
 
-abbrev pub placed : List Hit → List ℕ
-placed run = map (λ (h : Hit). h.position) run
+pub counted_as : (kind : RecordKind) → kind ≡ Counts → (hits : List Hit) → length hits ≡ count_of (kept_hits kind hits)
+counted_as kind is hits =
+    sym (length-map hits (λ (h : Hit). h.position)) ∙ sym (ap (λ (k : RecordKind). count_of (kept_hits k hits)) is)
 
--- a document with these hits, as a kind keeps them
-abbrev pub posting_of : RecordKind → ℕ → List Hit → Posting
-posting_of kind d run = record { document = d; recorded = kept_as kind (positions (placed run)) }
+pub counted_placed : (kind : RecordKind) → kind ≡ Positions → (hits : List Hit)
+    → length hits ≡ count_of (kept_hits kind hits)
+counted_placed kind is hits =
+    sym (length-map hits (λ (h : Hit). h.position)) ∙ sym (ap (λ (k : RecordKind). count_of (kept_hits k hits)) is)
 
--- positions that can be written
-record ArePlaced (run : List Hit) : Type 0 where
-  some : 1 ≤ length run
-  rise : Rise 0 (placed run)
+pub all_placed : (kind : RecordKind) → kind ≡ Positions → (hits : List Hit)
+    → map (λ (h : Hit). h.position) hits ≡ places_of (kept_hits kind hits)
+all_placed kind is hits = sym (ap (λ (k : RecordKind). places_of (kept_hits k hits)) is)
 
-same_positions : (ps qs : List ℕ) → positions ps ≡ positions qs → qs ≡ ps
-same_positions ps qs e = cc
+pub none_placed : (kind : RecordKind) → kind ≢ Positions → (hits : List Hit) → [] ≡ places_of (kept_hits kind hits)
+none_placed Documents other hits = refl
+none_placed Counts other hits = refl
+none_placed Positions other hits = absurd (other refl)
 
-are_placed : (run : List Hit) → IsOfKind Positions (kept_as Positions (positions (placed run))) → ArePlaced run
-are_placed run (ps, some, few, rise, is) =
-    let same : ps ≡ placed run = same_positions (placed run) ps is in
-    let many : length ps ≡ length run = ap length same ∙ length-map run (λ (h : Hit). h.position) in
-    record { some = omega (arith, some, many); rise = subst (Rise 0) same rise }
-
--- a document with the positions of these hits
-module _ (kind : RecordKind) (keeps : kind ≡ Positions) (d : ℕ) (run : List Hit) (kept : IsOfKind kind (kept_as kind (positions (placed run)))) (count : ℕ) (many : count ≡ length run) (ds : List ℕ) (are : ds ≡ placed run) where
-  places : ArePlaced run
-  places = are_placed run (subst (λ (k : RecordKind). IsOfKind k (kept_as k (positions (placed run)))) keeps kept)
-
-  counted : HasPositions Positions count ds
-  counted = ap length are ∙ length-map run (λ (h : Hit). h.position) ∙ sym many
-
-  recorded : recorded_as Positions count ds ≡ kept_as kind (positions (placed run))
-  recorded = ap positions are ∙ ap (λ (k : RecordKind). kept_as k (positions (placed run))) (sym keeps)
-
-  may : (t : TermWritten) → TakesDocument kind d t → MayOccur d count ds t
-  may t takes = record {
-    ascends = takes.ascends;
-    limit = takes.limit;
-    some = let some = places.some in omega (arith, some, many);
-    counted = subst (λ (k : RecordKind). HasPositions k count ds) (sym (takes.keeps ∙ keeps)) counted;
-    rise = subst (Rise 0) (sym are) places.rise;
-  }
-
-  may_current : (c : Option TermWritten) → IsSomeAnd c (TakesDocument kind d) → IsSomeAnd c (MayOccur d count ds)
-  may_current None h = absurd h
-  may_current (Some t) h = may t h
-
-  pub may_occur : (o : Option FieldWriting) → IfSome o (λ w. IsSomeAnd w.current (TakesDocument kind d)) → IfSome o (λ w. IsSomeAnd w.current (MayOccur d count ds))
-  may_occur None h = tt
-  may_occur (Some w) h = may_current w.current h
-
-  current_more : (c : Option TermWritten) → IsSomeAnd c (TakesDocument kind d) → option_map (in_document d count ds) c ≡ option_map (λ (t : TermWritten). record t { postings = t.postings ++ posting_of kind d run ∷ [] }) c
-  current_more None h = absurd h
-  current_more (Some t) h =
-      let same : recorded_as t.kind count ds ≡ kept_as kind (positions (placed run)) = ap (λ (k : RecordKind). recorded_as k count ds) (h.keeps ∙ keeps) ∙ recorded in
-      ap (λ r. Some (record t { postings = t.postings ++ record { document = d; recorded = r } ∷ [] })) same
-
-  pub has_posting : (old new : Option FieldWriting) → IfSome old (λ w. IsSomeAnd w.current (TakesDocument kind d)) → HasGrown old new (with_document d count ds) → HasGrown old new (with_posting (posting_of kind d run))
-  has_posting old new takes g =
-      let here : IsSomeAnd g.kept.current (TakesDocument kind d) = subst (λ o. IfSome o (λ w. IsSomeAnd w.current (TakesDocument kind d))) g.was takes in
-      record {
-        kept = g.kept;
-        was = g.was;
-        is = g.is ∙ ap (λ c. Some (record g.kept { current = c })) (current_more g.kept.current here);
-      }
-
--- ---- a posting after others
-
--- what is known of a posting, so that it can be written after others
-record Next (kind : RecordKind) (least : ℕ) (p : Posting) : Type 0 where
-  behind : least ≤ p.document
-  limit : p.document < 2 ^ 32 - 1
-  kept : IsOfKind kind p.recorded
-
-next_of : (kind : RecordKind) (before least : ℕ) (done : List Posting) (p : Posting) (later : List Posting) → AreWritable kind before least (done ++ p ∷ later) → Next kind (next_document (before + least) done) p
-next_of kind before least [] p later (behind, limit, is, rest) = record { behind = behind; limit = limit; kept = is }
-next_of kind before least (q ∷ done) p later (behind, limit, is, rest) = next_of kind q.document 1 done p later rest
+pub run_recorded : (kind : RecordKind) (run : List Hit) (count : ℕ) (places : List ℕ)
+    → IsOfKind kind (kept_hits kind run) → count ≡ count_of (kept_hits kind run)
+    → places ≡ places_of (kept_hits kind run) → IsRecorded kind (kept_hits kind run) count places
+run_recorded kind run count places is counted are = let kept = kept_of kind (kept_hits kind run) is in record { keeps = kept.0; counted = counted; placed = are; rise = kept.2 }
 
 -- ---- the hits so far
 
--- some postings were written, and with those of the hits that are left they are all
-pub record SoFar (kind : RecordKind) (before now : Option FieldWriting) (rest all : List Hit) : Type 0 where
-  pub done : List Posting
-  pub with_rest : done ++ postings_as kind (grouped rest) ≡ postings_as kind (grouped all)
-  pub grown : HasGrown before now (with_postings done)
-
-abbrev Unused : RecordKind → Option FieldWriting → Type 0
-Unused kind o = IsSomeAnd o (λ w. IsSomeAnd w.current (IsUnused kind))
-
-abbrev with_these : List Posting → Option TermWritten → Option TermWritten
-with_these ps c = option_map (λ (t : TermWritten). record t { postings = ps }) c
+pub none_left : (kind : RecordKind) (rest : List Hit) → length rest ≡ 0 → postings_as kind (grouped rest) ≡ []
+none_left kind [] none = refl
+none_left kind (h ∷ hs) none = absurd (omega (arith, none))
 
 -- the first run of the hits that are left, of which the document is that of the first hit
 pub record IsRun (kind : RecordKind) (rest run others : List Hit) (d : ℕ) : Type 0 where
-  pub first : postings_as kind (grouped rest) ≡ posting_of kind d run ∷ postings_as kind (grouped others)
+  pub first : postings_as kind (grouped rest) ≡ record { document = d; recorded = kept_hits kind run } ∷ postings_as kind (grouped others)
 
-pub run_of : (kind : RecordKind) (rest run others : List Hit) (n d : ℕ) → IsFirstRun rest n → run ≡ take n rest → others ≡ drop n rest → d ≡ slice_index (map (λ (h : Hit). h.document) rest) 0 → IsRun kind rest run others d
+abbrev posting_of : RecordKind → ℕ → List Hit → Posting
+posting_of kind d run = record { document = d; recorded = kept_hits kind run }
+
+pub run_of : (kind : RecordKind) (rest run others : List Hit) (n d : ℕ) → IsFirstRun rest n → run ≡ take n rest
+    → others ≡ drop n rest → d ≡ slice_index (map (λ (h : Hit). h.document) rest) 0 → IsRun kind rest run others d
 run_of kind rest run others n d first front back document = record {
   first = ap (postings_as kind) (first.first)
       ∙ ap (λ hs. posting_of kind (slice_index (map (λ (h : Hit). h.document) rest) 0) hs ∷ postings_as kind (grouped (drop n rest))) (sym front)
@@ -119,36 +96,18 @@ run_of kind rest run others n d first front back document = record {
       ∙ ap (λ m. posting_of kind m run ∷ postings_as kind (grouped others)) (sym document);
 }
 
-module _ (kind : RecordKind) (before now : Option FieldWriting) (all rest : List Hit) (unused : Unused kind before) (writable : AreWritable kind 0 0 (postings_as kind (grouped all))) (so_far : SoFar kind before now rest all) (run others : List Hit) (d : ℕ) (is : IsRun kind rest run others d) where
-  next : Next kind (next_document 0 so_far.done) (posting_of kind d run)
-  next = next_of kind 0 0 so_far.done (posting_of kind d run) (postings_as kind (grouped others)) (subst (AreWritable kind 0 0) (sym (ap (λ l. so_far.done ++ l) (sym is.first) ∙ so_far.with_rest)) writable)
+module _ (kind : RecordKind) (bytes : List ℕ) (before now : Option FieldWriting) (all rest : List Hit) (may : IsSomeAnd before (MayTake bytes (postings_as kind (grouped all))))
+    (so_far : AreGiven bytes before now (postings_as kind (grouped all)) (postings_as kind (grouped rest))) (run others : List Hit) (d : ℕ) (is : IsRun kind rest run others d) where
+  pub run_kept : AreWritable kind 0 0 (postings_as kind (grouped all)) → IsOfKind kind (kept_hits kind run)
+  run_kept writable =
+      kept_at kind 0 0 so_far.done (posting_of kind d run) (postings_as kind (grouped others)) (subst (AreWritable kind 0 0) (sym (ap (λ l. so_far.done ++ l) (sym is.first) ∙ so_far.with_left)) writable)
 
-  pub run_kept : IsOfKind kind (kept_as kind (positions (placed run)))
-  run_kept = next.kept
+  pub run_taken : IsSomeAnd now (MayTake bytes (record { document = d; recorded = kept_hits kind run } ∷ []))
+  run_taken =
+      may_take bytes before (postings_as kind (grouped all)) may now (postings_as kind (grouped rest)) so_far (posting_of kind d run ∷ []) (postings_as kind (grouped others)) is.first
 
-  takes_current : (c : Option TermWritten) → IsSomeAnd c (IsUnused kind) → IsSomeAnd (with_these so_far.done c) (TakesDocument kind d)
-  takes_current None h = absurd h
-  takes_current (Some t) h = record { keeps = h.keeps; ascends = next.behind; limit = next.limit }
-
-  kept_unused : IsSomeAnd so_far.grown.kept.current (IsUnused kind)
-  kept_unused = subst (Unused kind) so_far.grown.was unused
-
-  pub run_taken : IfSome now (λ w. IsSomeAnd w.current (TakesDocument kind d))
-  run_taken = subst (λ o. IfSome o (λ w. IsSomeAnd w.current (TakesDocument kind d))) (sym so_far.grown.is) (takes_current so_far.grown.kept.current kept_unused)
-
-  added : (c : Option TermWritten) → option_map (λ (t : TermWritten). record t { postings = t.postings ++ posting_of kind d run ∷ [] }) (with_these so_far.done c) ≡ with_these (so_far.done ++ posting_of kind d run ∷ []) c
-  added None = refl
-  added (Some t) = refl
-
-  pub run_more : (after : Option FieldWriting) → HasGrown now after (with_posting (posting_of kind d run)) → SoFar kind before after others all
-  run_more after g = record {
-    done = so_far.done ++ posting_of kind d run ∷ [];
-    with_rest = append_assoc so_far.done (posting_of kind d run ∷ []) (postings_as kind (grouped others)) ∙ ap (λ l. so_far.done ++ l) (sym is.first) ∙ so_far.with_rest;
-    grown = record {
-      kept = so_far.grown.kept;
-      was = so_far.grown.was;
-      is = g.is
-          ∙ ap (λ w. Some (with_posting (posting_of kind d run) w)) (some_same g.kept (with_postings so_far.done so_far.grown.kept) (sym g.was ∙ so_far.grown.is))
-          ∙ ap (λ c. Some (record so_far.grown.kept { current = c })) (added so_far.grown.kept.current);
-    };
-  }
+  pub run_more : (after : Option FieldWriting)
+      → HasGrown now after (with_more bytes (record { document = d; recorded = kept_hits kind run } ∷ []))
+      → AreGiven bytes before after (postings_as kind (grouped all)) (postings_as kind (grouped others))
+  run_more after g =
+      given_more bytes before (postings_as kind (grouped all)) may now (postings_as kind (grouped rest)) so_far (posting_of kind d run ∷ []) (postings_as kind (grouped others)) is.first after g

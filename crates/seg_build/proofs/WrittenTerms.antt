@@ -1,75 +1,100 @@
 -- Terms that are written one by one.
-use Rattle.std.proofs.Common.{◌≡◌, ℕ, zero, suc, ◌+◌, ◌<◌, true, List, [], ◌∷◌, ◌++◌, map, length, take, Some, None, Option, Ordering, Less, Equal, Greater, sym, refl, ap, ◌∙◌, subst, arith}
-use Rattle.std.specs.Prelude.{is_some, IfSome}
+use Rattle.std.proofs.Common.{◌≡◌, ℕ, zero, suc, ◌+◌, ◌<◌, true, List, [], ◌∷◌, ◌++◌, map, length, take, Some, None, Option, Less, sym, refl, ap, ◌∙◌, subst, arith}
+use Rattle.std.specs.Prelude.{is_some, IfSome, IsSomeAnd}
 use Rattle.std.specs.FinMap.{is_sorted}
 use Rattle.std.specs.FinMap.Entries.{below_all}
 use Rattle.std.specs.List.{slice_get, AllByRecursion}
 use Rattle.std.specs.Map.{keys_of, values_of}
 use Rattle.std.specs.Ordering.{nat_cmp, is_lt}
 use Rattle.std.specs.Cmp.Lexicographic.{slice_cmp}
-use Rattle.std.proofs.lemmas.Bool.{false≢true}
+use Rattle.std.proofs.lemmas.Bool.{false≢true, and_parts}
+use Rattle.std.proofs.lemmas.Option.{same_Some}
 use Rattle.seg_common.specs.Growing.{HasGrown}
 use Rattle.seg_model.specs.Reading.{Posting}
 use Rattle.seg_postings.specs.declared.record_kind.RecordKind.{RecordKind}
-use Rattle.seg_postings.specs.FieldWriting.{TermWritten, FieldWriting, last_written, MayOpen}
+use Rattle.seg_postings.specs.FieldWriting.{TermWritten, FieldWriting, with_open, last_written, MayOpen}
 use Rattle.seg_postings.specs.Written.{AreWritable}
 use Rattle.seg_build.specs.Entries.{TermEntries}
 use Rattle.seg_build.specs.FieldTerms.{FieldTerms}
-use Rattle.seg_build.specs.TermsWritten.{written, with_terms, with_whole_term}
+use Rattle.seg_segment.specs.WritingTerms.{term_with, with_terms, with_whole_term}
+use Rattle.seg_build.specs.TermsWritten.{written}
 use Rattle.seg_build.specs.Writable.{CanBeWritten}
-use Rattle.seg_segment.proofs.BuiltEntries.{both_true}
-use Rattle.seg_build.proofs.Places.{some_same}
+use Rattle.seg_common.proofs.Numbers.{is_less}
+use Rattle.seg_build.proofs.WrittenHits.{first_keeps}
 
-less_from : (o : Ordering) → is_lt o ≡ true → o ≡ Less
-less_from Less h = refl
-less_from Equal h = absurd (false≢true h)
-less_from Greater h = absurd (false≢true h)
-
-below_at : (k : List ℕ) (es : TermEntries) (i : ℕ) (b : List ℕ) → below_all (slice_cmp nat_cmp) k es ≡ true → slice_get (keys_of es) i ≡ Some b → slice_cmp nat_cmp k b ≡ Less
+below_at : (k : List ℕ) (es : TermEntries) (i : ℕ) (b : List ℕ) → below_all (slice_cmp nat_cmp) k es ≡ true
+    → slice_get (keys_of es) i ≡ Some b → slice_cmp nat_cmp k b ≡ Less
 below_at k [] i b h at = absurd (false≢true (ap is_some at))
-below_at k (e ∷ es) zero b h at = ap (slice_cmp nat_cmp k) (sym (some_same e.0 b at)) ∙ less_from _ (both_true (is_lt (slice_cmp nat_cmp k e.0)) (below_all (slice_cmp nat_cmp) k es) h).0
-below_at k (e ∷ es) (suc i) b h at = below_at k es i b (both_true (is_lt (slice_cmp nat_cmp k e.0)) (below_all (slice_cmp nat_cmp) k es) h).1 at
+below_at k (e ∷ es) zero b h at =
+    ap (slice_cmp nat_cmp k) (sym (same_Some e.0 b at))
+    ∙ is_less _ (and_parts (is_lt (slice_cmp nat_cmp k e.0)) (below_all (slice_cmp nat_cmp) k es) h).0
+below_at k (e ∷ es) (suc i) b h at =
+    below_at k es i b (and_parts (is_lt (slice_cmp nat_cmp k e.0)) (below_all (slice_cmp nat_cmp) k es) h).1 at
 
 -- the term at a place is greater than the last before it
-ascends_at : (kind : RecordKind) (before : Option TermWritten) (es : TermEntries) (i : ℕ) (b : List ℕ) → is_sorted (slice_cmp nat_cmp) es ≡ true → slice_get (keys_of es) i ≡ Some b → IfSome before (λ t. slice_cmp nat_cmp t.bytes b ≡ Less) → IfSome (last_written before (map (written kind) (take i es))) (λ t. slice_cmp nat_cmp t.bytes b ≡ Less)
+ascends_at : (kind : RecordKind) (before : Option TermWritten) (es : TermEntries) (i : ℕ) (b : List ℕ)
+    → is_sorted (slice_cmp nat_cmp) es ≡ true → slice_get (keys_of es) i ≡ Some b
+    → IfSome before (λ t. slice_cmp nat_cmp t.bytes b ≡ Less)
+    → IfSome (last_written before (map (written kind) (take i es))) (λ t. slice_cmp nat_cmp t.bytes b ≡ Less)
 ascends_at kind before [] i b up at h = absurd (false≢true (ap is_some at))
 ascends_at kind before (e ∷ es) zero b up at h = h
 ascends_at kind before (e ∷ es) (suc i) b up at h =
-    let two = both_true (below_all (slice_cmp nat_cmp) e.0 es) (is_sorted (slice_cmp nat_cmp) es) up in
+    let two = and_parts (below_all (slice_cmp nat_cmp) e.0 es) (is_sorted (slice_cmp nat_cmp) es) up in
     ascends_at kind (Some (written kind e)) es i b two.1 at (below_at e.0 es i b two.0 at)
 
-at_place : (Q : List Posting → Type 0) (es : TermEntries) (i : ℕ) (ps : List Posting) → AllByRecursion (λ e. Q e.1) es → slice_get (values_of es) i ≡ Some ps → Q ps
+at_place : (Q : List Posting → Type 0) (es : TermEntries) (i : ℕ) (ps : List Posting) → AllByRecursion (λ e. Q e.1) es
+    → slice_get (values_of es) i ≡ Some ps → Q ps
 at_place Q [] i ps all at = absurd (false≢true (ap is_some at))
-at_place Q (e ∷ es) zero ps all at = subst Q (some_same e.1 ps at) all.0
+at_place Q (e ∷ es) zero ps all at = subst Q (same_Some e.1 ps at) all.0
 at_place Q (e ∷ es) (suc i) ps all at = at_place Q es i ps all.1 at
 
-one_more : (kind : RecordKind) (es : TermEntries) (i : ℕ) (b : List ℕ) (ps : List Posting) → slice_get (keys_of es) i ≡ Some b → slice_get (values_of es) i ≡ Some ps → map (written kind) (take (suc i) es) ≡ map (written kind) (take i es) ++ written kind (b, ps) ∷ []
+one_more : (kind : RecordKind) (es : TermEntries) (i : ℕ) (b : List ℕ) (ps : List Posting)
+    → slice_get (keys_of es) i ≡ Some b → slice_get (values_of es) i ≡ Some ps
+    → map (written kind) (take (suc i) es) ≡ map (written kind) (take i es) ++ written kind (b, ps) ∷ []
 one_more kind [] i b ps at_key at_value = absurd (false≢true (ap is_some at_key))
-one_more kind (e ∷ es) zero b ps at_key at_value = ap (λ x. written kind (x, e.1) ∷ []) (some_same e.0 b at_key) ∙ ap (λ x. written kind (b, x) ∷ []) (some_same e.1 ps at_value)
-one_more kind (e ∷ es) (suc i) b ps at_key at_value = ap (λ l. written kind e ∷ l) (one_more kind es i b ps at_key at_value)
+one_more kind (e ∷ es) zero b ps at_key at_value =
+    ap (λ x. written kind (x, e.1) ∷ []) (same_Some e.0 b at_key)
+    ∙ ap (λ x. written kind (b, x) ∷ []) (same_Some e.1 ps at_value)
+one_more kind (e ∷ es) (suc i) b ps at_key at_value =
+    ap (λ l. written kind e ∷ l) (one_more kind es i b ps at_key at_value)
 
 -- the first terms of a field
-abbrev pub first_terms : ℕ → FieldTerms → FieldTerms
-first_terms n field = record { kind = field.kind; terms = take n field.terms }
+abbrev pub first_written : ℕ → FieldTerms → List TermWritten
+first_written n field = map (written field.kind) (take n field.terms)
 
-module _ (field : FieldTerms) (can : CanBeWritten field) (before now : Option FieldWriting) (i : ℕ) (g : HasGrown before now (with_terms (first_terms i field))) where
-  pub may_open : (bytes : List ℕ) → slice_get (keys_of field.terms) i ≡ Some bytes → IfSome now (λ w. MayOpen w bytes)
-  may_open bytes at = subst (λ o. IfSome o (λ w. MayOpen w bytes)) (sym g.is) (record { closed = refl; ascends = ascends_at field.kind None field.terms i bytes can.ascend at tt })
+-- a term that occurs is whole
+whole_term : (kind : RecordKind) (bytes : List ℕ) (ps : List Posting) → 0 < length ps → AreWritable kind 0 0 ps
+    → term_with bytes ps ≡ Some (written kind (bytes, ps))
+whole_term kind bytes [] some h = absurd (omega (arith, some))
+whole_term kind bytes (p ∷ ps) some h =
+    ap (λ (k : RecordKind). Some (record { bytes = bytes; kind = k; postings = p ∷ ps })) (first_keeps kind p ps h)
 
-  pub term_more : (kind : RecordKind) → kind ≡ field.kind → (after : Option FieldWriting) (bytes : List ℕ) (postings : List Posting) → slice_get (keys_of field.terms) i ≡ Some bytes → slice_get (values_of field.terms) i ≡ Some postings → HasGrown now after (with_whole_term kind bytes postings) → HasGrown before after (with_terms (first_terms (i + 1) field))
-  term_more kind same after bytes postings at_key at_value k =
-      let next : suc i ≡ i + 1 = omega arith in
-      record {
-        kept = g.kept;
-        was = g.was;
-        is = k.is
-            ∙ ap (λ w. Some (with_whole_term kind bytes postings w)) (some_same k.kept (with_terms (first_terms i field) g.kept) (sym k.was ∙ g.is))
-            ∙ ap (λ (m : RecordKind). Some (with_whole_term m bytes postings (with_terms (first_terms i field) g.kept))) same
-            ∙ ap (λ ts. Some (record g.kept { terms = ts; current = None })) (sym (one_more field.kind field.terms i bytes postings at_key at_value) ∙ ap (λ m. map (written field.kind) (take m field.terms)) next);
-      }
+module _ (field : FieldTerms) (can : CanBeWritten field) (before now : Option FieldWriting) (i : ℕ) (g : HasGrown before now (with_terms (first_written i field))) where
+  pub may_open : (bytes : List ℕ) → slice_get (keys_of field.terms) i ≡ Some bytes
+      → IsSomeAnd now (λ w. MayOpen w bytes)
+  may_open bytes at =
+      subst (λ o. IsSomeAnd o (λ w. MayOpen w bytes)) (sym g.is) (record { closed = refl; ascends = ascends_at field.kind None field.terms i bytes can.ascend at tt })
 
-pub occurs_at : (field : FieldTerms) → CanBeWritten field → (i : ℕ) (postings : List Posting) → slice_get (values_of field.terms) i ≡ Some postings → 0 < length postings
-occurs_at field can i postings at = at_place (λ ps. 0 < length ps) field.terms i postings can.occur at
+  module _ (bytes : List ℕ) (postings : List Posting) (at_key : slice_get (keys_of field.terms) i ≡ Some bytes) (at_value : slice_get (values_of field.terms) i ≡ Some postings) where
+    is_term : term_with bytes postings ≡ Some (written field.kind (bytes, postings))
+    is_term =
+        whole_term field.kind bytes postings (at_place (λ ps. 0 < length ps) field.terms i postings can.occur at_value) (at_place (AreWritable field.kind 0 0) field.terms i postings can.writable at_value)
 
-pub writable_at : (field : FieldTerms) → CanBeWritten field → (kind : RecordKind) → kind ≡ field.kind → (i : ℕ) (postings : List Posting) → slice_get (values_of field.terms) i ≡ Some postings → AreWritable kind 0 0 postings
-writable_at field can kind same i postings at = subst (λ (k : RecordKind). AreWritable k 0 0 postings) (sym same) (at_place (AreWritable field.kind 0 0) field.terms i postings can.writable at)
+    pub term_more : (after : Option FieldWriting) → HasGrown now after (with_whole_term bytes postings)
+        → HasGrown before after (with_terms (first_written (i + 1) field))
+    term_more after k =
+        let next : suc i ≡ i + 1 = omega arith in
+        record {
+          kept = g.kept;
+          was = g.was;
+          is = k.is
+              ∙ ap (λ w. Some (with_whole_term bytes postings w)) (same_Some k.kept (with_terms (first_written i field) g.kept) (sym k.was ∙ g.is))
+              ∙ ap (λ o. Some (record g.kept { terms = with_open (first_written i field) o; current = None })) is_term
+              ∙ ap (λ ts. Some (record g.kept { terms = ts; current = None })) (sym (one_more field.kind field.terms i bytes postings at_key at_value) ∙ ap (λ m. first_written m field) next);
+        }
+
+pub writable_at : (field : FieldTerms) → CanBeWritten field → (kind : RecordKind) → kind ≡ field.kind
+    → (i : ℕ) (postings : List Posting) → slice_get (values_of field.terms) i ≡ Some postings
+    → AreWritable kind 0 0 postings
+writable_at field can kind same i postings at =
+    subst (λ (k : RecordKind). AreWritable k 0 0 postings) (sym same) (at_place (AreWritable field.kind 0 0) field.terms i postings can.writable at)

@@ -1,14 +1,9 @@
 -- A field while documents come, and what one more text does to it.
-use Rattle.std.specs.Prelude.{ℕ, ◌+◌, List, [], length, Bool, ◌&&◌, ◌==◌, if◌then◌else◌}
-use Rattle.seg_values.specs.declared.token.Token.{Token}
-use Rattle.seg_model.specs.Checked.{is_rising, is_u32}
+use Rattle.std.specs.Prelude.{ℕ, ◌+◌, ◌<◌, ◌^◌, List, [], length, ◌==◌, if◌then◌else◌}
+use Rattle.seg_words.specs.declared.token.Token.{Token}
 use Rattle.seg_model.specs.Occurrences.{counted, placed_from, start_after}
 use Rattle.seg_build.specs.Adding.{with_occurrences}
 use Rattle.seg_build.specs.declared.field.FieldPostings.{FieldPostings}
-
--- the positions of a text that begins at `start` do not fall, and the next one begins at a u32
-abbrev pub positions_fit : ℕ → List Token → Bool
-positions_fit start tokens = is_rising (counted tokens) && is_u32 (start_after start tokens)
 
 -- where the next text of a document begins
 abbrev pub start_in : ℕ → FieldPostings → ℕ
@@ -17,6 +12,11 @@ start_in document field = if field.document == document then field.start else 0
 -- how many tokens of a document came
 abbrev pub count_in : ℕ → FieldPostings → ℕ
 count_in document field = if field.document == document then field.count else 0
+
+-- one more text of a document fits: the next one begins at a u32, and so many tokens are a u32
+pub record Fits (document : ℕ) (tokens : List Token) (field : FieldPostings) : Type 0 where
+  pub next : start_after (start_in document field) tokens < 2 ^ 32
+  pub count : count_in document field + length (counted tokens) < 2 ^ 32
 
 -- a field with one more text of a document
 abbrev pub added : ℕ → FieldPostings → List Token → FieldPostings

@@ -7,7 +7,7 @@ use Rattle.seg_meta.specs.Metas.{SegmentParts}
 use Rattle.seg_model.specs.Fields.{Schema, Analyzer}
 use Rattle.seg_model.specs.Norms.{all_norms}
 use Rattle.seg_model.specs.Reading.{Terms}
-use Rattle.seg_postings.specs.FieldNorms.{norms_parts}
+use Rattle.seg_norms.specs.FieldNorms.{norms_parts}
 use Rattle.seg_postings.specs.Files.{FieldFiles}
 use Rattle.seg_postings.specs.Kinds.{kind_of}
 use Rattle.seg_store.specs.Writing.{Taken}

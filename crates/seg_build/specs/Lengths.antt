@@ -3,7 +3,7 @@ use Rattle.std.specs.Prelude.{ℕ, ◌≤◌, ◌≡◌, List, [], ◌∷◌, ma
 use Rattle.std.specs.List.{slice_get, AllByRecursion}
 use Rattle.seg_values.specs.Tree.{Document}
 use Rattle.seg_model.specs.Fields.{Schema, Analyzer}
-use Rattle.seg_postings.specs.FieldNorms.{at_field, filled, with_length}
+use Rattle.seg_norms.specs.FieldNorms.{at_field, filled, with_length}
 use Rattle.seg_build.specs.Batch.{kept_norms}
 use Rattle.seg_build.specs.Field.{count_in}
 use Rattle.seg_build.specs.declared.field.FieldPostings.{FieldPostings}

@@ -1,10 +1,10 @@
 -- How much memory a writer says that it has taken: a formula over its documents, by which a budget is kept.
 use Rattle.std.specs.Prelude.{ℕ, ◌+◌, ◌*◌, ◌-◌, ◌^◌, min, List, [], ◌∷◌, map, filter, length}
-use Rattle.seg_values.specs.declared.token.Token.{Token}
+use Rattle.seg_words.specs.declared.token.Token.{Token}
 use Rattle.seg_values.specs.Tree.{Document}
 use Rattle.seg_model.specs.Fields.{Schema, Analyzer, fields, has_lengths}
 use Rattle.seg_model.specs.Occurrences.{counted, occurrences}
-use Rattle.seg_model.specs.StoredForm.{stored_form}
+use Rattle.seg_values.specs.StoredForm.{stored_form}
 use Rattle.seg_store.specs.Writing.{byte_count}
 
 -- the sum of what each has

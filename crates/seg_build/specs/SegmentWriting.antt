@@ -11,18 +11,18 @@ use Rattle.seg_model.specs.Built.{is_taken}
 use Rattle.seg_model.specs.Checked.{at_place, document_refusal}
 use Rattle.seg_model.specs.Fields.{Schema, Analyzer}
 use Rattle.seg_model.specs.Reading.{stored_document}
-use Rattle.seg_model.specs.StoredForm.{stored_form}
+use Rattle.seg_values.specs.StoredForm.{stored_form}
 use Rattle.seg_check.specs.Texts.{text_in}
 use Rattle.seg_check.specs.declared.field_text.FieldText.{FieldText}
 use Rattle.seg_store.specs.BlockLaw.{all_documents}
 use Rattle.seg_store.specs.Store.{documents_of}
-use Rattle.seg_store.specs.StoredDocument.{stored_document_of}
-use Rattle.seg_store.specs.StoredLaw.{AreShallow}
+use Rattle.seg_stored.specs.StoredDocument.{stored_document_of}
+use Rattle.seg_stored.specs.StoredLaw.{AreShallow}
 use Rattle.seg_store.specs.Writing.{Taken, with_document, all_blocks, taken_count}
 use Rattle.seg_build.specs.Kept.{Kept}
 use Rattle.seg_build.specs.Lengths.{HaveLengths, with_lengths}
 use Rattle.seg_build.specs.MemoryUsage.{total, saturated, occurrence_count, text_count}
-use Rattle.seg_build.specs.Steps.{fresh, with_documents, with_texts}
+use Rattle.seg_build.specs.Steps.{AllFit, fresh, with_documents, with_texts}
 use Rattle.seg_build.specs.declared.writer_parts.WriterParts.{WriterParts}
 
 -- what the parts of a writer keep
@@ -98,10 +98,11 @@ AddsNone analyzer document stamp old new (InvalidArgument Documents) = IsSomeAnd
 AddsNone analyzer document stamp old new OutOfMemory = IsSomeAnd old.kept HasPlace × (new.kept ≡ None)
 AddsNone analyzer document stamp old new e = IsSomeAnd old.kept HasPlace × Tells old.schema analyzer document stamp e × (new ≡ old)
 
--- one more document can be taken
-pub record HasRoom (document : Document) (kept : Kept) : Type 0 where
+-- one more document can be taken, of which these are the texts
+pub record HasRoom (document : Document) (texts : List FieldText) (kept : Kept) : Type 0 where
   pub place : HasPlace kept
   pub shallow : AreShallow document
+  pub fit : AllFit (length kept.stamps) kept.fields (map (text_in document) texts)
   pub store : IfSome kept.store (λ w. taken_count w < 2 ^ 31 - 1)
 
 -- one more document was taken, of which these are the texts

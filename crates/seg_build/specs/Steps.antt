@@ -1,12 +1,12 @@
 -- The fields of a schema while documents come, value by value: what the steps between say, of which no public clause speaks.
-use Rattle.std.specs.Prelude.{ℕ, ◌+◌, List, [], ◌∷◌, Option, Some, None, slice_set, filter}
+use Rattle.std.specs.Prelude.{ℕ, ◌+◌, List, [], ◌∷◌, Option, Some, None, IsSomeAnd, slice_set, filter}
 use Rattle.std.specs.FinMap as fin
 use Rattle.std.specs.List.{slice_get}
-use Rattle.seg_values.specs.declared.token.Token.{Token}
+use Rattle.seg_words.specs.declared.token.Token.{Token}
 use Rattle.seg_values.specs.Tree.{Tree, Document}
 use Rattle.seg_model.specs.Fields.{Schema, Analyzer, is_indexed, is_field}
 use Rattle.seg_check.specs.Texts.{tokens_at}
-use Rattle.seg_build.specs.Field.{added}
+use Rattle.seg_build.specs.Field.{added, Fits}
 use Rattle.seg_build.specs.declared.field.FieldPostings.{FieldPostings}
 
 -- a field of no documents
@@ -26,6 +26,12 @@ added_at id place fields tokens (Some field) = slice_set fields place (added id 
 abbrev pub with_texts : ℕ → List FieldPostings → List (ℕ × List Token) → List FieldPostings
 with_texts id fields [] = fields
 with_texts id fields (t ∷ ts) = with_texts id (added_at id t.0 fields t.1 (slice_get fields t.0)) ts
+
+-- these texts are of fields that are there, and each fits in its turn
+abbrev pub AllFit : ℕ → List FieldPostings → List (ℕ × List Token) → Type 0
+AllFit id fields [] = Unit {0}
+AllFit id fields (t ∷ ts) =
+    IsSomeAnd (slice_get fields t.0) (Fits id t.1) × AllFit id (added_at id t.0 fields t.1 (slice_get fields t.0)) ts
 
 module _ (schema : Schema) (analyzer : Analyzer) where
   -- the fields with one more value of a document

@@ -2,11 +2,12 @@
 ghost use Rattle.std.specs.Prelude.{◌≡◌, length, IfOk, OnOk};
 ghost use Rattle.std.specs.FinMap as fin;
 ghost use Rattle.seg_model.specs.Occurrences.{counted};
-ghost use Rattle.seg_build.specs.Field.{start_in, count_in, added};
+ghost use Rattle.seg_build.specs.Field.{Fits, start_in, count_in, added};
 
 use crate::terms::TermIndex;
-use crate::tokens::{add_tokens, counted_len, next_start};
-use seg_values::Token;
+use crate::tokens::{add_tokens, next_start};
+use seg_check::counted_len;
+use seg_words::Token;
 use std::alloc::{AllocError, Global};
 
 /// The terms of a field, and how far its newest document has come: where the next text begins, and how many tokens
@@ -31,29 +32,24 @@ impl FieldPostings {
         }
     }
 
-    /// Adds a text of a document that no other one is past, and answers how many of its tokens give terms. One that does
-    /// not fit is answered as out of memory. After an error some of its tokens may have been added.
+    /// Adds a text of a document that no other one is past, and answers how many of its tokens give terms. After an error
+    /// some of its tokens may have been added.
     pub fn add_text(
         &mut self,
         alloc: Global,
         document: u32,
         tokens: &[Token],
     ) -> Result<usize, AllocError>
+        requires { Fits document tokens.now self.old }
         ensures added { OnOk result (self.new ≡ added document self.old tokens.now) }
         ensures counted { IfOk result (λ more. more ≡ length (counted tokens.now)) }
     {
         let start = self.start_in(document);
         let count = self.count_in(document);
-        let more = counted_len(tokens);
-        if more > (u32::MAX - count) as usize {
-            return Err(AllocError);
-        }
-        let Some(next) = next_start(start, tokens) else {
-            return Err(AllocError);
-        };
         add_tokens(&mut self.terms, alloc, document, start, tokens)?;
+        let more = counted_len(tokens);
         self.document = document;
-        self.start = next;
+        self.start = next_start(start, tokens);
         self.count = count + more as u32;
         Ok(more)
     }

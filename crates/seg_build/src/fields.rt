@@ -7,9 +7,9 @@ ghost use Rattle.seg_build.specs.Steps.{fresh};
 ghost use Rattle.seg_build.specs.Writable.{CanBeWritten, PositionsCanBeWritten};
 
 use crate::field::FieldPostings;
-use crate::record_kinds::kind_of;
 use crate::sorted::{SortedTerms, sort_terms};
-use seg_postings::FieldNormsWriter;
+use seg_norms::FieldNormsWriter;
+use seg_postings::RecordKind;
 use seg_values::FieldEntry;
 use std::alloc::{AllocError, Global};
 use std::marker::Model;
@@ -106,7 +106,7 @@ fn sort_fields(
 {
     let mut sorted = Vec::new(alloc);
     for field in fields {
-        let kind = kind_of(schema[sorted.len()].index);
+        let kind = RecordKind::of_option(schema[sorted.len()].index);
         sorted.push(sort_terms(alloc, kind, field.terms)?)?;
     }
     Ok(sorted)

@@ -26,7 +26,7 @@ pub(crate) fn filled(
     ensures { IfOk result (IsFilled segment store batch.now count) }
 {
     let schema = segment.schema();
-    let Ok(norms) = norms_file(alloc, schema, &batch.norms) else {
+    let Ok(norms) = norms_file(alloc, schema, batch) else {
         return Err(AllocError);
     };
     let Ok(fast) = ColumnarWriter::new(alloc).serialize(count) else {

@@ -2,7 +2,7 @@
 ghost use Rattle.std.specs.Prelude.{◌≡◌, true, map, option_map, IfOk};
 ghost use Rattle.seg_common.specs.Growing.{HasGrown};
 ghost use Rattle.seg_model.specs.Fields.{Analyzer};
-ghost use Rattle.seg_postings.specs.FieldNorms as field_norms;
+ghost use Rattle.seg_norms.specs.FieldNorms as field_norms;
 ghost use Rattle.seg_segment.specs.Built.{is_built_schema};
 ghost use Rattle.seg_build.specs.Finishing.{Finishes, IsMadeOfKept};
 ghost use Rattle.seg_build.specs.SegmentWriting.{kept_of, IsUnderWay};
@@ -14,7 +14,7 @@ use crate::memory_segment::MemorySegment;
 use crate::writer_parts::WriterParts;
 use seg_directory::Directory;
 use seg_meta::Segment;
-use seg_postings::FieldNormsWriter;
+use seg_norms::FieldNormsWriter;
 use seg_values::{TResult, TantivyError};
 use std::alloc::{AllocError, Global};
 

@@ -5,7 +5,7 @@ ghost use Rattle.seg_build.specs.Lengths.{lacks_length, with_length_of, with_len
 
 use crate::field::FieldPostings;
 use seg_check::FieldText;
-use seg_postings::FieldNormsWriter;
+use seg_norms::FieldNormsWriter;
 use seg_values::Field;
 use std::alloc::AllocError;
 

@@ -7,9 +7,9 @@
 //! kinds than texts, is refused when a writer is made.
 //!
 //! To be read in this order: `hits` and `runs` (the occurrences of a term, which make its postings), `terms` (a field's
-//! hash table), `record_kinds` and `sorted` (its terms in byte order, and what they record), `tokens` and `field` (what
+//! hash table), `sorted` (its terms in byte order), `tokens` and `field` (what
 //! one more text adds), `lengths` (the field norms of a document), `usage` (how much memory documents take), `fields` (those
-//! of all documents); `writing` (the terms of a field, into a `FieldSerializer`), `terms_files` and `norms_file` (the parts
+//! of all documents); `writing` (the terms of a field, into a `TermWriter`), `terms_files` and `norms_file` (the parts
 //! of files), `filling` (what the components of a segment are to hold); `add_operation`, `entry`, `adding` (the texts of a
 //! document that passed its check), `writer_start`, `writer_parts`, `memory_segment`, `finishing` and `segment_writer`;
 //! `laws` (terms that were indexed can be written).
@@ -27,7 +27,6 @@ mod laws;
 mod lengths;
 mod memory_segment;
 mod norms_file;
-mod record_kinds;
 mod runs;
 mod segment_writer;
 mod sorted;
@@ -49,4 +48,3 @@ pub use runs::first_run;
 pub use segment_writer::SegmentWriter;
 pub use sorted::SortedTerms;
 pub use writer_start::{LEAST_BUDGET, start_refusal};
-pub use writing::write_terms;

@@ -2,7 +2,7 @@
 ghost use Rattle.std.specs.Prelude.{◌≡◌, ◌⊎◌, [], List, ℕ, Some, None, Err, IsTrue, IfOk, IfErr, IfSome, OnOk};
 ghost use Rattle.std.specs.FinMap.{get};
 ghost use Rattle.seg_values.specs.Tree.{Document};
-ghost use Rattle.seg_model.specs.IndexOfFiles as index;
+ghost use Rattle.seg_meta.specs.IndexOfFiles as index;
 ghost use Rattle.seg_build.specs.FieldTerms.{fields_of};
 ghost use Rattle.seg_build.specs.Finishing.{Finalizes};
 ghost use Rattle.seg_segment.specs.Forms.{segment_forms};
@@ -22,7 +22,8 @@ use seg_common::{FileName, SegmentComponent};
 use seg_directory::Directory;
 use seg_meta::{IndexSettings, Segment};
 use seg_store::documents_stay_in_order;
-use seg_values::{Analyzers, ArgumentCause, TResult, TantivyDocument, TantivyError};
+use seg_values::{ArgumentCause, TResult, TantivyDocument, TantivyError};
+use seg_words::Analyzers;
 use std::alloc::{AllocError, Global};
 use std::marker::Model;
 

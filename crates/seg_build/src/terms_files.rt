@@ -1,14 +1,14 @@
 //! The terms of all indexed fields, in the files.
-ghost use Rattle.std.specs.Prelude.{◌≡◌, true, length, IfOk, IfErr, IsSomeAnd};
+ghost use Rattle.std.specs.Prelude.{◌≡◌, true, length, IfOk, IsSomeAnd};
 ghost use Rattle.seg_segment.specs.Built.{is_built_schema};
 ghost use Rattle.seg_build.specs.Filling.{HoldFields};
 
 use crate::fields::IndexedFields;
 use crate::writing::write_terms;
-use seg_postings::{FieldSerializer, InvertedIndexSerializer, PostingsError};
-use seg_segment::{TermsByField, write_fields};
+use seg_postings::InvertedIndexSerializer;
+use seg_segment::{TermWriter, TermsByField, write_fields};
 use seg_values::{Field, Schema};
-use std::alloc::Global;
+use std::alloc::{AllocError, Global};
 
 impl TermsByField for IndexedFields {
     ghost use Rattle.std.specs.Prelude.{◌≡◌, ◌<◌, length};
@@ -21,11 +21,11 @@ impl TermsByField for IndexedFields {
 
     ghost can_write = { λ fields field. field < length fields };
 
-    fn total_num_tokens(&self, field: Field) -> Result<u64, PostingsError> {
+    fn total_num_tokens(&self, field: Field) -> Result<u64, AllocError> {
         let terms = self.writable_terms(field.field_id() as usize);
         match terms.total_num_tokens() {
             Some(total) => Ok(total),
-            None => Err(PostingsError::OutOfMemory),
+            None => Err(AllocError),
         }
     }
 
@@ -33,8 +33,8 @@ impl TermsByField for IndexedFields {
         &self,
         alloc: Global,
         field: Field,
-        writer: FieldSerializer,
-    ) -> Result<FieldSerializer, PostingsError> {
+        writer: TermWriter,
+    ) -> Result<TermWriter, AllocError> {
         let mut writer = writer;
         let terms = self.writable_terms(field.field_id() as usize);
         write_terms(alloc, terms, &mut writer)?;
@@ -47,11 +47,10 @@ pub(crate) fn field_files(
     alloc: Global,
     schema: &Schema,
     fields: &IndexedFields,
-) -> Result<InvertedIndexSerializer, PostingsError>
+) -> Result<InvertedIndexSerializer, AllocError>
     requires fields { length fields.now ≡ length schema.now }
     requires entries { is_built_schema schema.now ≡ true }
-    ensures ok { IfOk result (λ files. IsSomeAnd files (HoldFields schema.now fields.now)) }
-    ensures err { IfErr result (λ e. e ≡ PostingsError.OutOfMemory) }
+    ensures { IfOk result (λ files. IsSomeAnd files (HoldFields schema.now fields.now)) }
 {
     write_fields(alloc, schema, fields)
 }

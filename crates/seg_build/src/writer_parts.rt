@@ -8,10 +8,9 @@ use crate::field::FieldPostings;
 use crate::fields::new_fields;
 use crate::lengths::record_lengths;
 use seg_check::FieldText;
-use seg_meta::Compressor;
-use seg_postings::FieldNormsWriter;
+use seg_norms::FieldNormsWriter;
 use seg_store::StoreWriter;
-use seg_values::{Schema, TantivyDocument};
+use seg_values::{Compressor, Schema, TantivyDocument};
 use std::alloc::{AllocError, Global};
 
 /// The terms and the lengths of documents, their store, their stamps, and how often terms occur in them, at most
@@ -57,7 +56,7 @@ impl WriterParts {
         texts: &[FieldText],
         stamp: Opstamp,
     ) -> Result<WriterParts, AllocError>
-        requires room { HasRoom document.now (kept_of self) }
+        requires room { HasRoom document.now texts.now (kept_of self) }
         ensures { IfOk result (λ parts. HasTaken schema.now document.now texts.now stamp (kept_of self) (kept_of parts)) }
     {
         let mut parts = self;

@@ -9,8 +9,9 @@ ghost use Rattle.seg_build.specs.WriterStart.{IsStartError, start_refusal};
 
 use crate::entry::is_built_schema;
 use seg_check::indexing_tokenizer;
-use seg_meta::{Compressor, IndexSettings};
-use seg_values::{Analyzers, ArgumentCause, Field, FieldEntry, Schema, SchemaCause, TantivyError};
+use seg_meta::IndexSettings;
+use seg_values::{ArgumentCause, Compressor, Field, FieldEntry, Schema, SchemaCause, TantivyError};
+use seg_words::Analyzers;
 
 /// The fewest bytes of a budget.
 pub const LEAST_BUDGET: usize = 15_000;

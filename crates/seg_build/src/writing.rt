@@ -1,30 +1,32 @@
 //! The terms of a field, written as it records them.
-ghost use Rattle.std.specs.Prelude.{◌≡◌, ◌<◌, length, map, IfErr, IfSome, IsSomeAnd, OnOk};
+ghost use Rattle.std.specs.Prelude.{◌≡◌, ◌++◌, [], ◌∷◌, Some, map, IsSomeAnd, OnOk};
 ghost use Rattle.seg_common.specs.Growing.{HasGrown};
-ghost use Rattle.seg_model.specs.Reading.{positions};
 ghost use Rattle.seg_postings.specs.FieldWriting.{MayOpen};
+ghost use Rattle.seg_postings.specs.PostingsReading.{count_of, places_of};
 ghost use Rattle.seg_postings.specs.Written.{AreWritable, IsOfKind};
-ghost use Rattle.seg_build.specs.FieldTerms.{kept_as, postings_as};
+ghost use Rattle.seg_segment.specs.WritingTerms.{IsUnwritten, MayTake, with_more, with_terms, with_whole_term};
+ghost use Rattle.seg_build.specs.FieldTerms.{postings_as};
 ghost use Rattle.seg_build.specs.Grouped.{grouped};
-ghost use Rattle.seg_build.specs.TermsWritten.{IsUnused, IsUnwritten, TakesDocument, with_posting, with_postings, with_terms, with_whole_term};
+ghost use Rattle.seg_build.specs.TermsWritten.{all_written, kept_hits};
 ghost use Rattle.seg_build.specs.Writable.{CanBeWritten};
 
 use crate::hits::Hit;
 use crate::runs::first_run;
 use crate::sorted::SortedTerms;
-use seg_postings::{FieldSerializer, PostingsError, RecordKind};
+use seg_postings::RecordKind;
+use seg_segment::TermWriter;
+use seg_values::PostingsError;
 use std::alloc::{AllocError, Global};
 
 /// Writes all terms of a field, of which nothing was written. After an error the field is given up.
-pub fn write_terms(
+pub(crate) fn write_terms(
     alloc: Global,
     terms: &SortedTerms,
-    field: &mut FieldSerializer,
-) -> Result<(), PostingsError>
+    writer: &mut TermWriter,
+) -> Result<(), AllocError>
     requires writable { CanBeWritten terms.now }
-    requires unwritten { IsSomeAnd field.old IsUnwritten }
-    ensures ok { OnOk result (HasGrown field.old field.new (with_terms terms.now)) }
-    ensures err { IfErr result (λ e. e ≡ PostingsError.OutOfMemory) }
+    requires unwritten { IsSomeAnd writer.old IsUnwritten }
+    ensures { OnOk result (HasGrown writer.old writer.new (with_terms (all_written (Some terms.now)))) }
 {
     let kind = terms.kind();
     let mut places = Vec::new(alloc);
@@ -34,81 +36,78 @@ pub fn write_terms(
             terms.bytes_at(at),
             terms.hits_at(at),
             &mut places,
-            field,
+            writer,
         )?;
     }
     Ok(())
 }
 
-/// Writes a term, which is greater than those before it. `places` is room for the positions of a document.
+/// Writes a term, which is greater than those before it: a document for each run of its hits. `places` is room for the
+/// positions of a document.
 fn write_term(
     kind: RecordKind,
     bytes: &[u8],
     hits: &[Hit],
     places: &mut Vec<u32>,
-    field: &mut FieldSerializer,
-) -> Result<(), PostingsError>
-    requires ascends { IfSome field.old (λ w. MayOpen w bytes.now) }
-    requires occurs { 0 < length (postings_as kind (grouped hits.now)) }
+    writer: &mut TermWriter,
+) -> Result<(), AllocError>
+    requires opens { IsSomeAnd writer.old (λ w. MayOpen w bytes.now) }
     requires writable { AreWritable kind 0 0 (postings_as kind (grouped hits.now)) }
-    ensures ok { OnOk result (HasGrown field.old field.new (with_whole_term kind bytes.now (postings_as kind (grouped hits.now)))) }
-    ensures err { IfErr result (λ e. e ≡ PostingsError.OutOfMemory) }
-{
-    field.new_term(bytes, kind)?;
-    write_hits(kind, hits, places, field)?;
-    field.close_term()
-}
-
-/// Gives the open term its documents, one for each run of hits.
-fn write_hits(
-    kind: RecordKind,
-    hits: &[Hit],
-    places: &mut Vec<u32>,
-    field: &mut FieldSerializer,
-) -> Result<(), PostingsError>
-    requires unused { IsSomeAnd field.old (λ w. IsSomeAnd w.current (IsUnused kind)) }
-    requires writable { AreWritable kind 0 0 (postings_as kind (grouped hits.now)) }
-    ensures ok { OnOk result (HasGrown field.old field.new (with_postings (postings_as kind (grouped hits.now)))) }
-    ensures err { IfErr result (λ e. e ≡ PostingsError.OutOfMemory) }
+    ensures { OnOk result (HasGrown writer.old writer.new (with_whole_term bytes.now (postings_as kind (grouped hits.now)))) }
 {
     let mut rest = hits;
     while !rest.is_empty() {
         let (run, others) = rest.split_at(first_run(rest));
-        write_run(kind, rest[0].document, run, places, field)?;
+        write_run(kind, bytes, rest[0].document, run, places, writer)?;
         rest = others;
     }
-    Ok(())
+    writer.end_term()
 }
 
-/// Gives the open term a document, in which it has these hits: alone, with their count, or with their positions.
+/// Gives a term a document, in which it has these hits: alone, with their count, or with their positions.
 fn write_run(
     kind: RecordKind,
+    bytes: &[u8],
     document: u32,
     run: &[Hit],
     places: &mut Vec<u32>,
-    field: &mut FieldSerializer,
-) -> Result<(), PostingsError>
-    requires takes { IfSome field.old (λ w. IsSomeAnd w.current (TakesDocument kind document)) }
-    requires kept { IsOfKind kind (kept_as kind (positions (map (λ h. h.position) run.now))) }
-    ensures ok { OnOk result (HasGrown field.old field.new (with_posting (record { document = document; recorded = kept_as kind (positions (map (λ h. h.position) run.now)) }))) }
-    ensures err { IfErr result (λ e. e ≡ PostingsError.OutOfMemory) }
+    writer: &mut TermWriter,
+) -> Result<(), AllocError>
+    requires kept { IsOfKind kind (kept_hits kind run.now) }
+    requires takes { IsSomeAnd writer.old (MayTake bytes.now (record { document = document; recorded = kept_hits kind run.now } ∷ [])) }
+    ensures { OnOk result (HasGrown writer.old writer.new (with_more bytes.now (record { document = document; recorded = kept_hits kind run.now } ∷ []))) }
 {
-    match kind {
-        RecordKind::Documents => field.write_doc(document, 1, &[])?,
-        RecordKind::Counts => field.write_doc(document, run.len() as u32, &[])?,
-        RecordKind::Positions => {
-            set_places(places, run)?;
-            field.write_doc(document, run.len() as u32, places)?;
-        }
-    }
-    Ok(())
+    set_places(kind, places, run)?;
+    writer.add_document(bytes, kind, document, kept_count(kind, run), places)
 }
 
-/// Replaces the places by the positions of the hits.
-fn set_places(places: &mut Vec<u32>, hits: &[Hit]) -> Result<(), AllocError>
-    ensures { OnOk result (places.new.items ≡ map (λ h. h.position) hits.now) }
+/// How many hits there are, as far as the kind keeps that; else 1.
+fn kept_count(kind: RecordKind, hits: &[Hit]) -> u32
+    requires { IsOfKind kind (kept_hits kind hits.now) }
+    ensures { result ≡ count_of (kept_hits kind hits.now) }
+{
+    match kind {
+        RecordKind::Documents => 1,
+        RecordKind::Counts => hits.len() as u32,
+        RecordKind::Positions => hits.len() as u32,
+    }
+}
+
+/// Replaces the places by the positions of the hits, where the kind keeps them, and else by none.
+fn set_places(kind: RecordKind, places: &mut Vec<u32>, hits: &[Hit]) -> Result<(), AllocError>
+    ensures { OnOk result (places.new.items ≡ places_of (kept_hits kind hits.now)) }
 {
     places.clear();
+    match kind {
+        RecordKind::Positions => push_places(places, hits),
+        _ => Ok(()),
+    }
+}
+
+/// Adds the positions of the hits.
+fn push_places(places: &mut Vec<u32>, hits: &[Hit]) -> Result<(), AllocError>
+    ensures { OnOk result (places.new.items ≡ places.old.items ++ map (λ h. h.position) hits.now) }
+{
     for hit in hits {
         places.push(hit.position)?;
     }

@@ -5,7 +5,7 @@ use anyhow::Result;
 use seg_common::{MemorySink, MemorySource};
 use seg_directory::MemoryDirectory;
 use seg_tool::{Status, run};
-use seg_values::{DefaultTokenizer, RawTokenizer, TokenizerManager, WhitespaceTokenizer};
+use seg_words::{DefaultTokenizer, RawTokenizer, TokenizerManager, WhitespaceTokenizer};
 use std::alloc::{AllocError, Global};
 
 /// The most bytes that a step prints.

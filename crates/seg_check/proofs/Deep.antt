@@ -3,8 +3,8 @@ use Rattle.std.proofs.Common.{◌≡◌, ℕ, suc, ◌+◌, ◌-◌, Bool, true,
 use Rattle.std.specs.Prelude.{nat_le}
 use Rattle.std.specs.List.{slice_get}
 use Rattle.std.proofs.lemmas.Bool.Decides.{nat_tests}
+use Rattle.seg_common.proofs.Lists.{drop-slice_get}
 use Rattle.seg_values.specs.Tree.{Tree, levels, trees_from, members_from, most_levels, most_member_levels}
-use Rattle.seg_check.proofs.Places.{drop_at}
 
 past : (a b n : ℕ) → nat_le a n ≡ false → nat_le (max a b) n ≡ false
 past a b n h = grind (arith, nat_tests)
@@ -27,7 +27,7 @@ level_more k most some = by_case (nat_le k (most - 1)) refl
 module _ (n : ℕ) (t : Tree) where
   module _ (ts : List Tree) (i : ℕ) (at : slice_get ts i ≡ Some t) where
     here : most_levels (trees_from (drop i ts)) ≡ max (levels t) (most_levels (trees_from (drop (i + 1) ts)))
-    here = ap (λ l. most_levels (trees_from l)) (drop_at ts i t at)
+    here = ap (λ l. most_levels (trees_from l)) (drop-slice_get ts i t at)
 
     pub tree_within : nat_le (levels t) n ≡ true → nat_le (most_levels (trees_from (drop (i + 1) ts))) n ≡ nat_le (most_levels (trees_from (drop i ts))) n
     tree_within h = sym (ap (λ k. nat_le k n) here ∙ within (levels t) _ n h)
@@ -37,7 +37,7 @@ module _ (n : ℕ) (t : Tree) where
 
   module _ (ms : List (List ℕ × Tree)) (i : ℕ) (k : List ℕ) (at : slice_get ms i ≡ Some (k, t)) where
     member_here : most_member_levels (members_from (drop i ms)) ≡ max (levels t) (most_member_levels (members_from (drop (i + 1) ms)))
-    member_here = ap (λ l. most_member_levels (members_from l)) (drop_at ms i (k, t) at)
+    member_here = ap (λ l. most_member_levels (members_from l)) (drop-slice_get ms i (k, t) at)
 
     pub member_within : nat_le (levels t) n ≡ true → nat_le (most_member_levels (members_from (drop (i + 1) ms))) n ≡ nat_le (most_member_levels (members_from (drop i ms))) n
     member_within h = sym (ap (λ k. nat_le k n) member_here ∙ within (levels t) _ n h)

@@ -6,23 +6,20 @@ use Rattle.std.specs.List.{slice_get}
 use Rattle.std.specs.Option.{option_or}
 use Rattle.std.specs.Prelude.{IfOk, Ok, Err, Result}
 use Rattle.std.specs.Cmp.{nat_eq_equiv}
-use Rattle.std.proofs.lemmas.Bool.{false≢true}
-use Rattle.std.proofs.lemmas.Bool.Decides.{nat_tests}
+use Rattle.std.proofs.lemmas.Bool.{false≢true, eqb-true}
 use Rattle.std.proofs.lemmas.List.{map-append}
 use Rattle.std.proofs.lemmas.List.Elements.{filter-append}
+use Rattle.std.proofs.lemmas.Option.{same_Some}
+use Rattle.seg_common.proofs.Lists.{drop-slice_get}
 use Rattle.seg_values.specs.Tree.{Tree, Document}
 use Rattle.seg_values.specs.declared.schema.FieldEntry.{FieldEntry}
-use Rattle.seg_values.specs.declared.token.Token.{Token}
+use Rattle.seg_words.specs.declared.token.Token.{Token}
 use Rattle.seg_model.specs.Checked.{Cause, unless, positions_fall, value_texts, positions_refusal, order_refusal, fields_refusal, leaves_refusal, limit_refusal, document_refusal}
 use Rattle.seg_model.specs.Fields.{Schema, Analyzer, is_indexed, indexing_tokenizer, values_of}
 use Rattle.seg_check.specs.AllFields.{StandsAt, AllStand}
 use Rattle.seg_check.specs.Sizes.{all_rise}
 use Rattle.seg_check.specs.Standing.{Stands}
 use Rattle.seg_check.specs.declared.field_totals.FieldTotals.{FieldTotals}
-use Rattle.seg_check.proofs.Places.{drop_at}
-
-pub at-most-one : {X : Type 0} (x y : X) → Some x ≡ Some y → x ≡ y
-at-most-one x y e = cc
 
 -- ---- one more value
 
@@ -38,9 +35,6 @@ values-last place field t b came e =
     by_case true false e = absurd (false≢true (sym e))
     by_case false true e = absurd (false≢true e)
 
-same-place : (place field : ℕ) → nat_eq place field ≡ true → place ≡ field
-same-place place field e = grind (arith, nat_tests)
-
 module _ {S : Type 0} (schema : Schema) (analyzer : Analyzer) (totals : HashMap ℕ FieldTotals S) (came : Document) (field : ℕ) (t : Tree) (stand : AllStand schema analyzer totals came) where
   here-or-there : (place : ℕ) (entry : FieldEntry) (o : Option FieldTotals) (b : Bool) → nat_eq place field ≡ b → (b ≡ true → StandsAt entry (analyzer (indexing_tokenizer entry)) o (values_of place came ++ t ∷ [])) → (b ≡ false → StandsAt entry (analyzer (indexing_tokenizer entry)) o (values_of place came)) → StandsAt entry (analyzer (indexing_tokenizer entry)) o (values_of place (came ++ (field, t) ∷ []))
   here-or-there place entry o true e here there = subst (λ l. StandsAt entry (analyzer (indexing_tokenizer entry)) o l) (sym (values-last place field t true came e)) (here refl)
@@ -49,17 +43,17 @@ module _ {S : Type 0} (schema : Schema) (analyzer : Analyzer) (totals : HashMap 
   -- a field that is not indexed, or is not there
   pub not-indexed : ((entry : FieldEntry) → slice_get schema field ≡ Some entry → is_indexed entry ≡ false) → AllStand schema analyzer totals (came ++ (field, t) ∷ [])
   not-indexed out place entry e indexed = here-or-there place entry (get nat_eq totals place) (nat_eq place field) refl
-      (λ same. absurd (false≢true (sym (out entry (ap (slice_get schema) (sym (same-place place field same)) ∙ e)) ∙ indexed)))
+      (λ same. absurd (false≢true (sym (out entry (ap (slice_get schema) (sym (eqb-true place field same)) ∙ e)) ∙ indexed)))
       (λ other. stand place entry e indexed)
 
   pub one-field : (entry : FieldEntry) (after : HashMap ℕ FieldTotals S) (new : FieldTotals) → slice_get schema field ≡ Some entry → is_indexed entry ≡ true → Updates nat_eq totals after field (Some new) → (StandsAt entry (analyzer (indexing_tokenizer entry)) (get nat_eq totals field) (values_of field came) → Stands entry (analyzer (indexing_tokenizer entry)) new (values_of field came ++ t ∷ [])) → AllStand schema analyzer after (came ++ (field, t) ∷ [])
   one-field entry after new at_entry indexed updates more place other e on = here-or-there place other (get nat_eq after place) (nat_eq place field) refl
-      (λ same. here place other (same-place place field same) e)
+      (λ same. here place other (eqb-true place field same) e)
       (λ apart. subst (λ o. StandsAt other (analyzer (indexing_tokenizer other)) o (values_of place came)) (sym (updates.2 place (nat_eq_equiv.symm field place ∙ apart))) (stand place other e on))
     where
       here : (place : ℕ) (other : FieldEntry) → place ≡ field → slice_get schema place ≡ Some other → StandsAt other (analyzer (indexing_tokenizer other)) (get nat_eq after place) (values_of place came ++ t ∷ [])
       here place other same e =
-          let entry_is : entry ≡ other = at-most-one entry other (sym at_entry ∙ ap (slice_get schema) (sym same) ∙ e) in
+          let entry_is : entry ≡ other = same_Some entry other (sym at_entry ∙ ap (slice_get schema) (sym same) ∙ e) in
           subst (λ k. StandsAt other (analyzer (indexing_tokenizer other)) (get nat_eq after k) (values_of k came ++ t ∷ [])) (sym same)
           (subst (λ o. StandsAt other (analyzer (indexing_tokenizer other)) o (values_of field came ++ t ∷ [])) (sym updates.1)
           (subst (λ x. Stands x (analyzer (indexing_tokenizer x)) new (values_of field came ++ t ∷ [])) entry_is (more (stand field entry at_entry indexed))))
@@ -99,17 +93,17 @@ some-else (Some r) later h = refl
 
 module _ (schema : Schema) (analyzer : Analyzer) (document : Document) (i field : ℕ) (t : Tree) (at : slice_get document i ≡ Some (field, t)) where
   pub rises-on : is_none (positions_refusal analyzer t (slice_get schema field)) ≡ true → order_refusal schema analyzer (drop (i + 1) document) ≡ order_refusal schema analyzer (drop i document)
-  rises-on h = sym (ap (order_refusal schema analyzer) (drop_at document i (field, t) at) ∙ none-else (positions_refusal analyzer t (slice_get schema field)) (order_refusal schema analyzer (drop (i + 1) document)) h)
+  rises-on h = sym (ap (order_refusal schema analyzer) (drop-slice_get document i (field, t) at) ∙ none-else (positions_refusal analyzer t (slice_get schema field)) (order_refusal schema analyzer (drop (i + 1) document)) h)
 
   pub falls : is_none (positions_refusal analyzer t (slice_get schema field)) ≡ false → false ≡ is_none (order_refusal schema analyzer (drop i document))
-  falls h = sym (ap (λ d. is_none (order_refusal schema analyzer d)) (drop_at document i (field, t) at) ∙ some-else (positions_refusal analyzer t (slice_get schema field)) (order_refusal schema analyzer (drop (i + 1) document)) h)
+  falls h = sym (ap (λ d. is_none (order_refusal schema analyzer d)) (drop-slice_get document i (field, t) at) ∙ some-else (positions_refusal analyzer t (slice_get schema field)) (order_refusal schema analyzer (drop (i + 1) document)) h)
 
   pub take-more : take (i + 1) document ≡ take i document ++ (field, t) ∷ []
   take-more = ap (λ k. take k document) (add-one i) ∙ taken document i at
     where
       taken : (d : Document) (k : ℕ) → slice_get d k ≡ Some (field, t) → take (suc k) d ≡ take k d ++ (field, t) ∷ []
       taken [] k e = absurd (false≢true (ap is_some e))
-      taken (p ∷ d) zero e = ap (λ x. x ∷ []) (at-most-one p (field, t) e)
+      taken (p ∷ d) zero e = ap (λ x. x ∷ []) (same_Some p (field, t) e)
       taken (p ∷ d) (suc k) e = ap (λ l. p ∷ l) (taken d k e)
 
 -- ---- what is at a place

@@ -4,9 +4,9 @@ use Rattle.std.specs.Prelude.{is_some}
 use Rattle.std.specs.List.{slice_get}
 use Rattle.std.specs.Option.{option_or}
 use Rattle.std.proofs.lemmas.Bool.{false≢true}
+use Rattle.seg_common.proofs.Lists.{drop-slice_get}
 use Rattle.seg_values.specs.declared.error.TantivyError.{TantivyError}
 use Rattle.seg_model.specs.Checked.{Cause, at_place, first_of}
-use Rattle.seg_check.proofs.Places.{drop_at}
 
 module _ (place : ℕ) where
   none_there : (r : Option TantivyError) (x : Option Cause) → is_some r ≡ false → r ≡ at_place place x → x ≡ None
@@ -19,7 +19,7 @@ module _ (place : ℕ) where
 
   module _ {X : Type 0} (f : X → Option Cause) (xs : List X) (i : ℕ) (x : X) (at : slice_get xs i ≡ Some x) (r : Option TantivyError) (is : r ≡ at_place place (f x)) where
     pub one_passes : is_some r ≡ false → first_of f (drop (i + 1) xs) ≡ first_of f (drop i xs)
-    one_passes none = sym (ap (first_of f) (drop_at xs i x at) ∙ ap (λ o. option_or o (first_of f (drop (i + 1) xs))) (none_there r (f x) none is))
+    one_passes none = sym (ap (first_of f) (drop-slice_get xs i x at) ∙ ap (λ o. option_or o (first_of f (drop (i + 1) xs))) (none_there r (f x) none is))
 
     pub one_stops : is_some r ≡ true → r ≡ at_place place (first_of f (drop i xs))
-    one_stops some = some_first r (f x) (first_of f (drop (i + 1) xs)) some is ∙ sym (ap (λ l. at_place place (first_of f l)) (drop_at xs i x at))
+    one_stops some = some_first r (f x) (first_of f (drop (i + 1) xs)) some is ∙ sym (ap (λ l. at_place place (first_of f l)) (drop-slice_get xs i x at))

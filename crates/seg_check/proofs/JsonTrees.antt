@@ -2,11 +2,11 @@
 use Rattle.std.proofs.Common.{◌≡◌, ℕ, ◌+◌, true, false, List, Some, None, Option, drop, refl, sym, ap, ◌∙◌}
 use Rattle.std.specs.List.{slice_get}
 use Rattle.std.specs.Option.{option_or}
+use Rattle.seg_common.proofs.Lists.{drop-slice_get}
 use Rattle.seg_values.specs.Tree.{Tree, trees_from, members_from}
 use Rattle.seg_values.specs.declared.error.TantivyError.{TantivyError}
 use Rattle.seg_model.specs.Checked.{Cause, at_place, unless, json_key, has_no_zero, tree_refusal, trees_refusal, members_refusal}
 use Rattle.seg_model.proofs.FirstAnswers.{some_none, none_map}
-use Rattle.seg_check.proofs.Places.{drop_at}
 
 no_error : (r : Option TantivyError) → ((x : TantivyError) → r ≡ Some x → ⊥) → r ≡ None
 no_error None h = refl
@@ -24,29 +24,29 @@ module _ (place : ℕ) where
 
     pub tree_passes : (ts : List Tree) (i : ℕ) → slice_get ts i ≡ Some t → trees_refusal (trees_from (drop (i + 1) ts)) ≡ trees_refusal (trees_from (drop i ts))
     tree_passes ts i at =
-        sym (ap (λ l. trees_refusal (trees_from l)) (drop_at ts i t at) ∙ ap (λ o. option_or o (trees_refusal (trees_from (drop (i + 1) ts)))) none_there)
+        sym (ap (λ l. trees_refusal (trees_from l)) (drop-slice_get ts i t at) ∙ ap (λ o. option_or o (trees_refusal (trees_from (drop (i + 1) ts)))) none_there)
 
     pub member_passes : (ms : List (List ℕ × Tree)) (i : ℕ) (k : List ℕ) → slice_get ms i ≡ Some (k, t) → has_no_zero k ≡ true → members_refusal (members_from (drop (i + 1) ms)) ≡ members_refusal (members_from (drop i ms))
     member_passes ms i k at key =
         let rest = members_refusal (members_from (drop (i + 1) ms)) in
-        sym (ap (λ l. members_refusal (members_from l)) (drop_at ms i (k, t) at)
+        sym (ap (λ l. members_refusal (members_from l)) (drop-slice_get ms i (k, t) at)
         ∙ ap (λ b. option_or (unless b json_key) (option_or (tree_refusal t) rest)) key
         ∙ ap (λ o. option_or o rest) none_there)
 
   module _ (r : Option TantivyError) (t : Tree) (is : r ≡ at_place place (tree_refusal t)) (x : TantivyError) (some : r ≡ Some x) where
     pub tree_refused : (ts : List Tree) (i : ℕ) → slice_get ts i ≡ Some t → Some x ≡ at_place place (trees_refusal (trees_from (drop i ts)))
     tree_refused ts i at =
-        sym (ap (λ l. at_place place (trees_refusal (trees_from l))) (drop_at ts i t at)
+        sym (ap (λ l. at_place place (trees_refusal (trees_from l))) (drop-slice_get ts i t at)
         ∙ first_told (tree_refusal t) (trees_refusal (trees_from (drop (i + 1) ts))) x (sym is ∙ some))
 
     pub member_refused : (ms : List (List ℕ × Tree)) (i : ℕ) (k : List ℕ) → slice_get ms i ≡ Some (k, t) → has_no_zero k ≡ true → Some x ≡ at_place place (members_refusal (members_from (drop i ms)))
     member_refused ms i k at key =
         let rest = members_refusal (members_from (drop (i + 1) ms)) in
-        sym (ap (λ l. at_place place (members_refusal (members_from l))) (drop_at ms i (k, t) at)
+        sym (ap (λ l. at_place place (members_refusal (members_from l))) (drop-slice_get ms i (k, t) at)
         ∙ ap (λ b. at_place place (option_or (unless b json_key) (option_or (tree_refusal t) rest))) key
         ∙ first_told (tree_refusal t) rest x (sym is ∙ some))
 
   pub key_refused : (ms : List (List ℕ × Tree)) (i : ℕ) (k : List ℕ) (t : Tree) → slice_get ms i ≡ Some (k, t) → has_no_zero k ≡ false → Some (json_key place) ≡ at_place place (members_refusal (members_from (drop i ms)))
   key_refused ms i k t at key =
-      sym (ap (λ l. at_place place (members_refusal (members_from l))) (drop_at ms i (k, t) at)
+      sym (ap (λ l. at_place place (members_refusal (members_from l))) (drop-slice_get ms i (k, t) at)
       ∙ ap (λ b. at_place place (option_or (unless b json_key) (option_or (tree_refusal t) (members_refusal (members_from (drop (i + 1) ms)))))) key)

@@ -2,7 +2,7 @@
 use Rattle.std.proofs.Common.{◌≡◌, ℕ, List, [], ◌∷◌, ◌++◌, length, arith, map, Some, None, append_assoc, append-nil, refl, sym, ap, ◌∙◌, subst}
 use Rattle.std.proofs.lemmas.Grind.{flat_map-append}
 use Rattle.seg_values.specs.Tree.{Leaf}
-use Rattle.seg_values.specs.declared.token.Token.{Token}
+use Rattle.seg_words.specs.declared.token.Token.{Token}
 use Rattle.seg_model.specs.Occurrences.{leaf_text}
 use Rattle.seg_check.specs.Paths.{texts_of, PathsStand}
 use Rattle.seg_check.specs.Sizes.{plus, size_of, measured, both}

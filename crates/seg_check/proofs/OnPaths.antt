@@ -7,13 +7,13 @@ use Rattle.std.specs.HashMap as hash
 use Rattle.std.specs.Map.{lookup, KeepsOthers}
 use Rattle.std.specs.Cmp.Lexicographic.{bytes_decides, nat_list_eq_equiv}
 use Rattle.std.specs.declared.alloc.Global.{Global}
-use Rattle.std.proofs.lemmas.Bool.{false≢true}
+use Rattle.std.proofs.lemmas.Bool.{and_parts, and_from}
 use Rattle.std.proofs.lemmas.Grind.{flat_map-append}
 use Rattle.std.proofs.lemmas.List.Elements.{filter-append}
 use Rattle.std.proofs.lemmas.List.Folds.{list_all-append}
 use Rattle.std.proofs.lemmas.List.{length-append}
 use Rattle.seg_values.specs.Tree.{Leaf}
-use Rattle.seg_values.specs.declared.token.Token.{Token}
+use Rattle.seg_words.specs.declared.token.Token.{Token}
 use Rattle.seg_model.specs.Checked.{is_u32, texts_fit, count_of}
 use Rattle.seg_model.specs.Occurrences.{leaf_text, start_after_all}
 use Rattle.seg_check.specs.Sizes.{size_of, saturated}
@@ -31,19 +31,13 @@ Key = Vec ℕ Global
 abbrev pub has_bytes : List ℕ → Key → Bool
 has_bytes q k = bytes_eq q k.items
 
-apart : (bs cs ks : List ℕ) → bytes_eq bs cs ≡ false → bytes_eq bs ks ≡ true → bytes_eq cs ks ≡ false
+-- a text apart from one is apart from those like it
+pub apart : (bs cs ks : List ℕ) → bytes_eq bs cs ≡ false → bytes_eq bs ks ≡ true → bytes_eq cs ks ≡ false
 apart bs cs ks n y = nat_list_eq_equiv.symm cs ks ∙ sym (nat_list_eq_equiv.congr bs ks cs y) ∙ n
 
-others_stay : {X : Type 0} (bs : List ℕ) (old new : List (Key × X)) → KeepsOthers (λ x y. bytes_eq x.items y.items) (has_bytes bs) old new → (cs : List ℕ) → bytes_eq bs cs ≡ false → lookup (has_bytes cs) new ≡ lookup (has_bytes cs) old
+pub others_stay : {X : Type 0} (bs : List ℕ) (old new : List (Key × X)) → KeepsOthers (λ x y. bytes_eq x.items y.items) (has_bytes bs) old new → (cs : List ℕ) → bytes_eq bs cs ≡ false → lookup (has_bytes cs) new ≡ lookup (has_bytes cs) old
 unfolding KeepsOthers
 others_stay bs old new h cs n = h (has_bytes cs) (λ x y. nat_list_eq_equiv.congr cs x.items y.items) (λ k. apart bs cs k.items n)
-
-pub both_true : (a b : Bool) → (a && b) ≡ true → (a ≡ true) × (b ≡ true)
-both_true true b h = (refl, h)
-both_true false b h = absurd (false≢true h)
-
-pub and_true : (a b : Bool) → a ≡ true → b ≡ true → (a && b) ≡ true
-and_true a b h k = ap (λ x. x && b) h ∙ k
 
 module _ (analyze : List ℕ → List Token) where
   -- ---- totals within the limits
@@ -71,13 +65,13 @@ module _ (analyze : List ℕ → List Token) where
   -- and fewer are within them too
   less-fit : (n : ℕ) (texts more : List (List Token)) (m : ℕ) → n ≤ m → (texts_fit (texts ++ more) && is_u32 m) ≡ true → (texts_fit texts && is_u32 n) ≡ true
   less-fit n texts more m le h =
-      let two = both_true (texts_fit (texts ++ more)) (is_u32 m) h in
-      let three = both_true (is_u32 (start_after_all 0 (texts ++ more)) && is_u32 (count_of (texts ++ more))) (is_u32 (length (texts ++ more))) two.0 in
-      let first = both_true (is_u32 (start_after_all 0 (texts ++ more))) (is_u32 (count_of (texts ++ more))) three.0 in
+      let two = and_parts (texts_fit (texts ++ more)) (is_u32 m) h in
+      let three = and_parts (is_u32 (start_after_all 0 (texts ++ more)) && is_u32 (count_of (texts ++ more))) (is_u32 (length (texts ++ more))) two.0 in
+      let first = and_parts (is_u32 (start_after_all 0 (texts ++ more))) (is_u32 (count_of (texts ++ more))) three.0 in
       let many : length (texts ++ more) ≡ length texts + length more = length-append texts more in
-      and_true (texts_fit texts) (is_u32 n)
-      (and_true (is_u32 (start_after_all 0 texts) && is_u32 (count_of texts)) (is_u32 (length texts))
-      (and_true (is_u32 (start_after_all 0 texts)) (is_u32 (count_of texts))
+      and_from (texts_fit texts) (is_u32 n)
+      (and_from (is_u32 (start_after_all 0 texts) && is_u32 (count_of texts)) (is_u32 (length texts))
+      (and_from (is_u32 (start_after_all 0 texts)) (is_u32 (count_of texts))
       (fits-less (start_after_all 0 texts) (start_after_all 0 (texts ++ more)) (omega (arith, starts-add texts more)) first.0)
       (fits-less (count_of texts) (count_of (texts ++ more)) (omega (arith, counts-add texts more)) first.1))
       (fits-less (length texts) (length (texts ++ more)) (omega (arith, many)) three.1))

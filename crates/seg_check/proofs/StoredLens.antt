@@ -1,23 +1,16 @@
 -- The number of bytes of the parts of what is stored, one after another.
-use Rattle.std.proofs.Common.{◌≡◌, ℕ, suc, ◌+◌, ◌-◌, ◌^◌, min, Bool, true, false, cond, List, [], ◌∷◌, ◌++◌, map, length, Some, drop, refl, sym, ap, ◌∙◌, arith}
+use Rattle.std.proofs.Common.{◌≡◌, ℕ, ◌+◌, ◌-◌, ◌^◌, min, Bool, true, false, cond, List, ◌∷◌, ◌++◌, map, length, Some, drop, sym, ap, ◌∙◌, arith}
 use Rattle.std.specs.Prelude.{filter}
 use Rattle.std.specs.List.{slice_get, flat_map}
 use Rattle.std.proofs.lemmas.List.{length-append}
 use Rattle.seg_common.specs.Varint.{varint}
+use Rattle.seg_common.proofs.Lists.{drop-slice_get}
 use Rattle.seg_values.specs.Tree.{Tree, array, object, trees_from, members_from, Document}
 use Rattle.seg_model.specs.Fields.{Schema, is_field}
 use Rattle.seg_model.specs.Reading.{stored_value, stored_document}
-use Rattle.seg_model.specs.StoredForm.{sized, tree_count, member_count, tree_form, tree_forms, member_forms, pair_form}
+use Rattle.seg_values.specs.StoredForm.{sized, tree_count, member_count, tree_form, tree_forms, member_forms, pair_form}
+use Rattle.seg_values.proofs.StoredCounts.{count_trees, count_members}
 use Rattle.seg_check.specs.Sizes.{saturated}
-use Rattle.seg_check.proofs.Places.{drop_at}
-
-count_trees : (ts : List Tree) → tree_count (trees_from ts) ≡ length ts
-count_trees [] = refl
-count_trees (t ∷ ts) = ap suc (count_trees ts)
-
-count_members : (ms : List (List ℕ × Tree)) → member_count (members_from ms) ≡ length ms
-count_members [] = refl
-count_members (m ∷ ms) = ap suc (count_members ms)
 
 begins : (rest : List ℕ) (tag n m : ℕ) → n ≡ m → 1 + length (varint m) + length rest ≡ length (tag ∷ (varint n ++ rest))
 begins rest tag n m same = let e : length (varint n ++ rest) ≡ length (varint n) + length rest = length-append (varint n) rest in let k : length (varint m) ≡ length (varint n) = ap (λ x. length (varint x)) (sym same) in omega (arith, e, k)
@@ -45,7 +38,7 @@ module _ (size after : ℕ) where
       ap (λ n. saturated (n + length rest)) is
       ∙ sum_on size (length (tree_form t)) (length rest)
       ∙ ap (λ n. saturated (size + n)) (sym (length-append (tree_form t) rest))
-      ∙ ap (λ l. saturated (size + length (tree_forms (trees_from l)))) (sym (drop_at ts i t at))
+      ∙ ap (λ l. saturated (size + length (tree_forms (trees_from l)))) (sym (drop-slice_get ts i t at))
 
   pub member_more : (ms : List (List ℕ × Tree)) (i : ℕ) (k : List ℕ) (t : Tree) → slice_get ms i ≡ Some (k, t) → after ≡ saturated (size + saturated (length (sized k) + length (tree_form t))) → saturated (after + length (member_forms (members_from (drop (i + 1) ms)))) ≡ saturated (size + length (member_forms (members_from (drop i ms))))
   member_more ms i k t at is =
@@ -54,7 +47,7 @@ module _ (size after : ℕ) where
       ap (λ n. saturated (n + length rest)) is
       ∙ sum_on size (length (sized k) + length (tree_form t)) (length rest)
       ∙ ap (λ n. saturated (size + n)) (sym one)
-      ∙ ap (λ l. saturated (size + length (member_forms (members_from l)))) (sym (drop_at ms i (k, t) at))
+      ∙ ap (λ l. saturated (size + length (member_forms (members_from l)))) (sym (drop-slice_get ms i (k, t) at))
     where
       sums : (a b c : ℕ) → a + (b + c) ≡ a + b + c
       sums a b c = omega arith
@@ -63,7 +56,7 @@ module _ (size after : ℕ) where
 
 module _ (schema : Schema) (document : Document) (i field : ℕ) (t : Tree) (at : slice_get document i ≡ Some (field, t)) where
   one_kept : (b : Bool) → is_field (λ e. e.stored) (slice_get schema field) ≡ b → stored_document schema (drop i document) ≡ cond b ((field, stored_value t) ∷ stored_document schema (drop (i + 1) document)) (stored_document schema (drop (i + 1) document))
-  one_kept b e = ap (stored_document schema) (drop_at document i (field, t) at) ∙ by_case b e
+  one_kept b e = ap (stored_document schema) (drop-slice_get document i (field, t) at) ∙ by_case b e
     where
       by_case : (b : Bool) → is_field (λ e. e.stored) (slice_get schema field) ≡ b → map (λ (p : ℕ × Tree). (p.0, stored_value p.1)) (cond (is_field (λ e. e.stored) (slice_get schema field)) ((field, t) ∷ filter (λ p. is_field (λ e. e.stored) (slice_get schema p.0)) (drop (i + 1) document)) (filter (λ p. is_field (λ e. e.stored) (slice_get schema p.0)) (drop (i + 1) document))) ≡ cond b ((field, stored_value t) ∷ stored_document schema (drop (i + 1) document)) (stored_document schema (drop (i + 1) document))
       by_case true e = ap (λ c. map (λ (p : ℕ × Tree). (p.0, stored_value p.1)) (cond c ((field, t) ∷ filter (λ p. is_field (λ e. e.stored) (slice_get schema p.0)) (drop (i + 1) document)) (filter (λ p. is_field (λ e. e.stored) (slice_get schema p.0)) (drop (i + 1) document)))) e

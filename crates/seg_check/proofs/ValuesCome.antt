@@ -7,11 +7,12 @@ use Rattle.std.proofs.lemmas.Bool.{false≢true}
 use Rattle.std.proofs.lemmas.Grind.{flat_map-append}
 use Rattle.std.proofs.lemmas.List.{length-append, map-append}
 use Rattle.std.proofs.lemmas.List.Folds.{list_all-map}
+use Rattle.std.proofs.Math.Bool.{and_comm}
 use Rattle.seg_values.specs.Tree.{Leaf, Tree, leaf, array, object, Trees, no_trees, tree, Members, no_members, member}
 use Rattle.seg_values.specs.declared.schema.FieldEntry.{FieldEntry}
 use Rattle.seg_values.specs.declared.schema.FieldKind.{FieldKind}
 use Rattle.seg_values.specs.declared.schema.FieldKind.TheVariants.{Text, U64, I64, Bool as Boolean, Date, Facet, Bytes, IpAddr, Json}
-use Rattle.seg_values.specs.declared.token.Token.{Token}
+use Rattle.seg_words.specs.declared.token.Token.{Token}
 use Rattle.seg_model.specs.Checked.{is_u32, count_of, texts_fit, value_texts, leaves_with_path, path_fits, kind_fits}
 use Rattle.seg_model.specs.Leaves.{PlacedLeaf, leaves_at, leaves_of_trees, leaves_of_members, level_in_array, leaves, leaves_of, joined_path, dot_expanded}
 use Rattle.seg_model.specs.Occurrences.{leaf_text, value_tokens, texts_at}
@@ -170,17 +171,11 @@ module _ (entry : FieldEntry) (analyze : List ℕ → List Token) where
   no_texts Bytes e values text json = refl
   no_texts IpAddr e values text json = refl
 
-  swap : (a b : Bool) → (a && b) ≡ (b && a)
-  swap true true = refl
-  swap true false = refl
-  swap false true = refl
-  swap false false = refl
-
   module _ (t : FieldTotals) (values : List Tree) (stands : Stands entry analyze t values) where
     pub text-fits : entry.kind ≡ Text → totals_fit t.whole ≡ (is_u32 (length values) && kind_fits entry.kind entry.expand_dots analyze values)
     text-fits kind =
         ap totals_fit stands.whole ∙ kept-fit analyze (length values) (flat_map (value_texts entry.kind analyze) values)
-        ∙ swap (texts_fit (flat_map (value_texts entry.kind analyze) values)) (is_u32 (length values))
+        ∙ and_comm (texts_fit (flat_map (value_texts entry.kind analyze) values)) (is_u32 (length values))
         ∙ ap (λ k. is_u32 (length values) && texts_fit (flat_map (value_texts k analyze) values)) kind
         ∙ ap (λ l. is_u32 (length values) && texts_fit l) (one_text_each analyze values)
         ∙ ap (λ k. is_u32 (length values) && kind_fits k entry.expand_dots analyze values) (sym kind)
@@ -196,9 +191,9 @@ module _ (entry : FieldEntry) (analyze : List ℕ → List Token) where
         ap (λ b. b && (is_u32 t.whole.size.tokens && t.paths.are_within)) count-fits
         ∙ ap (λ b. is_u32 (length values) && (b && t.paths.are_within)) (tokens-fit ∙ ap (λ k. is_u32 (count_of (flat_map (value_texts k analyze) values))) kind)
         ∙ ap (λ b. is_u32 (length values) && (is_u32 (count_of (flat_map (value_texts Json analyze) values)) && b)) ((stands.paths kind).within ∙ each-path entry.expand_dots analyze (leaves_of values))
-        ∙ ap (λ b. is_u32 (length values) && b) (swap (is_u32 (count_of (flat_map (value_texts Json analyze) values))) (list_all (λ p. path_fits entry.expand_dots analyze (leaves_of values) (joined_path entry.expand_dots p.keys)) (leaves_of values)))
+        ∙ ap (λ b. is_u32 (length values) && b) (and_comm (is_u32 (count_of (flat_map (value_texts Json analyze) values))) (list_all (λ p. path_fits entry.expand_dots analyze (leaves_of values) (joined_path entry.expand_dots p.keys)) (leaves_of values)))
         ∙ ap (λ k. is_u32 (length values) && kind_fits k entry.expand_dots analyze values) (sym kind)
 
     pub other-fits : (entry.kind ≡ Text → ⊥) → (entry.kind ≡ Json → ⊥) → is_u32 t.whole.count ≡ (is_u32 (length values) && kind_fits entry.kind entry.expand_dots analyze values)
     other-fits text json =
-        count-fits ∙ sym (ap (λ b. is_u32 (length values) && b) (no_texts entry.kind entry.expand_dots values text json) ∙ swap (is_u32 (length values)) true)
+        count-fits ∙ sym (ap (λ b. is_u32 (length values) && b) (no_texts entry.kind entry.expand_dots values text json) ∙ and_comm (is_u32 (length values)) true)

@@ -5,7 +5,7 @@ use Rattle.std.specs.List.{flat_map, list_all}
 use Rattle.std.specs.Str.{bytes_eq}
 use Rattle.std.specs.declared.alloc.Global.{Global}
 use Rattle.seg_values.specs.Tree.{Leaf}
-use Rattle.seg_values.specs.declared.token.Token.{Token}
+use Rattle.seg_words.specs.declared.token.Token.{Token}
 use Rattle.seg_model.specs.Checked.{is_u32, texts_fit}
 use Rattle.seg_model.specs.Leaves.{PlacedLeaf, joined_path}
 use Rattle.seg_model.specs.Occurrences.{leaf_text}

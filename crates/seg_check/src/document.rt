@@ -10,7 +10,8 @@ use crate::fields::fields_refusal;
 use crate::json::leaves_refusal;
 use crate::limits::is_within_limits;
 use crate::positions::{CutDocument, cut_texts};
-use seg_values::{Analyzers, ArgumentCause, Schema, TResult, TantivyDocument, TantivyError};
+use seg_values::{ArgumentCause, Schema, TResult, TantivyDocument, TantivyError};
+use seg_words::Analyzers;
 use std::alloc::Global;
 
 /// Checks a document before it is indexed; `at` is the place that an error tells.

@@ -6,7 +6,8 @@ ghost use Rattle.seg_model.specs.Fields as fields;
 ghost use Rattle.seg_values.specs.View.{tree_of};
 
 use crate::entry::indexing_tokenizer;
-use seg_values::{Analyzers, FieldEntry, FieldKind, OwnedValue, Token, Tokens};
+use seg_values::{FieldEntry, FieldKind, OwnedValue};
+use seg_words::{Analyzers, Token, Tokens};
 use std::alloc::{AllocError, Global};
 
 /// A value of a field, which is at a place of its document, as a text.

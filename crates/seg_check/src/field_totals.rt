@@ -1,7 +1,7 @@
 //! What a document has in a field, value by value.
 ghost use Rattle.std.specs.Prelude.{◌≡◌, List, ℕ, [], ◌∷◌, ◌++◌, ◌&&◌, true, length, map, IfOk, IsSome, IsTrue};
 ghost use Rattle.seg_values.specs.Tree.{Leaf, Tree};
-ghost use Rattle.seg_values.specs.declared.token.Token.{Token};
+ghost use Rattle.seg_words.specs.declared.token.Token.{Token};
 ghost use Rattle.seg_values.specs.View.{tree_of};
 ghost use Rattle.seg_model.specs.Checked as checked;
 ghost use Rattle.seg_model.specs.Fields as fields;
@@ -19,7 +19,8 @@ use crate::paths::PathTotals;
 use crate::size::{TextSize, text_size};
 use crate::texts::leaf_size;
 use crate::totals::{Totals, is_u32};
-use seg_values::{Analyzers, FieldEntry, FieldKind, OwnedValue};
+use seg_values::{FieldEntry, FieldKind, OwnedValue};
+use seg_words::Analyzers;
 use std::alloc::{AllocError, Global};
 
 /// What came in a field: as a whole, and in a JSON field at each joined path.

@@ -29,3 +29,4 @@ mod totals;
 pub use document::{check_document, checked_texts};
 pub use entry::indexing_tokenizer;
 pub use field_text::FieldText;
+pub use size::{counted_len, text_width};

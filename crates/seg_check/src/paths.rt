@@ -1,7 +1,7 @@
 //! The joined paths of a JSON field.
 ghost use Rattle.std.specs.Prelude.{◌≡◌, List, ℕ, [], ◌∷◌, ◌++◌, map, OnOk};
 ghost use Rattle.seg_values.specs.Tree.{Leaf};
-ghost use Rattle.seg_values.specs.declared.token.Token.{Token};
+ghost use Rattle.seg_words.specs.declared.token.Token.{Token};
 ghost use Rattle.seg_model.specs.Occurrences.{leaf_text};
 ghost use Rattle.seg_check.specs.Paths.{total_at, PathsStand};
 ghost use Rattle.seg_check.specs.Sizes.{size_of};

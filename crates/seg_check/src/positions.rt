@@ -12,7 +12,8 @@ ghost use Rattle.seg_values.specs.View.{tree_of};
 
 use crate::field_text::{FieldText, cut_tokens};
 use crate::field_totals::FieldTotals;
-use seg_values::{Analyzers, Field, FieldEntry, FieldKind, OwnedValue, Schema, TantivyDocument};
+use seg_values::{Field, FieldEntry, FieldKind, OwnedValue, Schema, TantivyDocument};
+use seg_words::Analyzers;
 use std::alloc::{AllocError, Global};
 use std::collections::HashMap;
 

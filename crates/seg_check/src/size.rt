@@ -1,10 +1,10 @@
 //! How much texts take of what is limited.
 ghost use Rattle.std.specs.Prelude.{◌≡◌, ◌∷◌, [], length};
 ghost use Rattle.seg_model.specs.Checked.{is_rising};
-ghost use Rattle.seg_model.specs.Occurrences.{counted, reach};
-ghost use Rattle.seg_check.specs.Sizes.{plus, measured, size_of};
+ghost use Rattle.seg_model.specs.Occurrences.{counted, reach, start_after};
+ghost use Rattle.seg_check.specs.Sizes.{plus, measured, saturated, size_of};
 
-use seg_values::{MAX_TOKEN_LEN, Token};
+use seg_words::{MAX_TOKEN_LEN, Token};
 
 /// How much some texts take of what is limited. Each number stays at its type's end.
 #[derive(Clone, Copy)]
@@ -44,9 +44,16 @@ pub(crate) fn text_size(tokens: &[Token]) -> Option<TextSize>
         return None;
     }
     Some(TextSize {
-        width: reach(tokens).saturating_add(1),
+        width: text_width(tokens),
         tokens: counted_len(tokens) as u64,
     })
+}
+
+/// How far a text goes, with the gap to the next one: where that one begins, if this one begins at 0.
+pub fn text_width(tokens: &[Token]) -> u64
+    ensures { result ≡ saturated (start_after 0 tokens.now) }
+{
+    reach(tokens).saturating_add(1)
 }
 
 /// Whether no position is below the one before it.
@@ -81,7 +88,8 @@ fn reach(tokens: &[Token]) -> u64
     end
 }
 
-fn counted_len(tokens: &[Token]) -> usize
+/// How many tokens give terms: those that are no longer than a term may be.
+pub fn counted_len(tokens: &[Token]) -> usize
     ensures { result ≡ length (counted tokens.now) }
 {
     tokens

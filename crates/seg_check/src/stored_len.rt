@@ -6,12 +6,13 @@ ghost use Rattle.seg_values.specs.Tree.{pre_tokenized};
 ghost use Rattle.seg_values.specs.View.{tree_of};
 ghost use Rattle.seg_model.specs.Fields as fields;
 ghost use Rattle.seg_model.specs.Reading.{stored_value};
-ghost use Rattle.seg_model.specs.StoredForm as stored;
+ghost use Rattle.seg_values.specs.StoredForm as stored;
 ghost use Rattle.seg_check.specs.Sizes.{saturated};
 ghost use Rattle.seg_check.specs.Trees.{leaf_in};
 
 use seg_common::varint_len;
-use seg_values::{Field, OwnedValue, PreTokenizedString, Schema, TantivyDocument, Token};
+use seg_values::{Field, OwnedValue, Schema, TantivyDocument};
+use seg_words::{PreTokenizedString, Token};
 
 /// How many bytes a document is stored as.
 pub(crate) fn stored_len(schema: &Schema, document: &TantivyDocument) -> u64

@@ -7,7 +7,8 @@ ghost use Rattle.seg_values.specs.View.{tree_of};
 
 use crate::field_text::analyzed;
 use crate::size::{TextSize, text_size};
-use seg_values::{Analyzers, OwnedValue};
+use seg_values::OwnedValue;
+use seg_words::Analyzers;
 use std::alloc::{AllocError, Global};
 
 /// The size of a leaf of a JSON field, where it is a text; none where positions decrease.

@@ -5,9 +5,11 @@ pub mod Growing
 pub mod Held
 pub mod Idle
 pub mod LittleEndian
+pub mod Marks
 pub mod Memory
 pub mod Names
 pub mod Ownership
 pub mod SegmentIds
 pub mod Streams
+pub mod Tables
 pub mod Varint

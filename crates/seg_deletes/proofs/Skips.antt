@@ -1,21 +1,15 @@
 -- Skipping: one step, and where it stops.
 use Rattle.std.proofs.Common.{◌≡◌, ℕ, ◌+◌, ◌-◌, ◌<◌, ◌≤◌, true, false, List, length, drop, get_or, ap, sym, subst, ◌∙◌, inl, inr, arith, length-drop}
-use Rattle.std.specs.Prelude.{IfSome, IsSomeAnd, nat_lt}
+use Rattle.std.specs.Prelude.{IfSome, IsSomeAnd}
 use Rattle.std.specs.List.{prefix_len, slice_get}
 use Rattle.std.specs.Option.{option_map_or}
-use Rattle.std.proofs.lemmas.Bool.Decides.{nat_tests}
 use Rattle.std.proofs.lemmas.List.{get_or-drop}
 use Rattle.std.proofs.lemmas.List.Sums.{prefix_len-drop_yes, prefix_len-drop_no, prefix_len-drop_all, prefix_len-le-length, prefix_len_passes, prefix_len_stops}
 use Rattle.std.proofs.lemmas.Option.{slice_get_cases}
+use Rattle.std.proofs.lemmas.Bool.{ltb-true, ltb-false}
 use Rattle.seg_deletes.specs.declared.operation.DeleteOperation.{DeleteOperation}
 use Rattle.seg_deletes.specs.Queues.{is_below, is_behind, skipped}
 use Rattle.seg_deletes.specs.Laws.{IsFirst}
-
-below : (n m : ℕ) → nat_lt n m ≡ true → n < m
-below n m is = grind (arith, nat_tests)
-
-not_below : (n m : ℕ) → nat_lt n m ≡ false → m ≤ n
-not_below n m is = grind (arith, nat_tests)
 
 module _ {T : Type 0} (target : ℕ) (operations : List (DeleteOperation T)) (position : ℕ) where
   -- an operation below the target is passed
@@ -47,14 +41,14 @@ module _ {T : Type 0} (target : ℕ) (operations : List (DeleteOperation T)) (po
         within = omega (arith, short, long);
         reached = elim (slice_get_cases operations (position + count)).1 [
           | inl w ↦ let stops = prefix_len_stops (is_below target) left w.0 (omega (arith, long)) in
-              subst (λ o. IfSome o (λ x. target ≤ x.opstamp)) (sym w.2) (not_below _ _ (ap (is_below target) (sym (get_or-drop position operations count w.0 ∙ w.3)) ∙ stops))
+              subst (λ o. IfSome o (λ x. target ≤ x.opstamp)) (sym w.2) (ltb-false _ _ (ap (is_below target) (sym (get_or-drop position operations count w.0 ∙ w.3)) ∙ stops))
           | inr w ↦ subst (λ o. IfSome o (λ x. target ≤ x.opstamp)) (sym w.1) tt
         ];
         passed = λ k after before. elim (slice_get_cases operations k).1 [
           | inl w ↦ let place : position + (k - position) ≡ k = omega arith in
               let here = get_or-drop position operations (k - position) w.0 ∙ ap (λ i. get_or operations i w.0) place ∙ w.3 in
               let passes = prefix_len_passes (is_below target) left (k - position) w.0 (omega arith) in
-              subst (λ o. IsSomeAnd o (λ x. x.opstamp < target)) (sym w.2) (below _ _ (ap (is_below target) (sym here) ∙ passes))
+              subst (λ o. IsSomeAnd o (λ x. x.opstamp < target)) (sym w.2) (ltb-true _ _ (ap (is_below target) (sym here) ∙ passes))
           | inr w ↦ absurd (omega (arith, short, long))
         ];
       }

@@ -1,31 +1,14 @@
 -- A composite file that grows, and the bytes that it is written as.
-use Rattle.std.proofs.Common.{◌≡◌, ℕ, zero, suc, ◌+◌, ◌*◌, ◌-◌, ◌^◌, ◌<◌, ◌≤◌, true, List, [], ◌∷◌, ◌++◌, length, take, drop, refl, sym, ap, subst, ◌∙◌, arith, slice_range, Some, append_assoc}
-use Rattle.std.specs.Int.{w32, w64, from_le_bytes, to_le_bytes}
-use Rattle.std.proofs.lemmas.List.{length-drop, length-append, drop-append-le, take-append-le, take_at, drop_at, take_all, nil_from_length, append-nil}
-use Rattle.std.proofs.lemmas.Nat.{from_le_bytes-to_le_bytes_4, from_le_bytes-to_le_bytes_8}
+use Rattle.std.proofs.Common.{◌≡◌, ℕ, zero, suc, ◌+◌, ◌*◌, ◌-◌, ◌^◌, ◌<◌, ◌≤◌, true, List, [], ◌∷◌, ◌++◌, length, take, drop, refl, sym, ap, subst, ◌∙◌, arith, Some, append_assoc}
+use Rattle.std.specs.Int.{w32, w64, to_le_bytes}
+use Rattle.std.proofs.lemmas.List.{length-drop, length-append, drop-append-le, drop_at, take_all, nil_from_length, append-nil}
 use Rattle.std.proofs.lemmas.Bool.{eqb-true, eq-eqb}
 use Rattle.seg_common.specs.LittleEndian.{u32_at, u64_at}
+use Rattle.seg_common.proofs.Bytes.{u32_at-front, u64_at-front, u32_at-written, u64_at-written}
+use Rattle.seg_common.proofs.Lists.{range-front}
 use Rattle.seg_directory.specs.Composite.{entries_of, are_entries, parts_from, is_composite, parts_of, composite, count_of, low_after}
 use Rattle.seg_directory.specs.CompositeWriting.{IsWritten}
 use Rattle.seg_directory.proofs.CompositeTables.{length-entries_of, entries-next, entries-go, composite-by, parts-by, IsSplit}
-
--- ---- numbers in a list that goes on
-
-pub u32_at-front : (a b : List ℕ) (n : ℕ) → n + 4 ≤ length a → u32_at (a ++ b) n ≡ u32_at a n
-unfolding u32_at
-u32_at-front a b n h = ap (from_le_bytes w32) (ap (take 4) (drop-append-le n a b (omega arith)) ∙ take-append-le 4 (drop n a) b (omega (arith, length-drop n a)))
-
-pub u64_at-front : (a b : List ℕ) (n : ℕ) → n + 8 ≤ length a → u64_at (a ++ b) n ≡ u64_at a n
-unfolding u64_at
-u64_at-front a b n h = ap (from_le_bytes w64) (ap (take 8) (drop-append-le n a b (omega arith)) ∙ take-append-le 8 (drop n a) b (omega (arith, length-drop n a)))
-
-pub u32_at-written : (a b : List ℕ) (n at : ℕ) → n < 2 ^ 32 → length a ≡ at → u32_at (a ++ (to_le_bytes w32 n ++ b)) at ≡ n
-unfolding u32_at
-u32_at-written a b n at lt h = ap (λ (l : List ℕ). from_le_bytes w32 (take 4 l)) (drop_at a (to_le_bytes w32 n ++ b) at h) ∙ ap (from_le_bytes w32) (take_at (to_le_bytes w32 n) b 4 refl) ∙ from_le_bytes-to_le_bytes_4 n lt
-
-pub u64_at-written : (a b : List ℕ) (n at : ℕ) → n < 2 ^ 64 → length a ≡ at → u64_at (a ++ (to_le_bytes w64 n ++ b)) at ≡ n
-unfolding u64_at
-u64_at-written a b n at lt h = ap (λ (l : List ℕ). from_le_bytes w64 (take 8 l)) (drop_at a (to_le_bytes w64 n ++ b) at h) ∙ ap (from_le_bytes w64) (take_at (to_le_bytes w64 n) b 8 refl) ∙ from_le_bytes-to_le_bytes_8 n lt
 
 -- ---- entries
 
@@ -71,9 +54,6 @@ low_after-length low start total (e ∷ es) h =
     omega (arith, n.field, more)
 
 -- ---- parts
-
-range-front : (body more : List ℕ) (s e : ℕ) → s ≤ e → e ≤ length body → slice_range (body ++ more) s e ≡ slice_range body s e
-range-front body more s e se h = ap (take (e - s)) (drop-append-le s body more (omega arith)) ∙ take-append-le (e - s) (drop s body) more (omega (arith, length-drop s body))
 
 pub parts-front : (low start total : ℕ) (es : List (ℕ × ℕ)) (body more : List ℕ) → are_entries low start total es ≡ true → total ≤ length body → parts_from start es (body ++ more) ≡ parts_from start es body
 parts-front low start total [] body more h le = refl

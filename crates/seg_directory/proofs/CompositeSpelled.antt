@@ -3,13 +3,15 @@ use Rattle.std.proofs.Common.{◌≡◌, ℕ, zero, suc, ◌+◌, ◌*◌, ◌-�
 use Rattle.std.specs.Int.{w32, w64, to_le_bytes}
 use Rattle.std.proofs.lemmas.List.{drop-drop, length-drop, length-take, length-append, drop_at, take_at, take_all, take-append-drop, get_or-drop, get_or-take, get_or_past, drop-take, take-take}
 use Rattle.std.proofs.lemmas.Nat.{le_bytes_4, le_bytes_8}
-use Rattle.std.proofs.lemmas.Bool.{cases_lt, eq-eqb, eqb-true}
+use Rattle.std.proofs.lemmas.Bool.{cases_lt, eq-eqb, eqb-true, cases_Bool}
+use Rattle.std.proofs.lemmas.Option.{same_Some}
 use Rattle.seg_common.specs.LittleEndian.{u32_at, u64_at}
+use Rattle.seg_common.proofs.Bytes.{u32_at-written, u64_at-written}
 use Rattle.seg_directory.specs.Composite.{entries_of, are_entries, parts_from, Part, is_composite, parts_of, composite, count_of, body_len, table_of}
 use Rattle.seg_directory.specs.CompositeWriting.{IsWritten}
 use Rattle.seg_directory.specs.CompositeSpelling.{bodies, table_from, spelling, Ascend, IsSpelled, IsBytes}
-use Rattle.seg_directory.proofs.CompositeTables.{cases_bool, entries-next, entries-go, laid_out, length-parts_of}
-use Rattle.seg_directory.proofs.CompositeGrowing.{u32_at-written, u64_at-written, entry, written}
+use Rattle.seg_directory.proofs.CompositeTables.{entries-next, entries-go, laid_out, length-parts_of}
+use Rattle.seg_directory.proofs.CompositeGrowing.{entry, written}
 
 ends_from : ℕ → List Part → List (ℕ × ℕ)
 ends_from start [] = []
@@ -154,16 +156,13 @@ read-spelled bytes fits small good =
       small = omega (arith, ap length one, length-take b bytes, small);
     }
 
-some_is : {X : Type 0} (x y : X) → Some x ≡ Some y → x ≡ y
-some_is x y e = cc
-
 -- the same, of what the bytes read as
 pub reads_spelled : (bytes : List ℕ) (ps : List Part) → IsBytes bytes → length bytes < 2 ^ 64 → composite bytes ≡ Some ps → IsSpelled bytes ps
 reads_spelled bytes ps fits small read =
-    elim (cases_bool (is_composite bytes)) [
+    elim (cases_Bool (is_composite bytes)) [
       | inl good ↦
           let some : Some (parts_of bytes) ≡ Some ps = sym (ap (λ (b : Bool). cond b (Some (parts_of bytes)) None) good) ∙ read in
-          subst (IsSpelled bytes) (some_is (parts_of bytes) ps some) (read-spelled bytes fits small good)
+          subst (IsSpelled bytes) (same_Some (parts_of bytes) ps some) (read-spelled bytes fits small good)
       | inr bad ↦ absurd (let none : None ≡ Some ps = sym (ap (λ (b : Bool). cond b (Some (parts_of bytes)) None) bad) ∙ read in cc)
     ]
 

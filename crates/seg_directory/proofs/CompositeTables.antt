@@ -1,19 +1,10 @@
 -- The table of a composite file, entry by entry.
-use Rattle.std.proofs.Common.{◌≡◌, ℕ, zero, suc, ◌+◌, ◌*◌, ◌-◌, ◌<◌, ◌≤◌, ◌≢◌, Bool, true, false, leb, List, [], ◌∷◌, length, take, drop, refl, ap, subst, ◌∙◌, arith, ◌&&◌, slice_range, Some, inl, inr, ◌⊎◌}
-use Rattle.std.specs.Int.{w32, w64, from_le_bytes}
+use Rattle.std.proofs.Common.{◌≡◌, ℕ, zero, suc, ◌+◌, ◌*◌, ◌-◌, ◌<◌, ◌≤◌, ◌≢◌, true, false, leb, List, [], ◌∷◌, length, drop, refl, ap, subst, ◌∙◌, arith, slice_range, Some, inl, inr}
 use Rattle.std.proofs.lemmas.List.{drop-drop, length-drop}
-use Rattle.std.proofs.lemmas.Bool.{leb-true, eqb-true, lt-leb, le-leb, eq-eqb, ne_eqb}
+use Rattle.std.proofs.lemmas.Bool.{leb-true, eqb-true, lt-leb, le-leb, eq-eqb, ne_eqb, cases_Bool, and_parts}
 use Rattle.seg_common.specs.LittleEndian.{u32_at, u64_at}
+use Rattle.seg_common.proofs.Bytes.{u32_at-drop, u64_at-drop}
 use Rattle.seg_directory.specs.Composite.{entries_of, are_entries, parts_from, field_of, is_composite, parts_of, count_of, body_len, table_of}
-
--- a number in what is left of a list
-pub u32_at-drop : (bytes : List ℕ) (at n : ℕ) → u32_at (drop at bytes) n ≡ u32_at bytes (at + n)
-unfolding u32_at
-u32_at-drop bytes at n = ap (λ (l : List ℕ). from_le_bytes w32 (take 4 l)) (drop-drop n at bytes)
-
-pub u64_at-drop : (bytes : List ℕ) (at n : ℕ) → u64_at (drop at bytes) n ≡ u64_at bytes (at + n)
-unfolding u64_at
-u64_at-drop bytes at n = ap (λ (l : List ℕ). from_le_bytes w64 (take 8 l)) (drop-drop n at bytes)
 
 -- the entries from the one at i on
 pub entries_more : (table : List ℕ) (count i : ℕ) → i < count
@@ -36,14 +27,6 @@ entries_step table count i f e lt p q = rw (p, q) (entries_more table count i lt
 pub entries_end : (table : List ℕ) (count i : ℕ) → count ≤ i → entries_of (count - i) (drop (12 * i) table) ≡ []
 entries_end table count i le = let k : count - i ≡ 0 = omega arith in rw k refl
 
-pub cases_bool : (b : Bool) → (b ≡ true) ⊎ (b ≡ false)
-cases_bool true = inl refl
-cases_bool false = inr refl
-
-pub and-true : (a b : Bool) → (a && b) ≡ true → (a ≡ true) × (b ≡ true)
-and-true true b e = (refl, e)
-and-true false b e = absurd cc
-
 -- one entry that has the field, or hasn't
 pub field_of-here : (start field : ℕ) (e : ℕ × ℕ) (es : List (ℕ × ℕ)) (body : List ℕ) → e.0 ≡ field → field_of (parts_from start (e ∷ es) body) field ≡ Some (slice_range body start e.1)
 field_of-here start field e es body h = rw (eq-eqb e.0 field h) refl
@@ -54,8 +37,8 @@ field_of-later start field e es body h = rw (ne_eqb e.0 field h) refl
 pub entries-low : (low start total : ℕ) (es : List (ℕ × ℕ)) → are_entries low start total es ≡ true → start ≤ total
 entries-low low start total [] h = omega (arith, eqb-true start total h)
 entries-low low start total (e ∷ es) h =
-    let p = and-true _ _ h in
-    let q = and-true _ _ p.1 in
+    let p = and_parts _ _ h in
+    let q = and_parts _ _ p.1 in
     let below = entries-low (e.0 + 1) e.1 total es q.1 in
     omega (arith, leb-true start e.1 q.0, below)
 
@@ -67,8 +50,8 @@ pub record IsNext (low start total : ℕ) (e : ℕ × ℕ) (es : List (ℕ × �
 
 pub entries-next : (low start total : ℕ) (e : ℕ × ℕ) (es : List (ℕ × ℕ)) → are_entries low start total (e ∷ es) ≡ true → IsNext low start total e es
 entries-next low start total e es h =
-    let p = and-true _ _ h in
-    let q = and-true _ _ p.1 in
+    let p = and_parts _ _ h in
+    let q = and_parts _ _ p.1 in
     record { field = leb-true low e.0 p.0; end = leb-true start e.1 q.0; within = entries-low (e.0 + 1) e.1 total es q.1; others = q.1 }
 
 pub entries-field : (low start total : ℕ) (e : ℕ × ℕ) (es : List (ℕ × ℕ)) → e.0 < low → are_entries low start total (e ∷ es) ≡ false
@@ -76,7 +59,7 @@ entries-field low start total e es h = rw (lt-leb low e.0 h) refl
 
 pub entries-end : (low start total : ℕ) (e : ℕ × ℕ) (es : List (ℕ × ℕ)) → e.1 < start → are_entries low start total (e ∷ es) ≡ false
 entries-end low start total e es h =
-    elim (cases_bool (leb low e.0)) [
+    elim (cases_Bool (leb low e.0)) [
       | inl t ↦ rw (t, lt-leb start e.1 h) refl
       | inr f ↦ rw f refl
     ]
@@ -108,7 +91,7 @@ pub record IsLaidOut (bytes : List ℕ) : Type 0 where
 
 pub laid_out : (bytes : List ℕ) → is_composite bytes ≡ true → IsLaidOut bytes
 unfolding is_composite
-laid_out bytes h = let p = and-true _ _ h in record { long = leb-true (4 + 12 * count_of bytes) (length bytes) p.0; entries = p.1 }
+laid_out bytes h = let p = and_parts _ _ h in record { long = leb-true (4 + 12 * count_of bytes) (length bytes) p.0; entries = p.1 }
 
 pub length-parts_of : (bytes : List ℕ) → length (parts_of bytes) ≡ count_of bytes
 unfolding parts_of

@@ -2,10 +2,12 @@ mod CompositeEntries
 mod CompositeGrowing
 mod CompositeSpelled
 mod CompositeTables
-pub mod Entries
-pub mod OtherFiles
 pub mod Doing
-pub mod WorkSteps
-pub mod NeverThere
-pub mod WorkLaws
+pub mod Entries
+mod Images
 pub mod Listing
+pub mod NeverThere
+pub mod OtherFiles
+pub mod Parts
+pub mod WorkLaws
+pub mod WorkSteps

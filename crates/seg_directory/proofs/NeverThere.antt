@@ -1,19 +1,18 @@
 -- Steps that suit the files of a directory never find a file that is there.
-use Rattle.std.proofs.Common.{◌≡◌, ◌≢◌, ◌<◌, ◌∙◌, inl, inr, ℕ, List, [], ◌∷◌, Result, Ok, Err, IsTrue, refl, Option, Some, None, sym, ap, subst, arith}
+use Rattle.std.proofs.Common.{◌≡◌, ◌≢◌, ◌∙◌, inl, inr, List, [], ◌∷◌, Result, Ok, Err, IsTrue, refl, sym, subst, arith}
 use Rattle.std.specs.Prelude.{IsSome}
-use Rattle.std.specs.FinMap.{get, len}
-use Rattle.seg_common.specs.declared.name.FileName.{FileName}
+use Rattle.std.specs.FinMap.{len}
+use Rattle.seg_common.proofs.Results.{error_is}
 use Rattle.seg_values.specs.declared.error.TantivyError.{TantivyError}
 use Rattle.seg_values.specs.declared.error.TantivyError.TheVariants.{IndexAlreadyExists, OutOfMemory}
-use Rattle.seg_directory.specs.Calls.{Call, listed, read, made, replaced, synced, kind_of, files_after, Suits, Refuses, CanFail, Goes, Fails}
+use Rattle.seg_directory.specs.Calls.{Call, listed, read, made, replaced, synced, kind_of, Suits, Refuses, CanFail}
 use Rattle.seg_directory.specs.Does.{GoesOn}
-use Rattle.seg_directory.specs.Errors.{fault_of, error_of, name_of}
+use Rattle.seg_directory.specs.Errors.{fault_of}
 use Rattle.seg_directory.specs.Files.{NamedFiles}
 use Rattle.seg_directory.specs.State.{DirectoryState}
 use Rattle.seg_directory.specs.Works.{Step, calls, passes, StepGoes, StepBreaks, CallBreaks, failed, has_files, Works, AllSuit}
 use Rattle.seg_directory.specs.declared.answer.CallKind.{CallKind}
 use Rattle.seg_directory.specs.declared.answer.CallKind.TheVariants as kind
-use Rattle.seg_directory.specs.declared.error.DirectoryError.{DirectoryError}
 use Rattle.seg_directory.specs.declared.error.DirectoryError.TheVariants as directory
 
 fault_is_another : (k : CallKind) → fault_of k ≡ IndexAlreadyExists → ⊥
@@ -40,9 +39,6 @@ call_not_there call e a b told suits (has_files n is some error goes) at =
     let none : 0 ≡ len a.files = subst (λ (c : Call). Suits c a.files) is suits in
     let same = goes.suits told in
     omega (arith, some, none, same)
-
-error_is : {T : Type 0} (r : Result T TantivyError) (e d : TantivyError) → r ≡ Err e → r ≡ Err d → e ≡ d
-error_is r e d is at = cc (is, at)
 
 on_never_there : {T : Type 0} (steps : List Step) (r : Result T TantivyError) (a b : DirectoryState) → IsTrue a.tells → AllSuit steps a.files
     → GoesOn StepGoes StepBreaks OutOfMemory steps r a b → r ≢ Err IndexAlreadyExists

@@ -1,12 +1,12 @@
 -- One call of a directory, or one test, as a step.
-use Rattle.std.proofs.Common.{◌≡◌, ◌<◌, ℕ, [], ◌∷◌, Err, refl, Some, None}
+use Rattle.std.proofs.Common.{◌≡◌, ◌<◌, ℕ, [], ◌∷◌, Err, refl}
 use Rattle.seg_values.specs.declared.error.TantivyError.{TantivyError}
 use Rattle.seg_values.specs.declared.error.TantivyError.TheVariants.{IndexAlreadyExists}
-use Rattle.seg_directory.proofs.Doing.{went, broke}
+use Rattle.seg_directory.proofs.Doing.{broke}
 use Rattle.seg_directory.specs.State.{DirectoryState}
 use Rattle.seg_directory.specs.Calls.{Call, listed, kind_of, Goes, Fails}
 use Rattle.seg_directory.specs.Errors.{error_of, name_of}
-use Rattle.seg_directory.specs.Works.{Works, calls, passes, failed, has_files}
+use Rattle.seg_directory.specs.Works.{Works, calls, failed, has_files}
 use Rattle.seg_directory.specs.declared.error.DirectoryError.{DirectoryError}
 
 -- a call that failed

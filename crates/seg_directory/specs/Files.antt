@@ -2,7 +2,7 @@
 use Rattle.std.specs.Coded.{Coded, coded_ℕ, coded_list}
 use Rattle.std.specs.FinMap as map
 use Rattle.seg_common.specs.Names.{name_cmp, coded_name}
-use Rattle.seg_model.specs.Disk.{Files}
+use Rattle.seg_directory.specs.Disk.{Files}
 
 -- files by the names of an index
 abbrev pub NamedFiles : Type 0

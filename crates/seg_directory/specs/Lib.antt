@@ -8,10 +8,12 @@ pub mod Composite
 pub mod CompositeEntry
 pub mod CompositeSpelling
 pub mod CompositeWriting
+pub mod Disk
 pub mod Does
 pub mod Errors
 pub mod Faults
 pub mod Files
+pub mod Images
 pub mod Log
 pub mod Memory
 pub mod State

@@ -1,5 +1,5 @@
 -- What is seen of a directory in memory, and what a call makes of it.
-use Rattle.std.specs.Prelude.{ℕ, List, Result, Ok, Err, true, ⊤}
+use Rattle.std.specs.Prelude.{List, Result, Ok, Err, true, ⊤}
 use Rattle.std.specs.FinMap.{empty}
 use Rattle.seg_directory.specs.CallRecord.{Calls, none_yet, IsToFail, with_answers, with_failure}
 use Rattle.seg_directory.specs.Calls.{Call, kind_of, told, files_after, told_failing}

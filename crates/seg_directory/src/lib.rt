@@ -7,7 +7,8 @@
 //!
 //! To be read in this order: `error`, `answer`, `directory`; `answer_log`; `failing_call`, `call_counts`, `call_record`,
 //! `stored_files`, `memory_directory`; `folder`, `file_directory`; `call_error`, `calls`, by which all crates above call a
-//! directory; `composite_file`, `composite_law`, `written_parts`, `composite_writer`.
+//! directory; `composite_file`, `composite_law`, `written_parts`, `composite_writer`;
+//! `laws`, of what a crash may leave.
 #![tactic(auto)]
 
 mod answer;
@@ -24,6 +25,7 @@ mod error;
 mod failing_call;
 mod file_directory;
 mod folder;
+mod laws;
 mod memory_directory;
 mod stored_files;
 mod written_parts;
@@ -37,4 +39,5 @@ pub use directory::Directory;
 pub use error::DirectoryError;
 pub use failing_call::FailingCall;
 pub use file_directory::FileDirectory;
+pub use laws::images_of_a_disk;
 pub use memory_directory::MemoryDirectory;

@@ -4,9 +4,9 @@ use crate::calls::fault_at;
 use crate::meta::TEXT;
 use seg_common::{FileName, SegmentId};
 use seg_directory::{CallKind, FailingCall, MemoryDirectory};
-use seg_meta::{Compressor, Index, IndexSettings, load_metas};
+use seg_meta::{Index, IndexSettings, load_metas};
 use seg_testing::{failing, memory};
-use seg_values::{SchemaBuilder, TantivyError};
+use seg_values::{Compressor, SchemaBuilder, TantivyError};
 use std::alloc::Global;
 use std::test::Fail;
 

@@ -2,9 +2,9 @@
 
 use anyhow::{Result, bail};
 use seg_common::OwnedBytes;
-use seg_postings::{FieldTerms, InvertedIndexReader, PostingsError};
+use seg_postings::{FieldTerms, InvertedIndexReader};
 use seg_testing::entry;
-use seg_values::{FieldKind, IndexOption};
+use seg_values::{FieldKind, IndexOption, PostingsError};
 use std::alloc::Global;
 
 /// The three parts of a field.

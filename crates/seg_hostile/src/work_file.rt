@@ -6,7 +6,7 @@ use seg_common::{FileName, MemorySink, MemorySource, SegmentComponent, SegmentId
 use seg_directory::{Directory, MemoryDirectory};
 use seg_testing::OddDirectory;
 use seg_tool::run;
-use seg_values::{DefaultTokenizer, RawTokenizer, TokenizerManager};
+use seg_words::{DefaultTokenizer, RawTokenizer, TokenizerManager};
 use std::alloc::Global;
 
 /// The id of the work segment, as scripts give it.
@@ -66,7 +66,7 @@ fn alive_name(extension: &str) -> Option<FileName> {
     Some(FileName::Alive(SegmentId::from_u128(1), stamp))
 }
 
-/// The number of the status of `build`, which writes nothing to the output directory where it isn't done.
+/// The number of the status of `build`, which leaves an index without segments in the output directory where it isn't done.
 fn run_over(
     alloc: Global,
     script: &[u8],
@@ -92,7 +92,7 @@ fn run_over(
     );
     let number = status.number();
     ensure!(
-        (number == 0) == (output.list(alloc)? > 0),
+        (number == 0) == (output.list(alloc)? > 1),
         "status {number}, and another output"
     );
     Ok(number)

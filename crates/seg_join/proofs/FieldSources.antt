@@ -1,5 +1,5 @@
 -- The terms of a field in segments of full shape, under the new ids of their documents.
-use Rattle.std.proofs.Common.{◌≡◌, ℕ, suc, ◌+◌, ◌-◌, ◌^◌, ◌<◌, ◌≤◌, Bool, true, false, cond, List, [], ◌∷◌, ◌++◌, map, length, Some, None, Option, sym, refl, ap, ◌∙◌, subst, arith, append_assoc}
+use Rattle.std.proofs.Common.{◌≡◌, ℕ, suc, ◌+◌, ◌-◌, ◌^◌, ◌<◌, ◌≤◌, Bool, true, false, cond, T, List, [], ◌∷◌, ◌++◌, map, length, Some, None, Option, sym, refl, ap, ◌∙◌, subst, arith, append_assoc}
 use Rattle.std.specs.Prelude.{option_map, option_to_list, unwrap_or}
 use Rattle.std.specs.FinMap.{empty, find, get, get-from_sorted, is_sorted}
 use Rattle.std.specs.List.{AllByRecursion, flat_map}
@@ -16,8 +16,9 @@ use Rattle.seg_model.specs.Join.{all_recorded, term_column, live_of, joined_post
 use Rattle.seg_model.specs.Operations.{kept}
 use Rattle.seg_model.specs.Reading.{Recorded, Posting, postings_from, term_option}
 use Rattle.seg_model.specs.Shape.{IsRecordOf, ArePostings}
+use Rattle.seg_common.proofs.Lists.{all_both}
 use Rattle.seg_model.proofs.Grouped.{length-all_recorded}
-use Rattle.seg_model.proofs.ShapedTerms.{AreRecordsOf, each-append, each-kept, ArePostings-from, AreRecordsOf-all_recorded}
+use Rattle.seg_model.proofs.ShapedTerms.{AreRecordsOf, each-kept, ArePostings-from, AreRecordsOf-all_recorded}
 use Rattle.seg_open.specs.OpenSegment.{terms_in}
 use Rattle.seg_postings.specs.declared.record_kind.RecordKind.{RecordKind}
 use Rattle.seg_postings.specs.FieldReading.{ReadTerm, OpenField, written_terms}
@@ -26,18 +27,16 @@ use Rattle.seg_postings.specs.HeldTerms.{terms_held}
 use Rattle.seg_postings.specs.Kinds.{kind_of}
 use Rattle.seg_postings.specs.PostingsReading.{kind_kept, count_of}
 use Rattle.seg_join.specs.JoinedTerms.{IsOfField, terms_read, source_of}
-use Rattle.seg_join.specs.KeptSegment.{KeptSegment, kept_count, part_of}
+use Rattle.seg_open.specs.KeptSegment.{KeptSegment, kept_count, part_of}
 use Rattle.seg_join.specs.MovedPostings.{SourceTerms, Ascend, moved_from, moved_from_all, postings_with, term_at}
 use Rattle.seg_join.specs.NewIds.{new_ids, numbered_from}
 use Rattle.seg_join.specs.SourcesJoined.{IsJoinable, AreJoinable}
-use Rattle.seg_join.specs.WritingTerms.{AscendBy, AreOfTerm, term_with}
+use Rattle.seg_segment.specs.WritingTerms.{AscendBy, AreOfTerm, term_with}
 use Rattle.seg_join.proofs.MovedIds.{moved_is_kept, postings_append, kept_counted}
-use Rattle.seg_join.proofs.SortedEntries.{find_there, true_is}
+use Rattle.seg_join.proofs.SortedEntries.{find_there}
+use Rattle.seg_join.proofs.SourcePostings.{pair_of}
 
 -- ---- the terms of an open field
-
-abbrev pair_of : ReadTerm → List ℕ × List Posting
-pair_of t = (t.bytes, t.postings)
 
 pairs_written : (ts : List ReadTerm) → map (λ (t : TermWritten). (t.bytes, t.postings)) (map (λ (t : ReadTerm). record { bytes = t.bytes; kind = t.kind; postings = t.postings }) ts) ≡ map pair_of ts
 pairs_written [] = refl
@@ -55,7 +54,7 @@ module _ (f : OpenField) (up : Ascend f.terms) where
   held_is : (key : List ℕ) → get (terms_held (written_terms f)) key ≡ find (slice_cmp nat_cmp) key (map pair_of f.terms)
   held_is key =
       let pairs = pairs_written f.terms in
-      get-from_sorted (slice_cmp nat_cmp) (map (λ (t : TermWritten). (t.bytes, t.postings)) (written_terms f)) key (true_is _ (ap (is_sorted (slice_cmp nat_cmp)) pairs ∙ up))
+      get-from_sorted (slice_cmp nat_cmp) (map (λ (t : TermWritten). (t.bytes, t.postings)) (written_terms f)) key (subst T (sym (ap (is_sorted (slice_cmp nat_cmp)) pairs ∙ up)) tt)
       ∙ ap (find (slice_cmp nat_cmp) key) pairs
 
   all_held : (passed rest : List ReadTerm) → f.terms ≡ passed ++ rest → AllByRecursion (λ (t : ReadTerm). get (terms_held (written_terms f)) t.bytes ≡ Some t.postings) rest
@@ -171,7 +170,7 @@ module _ (entry : FieldEntry) (field : ℕ) where
 
     all_records : (first : ℕ) (ps : List KeptSegment) → AllByRecursion (IsOfField entry field) ps → AreUp first ps → AreRecordsOf (term_option entry key) (columns key ps)
     all_records first [] all up = tt
-    all_records first (p ∷ ps) all up = each-append _ (kept p.alive (term_column field key (part_of p))) (columns key ps) (each-kept _ p.alive (term_column field key (part_of p)) (records first p all.0 up.0 key)) (all_records (first + member_count p.alive) ps all.1 up.1)
+    all_records first (p ∷ ps) all up = all_both _ (kept p.alive (term_column field key (part_of p))) (columns key ps) (each-kept _ p.alive (term_column field key (part_of p)) (records first p all.0 up.0 key)) (all_records (first + member_count p.alive) ps all.1 up.1)
 
     all_counted : (first : ℕ) (ps : List KeptSegment) → AllByRecursion (IsOfField entry field) ps → AreUp first ps → length (columns key ps) ≡ kept_count ps
     all_counted first [] all up = refl
@@ -202,4 +201,4 @@ module _ (entry : FieldEntry) (field : ℕ) where
 
     pub kinds_are : {X : Type 0} (ts : List (List ℕ × X)) → AllByRecursion (λ (t : TermWritten). t.kind ≡ kind_of (term_option entry t.bytes)) (flat_map (λ (t : List ℕ × X). option_to_list (term_with t.0 (moved_from_all t.0 (sources_from 0 ps)))) ts)
     kinds_are [] = tt
-    kinds_are (t ∷ ts) = each-append _ (option_to_list (term_with t.0 (moved_from_all t.0 (sources_from 0 ps)))) _ (kind_at t.0 _ (ascending t.0)) (kinds_are ts)
+    kinds_are (t ∷ ts) = all_both _ (option_to_list (term_with t.0 (moved_from_all t.0 (sources_from 0 ps)))) _ (kind_at t.0 _ (ascending t.0)) (kinds_are ts)

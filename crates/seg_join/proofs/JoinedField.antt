@@ -3,12 +3,11 @@ use Rattle.std.proofs.Common.{◌≡◌, ℕ, ◌^◌, ◌<◌, true, List, map,
 use Rattle.std.specs.Prelude.{IfSome, IsSomeAnd}
 use Rattle.std.specs.FinMap.{entries, empty}
 use Rattle.std.specs.List.{AllByRecursion, slice_get}
-use Rattle.std.proofs.lemmas.Option.{same_Some}
 use Rattle.seg_common.specs.Growing.{HasGrown}
 use Rattle.seg_values.specs.declared.schema.FieldEntry.{FieldEntry}
 use Rattle.seg_model.specs.Fields.{Schema, fields, is_indexed}
 use Rattle.seg_model.specs.Join.{joined_terms}
-use Rattle.seg_model.specs.MergedTerms.{merged_terms}
+use Rattle.seg_termdict.specs.MergedTerms.{merged_terms}
 use Rattle.seg_model.specs.Reading.{term_option}
 use Rattle.seg_model.proofs.Fields.{at_place}
 use Rattle.seg_postings.specs.FieldWriting.{TermWritten, FieldWriting, fresh}
@@ -16,12 +15,13 @@ use Rattle.seg_postings.specs.Files.{FieldFiles}
 use Rattle.seg_postings.specs.Kinds.{kind_of}
 use Rattle.seg_segment.specs.FieldsWritten.{IsWhole, HaveFields}
 use Rattle.seg_segment.specs.HoldTerms.{HoldTerms}
-use Rattle.seg_segment.proofs.FieldsInTurn.{AreParts, hold_terms}
+use Rattle.seg_segment.specs.WritingTerms.{with_terms}
+use Rattle.seg_segment.proofs.FieldsInTurn.{AreParts, hold_terms, is_whole}
 use Rattle.seg_join.specs.JoinedTerms.{AreJoined, IsOfField, source_of}
-use Rattle.seg_join.specs.KeptSegment.{KeptSegment, kept_count, part_of}
+use Rattle.seg_open.specs.KeptSegment.{KeptSegment, kept_count, part_of}
 use Rattle.seg_join.specs.MovedPostings.{SourceTerms, Ascend, moved_from_all, ranked_of}
 use Rattle.seg_join.specs.NewIds.{NumberedSegment, numbered_from, parts_of}
-use Rattle.seg_join.specs.SourcesJoined.{AreJoinable, terms_joined, with_terms_of}
+use Rattle.seg_join.specs.SourcesJoined.{AreJoinable, terms_joined}
 use Rattle.seg_join.proofs.FieldSources.{sources_from, are_joinable, moved_are_joined, kinds_are}
 use Rattle.seg_join.proofs.JoinedTables.{are_joined_terms}
 
@@ -46,12 +46,8 @@ module _ (field : ℕ) (ns : List NumberedSegment) (numbered : ns ≡ numbered_f
     terms_are = are_joined_terms sources joinable.each parts field entry (λ key. ap (moved_from_all key) same ∙ moved_are_joined entry field parts all few all_up key)
 
   -- a field is whole with its joined terms
-  pub whole : (total : ℕ → ℕ) (begun after : Option FieldWriting) → begun ≡ Some (fresh field (total field)) → HasGrown begun after (with_terms_of sources) → IsWhole total (AreJoined ns) field after
-  whole total begun after begins grown = record {
-    written = terms_joined sources;
-    are = record { kinds = kinds; are = terms_are };
-    is = grown.is ∙ ap (λ w. Some (with_terms_of sources w)) (same_Some grown.kept (fresh field (total field)) (sym grown.was ∙ begins));
-  }
+  pub whole : (total : ℕ → ℕ) (begun after : Option FieldWriting) → begun ≡ Some (fresh field (total field)) → HasGrown begun after (with_terms (terms_joined sources)) → IsWhole total (AreJoined ns) field after
+  whole total begun after begins grown = is_whole total (AreJoined ns) field (terms_joined sources) begun after (record { kinds = kinds; are = terms_are }) begins grown
 
 -- ---- what the files hold
 

@@ -9,19 +9,19 @@ use Rattle.std.proofs.lemmas.List.{map-append}
 use Rattle.seg_common.specs.declared.term_info.TermInfo.{TermInfo}
 use Rattle.seg_values.specs.declared.schema.FieldEntry.{FieldEntry}
 use Rattle.seg_model.specs.Join.{joined_postings, joined_terms}
-use Rattle.seg_model.specs.MergedTerms.{Standing, standings_from, if_stands, merged_terms}
+use Rattle.seg_termdict.specs.MergedTerms.{Standing, standings_from, if_stands, merged_terms}
 use Rattle.seg_model.specs.Reading.{Posting, if_any}
-use Rattle.seg_model.specs.SortedTerms.{key_cmp}
-use Rattle.seg_model.specs.Tables.{entry_of, tabulated}
-use Rattle.seg_model.proofs.MergedTerms.{merged_terms_answer}
-use Rattle.seg_model.proofs.Tables.{IsComplete, same_table}
-use Rattle.seg_model.proofs.Terms.{texts_apart, complete_joined}
+use Rattle.seg_termdict.specs.SortedTerms.{key_cmp}
+use Rattle.seg_common.specs.Tables.{entry_of, tabulated}
+use Rattle.seg_termdict.proofs.MergedTerms.{merged_terms_answer}
+use Rattle.seg_common.proofs.Tables.{texts_apart, IsComplete, same_table}
+use Rattle.seg_model.proofs.Terms.{complete_joined}
 use Rattle.seg_postings.specs.FieldWriting.{TermWritten}
 use Rattle.seg_termdict.specs.Merging.{MergedTerm, info_of}
-use Rattle.seg_join.specs.KeptSegment.{KeptSegment, part_of}
+use Rattle.seg_open.specs.KeptSegment.{KeptSegment, part_of}
 use Rattle.seg_join.specs.MovedPostings.{SourceTerms, moved_from_all, ranked_of}
 use Rattle.seg_join.specs.SourcesJoined.{IsJoinable, joined_at, terms_joined}
-use Rattle.seg_join.specs.WritingTerms.{term_with}
+use Rattle.seg_segment.specs.WritingTerms.{term_with}
 use Rattle.seg_join.proofs.SortedEntries.{entries_from, some_sorted, sorted_entries}
 use Rattle.seg_join.proofs.Standings.{all_given_at, given_at}
 

@@ -7,7 +7,7 @@ use Rattle.seg_model.specs.Operations.{kept}
 use Rattle.seg_bits.specs.BitSets.{member_count}
 use Rattle.seg_store.specs.Store.{documents_of}
 use Rattle.seg_join.specs.JoinedStore.{joined_documents}
-use Rattle.seg_join.specs.KeptSegment.{IsMarked, KeptSegment, kept_count}
+use Rattle.seg_open.specs.KeptSegment.{IsMarked, KeptSegment, kept_count}
 
 pub counted_first : (b : Bool) (bs : List Bool) → member_count (b ∷ bs) ≡ cond b 1 0 + member_count bs
 counted_first b bs = sum_by-cons (λ (c : Bool). cond c 1 0) b bs

@@ -1,5 +1,5 @@
 -- The marked members of a list, one place after another.
-use Rattle.std.proofs.Common.{◌≡◌, ℕ, zero, suc, ◌+◌, ◌<◌, ◌≤◌, Bool, true, false, List, [], ◌∷◌, ◌++◌, map, length, take, drop, cond, get_or, refl, sym, ap, ◌∙◌, arith, drop-drop}
+use Rattle.std.proofs.Common.{◌≡◌, ℕ, zero, suc, ◌+◌, ◌<◌, ◌≤◌, Bool, true, false, List, [], ◌∷◌, ◌++◌, length, take, drop, cond, get_or, refl, sym, ap, ◌∙◌, arith, drop-drop}
 use Rattle.std.specs.Prelude.{Some}
 use Rattle.std.specs.List.{slice_get}
 use Rattle.std.proofs.lemmas.List.{drop_all}
@@ -29,15 +29,6 @@ kept_next marks xs i =
     ∙ ap (λ ms. kept (take 1 (drop i marks)) (take 1 (drop i xs)) ++ kept ms (drop 1 (drop i xs))) (drop-drop 1 i marks)
     ∙ ap (λ ys. kept (take 1 (drop i marks)) (take 1 (drop i xs)) ++ kept (drop (i + 1) marks) ys) (drop-drop 1 i xs)
 
--- at a place that isn't marked nothing is kept
-pub kept_unmarked : {X : Type 0} (marks : List Bool) (xs : List X) (i : ℕ) → get_or marks i false ≡ false → kept (take 1 (drop i marks)) (take 1 (drop i xs)) ≡ []
-kept_unmarked [] xs zero dead = refl
-kept_unmarked [] xs (suc i) dead = refl
-kept_unmarked (b ∷ bs) [] zero dead = refl
-kept_unmarked (b ∷ bs) (x ∷ xs) zero dead = ap (λ c. cond c (x ∷ []) []) dead
-kept_unmarked (b ∷ bs) [] (suc i) dead = kept_of_none (take 1 (drop i bs)) [] refl
-kept_unmarked (b ∷ bs) (x ∷ xs) (suc i) dead = kept_unmarked bs xs i dead
-
 -- at a place that is marked its member
 pub kept_marked : {X : Type 0} (marks : List Bool) (xs : List X) (i : ℕ) (x : X) → get_or marks i false ≡ true → slice_get xs i ≡ Some x → kept (take 1 (drop i marks)) (take 1 (drop i xs)) ≡ x ∷ []
 kept_marked [] xs zero x alive is = absurd (false≢true alive)
@@ -46,13 +37,6 @@ kept_marked (b ∷ bs) [] zero x alive is = absurd (none-some x is)
 kept_marked (b ∷ bs) (y ∷ ys) zero x alive is = ap (λ c. cond c (y ∷ []) []) alive ∙ ap (λ z. z ∷ []) (same_Some y x is)
 kept_marked (b ∷ bs) [] (suc i) x alive is = absurd (none-some x is)
 kept_marked (b ∷ bs) (y ∷ ys) (suc i) x alive is = kept_marked bs ys i x alive is
-
--- what is made of each member is made of those that are kept
-pub kept_map : {X Y : Type 0} (f : X → Y) (marks : List Bool) (xs : List X) → kept marks (map f xs) ≡ map f (kept marks xs)
-kept_map f [] xs = refl
-kept_map f (b ∷ bs) [] = refl
-kept_map f (true ∷ bs) (x ∷ xs) = ap (λ ys. f x ∷ ys) (kept_map f bs xs)
-kept_map f (false ∷ bs) (x ∷ xs) = kept_map f bs xs
 
 -- and then it is one
 pub marked_counted : {X : Type 0} (marks : List Bool) (xs : List X) (i : ℕ) → i < length xs → get_or marks i false ≡ true → length (kept (take 1 (drop i marks)) (take 1 (drop i xs))) ≡ 1

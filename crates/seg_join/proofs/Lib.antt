@@ -1,5 +1,5 @@
+pub mod CurrentPosting
 pub mod FieldSources
-pub mod GivenPostings
 pub mod JoinedField
 pub mod JoinedTables
 pub mod KeptCounts
@@ -14,4 +14,3 @@ pub mod SourcePostings
 pub mod Standings
 pub mod StoredRead
 pub mod StoresJoined
-pub mod WrittenPostings

@@ -5,22 +5,23 @@ use Rattle.std.specs.FinMap.{entries, find, get, get-entries, is_sorted}
 use Rattle.std.specs.FinMap.Entries.{below_all}
 use Rattle.std.specs.List.{AllByRecursion, flat_map}
 use Rattle.std.specs.declared.cmp.Ordering.TheVariants.{Less}
-use Rattle.std.proofs.lemmas.Bool.{false≢true, lt-ltb}
+use Rattle.std.proofs.lemmas.Bool.{false≢true, lt-ltb, and_parts}
 use Rattle.std.proofs.lemmas.List.Elements.{All-from_recursion}
 use Rattle.std.proofs.lemmas.Option.{none-some, same_Some}
 use Rattle.seg_common.specs.Growing.{HasGrown}
 use Rattle.seg_common.specs.declared.term_info.TermInfo.{TermInfo}
-use Rattle.seg_model.specs.MergedTerms.{Standing, standings_from, if_stands, merged_terms}
+use Rattle.seg_termdict.specs.MergedTerms.{Standing, standings_from, if_stands, merged_terms}
 use Rattle.seg_model.specs.Reading.{Posting}
-use Rattle.seg_model.specs.SortedTerms.{key_cmp}
-use Rattle.seg_model.proofs.MergedTerms.{merged_terms_answer}
+use Rattle.seg_termdict.specs.SortedTerms.{key_cmp}
+use Rattle.seg_termdict.proofs.MergedTerms.{merged_terms_answer}
 use Rattle.seg_termdict.specs.Merging.{MergedTerm, ToldTerm, Merging, told, info_of, at_first, stepped, terms_of_stream}
 use Rattle.seg_termdict.specs.Streaming.{Stream, all_terms}
 use Rattle.seg_postings.specs.FieldWriting.{TermWritten, FieldWriting, with_open, last_written, MayOpen}
+use Rattle.seg_segment.specs.WritingTerms.{IsUnwritten, term_with, with_terms, with_whole_term}
+use Rattle.seg_segment.proofs.GivenPostings.{no_terms}
 use Rattle.seg_join.specs.MovedPostings.{SourceTerms, terms_of, ranked_of, moved_from_all}
-use Rattle.seg_join.specs.SourcesJoined.{joined_at, with_terms_of}
-use Rattle.seg_join.specs.WritingTerms.{term_with, with_joined}
-use Rattle.seg_join.proofs.SortedEntries.{both_true, find_there, first_below, sorted_entries}
+use Rattle.seg_join.specs.SourcesJoined.{joined_at, terms_joined}
+use Rattle.seg_join.proofs.SortedEntries.{find_there, first_below, sorted_entries}
 
 -- ---- the streams
 
@@ -70,7 +71,7 @@ module _ (sources : List SourceTerms) where
       → IfSome before (λ w. key_cmp w.bytes t.0 ≡ Less) → IfSome (last_written before (joined passed)) (λ w. key_cmp w.bytes t.0 ≡ Less)
   last_below [] t left before up h = h
   last_below (e ∷ passed) t left before up h =
-      by (moved_from_all e.0 sources) (first_below e passed t left up) (λ (o : Option TermWritten). last_below passed t left o (both_true (below_all key_cmp e.0 (passed ++ t ∷ left)) (is_sorted key_cmp (passed ++ t ∷ left)) up).1)
+      by (moved_from_all e.0 sources) (first_below e passed t left up) (λ (o : Option TermWritten). last_below passed t left o (and_parts (below_all key_cmp e.0 (passed ++ t ∷ left)) (is_sorted key_cmp (passed ++ t ∷ left)) up).1)
     where
       by : (ps : List Posting) → key_cmp e.0 t.0 ≡ Less → ((o : Option TermWritten) → IfSome o (λ w. key_cmp w.bytes t.0 ≡ Less) → IfSome (last_written o (joined passed)) (λ w. key_cmp w.bytes t.0 ≡ Less))
           → IfSome (last_written before (option_to_list (term_with e.0 ps) ++ joined passed)) (λ w. key_cmp w.bytes t.0 ≡ Less)
@@ -84,22 +85,14 @@ module _ (sources : List SourceTerms) where
     pub current : Option ToldTerm
     pub split : all ≡ passed ++ left
     pub is : merger ≡ Some (record { left = left; current = current })
-    pub grown : HasGrown before now (λ w. record w { terms = joined passed; current = None })
+    pub grown : HasGrown before now (with_terms (joined passed))
 
   -- how many are left
   abbrev pub left_of : Option Merging → ℕ
   left_of merger = length (unwrap_or (option_map (λ (m : Merging). m.left) merger) [])
 
-  pub none_merged : (merger : Option Merging) (o : Option FieldWriting) → merger ≡ Some (record { left = entries (merged_terms (map ranked_of sources)); current = None }) → IsSomeAnd o (λ w. (w.terms ≡ []) × (w.current ≡ None)) → HasMerged merger o o
-  none_merged merger None is h = absurd h
-  none_merged merger (Some w) is h = record {
-    passed = [];
-    left = all;
-    current = None;
-    split = refl;
-    is = is;
-    grown = record { kept = w; was = refl; is = λ i. Some (record w { terms = h.0 i; current = h.1 i }) };
-  }
+  pub none_merged : (merger : Option Merging) (o : Option FieldWriting) → merger ≡ Some (record { left = entries (merged_terms (map ranked_of sources)); current = None }) → IsSomeAnd o IsUnwritten → HasMerged merger o o
+  none_merged merger o is h = record { passed = []; left = all; current = None; split = refl; is = is; grown = no_terms o h }
 
   module _ (merger next : Option Merging) (before now : Option FieldWriting) (so_far : HasMerged merger before now) (step : HasGrown merger next stepped) (more : Bool) (told_more : IfSome merger (λ m. more ≡ nat_lt 0 (length m.left))) where
     more_is : more ≡ nat_lt 0 (length so_far.left)
@@ -109,10 +102,10 @@ module _ (sources : List SourceTerms) where
     next_is = step.is ∙ ap (λ m. Some (stepped m)) (same_Some step.kept _ (sym step.was ∙ so_far.is))
 
     -- at the end
-    pub all_merged : more ≡ false → HasGrown before now (with_terms_of sources)
+    pub all_merged : more ≡ false → HasGrown before now (with_terms (terms_joined sources))
     all_merged over = by so_far.left refl
       where
-        by : (left : List MergedTerm) → so_far.left ≡ left → HasGrown before now (with_terms_of sources)
+        by : (left : List MergedTerm) → so_far.left ≡ left → HasGrown before now (with_terms (terms_joined sources))
         by [] none =
             let whole : so_far.passed ≡ all = sym (append-nil so_far.passed) ∙ ap (λ l. so_far.passed ++ l) (sym none) ∙ sym so_far.split in
             record { kept = so_far.grown.kept; was = so_far.grown.was; is = so_far.grown.is ∙ ap (λ ts. Some (record so_far.grown.kept { terms = joined ts; current = None })) whole }
@@ -167,7 +160,7 @@ module _ (sources : List SourceTerms) where
             } in
             subst (λ o. IsSomeAnd o (λ w. MayOpen w key)) (sym so_far.grown.is) opens
 
-        pub one_merged : (after : Option FieldWriting) → HasGrown now after (with_joined key (moved_from_all key sources)) → HasMerged next before after
+        pub one_merged : (after : Option FieldWriting) → HasGrown now after (with_whole_term key (moved_from_all key sources)) → HasMerged next before after
         one_merged after g =
             let kept = so_far.grown.kept in
             let terms : with_open (joined so_far.passed) (term_with key (moved_from_all key sources)) ≡ joined (so_far.passed ++ term ∷ []) =
@@ -184,7 +177,7 @@ module _ (sources : List SourceTerms) where
                 kept = kept;
                 was = so_far.grown.was;
                 is = g.is
-                    ∙ ap (λ w. Some (with_joined key (moved_from_all key sources) w)) (same_Some g.kept _ (sym g.was ∙ so_far.grown.is))
+                    ∙ ap (λ w. Some (with_whole_term key (moved_from_all key sources) w)) (same_Some g.kept _ (sym g.was ∙ so_far.grown.is))
                     ∙ ap (λ ts. Some (record kept { terms = ts; current = None })) terms;
               };
             }

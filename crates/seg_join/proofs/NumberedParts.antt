@@ -14,7 +14,7 @@ use Rattle.seg_open.specs.OpenSegment.{contents_of, terms_in}
 use Rattle.seg_postings.specs.FieldReading.{OpenField, written_terms}
 use Rattle.seg_postings.specs.HeldTerms.{terms_held}
 use Rattle.seg_join.specs.JoinedTerms.{FieldsAreOpen, IsOpenAt, IsOfField, source_of}
-use Rattle.seg_join.specs.KeptSegment.{KeptSegment, IsMarked, IsOfSchema, kept_count}
+use Rattle.seg_open.specs.KeptSegment.{KeptSegment, IsMarked, IsOfSchema, kept_count}
 use Rattle.seg_join.specs.MovedPostings.{SourceTerms}
 use Rattle.seg_join.specs.NewIds.{new_ids, NumberedSegment, numbered_from, parts_of}
 use Rattle.seg_join.proofs.KeptCounts.{counted_first}
@@ -58,9 +58,6 @@ module _ (parts : List KeptSegment) (i : ℕ) (lt : i < length parts) (p : KeptS
 
   parts_counted : kept_count (drop i parts) ≡ member_count p.alive + kept_count (drop (i + 1) parts)
   parts_counted = ap kept_count part_split
-
-  pub part_fits : (first limit : ℕ) → first + kept_count (drop i parts) < limit → first + member_count p.alive < limit
-  part_fits first limit room = let c = parts_counted in omega (arith, c, room)
 
   pub parts_fit : (first limit after : ℕ) → first + kept_count (drop i parts) < limit → after ≡ first + member_count p.alive → after + kept_count (drop (i + 1) parts) < limit
   parts_fit first limit after room e = let c = parts_counted in omega (arith, c, room, e)

@@ -1,5 +1,5 @@
 -- Segments of a built schema, joined.
-use Rattle.std.proofs.Common.{◌≡◌, ℕ, ◌+◌, Bool, true, false, List, [], ◌∷◌, ◌++◌, length, map, cond, refl, sym, ap, ◌∙◌, subst, arith, length-append}
+use Rattle.std.proofs.Common.{◌≡◌, ℕ, true, List, [], ◌∷◌, ◌++◌, length, map, refl, sym, ap, ◌∙◌, subst, arith, length-append}
 use Rattle.std.specs.Prelude.{Some, option_map}
 use Rattle.std.specs.FinMap.{FinMap, empty, keys, entries, from_sorted, empty_of_len, len-entries, entries-from_sorted}
 use Rattle.std.specs.List.{flat_map, AllByRecursion}
@@ -12,10 +12,9 @@ use Rattle.seg_model.specs.Operations.{kept}
 use Rattle.seg_model.specs.Reading.{Terms}
 use Rattle.seg_model.specs.Shape.{HasFullShape}
 use Rattle.seg_directory.specs.Composite.{composite}
-use Rattle.seg_bits.specs.BitSets.{member_count}
 use Rattle.seg_columnar.specs.Columnar.{rows_of}
 use Rattle.seg_store.specs.Store.{documents_of, store_of}
-use Rattle.seg_postings.specs.FieldNorms.{norms_parts}
+use Rattle.seg_norms.specs.FieldNorms.{norms_parts}
 use Rattle.seg_postings.specs.declared.inverted_index_serializer.PostingsFiles.{PostingsFiles}
 use Rattle.seg_segment.specs.Built.{is_built_schema}
 use Rattle.seg_segment.specs.HoldTerms.{HoldTerms}
@@ -24,9 +23,9 @@ use Rattle.seg_segment.specs.Spelling.{Spell}
 use Rattle.seg_segment.specs.declared.segment_files.SegmentFiles.{SegmentFiles}
 use Rattle.seg_open.proofs.BuiltTexts.{none_declared}
 use Rattle.seg_join.specs.JoinedStore.{joined_documents}
-use Rattle.seg_join.specs.KeptSegment.{IsMarked, IsOfSchema, KeptSegment, kept_count, part_of}
+use Rattle.seg_open.specs.KeptSegment.{IsMarked, IsOfSchema, KeptSegment, kept_count, part_of}
 use Rattle.seg_join.specs.Laws.{BuiltPartsJoin}
-use Rattle.seg_join.proofs.KeptCounts.{counted_first}
+use Rattle.seg_join.proofs.MovedIds.{kept_counted}
 
 -- ---- what they join to
 
@@ -54,10 +53,6 @@ pub built_join : BuiltPartsJoin
 built_join schema parts built = ap (option_map (joined_with schema (map part_of parts))) (no_columns schema parts built)
 
 module _ (schema : Schema) where
-  pub are_of_schema : (parts : List KeptSegment) → AllByRecursion (IsOfSchema schema) parts → AllByRecursion (λ p. p.segment.schema ≡ schema) parts
-  are_of_schema [] are = tt
-  are_of_schema (p ∷ ps) are = (are.0.0, are_of_schema ps are.1)
-
   have_full_shape : (parts : List KeptSegment) → AllByRecursion (IsOfSchema schema) parts → AreOfFullShape schema (map part_of parts)
   have_full_shape [] are = tt
   have_full_shape (p ∷ ps) are = (are.0.1, have_full_shape ps are.1)
@@ -66,15 +61,6 @@ module _ (schema : Schema) where
   joined_shape law parts built are = law schema (map part_of parts) (joined_with schema (map part_of parts) empty) (have_full_shape parts are) (built_join schema parts built)
 
 -- ---- how many documents they have
-
-kept_counted : {X : Type 0} (marks : List Bool) (xs : List X) → length marks ≡ length xs → length (kept marks xs) ≡ member_count marks
-kept_counted [] xs same = refl
-kept_counted (b ∷ bs) [] same = absurd (let no : ⊥ = omega (arith, same) in no)
-kept_counted (b ∷ bs) (x ∷ xs) same = by b (kept_counted bs xs (omega (arith, same))) ∙ sym (counted_first b bs)
-  where
-    by : (c : Bool) → length (kept bs xs) ≡ member_count bs → length (cond c (x ∷ kept bs xs) (kept bs xs)) ≡ cond c 1 0 + member_count bs
-    by true rest = omega (arith, rest)
-    by false rest = omega (arith, rest)
 
 -- of a segment that stores each document as many are stored as are kept
 pub all_stored : (schema : Schema) (parts : List KeptSegment) → AllByRecursion (IsOfSchema schema) parts → AllByRecursion IsMarked parts → length (joined_documents parts) ≡ kept_count parts

@@ -15,6 +15,12 @@ use Rattle.seg_join.specs.MovedPostings.{SourceTerms, under, under_id, moved, te
 
 -- ---- the term with a key
 
+abbrev pub pair_of : ReadTerm → List ℕ × List Posting
+pair_of t = (t.bytes, t.postings)
+
+abbrev pub term_of : ReadTerm → Term
+term_of t = (t.bytes, t.info)
+
 abbrev is_at : List ℕ → ReadTerm → Bool
 is_at key t = eq_by_cmp (slice_cmp nat_cmp) key t.bytes
 
@@ -38,9 +44,6 @@ found key info ts h = by (term_at key ts) refl h
     by : (o : Option ReadTerm) → term_at key ts ≡ o → IsSomeAnd o (λ t. t.info ≡ info) → Found key info ts
     by None e k = absurd k
     by (Some t) e k = record { term = t; is = e; has = k }
-
-abbrev term_of : ReadTerm → Term
-term_of t = (t.bytes, t.info)
 
 any_at : (key : List ℕ) (info : TermInfo) (ts : List ReadTerm) (f : ReadTerm) → term_at key ts ≡ Some f → f.info ≡ info → Any (λ t. t.1 ≡ info) (map term_of ts)
 any_at key info [] f is has = absurd (none-some f is)

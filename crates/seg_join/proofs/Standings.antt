@@ -9,27 +9,21 @@ use Rattle.std.specs.Cmp.Lexicographic.{slice_cmp}
 use Rattle.std.specs.Str.{bytes_eq}
 use Rattle.std.specs.declared.cmp.Ordering.{Ordering}
 use Rattle.std.specs.declared.cmp.Ordering.TheVariants.{Less, Equal, Greater}
-use Rattle.std.proofs.lemmas.Bool.{false≢true}
+use Rattle.std.proofs.lemmas.Bool.{false≢true, and_parts}
 use Rattle.std.proofs.lemmas.List.{get_or_at, get_or_read, drop_more, length_push}
 use Rattle.std.proofs.lemmas.Map.Text.{is_eq-slice_cmp}
 use Rattle.std.proofs.lemmas.Slice.Eq.{bytes_eq-Decides}
 use Rattle.seg_common.specs.declared.term_info.TermInfo.{TermInfo}
-use Rattle.seg_model.specs.MergedTerms.{Standing, standing_in, standings_from}
+use Rattle.seg_termdict.specs.MergedTerms.{Standing, standing_in, standings_from}
 use Rattle.seg_model.specs.Reading.{Posting}
-use Rattle.seg_model.specs.SortedTerms.{RankedTerm}
+use Rattle.seg_termdict.specs.SortedTerms.{RankedTerm}
 use Rattle.seg_termdict.specs.Dictionary.{Term}
 use Rattle.seg_termdict.specs.Merging.{info_of}
 use Rattle.seg_termdict.specs.Streaming.{no_term}
 use Rattle.seg_postings.specs.FieldReading.{ReadTerm}
 use Rattle.seg_join.specs.MovedPostings.{SourceTerms, term_at, moved, moved_from, moved_from_all, ranked_of}
 use Rattle.seg_join.specs.SourcesJoined.{IsJoinable}
-use Rattle.seg_join.proofs.SortedEntries.{both_true}
-
-abbrev pair_of : ReadTerm → List ℕ × List Posting
-pair_of t = (t.bytes, t.postings)
-
-abbrev term_of : ReadTerm → Term
-term_of t = (t.bytes, t.info)
+use Rattle.seg_join.proofs.SourcePostings.{pair_of, term_of}
 
 -- terms with their ordinals, the first of which is n
 abbrev ranked_at : ℕ → List ReadTerm → List (RankedTerm TermInfo)
@@ -45,7 +39,7 @@ module _ (key : List ℕ) (segment : ℕ) where
   none_behind : (n : ℕ) (ts : List ReadTerm) → below_all (slice_cmp nat_cmp) key (map pair_of ts) ≡ true → standing_in segment key (ranked_at n ts) ≡ []
   none_behind n [] h = refl
   none_behind n (t ∷ ts) h =
-      let parts = both_true (is_lt (slice_cmp nat_cmp key t.bytes)) (below_all (slice_cmp nat_cmp) key (map pair_of ts)) h in
+      let parts = and_parts (is_lt (slice_cmp nat_cmp key t.bytes)) (below_all (slice_cmp nat_cmp) key (map pair_of ts)) h in
       let other : bytes_eq key t.bytes ≡ false = sym (is_eq-slice_cmp key t.bytes) ∙ differs (slice_cmp nat_cmp key t.bytes) parts.0 in
       ap (λ b. map (λ (u : RankedTerm TermInfo). record { segment = segment; ord = u.ord; info = u.info }) (cond b (record { ord = n; key = t.bytes; info = t.info } ∷ filter (λ (u : RankedTerm TermInfo). bytes_eq key u.key) (ranked_at (n + 1) ts)) (filter (λ (u : RankedTerm TermInfo). bytes_eq key u.key) (ranked_at (n + 1) ts)))) other
       ∙ none_behind (n + 1) ts parts.1
@@ -68,7 +62,7 @@ module _ (key : List ℕ) (segment : ℕ) where
   stands : (n : ℕ) (ts : List ReadTerm) → is_sorted (slice_cmp nat_cmp) (map pair_of ts) ≡ true → Stands (standing_in segment key (ranked_at n ts)) ts
   stands n [] up = inl (record { none = refl; lacks = refl })
   stands n (t ∷ ts) up =
-      let parts = both_true (below_all (slice_cmp nat_cmp) t.bytes (map pair_of ts)) (is_sorted (slice_cmp nat_cmp) (map pair_of ts)) up in
+      let parts = and_parts (below_all (slice_cmp nat_cmp) t.bytes (map pair_of ts)) (is_sorted (slice_cmp nat_cmp) (map pair_of ts)) up in
       by (bytes_eq key t.bytes) refl parts.0 (stands (n + 1) ts parts.1)
     where
       split : (b : Bool) → bytes_eq key t.bytes ≡ b → standing_in segment key (ranked_at n (t ∷ ts)) ≡ cond b (record { segment = segment; ord = n; info = t.info } ∷ standing_in segment key (ranked_at (n + 1) ts)) (standing_in segment key (ranked_at (n + 1) ts))

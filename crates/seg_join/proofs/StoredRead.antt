@@ -4,23 +4,13 @@ use Rattle.std.specs.Prelude.{Option, Some, None}
 use Rattle.std.specs.List.{flat_map}
 use Rattle.std.specs.Option.{option_to_list}
 use Rattle.std.proofs.lemmas.List.{length-append, length-map}
-use Rattle.std.proofs.lemmas.List.Concat.{flat_map-append}
 use Rattle.seg_values.specs.Tree.{Document}
 use Rattle.seg_model.specs.Operations.{kept}
 use Rattle.seg_store.specs.Block.{Block}
 use Rattle.seg_store.specs.Store.{document_count, raw_documents, documents_of}
-use Rattle.seg_store.specs.StoredDocument.{stored_document_of}
-use Rattle.seg_join.proofs.KeptLists.{kept_map}
-
--- what reads of documents, where each is as its bytes
-abbrev pub read_all : List (List ℕ) → List Document
-read_all ds = flat_map (λ d. option_to_list (stored_document_of d)) ds
-
-pub documents_are_read : (blocks : List Block) → documents_of blocks ≡ read_all (raw_documents blocks)
-documents_are_read [] = refl
-documents_are_read (b ∷ bs) =
-    ap (λ ds. read_all b ++ ds) (documents_are_read bs)
-    ∙ sym (flat_map-append (λ (d : List ℕ). option_to_list (stored_document_of d)) b (raw_documents bs))
+use Rattle.seg_stored.specs.StoredDocument.{stored_document_of}
+use Rattle.seg_model.proofs.Live.{kept-map}
+use Rattle.seg_store.proofs.MadeDocuments.{documents_are_read, read_all}
 
 pub raw_counted : (blocks : List Block) → document_count blocks ≡ length (raw_documents blocks)
 raw_counted [] = refl
@@ -50,9 +40,9 @@ kept_are_read marks blocks all =
     let raw = raw_documents blocks in
     let same = documents_are_read blocks in
     let each : map stored_document_of raw ≡ map Some (read_all raw) = each_read raw (sym (raw_counted blocks) ∙ all ∙ ap length same) in
-    sym (kept_map stored_document_of marks raw)
+    sym (kept-map stored_document_of marks raw)
     ∙ ap (kept marks) (each ∙ ap (map Some) (sym same))
-    ∙ kept_map Some marks (documents_of blocks)
+    ∙ kept-map Some marks (documents_of blocks)
 
 -- as many bytes as documents
 pub as_many : (bytes : List (List ℕ)) (ds : List Document) → map stored_document_of bytes ≡ map Some ds → length bytes ≡ length ds

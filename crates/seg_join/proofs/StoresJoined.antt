@@ -10,12 +10,13 @@ use Rattle.seg_values.specs.Tree.{Document}
 use Rattle.seg_model.specs.Operations.{kept}
 use Rattle.seg_store.specs.BlockLaw.{all_documents, AreTakenLast}
 use Rattle.seg_store.specs.Store.{documents_of}
-use Rattle.seg_store.specs.StoredDocument.{stored_document_of}
+use Rattle.seg_stored.specs.StoredDocument.{stored_document_of}
 use Rattle.seg_store.specs.Writing.{Taken, with_document, all_blocks, taken_count}
-use Rattle.seg_join.specs.KeptSegment.{KeptSegment}
+use Rattle.seg_open.specs.KeptSegment.{KeptSegment}
 use Rattle.seg_join.specs.JoinedStore.{kept_bytes, joined_bytes, joined_documents, with_documents, taken_documents}
-use Rattle.seg_join.proofs.KeptLists.{kept_next, kept_marked, kept_unmarked, marked_counted}
-use Rattle.seg_join.proofs.StoredRead.{documents_are_read, read_all, read_as}
+use Rattle.seg_store.proofs.MadeDocuments.{documents_are_read, read_all}
+use Rattle.seg_join.proofs.KeptLists.{kept_next, kept_marked, marked_counted}
+use Rattle.seg_join.proofs.StoredRead.{read_as}
 
 -- some documents, and then others
 pub with_more : (ds es : List (List ℕ)) (w : Taken) → with_documents (ds ++ es) w ≡ with_documents es (with_documents ds w)
@@ -58,12 +59,6 @@ one_stored (Ok x) marks raw i d before now alive is grown =
     grown.is
     ∙ sym (ap (option_map (with_documents (kept (take 1 (drop i marks)) (take 1 (drop i raw))))) grown.was
     ∙ ap (λ ds. Some (with_documents ds grown.kept)) (kept_marked marks raw i d alive is))
-
--- one that isn't kept
-pub none_stored : (marks : List Bool) (raw : List (List ℕ)) (i : ℕ) (before : Option Taken) → get_or marks i false ≡ false
-    → before ≡ option_map (with_documents (kept (take 1 (drop i marks)) (take 1 (drop i raw)))) before
-none_stored marks raw i None dead = refl
-none_stored marks raw i (Some w) dead = ap (λ ds. Some (with_documents ds w)) (sym (kept_unmarked marks raw i dead))
 
 -- a document fits where those that are kept from its place on do
 pub one_fits : (marks : List Bool) (raw : List (List ℕ)) (i n : ℕ) (before : Option Taken) → i < length raw → get_or marks i false ≡ true

@@ -6,7 +6,7 @@ use Rattle.seg_model.specs.Operations.{kept}
 use Rattle.seg_model.specs.Join.{live_of}
 use Rattle.seg_store.specs.Store.{raw_documents, documents_of}
 use Rattle.seg_store.specs.Writing.{Taken, with_document, all_blocks}
-use Rattle.seg_join.specs.KeptSegment.{KeptSegment, part_of}
+use Rattle.seg_open.specs.KeptSegment.{KeptSegment, part_of}
 
 -- the kept documents of a segment, each as its stored bytes
 abbrev pub kept_bytes : KeptSegment → List (List ℕ)

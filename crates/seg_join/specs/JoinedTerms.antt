@@ -12,7 +12,7 @@ use Rattle.seg_postings.specs.FieldReading.{ReadTerm, OpenField, written_terms}
 use Rattle.seg_postings.specs.FieldWriting.{TermWritten}
 use Rattle.seg_postings.specs.HeldTerms.{terms_held}
 use Rattle.seg_postings.specs.Kinds.{kind_of}
-use Rattle.seg_join.specs.KeptSegment.{KeptSegment, IsMarked, kept_count, part_of}
+use Rattle.seg_open.specs.KeptSegment.{KeptSegment, IsMarked, kept_count, part_of}
 use Rattle.seg_join.specs.MovedPostings.{SourceTerms}
 use Rattle.seg_join.specs.NewIds.{NumberedSegment, numbered_from, parts_of}
 

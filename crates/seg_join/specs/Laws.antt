@@ -4,7 +4,7 @@ use Rattle.std.specs.FinMap.{empty}
 use Rattle.seg_model.specs.Fields.{Schema}
 use Rattle.seg_model.specs.Join.{join, joined_with}
 use Rattle.seg_segment.specs.Built.{is_built_schema}
-use Rattle.seg_join.specs.KeptSegment.{KeptSegment, part_of}
+use Rattle.seg_open.specs.KeptSegment.{KeptSegment, part_of}
 
 -- for a schema that is built segments join, to contents without columns
 abbrev pub BuiltPartsJoin : Type 0

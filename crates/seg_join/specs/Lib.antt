@@ -1,9 +1,7 @@
 pub mod JoinedNorms
 pub mod JoinedStore
 pub mod JoinedTerms
-pub mod KeptSegment
 pub mod Laws
 pub mod MovedPostings
 pub mod NewIds
 pub mod SourcesJoined
-pub mod WritingTerms

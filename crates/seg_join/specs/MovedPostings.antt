@@ -6,7 +6,7 @@ use Rattle.std.specs.Cmp.Lexicographic.{slice_cmp}
 use Rattle.std.specs.Ordering.{nat_cmp}
 use Rattle.seg_common.specs.declared.term_info.TermInfo.{TermInfo}
 use Rattle.seg_model.specs.Reading.{Posting}
-use Rattle.seg_model.specs.SortedTerms.{RankedTerm}
+use Rattle.seg_termdict.specs.SortedTerms.{RankedTerm}
 use Rattle.seg_termdict.specs.Dictionary.{Term}
 use Rattle.seg_termdict.specs.Ranges.{ranked_terms}
 use Rattle.seg_postings.specs.FieldReading.{ReadTerm}

@@ -1,7 +1,7 @@
 -- The ids that documents have when segments are joined.
 use Rattle.std.specs.Prelude.{ℕ, ◌+◌, ◌-◌, ◌^◌, ◌==◌, if◌then◌else◌, Bool, true, false, List, [], ◌∷◌, map, Option, Some, None}
 use Rattle.seg_bits.specs.BitSets.{member_count}
-use Rattle.seg_join.specs.KeptSegment.{KeptSegment}
+use Rattle.seg_open.specs.KeptSegment.{KeptSegment}
 
 -- the id of each document of a segment, where it is kept; the first that is kept has the id `first`
 abbrev pub new_ids : ℕ → List Bool → List (Option ℕ)

@@ -1,13 +1,13 @@
 -- The terms of a field in segments, merged key by key.
-use Rattle.std.specs.Prelude.{◌<◌, ℕ, List, map, length, None, option_to_list}
+use Rattle.std.specs.Prelude.{◌<◌, ℕ, List, map, length, option_to_list}
 use Rattle.std.specs.FinMap.{entries}
 use Rattle.std.specs.List.{AllByRecursion, flat_map}
-use Rattle.seg_model.specs.MergedTerms.{merged_terms}
+use Rattle.seg_termdict.specs.MergedTerms.{merged_terms}
 use Rattle.seg_termdict.specs.Merging.{MergedTerm}
 use Rattle.seg_postings.specs.FieldReading.{ReadTerm}
-use Rattle.seg_postings.specs.FieldWriting.{TermWritten, FieldWriting}
+use Rattle.seg_postings.specs.FieldWriting.{TermWritten}
+use Rattle.seg_segment.specs.WritingTerms.{AreOfTerm, term_with}
 use Rattle.seg_join.specs.MovedPostings.{SourceTerms, Ascend, moved_from_all, ranked_of}
-use Rattle.seg_join.specs.WritingTerms.{AreOfTerm, term_with}
 
 -- the terms of a segment ascend, and each document in which one occurs has a place among the ids
 pub record IsJoinable (source : SourceTerms) : Type 0 where
@@ -26,7 +26,3 @@ joined_at sources t = option_to_list (term_with t.0 (moved_from_all t.0 sources)
 -- the joined terms
 abbrev pub terms_joined : List SourceTerms → List TermWritten
 terms_joined sources = flat_map (joined_at sources) (entries (merged_terms (map ranked_of sources)))
-
--- these are the terms, and none is open
-abbrev pub with_terms_of : List SourceTerms → FieldWriting → FieldWriting
-with_terms_of sources w = record w { terms = terms_joined sources; current = None }

@@ -2,7 +2,7 @@
 ghost use Rattle.std.specs.Prelude.{◌≡◌, ◌≤◌, ◌<◌, ◌^◌, length, OnSome, MatchOption};
 ghost use Rattle.std.specs.List.{AllByRecursion};
 ghost use Rattle.seg_join.specs.JoinedStore.{joined_documents};
-ghost use Rattle.seg_join.specs.KeptSegment.{IsMarked, kept_count};
+ghost use Rattle.seg_open.specs.KeptSegment.{IsMarked, kept_count};
 
 use crate::merge_part::MergePart;
 

@@ -4,7 +4,7 @@
 //! are copied as they are; the terms of a field are merged key by key, with one term of each segment in memory.
 //!
 //! To be read in this order: `merge_part`; `counting`, `store_joining`, `norms_joining`; `new_ids`, `numbered_part` (the ids
-//! that kept documents get), `term_source`, `term_writer`, `term_merging`, `terms_joining`; `segment_joining`; `laws` (what
+//! that kept documents get), `term_source`, `term_merging`, `terms_joining`; `segment_joining`; `laws` (what
 //! segments of a built schema join to).
 #![tactic(auto)]
 
@@ -18,7 +18,6 @@ mod segment_joining;
 mod store_joining;
 mod term_merging;
 mod term_source;
-mod term_writer;
 mod terms_joining;
 
 pub use counting::num_joined_docs;

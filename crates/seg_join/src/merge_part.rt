@@ -1,7 +1,7 @@
 //! A segment that is merged.
 ghost use Rattle.std.specs.Prelude.{◌≡◌, length, false, get_or};
 ghost use Rattle.seg_bits.specs.BitSets.{member_count};
-ghost use Rattle.seg_join.specs.KeptSegment.{marks_of};
+ghost use Rattle.seg_open.specs.KeptSegment.{marks_of};
 
 use seg_bits::AliveBitSet;
 use seg_open::SegmentReader;
@@ -16,7 +16,7 @@ pub struct MergePart<'a> {
 
 impl<'a> Model for MergePart<'a> {
     ghost use Rattle.std.specs.Prelude.{◌≡◌, length};
-    ghost use Rattle.seg_join.specs.KeptSegment.{KeptSegment, marks_of};
+    ghost use Rattle.seg_open.specs.KeptSegment.{KeptSegment, marks_of};
 
     ghost Value = { KeptSegment };
 

@@ -1,69 +1,83 @@
 //! Length ids, joined.
-ghost use Rattle.std.specs.Prelude.{◌≡◌, ◌≤◌, ◌<◌, ◌-◌, ◌^◌, [], ◌∷◌, ◌++◌, map, take, drop, Some, IfOk, IfErr, IfSome, OnOk};
+ghost use Rattle.std.specs.Prelude.{◌≡◌, ◌++◌, map, take, drop, Some, IfOk, OnOk};
 ghost use Rattle.std.specs.List.{AllByRecursion};
-ghost use Rattle.seg_common.specs.Growing.{HasGrown};
 ghost use Rattle.seg_model.specs.Fields as model;
 ghost use Rattle.seg_model.specs.Join.{joined_norms};
 ghost use Rattle.seg_model.specs.Operations.{kept};
-ghost use Rattle.seg_directory.specs.Composite.{composite, low_after};
-ghost use Rattle.seg_postings.specs.FieldNorms.{fields_with_lengths, norms_parts};
-ghost use Rattle.seg_join.specs.JoinedNorms.{AscendFrom, joined_ids, joined_parts, kept_ids};
-ghost use Rattle.seg_join.specs.KeptSegment.{part_of};
+ghost use Rattle.seg_directory.specs.Composite.{composite};
+ghost use Rattle.seg_norms.specs.FieldNorms.{norms_parts};
+ghost use Rattle.seg_join.specs.JoinedNorms.{joined_ids, kept_ids};
+ghost use Rattle.seg_open.specs.KeptSegment.{part_of};
 
 use crate::merge_part::MergePart;
-use seg_postings::{FieldNormReader, FieldNormsSerializer, FieldNormsWriter, PostingsError};
+use seg_norms::{FieldNormReader, FieldNormsSerializer};
+use seg_segment::{LengthsByField, write_lengths};
 use seg_values::{Field, Schema};
 use std::alloc::{AllocError, Global};
+use std::marker::Model;
 
 /// The bytes of the file of length ids of segments that are joined.
 pub fn join_norms(
     alloc: Global,
     schema: &Schema,
     parts: &[MergePart<'_>],
-) -> Result<Vec<u8>, PostingsError>
+) -> Result<Vec<u8>, AllocError>
     requires schema { AllByRecursion (λ p. p.segment.schema ≡ schema.now) parts.now }
-    ensures ok { IfOk result (λ file. composite file.items ≡ Some (norms_parts schema.now (map (joined_norms (map part_of parts.now)) (model.fields schema.now)))) }
-    ensures err { IfErr result (λ e. e ≡ PostingsError.OutOfMemory) }
+    ensures { IfOk result (λ file. composite file.items ≡ Some (norms_parts schema.now (map (joined_norms (map part_of parts.now)) (model.fields schema.now)))) }
 {
-    schema.fields_are_valid();
-    let fields = FieldNormsWriter::fields_with_fieldnorm(alloc, schema)?;
-    let mut file = FieldNormsSerializer::new(alloc);
-    add_fields(alloc, &fields, parts, &mut file)?;
-    file.close()
+    let lengths = JoinedLengths::new(alloc, parts)?;
+    write_lengths(alloc, schema, &lengths)
 }
 
-/// Adds the ids of fields that ascend, to a file that has no part yet.
-fn add_fields(
+/// The length ids of segments that are joined, one segment after another.
+#[derive(Drop)]
+struct JoinedLengths<'a> {
     alloc: Global,
-    fields: &[Field],
-    parts: &[MergePart<'_>],
-    file: &mut FieldNormsSerializer,
-) -> Result<(), PostingsError>
-    requires ascend { AscendFrom 0 fields.now }
-    requires fresh { file.old ≡ Some [] }
-    ensures ok { OnOk result (file.new ≡ Some (joined_parts parts.now fields.now)) }
-    ensures err { IfErr result (λ e. e ≡ PostingsError.OutOfMemory) }
-{
-    for field in fields {
-        add_field(alloc, *field, parts, file)?;
+    parts: Vec<MergePart<'a>>,
+}
+
+impl<'a> Model for JoinedLengths<'a> {
+    ghost use Rattle.std.specs.Prelude.{List};
+    ghost use Rattle.seg_open.specs.KeptSegment.{KeptSegment};
+
+    ghost Value = { List KeptSegment };
+
+    ghost view = { λ l. l.parts.items };
+}
+
+impl<'a> JoinedLengths<'a> {
+    fn new(alloc: Global, parts: &[MergePart<'a>]) -> Result<JoinedLengths<'a>, AllocError>
+        ensures { IfOk result (λ lengths. lengths ≡ parts.now) }
+    {
+        let mut shared = Vec::new(alloc);
+        for part in parts {
+            shared.push(part.share())?;
+        }
+        Ok(JoinedLengths {
+            alloc,
+            parts: shared,
+        })
     }
-    Ok(())
+
+    fn as_slice(&self) -> &[MergePart<'a>]
+        ensures { result.now ≡ self.now }
+    {
+        &self.parts
+    }
 }
 
-/// Adds the ids of a field, which is above those added before.
-fn add_field(
-    alloc: Global,
-    field: Field,
-    parts: &[MergePart<'_>],
-    file: &mut FieldNormsSerializer,
-) -> Result<(), PostingsError>
-    requires ascends { IfSome file.old (λ ps. low_after 0 ps ≤ field) }
-    requires limit { field < 2 ^ 32 - 1 }
-    ensures ok { OnOk result (HasGrown file.old file.new (λ ps. ps ++ (field, joined_ids parts.now field) ∷ [])) }
-    ensures err { IfErr result (λ e. e ≡ PostingsError.OutOfMemory) }
-{
-    let ids = ids_of(alloc, field, parts)?;
-    file.serialize_field(field, &ids)
+impl<'a> LengthsByField for JoinedLengths<'a> {
+    ghost use Rattle.seg_join.specs.JoinedNorms.{joined_ids};
+
+    ghost ids = { λ parts field. joined_ids parts field };
+
+    fn write_ids(&self, field: Field, file: &mut FieldNormsSerializer) -> Result<(), AllocError> {
+        let ids = ids_of(self.alloc, field, self.as_slice())?;
+        match file.serialize_field(field, &ids) {
+            Ok(()) => Ok(()),
+            Err(_) => Err(AllocError),
+        }
+    }
 }
 
 /// The ids of a field in the kept documents.

@@ -4,7 +4,7 @@ ghost use Rattle.std.specs.List.{AllByRecursion};
 ghost use Rattle.seg_bits.specs.BitSets.{member_count};
 ghost use Rattle.seg_join.specs.JoinedTerms as estimate;
 ghost use Rattle.seg_join.specs.JoinedTerms.{FieldsAreOpen, IsOpenAt, source_of, tokens_in};
-ghost use Rattle.seg_join.specs.KeptSegment.{IsMarked, kept_count};
+ghost use Rattle.seg_open.specs.KeptSegment.{IsMarked, kept_count};
 ghost use Rattle.seg_join.specs.MovedPostings.{Ascend};
 ghost use Rattle.seg_join.specs.NewIds.{new_ids, numbered_from};
 

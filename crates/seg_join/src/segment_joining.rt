@@ -7,7 +7,7 @@ ghost use Rattle.seg_store.specs.Store.{documents_of, store_of};
 ghost use Rattle.seg_segment.specs.Built.{is_built_schema};
 ghost use Rattle.seg_segment.specs.Spelling.{Spell};
 ghost use Rattle.seg_join.specs.JoinedStore.{joined_documents};
-ghost use Rattle.seg_join.specs.KeptSegment.{IsOfSchema, kept_count, part_of};
+ghost use Rattle.seg_open.specs.KeptSegment.{IsOfSchema, kept_count, part_of};
 
 use crate::counting::num_joined_docs;
 use crate::merge_part::MergePart;
@@ -15,11 +15,10 @@ use crate::norms_joining::join_norms;
 use crate::store_joining::join_stores;
 use crate::terms_joining::join_terms;
 use seg_columnar::ColumnarWriter;
-use seg_meta::Compressor;
 use seg_model::joins_have_full_shape;
 use seg_segment::SegmentFiles;
 use seg_store::StoreWriter;
-use seg_values::{ArgumentCause, Schema, TResult, TantivyError};
+use seg_values::{ArgumentCause, Compressor, Schema, TResult, TantivyError};
 use std::alloc::{AllocError, Global};
 
 /// The files of the segment that segments are merged into: of their kept documents, one segment after another. A block of

@@ -2,7 +2,7 @@
 ghost use Rattle.std.specs.Prelude.{◌≡◌, ◌<◌, ◌+◌, ◌-◌, ◌^◌, ◌++◌, true, false, length, get_or, map, take, drop, Some, None, option_map, IfErr, IfSome, OnOk};
 ghost use Rattle.seg_model.specs.Operations.{kept};
 ghost use Rattle.seg_store.specs.Store.{document_count, documents_of, raw_documents};
-ghost use Rattle.seg_store.specs.StoredDocument.{stored_document_of};
+ghost use Rattle.seg_stored.specs.StoredDocument.{stored_document_of};
 ghost use Rattle.seg_store.specs.Writing.{taken_count};
 ghost use Rattle.seg_join.specs.JoinedStore.{joined_bytes, joined_documents, kept_bytes, taken_documents, with_documents};
 

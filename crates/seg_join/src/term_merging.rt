@@ -1,22 +1,23 @@
 //! The terms of a field in segments, merged key by key.
-ghost use Rattle.std.specs.Prelude.{◌≡◌, ◌<◌, ◌++◌, ℕ, List, [], map, take, length, nat_lt, Some, None, All, IfOk, IfErr, IfSome, IsSome, IsSomeAnd, IsTrue, OnOk};
+ghost use Rattle.std.specs.Prelude.{◌≡◌, ◌<◌, ◌++◌, ℕ, List, map, take, length, nat_lt, Some, None, All, IfOk, IfSome, IsSome, IsSomeAnd, IsTrue, OnOk};
 ghost use Rattle.std.specs.FinMap.{entries};
 ghost use Rattle.std.specs.List.{AllByRecursion};
 ghost use Rattle.seg_common.specs.Growing.{HasGrown};
-ghost use Rattle.seg_model.specs.MergedTerms.{merged_terms, standings_from};
+ghost use Rattle.seg_termdict.specs.MergedTerms.{merged_terms, standings_from};
 ghost use Rattle.seg_postings.specs.FieldWriting.{MayOpen};
 ghost use Rattle.seg_postings.specs.PostingsReading.{kept_kind_of};
 ghost use Rattle.seg_termdict.specs.Merging.{info_of, stepped};
 ghost use Rattle.seg_termdict.specs.Streaming.{all_terms};
-ghost use Rattle.seg_join.specs.MovedPostings.{moved, moved_from, moved_from_all, ranked_of, term_at, terms_of};
-ghost use Rattle.seg_join.specs.SourcesJoined.{AreJoinable, IsJoinable, with_terms_of};
-ghost use Rattle.seg_join.specs.WritingTerms.{MayTake, with_joined, with_more};
+ghost use Rattle.seg_segment.specs.WritingTerms.{IsUnwritten, MayTake, with_more, with_terms, with_whole_term};
+ghost use Rattle.seg_join.specs.MovedPostings.{moved, moved_from, moved_from_all, ranked_of, term_at, terms_of, under};
+ghost use Rattle.seg_join.specs.SourcesJoined.{AreJoinable, IsJoinable, terms_joined};
 
 use crate::term_source::TermSource;
-use crate::term_writer::TermWriter;
 use seg_common::TermInfo;
-use seg_postings::{PostingsError, RecordKind, SegmentPostings};
+use seg_postings::{RecordKind, SegmentPostings};
+use seg_segment::TermWriter;
 use seg_termdict::{TermMerger, TermStreamer};
+use seg_values::PostingsError;
 use std::alloc::{AllocError, Global};
 
 /// Writes the terms of a field in all of the segments, each with the postings of its kept documents.
@@ -24,35 +25,32 @@ pub(crate) fn write_terms(
     alloc: Global,
     sources: &[TermSource<'_>],
     writer: &mut TermWriter,
-) -> Result<(), PostingsError>
+) -> Result<(), AllocError>
     requires joinable { AreJoinable sources.now }
-    requires fresh { IsSomeAnd writer.old (λ w. (w.terms ≡ []) × (w.current ≡ None)) }
-    ensures ok { OnOk result (HasGrown writer.old writer.new (with_terms_of sources.now)) }
-    ensures err { IfErr result (λ e. e ≡ PostingsError.OutOfMemory) }
+    requires unwritten { IsSomeAnd writer.old IsUnwritten }
+    ensures { OnOk result (HasGrown writer.old writer.new (with_terms (terms_joined sources.now))) }
 {
     let mut merger = merge_terms(alloc, sources)?;
+    let mut places = Vec::new(alloc);
     while advance(&mut merger)? {
         join_term(
             merger.key(),
             merger.current_segment_ords_and_term_infos(),
             sources,
+            &mut places,
             writer,
         )?;
     }
     Ok(())
 }
 
-fn merge_terms<'a>(
-    alloc: Global,
-    sources: &[TermSource<'a>],
-) -> Result<TermMerger<'a>, PostingsError>
-    ensures ok { IfOk result (λ merger. merger ≡ Some (record { left = entries (merged_terms (map ranked_of sources.now)); current = None })) }
-    ensures err { IfErr result (λ e. e ≡ PostingsError.OutOfMemory) }
+fn merge_terms<'a>(alloc: Global, sources: &[TermSource<'a>]) -> Result<TermMerger<'a>, AllocError>
+    ensures { IfOk result (λ merger. merger ≡ Some (record { left = entries (merged_terms (map ranked_of sources.now)); current = None })) }
 {
     let streams = streams_of(alloc, sources)?;
     match TermMerger::new(alloc, streams) {
         Ok(merger) => Ok(merger),
-        Err(_) => Err(PostingsError::OutOfMemory),
+        Err(_) => Err(AllocError),
     }
 }
 
@@ -70,35 +68,34 @@ fn streams_of<'a>(
     Ok(streams)
 }
 
-fn advance(merger: &mut TermMerger<'_>) -> Result<bool, PostingsError>
+fn advance(merger: &mut TermMerger<'_>) -> Result<bool, AllocError>
     ensures ok { OnOk result (HasGrown merger.old merger.new stepped) }
     ensures more { IfOk result (λ more. IfSome merger.old (λ m. more ≡ nat_lt 0 (length m.left))) }
     ensures stands { IfOk result (λ more. IsTrue more → IsSomeAnd merger.new (λ m. IsSome m.current)) }
-    ensures err { IfErr result (λ e. e ≡ PostingsError.OutOfMemory) }
 {
     match merger.advance() {
         Ok(more) => Ok(more),
-        Err(_) => Err(PostingsError::OutOfMemory),
+        Err(_) => Err(AllocError),
     }
 }
 
-/// Joins a term that is in some of the segments.
+/// Joins a term that is in some of the segments. `places` is room for the positions of a document.
 fn join_term(
     key: &[u8],
     standings: &[(usize, TermInfo)],
     sources: &[TermSource<'_>],
+    places: &mut Vec<u32>,
     writer: &mut TermWriter,
-) -> Result<(), PostingsError>
+) -> Result<(), AllocError>
     requires joinable { AreJoinable sources.now }
     requires standings { standings.now ≡ map info_of (standings_from 0 key.now (map ranked_of sources.now)) }
     requires opens { IsSomeAnd writer.old (λ w. MayOpen w key.now) }
-    ensures ok { OnOk result (HasGrown writer.old writer.new (with_joined key.now (moved_from_all key.now sources.now))) }
-    ensures err { IfErr result (λ e. e ≡ PostingsError.OutOfMemory) }
+    ensures { OnOk result (HasGrown writer.old writer.new (with_whole_term key.now (moved_from_all key.now sources.now))) }
 {
     for (segment, info) in standings {
-        add_postings(key, &sources[*segment], info, writer)?;
+        add_postings(key, &sources[*segment], info, places, writer)?;
     }
-    writer.close_term()
+    writer.end_term()
 }
 
 /// Adds the postings that a term has in a segment.
@@ -106,17 +103,17 @@ fn add_postings(
     key: &[u8],
     source: &TermSource<'_>,
     info: &TermInfo,
+    places: &mut Vec<u32>,
     writer: &mut TermWriter,
-) -> Result<(), PostingsError>
+) -> Result<(), AllocError>
     requires joinable { IsJoinable source.now }
     requires has { IsSomeAnd (term_at key.now source.now.terms) (λ t. t.info ≡ info.now) }
     requires takes { IsSomeAnd writer.old (MayTake key.now (moved_from key.now source.now)) }
-    ensures ok { OnOk result (HasGrown writer.old writer.new (with_more key.now (moved_from key.now source.now))) }
-    ensures err { IfErr result (λ e. e ≡ PostingsError.OutOfMemory) }
+    ensures { OnOk result (HasGrown writer.old writer.new (with_more key.now (moved_from key.now source.now))) }
 {
     let mut postings = source.postings(info);
     while let Some(kind) = postings.record_kind() {
-        add_current(key, kind, source, &postings, writer)?;
+        add_current(key, kind, source, &postings, places, writer)?;
         postings.advance();
     }
     Ok(())
@@ -128,16 +125,35 @@ fn add_current(
     kind: RecordKind,
     source: &TermSource<'_>,
     postings: &SegmentPostings<'_>,
+    places: &mut Vec<u32>,
     writer: &mut TermWriter,
-) -> Result<(), PostingsError>
+) -> Result<(), AllocError>
     requires kind { kept_kind_of postings.now.left ≡ Some kind }
     requires within { AllByRecursion (λ p. p.document < length source.now.ids) postings.now.left }
     requires takes { IsSomeAnd writer.old (MayTake key.now (moved source.now.ids (take 1 postings.now.left))) }
-    ensures ok { OnOk result (HasGrown writer.old writer.new (with_more key.now (moved source.now.ids (take 1 postings.now.left)))) }
-    ensures err { IfErr result (λ e. e ≡ PostingsError.OutOfMemory) }
+    ensures { OnOk result (HasGrown writer.old writer.new (with_more key.now (moved source.now.ids (take 1 postings.now.left)))) }
 {
     match source.new_id(postings.doc()) {
-        Some(id) => writer.add_posting(key, kind, id, postings),
+        Some(id) => add_posting(key, kind, id, postings, places, writer),
         None => Ok(()),
     }
+}
+
+/// Adds the current one of some postings to a term, under a new id.
+fn add_posting(
+    key: &[u8],
+    kind: RecordKind,
+    id: u32,
+    postings: &SegmentPostings<'_>,
+    places: &mut Vec<u32>,
+    writer: &mut TermWriter,
+) -> Result<(), AllocError>
+    requires kind { kept_kind_of postings.now.left ≡ Some kind }
+    requires takes { IsSomeAnd writer.old (MayTake key.now (map (under id) (take 1 postings.now.left))) }
+    ensures { OnOk result (HasGrown writer.old writer.new (with_more key.now (map (under id) (take 1 postings.now.left)))) }
+{
+    let Ok(()) = postings.positions(places) else {
+        return Err(AllocError);
+    };
+    writer.add_document(key, kind, id, postings.term_freq(), places)
 }

@@ -1,12 +1,12 @@
 //! The terms of segments, joined.
-ghost use Rattle.std.specs.Prelude.{◌≡◌, ◌<◌, ◌-◌, ◌^◌, true, map, min, IfOk, IfErr};
+ghost use Rattle.std.specs.Prelude.{◌≡◌, ◌<◌, ◌-◌, ◌^◌, true, map, min, IfOk};
 ghost use Rattle.std.specs.List.{AllByRecursion};
 ghost use Rattle.seg_model.specs.Fields as model;
 ghost use Rattle.seg_model.specs.Join.{joined_terms};
 ghost use Rattle.seg_segment.specs.Built.{is_built_schema};
 ghost use Rattle.seg_segment.specs.HoldTerms.{HoldTerms};
 ghost use Rattle.seg_join.specs.JoinedTerms.{IsOpenAt, source_of, tokens_in};
-ghost use Rattle.seg_join.specs.KeptSegment.{IsOfSchema, kept_count, part_of};
+ghost use Rattle.seg_open.specs.KeptSegment.{IsOfSchema, kept_count, part_of};
 ghost use Rattle.seg_join.specs.MovedPostings.{Ascend};
 ghost use Rattle.seg_join.specs.NewIds.{parts_of};
 
@@ -14,10 +14,9 @@ use crate::merge_part::MergePart;
 use crate::numbered_part::{NumberedPart, NumberedParts, number_parts};
 use crate::term_merging::write_terms;
 use crate::term_source::TermSource;
-use crate::term_writer::TermWriter;
-use seg_postings::{FieldSerializer, PostingsError, PostingsFiles};
-use seg_segment::{TermsByField, write_fields};
-use seg_values::{Field, Schema};
+use seg_postings::PostingsFiles;
+use seg_segment::{TermWriter, TermsByField, write_fields};
+use seg_values::{Field, PostingsError, Schema};
 use std::alloc::{AllocError, Global};
 
 /// The files of the terms, postings and positions of segments that are joined. A term is written where a kept document has
@@ -26,15 +25,17 @@ pub(crate) fn join_terms(
     alloc: Global,
     schema: &Schema,
     parts: &[MergePart<'_>],
-) -> Result<PostingsFiles, PostingsError>
+) -> Result<PostingsFiles, AllocError>
     requires built { is_built_schema schema.now ≡ true }
     requires parts { AllByRecursion (IsOfSchema schema.now) parts.now }
     requires few { kept_count parts.now < 2 ^ 31 }
-    ensures ok { IfOk result (λ files. HoldTerms schema.now files.terms.items files.postings.items files.positions.items (map (joined_terms (map part_of parts.now)) (model.fields schema.now))) }
-    ensures err { IfErr result (λ e. e ≡ PostingsError.OutOfMemory) }
+    ensures { IfOk result (λ files. HoldTerms schema.now files.terms.items files.postings.items files.positions.items (map (joined_terms (map part_of parts.now)) (model.fields schema.now))) }
 {
     let numbered = number_parts(alloc, parts)?;
-    write_fields(alloc, schema, &numbered)?.close()
+    let Ok(files) = write_fields(alloc, schema, &numbered)?.close() else {
+        return Err(AllocError);
+    };
+    Ok(files)
 }
 
 impl<'a> TermsByField for NumberedParts<'a> {
@@ -48,7 +49,7 @@ impl<'a> TermsByField for NumberedParts<'a> {
 
     ghost can_write = { λ parts field. CanJoin parts field };
 
-    fn total_num_tokens(&self, field: Field) -> Result<u64, PostingsError> {
+    fn total_num_tokens(&self, field: Field) -> Result<u64, AllocError> {
         Ok(tokens_of(field, self.as_slice()))
     }
 
@@ -56,12 +57,12 @@ impl<'a> TermsByField for NumberedParts<'a> {
         &self,
         alloc: Global,
         field: Field,
-        writer: FieldSerializer,
-    ) -> Result<FieldSerializer, PostingsError> {
+        writer: TermWriter,
+    ) -> Result<TermWriter, AllocError> {
         let sources = sources_of(alloc, field, self.as_slice())?;
-        let mut writer = TermWriter::new(alloc, writer);
+        let mut writer = writer;
         write_terms(alloc, &sources, &mut writer)?;
-        Ok(writer.into_field())
+        Ok(writer)
     }
 }
 

@@ -8,12 +8,12 @@ use Rattle.seg_model.specs.Fields.{Analyzer}
 use Rattle.seg_model.specs.Input.{Input}
 use Rattle.seg_model.specs.Valid.{Known}
 use Rattle.seg_open.specs.SegmentOpened.{IsNoDamage}
-use Rattle.seg_batches.proofs.Calls.{does-nothing}
-use Rattle.seg_refusals.specs.Refusals.{IsRefusal, first_error, refusal_error}
+use Rattle.seg_refusals.specs.Refusals.{first_error, refusal_error}
+use Rattle.seg_model.specs.Refused.{IsRefusal}
 use Rattle.seg_refusals.proofs.Refusing.{first_is_refusal}
+use Rattle.seg_batches.proofs.BatchSteps.{refusal_weaker}
 use Rattle.seg_merge.specs.Builds.{StopsBuilding}
-use Rattle.seg_merge.specs.DirectoryCalls.{Asked, Directories, StopsIn, asked_of, at_once, work_listing}
-use Rattle.seg_merge.proofs.WholeExits.{refusal_then}
+use Rattle.seg_merge.specs.Turns.{Directories, stops}
 use Rattle.seg_merge.proofs.WholeRefused.{caused_refusal, refusal_undamaged}
 
 -- ---- before a directory is called
@@ -26,16 +26,15 @@ undamaged : (e : TantivyError) → IsRefusal e ⊎ (e ≡ OutOfMemory) → IsNoD
 undamaged e (inl refusal) = refusal_undamaged e refusal
 undamaged e (inr starved) = subst IsNoDamage (sym starved) tt
 
-stops_at_once : (asked : Asked) (e : TantivyError) (state : Directories) → IsRefusal e ⊎ (e ≡ OutOfMemory) → StopsIn asked e state state
-stops_at_once asked e state (inl refusal) = at_once refusal refl
-stops_at_once asked e state (inr starved) = subst (λ (x : TantivyError). StopsIn asked x state state) (sym starved) (work_listing (does-nothing _ _ state.work) refl)
-
-first_or_memory : (o : Option TantivyError) (e : TantivyError) (P : Type 0) → P → (o ≡ Some e) ⊎ (e ≡ OutOfMemory) → IfSome o (λ x. ((e ≡ x) ⊎ (e ≡ OutOfMemory)) × P)
-first_or_memory o e P p (inl is) = subst (λ (o : Option TantivyError). IfSome o (λ x. ((e ≡ x) ⊎ (e ≡ OutOfMemory)) × P)) (sym is) (inl refl, p)
+first_or_memory : (o : Option TantivyError) (e : TantivyError) (P : Type 0) → P → (o ≡ Some e) ⊎ (e ≡ OutOfMemory)
+    → IfSome o (λ x. ((e ≡ x) ⊎ (e ≡ OutOfMemory)) × P)
+first_or_memory o e P p (inl is) =
+    subst (λ (o : Option TantivyError). IfSome o (λ x. ((e ≡ x) ⊎ (e ≡ OutOfMemory)) × P)) (sym is) (inl refl, p)
 first_or_memory None e P p (inr starved) = tt
 first_or_memory (Some x) e P p (inr starved) = (inr starved, p)
 
-refusal_or_memory : (known : Known) (analyzer : Analyzer) (input : Input) (e : TantivyError) → (first_error known analyzer input ≡ Some e) ⊎ (e ≡ OutOfMemory) → IsRefusal e ⊎ (e ≡ OutOfMemory)
+refusal_or_memory : (known : Known) (analyzer : Analyzer) (input : Input) (e : TantivyError)
+    → (first_error known analyzer input ≡ Some e) ⊎ (e ≡ OutOfMemory) → IsRefusal e ⊎ (e ≡ OutOfMemory)
 refusal_or_memory known analyzer input e (inl is) = inl (first_is_refusal known analyzer input e is)
 refusal_or_memory known analyzer input e (inr starved) = inr starved
 
@@ -46,10 +45,13 @@ not_begun known analyzer input e state cause =
     record {
       first = first_or_memory (first_error known analyzer input) e _ refl cause;
       refused = λ told. caused_refusal known analyzer input e cause;
-      untold = refusal_then (λ x. refusal_error known analyzer input ≡ Some x) (λ x. (refusal_error known analyzer input ≡ Some x) ⊎ (x ≡ InvalidArgument Documents)) e (λ x is. inl is) (caused_refusal known analyzer input e cause);
+      untold =
+          refusal_weaker (λ x. refusal_error known analyzer input ≡ Some x)
+          (λ x. (refusal_error known analyzer input ≡ Some x) ⊎ (x ≡ InvalidArgument Documents)) (λ x is. inl is) e
+          (caused_refusal known analyzer input e cause);
       fresh = λ empty. not_there e kind;
       whole = λ told. undamaged e kind;
-      stops = stops_at_once (asked_of analyzer input) e state kind;
+      stops = stops e refl (cause, refl);
     }
 
 -- ---- what is said of the answer
@@ -58,12 +60,15 @@ abbrev failing : (T : Type 0) → TantivyError → Result T TantivyError
 failing T e = Err e
 
 module _ (T : Type 0) (e : TantivyError) (a b : Directories) where
-  pub first_answer : (o : Option TantivyError) → IfSome o (λ x. ((e ≡ x) ⊎ (e ≡ OutOfMemory)) × (b ≡ a)) → IfSome o (λ x. (failing T e ≡ Err x) ⊎ (failing T e ≡ Err OutOfMemory))
+  pub first_answer : (o : Option TantivyError) → IfSome o (λ x. ((e ≡ x) ⊎ (e ≡ OutOfMemory)) × (b ≡ a))
+      → IfSome o (λ x. (failing T e ≡ Err x) ⊎ (failing T e ≡ Err OutOfMemory))
   first_answer None first = tt
   first_answer (Some x) (inl is, same) = inl (ap (failing T) is)
   first_answer (Some x) (inr is, same) = inr (ap (failing T) is)
 
 -- nothing is touched
-pub first_same : (e : TantivyError) (a b : Directories) (o : Option TantivyError) → IfSome o (λ x. ((e ≡ x) ⊎ (e ≡ OutOfMemory)) × (b ≡ a)) → IfSome o (λ _. (b.work ≡ a.work) × (b.output ≡ a.output))
+pub first_same : (e : TantivyError) (a b : Directories) (o : Option TantivyError)
+    → IfSome o (λ x. ((e ≡ x) ⊎ (e ≡ OutOfMemory)) × (b ≡ a))
+    → IfSome o (λ _. (b.work ≡ a.work) × (b.output ≡ a.output))
 first_same e a b None first = tt
 first_same e a b (Some x) (is, same) = (ap (λ (d : Directories). d.work) same, ap (λ (d : Directories). d.output) same)

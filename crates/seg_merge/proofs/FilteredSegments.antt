@@ -1,33 +1,21 @@
 -- Segments under their filters, and the sets of the documents that are kept of each.
-use Rattle.std.proofs.Common.{◌≡◌, ◌≤◌, ◌<◌, ℕ, zero, suc, ◌+◌, Bool, true, false, List, [], ◌∷◌, ◌++◌, length, drop, drop-cons, get_or, append_assoc, replicate, refl, sym, ap, ◌∙◌, subst, None, Some, Option, arith, min}
+use Rattle.std.proofs.Common.{◌≡◌, ◌≤◌, ◌<◌, ℕ, zero, suc, ◌+◌, Bool, true, false, List, [], ◌∷◌, ◌++◌, length, drop, get_or, append_assoc, replicate, refl, sym, ap, ◌∙◌, subst, None, Some, Option, arith, min}
 use Rattle.std.specs.Prelude.{nat_le, option_copied}
 use Rattle.std.specs.Borrow.{Bor}
 use Rattle.std.specs.List.{AllByRecursion}
 use Rattle.std.proofs.lemmas.Bool.Decides.{nat_tests}
 use Rattle.std.proofs.lemmas.List.{append-nil, drop_all}
+use Rattle.seg_common.proofs.Lists.{drop-get_or}
 use Rattle.seg_model.specs.Fields.{Schema}
 use Rattle.seg_model.specs.Input.{Filter}
 use Rattle.seg_model.specs.Operations.{both_marked, filtered_by}
 use Rattle.seg_open.specs.OpenSegment.{OpenSegment}
-use Rattle.seg_join.specs.KeptSegment.{IsMarked, IsOfSchema, KeptSegment, marks_of}
-use Rattle.seg_merge.specs.Filling.{FilterFits, FiltersFit}
+use Rattle.seg_open.specs.KeptSegment.{IsMarked, IsOfSchema, KeptSegment, marks_of}
+use Rattle.seg_batches.proofs.Applied.{both_full}
+use Rattle.seg_merge.specs.Filters.{FilterFits, FiltersFit}
 use Rattle.seg_merge.specs.Joining.{filtered_segments, keeps_of, kept_marks}
 
--- a list from a place on
-left_from : {X : Type 0} (xs : List X) (n m : ℕ) (x : X) → n < length xs → m ≡ n + 1 → x ≡ get_or xs n x → drop n xs ≡ x ∷ drop m xs
-left_from xs n m x there next is =
-    drop-cons xs n x there
-    ∙ ap (λ y. y ∷ drop (suc n) xs) (sym is)
-    ∙ ap (λ k. x ∷ drop k xs) (let e : suc n ≡ m = omega (arith, next) in e)
-
 -- ---- one segment
-
--- what is marked in all and in a filter, is what the filter marks
-pub all_and_filter : (n : ℕ) (keeps : List Bool) → length keeps ≡ n → both_marked (replicate n true) keeps ≡ keeps
-all_and_filter zero [] h = refl
-all_and_filter zero (k ∷ keeps) h = absurd (omega (arith, h))
-all_and_filter (suc n) [] h = absurd (omega (arith, h))
-all_and_filter (suc n) (k ∷ keeps) h = ap (λ l. k ∷ l) (all_and_filter n keeps (omega (arith, h)))
 
 pub both_long : (n : ℕ) (alive keeps : List Bool) → length alive ≡ n → length keeps ≡ n → length (both_marked alive keeps) ≡ n
 both_long n [] keeps h k = h
@@ -39,7 +27,7 @@ both_long (suc n) (a ∷ alive) (b ∷ keeps) h k = ap suc (both_long n alive ke
 pub all_alive_kept : (f : Option Filter) (keeps copy : List Bool) (s : KeptSegment) → f ≡ Some keeps → copy ≡ keeps → replicate s.segment.documents true ≡ s.alive → FilterFits f s → copy ≡ filtered_by f s.alive
 all_alive_kept f keeps copy s is same all fits =
     same
-    ∙ sym (all_and_filter s.segment.documents keeps (subst (λ g. FilterFits g s) is fits))
+    ∙ sym (both_full s.segment.documents keeps (subst (λ g. FilterFits g s) is fits))
     ∙ ap (λ a. both_marked a keeps) all
     ∙ sym (ap (λ g. filtered_by g s.alive) is)
 
@@ -67,7 +55,8 @@ filtered_of_schema schema (f ∷ filters) (s ∷ segments) all = (all.0, filtere
 -- with the sets that those from a place on want, these sets are all
 abbrev pub SetsAre : List (Option Filter) → List KeptSegment → ℕ → List (Option (List Bool)) → Type 0
 SetsAre filters segments at sets =
-    (rest : List (Option (List Bool))) → keeps_of (drop at segments) rest ≡ filtered_segments (drop at filters) (drop at segments) → keeps_of segments (sets ++ rest) ≡ filtered_segments filters segments
+    (rest : List (Option (List Bool))) → keeps_of (drop at segments) rest ≡ filtered_segments (drop at filters)
+    (drop at segments) → keeps_of segments (sets ++ rest) ≡ filtered_segments filters segments
 
 -- where those from a place on are marked, all are
 abbrev pub MarkedWith : List (Option Filter) → List KeptSegment → ℕ → Type 0
@@ -76,10 +65,10 @@ MarkedWith filters segments at = AllByRecursion IsMarked (filtered_segments (dro
 module _ (filters : List (Option Filter)) (segments : List KeptSegment) (n m : ℕ) (f : Option Filter) (s : KeptSegment)
     (filter_there : n < length filters) (segment_there : n < length segments) (next : m ≡ n + 1) (filter_is : f ≡ get_or filters n f) (segment_is : s ≡ get_or segments n s) where
   filters_left : drop n filters ≡ f ∷ drop m filters
-  filters_left = left_from filters n m f filter_there next filter_is
+  filters_left = drop-get_or filters n m f filter_there next filter_is
 
   segments_left : drop n segments ≡ s ∷ drop m segments
-  segments_left = left_from segments n m s segment_there next segment_is
+  segments_left = drop-get_or segments n m s segment_there next segment_is
 
   pub fit_behind : FiltersFit (drop n filters) (drop n segments) → FiltersFit (drop m filters) (drop m segments)
   fit_behind fit = both_left.1
@@ -133,8 +122,8 @@ module _ (segments : List KeptSegment) (kept : List (Option (List Bool))) (n m :
 
   keeps_here : keeps_of (drop n segments) (drop n kept) ≡ this_part ∷ keeps_of (drop m segments) (drop m kept)
   keeps_here =
-      ap (λ l. keeps_of l (drop n kept)) (left_from segments n m s segment_there next segment_is)
-      ∙ ap (keeps_of (s ∷ drop m segments)) (left_from kept n m k set_there next set_is)
+      ap (λ l. keeps_of l (drop n kept)) (drop-get_or segments n m s segment_there next segment_is)
+      ∙ ap (keeps_of (s ∷ drop m segments)) (drop-get_or kept n m k set_there next set_is)
 
   -- one part more
   pub one_part_more : (parts more : List KeptSegment) (p : KeptSegment) → more ≡ parts ++ p ∷ [] → p ≡ this_part → parts ++ keeps_of (drop n segments) (drop n kept) ≡ keeps_of segments kept → more ++ keeps_of (drop m segments) (drop m kept) ≡ keeps_of segments kept

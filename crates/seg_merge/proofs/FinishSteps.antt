@@ -7,14 +7,13 @@ use Rattle.seg_directory.proofs.Doing.{stops, then_does}
 use Rattle.seg_directory.specs.State.{DirectoryState}
 use Rattle.seg_directory.specs.Works.{Works}
 use Rattle.seg_model.specs.Fields.{Schema}
-use Rattle.seg_model.specs.IndexOfFiles as index
+use Rattle.seg_meta.specs.IndexOfFiles as index
 use Rattle.seg_model.specs.Input.{Settings}
 use Rattle.seg_batches.specs.AliveWriting.{AllTellMarks, WritesAlive, alive_step, alive_steps}
 use Rattle.seg_batches.specs.Segments.{WrittenSegment, deletes_of}
-use Rattle.seg_batches.proofs.BatchesTold.{Parts, in_first, in_next}
+use Rattle.seg_directory.proofs.Parts.{Parts, in_first, in_next, parts_on}
 use Rattle.seg_merge.specs.WorkIndexWriting.{FinishesIndex, finish_steps, listing_meta}
 use Rattle.seg_merge.specs.WritingSteps.{publish_steps}
-use Rattle.seg_merge.proofs.Parts.{in_parts}
 use Rattle.seg_merge.proofs.WholeExits.{at-ok}
 
 module _ (meta : index.Meta) (stamp : ℕ) where
@@ -37,17 +36,21 @@ module _ (meta : index.Meta) (stamp : ℕ) where
     in_alive : (e : TantivyError) → r ≡ Err e → WritesAlive {T = T} stamp segments (Err e) a c → FinishParts segments r a c
     in_meta : (b : DirectoryState) → WritesAlive {T = Unit {0}} stamp segments (Ok tt) a b → Works (publish_steps meta) r b c → FinishParts segments r a c
 
-  pub finish_parts : {T : Type 0} (alive : List (List ℕ)) (segments : List WrittenSegment) (r : Result T TantivyError) (a c : DirectoryState) → AllTellMarks stamp alive segments → OnOk r (length alive ≡ length segments) → Works (finish_steps meta stamp alive segments) r a c → FinishParts segments r a c
+  pub finish_parts : {T : Type 0} (alive : List (List ℕ)) (segments : List WrittenSegment) (r : Result T TantivyError) (a c : DirectoryState)
+      → AllTellMarks stamp alive segments → OnOk r (length alive ≡ length segments)
+      → Works (finish_steps meta stamp alive segments) r a c → FinishParts segments r a c
   finish_parts {T = T} alive segments r a c tell whole works = elim (finish_are alive segments tell) [
-    | inl same ↦ by same.0 (in_parts (alive_steps stamp alive segments) (publish_steps meta) r (subst (λ steps. Works steps r a c) same.1 works))
+    | inl same ↦ by same.0 (parts_on (alive_steps stamp alive segments) (publish_steps meta) r a c (subst (λ steps. Works steps r a c) same.1 works).on)
     | inr less ↦ ends r whole less.0 (subst (λ steps. Works steps r a c) less.1 works)
   ]
     where
-      by : length alive ≡ length segments → Parts (alive_steps stamp alive segments) (publish_steps meta) r a c → FinishParts segments r a c
+      by : length alive ≡ length segments → Parts (alive_steps stamp alive segments) (publish_steps meta) r a c
+          → FinishParts segments r a c
       by same (in_first e is w) = in_alive e is (record { files = alive; tell = tell; whole = tt; works = w })
       by same (in_next b w next) = in_meta b (record { files = alive; tell = tell; whole = same; works = w }) next
 
-      ends : (x : Result T TantivyError) → OnOk x (length alive ≡ length segments) → length alive < length segments → Works (alive_steps stamp alive segments) x a c → FinishParts segments x a c
+      ends : (x : Result T TantivyError) → OnOk x (length alive ≡ length segments) → length alive < length segments
+          → Works (alive_steps stamp alive segments) x a c → FinishParts segments x a c
       ends (Ok y) same less w = absurd (omega (arith, same, less))
       ends (Err e) same less w = in_alive e refl (record { files = alive; tell = tell; whole = tt; works = w })
 
@@ -72,7 +75,8 @@ module _ (settings : Settings) (schema : Schema) (stamp : ℕ) (segments : List 
     tell = w.tell;
     whole = tt;
     works = stopped (listing_meta settings schema stamp segments) stamp w.files segments e a b w.tell
-        (subst (λ steps. Works {T = T} steps (Err e) a b) (append-nil (alive_steps stamp w.files segments)) (stops [] w.works));
+        (subst (λ steps. Works {T =
+        T} steps (Err e) a b) (append-nil (alive_steps stamp w.files segments)) (stops [] w.works));
   }
 
   -- or comes to the meta
@@ -81,5 +85,6 @@ module _ (settings : Settings) (schema : Schema) (stamp : ℕ) (segments : List 
     alive = w.files;
     tell = w.tell;
     whole = at-ok r w.whole;
-    works = saved (listing_meta settings schema stamp segments) stamp w.files segments r a b c w.tell w.whole w.works next;
+    works =
+        saved (listing_meta settings schema stamp segments) stamp w.files segments r a b c w.tell w.whole w.works next;
   }

@@ -1,20 +1,24 @@
 mod Built
-mod FillCalls
+mod Exits
 mod FillSteps
 mod FilledIndex
 mod FinishSteps
 mod FilteredSegments
+mod InTurn
 mod IndexSteps
 mod JoinedIds
 mod MergedFiles
+mod MergedOutput
 mod OutputSteps
-mod Parts
+mod Reached
+pub mod ReadBack
 mod Steps
-mod WholeCalls
+pub mod Stopped
 mod WholeExits
 mod WholeIds
-mod WholeInput
 mod WholeJoined
 mod WholeRead
 mod WholeRefused
 mod WholeWork
+mod WriteErrors
+mod Written

@@ -1,45 +1,70 @@
 -- Files that were just made are not damaged, and are read as what they spell.
-use Rattle.std.proofs.Common.{◌≡◌, ℕ, List, [], ◌∷◌, refl, sym, subst, Result, Ok, Err}
-use Rattle.std.specs.Prelude.{IfOk}
-use Rattle.std.specs.List.{AllByRecursion}
-use Rattle.seg_common.specs.declared.name.SegmentComponent.{SegmentComponent}
+use Rattle.std.proofs.Common.{◌≡◌, ◌∙◌, ◌<◌, ◌≤◌, ◌^◌, ℕ, List, map, true, nat_lt, None, Some, sym, ap, subst, Result, Ok, Err, inl, inr, arith}
+use Rattle.std.specs.Prelude.{◌⊎◌, IfErr, IfOk}
+use Rattle.std.specs.FinMap.{empty}
+use Rattle.std.proofs.lemmas.Bool.Decides.{nat_tests}
+use Rattle.std.proofs.lemmas.Bool.{le-ltb}
 use Rattle.seg_model.specs.Contents.{Contents}
 use Rattle.seg_model.specs.Fields.{Schema}
+use Rattle.seg_values.specs.declared.error.ArgumentCause.TheVariants.{Documents}
 use Rattle.seg_values.specs.declared.error.TantivyError.{TantivyError}
+use Rattle.seg_values.specs.declared.error.TantivyError.TheVariants.{InvalidArgument, OutOfMemory}
+use Rattle.seg_model.specs.Checked.{unless}
+use Rattle.seg_model.specs.Join.{joined_with}
+use Rattle.seg_open.specs.KeptSegment.{KeptSegment, kept_count, part_of}
+use Rattle.seg_model.specs.Telling.{Tells}
+use Rattle.seg_merge.specs.DirectoryCalls.{too_many}
+use Rattle.seg_merge.specs.Merging.{IsMergedInto, IsOpened}
 use Rattle.seg_open.specs.OpenSegment.{contents_of}
 use Rattle.seg_segment.specs.Laws.{FilesSpellOneContents}
-use Rattle.seg_segment.specs.SegmentFiles.{bytes_of}
 use Rattle.seg_segment.specs.Spelling.{Spell}
-use Rattle.seg_open.specs.Disagreement.{Disagree, IsWhyNotOpen, up_to}
-use Rattle.seg_open.specs.declared.open_error.OpenError.{OpenError}
-use Rattle.seg_open.specs.declared.open_error.OpenError.TheVariants.{Damaged}
 use Rattle.seg_segment.specs.declared.segment_files.SegmentFiles.{SegmentFiles}
-use Rattle.seg_batches.specs.Making.{AreWhole}
 use Rattle.seg_merge.specs.declared.merging.MergedSegment.{MergedSegment}
 
 module _ (given schema : Schema) (shared files : SegmentFiles) (n : ℕ) (same : given ≡ schema) (share : shared ≡ files) where
-  -- files that are whole disagree nowhere
-  pub undamaged : (e : OpenError) (component : SegmentComponent) → e ≡ Damaged component → AreWhole schema files n → IsWhyNotOpen given n shared e → ⊥
-  undamaged e component is whole damaged = disagree files whole.contents (all (up_to component)) whole.spelled whole.counted
-    where
-      disagree : Disagree schema n files component
-      disagree = subst (λ s. Disagree s n files component) same (subst (λ fs. Disagree given n fs component) share (subst (IsWhyNotOpen given n shared) is damaged))
-
-      all : (cs : List SegmentComponent) → AllByRecursion (λ c. bytes_of files c ≡ bytes_of files c) cs
-      all [] = tt
-      all (c ∷ cs) = (refl, all cs)
-
   -- what is read of them is what they spell
-  pub one_contents : FilesSpellOneContents → (read : Contents) → Spell given shared read → (contents : Contents) → Spell schema files contents → read ≡ contents
-  one_contents one read spelled contents h = one schema files read contents (subst (λ s. Spell s files read) same (subst (λ fs. Spell given fs read) share spelled)) h
+  pub one_contents : FilesSpellOneContents → (read : Contents) → Spell given shared read → (contents : Contents)
+      → Spell schema files contents → read ≡ contents
+  one_contents one read spelled contents h =
+      one schema files read contents
+      (subst (λ s. Spell s files read) same (subst (λ fs. Spell given fs read) share spelled)) h
 
--- what is opened spells what was made
-pub spells : (schema : Schema) (files : SegmentFiles) (contents : Contents) (r : Result MergedSegment TantivyError) → Spell schema files contents → IfOk r (λ m. m.files ≡ files) → IfOk r (λ m. (c : Contents) → Spell schema files c → contents_of m.reader ≡ c)
-    → IfOk r (λ m. Spell schema m.files (contents_of m.reader))
-spells schema files contents (Ok m) h same one = subst (λ (fs : SegmentFiles). Spell schema fs (contents_of m.reader)) (sym same) (subst (λ (c : Contents). Spell schema files c) (sym (one contents h)) h)
-spells schema files contents (Err e) h same one = tt
+-- what is opened has all that is kept, and the files spell it
+pub is_merged : (schema : Schema) (kept : List KeptSegment) (files : SegmentFiles) (n : ℕ) (r : Result MergedSegment TantivyError)
+    → Spell schema files (joined_with schema (map part_of kept) empty) → n ≡ kept_count kept → n < 2 ^ 31
+    → IfOk r (λ m. IsOpened schema files n m.files m.reader) → IfOk r (λ m. IsMergedInto schema kept m.files m.reader)
+is_merged schema kept files n (Ok m) spelled counted few opened =
+    let joins = opened.contents (joined_with schema (map part_of kept) empty) spelled in
+    record {
+      merge = record {
+        of_schema = opened.of_schema;
+        number = opened.number ∙ counted;
+        few = subst (λ (k : ℕ). k < 2 ^ 31) counted few;
+        joins = joins;
+      };
+      spell = subst (λ (fs : SegmentFiles). Spell schema fs (contents_of m.reader)) (sym opened.same)
+          (subst (λ (c : Contents). Spell schema files c) (sym joins) spelled);
+    }
+is_merged schema kept files n (Err e) spelled counted few opened = tt
 
-pub has_contents : (schema : Schema) (files : SegmentFiles) (contents : Contents) (r : Result MergedSegment TantivyError) → Spell schema files contents → IfOk r (λ m. (c : Contents) → Spell schema files c → contents_of m.reader ≡ c)
-    → IfOk r (λ m. contents_of m.reader ≡ contents)
-has_contents schema files contents (Ok m) h one = one contents h
-has_contents schema files contents (Err e) h one = tt
+-- ---- too many documents
+
+below : (n m : ℕ) → n < m → nat_lt n m ≡ true
+below n m lt = grind (arith, nat_tests)
+
+few_passes : (n : ℕ) → n < 2 ^ 31 → too_many n ≡ None
+few_passes n few = ap (λ b. unless b (InvalidArgument Documents)) (below n (2 ^ 31) few)
+
+pub many_told : (n : ℕ) → 2 ^ 31 ≤ n → too_many n ≡ Some (InvalidArgument Documents)
+many_told n many = ap (λ b. unless b (InvalidArgument Documents)) (le-ltb n (2 ^ 31) many)
+
+-- few documents are opened
+pub opened_told : {T : Type 0} (n : ℕ) (r : Result T TantivyError) → n < 2 ^ 31 → IfErr r (λ e. e ≡ OutOfMemory)
+    → Tells (too_many n) r
+opened_told n (Ok x) few starved = few_passes n few
+opened_told n (Err e) few starved = inr starved
+
+-- or segments are not joined
+pub joining_told : (T : Type 0) (n : ℕ) (e : TantivyError) → (e ≡ OutOfMemory) ⊎ ((e ≡ InvalidArgument Documents) × (2 ^ 31 ≤ n)) → Tells {T = T} (too_many n) (Err e)
+joining_told T n e (inl starved) = inr starved
+joining_told T n e (inr told) = inl (many_told n told.1 ∙ ap (λ (x : TantivyError). Some x) (sym told.0))

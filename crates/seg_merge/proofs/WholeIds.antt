@@ -1,12 +1,10 @@
 -- The ids of the work segments, and of the output segment.
 use Rattle.std.proofs.Common.{◌≡◌, ◌<◌, ◌^◌, ℕ, zero, suc, ◌+◌, Bool, true, false, List, [], ◌∷◌, length, take, get_or, refl, sym, ap, subst, ◌∙◌, arith}
-use Rattle.std.specs.Prelude.{◌&&◌, ◌||◌, ◌==◌, nat_eq, nat_lt, not}
+use Rattle.std.specs.Prelude.{◌&&◌, ◌||◌, ◌==◌, nat_eq, not}
 use Rattle.std.specs.List.{list_any}
-use Rattle.std.proofs.lemmas.Bool.{false≢true}
-use Rattle.std.proofs.lemmas.Bool.Decides.{nat_tests}
+use Rattle.std.proofs.lemmas.Bool.{and_parts, eqb-true, ltb-true, not-true, or_parts}
 use Rattle.seg_model.specs.Valid.{are_distinct, batches_fit, ids_fit}
 use Rattle.seg_merge.specs.IndexFiles.{output_id, work_ids}
-use Rattle.seg_merge.proofs.WholeRead.{both_true, same_number}
 
 -- ---- by their places
 
@@ -34,11 +32,8 @@ pub front_length : (ids : List ℕ) (n : ℕ) → length ids ≡ n + 1 → lengt
 front_length [] n e = absurd (omega (arith, e))
 front_length (id ∷ ids) n e = let one = rests id ids in omega (arith, e, one)
 
-below : (m n : ℕ) → nat_lt m n ≡ true → m < n
-below m n h = grind (arith, nat_tests)
-
 pub ids_many : (cuts ids : List ℕ) → ids_fit cuts ids ≡ true → length ids ≡ length cuts + 2
-ids_many cuts ids fit = same_number (length ids) (length cuts + 2) (both_true (length ids == length cuts + 2) (are_distinct ids) fit).0
+ids_many cuts ids fit = eqb-true (length ids) (length cuts + 2) (and_parts (length ids == length cuts + 2) (are_distinct ids) fit).0
 
 pub work_many : (cuts ids : List ℕ) → ids_fit cuts ids ≡ true → length (work_ids ids) ≡ length cuts + 1
 work_many cuts ids fit = let many = ids_many cuts ids fit in front_length ids (length cuts + 1) (omega (arith, many))
@@ -46,31 +41,24 @@ work_many cuts ids fit = let many = ids_many cuts ids fit in front_length ids (l
 pub work_few : (cuts ids : List ℕ) → batches_fit cuts ≡ true → ids_fit cuts ids ≡ true → length (work_ids ids) < 2 ^ 32
 work_few cuts ids few fit =
     let many = work_many cuts ids fit in
-    let less = below (length cuts + 1) (2 ^ 32) few in
+    let less = ltb-true (length cuts + 1) (2 ^ 32) few in
     subst (λ n. n < 2 ^ 32) (sym many) less
-
-either_off : (a b : Bool) → (a || b) ≡ false → (a ≡ false) × (b ≡ false)
-either_off true b h = absurd (false≢true (sym h))
-either_off false b h = (refl, h)
 
 none_in_front : (p : ℕ → Bool) (xs : List ℕ) → list_any p xs ≡ false → list_any p (work_ids xs) ≡ false
 none_in_front p [] h = h
 none_in_front p (x ∷ []) h = refl
 none_in_front p (x ∷ y ∷ ys) h =
-    let two = either_off (p x) (list_any p (y ∷ ys)) h in
+    let two = or_parts (p x) (list_any p (y ∷ ys)) h in
     ap (λ b. b || list_any p (work_ids (y ∷ ys))) two.0 ∙ none_in_front p (y ∷ ys) two.1
-
-is_off : (b : Bool) → not b ≡ true → b ≡ false
-is_off false h = refl
-is_off true h = absurd (false≢true h)
 
 front_distinct : (ids : List ℕ) → are_distinct ids ≡ true → are_distinct (work_ids ids) ≡ true
 front_distinct [] h = refl
 front_distinct (id ∷ []) h = refl
 front_distinct (id ∷ other ∷ ids) h =
-    let two = both_true (not (list_any (nat_eq id) (other ∷ ids))) (are_distinct (other ∷ ids)) h in
-    ap (λ b. not b && are_distinct (work_ids (other ∷ ids))) (none_in_front (nat_eq id) (other ∷ ids) (is_off (list_any (nat_eq id) (other ∷ ids)) two.0))
+    let two = and_parts (not (list_any (nat_eq id) (other ∷ ids))) (are_distinct (other ∷ ids)) h in
+    ap (λ b. not b && are_distinct (work_ids (other ∷ ids)))
+    (none_in_front (nat_eq id) (other ∷ ids) (not-true (list_any (nat_eq id) (other ∷ ids)) two.0))
     ∙ front_distinct (other ∷ ids) two.1
 
 pub work_distinct : (cuts ids : List ℕ) → ids_fit cuts ids ≡ true → are_distinct (work_ids ids) ≡ true
-work_distinct cuts ids fit = front_distinct ids (both_true (length ids == length cuts + 2) (are_distinct ids) fit).1
+work_distinct cuts ids fit = front_distinct ids (and_parts (length ids == length cuts + 2) (are_distinct ids) fit).1

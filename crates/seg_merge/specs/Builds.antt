@@ -1,5 +1,5 @@
 -- What the building of an index from an input comes to.
-use Rattle.std.specs.Prelude.{◌≡◌, ◌≢◌, ◌⊎◌, List, map, Some, None, IfSome, IsTrue}
+use Rattle.std.specs.Prelude.{◌≡◌, ◌≢◌, ◌⊎◌, List, map, Some, None, Err, IfSome, IsTrue}
 use Rattle.std.specs.FinMap.{len}
 use Rattle.seg_values.specs.declared.error.ArgumentCause.TheVariants.{Documents}
 use Rattle.seg_values.specs.declared.error.TantivyError.{TantivyError}
@@ -11,14 +11,18 @@ use Rattle.seg_model.specs.Laws.{AreReadingsOf}
 use Rattle.seg_model.specs.Valid.{Known}
 use Rattle.seg_open.specs.OpenSegment.{OpenSegment, contents_of}
 use Rattle.seg_open.specs.SegmentOpened.{IsNoDamage}
-use Rattle.seg_join.specs.KeptSegment.{KeptSegment, part_of}
+use Rattle.seg_open.specs.KeptSegment.{KeptSegment, part_of}
 use Rattle.seg_refusals.specs.Admitted.{IsValidIf}
-use Rattle.seg_refusals.specs.Refusals.{IfRefusal, first_error, refusal_error}
-use Rattle.seg_merge.specs.DirectoryCalls.{Directories, StopsIn, WritesBoth, asked_of}
+use Rattle.seg_refusals.specs.Refusals.{first_error, refusal_error}
+use Rattle.seg_model.specs.Refused.{IfRefusal}
+use Rattle.seg_merge.specs.DirectoryCalls.{BuildsIndexes, WritesBoth}
 use Rattle.seg_merge.specs.IndexFiles.{IsMergedIndexOf, IsOutputIndexOf, IsWorkIndexOf}
+use Rattle.seg_merge.specs.Turns.{Directories}
 
--- what is read of a work directory that tells its files is what was added, with what deletes leave of it; and what is merged of that is the survivors
-pub record IsRead (analyzer : Analyzer) (input : Input) (read : List KeptSegment) (output : OpenSegment) (before after : Directories) : Type 0 where
+-- what is read of a work directory that tells its files is what was added, with what deletes leave of it; and what is
+-- merged of that is the survivors
+pub record IsRead (analyzer : Analyzer) (input : Input) (read : List KeptSegment) (output : OpenSegment)
+    (before after : Directories) : Type 0 where
   pub was_empty : len before.work.files ≡ 0
   pub index : IsWorkIndexOf analyzer input after.work.files
   pub readings : AreReadingsOf input.schema analyzer (input_batches analyzer input) (map part_of read)
@@ -31,16 +35,18 @@ pub record IsMerged (input : Input) (output : OpenSegment) (before after : Direc
   pub index : IsMergedIndexOf input output.documents after.output.files
 
 -- both indexes are written; these segments were read of the first, and the second is this one
-pub record Builds (known : Known) (analyzer : Analyzer) (input : Input) (read : List KeptSegment) (output : OpenSegment) (before after : Directories) : Type 0 where
+pub record Builds (known : Known) (analyzer : Analyzer) (input : Input) (read : List KeptSegment) (output : OpenSegment)
+    (before after : Directories) : Type 0 where
   pub admitted : first_error known analyzer input ≡ None
   pub valid : IsValidIf (IsTrue before.work.tells) known analyzer input
-  pub writes : WritesBoth (asked_of analyzer input) read output before after
+  pub writes : WritesBoth known analyzer input read output before after
   pub in_work : IsTrue before.work.tells → IsRead analyzer input read output before after
   pub in_output : IsTrue before.output.tells → IsMerged input output before after
 
 -- why the input is refused, or too many documents were read back
 abbrev pub IsWhyUntold : Known → Analyzer → Input → TantivyError → Type 0
-IsWhyUntold known analyzer input e = (refusal_error known analyzer input ≡ Some e) ⊎ (e ≡ InvalidArgument Documents)
+IsWhyUntold known analyzer input e =
+    (refusal_error known analyzer input ≡ Some e) ⊎ (e ≡ InvalidArgument Documents)
 
 -- directories without files, which they tell
 pub record AreEmpty (state : Directories) : Type 0 where
@@ -50,10 +56,12 @@ pub record AreEmpty (state : Directories) : Type 0 where
   pub output : len state.output.files ≡ 0
 
 -- or it ends with an error: the first refusal, or out of memory, before a directory is called; or after that
-pub record StopsBuilding (known : Known) (analyzer : Analyzer) (input : Input) (e : TantivyError) (before after : Directories) : Type 0 where
-  pub first : IfSome (first_error known analyzer input) (λ first. ((e ≡ first) ⊎ (e ≡ OutOfMemory)) × (after ≡ before))
+pub record StopsBuilding (known : Known) (analyzer : Analyzer) (input : Input) (e : TantivyError)
+    (before after : Directories) : Type 0 where
+  pub first : IfSome (first_error known analyzer input)
+      (λ first. ((e ≡ first) ⊎ (e ≡ OutOfMemory)) × (after ≡ before))
   pub refused : IsTrue before.work.tells → IfRefusal (λ x. refusal_error known analyzer input ≡ Some x) e
   pub untold : IfRefusal (IsWhyUntold known analyzer input) e
   pub fresh : AreEmpty before → e ≢ IndexAlreadyExists
   pub whole : IsTrue before.work.tells → IsNoDamage e
-  pub stops : StopsIn (asked_of analyzer input) e before after
+  pub stops : BuildsIndexes known analyzer input (Err e) before after

@@ -3,17 +3,13 @@ use Rattle.std.specs.Prelude.{ℕ, ◌≡◌, List, [], ◌∷◌, ◌++◌, map
 use Rattle.std.specs.List.{join_with_byte}
 use Rattle.seg_common.specs.SegmentIds.{id_text}
 use Rattle.seg_common.specs.declared.name.FileName.{FileName}
-use Rattle.seg_common.specs.declared.name.FileName.TheVariants.{Meta as meta_name}
-use Rattle.seg_directory.specs.declared.answer.Answer.{Answer}
-use Rattle.seg_directory.specs.declared.answer.Answer.TheVariants as answer
 use Rattle.seg_directory.specs.Files.{NamedFiles}
 use Rattle.seg_model.specs.Fields.{Schema, Analyzer}
-use Rattle.seg_model.specs.IndexOfFiles.{ListedSegment, Meta}
-use Rattle.seg_model.specs.IndexOfFiles as index
+use Rattle.seg_meta.specs.IndexOfFiles.{ListedSegment, Meta}
+use Rattle.seg_meta.specs.IndexOfFiles as index
 use Rattle.seg_model.specs.Input.{Settings, Input, input_batches, input_survivors}
 use Rattle.seg_model.specs.Operations.{Operation, batches}
 use Rattle.seg_segment.specs.Forms.{segment_forms}
-use Rattle.seg_segment.specs.SegmentFiles.{wrote}
 use Rattle.seg_batches.specs.Segments.{WrittenSegment, segments_of, all_listed, six_files, alive_files, AllStand, AllTellAlive}
 
 -- ---- ids
@@ -101,19 +97,3 @@ IsMergedIndexOf input documents files =
 -- the files of listed segments, in the order in which they are made: the six files of each, and then the alive files
 abbrev pub segments_files : List ListedSegment → List FileName
 segments_files segments = six_files (map (λ s. s.id) segments) ++ alive_files segments
-
--- with the meta
-abbrev pub index_names : List ListedSegment → List FileName
-index_names segments = meta_name ∷ segments_files segments
-
--- the answers when an index is begun: no file, and its meta
-abbrev pub begun_answers : List Answer
-begun_answers = answer.Listed 0 ∷ answer.Wrote meta_name ∷ []
-
--- and when it is filled: the files of the segments, and the meta
-abbrev pub filled_answers : List ListedSegment → List Answer
-filled_answers segments = wrote (segments_files segments) ++ answer.Wrote meta_name ∷ []
-
--- and both
-abbrev pub index_answers : List ListedSegment → List Answer
-index_answers segments = begun_answers ++ filled_answers segments

@@ -6,7 +6,7 @@ use Rattle.seg_model.specs.Fields.{Schema}
 use Rattle.seg_model.specs.Input.{Filter}
 use Rattle.seg_model.specs.Join.{joined_with}
 use Rattle.seg_model.specs.Operations.{filtered_by}
-use Rattle.seg_join.specs.KeptSegment.{KeptSegment, part_of}
+use Rattle.seg_open.specs.KeptSegment.{KeptSegment, part_of}
 
 -- each segment that was read under its filter; a segment after the last filter has none
 abbrev pub filtered_segments : List (Option Filter) → List KeptSegment → List KeptSegment

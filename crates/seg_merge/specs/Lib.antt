@@ -1,7 +1,9 @@
 pub mod Builds
 pub mod DirectoryCalls
-pub mod Filling
+pub mod Filters
 pub mod IndexFiles
 pub mod Joining
+pub mod Merging
+pub mod Turns
 pub mod WorkIndexWriting
 pub mod WritingSteps

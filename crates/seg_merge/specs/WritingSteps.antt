@@ -6,7 +6,7 @@ use Rattle.seg_meta.specs.MetaSteps.{create_steps, save_steps}
 use Rattle.seg_meta.specs.MetaText.{meta_text}
 use Rattle.seg_meta.specs.Saving.{empty_meta}
 use Rattle.seg_model.specs.Fields.{Schema}
-use Rattle.seg_model.specs.IndexOfFiles.{Meta}
+use Rattle.seg_meta.specs.IndexOfFiles.{Meta}
 use Rattle.seg_model.specs.Input.{Settings}
 use Rattle.seg_segment.specs.SegmentFiles.{write_steps}
 use Rattle.seg_segment.specs.declared.segment_files.SegmentFiles.{SegmentFiles}
@@ -22,7 +22,3 @@ publish_steps meta = save_steps (meta_text meta) ++ calls synced ∷ []
 -- an index that was begun is filled with the six files of one segment, and then its meta is saved
 abbrev pub fill_one_steps : Meta → ℕ → SegmentFiles → List Step
 fill_one_steps meta id files = write_steps id files ++ publish_steps meta
-
--- an index of one segment is begun, and filled
-abbrev pub write_one_steps : Meta → ℕ → SegmentFiles → List Step
-write_one_steps meta id files = begin_steps meta.settings meta.schema ++ fill_one_steps meta id files

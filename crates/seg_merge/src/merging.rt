@@ -1,17 +1,15 @@
 //! The segments that were read back, merged.
-ghost use Rattle.std.specs.Prelude.{◌≡◌, ◌≤◌, ◌<◌, ◌^◌, ◌⊎◌, Some, true, map, length, IfOk, IfErr, OnOk};
-ghost use Rattle.std.specs.FinMap.{empty};
+ghost use Rattle.std.specs.Prelude.{◌≡◌, Some, true, length, IfOk, IfErr, OnOk};
 ghost use Rattle.std.specs.List.{AllByRecursion};
-ghost use Rattle.seg_model.specs.Contents.{Contents};
-ghost use Rattle.seg_model.specs.Join.{joined_with};
 ghost use Rattle.seg_model.specs.Operations.{both_marked, filtered_by};
 ghost use Rattle.seg_segment.specs.Built.{is_built_schema};
-ghost use Rattle.seg_open.specs.OpenSegment.{contents_of};
-ghost use Rattle.seg_segment.specs.Spelling.{Spell};
-ghost use Rattle.seg_join.specs.KeptSegment.{IsMarked, IsOfSchema, kept_count, part_of};
+ghost use Rattle.seg_open.specs.KeptSegment.{IsMarked, IsOfSchema, kept_count};
 ghost use Rattle.seg_batches.specs.Making.{AreWhole};
-ghost use Rattle.seg_merge.specs.Filling.{FilterFits, FiltersFit};
-ghost use Rattle.seg_merge.specs.Joining.{filtered_segments, joined, keeps_of, kept_marks};
+ghost use Rattle.seg_model.specs.Telling.{Tells};
+ghost use Rattle.seg_merge.specs.DirectoryCalls.{too_many};
+ghost use Rattle.seg_merge.specs.Filters.{FilterFits, FiltersFit};
+ghost use Rattle.seg_merge.specs.Joining.{filtered_segments, keeps_of, kept_marks};
+ghost use Rattle.seg_merge.specs.Merging.{IsMergedInto, IsOpened};
 
 use seg_batches::ReadSegment;
 use seg_bits::{AliveBitSet, intersect_alive_bitsets};
@@ -40,12 +38,8 @@ pub(crate) fn merge_segments(
     requires built { is_built_schema schema.now ≡ true }
     requires parts { AllByRecursion (IsOfSchema schema.now) segments.now }
     requires filters { FiltersFit filters.now segments.now }
-    ensures spell { IfOk result (λ m. Spell schema.now m.files (contents_of m.reader)) }
-    ensures joined { IfOk result (λ m. contents_of m.reader ≡ joined schema.now filters.now segments.now) }
-    ensures of { IfOk result (λ m. (m.reader.schema ≡ schema.now) × (m.reader.documents ≡ kept_count (filtered_segments filters.now segments.now))) }
-    ensures few { IfOk result (λ m. m.reader.documents < 2 ^ 31) }
-    ensures err { IfErr result (λ e. (e ≡ TantivyError.OutOfMemory)
-        ⊎ ((e ≡ TantivyError.InvalidArgument ArgumentCause.Documents) × (2 ^ 31 ≤ kept_count (filtered_segments filters.now segments.now)))) }
+    ensures merged { IfOk result (λ m. IsMergedInto schema.now (filtered_segments filters.now segments.now) m.files m.reader) }
+    ensures told { Tells (too_many (kept_count (filtered_segments filters.now segments.now))) result }
 {
     let Ok(kept) = kept_sets(alloc, filters, segments) else {
         return Err(TantivyError::OutOfMemory);
@@ -131,12 +125,8 @@ fn merge_parts(
 ) -> TResult<MergedSegment>
     requires built { is_built_schema schema.now ≡ true }
     requires parts { AllByRecursion (IsOfSchema schema.now) parts.now }
-    ensures spell { IfOk result (λ m. Spell schema.now m.files (contents_of m.reader)) }
-    ensures joined { IfOk result (λ m. contents_of m.reader ≡ joined_with schema.now (map part_of parts.now) empty) }
-    ensures of { IfOk result (λ m. (m.reader.schema ≡ schema.now) × (m.reader.documents ≡ kept_count parts.now)) }
-    ensures few { IfOk result (λ m. m.reader.documents < 2 ^ 31) }
-    ensures err { IfErr result (λ e. (e ≡ TantivyError.OutOfMemory)
-        ⊎ ((e ≡ TantivyError.InvalidArgument ArgumentCause.Documents) × (2 ^ 31 ≤ kept_count parts.now))) }
+    ensures merged { IfOk result (λ m. IsMergedInto schema.now parts.now m.files m.reader) }
+    ensures told { Tells (too_many (kept_count parts.now)) result }
 {
     let Some(max_doc) = num_joined_docs(parts) else {
         return Err(TantivyError::InvalidArgument(ArgumentCause::Documents));
@@ -156,9 +146,7 @@ fn open_merged(
 ) -> TResult<MergedSegment>
     requires built { is_built_schema schema.now ≡ true }
     requires whole { AreWhole schema.now files max_doc }
-    ensures files { IfOk result (λ m. m.files ≡ files) }
-    ensures contents { IfOk result (λ m. (contents : Contents) → Spell schema.now files contents → contents_of m.reader ≡ contents) }
-    ensures of { IfOk result (λ m. (m.reader.schema ≡ schema.now) × (m.reader.documents ≡ max_doc)) }
+    ensures opened { IfOk result (λ m. IsOpened schema.now files max_doc m.files m.reader) }
     ensures err { IfErr result (λ e. e ≡ TantivyError.OutOfMemory) }
 {
     files_spell_one_contents();

@@ -2,9 +2,9 @@
 ghost use Rattle.seg_directory.specs.Works.{Works};
 ghost use Rattle.seg_meta.specs.Saving.{IsMetaList};
 ghost use Rattle.seg_meta.specs.View.{meta_of};
-ghost use Rattle.seg_merge.specs.WritingSteps.{fill_one_steps, write_one_steps};
+ghost use Rattle.seg_merge.specs.WritingSteps.{fill_one_steps};
 
-use crate::index_files::{begin_index, save_index};
+use crate::index_files::save_index;
 use seg_common::SegmentId;
 use seg_directory::Directory;
 use seg_meta::IndexMeta;
@@ -12,26 +12,8 @@ use seg_segment::SegmentFiles;
 use seg_values::TResult;
 use std::alloc::Global;
 
-/// Writes an index into a directory without files: its meta, and the files of its one segment.
-pub(crate) fn write_output_index<O: Directory>(
-    alloc: Global,
-    metas: &IndexMeta,
-    id: SegmentId,
-    files: &SegmentFiles,
-    output: &mut O,
-) -> TResult<()>
-    requires { IsMetaList metas.now.segments }
-    ensures { Works (write_one_steps (meta_of metas.now) id files.now) result (O.state output.old) (O.state output.new) }
-{
-    match begin_index(alloc, &metas.schema, &metas.index_settings, output) {
-        Ok(()) => {}
-        Err(e) => return Err(e),
-    }
-    fill_output_index(alloc, metas, id, files, output)
-}
-
 /// Fills an index that was begun: the files of its one segment, and then the meta.
-fn fill_output_index<O: Directory>(
+pub(crate) fn fill_output_index<O: Directory>(
     alloc: Global,
     metas: &IndexMeta,
     id: SegmentId,

@@ -5,7 +5,7 @@ ghost use Rattle.seg_common.specs.SegmentIds.{id_text};
 ghost use Rattle.seg_merge.specs.IndexFiles.{merge_payload};
 
 use seg_common::SegmentId;
-use seg_values::Text;
+use seg_words::Text;
 use std::alloc::{AllocError, Global};
 
 /// The payload of an index whose segment was merged from those with these ids.

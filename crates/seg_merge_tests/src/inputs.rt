@@ -6,11 +6,12 @@ use seg_common::SegmentId;
 use seg_directory::{MemoryDirectory, list_files};
 use seg_input::UserOperation;
 use seg_merge::build_index;
-use seg_meta::{Compressor, IndexSettings};
+use seg_meta::IndexSettings;
 use seg_values::{
-    ArgumentCause, DefaultTokenizer, Field, FieldEntry, FieldKind, IndexOption, OwnedValue, Schema,
-    SchemaBuilder, SchemaCause, TResult, TantivyDocument, TantivyError, TokenizerManager,
+    ArgumentCause, Compressor, Field, FieldEntry, FieldKind, IndexOption, OwnedValue, Schema,
+    SchemaBuilder, SchemaCause, TResult, TantivyDocument, TantivyError,
 };
+use seg_words::{DefaultTokenizer, TokenizerManager};
 use std::alloc::{AllocError, Global};
 use std::test::Fail;
 

@@ -10,7 +10,8 @@ use Rattle.seg_meta.specs.MetaRead.{json_of}
 pub json_of-read : (bytes : List ℕ) (d : Data) → IsUtf8 bytes × (read bytes ≡ Some d) → json_of bytes ≡ Some d
 json_of-read bytes d h = rw (is_utf8-from_IsUtf8 bytes h.0) h.1
 
-either : (bytes : List ℕ) (b : Bool) → is_utf8 bytes ≡ b → (IsUtf8 bytes → read bytes ≡ None) → (if b then read bytes else None) ≡ None
+-- text that isn't read, or no text
+pub either : (bytes : List ℕ) (b : Bool) → is_utf8 bytes ≡ b → (IsUtf8 bytes → read bytes ≡ None) → (if b then read bytes else None) ≡ None
 either bytes true e h = h (IsUtf8-from_is_utf8 bytes e)
 either bytes false e h = refl
 

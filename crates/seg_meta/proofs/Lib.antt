@@ -1,4 +1,3 @@
-pub mod Any
 pub mod Ids
 pub mod Json
 pub mod ListRead

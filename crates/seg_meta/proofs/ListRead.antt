@@ -77,7 +77,8 @@ module _ {A : Type 0} (read : Data → Option A) (alike : A → A → Bool) (lim
         ∙ ap (λ o. given (option_map (λ rest. done ++ rest) (given o (λ a. option_map (λ xs. a ∷ xs) (each read left)))) kept) is
         ∙ twice done x (each read left) there
 
-one_behind : {A : Type 0} (done : List A) (x : A) (r : Option (List A)) → option_map (λ rest. (done ++ x ∷ []) ++ rest) r ≡ option_map (λ rest. done ++ rest) (option_map (λ xs. x ∷ xs) r)
+-- one item more joins what was read before
+pub one_behind : {A : Type 0} (done : List A) (x : A) (r : Option (List A)) → option_map (λ rest. (done ++ x ∷ []) ++ rest) r ≡ option_map (λ rest. done ++ rest) (option_map (λ xs. x ∷ xs) r)
 one_behind done x None = refl
 one_behind done x (Some xs) = ap Some (append_assoc done (x ∷ []) xs)
 

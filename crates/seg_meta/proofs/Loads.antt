@@ -1,12 +1,12 @@
 -- The meta of an index is loaded: it says one, its file can't be read, it says none, or there is no memory for it.
-use Rattle.std.proofs.Common.{◌≡◌, ℕ, List, [], ◌∷◌, Option, Some, None, Ok, Err, refl, ap}
+use Rattle.std.proofs.Common.{◌≡◌, ℕ, List, [], ◌∷◌, Some, None, Ok, Err, refl}
 use Rattle.seg_common.specs.declared.name.FileName.TheVariants as name
 use Rattle.seg_values.specs.declared.error.TantivyError.{TantivyError}
 use Rattle.seg_values.specs.declared.error.TantivyError.TheVariants.{DataCorruption, OutOfMemory}
 use Rattle.seg_directory.proofs.Doing.{went, broke, then_does, stops, does_nothing}
 use Rattle.seg_directory.specs.Calls.{read}
 use Rattle.seg_directory.specs.State.{DirectoryState}
-use Rattle.seg_directory.specs.Works.{Works, WorksFor, calls}
+use Rattle.seg_directory.specs.Works.{WorksFor, calls}
 use Rattle.seg_meta.specs.MetaRead.{meta_read}
 use Rattle.seg_meta.specs.MetaSteps.{LoadsMetas}
 use Rattle.seg_meta.specs.View.{meta_of}

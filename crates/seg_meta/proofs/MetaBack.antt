@@ -6,7 +6,7 @@ use Rattle.std.proofs.lemmas.Bool.Decides.{nat_tests}
 use Rattle.seg_values.specs.Distinct.{all_distinct}
 use Rattle.seg_values.specs.SchemaRules.{is_entry, is_schema, same_name}
 use Rattle.seg_values.specs.declared.schema.FieldEntry.{FieldEntry}
-use Rattle.seg_model.specs.IndexOfFiles.{ListedSegment, Meta}
+use Rattle.seg_meta.specs.IndexOfFiles.{ListedSegment, Meta}
 use Rattle.serde_json.specs.Data.{Data, array}
 use Rattle.serde_json.specs.View.{items_of}
 use Rattle.seg_meta.specs.Fits.{MetaFits, SegmentFits}

@@ -7,7 +7,7 @@ use Rattle.serde_json.specs.View.{items_of}
 use Rattle.serde_json.specs.Written.{IsInOrder, has_float, items_have_float}
 use Rattle.serde_json.proofs.Texts.{tokens_from_order}
 use Rattle.seg_values.specs.declared.schema.FieldEntry.{FieldEntry}
-use Rattle.seg_model.specs.IndexOfFiles.{Deletes, ListedSegment, Meta}
+use Rattle.seg_meta.specs.IndexOfFiles.{Deletes, ListedSegment, Meta}
 use Rattle.seg_meta.specs.MetaJson.{text_json, entry_json, deletes_json, segment_json, meta_json}
 use Rattle.seg_meta.specs.MetaText.{pretty_text}
 

@@ -12,7 +12,7 @@ use Rattle.seg_values.specs.declared.schema.FieldKind.TheVariants as kind
 use Rattle.seg_values.specs.declared.schema.IndexOption.{IndexOption}
 use Rattle.seg_values.specs.declared.schema.IndexOption.TheVariants as index
 use Rattle.seg_model.specs.Input.{Compression, Settings, uncompressed, lz4, zstd}
-use Rattle.seg_model.specs.IndexOfFiles.{Deletes, ListedSegment}
+use Rattle.seg_meta.specs.IndexOfFiles.{Deletes, ListedSegment}
 use Rattle.seg_meta.specs.MetaJson.{text_json, settings_json, entry_json, deletes_json, segment_json}
 use Rattle.seg_meta.specs.Metas.{AreDeletes}
 use Rattle.seg_meta.specs.PartsRead.{compressions, kinds, index_options, precisions, settings_from, entry_from, deletes_from, segment_from}

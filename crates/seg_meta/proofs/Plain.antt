@@ -1,5 +1,5 @@
 -- JSON values whose text is UTF-8 and reads back: their numbers and texts are such as their types hold, and they nest a few levels.
-use Rattle.std.proofs.Common.{◌≡◌, ℕ, zero, suc, ◌+◌, ◌/◌, ◌%◌, ◌^◌, ◌<◌, ◌≤◌, List, [], ◌∷◌, map, Bool, true, nat_lt, Option, Some, None, decimal, IsUtf8, codes, refl, arith}
+use Rattle.std.proofs.Common.{◌≡◌, ℕ, zero, suc, ◌+◌, ◌/◌, ◌%◌, ◌^◌, ◌<◌, ◌≤◌, List, [], ◌∷◌, map, Bool, true, Option, Some, None, decimal, IsUtf8, codes, refl, arith}
 use Rattle.std.specs.Char.{digit_char}
 use Rattle.std.specs.List.{AllByRecursion}
 use Rattle.std.proofs.lemmas.Bool.Decides.{nat_tests}
@@ -12,6 +12,7 @@ use Rattle.serde_json.specs.Data.{Data, null, boolean, string, array, object, It
 use Rattle.serde_json.specs.View.{items_of}
 use Rattle.serde_json.specs.Written.{outline, items_outline, members_outline}
 use Rattle.seg_common.specs.SegmentIds.{hex_text, id_text}
+use Rattle.seg_model.proofs.Utf8.{IsUtf8-ascii}
 use Rattle.seg_meta.specs.Fits.{IsText}
 use Rattle.seg_meta.specs.MetaJson.{count_json, text_json}
 use Rattle.seg_meta.proofs.Pretty.{AreUtf8, AreUtf8-append}
@@ -37,11 +38,8 @@ record MembersPlain (n : ℕ) (ms : Members) : Type 0 where
   numbers : tree.MembersHaveNumbers (members_outline ms)
   shallow : tree.members_depth (members_outline ms) ≤ n
 
-one_digit : (n : ℕ) → n < 128 → IsUtf8 (n ∷ [])
-one_digit n h = let small : nat_lt n 128 ≡ true = grind (arith, nat_tests) in IsUtf8-are_ascii (n ∷ []) (rw small refl)
-
 IsUtf8-decimal : (n : ℕ) → n < 2 ^ 64 → IsUtf8 (decimal n)
-IsUtf8-decimal n h = decimal_by_steps (λ n ds. IsUtf8 ds) (λ n l. one_digit (48 + n) (omega arith)) (λ n ds l u. IsUtf8-append ds ((48 + n % 10) ∷ []) u (one_digit (48 + n % 10) (omega arith))) n h
+IsUtf8-decimal n h = decimal_by_steps (λ n ds. IsUtf8 ds) (λ n l. IsUtf8-ascii (48 + n) (omega arith)) (λ n ds l u. IsUtf8-append ds ((48 + n % 10) ∷ []) u (IsUtf8-ascii (48 + n % 10) (omega arith))) n h
 
 digit_small : (d : ℕ) → d < 16 → digit_char d < 128
 digit_small d h = grind (arith, nat_tests)
@@ -49,7 +47,7 @@ digit_small d h = grind (arith, nat_tests)
 IsUtf8-hex : (k n : ℕ) → IsUtf8 (hex_text k n)
 unfolding hex_text
 IsUtf8-hex zero n = IsUtf8-nil
-IsUtf8-hex (suc k) n = IsUtf8-append (hex_text k (n / 16)) (digit_char (n % 16) ∷ []) (IsUtf8-hex k (n / 16)) (one_digit (digit_char (n % 16)) (digit_small (n % 16) (omega arith)))
+IsUtf8-hex (suc k) n = IsUtf8-append (hex_text k (n / 16)) (digit_char (n % 16) ∷ []) (IsUtf8-hex k (n / 16)) (IsUtf8-ascii (digit_char (n % 16)) (digit_small (n % 16) (omega arith)))
 
 pub plain_null : (n : ℕ) → IsPlain n null
 plain_null n = record { utf8 = (IsUtf8-are_ascii (codes "null") refl, tt); numbers = tt; shallow = omega arith }

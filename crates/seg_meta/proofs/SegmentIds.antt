@@ -1,19 +1,10 @@
 -- The ids of segments, in a list and in a set.
-use Rattle.std.proofs.Common.{◌≡◌, ℕ, List, [], ◌∷◌, ◌++◌, Bool, true, false, not, ◌||◌, cond, nat_eq, refl, sym, ap, ◌∙◌, arith}
-use Rattle.std.proofs.lemmas.Bool.Decides.{nat_tests}
+use Rattle.std.proofs.Common.{◌≡◌, ℕ, List, [], ◌∷◌, ◌++◌, Bool, true, false, not, ◌||◌, cond, nat_eq, refl, sym, ap, ◌∙◌}
 use Rattle.std.proofs.lemmas.List.Folds.{list_any-append}
 use Rattle.std.specs.List.{list_any}
-use Rattle.seg_model.specs.IndexOfFiles.{ListedSegment}
+use Rattle.seg_common.proofs.Numbers.{nat_eq-sym}
+use Rattle.seg_meta.specs.IndexOfFiles.{ListedSegment}
 use Rattle.seg_meta.specs.Saving.{same_id}
-
-both : (a b : Bool) → (a ≡ true → b ≡ true) → (b ≡ true → a ≡ true) → a ≡ b
-both true true f g = refl
-both true false f g = sym (f refl)
-both false true f g = g refl
-both false false f g = refl
-
-nat_eq-sym : (m n : ℕ) → nat_eq m n ≡ nat_eq n m
-nat_eq-sym m n = both (nat_eq m n) (nat_eq n m) (λ h. grind (arith, nat_tests, h)) (λ h. grind (arith, nat_tests, h))
 
 -- ids are compared both ways
 pub same_id-sym : (s t : ListedSegment) → same_id s t ≡ same_id t s

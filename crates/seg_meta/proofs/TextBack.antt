@@ -19,7 +19,7 @@ use Rattle.seg_values.specs.declared.schema.FieldKind.TheVariants as kind
 use Rattle.seg_values.specs.declared.schema.IndexOption.{IndexOption}
 use Rattle.seg_values.specs.declared.schema.IndexOption.TheVariants as index
 use Rattle.seg_model.specs.Input.{Compression, Settings, uncompressed, lz4, zstd}
-use Rattle.seg_model.specs.IndexOfFiles.{Deletes, ListedSegment, Meta}
+use Rattle.seg_meta.specs.IndexOfFiles.{Deletes, ListedSegment, Meta}
 use Rattle.seg_meta.specs.Fits.{HasTexts, FitStamps, SegmentFits, MetaFits}
 use Rattle.seg_meta.specs.MetaJson.{text_json, settings_json, entry_json, deletes_json, segment_json, meta_json}
 use Rattle.seg_meta.specs.MetaText.{pretty_text, meta_text}

@@ -2,7 +2,7 @@
 use Rattle.std.specs.Prelude.{ℕ, ◌<◌, ◌^◌, List, Option, IfSome, IsUtf8}
 use Rattle.std.specs.List.{AllByRecursion}
 use Rattle.seg_values.specs.declared.schema.FieldEntry.{FieldEntry}
-use Rattle.seg_model.specs.IndexOfFiles.{Deletes, ListedSegment, Meta}
+use Rattle.seg_meta.specs.IndexOfFiles.{Deletes, ListedSegment, Meta}
 use Rattle.seg_meta.specs.Metas.{IsListed}
 
 -- a text, where there is one, is UTF-8

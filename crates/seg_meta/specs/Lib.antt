@@ -1,4 +1,5 @@
 pub mod Fits
+pub mod IndexOfFiles
 pub mod MetaJson
 pub mod MetaRead
 pub mod MetaSteps

@@ -5,7 +5,7 @@ use Rattle.serde_json.specs.View.{items_of}
 use Rattle.seg_common.specs.SegmentIds.{id_text}
 use Rattle.seg_values.specs.declared.schema.FieldEntry.{FieldEntry}
 use Rattle.seg_model.specs.Input.{Settings}
-use Rattle.seg_model.specs.IndexOfFiles.{Deletes, ListedSegment, Meta}
+use Rattle.seg_meta.specs.IndexOfFiles.{Deletes, ListedSegment, Meta}
 use Rattle.seg_meta.specs.Words.{compression_word, kind_word, index_word, precision_word}
 
 -- a natural number

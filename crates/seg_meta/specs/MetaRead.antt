@@ -7,7 +7,7 @@ use Rattle.serde_json.specs.Read.{read}
 use Rattle.seg_values.specs.Distinct.{all_distinct}
 use Rattle.seg_values.specs.SchemaRules.{same_name}
 use Rattle.seg_values.specs.declared.schema.FieldEntry.{FieldEntry}
-use Rattle.seg_model.specs.IndexOfFiles.{ListedSegment, Meta}
+use Rattle.seg_meta.specs.IndexOfFiles.{ListedSegment, Meta}
 use Rattle.seg_meta.specs.PartsRead.{settings_from, entry_from, segment_from}
 use Rattle.seg_meta.specs.Reads.{given, provided, required, natural, nullable, list_of, has_only}
 use Rattle.seg_meta.specs.Saving.{same_id}

@@ -4,7 +4,7 @@ use Rattle.json.specs.Layout.{pretty}
 use Rattle.json.specs.Tree.{json_tokens}
 use Rattle.serde_json.specs.Data.{Data}
 use Rattle.serde_json.specs.Written.{outline}
-use Rattle.seg_model.specs.IndexOfFiles.{Meta}
+use Rattle.seg_meta.specs.IndexOfFiles.{Meta}
 use Rattle.seg_meta.specs.MetaJson.{meta_json}
 
 -- a JSON value with a line for each item and member, two spaces deeper for each bracket

@@ -1,7 +1,7 @@
 -- What the metas of an index say.
 use Rattle.std.specs.Prelude.{ℕ, ◌≡◌, ◌<◌, ◌≤◌, ◌^◌, Option, Some, None, option_map, refl}
 use Rattle.seg_model.specs.Fields.{Schema}
-use Rattle.seg_model.specs.IndexOfFiles.{Deletes, ListedSegment}
+use Rattle.seg_meta.specs.IndexOfFiles.{Deletes, ListedSegment}
 use Rattle.seg_meta.specs.declared.delete_meta.DeleteMeta.{DeleteMeta}
 
 -- the deletes of a segment, in the words of an index

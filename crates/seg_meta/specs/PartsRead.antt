@@ -13,7 +13,7 @@ use Rattle.seg_values.specs.declared.schema.FieldKind.TheVariants as kind
 use Rattle.seg_values.specs.declared.schema.IndexOption.{IndexOption}
 use Rattle.seg_values.specs.declared.schema.IndexOption.TheVariants as index
 use Rattle.seg_model.specs.Input.{Compression, uncompressed, lz4, zstd, Settings}
-use Rattle.seg_model.specs.IndexOfFiles.{Deletes, ListedSegment}
+use Rattle.seg_meta.specs.IndexOfFiles.{Deletes, ListedSegment}
 use Rattle.seg_meta.specs.Reads.{given, provided, required, natural, below, nullable, word_of, has_only}
 
 -- the compressions by their words

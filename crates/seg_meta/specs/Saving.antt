@@ -1,9 +1,9 @@
 -- Metas that can be saved.
-use Rattle.std.specs.Prelude.{ℕ, ◌≡◌, ◌<◌, ◌^◌, List, [], length, Bool, true, nat_eq, None}
+use Rattle.std.specs.Prelude.{◌≡◌, ◌<◌, ◌^◌, List, [], length, Bool, true, nat_eq, None}
 use Rattle.seg_values.specs.Distinct.{all_distinct}
 use Rattle.seg_model.specs.Fields.{Schema}
 use Rattle.seg_model.specs.Input.{Settings}
-use Rattle.seg_model.specs.IndexOfFiles.{ListedSegment, Meta}
+use Rattle.seg_meta.specs.IndexOfFiles.{ListedSegment, Meta}
 
 -- two segments have one id
 abbrev pub same_id : ListedSegment → ListedSegment → Bool

@@ -1,8 +1,8 @@
 -- What the metas mean, in the words of an index.
 use Rattle.seg_model.specs.Input.{Compression, uncompressed, lz4, zstd, Settings}
-use Rattle.seg_model.specs.IndexOfFiles.{Meta}
-use Rattle.seg_meta.specs.declared.compressor.Compressor.{Compressor}
-use Rattle.seg_meta.specs.declared.compressor.Compressor.TheVariants as compressor
+use Rattle.seg_meta.specs.IndexOfFiles.{Meta}
+use Rattle.seg_values.specs.declared.compressor.Compressor.{Compressor}
+use Rattle.seg_values.specs.declared.compressor.Compressor.TheVariants as compressor
 use Rattle.seg_meta.specs.declared.index_settings.IndexSettings.{IndexSettings}
 use Rattle.seg_meta.specs.declared.index_meta.IndexMeta.{IndexMeta}
 

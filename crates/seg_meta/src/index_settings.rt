@@ -1,6 +1,6 @@
 //! The settings of an index.
 
-use crate::Compressor;
+use seg_values::Compressor;
 
 /// The settings of an index, which are those of its store of documents.
 #[derive(Clone, Copy, Debug, PartialEq, Eq)]

@@ -6,12 +6,11 @@
 //! Bytes are read as a meta where they are a JSON text with exactly the members of one (`MetaRead`), and each meta is what
 //! its own text reads as (`meta_law`).
 //!
-//! To be read in this order: `compressor`, `index_settings`; `delete_meta`, `segment_meta`, `segment_metas`;
+//! To be read in this order: `index_settings`; `delete_meta`, `segment_meta`, `segment_metas`;
 //! `index_meta`, `segment`; `words`, `meta_json`, `content`; `read_error`, `members`, `settings_read`, `entry_read`,
 //! `segment_read`, `schema_read`, `segments_read`, `meta_read`; `ranges`, `meta_law`; `save`, `load`, `index`.
 #![tactic(auto)]
 
-mod compressor;
 mod content;
 mod delete_meta;
 mod entry_read;
@@ -35,7 +34,6 @@ mod segments_read;
 mod settings_read;
 mod words;
 
-pub use compressor::Compressor;
 pub use content::meta_text;
 pub use delete_meta::DeleteMeta;
 pub use entry_read::entry_from;

@@ -2,7 +2,7 @@
 ghost use Rattle.std.specs.Prelude.{◌≡◌, Some, true};
 ghost use Rattle.std.specs.List.{AllByRecursion};
 ghost use Rattle.seg_values.specs.SchemaRules.{is_schema};
-ghost use Rattle.seg_model.specs.IndexOfFiles.{Meta};
+ghost use Rattle.seg_meta.specs.IndexOfFiles.{Meta};
 ghost use Rattle.seg_meta.specs.Fits.{IsText, HasTexts, SegmentFits, MetaFits};
 ghost use Rattle.seg_meta.specs.MetaRead.{meta_read};
 ghost use Rattle.seg_meta.specs.MetaText.{meta_text};
@@ -11,7 +11,8 @@ ghost use Rattle.seg_meta.specs.View.{meta_of};
 
 use crate::ranges::{has_32_bits, has_64_bits};
 use crate::{IndexMeta, SegmentMeta};
-use seg_values::{FieldEntry, Text};
+use seg_values::FieldEntry;
+use seg_words::Text;
 
 /// The text of a meta reads as it, where its numbers and texts are such as their types hold, its segments such as can be
 /// saved, and its fields such as a builder of schemas lets in.

@@ -18,7 +18,7 @@ pub struct SegmentMeta {
 
 impl Model for SegmentMeta {
     ghost use Rattle.std.specs.Prelude.{option_map};
-    ghost use Rattle.seg_model.specs.IndexOfFiles.{ListedSegment};
+    ghost use Rattle.seg_meta.specs.IndexOfFiles.{ListedSegment};
     ghost use Rattle.seg_meta.specs.Metas.{deletes_of, delete_meta_of, delete_metas_back, IsListed};
 
     ghost Value = { ListedSegment };

@@ -13,7 +13,7 @@ pub struct SegmentMetas {
 
 impl Model for SegmentMetas {
     ghost use Rattle.std.specs.Prelude.{List};
-    ghost use Rattle.seg_model.specs.IndexOfFiles.{ListedSegment};
+    ghost use Rattle.seg_meta.specs.IndexOfFiles.{ListedSegment};
 
     ghost Value = { List ListedSegment };
 

@@ -5,8 +5,9 @@ ghost use Rattle.seg_meta.specs.PartsRead.{settings_from, compressions};
 ghost use Rattle.seg_meta.specs.Reads.{required, word_of};
 ghost use Rattle.seg_meta.specs.View.{settings_of, compression_of};
 
+use crate::IndexSettings;
 use crate::members::{below_at, flag_at, has_only, text_at};
-use crate::{Compressor, IndexSettings};
+use seg_values::Compressor;
 use serde_json::Value;
 
 /// The settings that an object with all of their members says.

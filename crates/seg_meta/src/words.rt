@@ -3,9 +3,8 @@ ghost use Rattle.std.specs.Prelude.{◌≡◌};
 ghost use Rattle.seg_meta.specs.View.{compression_of};
 ghost use Rattle.seg_meta.specs.Words.{compression_word, kind_word, index_word, precision_word};
 
-use crate::Compressor;
 use seg_common::DateTimePrecision;
-use seg_values::{FieldKind, IndexOption};
+use seg_values::{Compressor, FieldKind, IndexOption};
 
 pub(crate) fn compression_word(compressor: Compressor) -> &'static str
     ensures { result.now ≡ compression_word (compression_of compressor) }

@@ -2,14 +2,15 @@
 use Rattle.std.proofs.Common.{◌≡◌, Bool, true, false, cond, List, [], ◌∷◌, ◌++◌, map, Some, None, sym, refl, ap, ◌∙◌}
 use Rattle.std.specs.List.{flat_map, list_any}
 use Rattle.std.specs.Cmp.Lexicographic.{nat_list_cmp_total}
+use Rattle.std.proofs.lemmas.Bool.{or_from}
 use Rattle.seg_values.specs.Tree.{Document}
 use Rattle.seg_model.specs.Fields.{Schema, Analyzer}
-use Rattle.seg_model.specs.Tables.{tabulated}
+use Rattle.seg_common.specs.Tables.{tabulated}
 use Rattle.seg_model.specs.Reading.{postings_of, if_any}
 use Rattle.seg_model.specs.Columns.{ColumnKey, column_cmp, column_at, is_mixed, declared_columns, value_keys, fast_values}
 use Rattle.seg_model.specs.Laws.{recorded_values, TermsAnswer, NoOtherTerms, ColumnsAnswer, NoOtherColumns, MixedNumbersHaveNoColumns}
-use Rattle.seg_model.proofs.Tables.{table_from_gets, none_passes, or_false}
-use Rattle.seg_model.proofs.Terms.{texts_apart, complete_terms, get-terms_of}
+use Rattle.seg_common.proofs.Tables.{texts_apart, table_from_gets, none_passes}
+use Rattle.seg_model.proofs.Terms.{complete_terms, get-terms_of}
 use Rattle.seg_model.proofs.Columns.{column_cmp_total, columns_apart, are_columns, covers_documents}
 
 pub terms_answer : TermsAnswer
@@ -20,7 +21,7 @@ no_other_terms entry documents terms h = table_from_gets nat_list_cmp_total text
 
 none_pass : {K : Type 0} (test : K → Bool) → ((k : K) → test k ≡ false) → (ks : List K) → list_any test ks ≡ false
 none_pass test h [] = refl
-none_pass test h (k ∷ ks) = or_false (test k) (list_any test ks) (h k) (none_pass test h ks)
+none_pass test h (k ∷ ks) = or_from (test k) (list_any test ks) (h k) (none_pass test h ks)
 
 -- the keys at which documents may have a column
 abbrev keys_of : Schema → Analyzer → List Document → List ColumnKey

@@ -11,17 +11,20 @@ use Rattle.std.specs.Cmp.Lexicographic.{slice_cmp, nat_list_cmp_total}
 use Rattle.std.specs.FinMap.{get, keys, contains_key-keys, slice_cmp-IsAntisymmetric, nat_cmp-IsAntisymmetric, IsAntisymmetric}
 use Rattle.std.proofs.lemmas.List.Folds.{list_any-append}
 use Rattle.std.proofs.lemmas.List.{length-map}
+use Rattle.std.proofs.lemmas.Bool.{or_from}
+use Rattle.std.proofs.Math.Bool.{and-false}
+use Rattle.std.proofs.lemmas.Simd.{map-map}
 use Rattle.seg_common.specs.declared.column_type.ColumnType.{ColumnType}
 use Rattle.seg_common.specs.declared.column_type.ColumnType.TheVariants.{I64, U64, Bytes, Str, Bool as Boolean, IpAddr, DateTime}
 use Rattle.seg_values.specs.Tree.{Document}
 use Rattle.seg_model.specs.Fields.{Schema, Analyzer}
 use Rattle.seg_model.specs.Operations.{Batch, kept, live}
-use Rattle.seg_model.specs.Tables.{is_among, tabulated}
+use Rattle.seg_common.specs.Tables.{is_among, tabulated}
 use Rattle.seg_model.specs.Columns.{ColumnValue, number, bytes_value, text_value, boolean_value, ip_value, date_value, ColumnKey, type_place, column_cmp, Columns, FastValue, fast_values, is_declared, value_types, value_keys, values_at, fits_i64, is_not_negative, number_type, is_number, is_type, without_values, rows_of, is_filled, if_there, column_at, is_mixed, columns_from, columns, declared_columns}
 use Rattle.seg_model.specs.Contents.{Contents}
 use Rattle.seg_model.specs.Join.{Part, live_of, part_column, side_by_side, part_rows, joined_keys, joined_columns}
 use Rattle.seg_model.specs.Laws.{IsReadingOf, AreReadingsOf}
-use Rattle.seg_model.proofs.Tables.{first_false, second_false, or_false, same_key, IsComplete, get-tabulated, same_table, IsCovered, none_passes, any_same}
+use Rattle.seg_common.proofs.Tables.{first_false, second_false, same_key, IsComplete, get-tabulated, same_table, IsCovered, none_passes, any_same}
 use Rattle.seg_model.proofs.Live.{WasRead, was_read, live_of-map}
 
 abbrev Rows : Type 0
@@ -69,10 +72,6 @@ columns_apart k m e =
 
 -- ---- rows without a value
 
-and_false : (b : Bool) → (b && false) ≡ false
-and_false true = refl
-and_false false = refl
-
 pub is_filled-without_values : (rows : Rows) → list_any is_filled (without_values rows) ≡ false
 is_filled-without_values [] = refl
 is_filled-without_values (r ∷ rows) = is_filled-without_values rows
@@ -85,7 +84,7 @@ is_filled-rows_of declared k rows h = by (not (is_number k.type) || is_type k.ty
     by false = is_filled-without_values rows
 
 no_column : (declared : List ColumnKey) (k : ColumnKey) (rows : Rows) → is_declared declared k ≡ false → list_any is_filled rows ≡ false → column_at declared k rows ≡ None
-no_column declared k rows d h = ap (λ b. cond b (Some (rows_of declared k rows)) None) (or_false (is_declared declared k) _ d (is_filled-rows_of declared k rows h))
+no_column declared k rows d h = ap (λ b. cond b (Some (rows_of declared k rows)) None) (or_from (is_declared declared k) _ d (is_filled-rows_of declared k rows h))
 
 all_fit : (rows : Rows) → list_any is_filled rows ≡ false → list_all (list_all fits_i64) rows ≡ true
 all_fit [] h = refl
@@ -96,9 +95,9 @@ not_mixed : (declared : List ColumnKey) (k : ColumnKey) (rows : Rows) → list_a
 not_mixed declared k rows h = by (is_declared declared (record { path = k.path; type = I64 })) (is_declared declared (record { path = k.path; type = U64 })) (list_all (list_all fits_i64) rows) (all_fit rows h)
   where
     by : (a b c : Bool) → c ≡ true → (is_number k.type && not (is_type I64 (cond a (Some I64) (cond b (Some U64) (cond c (Some I64) (cond (list_all (list_all is_not_negative) rows) (Some U64) None)))) || is_type U64 (cond a (Some I64) (cond b (Some U64) (cond c (Some I64) (cond (list_all (list_all is_not_negative) rows) (Some U64) None)))))) ≡ false
-    by true b c e = and_false (is_number k.type)
-    by false true c e = and_false (is_number k.type)
-    by false false true e = and_false (is_number k.type)
+    by true b c e = and-false (is_number k.type)
+    by false true c e = and-false (is_number k.type)
+    by false false true e = and-false (is_number k.type)
     by false false false e = absurd (true≢false (sym e))
 
 -- ---- what a table of columns has
@@ -157,7 +156,7 @@ is_filled-values_at : (q : ColumnKey) (ds : List (List FastValue)) → is_among 
 is_filled-values_at q [] h = refl
 is_filled-values_at q (d ∷ ds) h =
     let both = sym (list_any-append (eq_by_cmp column_cmp q) (flat_map value_keys d) (flat_map (flat_map value_keys) ds)) ∙ h in
-    or_false (is_filled (values_at q d)) _ (ap is_filled (values_at-none q d (first_false (is_among column_cmp (flat_map value_keys d) q) _ both)))
+    or_from (is_filled (values_at q d)) _ (ap is_filled (values_at-none q d (first_false (is_among column_cmp (flat_map value_keys d) q) _ both)))
     (is_filled-values_at q ds (second_false (is_among column_cmp (flat_map value_keys d) q) _ both))
 
 pub covers_documents : (declared : List ColumnKey) (ds : List (List FastValue)) → Covers declared (λ k. map (values_at k) ds) (declared ++ flat_map (flat_map value_keys) ds)
@@ -226,10 +225,6 @@ one_has_all (Some Boolean) rows h = absurd (true≢false h)
 one_has_all (Some IpAddr) rows h = absurd (true≢false h)
 one_has_all (Some DateTime) rows h = absurd (true≢false h)
 
-map-map : {X Y Z : Type 0} (f : X → Y) (g : Y → Z) (xs : List X) → map g (map f xs) ≡ map (λ x. g (f x)) xs
-map-map f g [] = refl
-map-map f g (x ∷ xs) = ap (λ l. g (f x) ∷ l) (map-map f g xs)
-
 module _ (schema : Schema) (analyzer : Analyzer) where
   abbrev read_at : List Document → ColumnKey → Rows
   read_at ds k = map (values_at k) (map (fast_values schema analyzer) ds)
@@ -270,8 +265,8 @@ module _ (schema : Schema) (analyzer : Analyzer) where
 
   rows_live : (bs : List Batch) (ps : List Part) → AreReadingsOf schema analyzer bs ps → (q : ColumnKey) → live_of (part_rows q) ps ≡ read_at (flat_map live bs) q
   rows_live bs ps all q =
-      live_of-map schema analyzer (part_rows q) (λ d. values_at q (fast_values schema analyzer d)) (λ b p r. rows_read b p r q.path q.type ∙ map-map (fast_values schema analyzer) (values_at q) b.documents) bs ps all
-      ∙ sym (map-map (fast_values schema analyzer) (values_at q) (flat_map live bs))
+      live_of-map schema analyzer (part_rows q) (λ d. values_at q (fast_values schema analyzer d)) (λ b p r. rows_read b p r q.path q.type ∙ map-map (values_at q) (fast_values schema analyzer) b.documents) bs ps all
+      ∙ sym (map-map (values_at q) (fast_values schema analyzer) (flat_map live bs))
 
 -- ---- where no part has a column
 
@@ -279,7 +274,7 @@ not_key : (q k : ColumnKey) → is_among column_cmp (joined_keys k) q ≡ true �
 not_key q k in_keys [] h = refl
 not_key q k in_keys (m ∷ ks) h =
     let both = sym (list_any-append (eq_by_cmp column_cmp q) (joined_keys m) (flat_map joined_keys ks)) ∙ h in
-    or_false (eq_by_cmp column_cmp k m) _ (by (eq_by_cmp column_cmp k m) refl (first_false (is_among column_cmp (joined_keys m) q) _ both)) (not_key q k in_keys ks (second_false (is_among column_cmp (joined_keys m) q) _ both))
+    or_from (eq_by_cmp column_cmp k m) _ (by (eq_by_cmp column_cmp k m) refl (first_false (is_among column_cmp (joined_keys m) q) _ both)) (not_key q k in_keys ks (second_false (is_among column_cmp (joined_keys m) q) _ both))
   where
     by : (b : Bool) → eq_by_cmp column_cmp k m ≡ b → is_among column_cmp (joined_keys m) q ≡ false → b ≡ false
     by true e n = sym in_keys ∙ ap (λ x. is_among column_cmp (joined_keys x) q) (same_key columns_apart k m e) ∙ n
@@ -327,12 +322,12 @@ no_rows path IpAddr p h = no_other (record { path = path; type = IpAddr }) p (ap
 no_rows path DateTime p h = no_other (record { path = path; type = DateTime }) p (ap (λ b. b || false) (tied (record { path = path; type = DateTime }))) h
 
 is_filled-append : (xs ys : Rows) → list_any is_filled xs ≡ false → list_any is_filled ys ≡ false → list_any is_filled (xs ++ ys) ≡ false
-is_filled-append xs ys h k = list_any-append is_filled xs ys ∙ or_false _ _ h k
+is_filled-append xs ys h k = list_any-append is_filled xs ys ∙ or_from _ _ h k
 
 pub is_filled-kept : (bs : List Bool) (xs : Rows) → list_any is_filled xs ≡ false → list_any is_filled (kept bs xs) ≡ false
 is_filled-kept [] xs h = refl
 is_filled-kept (b ∷ bs) [] h = refl
-is_filled-kept (true ∷ bs) (x ∷ xs) h = or_false (is_filled x) _ (first_false (is_filled x) _ h) (is_filled-kept bs xs (second_false (is_filled x) _ h))
+is_filled-kept (true ∷ bs) (x ∷ xs) h = or_from (is_filled x) _ (first_false (is_filled x) _ h) (is_filled-kept bs xs (second_false (is_filled x) _ h))
 is_filled-kept (false ∷ bs) (x ∷ xs) h = is_filled-kept bs xs (second_false (is_filled x) _ h)
 
 is_filled-parts : (q : ColumnKey) (ps : List Part) → is_among column_cmp (flat_map (λ p. flat_map joined_keys (keys p.contents.columns)) ps) q ≡ false → list_any is_filled (live_of (part_rows q) ps) ≡ false

@@ -1,11 +1,13 @@
 -- Parts joined group by group, in order.
-use Rattle.std.proofs.Common.{◌≡◌, ℕ, zero, suc, ◌+◌, Bool, true, false, cond, List, [], ◌∷◌, ◌++◌, map, length, Some, None, Option, sym, refl, ap, ◌∙◌, unwrap_or, append_assoc, length-append, arith}
+use Rattle.std.proofs.Common.{◌≡◌, ℕ, zero, suc, ◌+◌, Bool, true, false, cond, List, [], ◌∷◌, ◌++◌, map, length, Some, None, Option, sym, refl, ap, ◌∙◌, unwrap_or, length-append, arith}
 use Rattle.std.specs.Prelude.{is_some, replicate}
 use mathlib.Core.Bool.{true≢false}
 use Rattle.std.specs.List.{flat_map, slice_get, slice_index_or}
 use Rattle.std.specs.Option.{option_map}
 use Rattle.std.specs.Cmp.Lexicographic.{nat_list_cmp_total}
 use Rattle.std.specs.FinMap.{get, empty}
+use Rattle.std.proofs.lemmas.List.{length-replicate}
+use Rattle.std.proofs.lemmas.List.Concat.{flat_map-append}
 use Rattle.seg_values.specs.declared.schema.FieldEntry.{FieldEntry}
 use Rattle.seg_common.specs.declared.column_type.ColumnType.{ColumnType}
 use Rattle.seg_common.specs.declared.column_type.ColumnType.TheVariants.{I64, U64, Bytes, Str, Bool as Boolean, IpAddr, DateTime}
@@ -17,9 +19,9 @@ use Rattle.seg_model.specs.Contents.{Contents, terms_at, norms_at}
 use Rattle.seg_model.specs.Join.{Part, live_of, all_recorded, term_column, joined_postings, joined_terms, joined_norms, part_column, side_by_side, part_rows, joined_columns, joined_with, join}
 use Rattle.seg_model.specs.Shape.{HasFullShape}
 use Rattle.seg_model.specs.Laws.{whole, AreOfFullShape, AreJoinsOf, JoinsGroupInOrder}
-use Rattle.seg_model.proofs.Tables.{get-tabulated, same_table}
+use Rattle.seg_common.proofs.Tables.{texts_apart, get-tabulated, same_table}
 use Rattle.seg_model.proofs.Fields.{at_place, each_place}
-use Rattle.seg_model.proofs.Terms.{texts_apart, complete_joined, all_recorded-postings_from, unwrap_if_any}
+use Rattle.seg_model.proofs.Terms.{complete_joined, all_recorded-postings_from, unwrap_if_any}
 use Rattle.seg_model.proofs.Columns.{AreColumns, are_columns, covers_parts, one_has_all, length-rows_of, unwrap_if_there, same_columns}
 
 abbrev Rows : Type 0
@@ -41,10 +43,6 @@ kept-all zero (x ∷ xs) h = absurd (omega arith)
 kept-all (suc n) [] h = refl
 kept-all (suc n) (x ∷ xs) h = ap (λ l. x ∷ l) (kept-all n xs (omega arith))
 
-length-replicate : {X : Type 0} (n : ℕ) (x : X) → length (replicate n x) ≡ n
-length-replicate zero x = refl
-length-replicate (suc n) x = ap suc (length-replicate n x)
-
 pub length-all_recorded : (i n : ℕ) (ps : List Posting) → length (all_recorded i n ps) ≡ n
 length-all_recorded i zero ps = refl
 length-all_recorded i (suc n) ps = ap suc (length-all_recorded (i + 1) n ps)
@@ -54,10 +52,6 @@ length-side_by_side n [] ys h k = k
 length-side_by_side n (x ∷ xs) [] h k = h
 length-side_by_side zero (x ∷ xs) (y ∷ ys) h k = absurd (omega arith)
 length-side_by_side (suc n) (x ∷ xs) (y ∷ ys) h k = ap suc (length-side_by_side n xs ys (omega arith) (omega arith))
-
-flat_map-append : {X Y : Type 0} (f : X → List Y) (xs ys : List X) → flat_map f (xs ++ ys) ≡ flat_map f xs ++ flat_map f ys
-flat_map-append f [] ys = refl
-flat_map-append f (x ∷ xs) ys = ap (λ l. f x ++ l) (flat_map-append f xs ys) ∙ sym (append_assoc (f x) (flat_map f xs) (flat_map f ys))
 
 module _ (schema : Schema) where
   -- where a part has a value for each document, as many are kept as stored documents

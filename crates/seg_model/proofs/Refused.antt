@@ -1,10 +1,11 @@
 -- An input is valid exactly where nothing refuses it.
-use Rattle.std.proofs.Common.{◌≡◌, ℕ, ◌+◌, ◌-◌, ◌^◌, ◌<◌, Bool, true, false, cond, nat_lt, List, [], ◌∷◌, ◌++◌, map, length, take, drop, Some, None, Option, option_map, sym, refl, ap, ◌∙◌, subst}
+use Rattle.std.proofs.Common.{◌≡◌, ℕ, ◌-◌, ◌^◌, ◌<◌, true, List, [], ◌∷◌, map, length, take, drop, None, Option, sym, refl, ap, subst}
 use Rattle.std.specs.Prelude.{is_some}
 use Rattle.std.specs.List.{enumerate_from, AllByRecursion, take-map, drop-map}
 use Rattle.std.specs.Option.{option_or}
 use Rattle.std.proofs.lemmas.List.{take-append-drop}
 use Rattle.std.proofs.lemmas.Bool.Decides.{Decides-ltb}
+use Rattle.seg_common.proofs.Lists.{all_both, all_taken, all_left, unnumbered}
 use Rattle.seg_values.specs.Tree.{Document}
 use Rattle.seg_values.specs.declared.error.ArgumentCause.TheVariants.{Documents, Numbers}
 use Rattle.seg_values.specs.declared.error.TantivyError.{TantivyError}
@@ -22,30 +23,8 @@ use Rattle.seg_model.proofs.FirstAnswers.{unless_true, or_first, or_second, or_n
 -- ---- parts of a list
 
 module _ {X : Type 0} (P : X → Type 0) where
-  all_front : (xs ys : List X) → AllByRecursion P (xs ++ ys) → AllByRecursion P xs
-  all_front [] ys h = tt
-  all_front (x ∷ xs) ys h = (h.0, all_front xs ys h.1)
-
-  all_back : (xs ys : List X) → AllByRecursion P (xs ++ ys) → AllByRecursion P ys
-  all_back [] ys h = h
-  all_back (x ∷ xs) ys h = all_back xs ys h.1
-
-  all_both : (xs ys : List X) → AllByRecursion P xs → AllByRecursion P ys → AllByRecursion P (xs ++ ys)
-  all_both [] ys h k = k
-  all_both (x ∷ xs) ys h k = (h.0, all_both xs ys h.1 k)
-
-  all_taken : (n : ℕ) (xs : List X) → AllByRecursion P xs → AllByRecursion P (take n xs)
-  all_taken n xs h = all_front (take n xs) (drop n xs) (subst (AllByRecursion P) (sym (take-append-drop n xs)) h)
-
-  all_left : (n : ℕ) (xs : List X) → AllByRecursion P xs → AllByRecursion P (drop n xs)
-  all_left n xs h = all_back (take n xs) (drop n xs) (subst (AllByRecursion P) (sym (take-append-drop n xs)) h)
-
   all_again : (n : ℕ) (xs : List X) → AllByRecursion P (take n xs) → AllByRecursion P (drop n xs) → AllByRecursion P xs
-  all_again n xs h k = subst (AllByRecursion P) (take-append-drop n xs) (all_both (take n xs) (drop n xs) h k)
-
-unnumbered : {X : Type 0} (first : ℕ) (xs : List X) → map (λ p. p.1) (enumerate_from first xs) ≡ xs
-unnumbered first [] = refl
-unnumbered first (x ∷ xs) = ap (λ l. x ∷ l) (unnumbered (first + 1) xs)
+  all_again n xs h k = subst (AllByRecursion P) (take-append-drop n xs) (all_both P (take n xs) (drop n xs) h k)
 
 module _ (schema : Schema) (analyzer : Analyzer) where
   -- ---- documents that one segment can hold
@@ -67,13 +46,14 @@ module _ (schema : Schema) (analyzer : Analyzer) where
 
   -- ---- documents that pass the check
 
-  abbrev Passes : ℕ × Operation → Type 0
+  abbrev pub Passes : ℕ × Operation → Type 0
   Passes p = operation_refusal schema analyzer p.0 p.1 ≡ None
 
-  abbrev Taken : Document → Type 0
+  abbrev pub Taken : Document → Type 0
   Taken d = document_refusal schema analyzer d ≡ None
 
-  taken_step : (at : ℕ) (o : Operation) (os : List Operation) → AllByRecursion Taken (additions (o ∷ os)) → (operation_refusal schema analyzer at o ≡ None) × AllByRecursion Taken (additions os)
+  -- documents that are all taken, operation by operation
+  pub taken_step : (at : ℕ) (o : Operation) (os : List Operation) → AllByRecursion Taken (additions (o ∷ os)) → (operation_refusal schema analyzer at o ≡ None) × AllByRecursion Taken (additions os)
   taken_step at (add d) os h = (map_none (λ (c : Cause). c at) (document_refusal schema analyzer d) h.0, h.1)
   taken_step at (delete t) os h = (refl, h)
   taken_step at (delete_all ts) os h = (refl, h)
@@ -83,22 +63,23 @@ module _ (schema : Schema) (analyzer : Analyzer) where
   pass_step at (delete t) os e h = h
   pass_step at (delete_all ts) os e h = h
 
-  taken_pass : (ps : List (ℕ × Operation)) → AllByRecursion Taken (added_by ps) → AllByRecursion Passes ps
+  pub taken_pass : (ps : List (ℕ × Operation)) → AllByRecursion Taken (added_by ps) → AllByRecursion Passes ps
   taken_pass [] h = tt
   taken_pass (p ∷ ps) h =
       let step = taken_step p.0 p.1 (map (λ q. q.1) ps) h in
       (step.0, taken_pass ps step.1)
 
-  pass_taken : (ps : List (ℕ × Operation)) → AllByRecursion Passes ps → AllByRecursion Taken (added_by ps)
+  pub pass_taken : (ps : List (ℕ × Operation)) → AllByRecursion Passes ps → AllByRecursion Taken (added_by ps)
   pass_taken [] h = tt
   pass_taken (p ∷ ps) h = pass_step p.0 p.1 (map (λ q. q.1) ps) h.0 (pass_taken ps h.1)
 
   -- ---- batch by batch
 
-  abbrev Fits : Batch → Type 0
+  abbrev pub Fits : Batch → Type 0
   Fits b = FitsSegment schema analyzer b.documents
 
-  part_none : (part : List (ℕ × Operation)) → AllByRecursion Passes part → FitsSegment schema analyzer (added_by part) → batch_refusal schema analyzer part ≡ None
+  -- a part that passes and fits is not refused
+  pub part_none : (part : List (ℕ × Operation)) → AllByRecursion Passes part → FitsSegment schema analyzer (added_by part) → batch_refusal schema analyzer part ≡ None
   part_none part h f =
       or_none (count_refusal (added_by part)) _ (count_none (added_by part) f.few)
       (or_none (first_of (λ p. operation_refusal schema analyzer p.0 p.1) part) _ (first_none (λ p. operation_refusal schema analyzer p.0 p.1) part h) (numbers_none (added_by part) f.columns))
@@ -120,7 +101,7 @@ module _ (schema : Schema) (analyzer : Analyzer) where
   abbrev operations_of : List (ℕ × Operation) → List Operation
   operations_of ps = map (λ p. p.1) ps
 
-  parts_none : (from : ℕ) (cuts : List ℕ) (ps : List (ℕ × Operation)) → AllByRecursion Passes ps → AllByRecursion Fits (batches_from schema analyzer from cuts (operations_of ps)) → AllByRecursion Unrefused (cut_from from cuts ps)
+  pub parts_none : (from : ℕ) (cuts : List ℕ) (ps : List (ℕ × Operation)) → AllByRecursion Passes ps → AllByRecursion Fits (batches_from schema analyzer from cuts (operations_of ps)) → AllByRecursion Unrefused (cut_from from cuts ps)
   parts_none from [] ps h f = (part_none ps h f.0, tt)
   parts_none from (cut ∷ cuts) ps h f = (
     part_none (take (cut - from) ps) (all_taken Passes (cut - from) ps h) (subst (λ os. FitsSegment schema analyzer (additions os)) (take-map (λ p. p.1) (cut - from) ps) f.0),

@@ -2,43 +2,41 @@
 use Rattle.std.proofs.Common.{◌≡◌, ℕ, zero, suc, ◌+◌, ◌<◌, Bool, true, false, cond, List, [], ◌∷◌, ◌++◌, length, Some, None, Option, sym, refl, ap, ◌∙◌, subst, arith, unwrap_or, inl, inr}
 use Rattle.std.specs.Prelude.{◌||◌, ◌⊎◌, is_some, replicate}
 use mathlib.Core.Bool.{true≢false}
-use Rattle.std.specs.List.{flat_map, list_any, slice_get, enumerate_from, AllByRecursion}
+use Rattle.std.specs.List.{flat_map, list_any, slice_get, AllByRecursion}
 use Rattle.std.specs.Ordering.{nat_cmp, eq_by_cmp}
 use Rattle.std.specs.Cmp.Lexicographic.{slice_cmp, nat_list_cmp_total}
 use Rattle.std.specs.FinMap.{get, keys, empty, contains_key-keys}
 use Rattle.std.proofs.lemmas.List.Folds.{list_any-append}
 use Rattle.std.proofs.lemmas.List.{length-map}
+use Rattle.std.proofs.lemmas.List.FromFn.{length-enumerate_from}
 use Rattle.seg_values.specs.declared.schema.FieldEntry.{FieldEntry}
 use Rattle.seg_common.specs.declared.column_type.ColumnType.{ColumnType}
 use Rattle.seg_common.specs.declared.column_type.ColumnType.TheVariants.{I64, U64, Bytes, Str, Bool as Boolean, IpAddr, DateTime}
+use Rattle.seg_common.proofs.Lists.{all_both}
 use Rattle.seg_model.specs.Fields.{Schema, fields, is_indexed, has_lengths}
 use Rattle.seg_model.specs.Operations.{kept}
-use Rattle.seg_model.specs.Tables.{is_among}
+use Rattle.seg_common.specs.Tables.{is_among}
 use Rattle.seg_model.specs.Reading.{Posting, term_option, if_any}
 use Rattle.seg_model.specs.Columns.{ColumnValue, number, bytes_value, text_value, boolean_value, ip_value, date_value, ColumnKey, Columns, declared_columns, is_declared, is_filled}
 use Rattle.seg_model.specs.Contents.{terms_at, norms_at}
 use Rattle.seg_model.specs.Join.{Part, live_of, all_recorded, term_column, joined_postings, joined_terms, joined_norms, part_column, side_by_side, part_rows, joined_with}
 use Rattle.seg_model.specs.Shape.{IsTermOf, IsTermWith, ArePostings, IsJsonPath, is_json_type, has_type, AreRowsOf, HasFullShape}
 use Rattle.seg_model.specs.Laws.{AreOfFullShape, JoinsHaveFullShape}
-use Rattle.seg_model.proofs.Tables.{get-tabulated}
+use Rattle.seg_common.proofs.Tables.{texts_apart, get-tabulated}
 use Rattle.seg_model.proofs.Fields.{at_place}
-use Rattle.seg_model.proofs.Terms.{texts_apart, complete_joined, AreNone, AreNone-append, AreNone-kept, AreNone-all_recorded, AreNone-parts, postings_from-none}
+use Rattle.seg_model.proofs.Terms.{complete_joined, AreNone, AreNone-append, AreNone-kept, AreNone-all_recorded, AreNone-parts, postings_from-none}
 use Rattle.seg_model.proofs.Columns.{AreColumns, are_columns, covers_parts, is_filled-kept, is_filled-replicate}
 use Rattle.seg_model.proofs.Grouped.{was_joined, live_of-length, length-part_rows, length-all_recorded}
-use Rattle.seg_model.proofs.ShapedTerms.{AreRecordsOf, each-append, each-kept, ArePostings-from, AreRecordsOf-all_recorded, some_if_any}
+use Rattle.seg_model.proofs.ShapedTerms.{AreRecordsOf, each-kept, ArePostings-from, AreRecordsOf-all_recorded, some_if_any}
 use Rattle.seg_model.proofs.ShapedColumns.{IsUndeclared, declared_there, rows_shaped, one_type, free_shaped}
 
 abbrev Rows : Type 0
 Rows = List (List ColumnValue)
 
-length-enumerate : {X : Type 0} (n : ℕ) (xs : List X) → length (enumerate_from n xs) ≡ length xs
-length-enumerate n [] = refl
-length-enumerate n (x ∷ xs) = ap suc (length-enumerate (n + 1) xs)
-
 module _ (schema : Schema) {X : Type 0} (P : X → Type 0) (f : Part → List X) (each : (p : Part) → HasFullShape schema p.contents → AllByRecursion P (f p)) where
   each-live : (ps : List Part) → AreOfFullShape schema ps → AllByRecursion P (live_of f ps)
   each-live [] h = tt
-  each-live (p ∷ ps) h = each-append P (kept p.alive (f p)) (live_of f ps) (each-kept P p.alive (f p) (each p h.0)) (each-live ps h.1)
+  each-live (p ∷ ps) h = all_both P (kept p.alive (f p)) (live_of f ps) (each-kept P p.alive (f p) (each p h.0)) (each-live ps h.1)
 
 -- ---- terms
 
@@ -112,7 +110,7 @@ AreRowsOf-i64 rows h = subst (λ (f : ColumnValue → Bool). AllByRecursion (All
 AreRowsOf-side_by_side : (type : ColumnType) (xs ys : Rows) → AreRowsOf type xs → AreRowsOf type ys → AreRowsOf type (side_by_side xs ys)
 AreRowsOf-side_by_side type [] ys h k = k
 AreRowsOf-side_by_side type (x ∷ xs) [] h k = h
-AreRowsOf-side_by_side type (x ∷ xs) (y ∷ ys) h k = (each-append _ x y h.0 k.0, AreRowsOf-side_by_side type xs ys h.1 k.1)
+AreRowsOf-side_by_side type (x ∷ xs) (y ∷ ys) h k = (all_both _ x y h.0 k.0, AreRowsOf-side_by_side type xs ys h.1 k.1)
 
 AreRowsOf-replicate : (type : ColumnType) (n : ℕ) → AreRowsOf type (replicate n [])
 AreRowsOf-replicate type zero = tt
@@ -194,11 +192,11 @@ module _ (schema : Schema) where
   module _ (ps : List Part) (shape : AreOfFullShape schema ps) (cs : Columns) (are : AreColumns (declared_columns schema) (λ k. live_of (part_rows k) ps) cs) where
     shaped : HasFullShape schema (joined_with schema ps cs)
     shaped = record {
-      terms_per_field = length-map (fields schema) (joined_terms ps) ∙ length-enumerate 0 schema;
+      terms_per_field = length-map (fields schema) (joined_terms ps) ∙ length-enumerate_from 0 schema;
       terms = λ i e at indexed q postings g. term_joined schema i e at q ps shape indexed postings (ap (λ t. get t q) (sym (at_place (joined_terms ps) empty i schema e at)) ∙ g);
       no_terms = λ i e at off q. ap (λ t. get t q) (at_place (joined_terms ps) empty i schema e at) ∙ no_term_joined schema i e at q ps shape off;
       stored = refl;
-      norms_per_field = length-map (fields schema) (joined_norms ps) ∙ length-enumerate 0 schema;
+      norms_per_field = length-map (fields schema) (joined_norms ps) ∙ length-enumerate_from 0 schema;
       norms = λ i e at has. (
         ap length (norms_there i e at has) ∙ live_of-length schema (λ p. norms_at p.contents i) (λ p h. (h.norms i e at has).0) ps shape,
         subst (AllByRecursion (λ id. id < 256)) (sym (norms_there i e at has)) (each-live schema (λ id. id < 256) (λ p. norms_at p.contents i) (λ p h. (h.norms i e at has).1) ps shape),

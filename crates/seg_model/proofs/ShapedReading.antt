@@ -1,9 +1,10 @@
 -- The full reading of sound documents is of full shape.
-use Rattle.std.proofs.Common.{◌≡◌, ℕ, zero, suc, ◌+◌, ◌<◌, ◌≤◌, Bool, true, false, cond, List, [], ◌∷◌, map, length, Some, sym, refl, ap, ◌∙◌, subst, arith}
+use Rattle.std.proofs.Common.{◌≡◌, ℕ, zero, suc, ◌<◌, ◌≤◌, Bool, true, false, cond, List, [], ◌∷◌, map, length, Some, sym, ap, ◌∙◌, subst, arith}
 use Rattle.std.specs.Prelude.{nat_le}
-use Rattle.std.specs.List.{slice_get, enumerate_from, AllByRecursion}
+use Rattle.std.specs.List.{slice_get, AllByRecursion}
 use Rattle.std.specs.FinMap.{get, empty}
 use Rattle.std.proofs.lemmas.List.{length-map}
+use Rattle.std.proofs.lemmas.List.FromFn.{length-enumerate_from}
 use Rattle.seg_values.specs.declared.schema.FieldEntry.{FieldEntry}
 use Rattle.seg_values.specs.Tree.{Document}
 use Rattle.seg_model.specs.Fields.{Schema, Analyzer, fields, is_indexed, has_lengths, values_of, indexing_tokenizer}
@@ -22,10 +23,6 @@ use Rattle.seg_model.proofs.Columns.{AreColumns, are_columns, covers_documents, 
 use Rattle.seg_model.proofs.ShapedColumns.{declared_there, rows_shaped, one_type, free_shaped}
 use Rattle.seg_model.proofs.ShapedReadingTerms.{term_read, forms_of}
 use Rattle.seg_model.proofs.ShapedReadingColumns.{typed_values, free_read}
-
-length-enumerate : {X : Type 0} (n : ℕ) (xs : List X) → length (enumerate_from n xs) ≡ length xs
-length-enumerate n [] = refl
-length-enumerate n (x ∷ xs) = ap suc (length-enumerate (n + 1) xs)
 
 greatest_id-le : (n last : ℕ) → greatest_id n last ≤ last
 greatest_id-le n zero = omega arith
@@ -72,11 +69,11 @@ module _ (schema : Schema) (analyzer : Analyzer) (ds : List Document) where
 
     shaped : HasFullShape schema (reading_with schema analyzer ds cs)
     shaped = record {
-      terms_per_field = length-map (fields schema) (field_terms schema analyzer ds) ∙ length-enumerate 0 schema;
+      terms_per_field = length-map (fields schema) (field_terms schema analyzer ds) ∙ length-enumerate_from 0 schema;
       terms = term_there;
       no_terms = λ i e at off term. ap (λ t. get t term) (terms_there i e at) ∙ get-terms_of e (map (λ d. occurrences schema analyzer d i) ds) term ∙ ap if_any (nothing_occurs i e at off term ds);
       stored = length-map ds (stored_document schema);
-      norms_per_field = length-map (fields schema) (field_norms analyzer ds) ∙ length-enumerate 0 schema;
+      norms_per_field = length-map (fields schema) (field_norms analyzer ds) ∙ length-enumerate_from 0 schema;
       norms = λ i e at has. (
         ap length (ids i e at has) ∙ length-map ds (λ d. length_id (field_length analyzer e (values_of i d))),
         subst (AllByRecursion (λ id. id < 256)) (sym (ids i e at has)) (ids_below i e ds),

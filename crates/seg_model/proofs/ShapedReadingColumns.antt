@@ -7,7 +7,8 @@ use Rattle.std.specs.Ordering.{nat_cmp, eq_by_cmp, is_eq, is_gt}
 use Rattle.std.specs.Cmp.{tied_itself}
 use Rattle.std.specs.Cmp.Lexicographic.{slice_cmp}
 use Rattle.std.proofs.lemmas.List.Folds.{list_any-append}
-use Rattle.seg_values.specs.declared.token.Token.{Token}
+use Rattle.std.proofs.lemmas.Bool.{or_right, and_parts}
+use Rattle.seg_words.specs.declared.token.Token.{Token}
 use Rattle.seg_values.specs.declared.schema.FieldEntry.{FieldEntry}
 use Rattle.seg_values.specs.declared.schema.FieldKind.{FieldKind}
 use Rattle.seg_values.specs.declared.schema.FieldKind.TheVariants as kinds
@@ -17,14 +18,14 @@ use Rattle.seg_values.specs.Tree.{Leaf, null, text, pre_tokenized, unsigned, sig
 use Rattle.seg_model.specs.Fields.{Schema, Analyzer, is_json, is_indexed, values_of}
 use Rattle.seg_model.specs.Leaves.{PlacedLeaf, level_in_array, leaves_at, leaves_of_trees, leaves, leaves_of, joined_path}
 use Rattle.seg_model.specs.Takes.{is_of_kind, is_null, is_own_leaf, is_own_array, are_own_arrays, takes}
-use Rattle.seg_model.specs.Tables.{is_among}
+use Rattle.seg_common.specs.Tables.{is_among}
 use Rattle.seg_common.specs.Dates.{cut_to, precision_unit}
+use Rattle.seg_common.proofs.Lists.{all_both}
 use Rattle.seg_model.specs.Columns.{ColumnValue, number, bytes_value, text_value, boolean_value, ip_value, date_value, ColumnKey, column_cmp, type_place, value_types, value_keys, FastValue, token_texts, fast_texts, leaf_values, column_tokenizer, declared_values, value_text, inserted, sorted, json_column_path, json_cut, json_leaf_values, under_name, kind_fast_values, field_fast_values, fast_values, declared_type, column_named, declared_columns, is_declared, values_at, is_filled}
 use Rattle.seg_model.specs.Checked.{is_json_leaf, IsSound}
 use Rattle.seg_model.specs.Shape.{IsPathOf, IsJsonPath, is_json_type, has_type}
-use Rattle.seg_model.proofs.Tables.{same_key}
+use Rattle.seg_common.proofs.Tables.{same_key}
 use Rattle.seg_model.proofs.Columns.{column_cmp_total, columns_apart}
-use Rattle.seg_model.proofs.ShapedTerms.{each-append}
 use Rattle.seg_model.proofs.ShapedColumns.{IsUndeclared}
 use Rattle.seg_model.proofs.Utf8.{AreUtf8, IsUtf8-joined_path}
 use Rattle.seg_model.proofs.ShapedReadingTerms.{IsSoundValue, values_sound, IsSoundLeaf, sound_leaves_of, each-flat_map}
@@ -40,10 +41,6 @@ same_place Boolean = refl
 same_place IpAddr = refl
 same_place DateTime = refl
 
-or_true : (a b : Bool) → b ≡ true → (a || b) ≡ true
-or_true true b e = refl
-or_true false b e = e
-
 -- a value that is at a key has the key's type
 type_of_key : (path : List ℕ) (ts : List ColumnType) (k : ColumnKey) → is_among column_cmp (map (λ t. record { path = path; type = t }) ts) k ≡ true → (k.path ≡ path) × (list_any (λ t. nat_eq (type_place k.type) (type_place t)) ts ≡ true)
 type_of_key path [] k h = absurd (true≢false (sym h))
@@ -53,7 +50,7 @@ type_of_key path (t ∷ ts) k h = by (eq_by_cmp column_cmp k (record { path = pa
     by true e h later =
         let is : k ≡ record { path = path; type = t } = same_key columns_apart k (record { path = path; type = t }) e in
         (ap (λ (x : ColumnKey). x.path) is, ap (λ (x : ColumnKey). nat_eq (type_place x.type) (type_place t) || list_any (λ s. nat_eq (type_place k.type) (type_place s)) ts) is ∙ ap (λ b. b || list_any (λ s. nat_eq (type_place k.type) (type_place s)) ts) (same_place t))
-    by false e h later = ((later h).0, or_true _ _ (later h).1)
+    by false e h later = ((later h).0, or_right _ _ (later h).1)
 
 stands_at : (k : ColumnKey) (v : FastValue) → is_among column_cmp (value_keys v) k ≡ true → (k.path ≡ v.path) × (has_type k.type v.value ≡ true)
 stands_at k v h = type_of_key v.path (value_types v.value) k h
@@ -249,14 +246,6 @@ leaf_typed analyzer tokenizer cut kinds.Bytes type (ip a) d h = absurd (true≢f
 leaf_typed analyzer tokenizer cut kinds.IpAddr type (ip a) d h = subst (λ t. AllByRecursion (λ v. has_type t v ≡ true) (leaf_values analyzer tokenizer cut (ip a))) (let z : IpAddr ≡ type = cc in z) ((refl, tt))
 leaf_typed analyzer tokenizer cut kinds.Json type (ip a) d h = absurd (true≢false (sym h))
 
-first_true : (a b : Bool) → (a && b) ≡ true → a ≡ true
-first_true true b h = refl
-first_true false b h = absurd (true≢false (sym h))
-
-second_true : (a b : Bool) → (a && b) ≡ true → b ≡ true
-second_true true b h = h
-second_true false b h = absurd (true≢false (sym h))
-
 mutual
   own_leaves : (kind : FieldKind) (keys : List (List ℕ)) (level : ℕ) (t : Tree) → is_own_array kind t ≡ true → AllByRecursion (λ p. (is_null p.leaf || is_of_kind kind p.leaf) ≡ true) (leaves_at keys level t)
   own_leaves kind keys level (leaf l) h = (h, tt)
@@ -265,10 +254,10 @@ mutual
 
   own_tree_leaves : (kind : FieldKind) (keys : List (List ℕ)) (level : ℕ) (ts : Trees) → are_own_arrays kind ts ≡ true → AllByRecursion (λ p. (is_null p.leaf || is_of_kind kind p.leaf) ≡ true) (leaves_of_trees keys level ts)
   own_tree_leaves kind keys level no_trees h = tt
-  own_tree_leaves kind keys level (tree t ts) h = each-append _ _ _ (own_leaves kind keys level t (first_true (is_own_array kind t) (are_own_arrays kind ts) h)) (own_tree_leaves kind keys level ts (second_true (is_own_array kind t) (are_own_arrays kind ts) h))
+  own_tree_leaves kind keys level (tree t ts) h = all_both _ _ _ (own_leaves kind keys level t (and_parts (is_own_array kind t) (are_own_arrays kind ts) h).0) (own_tree_leaves kind keys level ts (and_parts (is_own_array kind t) (are_own_arrays kind ts) h).1)
 
 own_leaf_array : (kind : FieldKind) (t : Tree) → is_own_leaf kind t ≡ true → is_own_array kind t ≡ true
-own_leaf_array kind (leaf l) h = or_true (is_null l) (is_of_kind kind l) h
+own_leaf_array kind (leaf l) h = or_right (is_null l) (is_of_kind kind l) h
 own_leaf_array kind (array ts) h = absurd (true≢false (sym h))
 own_leaf_array kind (object ms) h = absurd (true≢false (sym h))
 
@@ -372,7 +361,7 @@ slice_declared (f ∷ schema) zero e type at fast d =
     some_is x y h = cc
 slice_declared (f ∷ schema) (suc i) e type at fast d =
     list_any-append (eq_by_cmp column_cmp (record { path = e.name; type = type })) (cond f.fast (column_named f.name (declared_type f.kind)) []) (declared_columns schema)
-    ∙ or_true _ _ (slice_declared schema i e type at fast d)
+    ∙ or_right _ _ (slice_declared schema i e type at fast d)
 
 module _ (schema : Schema) (analyzer : Analyzer) (path : List ℕ) (type : ColumnType) (u : IsUndeclared (declared_columns schema) path type) where
   -- a value that is at the key is at a JSON path
@@ -428,7 +417,7 @@ module _ (schema : Schema) (analyzer : Analyzer) (path : List ℕ) (type : Colum
   each_field_from : (n : ℕ) (xs : List FieldEntry) (d : Document) → ((i : ℕ) (e : FieldEntry) → slice_get xs i ≡ Some e → AllByRecursion IsFree (field_fast_values analyzer d (n + i, e))) → AllByRecursion IsFree (flat_map (field_fast_values analyzer d) (enumerate_from n xs))
   each_field_from n [] d h = tt
   each_field_from n (x ∷ xs) d h =
-      each-append IsFree _ _ (subst (λ m. AllByRecursion IsFree (field_fast_values analyzer d (m, x))) (let z : n + 0 ≡ n = omega arith in z) (h 0 x refl))
+      all_both IsFree _ _ (subst (λ m. AllByRecursion IsFree (field_fast_values analyzer d (m, x))) (let z : n + 0 ≡ n = omega arith in z) (h 0 x refl))
       (each_field_from (n + 1) xs d (λ i e at. subst (λ m. AllByRecursion IsFree (field_fast_values analyzer d (m, e))) (let z : n + suc i ≡ n + 1 + i = omega arith in z) (h (suc i) e at)))
 
   free_values : (d : Document) → IsSound schema d → AllByRecursion IsFree (fast_values schema analyzer d)

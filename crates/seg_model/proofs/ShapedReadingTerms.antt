@@ -1,5 +1,5 @@
 -- The terms of a reading are of full shape.
-use Rattle.std.proofs.Common.{◌≡◌, ℕ, suc, ◌+◌, Bool, true, false, cond, List, [], ◌∷◌, ◌++◌, map, length, Some, None, Option, sym, refl, ap, ◌∙◌, subst, arith, append_assoc}
+use Rattle.std.proofs.Common.{◌≡◌, ℕ, suc, ◌+◌, Bool, true, false, cond, List, [], ◌∷◌, ◌++◌, map, length, Some, None, sym, refl, ap, ◌∙◌, subst, arith, append_assoc}
 use Rattle.std.specs.Prelude.{◌||◌, ◌&&◌, nat_eq, nat_lt, ◌^◌, filter, is_some, IsUtf8, pos}
 use mathlib.Core.Bool.{true≢false}
 use Rattle.std.specs.List.{flat_map, slice_get, AllByRecursion}
@@ -10,7 +10,8 @@ use Rattle.std.specs.Int.{w64, to_be_bytes}
 use Rattle.std.proofs.lemmas.Bool.Decides.{nat_tests}
 use Rattle.std.proofs.lemmas.List.Folds.{list_any-append}
 use Rattle.std.proofs.lemmas.List.{length-map}
-use Rattle.seg_values.specs.declared.token.Token.{Token}
+use Rattle.seg_common.proofs.Lists.{all_both}
+use Rattle.seg_words.specs.declared.token.Token.{Token}
 use Rattle.seg_values.specs.declared.schema.FieldEntry.{FieldEntry}
 use Rattle.seg_values.specs.declared.schema.FieldKind.{FieldKind}
 use Rattle.seg_values.specs.declared.schema.FieldKind.TheVariants as kinds
@@ -21,16 +22,16 @@ use Rattle.seg_values.specs.Utf8.{IsUtf8Tree, AreUtf8Trees, AreUtf8Members, IsUt
 use Rattle.seg_model.specs.Fields.{Schema, Analyzer, is_json, is_facet, is_indexed, indexing_tokenizer, values_of}
 use Rattle.seg_model.specs.Leaves.{PlacedLeaf, level_in_array, leaves_at, leaves_of_trees, leaves_of_members, leaves, leaves_of, joined_path}
 use Rattle.seg_model.specs.Takes.{is_own_leaf, is_own_array, is_of_kind, takes}
-use Rattle.seg_model.specs.Tables.{is_among}
+use Rattle.seg_common.specs.Tables.{is_among}
 use Rattle.seg_values.specs.ValueBytes.{raised}
 use Rattle.seg_model.specs.Occurrences.{Occurrence, counted, facet_prefixes, at_zero, value_terms, leaf_occurrences, json_occurrences, kind_occurrences, occurrences_at, occurrences}
 use Rattle.seg_model.specs.Reading.{Posting, positions_of, if_occurs, term_option, recorded_in, postings_of, terms_of}
 use Rattle.seg_model.specs.Checked.{first_of, unless, value_refusal, is_json_leaf, has_no_zero, tree_refusal, trees_refusal, members_refusal, is_checked_json, json_refusal, wrong_value, json_leaf, json_key, IsSound}
 use Rattle.seg_model.specs.Shape.{IsTermOf, IsTermWith, ArePostings, is_type_code}
 use Rattle.seg_model.proofs.FirstAnswers.{or_first, or_second, unless_true}
-use Rattle.seg_model.proofs.Tables.{same_key}
-use Rattle.seg_model.proofs.Terms.{texts_apart, get-terms_of, complete_terms}
-use Rattle.seg_model.proofs.ShapedTerms.{IsMaybeRecordOf, each-append, ArePostings-from, some_if_any}
+use Rattle.seg_common.proofs.Tables.{texts_apart, same_key}
+use Rattle.seg_model.proofs.Terms.{get-terms_of, complete_terms}
+use Rattle.seg_model.proofs.ShapedTerms.{IsMaybeRecordOf, ArePostings-from, some_if_any}
 use Rattle.seg_model.proofs.Utf8.{AreUtf8, HaveNoZero, IsUtf8-joined_path, has_no_zero-joined_path, path_part-path, type_code-path, AreUtf8-facet_prefixes}
 
 -- ---- sound values of a field
@@ -76,19 +77,19 @@ mutual
 
   sound_tree_leaves : (keys : List (List ℕ)) (level : ℕ) (ts : Trees) → AreUtf8 keys → HaveNoZero keys → trees_refusal ts ≡ None → AreUtf8Trees ts → AllByRecursion IsSoundLeaf (leaves_of_trees keys level ts)
   sound_tree_leaves keys level no_trees u z r h = tt
-  sound_tree_leaves keys level (tree t ts) u z r h = each-append IsSoundLeaf _ _ (sound_leaves keys level t u z (or_first (tree_refusal t) _ r) h.0) (sound_tree_leaves keys level ts u z (or_second (tree_refusal t) _ r) h.1)
+  sound_tree_leaves keys level (tree t ts) u z r h = all_both IsSoundLeaf _ _ (sound_leaves keys level t u z (or_first (tree_refusal t) _ r) h.0) (sound_tree_leaves keys level ts u z (or_second (tree_refusal t) _ r) h.1)
 
   sound_member_leaves : (keys : List (List ℕ)) (level : ℕ) (ms : Members) → AreUtf8 keys → HaveNoZero keys → members_refusal ms ≡ None → AreUtf8Members ms → AllByRecursion IsSoundLeaf (leaves_of_members keys level ms)
   sound_member_leaves keys level no_members u z r h = tt
   sound_member_leaves keys level (member key t ms) u z r h =
-      each-append IsSoundLeaf _ _
-      (sound_leaves (keys ++ key ∷ []) level t (each-append IsUtf8 keys (key ∷ []) u (h.0, tt)) (each-append _ keys (key ∷ []) z (unless_true (has_no_zero key) json_key (or_first (unless (has_no_zero key) json_key) _ r), tt)) (or_first (tree_refusal t) _ (or_second (unless (has_no_zero key) json_key) _ r)) h.1)
+      all_both IsSoundLeaf _ _
+      (sound_leaves (keys ++ key ∷ []) level t (all_both IsUtf8 keys (key ∷ []) u (h.0, tt)) (all_both _ keys (key ∷ []) z (unless_true (has_no_zero key) json_key (or_first (unless (has_no_zero key) json_key) _ r), tt)) (or_first (tree_refusal t) _ (or_second (unless (has_no_zero key) json_key) _ r)) h.1)
       (sound_member_leaves keys level ms u z (or_second (tree_refusal t) _ (or_second (unless (has_no_zero key) json_key) _ r)) h.2)
 
 pub sound_leaves_of : (e : FieldEntry) → is_checked_json e ≡ true → (values : List Tree) → AllByRecursion (IsSoundValue e) values → AllByRecursion IsSoundLeaf (leaves_of values)
 sound_leaves_of e c [] h = tt
 sound_leaves_of e c (t ∷ ts) h =
-    each-append IsSoundLeaf (leaves t) (leaves_of ts)
+    all_both IsSoundLeaf (leaves t) (leaves_of ts)
     (sound_leaves [] 0 t tt tt (sym (ap (λ b. cond b (tree_refusal t) None) c) ∙ h.0.json) h.0.utf8)
     (sound_leaves_of e c ts h.1)
 
@@ -108,7 +109,7 @@ each-map P f (x ∷ xs) h = (h.0, each-map P f xs h.1)
 
 pub each-flat_map : {X Y : Type 0} (P : Y → Type 0) (Q : X → Type 0) (f : X → List Y) → ((x : X) → Q x → AllByRecursion P (f x)) → (xs : List X) → AllByRecursion Q xs → AllByRecursion P (flat_map f xs)
 each-flat_map P Q f g [] h = tt
-each-flat_map P Q f g (x ∷ xs) h = each-append P (f x) (flat_map f xs) (g x h.0) (each-flat_map P Q f g xs h.1)
+each-flat_map P Q f g (x ∷ xs) h = all_both P (f x) (flat_map f xs) (g x h.0) (each-flat_map P Q f g xs h.1)
 
 module _ (e : FieldEntry) where
   abbrev HasForm : Occurrence → Type 0
@@ -139,7 +140,7 @@ module _ (e : FieldEntry) where
   json_forms : is_facet e.kind ≡ false → (expand : Bool) (analyze : List ℕ → List Token) (before found : List PlacedLeaf) → AllByRecursion IsSoundLeaf found → AllByRecursion (λ o. IsTermOf e o.bytes) (json_occurrences expand analyze before found)
   json_forms f expand analyze before [] h = tt
   json_forms f expand analyze before (p ∷ found) h =
-      each-append _ _ _ (leaf_forms f analyze (joined_path expand p.keys) _ p.leaf (IsUtf8-joined_path expand p.keys h.0.keys_utf8) (has_no_zero-joined_path expand p.keys h.0.keys_no_zero))
+      all_both _ _ _ (leaf_forms f analyze (joined_path expand p.keys) _ p.leaf (IsUtf8-joined_path expand p.keys h.0.keys_utf8) (has_no_zero-joined_path expand p.keys h.0.keys_no_zero))
       (json_forms f expand analyze (before ++ p ∷ []) found h.1)
 
   facet_form : is_json e.kind ≡ false → (bytes : List ℕ) → IsUtf8 bytes → IsTermOf e bytes

@@ -3,6 +3,7 @@ use Rattle.std.proofs.Common.{◌≡◌, ℕ, zero, suc, ◌+◌, ◌<◌, ◌�
 use mathlib.Core.Bool.{true≢false}
 use Rattle.std.specs.Prelude.{◌==◌, is_some}
 use Rattle.std.specs.List.{AllByRecursion}
+pub use Rattle.seg_common.proofs.Lists.{all_both as each-append}
 use Rattle.seg_values.specs.declared.schema.IndexOption.{IndexOption}
 use Rattle.seg_model.specs.Operations.{kept}
 use Rattle.seg_model.specs.Reading.{Recorded, Posting, listed, postings_from, if_any}
@@ -16,10 +17,6 @@ IsMaybeRecordOf option (Some r) = IsRecordOf option r
 
 abbrev pub AreRecordsOf : IndexOption → List (Option Recorded) → Type 0
 AreRecordsOf option rs = AllByRecursion (IsMaybeRecordOf option) rs
-
-pub each-append : {X : Type 0} (P : X → Type 0) (xs ys : List X) → AllByRecursion P xs → AllByRecursion P ys → AllByRecursion P (xs ++ ys)
-each-append P [] ys h k = k
-each-append P (x ∷ xs) ys h k = (h.0, each-append P xs ys h.1 k)
 
 pub each-kept : {X : Type 0} (P : X → Type 0) (bs : List Bool) (xs : List X) → AllByRecursion P xs → AllByRecursion P (kept bs xs)
 each-kept P [] xs h = tt

@@ -4,7 +4,7 @@ use Rattle.std.specs.Prelude.{pos, ◌==◌, ◌&&◌, ◌||◌, nat_le, if◌th
 use Rattle.std.specs.List.{flat_map, list_all}
 use Rattle.std.specs.Ordering.{nat_cmp}
 use Rattle.std.specs.Cmp.Lexicographic.{slice_cmp}
-use Rattle.seg_values.specs.declared.token.Token.{Token}
+use Rattle.seg_words.specs.declared.token.Token.{Token}
 use Rattle.seg_values.specs.declared.schema.FieldEntry.{FieldEntry}
 use Rattle.seg_values.specs.declared.schema.FieldKind.TheVariants.{Text, U64, Date, Facet, Bytes, Json}
 use Rattle.seg_values.specs.declared.schema.IndexOption.TheVariants.{No, Basic, Positions}
@@ -14,7 +14,7 @@ use Rattle.seg_common.specs.declared.column_type.ColumnType.TheVariants as types
 use Rattle.seg_values.specs.Tree.{text, unsigned, signed, date, facet, byte_string, leaf, object, no_members, member, Document}
 use Rattle.seg_model.specs.Fields.{Schema, Analyzer}
 use Rattle.seg_model.specs.Occurrences.{Occurrence, occurrences}
-use Rattle.seg_model.specs.Tables.{is_among}
+use Rattle.seg_common.specs.Tables.{is_among}
 use Rattle.seg_model.specs.Reading.{Posting, presence, positions, postings_of, stored_document}
 use Rattle.seg_model.specs.Norms.{length_id, field_norms}
 use Rattle.seg_model.specs.Operations.{Operation, add, delete, batches, Batch, live}

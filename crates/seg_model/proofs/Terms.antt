@@ -6,26 +6,24 @@ use Rattle.std.specs.List.{flat_map, slice_get, slice_index_or}
 use Rattle.std.specs.Ordering.{nat_cmp, eq_by_cmp}
 use Rattle.std.specs.Cmp.Lexicographic.{slice_cmp, nat_list_cmp_total}
 use Rattle.std.specs.Str.{bytes_eq}
-use Rattle.std.specs.FinMap.{get, keys, empty, contains_key-keys, slice_cmp-IsAntisymmetric, nat_cmp-IsAntisymmetric, IsAntisymmetric}
+use Rattle.std.specs.FinMap.{get, keys, empty, contains_key-keys}
 use Rattle.std.proofs.lemmas.Map.Text.{is_eq-slice_cmp}
 use Rattle.std.proofs.lemmas.Bool.Decides.{nat_tests}
 use Rattle.std.proofs.lemmas.List.Folds.{list_any-append}
 use Rattle.std.proofs.lemmas.List.{length-map}
+use Rattle.std.proofs.lemmas.Simd.{map-map}
 use Rattle.seg_values.specs.declared.schema.FieldEntry.{FieldEntry}
 use Rattle.seg_model.specs.Fields.{Schema, Analyzer, fields}
 use Rattle.seg_model.specs.Operations.{Batch, kept, live}
 use Rattle.seg_model.specs.Occurrences.{Occurrence, occurrences}
-use Rattle.seg_model.specs.Tables.{is_among}
+use Rattle.seg_common.specs.Tables.{is_among}
 use Rattle.seg_model.specs.Reading.{Recorded, Posting, positions_of, if_occurs, term_option, recorded_in, listed, postings_from, postings_of, if_any, terms_of, field_terms, all_terms}
 use Rattle.seg_model.specs.Contents.{Contents, terms_at}
 use Rattle.seg_model.specs.Join.{Part, live_of, recorded_at, all_recorded, term_column, joined_postings, joined_terms}
 use Rattle.seg_model.specs.Laws.{IsReadingOf, AreReadingsOf}
-use Rattle.seg_model.proofs.Tables.{first_false, second_false, IsComplete, get-tabulated, same_table}
+use Rattle.seg_common.proofs.Tables.{texts_apart, first_false, second_false, IsComplete, get-tabulated, same_table}
 use Rattle.seg_model.proofs.Fields.{at_place, each_place}
 use Rattle.seg_model.proofs.Live.{was_read, live_of-map}
-
-pub texts_apart : IsAntisymmetric (slice_cmp nat_cmp)
-texts_apart = slice_cmp-IsAntisymmetric nat_cmp-IsAntisymmetric
 
 -- ---- where nothing is recorded there is no posting
 
@@ -143,10 +141,6 @@ module _ (i : ℕ) (q : List ℕ) where
 pub complete_joined : (i : ℕ) (ps : List Part) → IsComplete nat_list_cmp_total texts_apart (λ t. if_any (joined_postings ps i t)) (flat_map (λ p. keys (terms_at p.contents i)) ps)
 complete_joined i ps = record { outside = λ q h. ap if_any (postings_from-none 0 (live_of (term_column i q) ps) (AreNone-parts i q ps h)) }
 
-map-map : {X Y Z : Type 0} (f : X → Y) (g : Y → Z) (xs : List X) → map g (map f xs) ≡ map (λ x. g (f x)) xs
-map-map f g [] = refl
-map-map f g (x ∷ xs) = ap (λ l. g (f x) ∷ l) (map-map f g xs)
-
 module _ (schema : Schema) (analyzer : Analyzer) where
   module _ (i : ℕ) (e : FieldEntry) (at : slice_get schema i ≡ Some e) where
     term_column_read : (q : List ℕ) (b : Batch) (p : Part) → IsReadingOf schema analyzer b p → term_column i q p ≡ map (λ d. recorded_in e q (occurrences schema analyzer d i)) b.documents
@@ -159,13 +153,13 @@ module _ (schema : Schema) (analyzer : Analyzer) where
         ∙ ap (all_recorded 0 (length b.documents)) (unwrap_if_any (postings_of e q ds))
         ∙ ap (λ n. all_recorded 0 n (postings_of e q ds)) (sym (length-map ds (recorded_in e q) ∙ length-map b.documents (λ d. occurrences schema analyzer d i)))
         ∙ all_recorded-postings_from (map (recorded_in e q) ds)
-        ∙ map-map (λ d. occurrences schema analyzer d i) (recorded_in e q) b.documents
+        ∙ map-map (recorded_in e q) (λ d. occurrences schema analyzer d i) b.documents
 
     terms_of_field : (bs : List Batch) (ps : List Part) → AreReadingsOf schema analyzer bs ps → joined_terms ps (i, e) ≡ field_terms schema analyzer (flat_map live bs) (i, e)
     terms_of_field bs ps all =
         same_table nat_list_cmp_total texts_apart (λ t. if_any (joined_postings ps i t)) (λ t. if_any (postings_of e t (map (λ d. occurrences schema analyzer d i) (flat_map live bs)))) _ _
         (complete_joined i ps) (complete_terms e (map (λ d. occurrences schema analyzer d i) (flat_map live bs)))
-        (λ q. ap (λ rs. if_any (postings_from 0 rs)) (live_of-map schema analyzer (term_column i q) (λ d. recorded_in e q (occurrences schema analyzer d i)) (term_column_read q) bs ps all ∙ sym (map-map (λ d. occurrences schema analyzer d i) (recorded_in e q) (flat_map live bs))))
+        (λ q. ap (λ rs. if_any (postings_from 0 rs)) (live_of-map schema analyzer (term_column i q) (λ d. recorded_in e q (occurrences schema analyzer d i)) (term_column_read q) bs ps all ∙ sym (map-map (recorded_in e q) (λ d. occurrences schema analyzer d i) (flat_map live bs))))
 
   pub terms_live : (bs : List Batch) (ps : List Part) → AreReadingsOf schema analyzer bs ps → map (joined_terms ps) (fields schema) ≡ all_terms schema analyzer (flat_map live bs)
   terms_live bs ps all = each_place (joined_terms ps) (field_terms schema analyzer (flat_map live bs)) schema (λ i e at. terms_of_field i e at bs ps all)

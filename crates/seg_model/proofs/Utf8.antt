@@ -1,46 +1,20 @@
 -- Paths and prefixes of facets are UTF-8.
-use Rattle.std.proofs.Common.{◌≡◌, ℕ, zero, suc, ◌+◌, ◌/◌, ◌<◌, ◌≤◌, Bool, true, false, cond, List, [], ◌∷◌, ◌++◌, map, sym, refl, ap, ◌∙◌, subst, arith, append_assoc, append-nil}
-use Rattle.std.specs.Prelude.{◌&&◌, ◌==◌, IsUtf8}
+use Rattle.std.proofs.Common.{◌≡◌, ℕ, zero, suc, ◌<◌, ◌≤◌, Bool, true, false, cond, List, [], ◌∷◌, ◌++◌, map, sym, refl, ap, ◌∙◌, subst, arith, append_assoc, append-nil}
+use Rattle.std.specs.Prelude.{◌==◌, IsUtf8}
 use mathlib.Core.Bool.{true≢false}
 use lib.Dec.{ltb}
-use lib.Utf8.{scalar, scalars, encode, encodes, next, low_scalar}
+use lib.Utf8.{scalar, scalars, encode, encodes, low_scalar}
 use Rattle.std.specs.List.{join_with_byte, AllByRecursion}
 use Rattle.std.proofs.lemmas.Str.{IsUtf8-append, IsUtf8-nil, IsUtf8-encode, encode_ascii}
 use Rattle.std.proofs.lemmas.Bool.Decides.{nat_tests}
 use Rattle.std.proofs.lemmas.List.{map-append}
+use Rattle.std.proofs.lemmas.Bool.{and_parts}
+use Rattle.seg_values.proofs.Replacing.{AreHigh, encode_high}
 use Rattle.seg_model.specs.Leaves.{dot_expanded, joined_path}
 use Rattle.seg_model.specs.Occurrences.{prefixes_from, facet_prefixes}
 use Rattle.seg_model.specs.Reading.{type_code}
 use Rattle.seg_model.specs.Checked.{has_no_zero}
 use Rattle.seg_model.specs.Shape.{path_part}
-
-abbrev pub AreHigh : List ℕ → Type 0
-AreHigh bs = AllByRecursion (λ b. 128 ≤ b) bs
-
--- a character past ASCII has high bytes alone
-encode_high : (c : ℕ) → 128 ≤ c → AreHigh (encode c)
-unfolding encode
-encode_high c le = by (ltb c 128) (ltb c 2048) (ltb c 65536) refl
-  where
-    by : (x y z : Bool) → ltb c 128 ≡ x → AreHigh (cond x (c ∷ []) (cond y ((192 + c / 64) ∷ next c ∷ []) (cond z ((224 + c / 4096) ∷ next (c / 64) ∷ next c ∷ []) ((240 + c / 262144) ∷ next (c / 4096) ∷ next (c / 64) ∷ next c ∷ []))))
-    by true y z e = (le, tt)
-    by false true z e = (omega arith, (omega arith, tt))
-    by false false true e = (omega arith, (omega arith, (omega arith, tt)))
-    by false false false e = (omega arith, (omega arith, (omega arith, (omega arith, tt))))
-
-first_scalar : (c : ℕ) (cs : List ℕ) → (scalar c && scalars cs) ≡ true → scalar c ≡ true
-first_scalar c cs e = by (scalar c) e
-  where
-    by : (b : Bool) → (b && scalars cs) ≡ true → b ≡ true
-    by true h = refl
-    by false h = absurd (true≢false (sym h))
-
-rest_scalars : (c : ℕ) (cs : List ℕ) → (scalar c && scalars cs) ≡ true → scalars cs ≡ true
-rest_scalars c cs e = by (scalar c) e
-  where
-    by : (b : Bool) → (b && scalars cs) ≡ true → scalars cs ≡ true
-    by true h = h
-    by false h = absurd (true≢false (sym h))
 
 -- ---- dots
 
@@ -51,7 +25,8 @@ dots_high (b ∷ bs) h =
     let same : dot_expanded b ≡ b = grind (arith, nat_tests) in
     λ i. same i ∷ dots_high bs h.1 i
 
-IsUtf8-ascii : (c : ℕ) → c < 128 → IsUtf8 (c ∷ [])
+-- one byte of ASCII is text
+pub IsUtf8-ascii : (c : ℕ) → c < 128 → IsUtf8 (c ∷ [])
 IsUtf8-ascii c lt = subst IsUtf8 (encode_ascii c lt) (IsUtf8-encode c (low c lt))
   where
     low : (c : ℕ) → c < 128 → scalar c ≡ true
@@ -75,7 +50,7 @@ dots_encodes : (cs : List ℕ) → scalars cs ≡ true → IsUtf8 (map dot_expan
 dots_encodes [] s = IsUtf8-nil
 dots_encodes (c ∷ cs) s =
     subst IsUtf8 (sym (map-append dot_expanded (encode c) (encodes cs)))
-    (IsUtf8-append _ _ (dots_encode c (first_scalar c cs s)) (dots_encodes cs (rest_scalars c cs s)))
+    (IsUtf8-append _ _ (dots_encode c (and_parts (scalar c) (scalars cs) s).0) (dots_encodes cs (and_parts (scalar c) (scalars cs) s).1))
 
 IsUtf8-dots : (bs : List ℕ) → IsUtf8 bs → IsUtf8 (map dot_expanded bs)
 IsUtf8-dots bs h = subst (λ l. IsUtf8 (map dot_expanded l)) h.1.1 (dots_encodes h.0 h.1.0)
@@ -163,10 +138,10 @@ AreUtf8-prefixes : (before cs : List ℕ) → IsUtf8 before → scalars cs ≡ t
 AreUtf8-prefixes before [] u s = (u, tt)
 AreUtf8-prefixes before (zero ∷ cs) u s =
     subst (λ l. AreUtf8 (prefixes_from before (l ++ encodes cs))) (sym (encode_ascii 0 (omega arith)))
-    (u, AreUtf8-prefixes (before ++ 0 ∷ []) cs (IsUtf8-append before (0 ∷ []) u (IsUtf8-ascii 0 (omega arith))) (rest_scalars zero cs s))
+    (u, AreUtf8-prefixes (before ++ 0 ∷ []) cs (IsUtf8-append before (0 ∷ []) u (IsUtf8-ascii 0 (omega arith))) (and_parts (scalar zero) (scalars cs) s).1)
 AreUtf8-prefixes before (suc c ∷ cs) u s =
     subst AreUtf8 (sym (prefixes_from-past before (encode (suc c)) (encodes cs) (by (ltb (suc c) 128) refl)))
-    (AreUtf8-prefixes (before ++ encode (suc c)) cs (IsUtf8-append before (encode (suc c)) u (IsUtf8-encode (suc c) (first_scalar (suc c) cs s))) (rest_scalars (suc c) cs s))
+    (AreUtf8-prefixes (before ++ encode (suc c)) cs (IsUtf8-append before (encode (suc c)) u (IsUtf8-encode (suc c) (and_parts (scalar (suc c)) (scalars cs) s).0)) (and_parts (scalar (suc c)) (scalars cs) s).1)
   where
     by : (b : Bool) → ltb (suc c) 128 ≡ b → AreNotZero (encode (suc c))
     by true e = let lt : suc c < 128 = grind (arith, nat_tests) in subst AreNotZero (sym (encode_ascii (suc c) lt)) (omega arith, tt)

@@ -3,7 +3,7 @@ use Rattle.std.specs.Prelude.{ℕ, ◌+◌, ◌^◌, List, [], ◌∷◌, map, f
 use Rattle.std.specs.List.{slice_get, list_all, flat_map}
 use Rattle.std.specs.Option.{option_or, option_map}
 use Rattle.std.specs.Str.{bytes_eq}
-use Rattle.seg_values.specs.declared.token.Token.{Token}
+use Rattle.seg_words.specs.declared.token.Token.{Token}
 use Rattle.seg_values.specs.declared.schema.FieldEntry.{FieldEntry}
 use Rattle.seg_values.specs.declared.schema.FieldKind.{FieldKind}
 use Rattle.seg_values.specs.declared.schema.FieldKind.TheVariants as kinds
@@ -16,7 +16,7 @@ use Rattle.seg_values.specs.Utf8.{IsUtf8Document}
 use Rattle.seg_model.specs.Fields.{Schema, Analyzer, is_json, is_indexed, indexing_tokenizer, values_of, fields}
 use Rattle.seg_model.specs.Leaves.{PlacedLeaf, leaves, leaves_of, joined_path}
 use Rattle.seg_model.specs.Takes.{takes}
-use Rattle.seg_model.specs.StoredForm.{stored_form}
+use Rattle.seg_values.specs.StoredForm.{stored_form}
 use Rattle.seg_model.specs.Occurrences.{counted, start_after_all, value_tokens, leaf_text, texts_at}
 
 -- why a document is not taken: the error, given the place at which the document is added

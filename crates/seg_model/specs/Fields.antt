@@ -1,16 +1,13 @@
 -- Fields of a schema, and the values that a document has in one.
-use Rattle.std.specs.Prelude.{ℕ, Bool, true, false, ◌&&◌, ◌||◌, if◌then◌else◌, List, map, filter, nat_eq, unwrap_or, Option, Some, None, codes}
+use Rattle.std.specs.Prelude.{ℕ, Bool, true, false, ◌&&◌, ◌||◌, if◌then◌else◌, List, map, filter, nat_eq, unwrap_or, codes}
 use Rattle.std.specs.List.{enumerate_from}
-use Rattle.seg_values.specs.declared.token.Token.{Token}
+use Rattle.seg_words.specs.declared.token.Token.{Token}
 use Rattle.seg_values.specs.declared.schema.FieldEntry.{FieldEntry}
 use Rattle.seg_values.specs.declared.schema.FieldKind.{FieldKind}
 use Rattle.seg_values.specs.declared.schema.FieldKind.TheVariants.{Text, Facet, Json}
 pub use Rattle.seg_values.specs.Indexed.{is_on, is_indexed, has_lengths}
 use Rattle.seg_values.specs.Tree.{Tree, Document}
-
--- a schema: its field entries, of which a field is a place
-abbrev pub Schema : Type 0
-Schema = List FieldEntry
+pub use Rattle.seg_values.specs.Schemas.{Schema, is_field}
 
 -- the tokens that the analyzer with a name gives of a text
 abbrev pub Analyzer : Type 0
@@ -34,11 +31,6 @@ is_facet _ = false
 -- the named tokenizer of an indexed text or JSON field, else `default`
 abbrev pub indexing_tokenizer : FieldEntry → List ℕ
 indexing_tokenizer entry = if is_indexed entry && (is_text entry.kind || is_json entry.kind) then unwrap_or entry.tokenizer (codes "default") else codes "default"
-
--- whether a field is in the schema and passes a test
-abbrev pub is_field : (FieldEntry → Bool) → Option FieldEntry → Bool
-is_field test None = false
-is_field test (Some entry) = test entry
 
 -- the values of a field, in the document's order
 abbrev pub values_of : ℕ → Document → List Tree

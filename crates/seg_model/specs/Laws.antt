@@ -1,17 +1,12 @@
 -- The laws of the definitions.
-use Rattle.std.specs.Prelude.{Bool, not, ◌&&◌, ◌||◌, ◌≡◌, ◌⊎◌, ◌↔◌, reverse, Option, List, [], ◌∷◌, ℕ, Some, None, true, false, replicate, map, ◌++◌, length}
+use Rattle.std.specs.Prelude.{◌≡◌, ◌↔◌, List, [], ◌∷◌, ℕ, Some, None, true, false, replicate, map, ◌++◌, length}
 use Rattle.std.specs.List.{flat_map, AllByRecursion}
 use Rattle.std.specs.FinMap.{get}
-use Rattle.std.specs.Ordering.{eq_by_cmp}
-use Rattle.std.specs.declared.cmp.Ordering.{Ordering}
-use Rattle.std.specs.declared.cmp.Ordering.TheVariants.{Less}
-use Rattle.std.specs.declared.ops.Bound.{Bound}
-use Rattle.std.specs.declared.ops.Bound.TheVariants.{Included, Excluded}
 use Rattle.seg_values.specs.declared.schema.FieldEntry.{FieldEntry}
 use Rattle.seg_values.specs.Tree.{Document}
 use Rattle.seg_model.specs.Fields.{Schema, Analyzer}
 use Rattle.seg_model.specs.Occurrences.{Occurrence}
-use Rattle.seg_model.specs.Operations.{Operation, Batch, live, batches, both_marked}
+use Rattle.seg_model.specs.Operations.{Operation, Batch, live, batches}
 use Rattle.seg_model.specs.Reading.{Terms, terms_of, postings_of, if_any, listed, recorded_in}
 use Rattle.seg_model.specs.Columns.{ColumnKey, ColumnValue, Columns, columns, column_at, is_mixed, declared_columns, values_at, fast_values}
 use Rattle.seg_model.specs.Contents.{Contents, reading_part, reading, full_reading}
@@ -21,9 +16,6 @@ use Rattle.seg_model.specs.Shape.{HasFullShape}
 use Rattle.seg_model.specs.Input.{Input}
 use Rattle.seg_model.specs.Valid.{Known, IsValid}
 use Rattle.seg_model.specs.Refused.{build_refusal}
-use Rattle.seg_model.specs.SortedTerms.{SortedTerms, TermRange, RankedTerm, key_cmp, term_ord, term_at, searched}
-use Rattle.seg_model.specs.MergedTerms.{merged_terms, standings_from, if_stands}
-use Rattle.seg_model.specs.Disk.{Written, Files, Disk, IsImage, may_leave, may_hold, with_change, is_pending}
 
 -- ---- terms and columns are known by what they answer
 
@@ -68,14 +60,6 @@ PostingsGrow = (entry : FieldEntry) (term : List ℕ) (documents : List (List Oc
 -- and a column one more row
 abbrev pub ColumnsGrow : Type 0
 ColumnsGrow = (schema : Schema) (analyzer : Analyzer) (ds : List Document) (d : Document) (key : ColumnKey) → recorded_values schema analyzer (ds ++ d ∷ []) key ≡ recorded_values schema analyzer ds key ++ values_at key (fast_values schema analyzer d) ∷ []
-
--- ---- alive sets
-
--- what two alive sets share does not depend on their order or grouping
-pub record AliveSetsMeet : Type 0 where
-  pub commutative : (as' bs : List Bool) → both_marked as' bs ≡ both_marked bs as'
-  pub associative : (as' bs cs : List Bool) → both_marked (both_marked as' bs) cs ≡ both_marked as' (both_marked bs cs)
-  pub idempotent : (as' : List Bool) → both_marked as' as' ≡ as'
 
 -- ---- batches
 
@@ -140,39 +124,3 @@ JoinsHaveFullShape = (schema : Schema) (ps : List Part) (contents : Contents) �
 -- the full reading of sound documents is of full shape
 abbrev pub ReadingsHaveFullShape : Type 0
 ReadingsHaveFullShape = (schema : Schema) (analyzer : Analyzer) (ds : List Document) (contents : Contents) → AllByRecursion (IsSound schema) ds → full_reading schema analyzer ds ≡ Some contents → HasFullShape schema contents
-
--- ---- ranges of sorted terms
-
--- a key has an ordinal exactly where it is there
-abbrev pub OrdinalsArePlaces : Type 0 → Type 0
-OrdinalsArePlaces Info = (terms : SortedTerms Info) (key : List ℕ) (ord : ℕ) → (term_ord terms key ≡ Some ord) ↔ (term_at terms ord ≡ Some key)
-
--- a bound at a key
-abbrev pub IsBoundAt : List ℕ → Bound (List ℕ) → Type 0
-IsBoundAt key bound = (bound ≡ Included key) ⊎ (bound ≡ Excluded key)
-
--- a range whose upper bound is at a smaller key than its lower one gives nothing
-abbrev pub ReversedBoundsGiveNone : Type 0 → Type 0
-ReversedBoundsGiveNone Info = (terms : SortedTerms Info) (accepts : List ℕ → Bool) (range : TermRange) (low high : List ℕ) → IsBoundAt low range.lower → IsBoundAt high range.upper → key_cmp high low ≡ Less → searched range accepts terms ≡ []
-
--- backward, a range gives the same terms in reverse
-abbrev pub BackwardIsReverse : Type 0 → Type 0
-BackwardIsReverse Info = (terms : SortedTerms Info) (accepts : List ℕ → Bool) (range : TermRange) → searched (record range { backward = not range.backward }) accepts terms ≡ reverse (searched range accepts terms)
-
--- merged terms have at each key the segments that have it, in order, and nothing where none has it
-abbrev pub MergedTermsAnswer : Type 0 → Type 0
-MergedTermsAnswer Info = (segments : List (List (RankedTerm Info))) (key : List ℕ) → get (merged_terms segments) key ≡ if_stands (standings_from 0 key segments)
-
--- ---- images
-
--- the files that are safe are an image
-abbrev pub StableFilesAreAnImage : {Name : Type 0} → (Name → Name → Ordering) → Type 0
-StableFilesAreAnImage order = (disk : Disk order) → IsImage disk disk.stable
-
--- a name of which no change is pending has in each image what is safe
-abbrev pub UntouchedNamesStay : {Name : Type 0} → (Name → Name → Ordering) → Type 0
-UntouchedNamesStay {Name} order = (disk : Disk order) (files : Files order) (name : Name) → IsImage disk files → is_pending disk name ≡ false → get files name ≡ get disk.stable name
-
--- one more change lets its own name, and no other, be as the change leaves it
-abbrev pub ChangesLeaveTheirName : {Name : Type 0} → (Name → Name → Ordering) → Type 0
-ChangesLeaveTheirName {Name} order = (disk : Disk order) (changed : Name) (written : Written) (name : Name) (state : Option (List ℕ)) → may_hold (with_change disk changed written) name state ≡ (may_hold disk name state || (eq_by_cmp order changed name && may_leave written state))

@@ -3,15 +3,12 @@ pub mod Checked
 pub mod Codes
 pub mod Columns
 pub mod Contents
-pub mod Disk
 pub mod Estimate
 pub mod Fields
-pub mod IndexOfFiles
 pub mod Input
 pub mod Join
 pub mod Laws
 pub mod Leaves
-pub mod MergedTerms
 pub mod Norms
 pub mod Occurrences
 pub mod Operations
@@ -19,8 +16,6 @@ pub mod Reading
 pub mod Refused
 pub mod SelfTold
 pub mod Shape
-pub mod SortedTerms
-pub mod StoredForm
-pub mod Tables
 pub mod Takes
+pub mod Telling
 pub mod Valid

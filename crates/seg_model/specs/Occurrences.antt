@@ -3,11 +3,11 @@ use Rattle.std.specs.Prelude.{ℕ, zero, suc, ◌+◌, ◌^◌, List, [], ◌∷
 use Rattle.std.specs.List.{flat_map, list_any, slice_get}
 use Rattle.std.specs.Int.{w64, to_be_bytes}
 use Rattle.std.specs.Str.{bytes_eq}
-use Rattle.seg_values.specs.declared.token.Token.{Token}
+use Rattle.seg_words.specs.declared.token.Token.{Token}
 use Rattle.seg_values.specs.declared.schema.FieldEntry.{FieldEntry}
 use Rattle.seg_values.specs.declared.schema.FieldKind.TheVariants.{Text, Json}
 use Rattle.seg_values.specs.declared.schema.FieldKind.{FieldKind}
-use Rattle.seg_values.specs.Tree.{Leaf, text, pre_tokenized, unsigned, signed, boolean, date, facet, byte_string, ip, Tree, leaf, array, object, Document}
+use Rattle.seg_values.specs.Tree.{Leaf, text, pre_tokenized, unsigned, signed, boolean, date, facet, Tree, leaf, array, object, Document}
 use Rattle.seg_values.specs.ValueBytes.{raised, value_bytes}
 use Rattle.seg_model.specs.Fields.{Schema, Analyzer, is_indexed, indexing_tokenizer, values_of}
 use Rattle.seg_model.specs.Leaves.{PlacedLeaf, leaves_of, joined_path}

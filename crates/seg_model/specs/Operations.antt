@@ -1,7 +1,8 @@
 -- Additions and deletes, in the order of their stamps, and what they leave.
-use Rattle.std.specs.Prelude.{ℕ, ◌-◌, List, [], ◌∷◌, ◌++◌, Bool, true, false, cond, not, ◌&&◌, Option, Some, None, take, drop}
+use Rattle.std.specs.Prelude.{ℕ, ◌-◌, List, [], ◌∷◌, ◌++◌, Bool, true, false, not, ◌&&◌, Option, Some, None, take, drop}
 use Rattle.std.specs.List.{flat_map, list_any, list_all}
 use Rattle.seg_values.specs.Tree.{Document}
+pub use Rattle.seg_common.specs.Marks.{kept, both_marked}
 pub use Rattle.seg_values.specs.ValueBytes.{TermKey}
 use Rattle.seg_model.specs.Fields.{Schema, Analyzer}
 use Rattle.seg_model.specs.Occurrences.{has_term}
@@ -16,12 +17,6 @@ pub data Operation : Type 0 where
 pub record Batch : Type 0 where
   pub documents : List Document
   pub alive : List Bool
-
--- the members that are marked
-abbrev pub kept : {X : Type 0} → List Bool → List X → List X
-kept [] xs = []
-kept (b ∷ bs) [] = []
-kept (b ∷ bs) (x ∷ xs) = cond b (x ∷ kept bs xs) (kept bs xs)
 
 -- the live documents
 abbrev pub live : Batch → List Document
@@ -69,12 +64,6 @@ batches_from schema analyzer from (cut ∷ cuts) operations =
 -- the batches of a list of operations: what each adds, and what of it is alive in the end
 abbrev pub batches : Schema → Analyzer → List ℕ → List Operation → List Batch
 batches schema analyzer cuts operations = batches_from schema analyzer 0 cuts operations
-
--- marked in both lists
-abbrev pub both_marked : List Bool → List Bool → List Bool
-both_marked [] bs = []
-both_marked (a ∷ as') [] = []
-both_marked (a ∷ as') (b ∷ bs) = (a && b) ∷ both_marked as' bs
 
 -- the alive set that a filter leaves; no filter keeps all
 abbrev pub filtered_by : Option (List Bool) → List Bool → List Bool

@@ -1,6 +1,6 @@
 -- The terms of documents with their postings, and the stored documents.
 use Rattle.std.specs.Prelude.{ℕ, ◌+◌, List, [], ◌∷◌, ◌++◌, map, filter, length, Option, Some, None, nat_eq, ◌==◌, ◌||◌, ◌&&◌, if◌then◌else◌}
-use Rattle.std.specs.List.{flat_map, slice_get}
+use Rattle.std.specs.List.{flat_map}
 use Rattle.std.specs.Ordering.{nat_cmp}
 use Rattle.std.specs.Cmp.Lexicographic.{slice_cmp}
 use Rattle.std.specs.Str.{bytes_eq}
@@ -8,10 +8,11 @@ use Rattle.std.specs.FinMap.{FinMap}
 use Rattle.seg_values.specs.declared.schema.FieldEntry.{FieldEntry}
 use Rattle.seg_values.specs.declared.schema.IndexOption.{IndexOption}
 use Rattle.seg_values.specs.declared.schema.IndexOption.TheVariants.{No, Basic, Freqs, Positions}
-use Rattle.seg_values.specs.Tree.{Leaf, text, pre_tokenized, Tree, leaf, array, object, Document}
-use Rattle.seg_model.specs.Fields.{Schema, Analyzer, is_text, is_json, fields, is_field}
+use Rattle.seg_values.specs.Tree.{Document}
+use Rattle.seg_model.specs.Fields.{Schema, Analyzer, is_text, is_json, fields}
 use Rattle.seg_model.specs.Occurrences.{Occurrence, occurrences}
-use Rattle.seg_model.specs.Tables.{tabulated}
+use Rattle.seg_common.specs.Tables.{tabulated}
+pub use Rattle.seg_values.specs.Stored.{stored_leaf, stored_value, stored_document}
 
 -- what a posting tells besides its document: nothing, how often the term occurs there, or where
 pub data Recorded : Type 0 where
@@ -88,19 +89,3 @@ field_terms schema analyzer documents f = terms_of f.1 (map (λ d. occurrences s
 -- the terms of each field of the schema; a field that is not indexed has none
 abbrev pub all_terms : Schema → Analyzer → List Document → List Terms
 all_terms schema analyzer documents = map (field_terms schema analyzer documents) (fields schema)
-
--- a leaf as it is stored: a pre-tokenized text is kept as its text
-abbrev pub stored_leaf : Leaf → Leaf
-stored_leaf (pre_tokenized p) = text p.text
-stored_leaf l = l
-
--- a value as it is stored: a pre-tokenized text is kept as its text
-abbrev pub stored_value : Tree → Tree
-stored_value (leaf l) = leaf (stored_leaf l)
-stored_value (array ts) = array ts
-stored_value (object ms) = object ms
-
--- the pairs of stored fields, in the document's order
-abbrev pub stored_document : Schema → Document → Document
-stored_document schema document =
-    map (λ p. (p.0, stored_value p.1)) (filter (λ p. is_field (λ e. e.stored) (slice_get schema p.0)) document)

@@ -1,11 +1,11 @@
 -- Why nothing is built of an input: the first cause, in the order in which they are looked for.
-use Rattle.std.specs.Prelude.{ℕ, ◌-◌, ◌^◌, List, [], ◌∷◌, map, length, take, drop, is_some, Option, Some, None, nat_lt}
+use Rattle.std.specs.Prelude.{ℕ, ◌-◌, ◌^◌, List, [], ◌∷◌, map, length, take, drop, is_some, Option, None, nat_lt}
 use Rattle.std.specs.List.{enumerate_from}
 use Rattle.std.specs.Option.{option_or}
 use Rattle.seg_values.specs.Tree.{Document}
 use Rattle.seg_values.specs.declared.error.ArgumentCause.TheVariants as argument
 use Rattle.seg_values.specs.declared.error.TantivyError.{TantivyError}
-use Rattle.seg_values.specs.declared.error.TantivyError.TheVariants.{InvalidArgument}
+use Rattle.seg_values.specs.declared.error.TantivyError.TheVariants.{SchemaError, InvalidArgument}
 use Rattle.seg_model.specs.Fields.{Schema, Analyzer}
 use Rattle.seg_model.specs.Operations.{Operation, add, delete, delete_all, additions}
 use Rattle.seg_model.specs.Checked.{at_place, document_refusal, first_of, unless}
@@ -43,6 +43,14 @@ batch_refusal schema analyzer batch =
     (option_or (first_of (λ p. operation_refusal schema analyzer p.0 p.1) batch)
     (numbers_refusal schema analyzer (added_by batch)))
 
+-- why a batch is refused whose first operation has the place `first`
+abbrev pub batch_error : Schema → Analyzer → ℕ → List Operation → Option TantivyError
+batch_error schema analyzer first operations = batch_refusal schema analyzer (enumerate_from first operations)
+
+-- why the operations from a place on are refused, cut in batches: by the first batch that is
+abbrev pub batches_error : Schema → Analyzer → ℕ → List ℕ → List Operation → Option TantivyError
+batches_error schema analyzer from cuts operations = first_of (batch_refusal schema analyzer) (cut_from from cuts (enumerate_from from operations))
+
 -- why nothing is built of an input, if so: by the input alone, by the first batch that is refused, or by the survivors
 abbrev pub build_refusal : Known → Analyzer → Input → Option TantivyError
 build_refusal known analyzer input =
@@ -50,3 +58,15 @@ build_refusal known analyzer input =
     (option_or (first_of (batch_refusal input.schema analyzer) (cut_from 0 input.cuts (enumerate_from 0 input.operations)))
     (option_or (count_refusal (input_survivors analyzer input))
     (numbers_refusal input.schema analyzer (input_survivors analyzer input))))
+
+-- an error that tells a refusal
+abbrev pub IsRefusal : TantivyError → Type 0
+IsRefusal (SchemaError cause) = Unit {0}
+IsRefusal (InvalidArgument cause) = Unit {0}
+IsRefusal _ = ⊥
+
+-- a fact of an error that tells a refusal
+abbrev pub IfRefusal : (TantivyError → Type 0) → TantivyError → Type 0
+IfRefusal P (SchemaError cause) = P (SchemaError cause)
+IfRefusal P (InvalidArgument cause) = P (InvalidArgument cause)
+IfRefusal P _ = Unit {0}

@@ -1,5 +1,5 @@
 //! Laws of the definitions.
-ghost use Rattle.seg_model.specs.Laws.{TermsAnswer, NoOtherTerms, ColumnsAnswer, NoOtherColumns, MixedNumbersHaveNoColumns, BatchesPlayNoPart, PostingsGrow, ColumnsGrow, AliveSetsMeet, JoiningIsInvisible, JoinsGroupInOrder, JoinsHaveFullShape, ReadingsHaveFullShape, FullReadingsHaveTheReading, OrdinalsArePlaces, MergedTermsAnswer, ValidInputsAreNotRefused, ReversedBoundsGiveNone, BackwardIsReverse, StableFilesAreAnImage, UntouchedNamesStay, ChangesLeaveTheirName};
+ghost use Rattle.seg_model.specs.Laws.{TermsAnswer, NoOtherTerms, ColumnsAnswer, NoOtherColumns, MixedNumbersHaveNoColumns, BatchesPlayNoPart, PostingsGrow, ColumnsGrow, JoiningIsInvisible, JoinsGroupInOrder, JoinsHaveFullShape, ReadingsHaveFullShape, FullReadingsHaveTheReading, ValidInputsAreNotRefused};
 
 /// A term list is known by what it answers at each value bytes.
 pub fn terms_are_known_by_their_answers()
@@ -53,28 +53,4 @@ pub fn full_readings_have_the_reading()
 pub fn contents_grow_by_documents()
     ensures postings { PostingsGrow }
     ensures columns { ColumnsGrow }
-{}
-
-/// What alive sets share does not depend on their order or grouping.
-pub fn alive_sets_meet()
-    ensures { AliveSetsMeet }
-{}
-
-/// Ordinals are the places of keys; reversed bounds give no terms; and a range gives the same terms backward as forward.
-pub fn ranges_of_sorted_terms<Info>()
-    ensures ordinals { OrdinalsArePlaces Info }
-    ensures reversed { ReversedBoundsGiveNone Info }
-    ensures backward { BackwardIsReverse Info }
-{}
-
-/// Merged terms have each key once, with the segments that have it.
-pub fn merged_terms_are_known_by_their_answers<Info>()
-    ensures { MergedTermsAnswer Info }
-{}
-
-/// What is safe on a disk is an image of it; in each image a name without a pending change is as it is safe, so with nothing pending there is one image; and a change may show at its own name alone.
-pub fn images_of_a_disk<Name: Ord>()
-    ensures stable { StableFilesAreAnImage Name.cmp }
-    ensures untouched { UntouchedNamesStay Name.cmp }
-    ensures changed { ChangesLeaveTheirName Name.cmp }
 {}

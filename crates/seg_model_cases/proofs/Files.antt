@@ -6,8 +6,8 @@ use Rattle.std.specs.List.{count_by}
 use Rattle.std.specs.Option.{option_and_then}
 use Rattle.std.specs.Ordering.{nat_cmp, eq_by_cmp}
 use Rattle.std.specs.FinMap.{get, get-empty, get-from_sorted}
-use Rattle.seg_model.specs.Disk.{IsImage, may_hold}
-use Rattle.seg_model.specs.IndexOfFiles.{ListedSegment, Meta, index_of, OpensWith}
+use Rattle.seg_directory.specs.Disk.{IsImage, may_hold}
+use Rattle.seg_meta.specs.IndexOfFiles.{ListedSegment, Meta, index_of, OpensWith}
 use Rattle.seg_model_cases.specs.Files.{file, disk, DiskCases, settings, segments_of, meta, forms, three, OpeningCases}
 
 got : (bytes : List ℕ) (name : ℕ) → get (file bytes) name ≡ cond (eq_by_cmp nat_cmp name 0) (Some bytes) None

@@ -3,8 +3,8 @@ use Rattle.std.specs.Prelude.{◌≡◌, ℕ, List, [], ◌∷◌, map, codes, t
 use Rattle.std.specs.FinMap.{from_sorted, get}
 use Rattle.std.specs.declared.ops.Bound.{Bound}
 use Rattle.std.specs.declared.ops.Bound.TheVariants.{Included, Excluded, Unbounded}
-use Rattle.seg_model.specs.SortedTerms.{SortedTerms, TermRange, RankedTerm, term_ord, info_at, searched, streamed, all_terms_range}
-use Rattle.seg_model.specs.MergedTerms.{Standing, merged_terms}
+use Rattle.seg_termdict.specs.SortedTerms.{SortedTerms, TermRange, RankedTerm, term_ord, info_at, searched, streamed, all_terms_range}
+use Rattle.seg_termdict.specs.MergedTerms.{Standing, merged_terms}
 
 abbrev pub listed : List (List ℕ × ℕ)
 listed = (codes "a", 7) ∷ (codes "ab", 8) ∷ (codes "b", 9) ∷ []

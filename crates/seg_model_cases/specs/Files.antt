@@ -4,8 +4,8 @@ use Rattle.std.specs.Ordering.{nat_cmp}
 use Rattle.std.specs.FinMap.{empty, from_sorted}
 use Rattle.seg_model.specs.Contents.{Contents}
 use Rattle.seg_model.specs.Input.{Settings, uncompressed}
-use Rattle.seg_model.specs.Disk.{Files, Disk, exactly, torn, IsImage, may_hold, with_change}
-use Rattle.seg_model.specs.IndexOfFiles.{Deletes, ListedSegment, Meta, Forms, IsWhole, OpensAsNoIndex, OpensAsEmpty, OpensAsWhole}
+use Rattle.seg_directory.specs.Disk.{Files, Disk, exactly, torn, IsImage, may_hold, with_change}
+use Rattle.seg_meta.specs.IndexOfFiles.{Deletes, ListedSegment, Meta, Forms, IsWhole, OpensAsNoIndex, OpensAsEmpty, OpensAsWhole}
 
 -- the file 0 with these bytes, and no other
 abbrev pub file : List ℕ → Files nat_cmp

@@ -15,8 +15,8 @@ use Rattle.seg_directory.specs.Composite.{Part, composite}
 use Rattle.seg_columnar.specs.Columnar.{rows_of}
 use Rattle.seg_store.specs.Block.{Block}
 use Rattle.seg_store.specs.Store.{store_of, documents_of}
-use Rattle.seg_postings.specs.FieldNorms.{norms_parts}
-use Rattle.seg_postings.specs.NormsRead.{AreNorms}
+use Rattle.seg_norms.specs.FieldNorms.{norms_parts}
+use Rattle.seg_norms.specs.NormsRead.{AreNorms}
 use Rattle.seg_open.specs.FieldOpening.{MayHold}
 use Rattle.seg_open.specs.FieldsOpening.{OneCantHold, IsWhyNone}
 use Rattle.seg_open.specs.IndexedParts.{HaveIndexedParts, LacksParts}

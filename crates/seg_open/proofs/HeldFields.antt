@@ -1,5 +1,5 @@
 -- The parts of a field that hold terms are a field by the rules of its entry; and why parts hold none.
-use Rattle.std.proofs.Common.{◌≡◌, ℕ, ◌+◌, ◌<◌, Bool, true, false, cond, T, ◌&&◌, List, [], ◌∷◌, map, Some, None, refl, sym, ap, ◌∙◌, subst}
+use Rattle.std.proofs.Common.{◌≡◌, ℕ, ◌+◌, ◌<◌, cond, T, List, [], ◌∷◌, map, Some, None, refl, sym, ap, ◌∙◌, subst}
 use Rattle.std.specs.FinMap.Entries.{below_all}
 use Rattle.std.specs.FinMap.{entries, find, is_sorted, entries_sorted, get-entries}
 use Rattle.std.specs.List.{AllByRecursion}
@@ -9,6 +9,7 @@ use Rattle.std.specs.Cmp.Lexicographic.{slice_cmp, nat_list_cmp_total}
 use Rattle.std.specs.declared.cmp.Ordering.{Ordering}
 use Rattle.std.specs.declared.cmp.Ordering.TheVariants.{Less, Equal, Greater}
 use Rattle.std.proofs.lemmas.Option.{none-some, same_Some}
+use Rattle.seg_common.proofs.Bools.{first_holds, second_holds}
 use Rattle.seg_values.specs.declared.schema.FieldEntry.{FieldEntry}
 use Rattle.seg_values.specs.declared.schema.IndexOption.{IndexOption}
 use Rattle.seg_model.specs.Reading.{Posting, term_option}
@@ -20,14 +21,6 @@ use Rattle.seg_open.specs.FieldOpening.{MayHold}
 
 -- ---- each entry of a map is found by its key
 
-first : (a b : Bool) → T (a && b) → T a
-first true b p = tt
-first false b p = p
-
-second : (a b : Bool) → T (a && b) → T b
-second true b p = p
-second false b p = absurd p
-
 less : (o : Ordering) → T (is_lt o) → o ≡ Less
 less Less p = refl
 less Equal p = absurd p
@@ -38,8 +31,8 @@ module _ {Y : Type 0} where
   missed : (q k : List ℕ) → slice_cmp nat_cmp q k ≡ Equal → (es : List (List ℕ × Y)) → T (below_all (slice_cmp nat_cmp) k es) → find (slice_cmp nat_cmp) q es ≡ None
   missed q k tie [] h = refl
   missed q k tie (e ∷ es) h =
-      ap (λ r. cond (is_eq r) (Some e.1) (find (slice_cmp nat_cmp) q es)) (nat_list_cmp_total.congr q k e.0 tie ∙ less _ (first _ _ h))
-      ∙ missed q k tie es (second _ _ h)
+      ap (λ r. cond (is_eq r) (Some e.1) (find (slice_cmp nat_cmp) q es)) (nat_list_cmp_total.congr q k e.0 tie ∙ less _ (first_holds _ _ h))
+      ∙ missed q k tie es (second_holds _ _ h)
 
   -- what is found after the first entry is found
   found_behind : (e : List ℕ × Y) (es : List (List ℕ × Y)) → T (below_all (slice_cmp nat_cmp) e.0 es) → (k : List ℕ) (y : Y) → find (slice_cmp nat_cmp) k es ≡ Some y → (r : Ordering) → slice_cmp nat_cmp k e.0 ≡ r → find (slice_cmp nat_cmp) k (e ∷ es) ≡ Some y
@@ -52,7 +45,7 @@ module _ {Y : Type 0} where
   of_each P [] s h = tt
   of_each P (e ∷ es) s h = (
     h e.0 e.1 (ap (λ r. cond (is_eq r) (Some e.1) (find (slice_cmp nat_cmp) e.0 es)) (tied_itself nat_list_cmp_total e.0)),
-    of_each P es (second _ _ s) (λ k y at. h k y (found_behind e es (first _ _ s) k y at (slice_cmp nat_cmp k e.0) refl)),
+    of_each P es (second_holds _ _ s) (λ k y at. h k y (found_behind e es (first_holds _ _ s) k y at (slice_cmp nat_cmp k e.0) refl)),
   )
 
 -- ---- their documents

@@ -9,7 +9,7 @@ use Rattle.seg_store.specs.Block.{Block}
 use Rattle.seg_store.specs.Store.{documents_of}
 use Rattle.seg_postings.specs.FieldReading.{OpenField, written_terms}
 use Rattle.seg_postings.specs.HeldTerms.{terms_held}
-use Rattle.seg_postings.specs.NormsRead.{norms_of}
+use Rattle.seg_norms.specs.NormsRead.{norms_of}
 
 -- the schema and the number of documents; for each field its terms, where it is indexed; the blocks of the store; and the parts of the file of length ids
 pub record OpenSegment : Type 0 where

@@ -8,7 +8,7 @@ use Rattle.seg_directory.specs.Composite.{Part, composite}
 use Rattle.seg_columnar.specs.Columnar.{rows_of}
 use Rattle.seg_store.specs.Store.{store_of, documents_of}
 use Rattle.seg_postings.specs.FieldReading.{OpenField}
-use Rattle.seg_postings.specs.NormsRead.{norms_of, HoldNorms}
+use Rattle.seg_norms.specs.NormsRead.{norms_of, HoldNorms}
 use Rattle.seg_open.specs.FieldsOpening.{AreOpened}
 use Rattle.seg_open.specs.IndexedParts.{HaveIndexedParts}
 use Rattle.seg_open.specs.OpenSegment.{OpenSegment}

@@ -5,8 +5,8 @@ ghost use Rattle.seg_open.specs.FieldOpening.{IsOpened, IsWhyNot};
 use crate::open_error::OpenError;
 use crate::term_files::TermFiles;
 use seg_common::SegmentComponent;
-use seg_postings::{FieldTerms, InvertedIndexReader, PostingsError};
-use seg_values::{Field, FieldEntry};
+use seg_postings::{FieldTerms, InvertedIndexReader};
+use seg_values::{Field, FieldEntry, PostingsError};
 use std::alloc::Global;
 
 /// Opens a field part by part.

@@ -2,14 +2,14 @@
 ghost use Rattle.std.specs.Prelude.{◌≡◌, ◌≢◌, ℕ, List, length, Some, None, MatchBool, MatchOption};
 ghost use Rattle.seg_columnar.specs.Columnar.{rows_of};
 ghost use Rattle.seg_directory.specs.Composite.{composite};
-ghost use Rattle.seg_postings.specs.FieldNorms.{norms_parts};
-ghost use Rattle.seg_postings.specs.NormsRead.{norms_of, AreNorms, HoldNorms};
+ghost use Rattle.seg_norms.specs.FieldNorms.{norms_parts};
+ghost use Rattle.seg_norms.specs.NormsRead.{norms_of, AreNorms, HoldNorms};
 ghost use Rattle.seg_store.specs.Block.{Block};
 ghost use Rattle.seg_store.specs.Store.{store_of, documents_of};
 
 use seg_columnar::ColumnarReader;
 use seg_common::OwnedBytes;
-use seg_postings::FieldNormReaders;
+use seg_norms::FieldNormReaders;
 use seg_store::StoreReader;
 use seg_values::Schema;
 

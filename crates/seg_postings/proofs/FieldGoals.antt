@@ -2,7 +2,7 @@
 use Rattle.std.proofs.Common.{◌≡◌, ℕ, ◌+◌, ◌-◌, ◌<◌, ◌≤◌, ◌^◌, List, [], ◌∷◌, ◌++◌, length, drop, Option, Some, None, ap, sym, ◌∙◌}
 use Rattle.std.specs.Prelude.{IsSomeAnd, unwrap_or}
 use Rattle.std.specs.List.{flat_map}
-use Rattle.std.proofs.lemmas.Option.{none-some}
+use Rattle.std.proofs.lemmas.Option.{none-some, same_Some}
 use Rattle.seg_common.specs.Growing.{HasGrown}
 use Rattle.seg_common.specs.Varint.{varint}
 use Rattle.seg_common.specs.declared.term_info.TermInfo.{TermInfo}
@@ -16,12 +16,9 @@ use Rattle.seg_postings.specs.PostingsForm.{differences}
 use Rattle.seg_postings.specs.Written.{Rise}
 use Rattle.seg_postings.proofs.FieldSteps.{opened_parts, opened_view, behind, occurred_parts, occurred_view, closed_parts, term_closed_view, open_view}
 
-some_is : {A : Type 0} {x y : A} → Some x ≡ Some y → x ≡ y
-some_is h = cc
-
 -- what a dictionary has grown to
 grown_to : {A : Type 0} (before after : Option A) (grow : A → A) (built : A) → before ≡ Some built → HasGrown before after grow → after ≡ Some (grow built)
-grown_to before after grow built is grown = grown.is ∙ ap (λ b. Some (grow b)) (some_is (sym grown.was ∙ is))
+grown_to before after grow built is grown = grown.is ∙ ap (λ b. Some (grow b)) (same_Some _ _ (sym grown.was ∙ is))
 
 -- parts, and what they are seen as
 pub record Step (field total : ℕ) (dictionary : Option Building) (postings positions : List ℕ) (current : Option OpenTerm) (seen : FieldWriting) : Type 0 where
@@ -44,7 +41,7 @@ open_step field total dictionary grown postings positions bytes after kind start
 
 given : {A : Type 0} (P : A → Type 0) (o : Option A) (x : A) → o ≡ Some x → IsSomeAnd o P → P x
 given P None x e h = absurd (none-some x e)
-given P (Some y) x e h = rw (sym (some_is e)) h
+given P (Some y) x e h = rw (sym (same_Some _ _ e)) h
 
 module _ (field total : ℕ) (dictionary : Option Building) (postings positions : List ℕ) (current : Option OpenTerm) (o : OpenTerm) (self : FieldWriting) (i : AreParts total dictionary postings positions current) (is : self ≡ writing field total dictionary (drop 8 postings) positions current) (e : current ≡ Some o) where
   parts : AreParts total dictionary postings positions (Some o)

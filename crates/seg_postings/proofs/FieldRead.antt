@@ -3,6 +3,7 @@ use Rattle.std.proofs.Common.{◌≡◌, ℕ, zero, suc, ◌<◌, ◌&&◌, true
 use Rattle.std.specs.Prelude.{nat_eq, nat_lt, option_map, option_and_then, unwrap_or}
 use Rattle.std.specs.List.{list_all, AllByRecursion}
 use Rattle.std.proofs.lemmas.Bool.{lt-ltb, ltb-true, and_parts, and_from, false≢true}
+use Rattle.std.proofs.lemmas.Option.{same_Some}
 use Rattle.seg_common.specs.declared.term_info.TermInfo.{TermInfo}
 use Rattle.seg_termdict.specs.Dictionary.{Term}
 use Rattle.seg_model.specs.Reading.{Recorded, Posting}
@@ -17,25 +18,22 @@ use Rattle.seg_postings.specs.FieldReading.{FieldRules, kind_by, is_read, postin
 use Rattle.seg_postings.proofs.TermsRead.{Both, both}
 use Rattle.seg_postings.proofs.PostingsSteps.{first_document, with_first, first_recorded}
 
-pub some_is : {A : Type 0} {x y : A} → Some x ≡ Some y → x ≡ y
-some_is h = cc
-
 -- ---- as many postings as documents
 
 pub none_length : (kind : RecordKind) (before least : ℕ) (bytes qs : List ℕ) (ps : List Posting) → postings_at kind 0 before least bytes qs ≡ Some ps → length ps ≡ 0
 unfolding postings_at counts_at with_positions
 none_length kind before least (b ∷ bytes) qs ps e = absurd cc
-none_length Documents before least [] [] ps e = sym (ap length (some_is e))
+none_length Documents before least [] [] ps e = sym (ap length (same_Some _ _ e))
 none_length Documents before least [] (q ∷ qs) ps e = absurd cc
-none_length Counts before least [] [] ps e = sym (ap length (some_is e))
+none_length Counts before least [] [] ps e = sym (ap length (same_Some _ _ e))
 none_length Counts before least [] (q ∷ qs) ps e = absurd cc
-none_length Positions before least [] [] ps e = sym (ap length (some_is e))
+none_length Positions before least [] [] ps e = sym (ap length (same_Some _ _ e))
 none_length Positions before least [] (q ∷ qs) ps e = absurd cc
 
 module _ (kind : RecordKind) (n : ℕ) (as_many : (document : ℕ) (bytes qs : List ℕ) (ps : List Posting) → postings_at kind n document 1 bytes qs ≡ Some ps → length ps ≡ n) where
   one_longer : (document : ℕ) (recorded : Recorded) (bytes qs : List ℕ) (ps : List Posting) (o : Option (List Posting)) → postings_at kind n document 1 bytes qs ≡ o → option_map (λ xs. with_first document recorded xs) o ≡ Some ps → length ps ≡ suc n
   one_longer document recorded bytes qs ps None is e = absurd cc
-  one_longer document recorded bytes qs ps (Some xs) is e = sym (ap length (some_is e)) ∙ ap suc (as_many document bytes qs xs is)
+  one_longer document recorded bytes qs ps (Some xs) is e = sym (ap length (same_Some _ _ e)) ∙ ap suc (as_many document bytes qs xs is)
 
   with_recorded : (document : ℕ) (bytes : List ℕ) (ps : List Posting) (o : Option (Recorded × List ℕ)) → option_and_then (λ r. option_map (λ xs. with_first document r.0 xs) (postings_at kind n document 1 bytes r.1)) o ≡ Some ps → length ps ≡ suc n
   with_recorded document bytes ps None e = absurd cc
@@ -57,7 +55,7 @@ length_of_term n (b ∷ bytes) qs t e = by_kind (kind_of_byte b) e
   where
     by_postings : (kind : RecordKind) (o : Option (List Posting)) → postings_at kind n 0 0 bytes qs ≡ o → option_map (λ ps. record { kind = kind; postings = ps }) o ≡ Some t → length t.postings ≡ n
     by_postings kind None is e = absurd cc
-    by_postings kind (Some ps) is e = sym (ap (λ (x : TermPostings). length x.postings) (some_is e)) ∙ length_at kind n 0 0 bytes qs ps is
+    by_postings kind (Some ps) is e = sym (ap (λ (x : TermPostings). length x.postings) (same_Some _ _ e)) ∙ length_at kind n 0 0 bytes qs ps is
 
     by_kind : (o : Option RecordKind) → option_and_then (postings_of_kind n bytes qs) o ≡ Some t → length t.postings ≡ n
     by_kind None e = absurd cc
@@ -161,7 +159,7 @@ module _ (rules : FieldRules) (postings positions : List ℕ) where
       → (nat_lt 0 t.1.doc_freq && is_term_of (kind_by rules t.0) rules.max_doc o) ≡ true
   passes_by t w None is e some kind low = absurd cc
   passes_by t w (Some p) is e some kind low =
-      let same : w ≡ record { bytes = t.0; kind = p.kind; postings = p.postings } = sym (some_is e) in
+      let same : w ≡ record { bytes = t.0; kind = p.kind; postings = p.postings } = sym (same_Some _ _ e) in
       let number : length p.postings ≡ t.1.doc_freq = length_of_term t.1.doc_freq (slice_range postings t.1.postings_start t.1.postings_end) (slice_range positions t.1.positions_start t.1.positions_end) p is in
       let some_here : 0 < length p.postings = subst (λ (x : TermWritten). 0 < length x.postings) same some in
       let kind_here : p.kind ≡ kind_by rules t.0 = subst (λ (x : TermWritten). x.kind ≡ kind_by rules x.bytes) same kind in

@@ -1,17 +1,16 @@
 -- The terms of a field that is read, as a map.
-use Rattle.std.proofs.Common.{◌≡◌, ℕ, ◌<◌, Bool, true, false, cond, T, ◌&&◌, List, [], ◌∷◌, map, length, slice_range, Some, refl, sym, ap, ◌∙◌, subst}
-use Rattle.std.specs.FinMap.Entries.{below_all}
-use Rattle.std.specs.FinMap.{find, is_sorted, entries-from_sorted, get-from_sorted, slice_cmp-IsAntisymmetric, nat_cmp-IsAntisymmetric}
+use Rattle.std.proofs.Common.{◌≡◌, ℕ, ◌<◌, Bool, true, false, cond, T, List, [], ◌∷◌, map, length, slice_range, Some, refl, sym, ap, ◌∙◌, subst}
+use Rattle.std.specs.FinMap.{find, is_sorted, entries-from_sorted, get-from_sorted}
 use Rattle.std.specs.List.{AllByRecursion}
 use Rattle.std.specs.List.Sorted.{IsStrictlySortedBy}
-use Rattle.std.specs.Ordering.{nat_cmp, is_lt, is_eq, eq_by_cmp}
+use Rattle.std.specs.Ordering.{nat_cmp, eq_by_cmp}
 use Rattle.std.specs.Cmp.Lexicographic.{slice_cmp}
-use Rattle.std.specs.declared.cmp.Ordering.{Ordering}
-use Rattle.std.specs.declared.cmp.Ordering.TheVariants.{Less, Equal, Greater}
 use Rattle.std.proofs.lemmas.Bool.{false≢true}
 use Rattle.seg_values.specs.declared.schema.FieldEntry.{FieldEntry}
 use Rattle.seg_values.specs.declared.schema.FieldKind.{FieldKind}
 use Rattle.seg_values.specs.declared.schema.FieldKind.TheVariants.{Text}
+use Rattle.seg_values.proofs.Rising.{is_sorted-rising}
+use Rattle.seg_common.proofs.Tables.{texts_apart, same_key}
 use Rattle.seg_model.specs.Fields.{is_text, is_json, is_facet}
 use Rattle.seg_model.specs.Reading.{Posting, term_option}
 use Rattle.seg_model.specs.Shape.{ArePostings, IsTermWith}
@@ -42,28 +41,7 @@ keys_kept postings positions (t ∷ ts) ws e =
     let others = keys_kept postings positions ts rest.value rest.is in
     ap (λ (xs : List TermWritten). map (λ (e : List ℕ × List Posting). e.0) (map entry_of xs)) (sym rest.same) ∙ (λ i. key i ∷ others i)
 
-same_key : (q k : List ℕ) → eq_by_cmp (slice_cmp nat_cmp) q k ≡ true → k ≡ q
-same_key q k h = by (slice_cmp nat_cmp q k) refl h
-  where
-    by : (r : Ordering) → slice_cmp nat_cmp q k ≡ r → is_eq r ≡ true → k ≡ q
-    by Less e h = absurd (false≢true h)
-    by Equal e h = sym (slice_cmp-IsAntisymmetric nat_cmp-IsAntisymmetric q k e)
-    by Greater e h = absurd (false≢true h)
-
 module _ {Y : Type 0} where
-  -- entries whose keys strictly rise are sorted
-  pub is_sorted-rising : (es : List (List ℕ × Y)) → IsStrictlySortedBy (slice_cmp nat_cmp) (map (λ e. e.0) es) → is_sorted (slice_cmp nat_cmp) es ≡ true
-  unfolding IsStrictlySortedBy
-  is_sorted-rising [] h = refl
-  is_sorted-rising (e ∷ es) h = both (all es h.0) (is_sorted-rising es h.1)
-    where
-      both : {a b : Bool} → a ≡ true → b ≡ true → (a && b) ≡ true
-      both {a} {b} p q = ap (λ x. x && b) p ∙ q
-
-      all : (fs : List (List ℕ × Y)) → AllByRecursion (λ y. slice_cmp nat_cmp e.0 y ≡ Less) (map (λ f. f.0) fs) → below_all (slice_cmp nat_cmp) e.0 fs ≡ true
-      all [] h = refl
-      all (f ∷ fs) h = both (ap is_lt h.0) (all fs h.1)
-
   -- what holds of each entry holds of the one that is found
   of_found : (P : List ℕ × Y → Type 0) (q : List ℕ) (es : List (List ℕ × Y)) (x : Y) → AllByRecursion P es → find (slice_cmp nat_cmp) q es ≡ Some x → P (q, x)
   of_found P q [] x all h = absurd (cc h)
@@ -72,7 +50,7 @@ module _ {Y : Type 0} where
       by : (b : Bool) → eq_by_cmp (slice_cmp nat_cmp) q e.0 ≡ b → cond b (Some e.1) (find (slice_cmp nat_cmp) q es) ≡ Some x → (find (slice_cmp nat_cmp) q es ≡ Some x → P (q, x)) → P (q, x)
       by true t h later =
           let same : e.1 ≡ x = cc in
-          subst (λ k. P (k, x)) (same_key q e.0 t) (subst (λ y. P (e.0, y)) same all.0)
+          subst (λ k. P (k, x)) (sym (same_key texts_apart q e.0 t)) (subst (λ y. P (e.0, y)) same all.0)
       by false t h later = later h
 
 -- ---- shape

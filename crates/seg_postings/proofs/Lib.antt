@@ -8,14 +8,9 @@ mod FieldSteps
 mod KeptTerms
 mod KindLemmas
 mod LastInfo
-mod LengthTable
-mod NormsFit
-mod NormsLists
-mod NormsOfParts
 mod OpenSteps
 mod OpenedFields
 mod PassedPositions
-mod PartIds
 mod PostingsBack
 mod PostingsSteps
 mod Streams

@@ -1,6 +1,7 @@
 -- Positions that are passed.
-use Rattle.std.proofs.Common.{◌≡◌, ℕ, suc, ◌+◌, ◌-◌, ◌^◌, ◌<◌, ◌≤◌, List, ◌∷◌, Option, Some, None, refl, sym, ap, ◌∙◌, arith}
+use Rattle.std.proofs.Common.{◌≡◌, ℕ, ◌+◌, ◌-◌, ◌^◌, ◌<◌, ◌≤◌, List, ◌∷◌, Option, Some, None, refl, sym, ap, ◌∙◌, arith}
 use Rattle.std.specs.Prelude.{option_map}
+use Rattle.seg_common.proofs.Numbers.{one_left}
 use Rattle.seg_postings.specs.Passing.{Passed, Passes}
 use Rattle.seg_model.specs.Reading.{presence, frequency, positions}
 use Rattle.seg_postings.specs.declared.record_kind.RecordKind.{RecordKind}
@@ -15,9 +16,6 @@ after o = option_map (λ x. x.1) o
 after-front : (p : ℕ) (o : Option (List ℕ × List ℕ)) → after (option_map (λ r. (p ∷ r.0, r.1)) o) ≡ after o
 after-front p None = refl
 after-front p (Some x) = refl
-
-one_left : (count i : ℕ) → i < count → count - i ≡ suc (count - (i + 1))
-one_left count i lt = omega (arith, lt)
 
 pub step : (count i before d : ℕ) (bytes rest : List ℕ) → i < count → number_at 0 (2 ^ 32 - before) bytes ≡ Some (d, rest) → after (positions_at (count - (i + 1)) (before + d) rest) ≡ after (positions_at (count - i) before bytes)
 unfolding positions_at

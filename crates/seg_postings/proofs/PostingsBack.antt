@@ -9,10 +9,10 @@ use Rattle.seg_common.proofs.VarintSteps.{reads_back, u64_has_ten}
 use Rattle.seg_model.specs.Reading.{Recorded, presence, frequency, positions, Posting}
 use Rattle.seg_postings.specs.declared.record_kind.RecordKind.{RecordKind}
 use Rattle.seg_postings.specs.declared.record_kind.RecordKind.TheVariants.{Documents, Counts, Positions}
-use Rattle.seg_postings.specs.Kinds.{kind_byte, kind_of_byte}
 use Rattle.seg_postings.specs.PostingsForm.{differences, count_form, position_form, documents_form, postings_form, positions_form}
 use Rattle.seg_postings.specs.Postings.{Counted, in_bounds, number_at, count_at, counts_at, positions_at, with_positions, postings_by, postings_of_kind, term_postings}
 use Rattle.seg_postings.specs.Written.{Rise, IsOfKind, AreWritable}
+use Rattle.seg_postings.proofs.KindLemmas.{kind_back}
 
 -- a number in its bounds is read back
 number_back : (least limit n : ℕ) (rest : List ℕ) → n < 2 ^ 64 → least ≤ n → n < limit → number_at least limit (varint n ++ rest) ≡ Some (n, rest)
@@ -104,11 +104,6 @@ postings_back : (kind : RecordKind) (ps : List Posting) → AreWritable kind 0 0
 postings_back Documents ps fits = rw (documents_have_none 0 0 ps fits) (ap (λ xs. Some xs) (documents_are 0 0 ps fits))
 postings_back Counts ps fits = rw (counts_have_none 0 0 ps fits) (ap (λ xs. Some xs) (counts_are 0 0 ps fits))
 postings_back Positions ps fits = with_positions_back 0 0 ps fits
-
-kind_back : (kind : RecordKind) → kind_of_byte (kind_byte kind) ≡ Some kind
-kind_back Documents = refl
-kind_back Counts = refl
-kind_back Positions = refl
 
 -- what is written of a term is read as that
 pub term_back : (kind : RecordKind) (ps : List Posting) → AreWritable kind 0 0 ps → term_postings (length ps) (postings_form kind ps) (positions_form ps) ≡ Some (record { kind = kind; postings = ps })

@@ -2,6 +2,7 @@
 use Rattle.std.proofs.Common.{◌≡◌, ℕ, suc, ◌+◌, ◌-◌, ◌^◌, ◌<◌, ◌≤◌, ◌&&◌, true, false, List, [], ◌∷◌, length, Option, Some, None, refl, sym, ap, ◌∙◌, arith}
 use Rattle.std.specs.Prelude.{nat_eq, nat_lt, option_map, option_and_then}
 use Rattle.std.proofs.lemmas.Bool.{ne_eqb}
+use Rattle.seg_common.proofs.Numbers.{one_left}
 use Rattle.seg_model.specs.Reading.{Recorded, positions, Posting}
 use Rattle.seg_postings.specs.declared.record_kind.RecordKind.{RecordKind}
 use Rattle.seg_postings.specs.declared.record_kind.RecordKind.TheVariants.{Documents, Counts, Positions}
@@ -54,9 +55,6 @@ first_recorded kind document count n bytes qs = from_rest (counts_at kind n docu
     from_rest (Some cs) = one_more kind document count cs qs
 
 -- ---- the check
-
-one_left : (count i : ℕ) → i < count → count - i ≡ suc (count - (i + 1))
-one_left count i lt = omega (arith, lt)
 
 module _ (kind : RecordKind) (max_doc count i before least : ℕ) (bytes qs : List ℕ) (lt : i < count) where
   here : postings_at kind (count - i) before least bytes qs ≡ option_and_then (λ t. postings_from kind t.0 t.1 (count - (i + 1)) t.2 qs) (counted_at kind before least bytes)

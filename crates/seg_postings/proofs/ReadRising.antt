@@ -71,7 +71,8 @@ rise kind (suc n) before least bytes cs e =
 
 -- ---- what is recorded
 
-as_many : (n before : ℕ) (bytes : List ℕ) (r : List ℕ × List ℕ) → positions_at n before bytes ≡ Some r → length r.0 ≡ n
+-- as many places as are asked for
+pub as_many : (n before : ℕ) (bytes : List ℕ) (r : List ℕ × List ℕ) → positions_at n before bytes ≡ Some r → length r.0 ≡ n
 unfolding positions_at
 as_many zero before bytes r e = let same : ([], bytes) ≡ r = cc in subst (λ (x : List ℕ × List ℕ). length x.0 ≡ 0) same refl
 as_many (suc n) before bytes r e =

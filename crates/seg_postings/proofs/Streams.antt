@@ -1,8 +1,10 @@
 -- Postings that are read one after another.
-use Rattle.std.proofs.Common.{◌≡◌, ℕ, zero, suc, ◌+◌, ◌-◌, ◌^◌, ◌<◌, ◌≤◌, true, List, [], ◌∷◌, ◌++◌, length, drop, Option, Some, None, refl, sym, ap, ◌∙◌, arith, subst, append_assoc, MatchOption}
+use Rattle.std.proofs.Common.{◌≡◌, ℕ, suc, ◌+◌, ◌-◌, ◌^◌, ◌<◌, ◌≤◌, true, List, [], ◌∷◌, ◌++◌, length, drop, Option, Some, None, refl, sym, ap, ◌∙◌, arith, subst, append_assoc, MatchOption}
 use Rattle.std.specs.Prelude.{is_some, option_map, option_and_then, unwrap_or}
 use Rattle.std.proofs.lemmas.Bool.{false≢true}
 use Rattle.std.proofs.lemmas.List.{append-nil}
+use Rattle.std.proofs.lemmas.Option.{same_Some}
+use Rattle.seg_common.proofs.Numbers.{one_left}
 use Rattle.seg_model.specs.Reading.{Recorded, positions, Posting}
 use Rattle.seg_postings.specs.declared.documents.CountedDocument.{CountedDocument}
 use Rattle.seg_postings.specs.declared.record_kind.RecordKind.{RecordKind}
@@ -13,7 +15,8 @@ use Rattle.seg_postings.specs.Postings.{number_at, positions_at, postings_of_kin
 use Rattle.seg_postings.specs.PostingsLeft.{counted_at, recorded_at, postings_at, postings_from}
 use Rattle.seg_postings.specs.PostingsReading.{kind_at, left_from, can_be_read, count_of, places_of, kind_kept}
 use Rattle.seg_postings.proofs.PostingsSteps.{first_document, with_first, first_recorded}
-use Rattle.seg_postings.proofs.FieldRead.{none_length, some_is}
+use Rattle.seg_postings.proofs.FieldRead.{none_length}
+use Rattle.seg_postings.proofs.ReadRising.{as_many}
 
 -- ---- the current posting
 
@@ -74,19 +77,6 @@ end_reads kind n bytes qs = refl
 
 -- ---- what is recorded
 
-more_places : (before d n : ℕ) (o : Option (List ℕ × List ℕ)) (r : List ℕ × List ℕ) → ((x : List ℕ × List ℕ) → o ≡ Some x → length x.0 ≡ n) → option_map (λ r. ((before + d) ∷ r.0, r.1)) o ≡ Some r → length r.0 ≡ suc n
-more_places before d n None r as_many e = absurd cc
-more_places before d n (Some x) r as_many e = sym (ap (λ (y : List ℕ × List ℕ). length y.0) (some_is e)) ∙ ap suc (as_many x refl)
-
-by_number : (before n : ℕ) (o : Option (ℕ × List ℕ)) (r : List ℕ × List ℕ) → ((b : ℕ) (bytes : List ℕ) (x : List ℕ × List ℕ) → positions_at n b bytes ≡ Some x → length x.0 ≡ n) → option_and_then (λ p. option_map (λ r. ((before + p.0) ∷ r.0, r.1)) (positions_at n (before + p.0) p.1)) o ≡ Some r → length r.0 ≡ suc n
-by_number before n None r as_many e = absurd cc
-by_number before n (Some p) r as_many e = more_places before p.0 n (positions_at n (before + p.0) p.1) r (as_many (before + p.0) p.1) e
-
-as_many_places : (n before : ℕ) (bytes : List ℕ) (r : List ℕ × List ℕ) → positions_at n before bytes ≡ Some r → length r.0 ≡ n
-unfolding positions_at
-as_many_places zero before bytes r e = sym (ap (λ (y : List ℕ × List ℕ). length y.0) (some_is e))
-as_many_places (suc n) before bytes r e = by_number before n (number_at 0 (2 ^ 32 - before) bytes) r (λ b more x is. as_many_places n b more x is) e
-
 -- how often the term occurs by what the kind keeps
 abbrev pub kept : RecordKind → ℕ → ℕ
 kept Documents count = 1
@@ -95,23 +85,23 @@ kept _ count = count
 positions_kept : (count : ℕ) (qs : List ℕ) (recorded : Recorded) (after : List ℕ) (o : Option (List ℕ × List ℕ)) → positions_at count 0 qs ≡ o → option_map {U = Recorded × List ℕ} (λ (r : List ℕ × List ℕ). (positions r.0, r.1)) o ≡ Some (recorded, after) → count_of recorded ≡ count
 positions_kept count qs recorded after None is e = absurd cc
 positions_kept count qs recorded after (Some r) is e =
-    sym (ap (λ (y : Recorded × List ℕ). count_of y.0) (some_is e)) ∙ as_many_places count 0 qs r is
+    sym (ap (λ (y : Recorded × List ℕ). count_of y.0) (same_Some _ _ e)) ∙ as_many count 0 qs r is
 
 pub count_kept : (kind : RecordKind) (count : ℕ) (qs : List ℕ) (recorded : Recorded) (after : List ℕ) → recorded_at kind count qs ≡ Some (recorded, after) → count_of recorded ≡ kept kind count
 unfolding recorded_at
-count_kept Documents count qs recorded after e = sym (ap (λ (y : Recorded × List ℕ). count_of y.0) (some_is e))
-count_kept Counts count qs recorded after e = sym (ap (λ (y : Recorded × List ℕ). count_of y.0) (some_is e))
+count_kept Documents count qs recorded after e = sym (ap (λ (y : Recorded × List ℕ). count_of y.0) (same_Some _ _ e))
+count_kept Counts count qs recorded after e = sym (ap (λ (y : Recorded × List ℕ). count_of y.0) (same_Some _ _ e))
 count_kept Positions count qs recorded after e = positions_kept count qs recorded after (positions_at count 0 qs) refl e
 
 positions_recorded : (recorded : Recorded) (after : List ℕ) (o : Option (List ℕ × List ℕ)) → option_map {U = Recorded × List ℕ} (λ (r : List ℕ × List ℕ). (positions r.0, r.1)) o ≡ Some (recorded, after) → kind_kept recorded ≡ Positions
 positions_recorded recorded after None e = absurd cc
-positions_recorded recorded after (Some r) e = sym (ap (λ (y : Recorded × List ℕ). kind_kept y.0) (some_is e))
+positions_recorded recorded after (Some r) e = sym (ap (λ (y : Recorded × List ℕ). kind_kept y.0) (same_Some _ _ e))
 
 -- what is recorded is what the kind keeps
 pub recorded_kind : (kind : RecordKind) (count : ℕ) (qs : List ℕ) (recorded : Recorded) (after : List ℕ) → recorded_at kind count qs ≡ Some (recorded, after) → kind_kept recorded ≡ kind
 unfolding recorded_at
-recorded_kind Documents count qs recorded after e = sym (ap (λ (y : Recorded × List ℕ). kind_kept y.0) (some_is e))
-recorded_kind Counts count qs recorded after e = sym (ap (λ (y : Recorded × List ℕ). kind_kept y.0) (some_is e))
+recorded_kind Documents count qs recorded after e = sym (ap (λ (y : Recorded × List ℕ). kind_kept y.0) (same_Some _ _ e))
+recorded_kind Counts count qs recorded after e = sym (ap (λ (y : Recorded × List ℕ). kind_kept y.0) (same_Some _ _ e))
 recorded_kind Positions count qs recorded after e = positions_recorded recorded after (positions_at count 0 qs) e
 
 pub documents_keep : (kind : RecordKind) (count : ℕ) → kind ≡ Documents → kept kind count ≡ 1
@@ -130,7 +120,7 @@ places_by : (count : ℕ) (qs : List ℕ) (recorded : Recorded) (after : List �
 places_by count qs recorded after None is e = absurd cc
 places_by count qs recorded after (Some r) is e = record {
   there = ap is_some is;
-  are = λ out h. sym (some_is (sym (ap (option_map (λ (r : List ℕ × List ℕ). [] ++ r.0)) is) ∙ h)) ∙ ap (λ (y : Recorded × List ℕ). places_of y.0) (some_is e);
+  are = λ out h. sym (same_Some _ _ (sym (ap (option_map (λ (r : List ℕ × List ℕ). [] ++ r.0)) is) ∙ h)) ∙ ap (λ (y : Recorded × List ℕ). places_of y.0) (same_Some _ _ e);
 }
 
 positions_placed : (count : ℕ) (qs : List ℕ) (recorded : Recorded) (after : List ℕ) → recorded_at Positions count qs ≡ Some (recorded, after) → Placed count qs recorded
@@ -142,8 +132,8 @@ placed kind count qs recorded after is e = positions_placed count qs recorded af
 
 pub not_placed : (kind : RecordKind) (count : ℕ) (qs : List ℕ) (recorded : Recorded) (after : List ℕ) → (kind ≡ Positions → ⊥) → recorded_at kind count qs ≡ Some (recorded, after) → places_of recorded ≡ []
 unfolding recorded_at
-not_placed Documents count qs recorded after other e = sym (ap (λ (y : Recorded × List ℕ). places_of y.0) (some_is e))
-not_placed Counts count qs recorded after other e = sym (ap (λ (y : Recorded × List ℕ). places_of y.0) (some_is e))
+not_placed Documents count qs recorded after other e = sym (ap (λ (y : Recorded × List ℕ). places_of y.0) (same_Some _ _ e))
+not_placed Counts count qs recorded after other e = sym (ap (λ (y : Recorded × List ℕ). places_of y.0) (same_Some _ _ e))
 not_placed Positions count qs recorded after other e = absurd (other refl)
 
 -- ---- the next document
@@ -171,7 +161,7 @@ taken kind n before least bytes more qs r rest some is took = by_result r took
 
 passed_to : {A B : Type 0} (read : List ℕ → Option (A × List ℕ)) (bytes rest after : List ℕ) (x : A) (r : Option B) → Passes read bytes rest r → read bytes ≡ Some (x, after) → rest ≡ after
 passed_to {A} read bytes rest after x None p is = absurd (none_some (x, after) (sym p ∙ is))
-passed_to {A} read bytes rest after x (Some done) p is = ap (λ (y : A × List ℕ). y.1) (some_is (sym p.is ∙ is))
+passed_to {A} read bytes rest after x (Some done) p is = ap (λ (y : A × List ℕ). y.1) (same_Some _ _ (sym p.is ∙ is))
 
 no_rest : (rest : List Posting) → length rest ≡ 0 → rest ≡ []
 no_rest [] e = refl
@@ -223,9 +213,6 @@ begins kind n bytes rest qs front good =
     by_postings (Some ps) is g = record { all = ps; is_all = is; whole_is = ap (λ o. option_map (λ (t : TermPostings). t.postings) (option_map (λ (xs : List Posting). let t : TermPostings = record { kind = kind; postings = xs } in t) o)) is }
 
 -- ---- positions, one after another
-
-one_left : (count i : ℕ) → i < count → count - i ≡ suc (count - (i + 1))
-one_left count i lt = omega (arith, lt)
 
 abbrev pub put : List ℕ → Option (List ℕ × List ℕ) → Option (List ℕ)
 put out o = option_map (λ r. out ++ r.0) o

@@ -2,12 +2,13 @@
 use Rattle.std.proofs.Common.{◌≡◌, ℕ, true, List, [], ◌∷◌, length, map, Some, sym, ap, ◌∙◌, subst, slice_range}
 use Rattle.std.specs.Prelude.{is_some, option_map}
 use Rattle.std.specs.List.{AllByRecursion, Any}
+use Rattle.std.proofs.lemmas.Option.{same_Some}
 use Rattle.seg_common.specs.declared.term_info.TermInfo.{TermInfo}
 use Rattle.seg_termdict.specs.Dictionary.{Term}
 use Rattle.seg_model.specs.Reading.{Posting}
 use Rattle.seg_postings.specs.Postings.{TermPostings, term_postings}
 use Rattle.seg_postings.specs.FieldReading.{ReadTerm, OpenField, read_term, dictionary_terms, postings_in, IsReadable}
-use Rattle.seg_postings.proofs.FieldRead.{some_is, length_of_term}
+use Rattle.seg_postings.proofs.FieldRead.{length_of_term}
 use Rattle.seg_postings.proofs.OpenedFields.{dictionary_back}
 use Rattle.seg_postings.proofs.TermsChecked.{at_place}
 
@@ -38,7 +39,7 @@ module _ (self : OpenField) (total : ℕ) (postings positions : List ℕ) (terms
 
     module _ (left : List Posting) (left_is : option_map (λ (t : TermPostings). t.postings) (term_postings info.doc_freq documents places) ≡ Some left) where
       left_here : left ≡ (postings_in postings positions info).postings
-      left_here = sym (some_is (sym (ap (option_map (λ (t : TermPostings). t.postings)) term_is) ∙ left_is))
+      left_here = sym (same_Some _ _ (sym (ap (option_map (λ (t : TermPostings). t.postings)) term_is) ∙ left_is))
 
       pub all_left : AllByRecursion (λ (t : ReadTerm). t.info ≡ info → left ≡ t.postings) self.terms
       all_left = subst (λ (f : OpenField). AllByRecursion (λ (t : ReadTerm). t.info ≡ info → left ≡ t.postings) f.terms) view (all_same terms left left_here)

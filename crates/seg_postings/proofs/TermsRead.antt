@@ -2,9 +2,9 @@
 use Rattle.std.proofs.Common.{◌≡◌, ℕ, ◌<◌, ◌≤◌, List, [], ◌∷◌, ◌++◌, length, Option, Some, None, option_map, refl, ap, ◌∙◌, arith, slice_range}
 use Rattle.std.specs.Prelude.{option_and_then}
 use Rattle.std.specs.List.{AllByRecursion}
-use Rattle.std.proofs.lemmas.Option.{none-some}
+use Rattle.std.proofs.lemmas.Option.{none-some, same_Some}
+use Rattle.seg_common.proofs.Lists.{range-front}
 use Rattle.seg_termdict.specs.Dictionary.{Term}
-use Rattle.seg_termdict.proofs.Appended.{range-front}
 use Rattle.seg_postings.specs.Postings.{TermPostings, term_postings}
 use Rattle.seg_postings.specs.FieldWriting.{TermWritten}
 use Rattle.seg_postings.specs.Field.{term_at, terms_at}
@@ -45,9 +45,6 @@ pub occurs-push : (ws : List TermWritten) (w : TermWritten) → AllByRecursion (
 occurs-push [] w all one = (one, all)
 occurs-push (v ∷ ws) w all one = (all.0, occurs-push ws w all.1 one)
 
-some_is : {A : Type 0} {x y : A} → Some x ≡ Some y → x ≡ y
-some_is h = cc
-
 -- both were read
 pub record Both (first : Option TermWritten) (others : Option (List TermWritten)) (all : List TermWritten) : Type 0 where
   pub w : TermWritten
@@ -59,12 +56,12 @@ pub record Both (first : Option TermWritten) (others : Option (List TermWritten)
 pub both : (first : Option TermWritten) (others : Option (List TermWritten)) (all : List TermWritten) → joined first others ≡ Some all → Both first others all
 both None others all h = absurd (none-some all h)
 both (Some w) None all h = absurd (none-some all h)
-both (Some w) (Some ws) all h = record { w = w; ws = ws; is_first = refl; are_others = refl; are_all = some_is h }
+both (Some w) (Some ws) all h = record { w = w; ws = ws; is_first = refl; are_others = refl; are_all = same_Some _ _ h }
 
 -- one term more
 pub terms_at-push : (a b : List ℕ) (ts : List Term) (t : Term) (ws : List TermWritten) (w : TermWritten) → terms_at a b ts ≡ Some ws → term_at a b t ≡ Some w → terms_at a b (ts ++ t ∷ []) ≡ Some (ws ++ w ∷ [])
 unfolding terms_at
-terms_at-push a b [] t ws w read one = ap (λ o. joined o (Some [])) one ∙ ap (λ vs. Some (vs ++ w ∷ [])) (some_is read)
+terms_at-push a b [] t ws w read one = ap (λ o. joined o (Some [])) one ∙ ap (λ vs. Some (vs ++ w ∷ [])) (same_Some _ _ read)
 terms_at-push a b (x ∷ ts) t ws w read one =
     let parts = both (term_at a b x) (terms_at a b ts) ws read in
     ap (λ o. joined o (terms_at a b (ts ++ t ∷ []))) parts.is_first

@@ -1,5 +1,4 @@
 pub mod Field
-pub mod FieldNorms
 pub mod FieldParts
 pub mod FieldReading
 pub mod FieldWriting
@@ -7,7 +6,6 @@ pub mod Files
 pub mod HeldTerms
 pub mod Kinds
 pub mod Passing
-pub mod NormsRead
 pub mod Postings
 pub mod PostingsForm
 pub mod PostingsLeft

@@ -1,5 +1,5 @@
 -- The bytes that the postings of a term are written as.
-use Rattle.std.specs.Prelude.{ℕ, ◌-◌, List, [], ◌∷◌, ◌++◌, length}
+use Rattle.std.specs.Prelude.{ℕ, ◌+◌, ◌-◌, List, [], ◌∷◌, ◌++◌, length}
 use Rattle.std.specs.List.{flat_map}
 use Rattle.seg_common.specs.Varint.{varint}
 use Rattle.seg_model.specs.Reading.{Recorded, presence, frequency, positions, Posting}
@@ -10,6 +10,11 @@ use Rattle.seg_postings.specs.Kinds.{kind_byte}
 abbrev pub differences : ℕ → List ℕ → List ℕ
 differences before [] = []
 differences before (n ∷ ns) = (n - before) ∷ differences n ns
+
+-- the numbers of which these are the differences, the first from the one before
+abbrev pub positions_after : ℕ → List ℕ → List ℕ
+positions_after before [] = []
+positions_after before (delta ∷ deltas) = (before + delta) ∷ positions_after (before + delta) deltas
 
 -- how often the term occurs, where that is kept
 abbrev pub count_form : Recorded → List ℕ

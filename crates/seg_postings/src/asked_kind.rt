@@ -1,13 +1,11 @@
 //! Which kind the entry of a field asks its terms for.
 ghost use Rattle.std.specs.Prelude.{◌≡◌, ◌<◌, length, IfOk, IfErr, IsSomeAnd, slice_get};
 ghost use Rattle.seg_model.specs.Reading as reading;
-ghost use Rattle.seg_postings.specs.Kinds as kinds;
 ghost use Rattle.seg_postings.specs.FieldReading.{asked_kind};
 
-use crate::error::PostingsError;
 use crate::record_kind::RecordKind;
 use seg_termdict::{TermDictionary, TermOrdinal};
-use seg_values::{FieldEntry, FieldKind, IndexOption};
+use seg_values::{FieldEntry, FieldKind, IndexOption, PostingsError};
 
 /// What a field is, and what its texts record.
 #[derive(Clone, Copy)]
@@ -29,7 +27,7 @@ impl AskedKind {
         ensures err { IfErr result (λ e. e ≡ PostingsError.OutOfMemory) }
     {
         match self.kind {
-            FieldKind::Text => Ok(recorded_kind(self.index)),
+            FieldKind::Text => Ok(RecordKind::of_option(self.index)),
             FieldKind::Json => {
                 let Ok(_) = terms.ord_to_term(ord, key) else {
                     return Err(PostingsError::OutOfMemory);
@@ -41,24 +39,12 @@ impl AskedKind {
     }
 }
 
-/// The kind that keeps what an option says.
-fn recorded_kind(index: IndexOption) -> RecordKind
-    ensures { result ≡ kinds.kind_of index }
-{
-    match index {
-        IndexOption::No => RecordKind::Documents,
-        IndexOption::Basic => RecordKind::Documents,
-        IndexOption::Freqs => RecordKind::Counts,
-        IndexOption::Positions => RecordKind::Positions,
-    }
-}
-
 /// The kind of a term of a JSON field: a text's is what the option says, and all others keep their documents alone.
 fn json_kind(index: IndexOption, key: &[u8]) -> RecordKind
     ensures { result ≡ asked_kind FieldKind.Json index key.now }
 {
     if type_code(key) == b's' {
-        recorded_kind(index)
+        RecordKind::of_option(index)
     } else {
         RecordKind::Documents
     }

@@ -4,11 +4,11 @@ ghost use Rattle.seg_termdict.specs.Dictionary.{terms_of};
 ghost use Rattle.seg_postings.specs.FieldWriting.{TermWritten};
 ghost use Rattle.seg_postings.specs.FieldReading.{IsFieldBy, dictionary_terms, written_terms};
 
-use crate::error::PostingsError;
 use crate::field_terms::FieldTerms;
 use crate::inverted_index_reader::InvertedIndexReader;
 use crate::last_term::{last_positions_end, last_postings_end};
 use seg_common::{OwnedBytes, u64_at};
+use seg_values::PostingsError;
 use std::marker::Model;
 
 /// The bytes of the total, with which the postings of a field begin.

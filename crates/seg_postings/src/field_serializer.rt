@@ -4,13 +4,14 @@ ghost use Rattle.seg_common.specs.Growing.{HasGrown};
 ghost use Rattle.seg_directory.specs.Composite.{low_after};
 ghost use Rattle.seg_postings.specs.FieldWriting.{FieldWriting, fresh, with_term, with_document, closed, MayOpen, MayOccur};
 ghost use Rattle.seg_postings.specs.Files.{AddsField};
+ghost use Rattle.seg_postings.specs.PostingsForm.{positions_after};
+ghost use Rattle.seg_postings.specs.Written.{Rise};
 
-use crate::error::PostingsError;
 use crate::field_parts::FieldParts;
 use crate::inverted_index_serializer::InvertedIndexSerializer;
 use crate::record_kind::RecordKind;
-use seg_values::Field;
-use std::alloc::Global;
+use seg_values::{Field, PostingsError};
+use std::alloc::{AllocError, Global};
 use std::marker::Model;
 
 /// Writes the dictionary, the postings and the positions of one field: its terms in byte order, each opened, given its
@@ -18,6 +19,8 @@ use std::marker::Model;
 #[derive(Drop)]
 pub struct FieldSerializer {
     parts: Option<FieldParts>,
+    /// The positions of a document whose differences are given; kept for its room.
+    positions: Vec<u32>,
 }
 
 impl Model for FieldSerializer {
@@ -39,7 +42,10 @@ impl FieldSerializer {
         ensures err { IfErr result (λ e. e ≡ PostingsError.OutOfMemory) }
     {
         let parts = FieldParts::new(alloc, field.field_id(), total)?;
-        Ok(FieldSerializer { parts: Some(parts) })
+        Ok(FieldSerializer {
+            parts: Some(parts),
+            positions: Vec::new(alloc),
+        })
     }
 
     /// Opens a term, which is greater than those before it.
@@ -57,8 +63,31 @@ impl FieldSerializer {
     }
 
     /// Adds a document to the open term: how often the term occurs in it, and, where positions are kept, at which
-    /// positions, which don't fall.
+    /// positions, each as its difference from the one before, the first from 0. The sum of them is below 2^32.
     pub fn write_doc(
+        &mut self,
+        doc: u32,
+        count: u32,
+        position_deltas: &[u32],
+    ) -> Result<(), PostingsError>
+        requires { IfSome self.old (λ w. IsSomeAnd w.current (MayOccur doc count (positions_after 0 position_deltas.now))) }
+        ensures ok { OnOk result (HasGrown self.old self.new (with_document doc count (positions_after 0 position_deltas.now))) }
+        ensures err { IfErr result (λ e. (e ≡ PostingsError.OutOfMemory) × (self.new ≡ None)) }
+    {
+        let Some(parts) = &mut self.parts else {
+            return Err(PostingsError::OutOfMemory);
+        };
+        if set_positions(&mut self.positions, position_deltas).is_ok()
+            && parts.write_doc(doc, count, &self.positions).is_ok()
+        {
+            return Ok(());
+        }
+        self.parts = None;
+        Err(PostingsError::OutOfMemory)
+    }
+
+    /// As `write_doc`, with the positions themselves, which don't fall.
+    pub fn write_doc_at(
         &mut self,
         doc: u32,
         count: u32,
@@ -100,7 +129,8 @@ impl FieldSerializer {
         ensures ok { OnOk result ((w : FieldWriting) × (self ≡ Some w) × AddsField serializer.old serializer.new w) }
         ensures err { IfErr result (λ e. (e ≡ PostingsError.OutOfMemory) × (serializer.new ≡ None)) }
     {
-        let Some(parts) = self.parts else {
+        let FieldSerializer { parts, .. } = self;
+        let Some(parts) = parts else {
             serializer.refuse();
             return Err(PostingsError::OutOfMemory);
         };
@@ -111,4 +141,18 @@ impl FieldSerializer {
         };
         serializer.add_field(field, &bytes)
     }
+}
+
+/// Makes a list the positions of which these are the differences.
+fn set_positions(positions: &mut Vec<u32>, deltas: &[u32]) -> Result<(), AllocError>
+    requires { Rise 0 (positions_after 0 deltas.now) }
+    ensures { OnOk result (positions.new.items ≡ positions_after 0 deltas.now) }
+{
+    positions.clear();
+    let mut position = 0;
+    for delta in deltas {
+        position += *delta;
+        positions.push(position)?;
+    }
+    Ok(())
 }

@@ -7,12 +7,11 @@ ghost use Rattle.seg_postings.specs.FieldWriting.{TermWritten};
 ghost use Rattle.seg_postings.specs.FieldReading.{rules_of, IsFieldBy, is_read};
 
 use crate::asked_kind::AskedKind;
-use crate::error::PostingsError;
 use crate::field_postings::FieldPostings;
 use crate::terms_check::are_terms;
 use seg_common::OwnedBytes;
 use seg_termdict::TermDictionary;
-use seg_values::FieldEntry;
+use seg_values::{FieldEntry, PostingsError};
 use std::alloc::Global;
 use std::marker::Model;
 

@@ -5,11 +5,11 @@ ghost use Rattle.std.specs.List.{AllByRecursion, Any};
 ghost use Rattle.seg_postings.specs.FieldReading.{IsReadable, read_term, dictionary_terms, written_terms};
 ghost use Rattle.seg_postings.specs.HeldTerms.{terms_held};
 
-use crate::error::PostingsError;
 use crate::range::bytes_in;
 use crate::segment_postings::SegmentPostings;
 use seg_common::{OwnedBytes, TermInfo};
 use seg_termdict::TermDictionary;
+use seg_values::PostingsError;
 use std::alloc::Global;
 use std::marker::Model;
 

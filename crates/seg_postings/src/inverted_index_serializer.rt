@@ -5,12 +5,11 @@ ghost use Rattle.seg_directory.specs.Composite.{composite, low_after};
 ghost use Rattle.seg_postings.specs.FieldWriting.{fresh};
 ghost use Rattle.seg_postings.specs.Files.{FieldFiles, no_fields, with_field};
 
-use crate::error::PostingsError;
 use crate::field_parts::FieldBytes;
 use crate::field_serializer::FieldSerializer;
 use seg_common::CommonError;
 use seg_directory::CompositeWriter;
-use seg_values::Field;
+use seg_values::{Field, PostingsError};
 use std::alloc::Global;
 use std::marker::Model;
 

@@ -1,28 +1,19 @@
-//! Postings and lengths of the fields of a segment, as they are written and as they are read.
+//! Postings of the fields of a segment, as they are written and as they are read.
 //!
-//! A field is seen as its terms in byte order, each with its postings and what these keep of a document, and the file of
-//! lengths as the ids of each field, one for each document. While documents come, lengths are kept by
-//! `FieldNormsWriter`; `FieldNormReaders` look them up in the bytes of their file. Terms are written one by one into a
-//! `FieldSerializer`, which owns the three parts of its field and at its end adds them to the `InvertedIndexSerializer`.
-//! A field is read part by part: `FieldTerms` has its dictionary, `FieldPostings` the postings too, and
-//! `InvertedIndexReader` all three, each term checked; it is seen as the terms that they spell. The postings of a term are
-//! a `SegmentPostings`, seen as those that are left.
+//! A field is seen as its terms in byte order, each with its postings and what these keep of a document. Terms are
+//! written one by one into a `FieldSerializer`, which owns the three parts of its field and at its end adds them to the
+//! `InvertedIndexSerializer`. A field is read part by part: `FieldTerms` has its dictionary, `FieldPostings` the postings
+//! too, and `InvertedIndexReader` all three, each term checked; it is seen as the terms that they spell. The postings of
+//! a term are a `SegmentPostings`, seen as those that are left.
 //!
-//! To be read in this order: `error`; `field_norm_id` (lengths in one byte), `length_ids`, `field_norms_writer`,
-//! `field_norms_serializer`, `field_norm_reader`, `field_norm_readers`; `record_kind`, `occurrence` (the bytes of a
-//! document), `open_term`, `field_parts`, `field_serializer`, `inverted_index_serializer`; `documents` (what is at the
-//! front of bytes), `postings_check`, `asked_kind`, `range`, `terms_check`, `last_term`, `field_terms`, `field_postings`,
-//! `segment_postings`, `inverted_index_reader`; `laws`.
+//! To be read in this order: `record_kind`, `occurrence` (the bytes of a document), `open_term`, `field_parts`,
+//! `field_serializer`, `inverted_index_serializer`; `documents` (what is at the front of bytes), `postings_check`,
+//! `asked_kind`, `range`, `terms_check`, `last_term`, `field_terms`, `field_postings`, `segment_postings`,
+//! `inverted_index_reader`; `laws`.
 #![tactic(auto)]
 
 mod asked_kind;
 mod documents;
-mod error;
-mod field_norm_id;
-mod field_norm_reader;
-mod field_norm_readers;
-mod field_norms_serializer;
-mod field_norms_writer;
 mod field_parts;
 mod field_postings;
 mod field_serializer;
@@ -31,7 +22,6 @@ mod inverted_index_reader;
 mod inverted_index_serializer;
 mod last_term;
 mod laws;
-mod length_ids;
 mod occurrence;
 mod open_term;
 mod postings_check;
@@ -41,11 +31,6 @@ mod segment_postings;
 mod terms_check;
 
 pub use documents::TERMINATED;
-pub use error::PostingsError;
-pub use field_norm_reader::FieldNormReader;
-pub use field_norm_readers::FieldNormReaders;
-pub use field_norms_serializer::FieldNormsSerializer;
-pub use field_norms_writer::FieldNormsWriter;
 pub use field_postings::FieldPostings;
 pub use field_serializer::FieldSerializer;
 pub use field_terms::FieldTerms;

@@ -6,9 +6,9 @@ ghost use Rattle.seg_postings.specs.PostingsReading.{kind_at, left_from, can_be_
 ghost use Rattle.seg_postings.specs.Written.{Rise};
 
 use crate::documents::{CountedDocument, TERMINATED, pass_recorded, take_document, take_number};
-use crate::error::PostingsError;
 use crate::record_kind::RecordKind;
 use seg_bits::ReadOnlyBitSet;
+use seg_values::PostingsError;
 use std::alloc::AllocError;
 use std::marker::Model;
 

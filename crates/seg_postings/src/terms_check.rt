@@ -7,12 +7,12 @@ ghost use Rattle.seg_postings.specs.FieldParts.{LiesWithin};
 ghost use Rattle.seg_postings.specs.FieldReading.{is_read};
 
 use crate::asked_kind::AskedKind;
-use crate::error::PostingsError;
 use crate::postings_check::is_term;
 use crate::range::bytes_in;
 use crate::record_kind::RecordKind;
 use seg_common::TermInfo;
 use seg_termdict::TermDictionary;
+use seg_values::PostingsError;
 use std::alloc::Global;
 
 /// Whether each term occurs, and all bytes of its ranges are postings of the kind that it is asked for, by documents

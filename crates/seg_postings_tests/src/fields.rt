@@ -1,9 +1,9 @@
 //! Small fields, against bytes that were worked out by hand.
 
 use seg_common::OwnedBytes;
-use seg_postings::{FieldTerms, InvertedIndexReader, PostingsError};
+use seg_postings::{FieldTerms, InvertedIndexReader};
 use seg_testing::entry;
-use seg_values::{FieldKind, IndexOption};
+use seg_values::{FieldKind, IndexOption, PostingsError};
 use std::alloc::Global;
 
 /// The three parts of a field.

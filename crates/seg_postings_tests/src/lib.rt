@@ -11,3 +11,5 @@ mod norms;
 mod reading;
 #[cfg(test)]
 mod walk;
+#[cfg(test)]
+mod writing;

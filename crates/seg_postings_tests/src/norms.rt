@@ -1,11 +1,9 @@
 //! Lengths in one byte, and their file as it is written and read, with ample memory and by vectors of bytes.
 
 use seg_common::OwnedBytes;
-use seg_postings::{
-    FieldNormReader, FieldNormReaders, FieldNormsSerializer, FieldNormsWriter, PostingsError,
-};
+use seg_norms::{FieldNormReader, FieldNormReaders, FieldNormsSerializer, FieldNormsWriter};
 use seg_testing::schema;
-use seg_values::{Field, FieldKind, IndexOption, Schema};
+use seg_values::{Field, FieldKind, IndexOption, PostingsError, Schema};
 use std::alloc::{AllocError, Global};
 use std::test::Fail;
 

@@ -2,8 +2,8 @@
 
 use crate::fields::{Parts, WITH_COUNTS, WITH_DOCUMENTS, WITH_POSITIONS, open};
 use crate::walk::{postings_of, put, walk};
-use seg_postings::{PostingsError, RecordKind};
-use seg_values::IndexOption;
+use seg_postings::RecordKind;
+use seg_values::{IndexOption, PostingsError};
 use std::alloc::Global;
 use std::test::Fail;
 

@@ -1,5 +1,6 @@
 //! All that a reader tells.
-use seg_postings::{InvertedIndexReader, PostingsError, SegmentPostings};
+use seg_postings::{InvertedIndexReader, SegmentPostings};
+use seg_values::PostingsError;
 use std::alloc::{AllocError, Global};
 
 /// The postings of a term of the field.

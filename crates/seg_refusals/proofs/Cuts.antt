@@ -4,7 +4,7 @@ use Rattle.std.specs.Prelude.{◌&&◌, nat_le}
 use Rattle.std.specs.List.{list_all}
 use Rattle.std.proofs.lemmas.Bool.Decides.{nat_tests}
 use Rattle.std.proofs.lemmas.List.{length-map, drop_more}
-use Rattle.std.proofs.lemmas.Bool.{false≢true}
+use Rattle.std.proofs.lemmas.Bool.{and_parts, leb-true}
 use Rattle.seg_model.specs.Valid.{never_falls}
 
 -- no cut is below the one before it or past the end, nor is the first below `from`
@@ -43,16 +43,9 @@ pub record Fits (end from cut : ℕ) (cuts : List ℕ) : Type 0 where
 
 first_fits : (end from cut : ℕ) (cuts : List ℕ) → fit_from end from (cut ∷ cuts) ≡ true → Fits end from cut cuts
 first_fits end from cut cuts h =
-    let both = both_true (nat_le from cut && nat_le cut end) (fit_from end cut cuts) h in
-    let one = both_true (nat_le from cut) (nat_le cut end) both.0 in
-    record { rises = le-from from cut one.0; within = le-from cut end one.1; behind = both.1 }
-  where
-    both_true : (a b : Bool) → (a && b) ≡ true → (a ≡ true) × (b ≡ true)
-    both_true true b k = (refl, k)
-    both_true false b k = absurd (false≢true k)
-
-    le-from : (a b : ℕ) → nat_le a b ≡ true → a ≤ b
-    le-from a b k = grind (arith, nat_tests)
+    let both = and_parts (nat_le from cut && nat_le cut end) (fit_from end cut cuts) h in
+    let one = and_parts (nat_le from cut) (nat_le cut end) both.0 in
+    record { rises = leb-true from cut one.0; within = leb-true cut end one.1; behind = both.1 }
 
 pub one_cut : (end from : ℕ) (cuts : List ℕ) (n m cut : ℕ) → n < length cuts → m ≡ n + 1 → cut ≡ get_or cuts n cut → fit_from end from (drop n cuts) ≡ true → Fits end from cut (drop m cuts)
 one_cut end from cuts n m cut lt next is h =

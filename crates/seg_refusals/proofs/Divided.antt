@@ -1,7 +1,9 @@
 -- Filters, and the batches that they are for, one after another.
 use Rattle.std.proofs.Common.{◌≡◌, ℕ, ◌+◌, ◌-◌, ◌<◌, Bool, true, false, List, [], ◌∷◌, length, map, take, drop, get_or, Option, refl, sym, ap, ◌∙◌, arith}
 use Rattle.std.specs.Prelude.{◌&&◌}
-use Rattle.std.proofs.lemmas.List.{drop_more, take-map, drop-map}
+use Rattle.std.proofs.lemmas.List.{take-map, drop-map}
+use Rattle.std.proofs.Math.Bool.{and-true}
+use Rattle.seg_common.proofs.Lists.{drop-get_or}
 use Rattle.seg_values.specs.Tree.{Document}
 use Rattle.seg_model.specs.Fields.{Schema, Analyzer}
 use Rattle.seg_model.specs.Input.{Filter}
@@ -10,19 +12,12 @@ use Rattle.seg_model.specs.Valid.{filter_fits, filters_fit}
 use Rattle.seg_input.specs.View.{operation_of}
 use Rattle.seg_input.specs.declared.user_operation.UserOperation.{UserOperation}
 
-at_place : {X : Type 0} (xs : List X) (n m : ℕ) (x : X) → n < length xs → m ≡ n + 1 → x ≡ get_or xs n x → drop n xs ≡ x ∷ drop m xs
-at_place xs n m x lt next is = drop_more xs n x lt ∙ ap (λ y. y ∷ drop (n + 1) xs) (sym is) ∙ ap (λ k. x ∷ drop k xs) (sym next)
-
 none_behind : {X : Type 0} (xs : List X) (n : ℕ) → n ≡ length xs → drop n xs ≡ []
 none_behind xs n is = ap (λ k. drop k xs) is ∙ all_gone xs
   where
     all_gone : {X : Type 0} (xs : List X) → drop (length xs) xs ≡ []
     all_gone [] = refl
     all_gone (x ∷ xs) = all_gone xs
-
-both_true : (a : Bool) → (a && true) ≡ a
-both_true true = refl
-both_true false = refl
 
 module _ (schema : Schema) (analyzer : Analyzer) where
   -- the documents that some operations add, of which later ones leave some alive
@@ -58,8 +53,8 @@ module _ (schema : Schema) (analyzer : Analyzer) where
     pub one_batch : (n from m cut : ℕ) (filter : Option Filter) (left before behind : List (UserOperation Document)) → n < length cuts → n < length filters → m ≡ n + 1 → cut ≡ get_or cuts n cut → filter ≡ get_or filters n filter → before ≡ take (cut - from) left → behind ≡ drop (cut - from) left
         → left_fit n from left ≡ (filter_fits filter (batch before behind) && left_fit m cut behind)
     one_batch n from m cut filter left before behind lt lt' next is_cut is_filter is_before is_behind =
-        ap (λ fs. filters_fit fs (batches_from schema analyzer from (drop n cuts) (map operation_of left))) (at_place filters n m filter lt' next is_filter)
-        ∙ ap (λ cs. filters_fit (filter ∷ drop m filters) (batches_from schema analyzer from cs (map operation_of left))) (at_place cuts n m cut lt next is_cut)
+        ap (λ fs. filters_fit fs (batches_from schema analyzer from (drop n cuts) (map operation_of left))) (drop-get_or filters n m filter lt' next is_filter)
+        ∙ ap (λ cs. filters_fit (filter ∷ drop m filters) (batches_from schema analyzer from cs (map operation_of left))) (drop-get_or cuts n m cut lt next is_cut)
         ∙ ap (λ os. divided os (drop (cut - from) (map operation_of left))) (take-map operation_of (cut - from) left ∙ ap (map operation_of) (sym is_before))
         ∙ ap (λ os. divided (map operation_of before) os) (drop-map operation_of (cut - from) left ∙ ap (map operation_of) (sym is_behind))
       where
@@ -69,6 +64,6 @@ module _ (schema : Schema) (analyzer : Analyzer) where
     pub last_batch : (n from : ℕ) (filter : Option Filter) (left : List (UserOperation Document)) → n ≡ length cuts → length filters ≡ length cuts + 1 → filter ≡ get_or filters (length cuts) filter
         → left_fit n from left ≡ filter_fits filter (batch left [])
     last_batch n from filter left is many is_filter =
-        ap (λ fs. filters_fit fs (batches_from schema analyzer from (drop n cuts) (map operation_of left))) (at_place filters n (n + 1) filter (omega arith) refl (is_filter ∙ ap (λ k. get_or filters k filter) (sym is)) ∙ ap (λ fs. filter ∷ fs) (none_behind filters (n + 1) (omega arith)))
+        ap (λ fs. filters_fit fs (batches_from schema analyzer from (drop n cuts) (map operation_of left))) (drop-get_or filters n (n + 1) filter (omega arith) refl (is_filter ∙ ap (λ k. get_or filters k filter) (sym is)) ∙ ap (λ fs. filter ∷ fs) (none_behind filters (n + 1) (omega arith)))
         ∙ ap (λ cs. filters_fit (filter ∷ []) (batches_from schema analyzer from cs (map operation_of left))) (none_behind cuts n is)
-        ∙ both_true (filter_fits filter (batch left []))
+        ∙ and-true (filter_fits filter (batch left []))

@@ -1,5 +1,5 @@
 -- The first error of an input: of its shape, of a writer that isn't made, or of its deletes.
-use Rattle.std.proofs.Common.{◌≡◌, Bool, true, false, Some, None, Option, Result, Err, inl, inr, sym, ap, subst, ◌∙◌}
+use Rattle.std.proofs.Common.{◌≡◌, true, false, Some, None, Option, Result, Err, inl, inr, sym, ap, subst, ◌∙◌}
 use Rattle.std.specs.Prelude.{◌⊎◌, IsErrAnd}
 use Rattle.std.specs.Option.{option_or}
 use Rattle.std.proofs.lemmas.Result.{err_from_is_err_and}
@@ -9,16 +9,12 @@ use Rattle.seg_values.specs.declared.error.TantivyError.TheVariants.{InvalidArgu
 use Rattle.seg_model.specs.Checked.{unless}
 use Rattle.seg_model.specs.Fields.{Analyzer}
 use Rattle.seg_model.specs.Input.{Input, input_batches}
-use Rattle.seg_model.specs.Valid.{Known, shape_refusal, schema_refusal, delete_refusal, input_refusal, cuts_fit, batches_fit, filters_fit, ids_fit}
+use Rattle.seg_model.specs.Valid.{Known, shape_refusal, schema_refusal, delete_refusal, input_refusal, cuts_fit, batches_fit, filters_fit}
 use Rattle.seg_model.proofs.FirstAnswers.{or_both, unless_true}
 use Rattle.seg_refusals.specs.Admitted.{Fits}
 use Rattle.seg_refusals.specs.Inputs.{is_built_input}
 use Rattle.seg_refusals.specs.Refusals.{first_error}
-use Rattle.seg_refusals.specs.Telling.{Tells}
-
--- an error that is handed on is told
-pub told_on : {T : Type 0} (error : Option TantivyError) (e : TantivyError) (result : Result T TantivyError) → IsErrAnd result (λ x. x ≡ e) → (error ≡ Some e) ⊎ (e ≡ OutOfMemory) → Tells error result
-told_on error e result is h = let err = err_from_is_err_and result is in subst (λ r. Tells error r) (sym (err.1 ∙ ap (λ x. Err x) err.2)) h
+use Rattle.seg_model.specs.Telling.{Tells}
 
 module _ (known : Known) (analyzer : Analyzer) (input : Input) where
   abbrev pub shape : Option TantivyError

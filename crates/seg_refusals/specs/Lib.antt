@@ -1,4 +1,3 @@
+pub mod Admitted
 pub mod Inputs
 pub mod Refusals
-pub mod Admitted
-pub mod Telling

@@ -6,7 +6,7 @@ ghost use Rattle.seg_model.specs.Valid.{shape_refusal};
 ghost use Rattle.seg_input.specs.View.{operation_of};
 ghost use Rattle.seg_refusals.specs.Admitted.{Fits};
 ghost use Rattle.seg_refusals.specs.Refusals.{first_error};
-ghost use Rattle.seg_refusals.specs.Telling.{Tells};
+ghost use Rattle.seg_model.specs.Telling.{Tells};
 
 use crate::batches::{batches_fit, cuts_fit};
 use crate::deletes::unindexed_delete;
@@ -16,7 +16,8 @@ use seg_bits::AliveBitSet;
 use seg_build::{LEAST_BUDGET, is_built_schema, start_refusal};
 use seg_common::SegmentId;
 use seg_input::{BuildInputRef, UserOperation};
-use seg_values::{Analyzers, ArgumentCause, SchemaCause, TResult, TantivyDocument, TantivyError};
+use seg_values::{ArgumentCause, SchemaCause, TResult, TantivyDocument, TantivyError};
+use seg_words::Analyzers;
 use std::alloc::Global;
 
 /// Checks what an index is to be built from. The first test that fails tells, in this order: fields that are not built yet

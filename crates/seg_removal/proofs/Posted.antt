@@ -14,7 +14,8 @@ use Rattle.seg_removal.specs.Laws.{AliveByPostings}
 use Rattle.seg_removal.proofs.Told.{postings_tell_terms}
 use Rattle.seg_removal.proofs.Stamped.{alive_by_stamps}
 
-length-additions : (from : ℕ) (operations : List Operation) → length (addition_stamps from operations) ≡ length (additions operations)
+-- each added document has a stamp
+pub length-additions : (from : ℕ) (operations : List Operation) → length (addition_stamps from operations) ≡ length (additions operations)
 length-additions from [] = refl
 length-additions from (add d ∷ os) = ap suc (length-additions (from + 1) os)
 length-additions from (delete t ∷ os) = length-additions (from + 1) os

@@ -1,19 +1,13 @@
 -- What later operations leave alive, by stamps.
-use Rattle.std.proofs.Common.{◌≡◌, ℕ, ◌+◌, ◌<◌, ◌≤◌, Bool, true, false, List, [], ◌∷◌, ◌++◌, length, sym, refl, ap, ◌∙◌, arith, append_assoc, length-append}
+use Rattle.std.proofs.Common.{◌≡◌, ℕ, ◌+◌, ◌<◌, ◌≤◌, Bool, false, List, [], ◌∷◌, ◌++◌, length, sym, refl, ap, ◌∙◌, arith, append_assoc, length-append}
 use Rattle.std.specs.Prelude.{◌||◌, ◌&&◌, not, nat_lt}
-use Rattle.std.proofs.lemmas.Bool.Decides.{nat_tests}
 use Rattle.std.proofs.lemmas.List.Folds.{list_any-append}
+use Rattle.std.proofs.lemmas.Bool.{le-ltb, lt-ltb}
 use Rattle.seg_values.specs.Tree.{Document}
 use Rattle.seg_model.specs.Fields.{Schema, Analyzer}
 use Rattle.seg_model.specs.Operations.{Operation, add, delete, delete_all, deletes, is_removed, additions, alive_after}
 use Rattle.seg_removal.specs.Stamps.{stamped_deletes, addition_stamps, is_deleted_by, undeleted_by}
 use Rattle.seg_removal.specs.Laws.{AliveByStamps}
-
-pub not_greater : (s n : ℕ) → n ≤ s → nat_lt s n ≡ false
-not_greater s n le = grind (arith, nat_tests)
-
-greater : (s n : ℕ) → s < n → nat_lt s n ≡ true
-greater s n lt = grind (arith, nat_tests)
 
 -- the deletes of two stretches, of which the second begins at `to`
 pub stamped_deletes-append : (from to : ℕ) (xs ys : List Operation) → from + length xs ≡ to → stamped_deletes from (xs ++ ys) ≡ stamped_deletes from xs ++ stamped_deletes to ys
@@ -28,10 +22,10 @@ module _ (schema : Schema) (analyzer : Analyzer) (d : Document) (s : ℕ) where
   deleted_before from [] le = refl
   deleted_before from (add x ∷ xs) le = deleted_before (from + 1) xs (omega arith)
   deleted_before from (delete t ∷ xs) le =
-      ap (λ b. (b && deletes schema analyzer d (delete t)) || is_deleted_by schema analyzer d s (stamped_deletes (from + 1) xs)) (not_greater s from (omega arith))
+      ap (λ b. (b && deletes schema analyzer d (delete t)) || is_deleted_by schema analyzer d s (stamped_deletes (from + 1) xs)) (le-ltb s from (omega arith))
       ∙ deleted_before (from + 1) xs (omega arith)
   deleted_before from (delete_all ts ∷ xs) le =
-      ap (λ b. (b && deletes schema analyzer d (delete_all ts)) || is_deleted_by schema analyzer d s (stamped_deletes (from + 1) xs)) (not_greater s from (omega arith))
+      ap (λ b. (b && deletes schema analyzer d (delete_all ts)) || is_deleted_by schema analyzer d s (stamped_deletes (from + 1) xs)) (le-ltb s from (omega arith))
       ∙ deleted_before (from + 1) xs (omega arith)
 
   -- deletes that come after it do
@@ -40,10 +34,10 @@ module _ (schema : Schema) (analyzer : Analyzer) (d : Document) (s : ℕ) where
   deleted_after from (add x ∷ xs) lt = deleted_after (from + 1) xs (omega arith)
   deleted_after from (delete t ∷ xs) lt =
       let rest = deleted_after (from + 1) xs (omega arith) in
-      λ j. (greater s from lt j && deletes schema analyzer d (delete t)) || rest j
+      λ j. (lt-ltb s from lt j && deletes schema analyzer d (delete t)) || rest j
   deleted_after from (delete_all ts ∷ xs) lt =
       let rest = deleted_after (from + 1) xs (omega arith) in
-      λ j. (greater s from lt j && deletes schema analyzer d (delete_all ts)) || rest j
+      λ j. (lt-ltb s from lt j && deletes schema analyzer d (delete_all ts)) || rest j
 
 module _ (schema : Schema) (analyzer : Analyzer) where
   -- a document is deleted by the deletes after it, among all

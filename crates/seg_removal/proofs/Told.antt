@@ -7,6 +7,7 @@ use Rattle.std.specs.Str.{bytes_eq}
 use Rattle.std.specs.FinMap.{empty, get-empty}
 use Rattle.std.proofs.lemmas.Bool.Decides.{nat_tests}
 use Rattle.std.proofs.lemmas.List.{length-map}
+use Rattle.std.proofs.lemmas.Simd.{map-map}
 use Rattle.seg_values.specs.declared.schema.FieldEntry.{FieldEntry}
 use Rattle.seg_values.specs.Tree.{Document}
 use Rattle.seg_model.specs.Fields.{Schema, Analyzer}
@@ -68,10 +69,6 @@ nothing_marked : {X : Type 0} (n : ℕ) (xs : List X) → map (λ x. false) xs �
 nothing_marked n [] = refl
 nothing_marked n (x ∷ xs) = λ j. false ∷ nothing_marked (n + 1) xs j
 
-map-map : {X Y Z : Type 0} (f : X → Y) (g : Y → Z) (xs : List X) → map g (map f xs) ≡ map (λ x. g (f x)) xs
-map-map f g [] = refl
-map-map f g (x ∷ xs) = ap (λ l. g (f x) ∷ l) (map-map f g xs)
-
 module _ (schema : Schema) (analyzer : Analyzer) (ds : List Document) (field : ℕ) (q : List ℕ) where
   -- which documents have the term, where the field has this entry
   abbrev have : Option FieldEntry → List Bool
@@ -93,8 +90,8 @@ module _ (schema : Schema) (analyzer : Analyzer) (ds : List Document) (field : �
       let occurred = map (λ d. occurrences schema analyzer d field) ds in
       let records = map (recorded_in e q) occurred in
       (λ j. map (λ d. records_where_it_occurs e q (occurrences schema analyzer d field) j) ds)
-      ∙ sym (map-map (λ d. recorded_in e q (occurrences schema analyzer d field)) is_some ds)
-      ∙ ap (map is_some) (sym (map-map (λ d. occurrences schema analyzer d field) (recorded_in e q) ds))
+      ∙ sym (map-map is_some (λ d. recorded_in e q (occurrences schema analyzer d field)) ds)
+      ∙ ap (map is_some) (sym (map-map (recorded_in e q) (λ d. occurrences schema analyzer d field) ds))
       ∙ sym (marks-postings_from 0 records)
       ∙ ap (λ n. marks n (documents_of (postings_of e q occurred))) (length-map occurred (recorded_in e q) ∙ length-map ds (λ d. occurrences schema analyzer d field))
       ∙ sym (ap (λ t. marks (length ds) (documents_with t q)) (at_place (field_terms schema analyzer ds) empty field schema e at)

@@ -3,19 +3,16 @@ use Rattle.std.proofs.Common.{◌≡◌, ℕ, suc, ◌+◌, ◌≤◌, Bool, tru
 use Rattle.std.specs.Prelude.{◌||◌, ◌&&◌, not, nat_lt}
 use Rattle.std.specs.List.{All, enumerate_from}
 use Rattle.std.proofs.lemmas.List.Folds.{list_any-append}
+use Rattle.std.proofs.lemmas.Bool.{le-ltb}
+use Rattle.std.proofs.Math.Bool.{or-false}
 use Rattle.seg_model.specs.Reading.{Terms}
 use Rattle.seg_model.specs.Operations.{Operation, TermKey, delete, both_marked}
 use Rattle.seg_removal.specs.Cleared.{has_posting, clears, is_cleared_by}
 use Rattle.seg_removal.specs.Laws.{ArePassed, DeletesClearInTurn}
-use Rattle.seg_removal.proofs.Stamped.{not_greater}
 
 not_or : (a b : Bool) → not (a || b) ≡ (not a && not b)
 not_or true b = refl
 not_or false b = refl
-
-or_false : (a : Bool) → (a || false) ≡ a
-or_false true = refl
-or_false false = refl
 
 module _ (terms : List Terms) where
   -- what is alive, from the document with a number on
@@ -27,7 +24,7 @@ module _ (terms : List Terms) where
   all_alive n (s ∷ stamps) = ap (λ l. true ∷ l) (all_alive (n + 1) stamps)
 
   one_delete : (stamps : List ℕ) (stamp : ℕ) (term : TermKey) → alive_from 0 stamps ((stamp, delete term) ∷ []) ≡ map (λ s. not (nat_lt s.1 stamp && has_posting terms s.0 term)) (enumerate_from 0 stamps)
-  one_delete stamps stamp term = λ j. map (λ (s : ℕ × ℕ). not (or_false (nat_lt s.1 stamp && has_posting terms s.0 term) j)) (enumerate_from 0 stamps)
+  one_delete stamps stamp term = λ j. map (λ (s : ℕ × ℕ). not (or-false (nat_lt s.1 stamp && has_posting terms s.0 term) j)) (enumerate_from 0 stamps)
 
   more_deletes : (n : ℕ) (stamps : List ℕ) (first second : List (ℕ × Operation)) → alive_from n stamps (first ++ second) ≡ both_marked (alive_from n stamps first) (alive_from n stamps second)
   more_deletes n [] first second = refl
@@ -38,7 +35,7 @@ module _ (terms : List Terms) where
   not_cleared : (i s : ℕ) (stamped : List (ℕ × Operation)) → All (λ (d : ℕ × Operation). d.0 ≤ s) stamped → is_cleared_by terms i s stamped ≡ false
   not_cleared i s [] h = refl
   not_cleared i s (d ∷ ds) h =
-      ap (λ b. (b && clears terms i d.1) || is_cleared_by terms i s ds) (not_greater s d.0 (h 0 d (omega arith)))
+      ap (λ b. (b && clears terms i d.1) || is_cleared_by terms i s ds) (le-ltb s d.0 (h 0 d (omega arith)))
       ∙ not_cleared i s ds (λ k e lt. h (suc k) e (omega arith))
 
   passed_deletes : (n : ℕ) (stamps : List ℕ) (stamped : List (ℕ × Operation)) → ArePassed stamps stamped → alive_from n stamps stamped ≡ replicate (length stamps) true

@@ -1,5 +1,5 @@
 -- What a chain of readings says of its parts.
-use Rattle.std.proofs.Common.{◌≡◌, List, [], ◌∷◌, Bool, true, false, ◌&&◌, Option, None, Some, option_map, refl, subst}
+use Rattle.std.proofs.Common.{◌≡◌, List, [], ◌∷◌, Bool, true, false, Option, None, Some, option_map, refl, subst}
 use Rattle.std.specs.List.{list_all, AllByRecursion}
 use Rattle.serde_json.specs.Data.{Data, Items, no_items, item}
 use Rattle.serde_json.specs.Find.{as_array}
@@ -19,11 +19,6 @@ provided-some false o b h = cc
 pub option_map-some : {A B : Type 0} (f : A → B) (o : Option A) (b : B) → option_map f o ≡ Some b → (a : A) × ((o ≡ Some a) × (f a ≡ b))
 option_map-some f None b h = cc
 option_map-some f (Some a) b h = (a, (refl, cc))
-
--- both of two tests
-pub both_true : (a b : Bool) → (a && b) ≡ true → (a ≡ true) × (b ≡ true)
-both_true true b h = (refl, h)
-both_true false b h = cc
 
 -- what holds of all that is read of an item holds of all that is read of a list's items
 pub all-each : {A : Type 0} (read : Data → Option A) (P : A → Type 0) → ((d : Data) (a : A) → read d ≡ Some a → P a) → (ds : Items) (xs : List A) → each read ds ≡ Some xs → AllByRecursion P xs

@@ -1,17 +1,10 @@
 -- A list that is read item by item.
-use Rattle.std.proofs.Common.{append_assoc, ◌≡◌, ℕ, ◌+◌, ◌<◌, drop, drop-cons, get_or, List, [], ◌∷◌, ◌++◌, length, Option, Some, None, option_map, refl, sym, ap, ◌∙◌, add-one}
-use Rattle.serde_json.specs.Data.{Data, item}
+use Rattle.std.proofs.Common.{◌≡◌, ℕ, ◌+◌, ◌<◌, drop, get_or, List, [], ◌∷◌, ◌++◌, length, Option, Some, None, option_map, sym, ap, ◌∙◌}
+use Rattle.serde_json.specs.Data.{Data}
 use Rattle.serde_json.specs.View.{view, items_view}
 use Rattle.serde_json.specs.declared.value.Value.{Value}
 use Rattle.seg_meta.specs.Reads.{given, each, list_of}
-use Rattle.seg_script.proofs.Each.{so_far}
-
-left : (vs : List Value) (i : ℕ) (v : Value) → i < length vs → v ≡ get_or vs i v → items_view (drop i vs) ≡ item (view v) (items_view (drop (i + 1) vs))
-left vs i v h is = rw (add-one, drop-cons vs i v, ← is)
-
-one_behind : {A : Type 0} (done : List A) (x : A) (r : Option (List A)) → option_map (λ rest. (done ++ x ∷ []) ++ rest) r ≡ option_map (λ rest. done ++ rest) (option_map (λ xs. x ∷ xs) r)
-one_behind done x None = refl
-one_behind done x (Some xs) = ap Some (append_assoc done (x ∷ []) xs)
+use Rattle.seg_meta.proofs.ListRead.{left-cons, one_behind, so_far}
 
 module _ {A : Type 0} (read : Data → Option A) (d : Data) (vs : List Value) (i : ℕ) (v : Value) (done : List A) where
   -- this many items were read, and the rest is still to be read
@@ -24,7 +17,7 @@ module _ {A : Type 0} (read : Data → Option A) (d : Data) (vs : List Value) (i
   next o = option_map (λ rest. done ++ rest) (given o (λ a. option_map (λ xs. a ∷ xs) (each read (items_view (drop (i + 1) vs)))))
 
   at_next : AtItem → next (read (view v)) ≡ list_of read d
-  at_next h = ap (so_far read done) (sym (left vs i v h.inside h.is)) ∙ h.so_far
+  at_next h = ap (so_far read done) (sym (left-cons vs i v h.inside h.is)) ∙ h.so_far
 
   -- an item that can't be read leaves nothing
   pub unread : AtItem → read (view v) ≡ None → list_of read d ≡ None

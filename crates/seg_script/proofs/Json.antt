@@ -1,18 +1,15 @@
 -- Which JSON value bytes are.
-use Rattle.std.proofs.Common.{◌≡◌, ℕ, List, Bool, true, false, Some, None, refl, if◌then◌else◌}
+use Rattle.std.proofs.Common.{◌≡◌, ℕ, List, Some, None, refl}
 use Rattle.std.specs.Str.{IsUtf8, is_utf8}
-use Rattle.std.proofs.lemmas.Str.{IsUtf8-from_is_utf8, is_utf8-from_IsUtf8}
+use Rattle.std.proofs.lemmas.Str.{is_utf8-from_IsUtf8}
 use Rattle.serde_json.specs.Data.{Data}
 use Rattle.serde_json.specs.Read.{read}
+use Rattle.seg_meta.proofs.Json.{either}
 use Rattle.seg_script.specs.Script.{json_of}
 
 -- a text that is read is the value of its bytes
 pub json_of-read : (bytes text : List ℕ) (d : Data) → text ≡ bytes → IsUtf8 text × (read text ≡ Some d) → json_of bytes ≡ Some d
 json_of-read bytes text d same h = rw (← same, is_utf8-from_IsUtf8 text h.0) h.1
-
-either : (bytes : List ℕ) (b : Bool) → is_utf8 bytes ≡ b → (IsUtf8 bytes → read bytes ≡ None) → (if b then read bytes else None) ≡ None
-either bytes true e h = h (IsUtf8-from_is_utf8 bytes e)
-either bytes false e h = refl
 
 -- bytes that are refused, where they are text, have no value
 pub json_of-refused : (bytes text : List ℕ) → text ≡ bytes → (IsUtf8 text → read text ≡ None) → json_of bytes ≡ None

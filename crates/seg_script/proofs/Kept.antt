@@ -4,6 +4,8 @@ use Rattle.std.specs.Prelude.{set}
 use Rattle.std.specs.List.{list_any, range_with_len}
 use Rattle.std.proofs.lemmas.Bool.Decides.{nat_tests}
 use Rattle.std.proofs.lemmas.List.FromFn.{length-map-range_with_len}
+use Rattle.std.proofs.lemmas.Bool.{eq-eqb}
+use Rattle.seg_common.proofs.Numbers.{nat_eq-below}
 use Rattle.seg_script.specs.Filters.{all_but}
 
 -- marks without those at some places
@@ -31,12 +33,6 @@ both_go false y z = refl
 other : (a d : ℕ) → d < a → nat_eq a d ≡ false
 other a d lt = grind (arith, nat_tests)
 
-same : (a d : ℕ) → a ≡ d → nat_eq a d ≡ true
-same a d is = grind (arith, nat_tests)
-
-other_below : (a d : ℕ) → a < d → nat_eq a d ≡ false
-other_below a d lt = grind (arith, nat_tests)
-
 -- a number in front of all has no mark among them
 in_front : (p : ℕ → Bool) (a n d : ℕ) → d < a → marks p a n ≡ marks (λ i. p i && not (nat_eq i d)) a n
 in_front p a zero d lt = refl
@@ -49,11 +45,11 @@ in_front p a (suc n) d lt =
 one_goes : (p : ℕ → Bool) (a n d e : ℕ) → e ≡ a + d → set (marks p a n) d false ≡ marks (λ i. p i && not (nat_eq i e)) a n
 one_goes p a zero d e is = refl
 one_goes p a (suc n) zero e is =
-    let first = goes (p a) (nat_eq a e) (same a e (omega (arith, is))) in
+    let first = goes (p a) (nat_eq a e) (eq-eqb a e (omega (arith, is))) in
     let rest = in_front p (a + 1) n e (omega (arith, is)) in
     λ j. first j ∷ rest j
 one_goes p a (suc n) (suc d) e is =
-    let first = stays (p a) (nat_eq a e) (other_below a e (omega (arith, is))) in
+    let first = stays (p a) (nat_eq a e) (nat_eq-below a e (omega (arith, is))) in
     let rest = one_goes p (a + 1) n d e (omega (arith, is)) in
     λ j. first j ∷ rest j
 

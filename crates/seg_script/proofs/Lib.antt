@@ -1,6 +1,5 @@
 mod Ascending
 mod Chains
-mod Distinct
 mod Each
 mod Json
 mod Kept

@@ -4,6 +4,8 @@ use Rattle.std.specs.Prelude.{codes, unwrap_or, replicate, ◌+◌}
 use Rattle.std.specs.List.{list_all, range_with_len}
 use Rattle.std.specs.Str.{bytes_eq}
 use Rattle.std.proofs.lemmas.Bool.Decides.{nat_tests}
+use Rattle.std.proofs.lemmas.Option.{same_Some}
+use Rattle.std.proofs.lemmas.Bool.{and_parts}
 use Rattle.serde_json.specs.Data.{Data, null, boolean, number, string, array, object, no_members, member}
 use Rattle.serde_json.specs.Find.{get, as_bool, as_str}
 use Rattle.seg_common.specs.SegmentIds.{id_text}
@@ -26,16 +28,13 @@ use Rattle.seg_script.specs.Filters.{ascends, all_but, filter_members, filter_fr
 use Rattle.seg_script.specs.Documents.{named_text_from, pair_from, term_from, operation_from}
 use Rattle.seg_script.specs.Script.{script_members, id_of, script_from, json_of}
 use Rattle.seg_script.specs.Laws.{is_text_entry, is_text_operation, is_small_filter, is_id, HoldsTextFields, ScriptsHoldTextFields}
-use Rattle.seg_script.proofs.Chains.{given-some, provided-some, option_map-some, both_true, all-list_of, list_all-true}
+use Rattle.seg_script.proofs.Chains.{given-some, provided-some, option_map-some, all-list_of, list_all-true}
 use Rattle.seg_script.proofs.Kept.{length-all_but}
 use Rattle.seg_script.proofs.Limits.{range_below}
 
-pub some_same : {A : Type 0} (a b : A) → Some a ≡ Some b → a ≡ b
-some_same a b h = cc
-
 -- what holds of the default and of all that is read holds of a member
 optional-some : {A : Type 0} (P : A → Type 0) (default : A) (read : Data → Option A) → P default → ((d : Data) (a : A) → read d ≡ Some a → P a) → (o : Option Data) (a : A) → read_or default read o ≡ Some a → P a
-optional-some P default read first holds None a h = subst P (some_same default a h) first
+optional-some P default read first holds None a h = subst P (same_Some default a h) first
 optional-some P default read first holds (Some d) a h = holds d a h
 
 -- ---- the schema
@@ -63,7 +62,7 @@ entry-text d e h =
     let index_read = given-some (optional index.No (word_of index_options) (codes "index") d) _ e stored.1.1 in
     let tokenizer = given-some (optional None (nullable as_str) (codes "tokenizer") d) _ e index_read.1.1 in
     let norms = given-some (optional (is_text kind_read.0 && is_on index_read.0) as_bool (codes "norms") d) _ e tokenizer.1.1 in
-    subst (λ e. is_text_entry e ≡ true) (some_same _ e norms.1.1)
+    subst (λ e. is_text_entry e ≡ true) (same_Some _ e norms.1.1)
     (text_kind kind_read.0 (required-one (codes "text") kind.Text (codes "kind") d kind_read.0 kind_read.1.0))
 
 -- text fields with distinct names, fewer than a meta can say
@@ -76,8 +75,8 @@ schema-text : (d : Data) (schema : List FieldEntry) → schema_from d ≡ Some s
 schema-text d schema h =
     let entries = given-some (list_of entry_from d) _ schema h in
     let distinct = provided-some (are_distinct entries.0 && nat_lt (length entries.0) (2 ^ 32 - 1)) _ schema entries.1.1 in
-    let parts = both_true (are_distinct entries.0) (nat_lt (length entries.0) (2 ^ 32 - 1)) distinct.0 in
-    subst IsTextSchema (some_same entries.0 schema distinct.1)
+    let parts = and_parts (are_distinct entries.0) (nat_lt (length entries.0) (2 ^ 32 - 1)) distinct.0 in
+    subst IsTextSchema (same_Some entries.0 schema distinct.1)
     (record { entries = list_all-true is_text_entry entries.0 (all-list_of entry_from (λ e. is_text_entry e ≡ true) entry-text d entries.0 entries.1.0); names = parts.0; few = parts.1 })
 
 -- ---- the operations
@@ -143,7 +142,7 @@ below-small : (d : Data) (n : ℕ) → below (2 ^ 32) d ≡ Some n → IsSmall n
 below-small d n h =
     let said = given-some (natural d) _ n h in
     let small = provided-some (nat_lt said.0 (2 ^ 32)) (Some said.0) n said.1.1 in
-    subst IsSmall (some_same said.0 n small.1) small.0
+    subst IsSmall (same_Some said.0 n small.1) small.0
 
 settings-small : (d : Data) (s : Settings) → settings_from d ≡ Some s → IsSmall s.block_size
 settings-small d s h =
@@ -151,7 +150,7 @@ settings-small d s h =
     let block_size = given-some (optional 16384 (below (2 ^ 32)) (codes "docstore_blocksize") d) _ s only.1 in
     let thread = given-some (optional false as_bool (codes "docstore_compress_dedicated_thread") d) _ s block_size.1.1 in
     let compression = given-some (optional uncompressed (word_of compressions) (codes "docstore_compression") d) _ s thread.1.1 in
-    subst (λ (s : Settings). IsSmall s.block_size) (some_same _ s compression.1.1)
+    subst (λ (s : Settings). IsSmall s.block_size) (same_Some _ s compression.1.1)
     (optional-some IsSmall 16384 (below (2 ^ 32)) refl below-small (get (codes "docstore_blocksize") d) block_size.0 block_size.1.0)
 
 -- ---- the filters
@@ -166,7 +165,7 @@ filter-small d filter h =
     let dropped = given-some (required (list_of (below size.0)) (codes "drop") d) _ filter size.1.1 in
     let all = provided-some (ascends dropped.0) (Some (all_but size.0 dropped.0)) filter dropped.1.1 in
     let there = given-some (get (codes "size") d) (below (2 ^ 32)) size.0 size.1.0 in
-    subst (λ filter. IsSmallFilter (Some filter)) (some_same (all_but size.0 dropped.0) filter all.1)
+    subst (λ filter. IsSmallFilter (Some filter)) (same_Some (all_but size.0 dropped.0) filter all.1)
     (rw (length-all_but size.0 dropped.0) (below-small there.0 size.0 there.1.1))
 
 some-small : (d : Data) (filter : Option Filter) → option_map Some (filter_from d) ≡ Some filter → IsSmallFilter filter
@@ -175,7 +174,7 @@ some-small d filter h =
     subst IsSmallFilter said.1.1 (filter-small d said.0 said.1.0)
 
 nullable-small : (d : Data) (filter : Option Filter) → nullable filter_from d ≡ Some filter → IsSmallFilter filter
-nullable-small null filter h = subst IsSmallFilter (some_same None filter h) refl
+nullable-small null filter h = subst IsSmallFilter (same_Some None filter h) refl
 nullable-small (boolean b) filter h = some-small (boolean b) filter h
 nullable-small (number n) filter h = some-small (number n) filter h
 nullable-small (string s) filter h = some-small (string s) filter h
@@ -195,7 +194,7 @@ abbrev AreIds : List ℕ → Type 0
 AreIds ids = list_all is_id ids ≡ true
 
 said_where : (t : Bool) (n id : ℕ) → (if t then Some n else None) ≡ Some id → (t ≡ true) × (n ≡ id)
-said_where true n id h = (refl, some_same n id h)
+said_where true n id h = (refl, same_Some n id h)
 said_where false n id h = cc
 
 id-small : (d : Data) (id : ℕ) → id_of d ≡ Some id → is_id id ≡ true
@@ -203,7 +202,7 @@ id-small d id h =
     let said = given-some (as_str d) id_from id h in
     let n = digits_value 0 said.0 in
     let read = said_where (is_id n && bytes_eq said.0 (id_text n)) n id said.1.1 in
-    subst (λ n. is_id n ≡ true) read.1 (both_true (is_id n) (bytes_eq said.0 (id_text n)) read.0).0
+    subst (λ n. is_id n ≡ true) read.1 (and_parts (is_id n) (bytes_eq said.0 (id_text n)) read.0).0
 
 ids-small : (d : Data) (ids : List ℕ) → list_of id_of d ≡ Some ids → AreIds ids
 ids-small d ids h = list_all-true is_id ids (all-list_of id_of (λ id. is_id id ≡ true) id-small d ids h)
@@ -225,7 +224,7 @@ whole d input h =
     let fields = given-some (get (codes "schema") d) schema_from schema.0 schema.1.0 in
     let items = given-some (get (codes "operations") d) (list_of (operation_from schema.0)) operations.0 operations.1.0 in
     let is : IsTextSchema schema.0 = schema-text fields.0 schema.0 fields.1.1 in
-    subst HoldsTextFields (some_same _ input operations.1.1)
+    subst HoldsTextFields (same_Some _ input operations.1.1)
     (record {
       entries = is.entries;
       names = is.names;

@@ -11,7 +11,8 @@ use crate::error::ScriptError;
 use crate::fields::field_or_past;
 use crate::pushing::push;
 use seg_input::UserOperation;
-use seg_values::{Field, OwnedValue, Schema, TantivyDocument, Term, Text};
+use seg_values::{Field, OwnedValue, Schema, TantivyDocument, Term};
+use seg_words::Text;
 use serde_json::{Map, Value};
 use std::alloc::Global;
 

@@ -15,8 +15,8 @@ use crate::members::{flag_or, has_only, text_at};
 use seg_common::DateTimePrecision;
 use seg_values::{
     Field, FieldEntry, FieldKind, IndexOption, Schema, SchemaBuilder, SchemaCause, TantivyError,
-    Text,
 };
+use seg_words::Text;
 use serde_json::Value;
 use std::alloc::Global;
 

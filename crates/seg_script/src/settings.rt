@@ -9,7 +9,8 @@ ghost use Rattle.seg_script.specs.Reads.{optional};
 ghost use Rattle.seg_script.specs.Settings.{default_settings, settings_from};
 
 use crate::members::{flag_or, has_only, small_or};
-use seg_meta::{Compressor, IndexSettings};
+use seg_meta::IndexSettings;
+use seg_values::Compressor;
 use serde_json::Value;
 
 /// A block of stored documents is closed once it has this many bytes, where a script doesn't say otherwise.

@@ -1,17 +1,15 @@
 -- Entries of fields that are built.
 use Rattle.std.proofs.Common.{◌≡◌, ℕ, suc, zero, Bool, true, false, [], ◌∷◌, Some, sym, ap, ◌∙◌, refl}
-use Rattle.std.specs.Prelude.{◌&&◌, ◌||◌, not, is_some}
+use Rattle.std.specs.Prelude.{◌||◌, not, is_some}
 use Rattle.std.specs.List.{slice_get}
-use Rattle.std.proofs.lemmas.Bool.{false≢true}
+use Rattle.std.proofs.lemmas.Bool.{false≢true, not-true, and_parts}
+pub use Rattle.std.proofs.lemmas.Bool.{and_parts as both_true}
+use Rattle.std.proofs.lemmas.Option.{same_Some}
 use Rattle.seg_values.specs.declared.schema.FieldEntry.{FieldEntry}
 use Rattle.seg_values.specs.declared.schema.FieldKind.{FieldKind}
 use Rattle.seg_values.specs.declared.schema.FieldKind.TheVariants.{Text, U64, I64, Bool as Boolean, Date, Facet, Bytes, IpAddr, Json}
-use Rattle.seg_model.specs.Fields.{is_text, is_json, is_indexed, Schema}
+use Rattle.seg_model.specs.Fields.{is_text, is_indexed, Schema}
 use Rattle.seg_segment.specs.Built.{is_built_entry, is_built_schema}
-
-pub both_true : (a b : Bool) → (a && b) ≡ true → (a ≡ true) × (b ≡ true)
-both_true true b h = (refl, h)
-both_true false b h = absurd (false≢true h)
 
 -- an indexed field of texts
 pub record IsTextEntry (e : FieldEntry) : Type 0 where
@@ -35,39 +33,15 @@ only_text false true h k = absurd (false≢true h)
 only_text false false h k = absurd (false≢true k)
 
 pub not_fast : (e : FieldEntry) → is_built_entry e ≡ true → e.fast ≡ false
-not_fast e h = by e.fast (both_true (not e.fast) (is_text e.kind || not (is_indexed e)) h).0
-  where
-    by : (b : Bool) → not b ≡ true → b ≡ false
-    by true h = absurd (false≢true h)
-    by false h = refl
+not_fast e h = not-true e.fast (and_parts (not e.fast) (is_text e.kind || not (is_indexed e)) h).0
 
 text_entry : (e : FieldEntry) → is_built_entry e ≡ true → is_indexed e ≡ true → IsTextEntry e
-text_entry e h on = record { kind = is_text_kind e.kind (only_text (is_text e.kind) (is_indexed e) (both_true (not e.fast) (is_text e.kind || not (is_indexed e)) h).1 on); indexed = on }
+text_entry e h on = record { kind = is_text_kind e.kind (only_text (is_text e.kind) (is_indexed e) (and_parts (not e.fast) (is_text e.kind || not (is_indexed e)) h).1 on); indexed = on }
 
 pub built_entry_at : (schema : Schema) (i : ℕ) (e : FieldEntry) → is_built_schema schema ≡ true → slice_get schema i ≡ Some e → is_built_entry e ≡ true
 built_entry_at [] i e h at = absurd (false≢true (ap is_some at))
-built_entry_at (x ∷ xs) zero e h at = ap is_built_entry (sym (same x e at)) ∙ (both_true (is_built_entry x) (is_built_schema xs) h).0
-  where
-    same : (x e : FieldEntry) → Some x ≡ Some e → x ≡ e
-    same x e at = cc
-built_entry_at (x ∷ xs) (suc i) e h at = built_entry_at xs i e (both_true (is_built_entry x) (is_built_schema xs) h).1 at
+built_entry_at (x ∷ xs) zero e h at = ap is_built_entry (sym (same_Some x e at)) ∙ (and_parts (is_built_entry x) (is_built_schema xs) h).0
+built_entry_at (x ∷ xs) (suc i) e h at = built_entry_at xs i e (and_parts (is_built_entry x) (is_built_schema xs) h).1 at
 
 pub text_entry_at : (schema : Schema) (i : ℕ) (e : FieldEntry) → is_built_schema schema ≡ true → slice_get schema i ≡ Some e → is_indexed e ≡ true → IsTextEntry e
 text_entry_at schema i e h at on = text_entry e (built_entry_at schema i e h at) on
-
-no_json : (k : FieldKind) (fast on : Bool) → fast ≡ false → (is_text k || not on) ≡ true → (is_json k && (on || fast)) ≡ false
-no_json Json true on f h = absurd (false≢true (sym f))
-no_json Json false true f h = absurd (false≢true h)
-no_json Json false false f h = refl
-no_json Text fast on f h = refl
-no_json U64 fast on f h = refl
-no_json I64 fast on f h = refl
-no_json Boolean fast on f h = refl
-no_json Date fast on f h = refl
-no_json Facet fast on f h = refl
-no_json Bytes fast on f h = refl
-no_json IpAddr fast on f h = refl
-
--- a JSON field that is built is neither indexed nor fast
-pub unchecked_json : (e : FieldEntry) → is_built_entry e ≡ true → (is_json e.kind && (is_indexed e || e.fast)) ≡ false
-unchecked_json e h = no_json e.kind e.fast (is_indexed e) (not_fast e h) (both_true (not e.fast) (is_text e.kind || not (is_indexed e)) h).1

@@ -1,5 +1,5 @@
 -- Fields whose terms are written one by one, from the first on; those that are not indexed are passed over.
-use Rattle.std.proofs.Common.{◌≡◌, ◌≢◌, ℕ, zero, suc, ◌+◌, ◌-◌, ◌<◌, ◌≤◌, ◌⊎◌, inl, inr, Bool, true, false, cond, List, [], ◌∷◌, ◌++◌, map, length, take, Some, None, Option, sym, refl, ap, ◌∙◌, subst, arith, eq-eqb, ne_eqb, append_assoc, append-nil}
+use Rattle.std.proofs.Common.{◌≡◌, ◌≢◌, ℕ, zero, suc, ◌+◌, ◌<◌, ◌≤◌, ◌⊎◌, inl, inr, Bool, true, false, cond, List, [], ◌∷◌, ◌++◌, map, length, take, Some, None, Option, sym, refl, ap, ◌∙◌, subst, arith, eq-eqb, ne_eqb, append_assoc, append-nil}
 use Rattle.std.specs.Prelude.{◌==◌, IfSome, IsSomeAnd}
 use Rattle.std.specs.FinMap.{entries, empty}
 use Rattle.std.specs.List.{slice_get, slice_index_or, enumerate_from, flat_map, AllByRecursion}
@@ -7,16 +7,18 @@ use Rattle.std.proofs.lemmas.Bool.{false≢true}
 use Rattle.std.proofs.lemmas.Bool.Decides.{nat_tests}
 use Rattle.std.proofs.lemmas.List.{map-append, take_all}
 use Rattle.std.proofs.lemmas.Option.{none-some, same_Some, slice_get_within}
+use Rattle.seg_common.specs.Growing.{HasGrown}
 use Rattle.seg_common.specs.LittleEndian.{u64_at}
 use Rattle.seg_values.specs.declared.schema.FieldEntry.{FieldEntry}
 use Rattle.seg_model.specs.Fields.{Schema, is_indexed}
 use Rattle.seg_model.specs.Reading.{Terms, term_option}
 use Rattle.seg_directory.specs.Composite.{Part, composite, field_of, low_after}
-use Rattle.seg_postings.specs.FieldWriting.{TermWritten, FieldWriting}
+use Rattle.seg_postings.specs.FieldWriting.{TermWritten, FieldWriting, fresh}
 use Rattle.seg_postings.specs.Files.{FieldFiles, AddsField, no_fields, with_field}
 use Rattle.seg_postings.specs.Kinds.{kind_of}
 use Rattle.seg_segment.specs.FieldsWritten.{whole_field, IsWhole, AddsTerms, AddsIfIndexed, HasField, HaveFields}
 use Rattle.seg_segment.specs.HoldTerms.{HoldTerms}
+use Rattle.seg_segment.specs.WritingTerms.{with_terms}
 
 -- ---- parts of indexed fields, which ascend
 
@@ -130,17 +132,25 @@ module _ (total : ℕ → ℕ) (Has : ℕ → List TermWritten → Type 0) where
   some_added true field old new on adds = adds
   some_added false field old new on adds = absurd (false≢true on)
 
-  module _ (field : ℕ) (writing : Option FieldWriting) (whole : IsWhole total Has field writing) where
+  module _ (field : ℕ) (writing closing : Option FieldWriting) (whole : IsWhole total Has field writing) (same : closing ≡ writing) where
     -- what holds of the field as a whole holds of what was written
-    pub of_whole : (Q : FieldWriting → Type 0) → Q (whole_field field (total field) whole.written) → IfSome writing Q
-    of_whole Q here = subst (λ o. IfSome o Q) (sym whole.is) here
+    pub of_whole : (Q : FieldWriting → Type 0) → Q (whole_field field (total field) whole.written) → IfSome closing Q
+    of_whole Q here = subst (λ o. IfSome o Q) (sym (same ∙ whole.is)) here
 
-    pub adds_whole : (b : Bool) (old new : Option FieldFiles) → b ≡ true → ((w : FieldWriting) × (writing ≡ Some w) × AddsField old new w) → AddsIfIndexed total Has b field old new
+    pub adds_whole : (b : Bool) (old new : Option FieldFiles) → b ≡ true → ((w : FieldWriting) × (closing ≡ Some w) × AddsField old new w) → AddsIfIndexed total Has b field old new
     adds_whole b old new on (w, is, adds) = some_added b field old new on (record {
       written = whole.written;
       are = whole.are;
-      adds = subst (AddsField old new) (same_Some w (whole_field field (total field) whole.written) (sym is ∙ whole.is)) adds;
+      adds = subst (AddsField old new) (same_Some w (whole_field field (total field) whole.written) (sym is ∙ same ∙ whole.is)) adds;
     })
+
+  -- a field that was begun, and has been given its terms, is whole
+  pub is_whole : (field : ℕ) (written : List TermWritten) (begun after : Option FieldWriting) → Has field written → begun ≡ Some (fresh field (total field)) → HasGrown begun after (with_terms written) → IsWhole total Has field after
+  is_whole field written begun after are begins grown = record {
+    written = written;
+    are = are;
+    is = grown.is ∙ ap (λ w. Some (with_terms written w)) (same_Some grown.kept (fresh field (total field)) (sym grown.was ∙ begins));
+  }
 
   stays : (files : FieldFiles) (i field : ℕ) (dictionary postings positions : List ℕ) → HasField total Has files i → HasField total Has (with_field field dictionary postings positions files) i
   stays files i field dictionary postings positions h = record {

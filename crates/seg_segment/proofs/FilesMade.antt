@@ -19,7 +19,7 @@ use Rattle.seg_directory.specs.Calls.{made}
 use Rattle.seg_directory.specs.Files.{NamedFiles}
 use Rattle.seg_directory.specs.State.{DirectoryState}
 use Rattle.seg_directory.specs.Works.{Works, Step, calls, AllSuit, all_files_after}
-use Rattle.seg_segment.specs.SegmentFiles.{bytes_of, component_steps, write_steps, write_order, segment_names, AreAbsent, HasFiles, KeepsAllBut}
+use Rattle.seg_segment.specs.SegmentFiles.{bytes_of, component_steps, write_steps, segment_names, AreAbsent, HasFiles, KeepsAllBut}
 use Rattle.seg_segment.specs.declared.segment_files.SegmentFiles.{SegmentFiles}
 use Rattle.seg_segment.proofs.KeptFiles.{keeps_untouched}
 use Rattle.seg_segment.proofs.Turns.{drop-item}

@@ -1,10 +1,13 @@
 pub mod BuiltEntries
 pub mod FieldsInTurn
 pub mod FilesMade
+pub mod GivenPostings
 pub mod KeptFiles
 pub mod LaidOut
+pub mod LengthsInTurn
 pub mod OneContents
 pub mod OnlyReads
 pub mod ReadLaws
 pub mod SpelledFiles
 pub mod Turns
+pub mod WrittenDocuments

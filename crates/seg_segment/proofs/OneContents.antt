@@ -6,28 +6,26 @@ use Rattle.std.specs.List.{slice_get, slice_index_or, flat_map, enumerate_from}
 use Rattle.std.specs.Option.{option_map}
 use Rattle.std.proofs.lemmas.Bool.{false≢true}
 use Rattle.std.proofs.lemmas.Cmp.{nat_list_cmp_total}
+use Rattle.std.proofs.lemmas.Option.{same_Some}
+use Rattle.seg_common.proofs.Tables.{texts_apart}
 use Rattle.seg_values.specs.declared.schema.FieldEntry.{FieldEntry}
 use Rattle.seg_model.specs.Contents.{Contents}
 use Rattle.seg_model.specs.Fields.{Schema, is_indexed, has_lengths}
 use Rattle.seg_model.specs.Reading.{Terms}
 use Rattle.seg_model.specs.Shape.{HasFullShape}
-use Rattle.seg_model.proofs.Terms.{texts_apart}
 use Rattle.seg_directory.specs.Composite as parts
 use Rattle.seg_directory.specs.Composite.{composite, field_of}
 use Rattle.seg_columnar.specs.Columnar.{rows_of}
 use Rattle.seg_store.specs.Store.{store_of, documents_of}
 use Rattle.seg_postings.specs.Field.{IsField}
-use Rattle.seg_postings.specs.FieldNorms.{norms_parts}
+use Rattle.seg_norms.specs.FieldNorms.{norms_parts}
 use Rattle.seg_postings.specs.FieldWriting.{TermWritten}
 use Rattle.seg_segment.specs.HoldTerms.{HoldsField, HoldTerms}
 use Rattle.seg_segment.specs.Laws.{FilesSpellOneContents}
 
-some_same : {X : Type 0} (x y : X) → Some x ≡ Some y → x ≡ y
-some_same x y e = cc
-
 -- what is there is one
 pub one : {X : Type 0} (o : Option X) (x y : X) → o ≡ Some x → o ≡ Some y → x ≡ y
-one o x y p q = some_same x y (sym p ∙ q)
+one o x y p q = same_Some x y (sym p ∙ q)
 
 -- ---- lists by the fields of a schema
 
@@ -82,7 +80,7 @@ both_empty x y h k = same_map nat_list_cmp_total texts_apart x y (λ q. h q ∙ 
 -- ---- lengths
 
 -- the fields with lengths, of which the first is `n`
-abbrev selected : ℕ → Schema → List ℕ
+abbrev pub selected : ℕ → Schema → List ℕ
 selected n schema = flat_map (λ (f : ℕ × FieldEntry). cond (has_lengths f.1) (f.0 ∷ []) []) (enumerate_from n schema)
 
 heads : {X : Type 0} (x y : X) (xs ys : List X) → (let l : List X = x ∷ xs in l) ≡ y ∷ ys → x ≡ y
@@ -104,7 +102,7 @@ module _ {X : Type 0} (F G : ℕ → X) where
   at_selected : (n i : ℕ) (schema : Schema) (e : FieldEntry) → slice_get schema i ≡ Some e → has_lengths e ≡ true → map F (selected n schema) ≡ map G (selected n schema) → F (n + i) ≡ G (n + i)
   at_selected n i [] e at on h = absurd (false≢true (ap is_some at))
   at_selected n zero (x ∷ xs) e at on h =
-      ap F (omega arith) ∙ ahead (has_lengths x) n (selected (n + 1) xs) (ap has_lengths (some_same x e at) ∙ on) h ∙ ap G (omega arith)
+      ap F (omega arith) ∙ ahead (has_lengths x) n (selected (n + 1) xs) (ap has_lengths (same_Some x e at) ∙ on) h ∙ ap G (omega arith)
   at_selected n (suc i) (x ∷ xs) e at on h =
       ap F (omega arith) ∙ at_selected (n + 1) i xs e at on (behind (has_lengths x) n (selected (n + 1) xs) h) ∙ ap G (omega arith)
 

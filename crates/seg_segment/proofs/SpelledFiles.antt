@@ -7,7 +7,7 @@ use Rattle.seg_common.specs.declared.name.SegmentComponent.TheVariants.{Terms, S
 use Rattle.seg_values.specs.Tree.{Document}
 use Rattle.seg_model.specs.Contents.{Contents}
 use Rattle.seg_model.specs.Fields.{Schema, Analyzer}
-use Rattle.seg_model.specs.IndexOfFiles as index
+use Rattle.seg_meta.specs.IndexOfFiles as index
 use Rattle.seg_directory.specs.Files.{NamedFiles}
 use Rattle.seg_segment.specs.Forms.{segment_forms}
 use Rattle.seg_segment.specs.Holds.{Holds}

@@ -1,7 +1,7 @@
 -- The forms of the files of an index, as they are written here.
 use Rattle.seg_common.specs.Names.{name_cmp}
 use Rattle.seg_common.specs.declared.name.FileName.TheVariants.{Meta}
-use Rattle.seg_model.specs.IndexOfFiles.{Forms}
+use Rattle.seg_meta.specs.IndexOfFiles.{Forms}
 use Rattle.seg_meta.specs.MetaRead.{meta_read}
 use Rattle.seg_segment.specs.Holds.{Holds}
 use Rattle.seg_segment.specs.HoldsAlive.{HoldsAlive}

@@ -5,9 +5,11 @@ pub mod HoldTerms
 pub mod Holds
 pub mod HoldsAlive
 pub mod Laws
+pub mod LengthsWritten
 pub mod MadeFiles
 pub mod SegmentFiles
 pub mod SegmentRead
 pub mod Serializing
 pub mod Spelling
 pub mod Standing
+pub mod WritingTerms

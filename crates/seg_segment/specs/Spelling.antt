@@ -8,7 +8,7 @@ use Rattle.seg_model.specs.Shape.{HasFullShape}
 use Rattle.seg_directory.specs.Composite.{composite}
 use Rattle.seg_columnar.specs.Columnar.{rows_of}
 use Rattle.seg_store.specs.Store.{store_of, documents_of}
-use Rattle.seg_postings.specs.FieldNorms.{norms_parts}
+use Rattle.seg_norms.specs.FieldNorms.{norms_parts}
 use Rattle.seg_segment.specs.HoldTerms.{HoldTerms}
 use Rattle.seg_segment.specs.declared.segment_files.SegmentFiles.{SegmentFiles}
 

@@ -1,5 +1,5 @@
 //! The terms of the indexed fields of a segment, written field by field.
-ghost use Rattle.std.specs.Prelude.{◌≡◌, ◌<◌, ◌≤◌, ◌-◌, ◌^◌, true, ℕ, List, Some, IfOk, IfErr, IfSome, IsSomeAnd, OnOk};
+ghost use Rattle.std.specs.Prelude.{◌≡◌, ◌<◌, ◌≤◌, ◌-◌, ◌^◌, true, ℕ, List, Some, IfOk, IfSome, IsSomeAnd, OnOk};
 ghost use Rattle.std.specs.List.{slice_get};
 ghost use Rattle.seg_directory.specs.Composite.{low_after};
 ghost use Rattle.seg_model.specs.Fields.{is_indexed};
@@ -7,9 +7,10 @@ ghost use Rattle.seg_postings.specs.FieldWriting.{TermWritten, fresh};
 ghost use Rattle.seg_segment.specs.FieldsWritten.{AddsIfIndexed, HaveFields, IsWhole};
 ghost use Rattle.seg_values.specs.declared.schema.FieldEntry.{FieldEntry};
 
-use seg_postings::{FieldSerializer, InvertedIndexSerializer, PostingsError};
+use crate::term_writer::TermWriter;
+use seg_postings::InvertedIndexSerializer;
 use seg_values::{Field, FieldEntry, Schema};
-use std::alloc::Global;
+use std::alloc::{AllocError, Global};
 
 /// The terms of each field of a segment that is made: of documents that were indexed, or of segments that are joined.
 pub trait TermsByField {
@@ -23,22 +24,20 @@ pub trait TermsByField {
     ghost can_write: { Self → ℕ → Type 0 };
 
     /// The total of the tokens of a field.
-    fn total_num_tokens(&self, field: Field) -> Result<u64, PostingsError>
+    fn total_num_tokens(&self, field: Field) -> Result<u64, AllocError>
         requires { can_write self.now field }
-        ensures ok { IfOk result (λ n. n ≡ total self.now field) }
-        ensures err { IfErr result (λ e. e ≡ PostingsError.OutOfMemory) };
+        ensures { IfOk result (λ n. n ≡ total self.now field) };
 
     /// Writes all terms of a field, of which nothing was written.
     fn write_terms(
         &self,
         alloc: Global,
         field: Field,
-        writer: FieldSerializer,
-    ) -> Result<FieldSerializer, PostingsError>
+        writer: TermWriter,
+    ) -> Result<TermWriter, AllocError>
         requires can { can_write self.now field }
         requires begins { writer ≡ Some (fresh field (total self.now field)) }
-        ensures ok { IfOk result (IsWhole (total self.now) (has self.now) field) }
-        ensures err { IfErr result (λ e. e ≡ PostingsError.OutOfMemory) };
+        ensures { IfOk result (IsWhole (total self.now) (has self.now) field) };
 }
 
 /// The files of terms, postings and positions, with the terms of each indexed field.
@@ -46,10 +45,9 @@ pub fn write_fields<T: TermsByField>(
     alloc: Global,
     schema: &Schema,
     terms: &T,
-) -> Result<InvertedIndexSerializer, PostingsError>
+) -> Result<InvertedIndexSerializer, AllocError>
     requires { (field : ℕ) (entry : FieldEntry) → slice_get schema.now field ≡ Some entry → is_indexed entry ≡ true → T.can_write terms.now field }
-    ensures ok { IfOk result (λ files. IsSomeAnd files (HaveFields (T.total terms.now) (T.has terms.now) schema.now)) }
-    ensures err { IfErr result (λ e. e ≡ PostingsError.OutOfMemory) }
+    ensures { IfOk result (λ files. IsSomeAnd files (HaveFields (T.total terms.now) (T.has terms.now) schema.now)) }
 {
     schema.fields_are_valid();
     let mut files = InvertedIndexSerializer::new(alloc);
@@ -68,16 +66,22 @@ fn write_field<T: TermsByField>(
     field: Field,
     terms: &T,
     files: &mut InvertedIndexSerializer,
-) -> Result<(), PostingsError>
+) -> Result<(), AllocError>
     requires can { is_indexed entry.now ≡ true → T.can_write terms.now field }
     requires ascends { IfSome files.old (λ f. (low_after 0 f.terms ≤ field) × (low_after 0 f.postings ≤ field) × (low_after 0 f.positions ≤ field)) }
     requires limit { field < 2 ^ 32 - 1 }
-    ensures ok { OnOk result (AddsIfIndexed (T.total terms.now) (T.has terms.now) (is_indexed entry.now) field files.old files.new) }
-    ensures err { IfErr result (λ e. e ≡ PostingsError.OutOfMemory) }
+    ensures { OnOk result (AddsIfIndexed (T.total terms.now) (T.has terms.now) (is_indexed entry.now) field files.old files.new) }
 {
     if !entry.is_indexed() {
         return Ok(());
     }
-    let writer = files.new_field(field, terms.total_num_tokens(field)?)?;
-    terms.write_terms(alloc, field, writer)?.close(files)
+    let total = terms.total_num_tokens(field)?;
+    let Ok(begun) = files.new_field(field, total) else {
+        return Err(AllocError);
+    };
+    let whole = terms.write_terms(alloc, field, TermWriter::new(begun))?;
+    let Ok(()) = whole.into_field().close(files) else {
+        return Err(AllocError);
+    };
+    Ok(())
 }

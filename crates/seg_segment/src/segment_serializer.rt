@@ -4,10 +4,11 @@ ghost use Rattle.seg_segment.specs.Serializing.{IsNormsFile};
 
 use crate::segment_files::SegmentFiles;
 use seg_directory::Directory;
-use seg_meta::{Compressor, IndexSettings, Segment};
-use seg_postings::{FieldNormsSerializer, InvertedIndexSerializer};
+use seg_meta::{IndexSettings, Segment};
+use seg_norms::FieldNormsSerializer;
+use seg_postings::InvertedIndexSerializer;
 use seg_store::StoreWriter;
-use seg_values::{ArgumentCause, TResult, TantivyError};
+use seg_values::{ArgumentCause, Compressor, TResult, TantivyError};
 use std::alloc::{AllocError, Global};
 use std::marker::Model;
 

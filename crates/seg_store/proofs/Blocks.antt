@@ -6,10 +6,11 @@ use Rattle.std.specs.Int.{w32, w64, to_le_bytes}
 use Rattle.std.proofs.lemmas.List.{length-append}
 use Rattle.std.proofs.lemmas.Bool.{le-leb, lt-ltb}
 use Rattle.seg_common.specs.LittleEndian.{u32_at}
+use Rattle.seg_common.proofs.Bytes.{length-numbers}
 use Rattle.seg_store.specs.Ends.{numbers_of, are_ends, cut_from, last_bytes, but_last}
-use Rattle.seg_store.specs.StoredDocument.{is_stored_document}
+use Rattle.seg_stored.specs.StoredDocument.{is_stored_document}
 use Rattle.seg_store.specs.Block.{Block, block_count, block_ends, block_body, documents_in, is_block}
-use Rattle.seg_store.proofs.Cutting.{last-appended, but_last-appended, u32_at-alone, length-numbers, numbers_read, ends-below}
+use Rattle.seg_store.proofs.Cutting.{last-appended, but_last-appended, u32_at-alone, numbers_read, ends-below}
 
 -- bytes are a block with these documents
 pub record IsBlockOf (bytes : List ℕ) (documents : Block) : Type 0 where
@@ -24,7 +25,8 @@ block_by : (bytes : List ℕ) → is_block bytes ≡ block_test (block_count byt
 unfolding is_block
 block_by bytes = refl
 
-documents_by : (bytes : List ℕ) → documents_in bytes ≡ cut_from 0 (block_ends bytes) (block_body bytes)
+-- the documents of a block are cut at its ends
+pub documents_by : (bytes : List ℕ) → documents_in bytes ≡ cut_from 0 (block_ends bytes) (block_body bytes)
 unfolding documents_in
 documents_by bytes = refl
 

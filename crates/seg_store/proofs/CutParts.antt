@@ -3,14 +3,15 @@ use Rattle.std.proofs.Common.{◌≡◌, ℕ, ◌+◌, ◌*◌, ◌<◌, ◌≤�
 use Rattle.std.specs.Prelude.{◌==◌}
 use Rattle.std.specs.List.{slice_get}
 use Rattle.std.proofs.lemmas.List.{drop_all}
-use Rattle.std.proofs.lemmas.Bool.{eqb-true, eq-eqb, le-leb, false_from_ne_true}
+use Rattle.std.proofs.lemmas.Bool.{eqb-true, eq-eqb, le-leb, false_from_ne_true, and_parts}
+use Rattle.std.proofs.Math.Bool.{and-true}
 use Rattle.seg_common.specs.LittleEndian.{u64_at}
+use Rattle.seg_common.proofs.Lists.{drop-slice_get}
 use Rattle.seg_store.specs.Ends.{numbers_of, cut_from}
 use Rattle.seg_store.specs.Block.{documents_in, is_block}
 use Rattle.seg_store.specs.Store.{checkpoints_of, document_count}
 use Rattle.seg_store.specs.Parts.{are_parts, are_blocks}
-use Rattle.seg_store.proofs.Cutting.{and-true, ends-next}
-use Rattle.seg_store.proofs.Places.{drop-at}
+use Rattle.seg_store.proofs.Cutting.{ends-next}
 use Rattle.seg_store.proofs.Tables.{number_at, length-numbers_of, length-checkpoints_of}
 
 -- ---- parts
@@ -24,9 +25,9 @@ pub record IsPart (test : List ℕ → Bool) (start end : ℕ) (ends bytes : Lis
 
 pub first_part : (test : List ℕ → Bool) (start end : ℕ) (ends bytes : List ℕ) → are_parts test start (end ∷ ends) bytes ≡ true → IsPart test start end ends bytes
 first_part test start end ends bytes h =
-    let p = and-true _ _ h in
+    let p = and_parts _ _ h in
     let n = ends-next start (length bytes) end ends p.0 in
-    let q = and-true _ _ p.1 in
+    let q = and_parts _ _ p.1 in
     record { from = n.from; within = n.within; passes = q.0; others = rw (n.others, q.1) refl }
 
 part_passed : (test : List ℕ → Bool) (start end : ℕ) (ends bytes : List ℕ) → start ≤ end → test (slice_range bytes start end) ≡ true → are_parts test start (end ∷ ends) bytes ≡ are_parts test end ends bytes
@@ -37,7 +38,7 @@ abbrev pub PartsPassed : (List ℕ → Bool) → (count : ℕ) (table bytes : Li
 PartsPassed test count table bytes start index = are_parts test 0 (numbers_of count table) bytes ≡ are_parts test start (drop index (numbers_of count table)) bytes
 
 next : (count : ℕ) (table : List ℕ) (i : ℕ) → i < count → drop i (numbers_of count table) ≡ u64_at table (8 * i) ∷ drop (i + 1) (numbers_of count table)
-next count table i lt = drop-at (numbers_of count table) i (u64_at table (8 * i)) (number_at count table i lt)
+next count table i lt = drop-slice_get (numbers_of count table) i (u64_at table (8 * i)) (number_at count table i lt)
 
 pub part_turn : (test : List ℕ → Bool) (count : ℕ) (table bytes : List ℕ) (start index end : ℕ) → index < count → end ≡ u64_at table (8 * index) → PartsPassed test count table bytes start index → start ≤ end → test (slice_range bytes start end) ≡ true → PartsPassed test count table bytes end (index + 1)
 part_turn test count table bytes start index end lt is so_far le ok =
@@ -52,15 +53,11 @@ part_stops test count table bytes start index end lt is so_far refused =
     so_far ∙ here ∙ false_from_ne_true (are_parts test start (end ∷ drop (index + 1) (numbers_of count table)) bytes)
     (λ h. let p = first_part test start end (drop (index + 1) (numbers_of count table)) bytes h in refused p.from p.within p.passes)
 
-and-true-right : (b : Bool) → (b && true) ≡ b
-and-true-right true = refl
-and-true-right false = refl
-
 pub parts_end : (test : List ℕ → Bool) (count : ℕ) (table bytes : List ℕ) (start index : ℕ) → count ≤ index → PartsPassed test count table bytes start index → are_parts test 0 (numbers_of count table) bytes ≡ (start == length bytes)
 parts_end test count table bytes start index past so_far =
     so_far
     ∙ ap (λ es. are_parts test start es bytes) (drop_all index (numbers_of count table) (omega (arith, past, length-numbers_of count table)))
-    ∙ and-true-right (start == length bytes)
+    ∙ and-true (start == length bytes)
 
 -- ---- blocks
 
@@ -73,11 +70,11 @@ pub record IsBlockFirst (first total start doc_end byte_end : ℕ) (others : Lis
 
 pub first_block : (first total start doc_end byte_end : ℕ) (others : List (ℕ × ℕ)) (bytes : List ℕ) → are_blocks first total start ((doc_end, byte_end) ∷ others) bytes ≡ true → IsBlockFirst first total start doc_end byte_end others bytes
 first_block first total start doc_end byte_end others bytes h =
-    let p = and-true _ _ h in
+    let p = and_parts _ _ h in
     let n = ends-next start (length bytes) byte_end (map (λ c. c.1) others) p.0 in
-    let q = and-true _ _ p.1 in
-    let r = and-true _ _ q.1 in
-    record { from = n.from; within = n.within; block = (and-true _ _ q.0).0; documents = eqb-true _ _ (and-true _ _ r.0).0 }
+    let q = and_parts _ _ p.1 in
+    let r = and_parts _ _ q.1 in
+    record { from = n.from; within = n.within; block = (and_parts _ _ q.0).0; documents = eqb-true _ _ (and_parts _ _ r.0).0 }
 
 block_numbered : (first total start byte_end : ℕ) (others : List (ℕ × ℕ)) (bytes : List ℕ) → start ≤ byte_end → is_block (slice_range bytes start byte_end) ≡ true → are_blocks first total start ((first + length (documents_in (slice_range bytes start byte_end)), byte_end) ∷ others) bytes ≡ are_blocks (first + length (documents_in (slice_range bytes start byte_end))) total byte_end others bytes
 block_numbered first total start byte_end others bytes le ok =
@@ -97,7 +94,7 @@ BlocksPassed total count table bytes first start index = are_blocks 0 total 0 (c
 pub block_turn : (total count : ℕ) (table bytes : List ℕ) (first start index doc_end byte_end : ℕ) → slice_get (checkpoints_of count table) index ≡ Some (doc_end, byte_end) → BlocksPassed total count table bytes first start index → start ≤ byte_end → is_block (slice_range bytes start byte_end) ≡ true → doc_end ≡ first + length (documents_in (slice_range bytes start byte_end)) → BlocksPassed total count table bytes doc_end byte_end (index + 1)
 block_turn total count table bytes first start index doc_end byte_end is so_far le ok numbered =
     so_far
-    ∙ ap (λ cs. are_blocks first total start cs bytes) (drop-at (checkpoints_of count table) index (doc_end, byte_end) is)
+    ∙ ap (λ cs. are_blocks first total start cs bytes) (drop-slice_get (checkpoints_of count table) index (doc_end, byte_end) is)
     ∙ block_passed first total start doc_end byte_end (drop (index + 1) (checkpoints_of count table)) bytes le ok numbered
 
 -- a block that isn't there, is none, or has another number of documents
@@ -105,7 +102,7 @@ pub block_stops : (total count : ℕ) (table bytes : List ℕ) (first start inde
 block_stops total count table bytes first start index doc_end byte_end is so_far refused =
     let others = drop (index + 1) (checkpoints_of count table) in
     so_far
-    ∙ ap (λ cs. are_blocks first total start cs bytes) (drop-at (checkpoints_of count table) index (doc_end, byte_end) is)
+    ∙ ap (λ cs. are_blocks first total start cs bytes) (drop-slice_get (checkpoints_of count table) index (doc_end, byte_end) is)
     ∙ false_from_ne_true (are_blocks first total start ((doc_end, byte_end) ∷ others) bytes)
     (λ h. let p = first_block first total start doc_end byte_end others bytes h in refused p.from p.within p.block p.documents)
 

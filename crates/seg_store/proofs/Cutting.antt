@@ -1,25 +1,22 @@
 -- Ends, and what they cut bytes into.
-use Rattle.std.proofs.Common.{◌≡◌, ℕ, suc, ◌+◌, ◌*◌, ◌-◌, ◌<◌, ◌≤◌, ◌^◌, Bool, true, false, List, [], ◌∷◌, ◌++◌, length, take, drop, refl, sym, ap, ◌∙◌, arith, ◌&&◌, slice_range}
+use Rattle.std.proofs.Common.{◌≡◌, ℕ, suc, ◌+◌, ◌-◌, ◌<◌, ◌≤◌, ◌^◌, true, List, [], ◌∷◌, ◌++◌, length, take, drop, refl, sym, ap, ◌∙◌, arith, slice_range}
 use Rattle.std.specs.Prelude.{nat_le}
 use Rattle.std.specs.List.{flat_map, AllByRecursion}
-use Rattle.std.specs.Int.{w32, w64, from_le_bytes, to_le_bytes}
-use Rattle.std.proofs.lemmas.List.{length-drop, length-take-le, length-append, drop-append-le, take-append-le, take_at, drop_at, take_all, append-nil}
-use Rattle.std.proofs.lemmas.Nat.{from_le_bytes-to_le_bytes_4, from_le_bytes-to_le_bytes_8}
-use Rattle.std.proofs.lemmas.Bool.{leb-true, eqb-true, le-leb, eq-eqb}
+use Rattle.std.specs.Int.{w32, w64, to_le_bytes}
+use Rattle.std.proofs.lemmas.List.{length-append, take_at, drop_at, take_all, append-nil}
+use Rattle.std.proofs.lemmas.Bool.{leb-true, eqb-true, le-leb, eq-eqb, and_parts}
 use Rattle.seg_common.specs.LittleEndian.{u32_at, u64_at}
+use Rattle.seg_common.proofs.Lists.{range-front, length-range}
+use Rattle.seg_common.proofs.Bytes.{u32_at-written, u64_at-written}
 use Rattle.seg_store.specs.Ends.{numbers_of, are_ends, cut_from, last_bytes, but_last}
 use Rattle.seg_store.specs.Writing.{byte_count}
 
 -- ---- ends
 
-pub and-true : (a b : Bool) → (a && b) ≡ true → (a ≡ true) × (b ≡ true)
-and-true true b e = (refl, e)
-and-true false b e = absurd cc
-
 pub ends-low : (start total : ℕ) (es : List ℕ) → are_ends start total es ≡ true → start ≤ total
 ends-low start total [] h = omega (arith, eqb-true start total h)
 ends-low start total (e ∷ es) h =
-    let p = and-true (nat_le start e) (are_ends e total es) h in
+    let p = and_parts (nat_le start e) (are_ends e total es) h in
     omega (arith, leb-true start e p.0, ends-low e total es p.1)
 
 pub record IsNext (start total e : ℕ) (es : List ℕ) : Type 0 where
@@ -29,7 +26,7 @@ pub record IsNext (start total e : ℕ) (es : List ℕ) : Type 0 where
 
 pub ends-next : (start total e : ℕ) (es : List ℕ) → are_ends start total (e ∷ es) ≡ true → IsNext start total e es
 ends-next start total e es h =
-    let p = and-true _ _ h in
+    let p = and_parts _ _ h in
     record { from = leb-true start e p.0; within = ends-low e total es p.1; others = p.1 }
 
 ends-go : (start total e : ℕ) (es : List ℕ) → start ≤ e → are_ends start total (e ∷ es) ≡ are_ends e total es
@@ -50,9 +47,6 @@ ends-below limit start total (e ∷ es) h lt =
 
 -- ---- parts
 
-pub range-front : (body more : List ℕ) (s e : ℕ) → s ≤ e → e ≤ length body → slice_range (body ++ more) s e ≡ slice_range body s e
-range-front body more s e se h = ap (take (e - s)) (drop-append-le s body more (omega arith)) ∙ take-append-le (e - s) (drop s body) more (omega (arith, length-drop s body))
-
 pub cut-push : (start : ℕ) (es : List ℕ) (body more : List ℕ) (e : ℕ) → are_ends start (length body) es ≡ true → e ≡ length body + length more → cut_from start (es ++ e ∷ []) (body ++ more) ≡ cut_from start es body ++ more ∷ []
 cut-push start [] body more e h len =
     let s = eqb-true start (length body) h in
@@ -66,9 +60,6 @@ cut-push start (x ∷ es) body more e h len =
 pub length-cut : (start : ℕ) (es body : List ℕ) → length (cut_from start es body) ≡ length es
 length-cut start [] body = refl
 length-cut start (e ∷ es) body = ap suc (length-cut e es body)
-
-pub length-range : (body : List ℕ) (s e : ℕ) → s ≤ e → e ≤ length body → length (slice_range body s e) ≡ e - s
-length-range body s e se h = length-take-le (e - s) (drop s body) (omega (arith, length-drop s body))
 
 -- the parts have all bytes from the start on
 pub bytes-cut : (start : ℕ) (es body : List ℕ) → are_ends start (length body) es ≡ true → start + byte_count (cut_from start es body) ≡ length body
@@ -88,23 +79,9 @@ but_last-appended a b n e = take_at a b (length (a ++ b) - n) (omega (arith, len
 
 -- ---- numbers
 
-pub u32_at-written : (a b : List ℕ) (n at : ℕ) → n < 2 ^ 32 → length a ≡ at → u32_at (a ++ (to_le_bytes w32 n ++ b)) at ≡ n
-unfolding u32_at
-u32_at-written a b n at lt h = ap (λ (l : List ℕ). from_le_bytes w32 (take 4 l)) (drop_at a (to_le_bytes w32 n ++ b) at h) ∙ ap (from_le_bytes w32) (take_at (to_le_bytes w32 n) b 4 refl) ∙ from_le_bytes-to_le_bytes_4 n lt
-
-pub u64_at-written : (a b : List ℕ) (n at : ℕ) → n < 2 ^ 64 → length a ≡ at → u64_at (a ++ (to_le_bytes w64 n ++ b)) at ≡ n
-unfolding u64_at
-u64_at-written a b n at lt h = ap (λ (l : List ℕ). from_le_bytes w64 (take 8 l)) (drop_at a (to_le_bytes w64 n ++ b) at h) ∙ ap (from_le_bytes w64) (take_at (to_le_bytes w64 n) b 8 refl) ∙ from_le_bytes-to_le_bytes_8 n lt
-
 -- a number by itself
 pub u32_at-alone : (n : ℕ) → n < 2 ^ 32 → u32_at (to_le_bytes w32 n) 0 ≡ n
 u32_at-alone n lt = ap (λ (l : List ℕ). u32_at l 0) (sym (append-nil (to_le_bytes w32 n))) ∙ u32_at-written [] [] n 0 lt refl
-
-pub length-numbers : (ns : List ℕ) → length (flat_map (to_le_bytes w64) ns) ≡ 8 * length ns
-length-numbers [] = refl
-length-numbers (n ∷ ns) =
-    let eight : length (to_le_bytes w64 n) ≡ 8 = refl in
-    omega (arith, length-append (to_le_bytes w64 n) (flat_map (to_le_bytes w64) ns), eight, length-numbers ns)
 
 pub numbers_read : (ns : List ℕ) → AllByRecursion (λ n. n < 2 ^ 64) ns → numbers_of (length ns) (flat_map (to_le_bytes w64) ns) ≡ ns
 numbers_read [] all = refl

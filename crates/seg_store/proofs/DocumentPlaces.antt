@@ -9,15 +9,18 @@ use Rattle.std.proofs.lemmas.List.{length-take, length-drop, length-map, take_al
 use Rattle.std.proofs.lemmas.List.Folds.{list_all-append}
 use Rattle.std.proofs.lemmas.Option.{none-some, same_Some, slice_get-map}
 use Rattle.seg_common.specs.LittleEndian.{u32_at, u64_at}
+use Rattle.seg_common.proofs.Lists.{length-range}
+use Rattle.seg_common.proofs.Bytes.{u32_at-drop}
 use Rattle.seg_store.specs.Ends.{but_last, numbers_of, are_ends, cut_from, start_of}
-use Rattle.seg_store.specs.StoredDocument.{is_stored_document}
+use Rattle.seg_stored.specs.StoredDocument.{is_stored_document}
 use Rattle.seg_store.specs.Block.{Block, block_count, block_table, block_ends, block_body, documents_in, is_block}
 use Rattle.seg_store.specs.Store.{footer, store_count, store_table, checkpoints_of, store_checkpoints, store_body, store_parts, id_ends, document_count, raw_documents, blocks_of, is_store}
 use Rattle.seg_store.specs.Checkpoints.{stored_size}
 use Rattle.seg_store.specs.Writing.{byte_count}
-use Rattle.seg_store.proofs.Cutting.{length-cut, length-range, ends-next, bytes-cut as bytes_cut}
-use Rattle.seg_store.proofs.Tables.{u32_behind, number_at, checkpoint_found, length-numbers_of, length-checkpoints_of}
+use Rattle.seg_store.proofs.Cutting.{length-cut, ends-next, bytes-cut as bytes_cut}
+use Rattle.seg_store.proofs.Tables.{number_at, checkpoint_found, length-numbers_of, length-checkpoints_of}
 use Rattle.seg_store.proofs.PartPlaces.{get-left, get-right, passes_at, range_in_take, part_at, starts_after}
+use Rattle.seg_store.proofs.Blocks.{documents_by}
 
 -- ---- documents of a block
 
@@ -35,12 +38,8 @@ block_facts block h =
     let r = and_parts (are_ends 0 (length (block_body block)) (block_ends block)) _ q.1 in
     record { some = ltb-true 0 (block_count block) p.0; room = leb-true (4 + 8 * block_count block) (length block) q.0; ends = r.0; stored = r.1 }
 
-documents_cut : (block : List ℕ) → documents_in block ≡ cut_from 0 (block_ends block) (block_body block)
-unfolding documents_in
-documents_cut block = refl
-
 pub count_is : (block : List ℕ) → length (documents_in block) ≡ block_count block
-count_is block = ap length (documents_cut block) ∙ length-cut 0 (block_ends block) (block_body block) ∙ length-numbers_of (block_count block) (block_table block)
+count_is block = ap length (documents_by block) ∙ length-cut 0 (block_ends block) (block_body block) ∙ length-numbers_of (block_count block) (block_table block)
 
 -- a document of a block
 pub record IsDocumentAt (block : List ℕ) (i start end : ℕ) : Type 0 where
@@ -67,7 +66,7 @@ document_at block i start end h lt start_is end_is =
     record {
       from = omega (arith, p.from, start_is, end_is);
       within = omega (arith, p.within, body_within block, end_is);
-      is = ap (λ ds. slice_get ds i) (documents_cut block) ∙ p.cut ∙ ap Some cut;
+      is = ap (λ ds. slice_get ds i) (documents_by block) ∙ p.cut ∙ ap Some cut;
     }
 
 -- ---- blocks of a store
@@ -276,14 +275,14 @@ pub total_at : (bytes : List ℕ) → is_store bytes ≡ true → u32_at bytes (
 total_at bytes h =
     let f = store_facts bytes h in
     let place : length bytes - 9 + 4 ≡ length bytes - 5 = omega (arith, f.room) in
-    sym (ap (u32_at bytes) place) ∙ sym (u32_behind bytes (length bytes - 9) 4) ∙ f.total
+    sym (ap (u32_at bytes) place) ∙ sym (u32_at-drop bytes (length bytes - 9) 4) ∙ f.total
 
 -- ---- where blocks end
 
 block_size_is : (block : List ℕ) → is_block block ≡ true → length block ≡ stored_size (documents_in block ∷ [])
 block_size_is block h =
     let f = block_facts block h in
-    let documents = ap byte_count (documents_cut block) in
+    let documents = ap byte_count (documents_by block) in
     let all = bytes_cut 0 (block_ends block) (block_body block) f.ends in
     let rest = length-take (length block - 4) block in
     let body = length-take (length (but_last 4 block) - 8 * block_count block) (but_last 4 block) in

@@ -1,6 +1,6 @@
 -- Documents of a store by their places.
-use Rattle.std.proofs.Common.{◌≡◌, ℕ, zero, suc, true, false, List, length, [], ◌∷◌, ◌++◌, Option, Some, None, refl, sym, ap, ◌∙◌}
-use Rattle.std.specs.Prelude.{is_some, nat_eq}
+use Rattle.std.proofs.Common.{◌≡◌, ℕ, zero, suc, true, List, [], ◌∷◌, ◌++◌, Option, Some, None, refl, sym, ap, ◌∙◌}
+use Rattle.std.specs.Prelude.{is_some}
 use Rattle.std.specs.List.{slice_get, list_all, flat_map}
 use Rattle.std.specs.Option.{option_to_list, option_and_then}
 use Rattle.std.proofs.lemmas.Bool.{and_parts, false≢true}
@@ -8,10 +8,8 @@ use Rattle.std.proofs.lemmas.Grind.{flat_map-append}
 use Rattle.seg_values.specs.Tree.{Document}
 use Rattle.seg_store.specs.Block.{Block}
 use Rattle.seg_store.specs.Store.{store_parts, raw_documents, documents_of, blocks_of, is_store}
-use Rattle.seg_store.specs.Reader.{counted_at}
-use Rattle.seg_store.specs.StoredDocument.{pair_at, all_read, stored_document_of, is_stored_document}
+use Rattle.seg_stored.specs.StoredDocument.{stored_document_of, is_stored_document}
 use Rattle.seg_store.proofs.DocumentPlaces.{all_stored, blocks_cut, store_facts}
-use Rattle.seg_store.proofs.PassedPairs.{not_none}
 
 first_read : (o : Option Document) (others : List Document) → is_some o ≡ true → slice_get (option_to_list o ++ others) zero ≡ o
 first_read None others some = absurd (false≢true some)
@@ -21,10 +19,11 @@ others_read : (o : Option Document) (others : List Document) (i : ℕ) → is_so
 others_read None others i some = absurd (false≢true some)
 others_read (Some d) others i some = refl
 
-abbrev read_all : List (List ℕ) → List Document
+abbrev pub read_all : List (List ℕ) → List Document
 read_all raws = flat_map (λ d. option_to_list (stored_document_of d)) raws
 
-documents_are_read : (bs : List Block) → documents_of bs ≡ read_all (raw_documents bs)
+-- the documents of blocks are read from their bytes
+pub documents_are_read : (bs : List Block) → documents_of bs ≡ read_all (raw_documents bs)
 documents_are_read [] = refl
 documents_are_read (b ∷ bs) =
     ap (λ ds. read_all b ++ ds) (documents_are_read bs) ∙ sym (flat_map-append (λ d. option_to_list (stored_document_of d)) b (raw_documents bs))
@@ -47,28 +46,6 @@ all_are_stored bytes h = ap (λ bs. list_all is_stored_document (raw_documents b
 pub document_read : (bytes : List ℕ) (doc : ℕ) (x : List ℕ) → is_store bytes ≡ true → slice_get (raw_documents (blocks_of bytes)) doc ≡ Some x → slice_get (documents_of (blocks_of bytes)) doc ≡ stored_document_of x
 document_read bytes doc x h is =
     stored_read (blocks_of bytes) doc (all_are_stored bytes h) ∙ ap (option_and_then stored_document_of) is
-
--- ---- a document by its pairs
-
-pub document_lacks : (bytes : List ℕ) → counted_at pair_at bytes ≡ None → stored_document_of bytes ≡ None
-unfolding stored_document_of
-document_lacks bytes none = ap all_read none
-
-only_whole : (pairs : Document) (left : List ℕ) → nat_eq (length left) 0 ≡ true → all_read (Some (pairs, left)) ≡ Some pairs
-only_whole pairs [] empty = refl
-only_whole pairs (b ∷ left) empty = absurd (false≢true (sym (not_none (length left)) ∙ empty))
-
-left_over : (pairs : Document) (left : List ℕ) → nat_eq (length left) 0 ≡ false → all_read (Some (pairs, left)) ≡ None
-left_over pairs [] some = absurd (false≢true (sym some))
-left_over pairs (b ∷ left) some = refl
-
-pub document_whole : (bytes left : List ℕ) (pairs : Document) → counted_at pair_at bytes ≡ Some (pairs, left) → nat_eq (length left) 0 ≡ true → stored_document_of bytes ≡ Some pairs
-unfolding stored_document_of
-document_whole bytes left pairs is empty = ap all_read is ∙ only_whole pairs left empty
-
-pub document_left_over : (bytes left : List ℕ) (pairs : Document) → counted_at pair_at bytes ≡ Some (pairs, left) → nat_eq (length left) 0 ≡ false → stored_document_of bytes ≡ None
-unfolding stored_document_of
-document_left_over bytes left pairs is some = ap all_read is ∙ left_over pairs left some
 
 pub not_stored : (bytes : List ℕ) → is_stored_document bytes ≡ true → stored_document_of bytes ≡ None → ⊥
 not_stored bytes stored none = false≢true (sym (ap is_some none) ∙ stored)

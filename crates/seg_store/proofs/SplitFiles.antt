@@ -1,19 +1,16 @@
 -- Blocks and stores by their parts.
 use Rattle.std.proofs.Common.{◌≡◌, ℕ, ◌+◌, ◌*◌, ◌<◌, ◌≤◌, Bool, true, false, List, length, map, refl, sym, ap, ◌∙◌, arith, ◌&&◌, slice_index}
 use Rattle.std.specs.Prelude.{◌==◌, nat_lt, nat_le}
-use Rattle.std.proofs.lemmas.Bool.{and_left, and_right, lt-ltb, le-leb}
+use Rattle.std.proofs.lemmas.Bool.{and_left, and_right, lt-ltb, le-leb, lt-leb}
 use Rattle.std.proofs.lemmas.Bool.Decides.{nat_tests}
 use Rattle.seg_common.specs.LittleEndian.{u32_at}
 use Rattle.seg_store.specs.Ends.{last_bytes, but_last, numbers_of, cut_from}
-use Rattle.seg_store.specs.StoredDocument.{is_stored_document}
+use Rattle.seg_stored.specs.StoredDocument.{is_stored_document}
 use Rattle.seg_store.specs.Block.{block_count, block_body, documents_in, is_block}
 use Rattle.seg_store.specs.Store.{footer, store_count, checkpoints_of, store_checkpoints, store_body, is_store, document_count}
 use Rattle.seg_store.specs.Parts.{are_parts, are_blocks}
 use Rattle.seg_store.proofs.Cutting.{length-cut}
 use Rattle.seg_store.proofs.Tables.{length-numbers_of}
-
-past : (m n : ℕ) → n < m → nat_le m n ≡ false
-past m n lt = grind (arith, nat_tests)
 
 -- ---- blocks
 
@@ -29,13 +26,13 @@ unfolding documents_in
 documents_by bytes = refl
 
 pub no_footer : (bytes : List ℕ) → length bytes < 4 → is_block bytes ≡ false
-no_footer bytes lt = block_by bytes ∙ and_right (nat_lt 0 (block_count bytes)) _ (and_left (nat_le (4 + 8 * block_count bytes) (length bytes)) _ (past (4 + 8 * block_count bytes) (length bytes) (omega (arith, lt))))
+no_footer bytes lt = block_by bytes ∙ and_right (nat_lt 0 (block_count bytes)) _ (and_left (nat_le (4 + 8 * block_count bytes) (length bytes)) _ (lt-leb (4 + 8 * block_count bytes) (length bytes) (omega (arith, lt))))
 
 pub no_documents : (bytes : List ℕ) → block_count bytes ≡ 0 → is_block bytes ≡ false
 no_documents bytes none = block_by bytes ∙ and_left (nat_lt 0 (block_count bytes)) _ (ap (nat_lt 0) none)
 
 pub no_ends : (bytes : List ℕ) → length bytes < 4 + 8 * block_count bytes → is_block bytes ≡ false
-no_ends bytes lt = block_by bytes ∙ and_right (nat_lt 0 (block_count bytes)) _ (and_left (nat_le (4 + 8 * block_count bytes) (length bytes)) _ (past (4 + 8 * block_count bytes) (length bytes) lt))
+no_ends bytes lt = block_by bytes ∙ and_right (nat_lt 0 (block_count bytes)) _ (and_left (nat_le (4 + 8 * block_count bytes) (length bytes)) _ (lt-leb (4 + 8 * block_count bytes) (length bytes) lt))
 
 -- a block that was split: its documents, and the table of their ends
 pub record IsSplit (bytes : List ℕ) (count : ℕ) (body table : List ℕ) : Type 0 where
@@ -90,10 +87,10 @@ unfolding is_store
 store_by bytes = rw (no_sum (document_count (map documents_in (cut_from 0 (map (λ c. c.1) (store_checkpoints bytes)) (store_body bytes))))) refl
 
 pub no_store_footer : (bytes : List ℕ) → length bytes < 9 → is_store bytes ≡ false
-no_store_footer bytes lt = store_by bytes ∙ and_left (nat_le (9 + 12 * store_count bytes) (length bytes)) _ (past (9 + 12 * store_count bytes) (length bytes) (omega (arith, lt)))
+no_store_footer bytes lt = store_by bytes ∙ and_left (nat_le (9 + 12 * store_count bytes) (length bytes)) _ (lt-leb (9 + 12 * store_count bytes) (length bytes) (omega (arith, lt)))
 
 pub no_checkpoints : (bytes : List ℕ) → length bytes < 9 + 12 * store_count bytes → is_store bytes ≡ false
-no_checkpoints bytes lt = store_by bytes ∙ and_left (nat_le (9 + 12 * store_count bytes) (length bytes)) _ (past (9 + 12 * store_count bytes) (length bytes) lt)
+no_checkpoints bytes lt = store_by bytes ∙ and_left (nat_le (9 + 12 * store_count bytes) (length bytes)) _ (lt-leb (9 + 12 * store_count bytes) (length bytes) lt)
 
 not_zero : (n : ℕ) → (n ≡ 0 → ⊥) → (n == 0) ≡ false
 not_zero n other = grind (arith, nat_tests)

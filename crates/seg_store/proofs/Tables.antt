@@ -1,25 +1,17 @@
 -- Tables of ends, and of checkpoints.
-use Rattle.std.proofs.Common.{◌≡◌, ℕ, zero, suc, ◌+◌, ◌*◌, ◌<◌, List, length, take, drop, Some, refl, ap, ◌∙◌, arith, drop-drop}
+use Rattle.std.proofs.Common.{◌≡◌, ℕ, zero, suc, ◌+◌, ◌*◌, ◌<◌, List, length, drop, Some, refl, ap, ◌∙◌, arith}
 use Rattle.std.specs.List.{slice_get}
-use Rattle.std.specs.Int.{w32, w64, from_le_bytes}
 use Rattle.seg_common.specs.LittleEndian.{u32_at, u64_at}
+use Rattle.seg_common.proofs.Bytes.{u32_at-drop, u64_at-drop}
 use Rattle.seg_store.specs.Ends.{numbers_of}
 use Rattle.seg_store.specs.Store.{checkpoints_of}
-
-pub u32_behind : (table : List ℕ) (m at : ℕ) → u32_at (drop m table) at ≡ u32_at table (m + at)
-unfolding u32_at
-u32_behind table m at = ap (λ (l : List ℕ). from_le_bytes w32 (take 4 l)) (drop-drop at m table)
-
-u64_behind : (table : List ℕ) (m at : ℕ) → u64_at (drop m table) at ≡ u64_at table (m + at)
-unfolding u64_at
-u64_behind table m at = ap (λ (l : List ℕ). from_le_bytes w64 (take 8 l)) (drop-drop at m table)
 
 pub number_at : (n : ℕ) (table : List ℕ) (i : ℕ) → i < n → slice_get (numbers_of n table) i ≡ Some (u64_at table (8 * i))
 number_at zero table i lt = absurd (omega (arith, lt))
 number_at (suc n) table zero lt = refl
 number_at (suc n) table (suc i) lt =
     let past : 8 + 8 * i ≡ 8 * suc i = omega arith in
-    number_at n (drop 8 table) i (omega (arith, lt)) ∙ ap Some (u64_behind table 8 (8 * i) ∙ ap (u64_at table) past)
+    number_at n (drop 8 table) i (omega (arith, lt)) ∙ ap Some (u64_at-drop table 8 (8 * i) ∙ ap (u64_at table) past)
 
 pub checkpoint_found : (n : ℕ) (table : List ℕ) (i : ℕ) → i < n → slice_get (checkpoints_of n table) i ≡ Some (u32_at table (12 * i), u64_at table (12 * i + 4))
 checkpoint_found zero table i lt = absurd (omega (arith, lt))
@@ -27,8 +19,8 @@ checkpoint_found (suc n) table zero lt = refl
 checkpoint_found (suc n) table (suc i) lt =
     let past : 12 + 12 * i ≡ 12 * suc i = omega arith in
     let further : 12 + (12 * i + 4) ≡ 12 * suc i + 4 = omega arith in
-    let ids = u32_behind table 12 (12 * i) ∙ ap (u32_at table) past in
-    let ends = u64_behind table 12 (12 * i + 4) ∙ ap (u64_at table) further in
+    let ids = u32_at-drop table 12 (12 * i) ∙ ap (u32_at table) past in
+    let ends = u64_at-drop table 12 (12 * i + 4) ∙ ap (u64_at table) further in
     checkpoint_found n (drop 12 table) i (omega (arith, lt)) ∙ (λ j. Some (ids j, ends j))
 
 pub length-numbers_of : (n : ℕ) (table : List ℕ) → length (numbers_of n table) ≡ n

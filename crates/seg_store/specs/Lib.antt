@@ -6,13 +6,6 @@ pub mod Cache
 pub mod CachedBlocks
 pub mod Checkpoints
 pub mod Ends
-pub mod Making
 pub mod Parts
-pub mod Passing
-pub mod Reader
-pub mod Storable
 pub mod Store
-pub mod StoredDocument
-pub mod StoredLaw
-pub mod StoredTree
 pub mod Writing

@@ -5,8 +5,8 @@ ghost use Rattle.seg_store.specs.Cache.{unused, after_use, after_get};
 ghost use Rattle.seg_store.specs.Store.{store_of, document_count, documents_of};
 
 use crate::block_cache::BlockCache;
+use crate::block_reader::document_in_block;
 use crate::cache_stats::CacheStats;
-use crate::document_reader::document_in_block;
 use crate::error::StoreError;
 use crate::store_reader::StoreReader;
 use seg_common::OwnedBytes;

@@ -2,16 +2,15 @@
 ghost use Rattle.std.specs.Prelude.{◌≡◌, ◌≢◌, ◌<◌, ◌-◌, ◌^◌, ◌⊎◌, ◌↔◌, [], true, Option, Some, None, Err, option_map, IfOk, IfErr, IfSome, OnOk};
 ghost use Rattle.seg_common.specs.Growing.{HasGrown};
 ghost use Rattle.seg_model.specs.Reading.{stored_document};
-ghost use Rattle.seg_model.specs.StoredForm.{stored_form};
-ghost use Rattle.seg_store.specs.StoredDocument.{stored_document_of, is_stored_document};
-ghost use Rattle.seg_store.specs.StoredLaw.{AreShallow};
+ghost use Rattle.seg_values.specs.StoredForm.{stored_form};
+ghost use Rattle.seg_stored.specs.StoredDocument.{stored_document_of, is_stored_document};
+ghost use Rattle.seg_stored.specs.StoredLaw.{AreShallow};
 ghost use Rattle.seg_store.specs.Store.{store_of};
 ghost use Rattle.seg_store.specs.Writing.{Taken, with_document, all_blocks, taken_count, taken_bytes};
 
 use crate::error::StoreError;
 use crate::written_blocks::WrittenBlocks;
-use seg_meta::Compressor;
-use seg_values::{Schema, TantivyDocument};
+use seg_values::{Compressor, Schema, TantivyDocument};
 use std::alloc::Global;
 use std::marker::Model;
 

@@ -3,16 +3,16 @@ ghost use Rattle.std.specs.Prelude.{◌≡◌, ◌≢◌, ◌≤◌, ◌<◌, �
 ghost use Rattle.std.specs.List.{flat_map};
 ghost use Rattle.std.specs.Int.{w32, w64, to_le_bytes};
 ghost use Rattle.seg_model.specs.Reading.{stored_document};
-ghost use Rattle.seg_model.specs.StoredForm.{stored_form};
-ghost use Rattle.seg_store.specs.StoredDocument.{stored_document_of, is_stored_document};
-ghost use Rattle.seg_store.specs.StoredLaw.{AreShallow};
+ghost use Rattle.seg_values.specs.StoredForm.{stored_form};
+ghost use Rattle.seg_stored.specs.StoredDocument.{stored_document_of, is_stored_document};
+ghost use Rattle.seg_stored.specs.StoredLaw.{AreShallow};
 ghost use Rattle.seg_store.specs.Store.{store_of};
 ghost use Rattle.seg_store.specs.Writing.{with_document, closed_if_full, with_closed, all_blocks};
 ghost use Rattle.seg_store.specs.Buffers.{taken_of, IsKept, checkpoint_form};
 
 use crate::checkpoint::Checkpoint;
-use crate::document_writer::put_document;
 use seg_common::{put_u32, put_u64};
+use seg_stored::put_document;
 use seg_values::{Schema, TantivyDocument};
 use std::alloc::{AllocError, Global};
 use std::marker::Model;

@@ -2,17 +2,16 @@
 ghost use Rattle.std.specs.Prelude.{◌≡◌, ◌≤◌, Some, option_map, IfOk, IfErr};
 ghost use Rattle.seg_values.specs.Tree.{levels};
 ghost use Rattle.seg_values.specs.View.{tree_of};
-ghost use Rattle.seg_store.specs.StoredLaw.{AreShallow};
+ghost use Rattle.seg_stored.specs.StoredLaw.{AreShallow};
 ghost use Rattle.seg_store.specs.Writing.{all_blocks};
 
 use seg_common::{DateTime, OwnedBytes};
-use seg_meta::Compressor;
 use seg_store::{StoreError, StoreReader, StoreWriter};
 use seg_testing::schema;
 use seg_values::{
-    Bytes, Facet, Field, FieldKind, IndexOption, Members, OwnedValue, PreTokenizedString,
-    TantivyDocument, Text, Token, Tokens, Values,
+    Compressor, Facet, Field, FieldKind, IndexOption, Members, OwnedValue, TantivyDocument, Values,
 };
+use seg_words::{Bytes, PreTokenizedString, Text, Token, Tokens};
 use std::alloc::{AllocError, Global};
 use std::net::Ipv6Addr;
 use std::test::Fail;

@@ -1,11 +1,10 @@
 //! Stores, against bytes that were written by hand.
 ghost use Rattle.std.specs.Prelude.{◌≡◌, IfOk};
-ghost use Rattle.seg_store.specs.StoredLaw.{AreShallow};
+ghost use Rattle.seg_stored.specs.StoredLaw.{AreShallow};
 
-use seg_meta::Compressor;
 use seg_store::{StoreError, StoreWriter};
 use seg_testing::schema;
-use seg_values::{Field, FieldKind, IndexOption, TantivyDocument};
+use seg_values::{Compressor, Field, FieldKind, IndexOption, TantivyDocument};
 use std::alloc::{AllocError, Global};
 use std::test::Fail;
 

@@ -3,8 +3,9 @@ use Rattle.std.proofs.Common.{◌≡◌, ℕ, ◌+◌, ◌*◌, ◌-◌, ◌^◌
 use Rattle.std.specs.Int.{w32, w64, to_le_bytes}
 use Rattle.std.proofs.lemmas.List.{length-append}
 use Rattle.seg_common.specs.LittleEndian.{u32_at, u64_at}
+use Rattle.seg_common.proofs.Bytes.{u32_at-front, u64_at-front, u32_at-end, u64_at-end}
+use Rattle.seg_common.proofs.Lists.{range-front, range-end}
 use Rattle.seg_termdict.specs.Dictionary.{AreKeys, AreInfos, terms_in, ends_of, keys_of, infos_of, count_of, IsDictionary, terms_of}
-use Rattle.seg_termdict.proofs.Appended.{u32_at-front, u64_at-front, u32_at-end, u64_at-end, range-front, range-end}
 
 -- the parts: a number of keys, the table of their ends, their bytes, a number of infos, these, and a length
 pub record AreParts (ends keys infos : List ℕ) (n store : ℕ) : Type 0 where

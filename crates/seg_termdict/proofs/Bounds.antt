@@ -9,7 +9,7 @@ use Rattle.std.specs.declared.ops.Bound.{Bound}
 use Rattle.std.specs.declared.ops.Bound.TheVariants.{Included, Excluded}
 use Rattle.std.proofs.lemmas.Bool.{cases_lt, false≢true}
 use Rattle.std.proofs.lemmas.Cmp.{nat_list_cmp_total}
-use Rattle.seg_model.specs.SortedTerms.{is_from}
+use Rattle.seg_termdict.specs.SortedTerms.{is_from}
 use Rattle.seg_termdict.specs.Dictionary.{Term, key_of, AreKeys}
 use Rattle.seg_termdict.specs.Ranges.{comes_before, key_at, IsCut}
 use Rattle.seg_termdict.proofs.KeyOrder.{rising, same_keys}

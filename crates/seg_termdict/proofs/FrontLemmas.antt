@@ -11,7 +11,7 @@ use Rattle.std.proofs.lemmas.Bool.{false≢true}
 use Rattle.std.proofs.lemmas.List.Elements.{All-contains, All-from_recursion}
 use Rattle.std.proofs.lemmas.List.Sorted.{IsPermutation-map}
 use Rattle.std.proofs.lemmas.Slice.Eq.{bytes_eq-Decides}
-use Rattle.seg_model.specs.SortedTerms.{key_cmp}
+use Rattle.seg_termdict.specs.SortedTerms.{key_cmp}
 use Rattle.seg_termdict.specs.Fronts.{Entry, Front, IsFirstFront, comes_before, front_of, greatest_first}
 use Rattle.seg_termdict.proofs.MergeSteps.{at_most_not_same}
 

@@ -7,10 +7,10 @@ use Rattle.std.specs.declared.cmp.Ordering.TheVariants.{Less}
 use Rattle.std.proofs.lemmas.Bool.{cases_lt, lt-ltb, le-ltb}
 use Rattle.std.proofs.lemmas.List.{length-append}
 use Rattle.seg_common.specs.declared.term_info.TermInfo.{TermInfo}
+use Rattle.seg_common.proofs.Bytes.{u64_at-written, u64_at-end}
 use Rattle.seg_termdict.specs.Dictionary.{Term, key_of, term_of, terms_in, postings_start, positions_start, info_of}
 use Rattle.seg_termdict.specs.Building.{Building, complete, with_key, with_info, last_term, MayFollow, postings_end, positions_end, Continues}
 use Rattle.seg_termdict.specs.Writing.{AreWritten, waiting_in, written, info_bytes, HasWidths}
-use Rattle.seg_termdict.proofs.Appended.{u64_at-then, u64_at-end}
 use Rattle.seg_termdict.proofs.LastTerm.{last_term-terms_in, terms_in-more, terms_in-same}
 use Rattle.seg_termdict.proofs.KeyLemmas.{key_start-first, last_key, key_of-front, start_before, key_after, keys_after}
 use Rattle.seg_termdict.proofs.InfoLemmas.{IsNext, info_of-front, info_after, infos_after, postings_from_after, positions_from_after}
@@ -73,7 +73,7 @@ none_written = record {
   infos_length = refl;
   keys_are = record { rise = λ i h. absurd (omega arith); fill = key_start-first []; ascend = λ i h. absurd (omega arith) };
   infos_are = record { first_postings = λ h. absurd (omega arith); first_positions = λ h. absurd (omega arith); postings = λ i h. absurd (omega arith); positions = λ i h. absurd (omega arith) };
-  postings_from = u64_at-then [] (to_le_bytes w64 0) 0 0 (omega arith) refl;
+  postings_from = u64_at-written [] (to_le_bytes w64 0) 0 0 (omega arith) refl;
   positions_from = u64_at-end (to_le_bytes w64 0) 0 8 (omega arith) refl;
   fewer = omega arith;
   one_waits = omega arith;

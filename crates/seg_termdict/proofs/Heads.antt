@@ -6,8 +6,8 @@ use Rattle.std.specs.List.Sorted.{IsStrictlySortedBy}
 use Rattle.std.proofs.lemmas.Bool.{lt-ltb, ltb-true, false≢true, cond-true}
 use Rattle.std.proofs.lemmas.List.{length-drop, drop_more, drop_all}
 use Rattle.seg_common.specs.declared.term_info.TermInfo.{TermInfo}
-use Rattle.seg_model.specs.SortedTerms.{RankedTerm, key_cmp}
-use Rattle.seg_model.specs.MergedTerms.{keys_in}
+use Rattle.seg_termdict.specs.SortedTerms.{RankedTerm, key_cmp}
+use Rattle.seg_termdict.specs.MergedTerms.{keys_in}
 use Rattle.seg_termdict.specs.Dictionary.{Term}
 use Rattle.seg_termdict.specs.Streaming.{Stream, no_term, current, advanced}
 use Rattle.seg_termdict.specs.Ranges.{ranked_terms}

@@ -5,9 +5,9 @@ use Rattle.std.proofs.lemmas.Bool.{cases_lt}
 use Rattle.std.proofs.lemmas.List.{length-append, append_assoc}
 use Rattle.seg_common.specs.LittleEndian.{u32_at, u64_at}
 use Rattle.seg_common.specs.declared.term_info.TermInfo.{TermInfo}
+use Rattle.seg_common.proofs.Bytes.{u32_at-front, u64_at-front, u32_at-written, u64_at-written, u64_at-end}
 use Rattle.seg_termdict.specs.Dictionary.{postings_start, positions_start, info_of, AreInfos}
 use Rattle.seg_termdict.specs.Writing.{info_bytes, HasWidths}
-use Rattle.seg_termdict.proofs.Appended.{u32_at-front, u64_at-front, u32_at-then, u64_at-then, u64_at-end}
 
 postings_start-front : (infos more : List ℕ) (count i : ℕ) → length infos ≡ 16 + 20 * count → i ≤ count → postings_start (infos ++ more) i ≡ postings_start infos i
 unfolding postings_start
@@ -31,14 +31,14 @@ pub record IsNext (infos : List ℕ) (count : ℕ) (info : TermInfo) : Type 0 wh
 
 module _ (infos : List ℕ) (count : ℕ) (info : TermInfo) (len : length infos ≡ 16 + 20 * count) (fit : HasWidths info) where
   doc_freq_after : u32_at (infos ++ info_bytes info) (16 + 20 * count) ≡ info.doc_freq
-  doc_freq_after = u32_at-then infos (to_le_bytes w64 info.postings_end ++ to_le_bytes w64 info.positions_end) info.doc_freq (16 + 20 * count) fit.doc_freq len
+  doc_freq_after = u32_at-written infos (to_le_bytes w64 info.postings_end ++ to_le_bytes w64 info.positions_end) info.doc_freq (16 + 20 * count) fit.doc_freq len
 
   postings_after : postings_start (infos ++ info_bytes info) (count + 1) ≡ info.postings_end
   unfolding postings_start
   postings_after =
       let first = to_le_bytes w32 info.doc_freq in
       let rest = to_le_bytes w64 info.postings_end ++ to_le_bytes w64 info.positions_end in
-      ap (λ (l : List ℕ). u64_at l (20 * (count + 1))) (sym (append_assoc infos first rest)) ∙ u64_at-then (infos ++ first) (to_le_bytes w64 info.positions_end) info.postings_end (20 * (count + 1)) fit.postings_end (omega (arith, length-append infos first, len))
+      ap (λ (l : List ℕ). u64_at l (20 * (count + 1))) (sym (append_assoc infos first rest)) ∙ u64_at-written (infos ++ first) (to_le_bytes w64 info.positions_end) info.postings_end (20 * (count + 1)) fit.postings_end (omega (arith, length-append infos first, len))
 
   positions_after : positions_start (infos ++ info_bytes info) (count + 1) ≡ info.positions_end
   unfolding positions_start

@@ -7,8 +7,9 @@ use Rattle.std.specs.declared.cmp.Ordering.TheVariants.{Less}
 use Rattle.std.proofs.lemmas.Bool.{cases_lt}
 use Rattle.std.proofs.lemmas.List.{length-append, length-drop, take_all}
 use Rattle.seg_common.specs.LittleEndian.{u64_at}
+use Rattle.seg_common.proofs.Bytes.{u64_at-front, u64_at-end}
+use Rattle.seg_common.proofs.Lists.{range-front, range-end}
 use Rattle.seg_termdict.specs.Dictionary.{key_start, key_of, AreKeys}
-use Rattle.seg_termdict.proofs.Appended.{u64_at-front, u64_at-end, range-front, range-end}
 
 pub key_start-next : (ends : List ℕ) (i : ℕ) → key_start ends (i + 1) ≡ u64_at ends (8 * i)
 unfolding key_start

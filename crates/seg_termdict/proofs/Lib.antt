@@ -1,4 +1,3 @@
-pub mod Appended
 mod Assembled
 mod Bounds
 mod FrontLemmas
@@ -10,8 +9,11 @@ mod KeyLemmas
 pub mod KeyOrder
 pub mod LastTerm
 mod MergeSteps
+pub mod MergedTerms
 mod Merges
+pub mod Ordinals
 mod Passing
+pub mod Ranges
 mod Ranked
 pub mod SortedKeys
 mod TermLemmas

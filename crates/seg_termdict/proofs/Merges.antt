@@ -6,8 +6,8 @@ use Rattle.std.specs.List.{AllByRecursion}
 use Rattle.std.proofs.lemmas.Bool.{cond-false, lt-ltb}
 use Rattle.seg_common.specs.Growing.{HasGrown}
 use Rattle.seg_common.specs.declared.term_info.TermInfo.{TermInfo}
-use Rattle.seg_model.specs.SortedTerms.{RankedTerm}
-use Rattle.seg_model.specs.MergedTerms.{Standing, merged_terms}
+use Rattle.seg_termdict.specs.SortedTerms.{RankedTerm}
+use Rattle.seg_termdict.specs.MergedTerms.{Standing, merged_terms}
 use Rattle.seg_termdict.specs.Streaming.{Stream}
 use Rattle.seg_termdict.specs.Merging.{MergedTerm, Merging, told, ord_of, info_of, noted, Ascends, behind, standings_first, NotBelow, at_first, stepped, terms_of_stream}
 use Rattle.seg_termdict.proofs.MergeSteps.{Streams, next_merged, none_merged}
@@ -19,10 +19,6 @@ one_head done x s left rest is e =
     append_assoc done (x ∷ []) (map terms_of_stream rest)
     ∙ ap (λ t. done ++ t ∷ map terms_of_stream rest) is
     ∙ ap (λ l. done ++ map terms_of_stream l) (sym e)
-
-pub all_push : {X : Type 0} (P : X → Type 0) (xs : List X) (x : X) → AllByRecursion P xs → P x → AllByRecursion P (xs ++ x ∷ [])
-all_push P [] x all p = (p, tt)
-all_push P (y ∷ ys) x all p = (all.0, all_push P ys x all.1 p)
 
 -- ---- steps
 

@@ -16,8 +16,8 @@ use Rattle.std.proofs.lemmas.List.Sorted.{sum_by-IsPermutation}
 use Rattle.std.proofs.lemmas.List.Sums.{sum_by-cons}
 use Rattle.std.proofs.lemmas.Slice.Eq.{bytes_eq-Decides}
 use Rattle.seg_common.specs.declared.term_info.TermInfo.{TermInfo}
-use Rattle.seg_model.specs.SortedTerms.{RankedTerm, key_cmp}
-use Rattle.seg_model.specs.MergedTerms.{Standing}
+use Rattle.seg_termdict.specs.SortedTerms.{RankedTerm, key_cmp}
+use Rattle.seg_termdict.specs.MergedTerms.{Standing}
 use Rattle.seg_termdict.specs.Fronts.{AreFronts, Front, IsFirstFront, comes_before, front_at, fronts_from}
 use Rattle.seg_termdict.specs.Merging.{Ascends, NotBelow, behind, first, first_with, standings_first}
 use Rattle.seg_termdict.proofs.FrontSums.{SameFronts, carried, joined_sum, shared, sum_set}

@@ -2,18 +2,17 @@
 use Rattle.std.proofs.Common.{◌≡◌, ℕ, zero, suc, ◌+◌, ◌-◌, ◌<◌, ◌≤◌, Bool, true, false, T, ◌&&◌, List, [], ◌∷◌, map, length, take, drop, get_or, refl, sym, ap, subst, ◌∙◌, arith, add-one, IsSomeAnd, slice_get, slice_range}
 use Rattle.std.specs.Prelude.{filter, not}
 use Rattle.std.specs.FinMap.{is_sorted, entries-from_sorted}
-use Rattle.std.specs.FinMap.Entries.{below_all}
-use Rattle.std.specs.List.{AllByRecursion, enumerate_from}
+use Rattle.std.specs.List.{enumerate_from}
 use Rattle.std.specs.List.Sorted.{IsStrictlySortedBy}
-use Rattle.std.specs.Ordering.{nat_cmp, is_lt}
+use Rattle.std.specs.Ordering.{nat_cmp}
 use Rattle.std.specs.Cmp.Lexicographic.{slice_cmp}
-use Rattle.std.specs.declared.cmp.Ordering.TheVariants.{Less}
-use Rattle.std.proofs.lemmas.Bool.{cond-true, cond-false}
+use Rattle.std.proofs.lemmas.Bool.{cond-true, cond-false, not-true, not-false}
 use Rattle.std.proofs.lemmas.List.{length-map, length-take-le, length-drop, length-reverse, get_or-map, get_or-take, get_or-drop, get_or-reverse, drop_all, take_all}
 use Rattle.std.proofs.lemmas.List.FromFn.{length-enumerate_from, get_or-enumerate_from}
 use Rattle.std.proofs.lemmas.Option.{slice_get-get_or}
 use Rattle.seg_common.specs.declared.term_info.TermInfo.{TermInfo}
-use Rattle.seg_model.specs.SortedTerms.{TermRange, RankedTerm, is_from, is_up_to, is_within, ranked, in_direction, streamed}
+use Rattle.seg_values.proofs.Rising.{is_sorted-rising}
+use Rattle.seg_termdict.specs.SortedTerms.{TermRange, RankedTerm, is_from, is_up_to, is_within, ranked, in_direction, streamed}
 use Rattle.seg_termdict.specs.Dictionary.{Term}
 use Rattle.seg_termdict.specs.LookUps.{HasKeyAt}
 use Rattle.seg_termdict.specs.Streaming.{no_term}
@@ -81,20 +80,6 @@ key_there terms i key lt h = subst (λ o. IsSomeAnd o (λ (t : Term). t.0 ≡ ke
 
 -- ---- a range
 
-module _ {Y : Type 0} where
-  -- entries whose keys strictly rise are sorted
-  is_sorted-rising : (es : List (List ℕ × Y)) → IsStrictlySortedBy (slice_cmp nat_cmp) (map (λ e. e.0) es) → is_sorted (slice_cmp nat_cmp) es ≡ true
-  unfolding IsStrictlySortedBy
-  is_sorted-rising [] h = refl
-  is_sorted-rising (e ∷ es) h = both (all es h.0) (is_sorted-rising es h.1)
-    where
-      both : {a b : Bool} → a ≡ true → b ≡ true → (a && b) ≡ true
-      both {a} {b} p q = ap (λ x. x && b) p ∙ q
-
-      all : (fs : List (List ℕ × Y)) → AllByRecursion (λ y. slice_cmp nat_cmp e.0 y ≡ Less) (map (λ f. f.0) fs) → below_all (slice_cmp nat_cmp) e.0 fs ≡ true
-      all [] h = refl
-      all (f ∷ fs) h = both (ap is_lt h.0) (all fs h.1)
-
 pub ranked_is : (terms : List Term) → IsStrictlySortedBy (slice_cmp nat_cmp) (map (λ (t : Term). t.0) terms) → ranked_terms terms ≡ ranked (sorted_terms terms)
 ranked_is terms rise =
     let sorted : T (is_sorted (slice_cmp nat_cmp) terms) = subst T (sym (is_sorted-rising terms rise)) tt in
@@ -122,14 +107,6 @@ filter_between p (x ∷ xs) d (suc start) end low high mid =
     ∙ filter_between p xs d start (end - 1) (λ i lt h. low (suc i) (omega (arith, lt)) (omega (arith, h))) (λ i lt h. high (suc i) (omega (arith, lt)) (omega (arith, h))) (λ i lt h k. mid (suc i) (omega (arith, lt)) (omega (arith, h)) (omega (arith, k)))
     ∙ sym (cond-false (p x) (x ∷ filter p xs) (filter p xs) (low 0 (omega arith) (omega arith)))
 
-from_not : (b : Bool) → not b ≡ true → b ≡ false
-from_not true h = sym h
-from_not false h = refl
-
-from_not_false : (b : Bool) → not b ≡ false → b ≡ true
-from_not_false true h = refl
-from_not_false false h = sym h
-
 and_false : (a b : Bool) → b ≡ false → ((a && b) && true) ≡ false
 and_false true b h = ap (λ x. x && true) h
 and_false false b h = refl
@@ -148,13 +125,13 @@ module _ (terms : List Term) (range : TermRange) (start end : ℕ) (low : IsCut 
       filter_between kept (ranked_terms terms) no_ranked start end
       (λ i lt h.
       let l : i < length terms = omega (arith, lt, ranked_length terms) in
-      kept_at i l ∙ ap (λ b. (b && is_up_to range.upper (key_at terms i)) && true) (from_not _ (low.before i h)))
+      kept_at i l ∙ ap (λ b. (b && is_up_to range.upper (key_at terms i)) && true) (not-true _ (low.before i h)))
       (λ i lt h.
       let l : i < length terms = omega (arith, lt, ranked_length terms) in
       kept_at i l ∙ and_false (is_from range.lower (key_at terms i)) _ (high.behind i h l))
       (λ i lt h k.
       let l : i < length terms = omega (arith, lt, ranked_length terms) in
-      kept_at i l ∙ ap (λ b. (b && is_up_to range.upper (key_at terms i)) && true) (from_not_false _ (low.behind i h l)) ∙ ap (λ b. b && true) (high.before i k))
+      kept_at i l ∙ ap (λ b. (b && is_up_to range.upper (key_at terms i)) && true) (not-false _ (low.behind i h l)) ∙ ap (λ b. b && true) (high.before i k))
 
   pub streamed_between : IsStrictlySortedBy (slice_cmp nat_cmp) (map (λ (t : Term). t.0) terms) → (last : ℕ) → last - start ≡ end - start → between range.backward terms start last ≡ streamed range (sorted_terms terms)
   unfolding kept

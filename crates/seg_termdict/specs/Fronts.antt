@@ -6,7 +6,7 @@ use Rattle.std.specs.Ordering.{nat_cmp, is_lt, ordering_then}
 use Rattle.std.specs.declared.cmp.Ordering.{Ordering}
 use Rattle.std.specs.declared.cmp.Reverse.{Reverse}
 use Rattle.seg_common.specs.declared.term_info.TermInfo.{TermInfo}
-use Rattle.seg_model.specs.SortedTerms.{RankedTerm, key_cmp}
+use Rattle.seg_termdict.specs.SortedTerms.{RankedTerm, key_cmp}
 
 -- a first key, with the number of its stream
 abbrev pub Front : Type 0

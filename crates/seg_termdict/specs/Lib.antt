@@ -2,9 +2,12 @@ pub mod Building
 pub mod Dictionary
 pub mod DictionaryTypes
 pub mod Fronts
+pub mod Laws
 pub mod LookUps
+pub mod MergedTerms
 pub mod Merging
 pub mod Ranges
+pub mod SortedTerms
 pub mod StreamEnds
 pub mod Streaming
 pub mod Writing

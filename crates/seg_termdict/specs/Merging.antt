@@ -5,8 +5,8 @@ use Rattle.std.specs.Ordering.{is_le}
 use Rattle.std.specs.List.Sorted.{IsStrictlySortedBy}
 use Rattle.std.specs.Str.{bytes_eq}
 use Rattle.seg_common.specs.declared.term_info.TermInfo.{TermInfo}
-use Rattle.seg_model.specs.SortedTerms.{RankedTerm, key_cmp}
-use Rattle.seg_model.specs.MergedTerms.{Standing, keys_in, merged_terms}
+use Rattle.seg_termdict.specs.SortedTerms.{RankedTerm, key_cmp}
+use Rattle.seg_termdict.specs.MergedTerms.{Standing, keys_in, merged_terms}
 use Rattle.seg_termdict.specs.Streaming.{Stream}
 use Rattle.seg_termdict.specs.Ranges.{ranked_terms, no_ranked}
 

@@ -5,7 +5,7 @@ use Rattle.std.specs.List.{enumerate_from}
 use Rattle.std.specs.Ordering.{is_lt, is_le}
 use Rattle.std.specs.declared.ops.Bound.{Bound}
 use Rattle.seg_common.specs.declared.term_info.TermInfo.{TermInfo}
-use Rattle.seg_model.specs.SortedTerms.{SortedTerms, TermRange, RankedTerm, key_cmp, in_direction, all_terms_range}
+use Rattle.seg_termdict.specs.SortedTerms.{SortedTerms, TermRange, RankedTerm, key_cmp, in_direction, all_terms_range}
 use Rattle.seg_termdict.specs.Dictionary.{Term}
 use Rattle.seg_termdict.specs.Streaming.{no_term}
 

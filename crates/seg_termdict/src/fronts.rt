@@ -4,7 +4,7 @@ ghost use Rattle.std.specs.List.{AllByRecursion};
 ghost use Rattle.std.specs.List.Sorted.{IsPermutation};
 ghost use Rattle.std.specs.Ordering.{is_le};
 ghost use Rattle.std.specs.Str.{bytes_eq};
-ghost use Rattle.seg_model.specs.SortedTerms.{key_cmp};
+ghost use Rattle.seg_termdict.specs.SortedTerms.{key_cmp};
 ghost use Rattle.seg_termdict.specs.Fronts.{IsFirstFront};
 
 use std::alloc::{AllocError, Global};

@@ -17,7 +17,7 @@ pub(crate) struct Head<'a> {
 impl<'a> Model for Head<'a> {
     ghost use Rattle.std.specs.Prelude.{◌≡◌, ◌-◌, ◌<◌, ◌≤◌, true, if◌then◌else◌, List, [], drop, length};
     ghost use Rattle.seg_common.specs.declared.term_info.TermInfo.{TermInfo};
-    ghost use Rattle.seg_model.specs.SortedTerms.{RankedTerm};
+    ghost use Rattle.seg_termdict.specs.SortedTerms.{RankedTerm};
     ghost use Rattle.seg_termdict.specs.Ranges.{ranked_terms};
 
     ghost Value = { List (RankedTerm TermInfo) };

@@ -3,11 +3,11 @@
 //! A builder is seen as the terms that it was given, and the key that waits for its info; as nothing, once out of
 //! memory. Bytes are a dictionary or not, and a dictionary is seen as its one list of terms; a streamer as this list, and
 //! how many of its terms it has come to. A range is seen as the list and the `TermRange` that was asked for, and its
-//! streamer goes over what `streamed` of `seg_model` has of them. A merger is seen as what is left of the
+//! streamer goes over what `streamed` has of them. A merger is seen as what is left of the
 //! `merged_terms` of its streamers, and the term that it has come to; as nothing, once out of memory.
 //!
 //! To be read in this order: `error`, `format`, `dictionary_type`; `written_terms`, `builder`; `tables`, `keys`, `infos`,
-//! `check`, `dictionary`; `streamer`; `kept_key`, `streamer_builder`, `range_streamer`; `head`, `fronts`, `merger`.
+//! `check`, `dictionary`; `streamer`; `kept_key`, `streamer_builder`, `range_streamer`; `head`, `fronts`, `merger`; `laws`.
 #![tactic(auto)]
 
 mod builder;
@@ -21,6 +21,7 @@ mod head;
 mod infos;
 mod kept_key;
 mod keys;
+mod laws;
 mod merger;
 mod range_streamer;
 mod streamer;
@@ -33,6 +34,7 @@ pub use dictionary::TermDictionary;
 pub use dictionary_type::DictionaryType;
 pub use error::TermDictError;
 pub use format::TermOrdinal;
+pub use laws::{merged_terms_are_known_by_their_answers, ranges_of_sorted_terms};
 pub use merger::TermMerger;
 pub use range_streamer::RangeStreamer;
 pub use streamer::TermStreamer;

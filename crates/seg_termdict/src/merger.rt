@@ -32,7 +32,7 @@ impl<'a> Model for TermMerger<'a> {
     ghost use Rattle.std.specs.Prelude.{◌≡◌, Option, None, Some, false, if◌then◌else◌};
     ghost use Rattle.std.specs.FinMap.{entries};
     ghost use Rattle.std.specs.List.{AllByRecursion};
-    ghost use Rattle.seg_model.specs.MergedTerms.{merged_terms};
+    ghost use Rattle.seg_termdict.specs.MergedTerms.{merged_terms};
     ghost use Rattle.seg_termdict.specs.Fronts.{AreFronts};
     ghost use Rattle.seg_termdict.specs.Merging.{Merging, Ascends, noted};
 

@@ -1,7 +1,7 @@
 //! Ranges of the terms of a dictionary.
 ghost use Rattle.std.specs.Prelude.{◌≡◌, not, IfOk, IfErr};
 ghost use Rattle.std.specs.declared.ops.Bound.TheVariants.{Included, Excluded};
-ghost use Rattle.seg_model.specs.SortedTerms.{is_from, is_up_to, streamed};
+ghost use Rattle.seg_termdict.specs.SortedTerms.{is_from, is_up_to, streamed};
 ghost use Rattle.seg_termdict.specs.Ranges.{IsCut, sorted_terms, unbounded, with_lower, with_upper, turned_backward, before_all};
 
 use crate::dictionary::TermDictionary;

@@ -3,7 +3,8 @@ ghost use Rattle.std.specs.Prelude.{◌≡◌, ◌≤◌, ◌<◌, ◌+◌, leng
 ghost use Rattle.seg_values.specs.Names.{is_allowed};
 
 use seg_common::DateTimePrecision;
-use seg_values::{FieldEntry, FieldKind, IndexOption, Schema, SchemaBuilder, Text};
+use seg_values::{FieldEntry, FieldKind, IndexOption, Schema, SchemaBuilder};
+use seg_words::Text;
 use std::alloc::{AllocError, Global};
 
 /// A field's name, kind and index option.

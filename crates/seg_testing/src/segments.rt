@@ -2,8 +2,8 @@
 ghost use Rattle.std.specs.Prelude.{◌≡◌, ◌<◌, ◌^◌};
 
 use seg_common::{FileName, SegmentComponent, SegmentId};
-use seg_meta::{Compressor, IndexSettings, Segment, SegmentMeta};
-use seg_values::Schema;
+use seg_meta::{IndexSettings, Segment, SegmentMeta};
+use seg_values::{Compressor, Schema};
 
 /// The components, in the order in which their files are read.
 pub const COMPONENTS: [SegmentComponent; 6] = [

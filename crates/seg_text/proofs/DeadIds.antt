@@ -1,5 +1,5 @@
 -- The ids of deleted documents.
-use Rattle.std.proofs.Common.{◌≡◌, ℕ, zero, suc, ◌+◌, ◌<◌, ◌≤◌, Bool, true, false, not, List, [], ◌∷◌, ◌++◌, length, take, drop, cond, get_or, codes, decimal, refl, sym, ap, ◌∙◌, arith, drop-drop, append_assoc}
+use Rattle.std.proofs.Common.{◌≡◌, ℕ, zero, suc, ◌+◌, ◌<◌, ◌≤◌, Bool, true, false, List, [], ◌∷◌, ◌++◌, length, take, drop, cond, get_or, codes, decimal, refl, sym, ap, ◌∙◌, arith, drop-drop, append_assoc}
 use Rattle.std.specs.List.{flat_map}
 use Rattle.std.proofs.lemmas.List.{append-nil}
 use Rattle.std.proofs.lemmas.List.Sums.{sum_by-cons}
@@ -107,11 +107,3 @@ whole_line alive out a b c some first second third =
     ∙ append_assoc out (codes "dead" ++ flat_map id_word (dead_from 0 alive)) (10 ∷ [])
     ∙ ap (λ xs. out ++ xs) (append_assoc (codes "dead") (flat_map id_word (dead_from 0 alive)) (10 ∷ []))
     ∙ ap (λ xs. out ++ xs) (sym (some_dead alive some))
-
-pub is_dead : (b : Bool) → not b ≡ true → b ≡ false
-is_dead true h = absurd (false≢true h)
-is_dead false h = refl
-
-pub is_alive : (b : Bool) → not b ≡ false → b ≡ true
-is_alive true h = refl
-is_alive false h = absurd (false≢true (sym h))

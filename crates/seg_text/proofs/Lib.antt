@@ -3,7 +3,6 @@ pub mod DeadIds
 mod KnownTexts
 pub mod PlainDates
 mod PlainTerms
-pub mod Places
 pub mod Placing
 pub mod PrintedTokens
 pub mod PrintedTrees

@@ -5,10 +5,10 @@ use Rattle.std.specs.Ordering.{match_ordering}
 use Rattle.std.specs.BTreeMap.{insert_entry}
 use Rattle.serde_json.specs.Data as json
 use Rattle.serde_json.specs.Data.{put}
+use Rattle.seg_common.proofs.Lists.{drop-slice_get}
 use Rattle.seg_values.specs.Tree.{Tree, members_from}
 use Rattle.seg_text.specs.Json.{value_json, members_json}
 use Rattle.seg_text.specs.PlacedMembers.{value_at, placed_members, ArePlaces}
-use Rattle.seg_text.proofs.Places.{drop-slice_get}
 
 module _ {K : Type 0} (text : K → List ℕ) (members : List (List ℕ × Tree)) where
   abbrev keyed : List (K × ℕ) → List (List ℕ × ℕ)

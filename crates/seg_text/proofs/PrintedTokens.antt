@@ -3,7 +3,7 @@ use Rattle.std.proofs.Common.{◌≡◌, ℕ, List, [], ◌∷◌, ◌++◌, cod
 use Rattle.json.specs.Print.{escape_byte, quoted}
 use Rattle.serde_json.specs.Data.{array}
 use Rattle.serde_json.specs.Written.{compact_text}
-use Rattle.seg_values.specs.declared.token.PreTokenizedString.{PreTokenizedString}
+use Rattle.seg_words.specs.declared.token.PreTokenizedString.{PreTokenizedString}
 use Rattle.seg_values.specs.Tree.{pre_tokenized}
 use Rattle.seg_text.specs.Json.{leaf_json, tokens_items}
 

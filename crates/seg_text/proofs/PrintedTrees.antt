@@ -3,12 +3,12 @@ use Rattle.std.proofs.Common.{◌≡◌, ◌<◌, ℕ, ◌+◌, List, [], ◌∷
 use Rattle.json.specs.Print.{quoted}
 use Rattle.serde_json.specs.Data.{no_members}
 use Rattle.serde_json.specs.Written.{comma_if, compact_text, items_text, members_text}
+use Rattle.seg_common.proofs.Lists.{drop-slice_get}
 use Rattle.seg_values.specs.Tree.{Tree, Document, trees_from, members_from}
 use Rattle.seg_model.specs.Fields.{Schema}
 use Rattle.seg_text.specs.DocumentText.{pair_json, pairs_items}
 use Rattle.seg_text.specs.Json.{value_json, items_json, members_json}
 use Rattle.seg_text.specs.PlacedMembers.{value_at, placed_members, ArePlaces}
-use Rattle.seg_text.proofs.Places.{drop-slice_get}
 
 module _ (before out mid after : List ℕ) (later : Bool) (comma : mid ≡ out ++ comma_if later) where
   -- one item more

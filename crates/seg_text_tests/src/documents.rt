@@ -4,9 +4,9 @@ use seg_common::DateTime;
 use seg_testing::{document, schema};
 use seg_text::push_document;
 use seg_values::{
-    Bytes, Facet, Field, FieldKind, IndexOption, Members, OwnedValue, PreTokenizedString, Schema,
-    TantivyDocument, Text, Token, Tokens, Values,
+    Facet, Field, FieldKind, IndexOption, Members, OwnedValue, Schema, TantivyDocument, Values,
 };
+use seg_words::{Bytes, PreTokenizedString, Text, Token, Tokens};
 use std::alloc::{AllocError, Global};
 use std::net::Ipv6Addr;
 use std::test::Fail;

@@ -1,5 +1,5 @@
 -- What was built, or why not, as a status.
-use Rattle.std.proofs.Common.{◌≡◌, List, Option, None, Some, inl, inr, refl, sym, ◌∙◌, subst}
+use Rattle.std.proofs.Common.{◌≡◌, Option, None, Some, Err, inl, inr, refl, sym, ◌∙◌, subst}
 use Rattle.std.specs.Prelude.{IfSome}
 use Rattle.seg_common.specs.declared.name.FileName.{FileName}
 use Rattle.seg_values.specs.declared.error.TantivyError.{TantivyError}
@@ -7,37 +7,26 @@ use Rattle.seg_values.specs.declared.error.TantivyError.TheVariants.{SchemaError
 use Rattle.seg_model.specs.Fields.{Analyzer}
 use Rattle.seg_model.specs.Input.{Input}
 use Rattle.seg_model.specs.Valid.{Known}
-use Rattle.seg_directory.specs.declared.answer.Answer.{Answer}
-use Rattle.seg_open.specs.SegmentOpened.{IsNoDamage, IsReadError}
-use Rattle.seg_batches.specs.Calls.{IsWhy}
+use Rattle.seg_open.specs.SegmentOpened.{IsNoDamage}
 use Rattle.seg_refusals.proofs.Refusing.{first_is_refusal}
-use Rattle.seg_refusals.specs.Refusals.{IfRefusal, IsRefusal, first_error}
-use Rattle.seg_merge.specs.DirectoryCalls.{Asked, Directories, StopsIn, at_once, work_listing, output_listing, documents, work_index, reading_back, too_many, output_index}
+use Rattle.seg_refusals.specs.Refusals.{first_error}
+use Rattle.seg_model.specs.Refused.{IfRefusal, IsRefusal}
+use Rattle.seg_merge.specs.DirectoryCalls.{BuildsIndexes}
+use Rattle.seg_merge.specs.Turns.{Directories}
+use Rattle.seg_merge.proofs.Stopped.{build_error}
 use Rattle.seg_tool.specs.DirectoryCalls.{BuildDoes, Stopped}
 use Rattle.seg_tool.specs.Statuses.{IfRefused, status_of}
 use Rattle.seg_tool.specs.declared.status.Status.{Status}
 use Rattle.seg_tool.specs.declared.status.Status.TheVariants.{Refused, Damaged}
-use Rattle.seg_batches.proofs.ReadLaws.{segments_so}
 
 -- ---- statuses
 
--- no directory gives such an error, no refusal, and no reading back
-stops-why : (asked : Asked) (e : TantivyError) (a b : Directories) → StopsIn asked e a b → ((why : List Answer) → IsWhy e why → ⊥) → (IsRefusal e → ⊥) → (IsReadError e → ⊥) → ⊥
-stops-why asked e a b (at_once r same) no_why no_refusal no_read = no_refusal r
-stops-why asked e a b (work_listing d same) no_why no_refusal no_read = no_why d.seen.why d.seen.is_why
-stops-why asked e a b (output_listing x d) no_why no_refusal no_read = no_why d.seen.why d.seen.is_why
-stops-why asked e a b (documents made r x y) no_why no_refusal no_read = no_refusal r
-stops-why asked e a b (work_index d x) no_why no_refusal no_read = no_why d.seen.why d.seen.is_why
-stops-why asked e a b (reading_back w x) no_why no_refusal no_read = no_read (segments_so asked.schema asked.segments w.filled b.work e w.stops)
-stops-why asked e a b (too_many read is many w x) no_why no_refusal no_read = no_refusal (subst IsRefusal (sym is) tt)
-stops-why asked e a b (output_index read number w d) no_why no_refusal no_read = no_why d.seen.why d.seen.is_why
-
-module _ (asked : Asked) (a b : Directories) where
-  stopped : (e : TantivyError) → StopsIn asked e a b → Stopped e a b
-  stopped e s = record { asked = asked; stops = s }
+module _ (known : Known) (analyzer : Analyzer) (input : Input) (a b : Directories) where
+  stopped : (e : TantivyError) → BuildsIndexes known analyzer input (Err e) a b → Stopped known analyzer e a b
+  stopped e s = record { meant = input; stops = s }
 
   -- the status of the error with which it stops
-  pub ends-as : (e : TantivyError) → StopsIn asked e a b → BuildDoes (status_of e) a b
+  ends-as : (e : TantivyError) → BuildsIndexes known analyzer input (Err e) a b → BuildDoes known analyzer (status_of e) a b
   ends-as IndexAlreadyExists s = (refl, stopped _ s)
   ends-as OpenReadError s = (inl refl, stopped _ s)
   ends-as OpenWriteError s = (inr (inl refl), stopped _ s)
@@ -46,8 +35,11 @@ module _ (asked : Asked) (a b : Directories) where
   ends-as (SchemaError cause) s = inr (stopped _ s)
   ends-as (InvalidArgument cause) s = inr (stopped _ s)
   ends-as (DataCorruption name) s = stopped _ s
-  ends-as SystemError s = absurd (stops-why asked _ a b s (λ why h. h) (λ h. h) (λ h. h))
-  ends-as FieldNotFound s = absurd (stops-why asked _ a b s (λ why h. h) (λ h. h) (λ h. h))
+  ends-as SystemError s = absurd (build_error known analyzer input SystemError a b s)
+  ends-as FieldNotFound s = absurd (build_error known analyzer input FieldNotFound a b s)
+
+  pub ends-with : (status : Status) (e : TantivyError) → status ≡ status_of e → BuildsIndexes known analyzer input (Err e) a b → BuildDoes known analyzer status a b
+  ends-with status e is ended = subst (λ (s : Status). BuildDoes known analyzer s a b) (sym is) (ends-as e ended)
 
 -- no damage is told where there is none
 undamaged_as : (e : TantivyError) → IsNoDamage e → (name : FileName) → status_of e ≡ Damaged name → ⊥
@@ -96,6 +88,3 @@ first_statuses known analyzer input = by (first_error known analyzer input) refl
     by : (o : Option TantivyError) → first_error known analyzer input ≡ o → IfSome o (λ x. status_of x ≡ Refused x)
     by None is = tt
     by (Some x) is = status_is x (first_is_refusal known analyzer input x is)
-
-pub ends-with : (status : Status) (asked : Asked) (e : TantivyError) (a b : Directories) → status ≡ status_of e → StopsIn asked e a b → BuildDoes status a b
-ends-with status asked e a b is stops = subst (λ (s : Status). BuildDoes s a b) (sym is) (ends-as asked a b e stops)

@@ -1,6 +1,7 @@
 -- What it says that `build` ended with a status, and no text.
 use Rattle.std.proofs.Common.{◌≡◌, ℕ, List, Option, None, Some, refl, sym, ap, subst, ◌∙◌, inl, inr}
 use Rattle.std.specs.Prelude.{◌⊎◌, IfSome, IsSome, IsTrue, Result, Ok, Err, IfOk, IfErr}
+use Rattle.std.proofs.lemmas.Option.{MatchOption-from_none}
 use Rattle.seg_common.specs.declared.name.FileName.{FileName}
 use Rattle.seg_values.specs.declared.error.ArgumentCause.TheVariants.{Documents}
 use Rattle.seg_values.specs.declared.error.TantivyError.{TantivyError}
@@ -8,9 +9,10 @@ use Rattle.seg_values.specs.declared.error.TantivyError.TheVariants.{SchemaError
 use Rattle.seg_model.specs.Fields.{Analyzer}
 use Rattle.seg_model.specs.Input.{Input}
 use Rattle.seg_model.specs.Valid.{Known}
-use Rattle.seg_refusals.specs.Refusals.{IfRefusal, first_error}
+use Rattle.seg_refusals.specs.Refusals.{first_error}
+use Rattle.seg_model.specs.Refused.{IfRefusal}
 use Rattle.seg_merge.specs.Builds.{AreEmpty}
-use Rattle.seg_merge.specs.DirectoryCalls.{Directories, asked_of}
+use Rattle.seg_merge.specs.Turns.{Directories}
 use Rattle.seg_script.specs.Script.{json_of, script}
 use Rattle.seg_tool.specs.DirectoryCalls.{BuildDoes, Stopped, Wrote}
 use Rattle.seg_tool.specs.Run.{first_of, refusal_of, IsWhyRefused, IsWhyRefusedUntold}
@@ -102,9 +104,6 @@ if_some : (o : Option TantivyError) (P : TantivyError → Type 0) → ((e : Tant
 if_some None P all = tt
 if_some (Some e) P all = all e
 
-none_first : (o : Option TantivyError) (P : TantivyError → Type 0) → o ≡ None → IfSome o P
-none_first o P none = subst (λ (x : Option TantivyError). IfSome x P) (sym none) tt
-
 module _ (status : Status) (a b : Directories) (e : TantivyError) (is : status ≡ status_of e) where
   stopped_first : (o : Option TantivyError) → IfSome o (λ x. status_of x ≡ Refused x) → IfSome o (λ x. ((e ≡ x) ⊎ (e ≡ OutOfMemory)) × (b ≡ a)) → IfSome o (λ x. RefusedFor x status × (b ≡ a))
   stopped_first None statuses first = tt
@@ -118,8 +117,8 @@ module _ (status : Status) (a b : Directories) (e : TantivyError) (is : status �
 
 -- ---- how it ended
 
-wrote : {known : Known} {analyzer : Analyzer} {meant : Input} {text : List ℕ} {a b : Directories} → PrintsInput known analyzer meant text a b → Wrote a b
-wrote {analyzer = analyzer} {meant = meant} prints = record { asked = asked_of analyzer meant; read = prints.read; output = prints.output; writes = prints.builds.writes }
+wrote : {known : Known} {analyzer : Analyzer} {meant : Input} {text : List ℕ} {a b : Directories} → PrintsInput known analyzer meant text a b → Wrote known analyzer a b
+wrote {meant = meant} prints = record { meant = meant; read = prints.read; output = prints.output; writes = prints.builds.writes }
 
 module _ {known : Known} {analyzer : Analyzer} {bytes : List ℕ} {status : Status} {a b : Directories} where
   pub ended_early : Ends known analyzer bytes status a b → IsEarly status
@@ -174,7 +173,7 @@ module _ {known : Known} {analyzer : Analyzer} {bytes : List ℕ} {status : Stat
   ended_first (of_input meant says (not_built e is stops)) json =
       subst (λ (o : Option Input). IfSome (first_of known analyzer o) (λ e. RefusedFor e status × (b ≡ a))) (sym says)
       (stopped_first status a b e is (first_error known analyzer meant) (first_statuses known analyzer meant) stops.first)
-  ended_first (of_input meant says (not_printed text is prints)) json = none_first (first_of known analyzer (script bytes)) _ (ap (first_of known analyzer) says ∙ prints.builds.admitted)
+  ended_first (of_input meant says (not_printed text is prints)) json = MatchOption-from_none (first_of known analyzer (script bytes)) _ (ap (first_of known analyzer) says ∙ prints.builds.admitted)
 
   pub ended_written : Ends known analyzer bytes status a b → IfWritten status (λ _. first_of known analyzer (script bytes) ≡ None)
   ended_written (no_json is none same) = subst (λ (s : Status). IfWritten s (λ _. first_of known analyzer (script bytes) ≡ None)) (sym is) tt
@@ -198,12 +197,12 @@ module _ {known : Known} {analyzer : Analyzer} {bytes : List ℕ} {status : Stat
   ended_whole told (of_input meant says (not_built e is stops)) name at = undamaged_status status e name is (stops.whole told) at
   ended_whole told (of_input meant says (not_printed text is prints)) name at = cc (sym is ∙ at)
 
-  pub ended_does : Ends known analyzer bytes status a b → BuildDoes status a b
-  ended_does (no_json is none same) = subst (λ (s : Status). BuildDoes s a b) (sym is) same
-  ended_does (no_script is json none same) = subst (λ (s : Status). BuildDoes s a b) (sym is) (inl same)
-  ended_does (no_memory is same) = subst (λ (s : Status). BuildDoes s a b) (sym is) (inl (subst (λ (d : Directories). Stopped OutOfMemory a d) (sym same) (stopped-before a)))
-  ended_does (of_input meant says (not_built e is stops)) = ends-with status (asked_of analyzer meant) e a b is stops.stops
-  ended_does (of_input meant says (not_printed text is prints)) = subst (λ (s : Status). BuildDoes s a b) (sym is) (inr (wrote prints))
+  pub ended_does : Ends known analyzer bytes status a b → BuildDoes known analyzer status a b
+  ended_does (no_json is none same) = subst (λ (s : Status). BuildDoes known analyzer s a b) (sym is) same
+  ended_does (no_script is json none same) = subst (λ (s : Status). BuildDoes known analyzer s a b) (sym is) (inl same)
+  ended_does (no_memory is same) = subst (λ (s : Status). BuildDoes known analyzer s a b) (sym is) (inl (subst (λ (d : Directories). Stopped known analyzer OutOfMemory a d) (sym same) (stopped-before known analyzer a)))
+  ended_does (of_input meant says (not_built e is stops)) = ends-with known analyzer meant a b status e is stops.stops
+  ended_does (of_input meant says (not_printed text is prints)) = subst (λ (s : Status). BuildDoes known analyzer s a b) (sym is) (inr (wrote prints))
 
 -- ---- what is known of an input is known of the script that it is in
 

@@ -1,55 +1,42 @@
 -- How a run ends.
-use Rattle.std.proofs.Common.{◌≡◌, ◌≢◌, ◌≤◌, Bool, true, false, ◌⊎◌, ℕ, List, [], ◌∷◌, length, Option, None, Some, refl, sym, ap, subst, ◌∙◌, inl, inr, arith}
+use Rattle.std.proofs.Common.{◌≡◌, ◌≢◌, ◌≤◌, true, false, ◌⊎◌, ℕ, List, [], length, Option, None, Some, refl, sym, ap, subst, ◌∙◌, inl, inr, arith}
 use Rattle.std.specs.Prelude.{Err, IfSome, IsSome, is_some}
 use Rattle.std.specs.Option.{option_or}
-use Rattle.std.proofs.lemmas.List.{append-nil}
 use mathlib.Core.Bool.{true≢false}
 use Rattle.seg_common.specs.Causes.{Rose}
 use Rattle.seg_common.specs.declared.name.FileName.{FileName}
 use Rattle.seg_values.specs.declared.error.ArgumentCause.TheVariants.{Later}
 use Rattle.seg_values.specs.declared.error.TantivyError.{TantivyError}
-use Rattle.seg_values.specs.declared.error.TantivyError.TheVariants.{InvalidArgument, OpenReadError, OutOfMemory}
-use Rattle.seg_directory.specs.declared.answer.Answer.{Answer}
-use Rattle.seg_directory.specs.declared.answer.Answer.TheVariants as answer
+use Rattle.seg_values.specs.declared.error.TantivyError.TheVariants.{InvalidArgument, OutOfMemory}
 use Rattle.seg_meta.specs.Reads.{given}
 use Rattle.seg_model.specs.Checked.{unless}
 use Rattle.seg_model.specs.Fields.{Analyzer}
 use Rattle.seg_model.specs.Laws.{ValidInputsAreNotRefused}
 use Rattle.seg_model.specs.Refused.{build_refusal}
-use Rattle.seg_model.specs.Input.{Input}
+use Rattle.seg_model.specs.Input.{Input, uncompressed}
 use Rattle.seg_model.specs.Valid.{Known, IsValid, input_refusal}
 use Rattle.seg_model.proofs.FirstAnswers.{or_first, unless_true}
-use Rattle.seg_batches.specs.Calls.{HasRisen, Does}
-use Rattle.seg_directory.specs.State.{DirectoryState}
-use Rattle.seg_batches.specs.Reading.{ReadsSegments}
-use Rattle.seg_merge.specs.DirectoryCalls.{Asked, Directories, WritesThenStops, StopsIn, at_once, work_listing, output_listing, documents, work_index, reading_back, too_many, output_index}
+use Rattle.seg_merge.specs.DirectoryCalls.{BuildsIndexes}
+use Rattle.seg_merge.specs.Turns.{Directories, stops}
+use Rattle.seg_merge.proofs.Stopped.{IsBuildError, RoseIn, build_error}
 use Rattle.seg_refusals.specs.Admitted.{IsValidIf}
 use Rattle.seg_refusals.specs.Inputs.{is_built_input}
-use Rattle.seg_refusals.specs.Refusals.{IsRefusal, first_error, later_refusal}
+use Rattle.seg_refusals.specs.Refusals.{first_error, later_refusal}
 use Rattle.seg_script.specs.Script.{json_of, script, script_from}
 use Rattle.seg_tool.specs.DirectoryCalls.{Stopped, IsFault, BuildDoes}
 use Rattle.seg_tool.specs.Run.{max_script, refusal_of, IsNoScript, IsValidScript, IsWhyRefused}
 use Rattle.seg_tool.specs.Statuses.{IfRefused}
 use Rattle.seg_tool.specs.declared.status.Status.{Status}
 use Rattle.seg_tool.specs.declared.status.Status.TheVariants.{Done, Words, Script, Refused, Exists, Directory, Damaged, Stream, Memory}
-use Rattle.seg_open.specs.SegmentOpened.{IsReadError}
-use Rattle.seg_batches.proofs.ReadLaws.{segments_rose, segments_so}
-use Rattle.seg_tool.proofs.ReadBack.{rose_before}
 
 -- ---- before any call
 
-does-nothing : (a : DirectoryState) → Does {T = Unit {0}} (answer.Listed 0 ∷ []) [] (Err OutOfMemory) a a
-does-nothing a = record {
-  seen = record { came = []; missing = answer.Listed 0 ∷ []; why = []; cut = refl; is_why = refl; seen = sym (append-nil a.seen) };
-  others = λ other all. refl;
-  tells = refl;
-  later = omega (arith);
-  caused = tt;
-}
+no_input : Input
+no_input = record { schema = []; settings = record { compression = uncompressed; block_size = 0; dedicated_thread = false }; operations = []; cuts = []; filters = []; ids = [] }
 
 -- no memory, before a directory is called
-pub stopped-before : (a : Directories) → Stopped OutOfMemory a a
-stopped-before a = record { asked = record { schema = []; segments = []; filters = []; output_id = 0 }; stops = work_listing (does-nothing a.work) refl }
+pub stopped-before : (known : Known) (analyzer : Analyzer) (a : Directories) → Stopped known analyzer OutOfMemory a a
+stopped-before known analyzer a = record { meant = no_input; stops = stops OutOfMemory refl (inr refl, refl) }
 
 -- ---- scripts
 
@@ -88,35 +75,17 @@ not-script : (known : Known) (analyzer : Analyzer) (bytes : List ℕ) → length
 not-script known analyzer bytes short v (inl none) = true≢false (ap is_some (sym v.is_script ∙ no-script bytes none))
 not-script known analyzer bytes short v (inr long) = omega (arith, short, long)
 
--- a directory that does not fail gives no error of its faults
-no-fault : {T : Type 0} (answers : List Answer) (names : List FileName) (e : TantivyError) (a b : DirectoryState) → IsFault e → (Rose a.faults b.faults → ⊥) → Does {T = T} answers names (Err e) a b → ⊥
-no-fault answers names e a b (inl is) sound d = sound (subst (λ (x : TantivyError). HasRisen x a.faults b.faults) is d.caused)
-no-fault answers names e a b (inr (inl is)) sound d = sound (subst (λ (x : TantivyError). HasRisen x a.faults b.faults) is d.caused)
-no-fault answers names e a b (inr (inr is)) sound d = sound (subst (λ (x : TantivyError). HasRisen x a.faults b.faults) is d.caused)
+-- directories that do not fail give no error of their faults
+no-fault : (e : TantivyError) (a b : Directories) → IsFault e → IsBuildError e a b → RoseIn a b
+no-fault e a b (inl is) error = subst (λ (x : TantivyError). IsBuildError x a b) is error
+no-fault e a b (inr (inl is)) error = subst (λ (x : TantivyError). IsBuildError x a b) is error
+no-fault e a b (inr (inr is)) error = subst (λ (x : TantivyError). IsBuildError x a b) is error
 
--- and is no refusal
-no-refusal : (e : TantivyError) → IsFault e → IsRefusal e → ⊥
-no-refusal e (inl is) refusal = subst IsRefusal is refusal
-no-refusal e (inr (inl is)) refusal = subst IsRefusal is refusal
-no-refusal e (inr (inr is)) refusal = subst IsRefusal is refusal
-
--- nor do segments that are written and read back
-no-read-fault : (asked : Asked) (e : TantivyError) (a b : DirectoryState) → IsFault e → (Rose a.faults b.faults → ⊥) → WritesThenStops asked.schema asked.segments e a b → ⊥
-no-read-fault asked e a b (inl is) sound w =
-    let stops : ReadsSegments asked.schema asked.segments (Err OpenReadError) w.filled b = subst (λ (x : TantivyError). ReadsSegments asked.schema asked.segments (Err x) w.filled b) is w.stops in
-    sound (rose_before a.faults w.filled.faults b.faults w.writes.later (segments_rose asked.schema asked.segments w.filled b stops))
-no-read-fault asked e a b (inr (inl is)) sound w = subst IsReadError is (segments_so asked.schema asked.segments w.filled b e w.stops)
-no-read-fault asked e a b (inr (inr is)) sound w = subst IsReadError is (segments_so asked.schema asked.segments w.filled b e w.stops)
-
-never-stops : (asked : Asked) (e : TantivyError) (a b : Directories) → IsFault e → (Rose a.work.faults b.work.faults → ⊥) → (Rose a.output.faults b.output.faults → ⊥) → StopsIn asked e a b → ⊥
-never-stops asked e a b fault work output (at_once refusal same) = no-refusal e fault refusal
-never-stops asked e a b fault work output (work_listing d same) = no-fault _ _ e _ _ fault work d
-never-stops asked e a b fault work output (output_listing d f) = no-fault _ _ e _ _ fault output f
-never-stops asked e a b fault work output (documents made refusal d f) = no-refusal e fault refusal
-never-stops asked e a b fault work output (work_index d f) = no-fault _ _ e _ _ fault work d
-never-stops asked e a b fault work output (reading_back d f) = no-read-fault asked e a.work b.work fault work d
-never-stops asked e a b fault work output (too_many read is many d f) = no-refusal e fault (subst IsRefusal (sym is) tt)
-never-stops asked e a b fault work output (output_index read number d f) = no-fault _ _ e _ _ fault output f
+never-stops : (known : Known) (analyzer : Analyzer) (input : Input) (e : TantivyError) (a b : Directories) → IsFault e → (Rose a.work.faults b.work.faults → ⊥) → (Rose a.output.faults b.output.faults → ⊥) → BuildsIndexes known analyzer input (Err e) a b → ⊥
+never-stops known analyzer input e a b fault work output stopped = elim (no-fault e a b fault (build_error known analyzer input e a b stopped)) [
+  | inl rose ↦ work rose
+  | inr rose ↦ output rose
+]
 
 -- neither the source nor the sink fails
 pub no-stream : {A B C D : Type 0} → (A → ⊥) → (C → ⊥) → (A × B) ⊎ (C × D) → ⊥
@@ -132,7 +101,7 @@ pub completes : (s : Status) (known : Known) (analyzer : Analyzer) (left : Optio
     → s ≢ Words → s ≢ Stream → ((e : TantivyError) → s ≢ Exists e) → ((name : FileName) → s ≢ Damaged name)
     → (s ≡ Script → IfSome left IsNoScript)
     → IfRefused s (λ e. IfSome left (λ all. IsWhyRefused known analyzer all e))
-    → BuildDoes s a b → (Rose a.work.faults b.work.faults → ⊥) → (Rose a.output.faults b.output.faults → ⊥)
+    → BuildDoes known analyzer s a b → (Rose a.work.faults b.work.faults → ⊥) → (Rose a.output.faults b.output.faults → ⊥)
     → (s ≡ Done) ⊎ (s ≡ Memory)
 completes Done known analyzer left bytes a b law is short v words stream exists whole script refused does work output = inl refl
 completes Memory known analyzer left bytes a b law is short v words stream exists whole script refused does work output = inr refl
@@ -145,4 +114,4 @@ completes Script known analyzer left bytes a b law is short v words stream exist
 completes (Refused e) known analyzer left bytes a b law is short v words stream exists whole script refused does work output =
     absurd (not-refused known analyzer bytes e law v (at-left (λ all. IsWhyRefused known analyzer all e) left bytes is refused))
 completes (Directory e) known analyzer left bytes a b law is short v words stream exists whole script refused does work output =
-    absurd (never-stops does.1.asked e a b does.0 work output does.1.stops)
+    absurd (never-stops known analyzer does.1.meant e a b does.0 work output does.1.stops)

@@ -8,6 +8,7 @@ use Rattle.std.proofs.lemmas.Bool.{ltb-true}
 use Rattle.std.proofs.lemmas.List.{append-nil, length-map}
 use Rattle.std.proofs.lemmas.Result.{on_ok_weaker}
 use Rattle.seg_common.specs.declared.term_info.TermInfo.{TermInfo}
+use Rattle.seg_common.proofs.Lists.{drop-slice_get}
 use Rattle.seg_values.specs.Tree.{Document}
 use Rattle.seg_values.specs.declared.schema.FieldEntry.{FieldEntry}
 use Rattle.seg_model.specs.Fields.{Schema, is_indexed}
@@ -22,8 +23,7 @@ use Rattle.seg_text.specs.FieldText.{field_text, fields_text, term_line}
 use Rattle.seg_text.specs.HeaderText.{dead_text, header_text}
 use Rattle.seg_text.specs.SegmentText.{segment_text}
 use Rattle.seg_text.proofs.AllAlive.{count_by-replicate, dead_text-replicate}
-use Rattle.seg_text.proofs.Places.{drop-slice_get}
-use Rattle.seg_join.specs.KeptSegment.{marks_of}
+use Rattle.seg_open.specs.KeptSegment.{marks_of}
 use Rattle.seg_tool.specs.Printing.{opened_text}
 
 -- ---- fields

@@ -15,7 +15,7 @@ use Rattle.seg_values.specs.declared.error.TantivyError.TheVariants.{DataCorrupt
 use Rattle.seg_model.specs.Fields.{Analyzer}
 use Rattle.seg_model.specs.Valid.{Known}
 use Rattle.seg_merge.specs.Builds.{AreEmpty}
-use Rattle.seg_merge.specs.DirectoryCalls.{Directories, asked_of}
+use Rattle.seg_merge.specs.Turns.{Directories}
 use Rattle.seg_script.specs.Script.{json_of, script}
 use Rattle.seg_tool.specs.DirectoryCalls.{BuildDoes, Wrote}
 use Rattle.seg_tool.specs.Run.{Gains, GainsPart, HasMergedIndex, HasOutputIndex, HasWorkIndex, IsAdmitted, IsJson, IsNoScript, IsTextOf, IsValidScript, IsWhyRefused, IsWhyRefusedUntold, first_of, is_build, max_script}
@@ -30,11 +30,11 @@ use Rattle.seg_tool.proofs.ReadText.{text_of_read}
 -- ---- the text of a script
 
 module _ {known : Known} {analyzer : Analyzer} {bytes text : List ℕ} {a b : Directories} (prints : Prints known analyzer bytes text a b) where
-  is_text : IsTextOf analyzer bytes a b text
+  is_text : IsTextOf known analyzer bytes a b text
   is_text = record {
     meant = prints.meant;
     is_script = prints.is_script;
-    text_of = text_of_read analyzer prints.meant prints.prints.read prints.prints.output a b prints.prints.builds.writes text
+    text_of = text_of_read known analyzer prints.meant prints.prints.read prints.prints.output a b prints.prints.builds.writes text
         (λ told. (prints.prints.builds.in_work told).readings) (λ told. (prints.prints.builds.in_work told).survivors) prints.prints.printed;
   }
 
@@ -46,8 +46,8 @@ module _ {known : Known} {analyzer : Analyzer} {bytes text : List ℕ} {a b : Di
     valid = prints.prints.builds.valid;
   }
 
-  both_wrote : Wrote a b
-  both_wrote = record { asked = asked_of analyzer prints.meant; read = prints.prints.read; output = prints.prints.output; writes = prints.prints.builds.writes }
+  both_wrote : Wrote known analyzer a b
+  both_wrote = record { meant = prints.meant; read = prints.prints.read; output = prints.prints.output; writes = prints.prints.builds.writes }
 
   has_work : IsTrue a.work.tells → HasWorkIndex analyzer bytes b.work.files
   has_work told = record { meant = prints.meant; is_script = prints.is_script; is_index = (prints.prints.builds.in_work told).index }
@@ -226,18 +226,18 @@ module _ {S K : Type 0} {known : Known} {analyzer : Analyzer} {words : List (Str
       by (not_written other text commanded is takes prints part rose later) = admitted other text takes prints
       by (done other text commanded is takes prints appends later) = admitted other text takes prints
 
-  pub ran_does : BuildDoes status a.directories b.directories
+  pub ran_does : BuildDoes known analyzer status a.directories b.directories
   ran_does = by r
     where
-      by : Runs known analyzer words status source source_after sink sink_after a b → BuildDoes status a.directories b.directories
-      by (no_command not_build is same_source same_sink same) = subst (λ (s : Status). BuildDoes s a.directories b.directories) (sym is) (ap (λ (w : World). w.directories) same)
-      by (not_read commanded is rose takes same_sink none same) = subst (λ (s : Status). BuildDoes s a.directories b.directories) (sym is) (inl same)
-      by (too_long commanded is long takes same_sink none same) = subst (λ (s : Status). BuildDoes s a.directories b.directories) (sym is) same
+      by : Runs known analyzer words status source source_after sink sink_after a b → BuildDoes known analyzer status a.directories b.directories
+      by (no_command not_build is same_source same_sink same) = subst (λ (s : Status). BuildDoes known analyzer s a.directories b.directories) (sym is) (ap (λ (w : World). w.directories) same)
+      by (not_read commanded is rose takes same_sink none same) = subst (λ (s : Status). BuildDoes known analyzer s a.directories b.directories) (sym is) (inl same)
+      by (too_long commanded is long takes same_sink none same) = subst (λ (s : Status). BuildDoes known analyzer s a.directories b.directories) (sym is) same
       by (starved commanded is takes same_sink none same) =
-          subst (λ (s : Status). BuildDoes s a.directories b.directories) (sym is) (subst (λ (d : Directories). BuildDoes Memory a.directories d) (sym same) (inl (stopped-before a.directories)))
+          subst (λ (s : Status). BuildDoes known analyzer s a.directories b.directories) (sym is) (subst (λ (d : Directories). BuildDoes known analyzer Memory a.directories d) (sym same) (inl (stopped-before known analyzer a.directories)))
       by (ended bytes commanded takes ends same_sink none) = ended_does ends
-      by (not_written bytes text commanded is takes prints part rose later) = subst (λ (s : Status). BuildDoes s a.directories b.directories) (sym is) (inr (both_wrote prints))
-      by (done bytes text commanded is takes prints appends later) = subst (λ (s : Status). BuildDoes s a.directories b.directories) (sym is) (both_wrote prints)
+      by (not_written bytes text commanded is takes prints part rose later) = subst (λ (s : Status). BuildDoes known analyzer s a.directories b.directories) (sym is) (inr (both_wrote prints))
+      by (done bytes text commanded is takes prints appends later) = subst (λ (s : Status). BuildDoes known analyzer s a.directories b.directories) (sym is) (both_wrote prints)
 
   -- ---- the streams
 
@@ -255,19 +255,19 @@ module _ {S K : Type 0} {known : Known} {analyzer : Analyzer} {words : List (Str
 
   pub ran_stream : status ≡ Stream
       → (Rose a.source.faults b.source.faults × (sink_after ≡ sink))
-      ⊎ (Rose a.sink.faults b.sink.faults × IfSome a.source.left (λ bytes. GainsPart (IsTextOf analyzer bytes a.directories b.directories) a.sink.written b.sink.written))
+      ⊎ (Rose a.sink.faults b.sink.faults × IfSome a.source.left (λ bytes. GainsPart (IsTextOf known analyzer bytes a.directories b.directories) a.sink.written b.sink.written))
   ran_stream at = by r
     where
       by : Runs known analyzer words status source source_after sink sink_after a b
           → (Rose a.source.faults b.source.faults × (sink_after ≡ sink))
-          ⊎ (Rose a.sink.faults b.sink.faults × IfSome a.source.left (λ bytes. GainsPart (IsTextOf analyzer bytes a.directories b.directories) a.sink.written b.sink.written))
+          ⊎ (Rose a.sink.faults b.sink.faults × IfSome a.source.left (λ bytes. GainsPart (IsTextOf known analyzer bytes a.directories b.directories) a.sink.written b.sink.written))
       by (no_command not_build is same_source same_sink same) = absurd (cc (sym is ∙ at))
       by (not_read commanded is rose takes same_sink none same) = inl (rose, same_sink)
       by (too_long commanded is long takes same_sink none same) = absurd (cc (sym is ∙ at))
       by (starved commanded is takes same_sink none same) = absurd (cc (sym is ∙ at))
       by (ended bytes commanded takes ends same_sink none) = absurd (subst IsEarly at (ended_early ends))
       by (not_written bytes text commanded is takes prints part rose later) =
-          inr (rose, of_all a.source.left bytes (λ bytes. GainsPart (IsTextOf analyzer bytes a.directories b.directories) a.sink.written b.sink.written) takes.all (record { text = text; is_text = is_text prints; appended = part }))
+          inr (rose, of_all a.source.left bytes (λ bytes. GainsPart (IsTextOf known analyzer bytes a.directories b.directories) a.sink.written b.sink.written) takes.all (record { text = text; is_text = is_text prints; appended = part }))
       by (done bytes text commanded is takes prints appends later) = absurd (cc (sym is ∙ at))
 
   pub ran_takes : Takes a.source b.source ⊎ (b.source ≡ a.source)
@@ -320,9 +320,9 @@ module _ {S K : Type 0} {known : Known} {analyzer : Analyzer} {words : List (Str
       by (not_written bytes text commanded is takes prints part rose later) = absurd (cc (sym is ∙ at))
       by (done bytes text commanded is takes prints appends later) = record { bytes = bytes; text = text; takes = takes; prints = prints; appends = appends }
 
-  pub ran_done : status ≡ Done → IfSome a.source.left (λ bytes. (length bytes ≤ max_script) × Gains (IsTextOf analyzer bytes a.directories b.directories) a.sink.written b.sink.written)
+  pub ran_done : status ≡ Done → IfSome a.source.left (λ bytes. (length bytes ≤ max_script) × Gains (IsTextOf known analyzer bytes a.directories b.directories) a.sink.written b.sink.written)
   ran_done at = let d = is_done at in
-      of_all a.source.left d.bytes (λ bytes. (length bytes ≤ max_script) × Gains (IsTextOf analyzer bytes a.directories b.directories) a.sink.written b.sink.written) d.takes.all
+      of_all a.source.left d.bytes (λ bytes. (length bytes ≤ max_script) × Gains (IsTextOf known analyzer bytes a.directories b.directories) a.sink.written b.sink.written) d.takes.all
       (d.takes.short, record { text = d.text; is_text = is_text d.prints; appended = d.appends })
 
   pub ran_valid : status ≡ Done → IfSome a.source.left (IsValidScript (IsTrue a.directories.work.tells) known analyzer)

@@ -1,16 +1,12 @@
--- What the reading back of segments comes to: how the count of faults goes, and what was read.
-use Rattle.std.proofs.Common.{◌≡◌, ◌≤◌, ℕ, suc, List, [], ◌∷◌, length, Ok, refl, ap, arith}
+-- What the reading back of segments comes to.
+use Rattle.std.proofs.Common.{◌≡◌, suc, List, [], ◌∷◌, length, Ok, refl, ap}
 use Rattle.std.specs.List.{AllByRecursion}
-use Rattle.seg_common.specs.Causes.{Rose}
 use Rattle.seg_model.specs.Fields.{Schema}
-use Rattle.seg_model.specs.IndexOfFiles.{ListedSegment}
-use Rattle.seg_join.specs.KeptSegment.{KeptSegment}
+use Rattle.seg_meta.specs.IndexOfFiles.{ListedSegment}
+use Rattle.seg_open.specs.KeptSegment.{KeptSegment}
 use Rattle.seg_directory.specs.State.{DirectoryState}
 use Rattle.seg_batches.specs.Reading.{ReadsSegments}
 use Rattle.seg_batches.proofs.ReadLaws.{EachRead, IsOf, segments_of_schema}
-
-pub rose_before : (a b c : ℕ) → a ≤ b → Rose b c → Rose a c
-rose_before a b c le rose = omega (arith, le, rose)
 
 each_counted : (schema : Schema) (segments : List ListedSegment) (read : List KeptSegment) → EachRead (IsOf schema) segments read → length read ≡ length segments
 each_counted schema [] [] h = refl

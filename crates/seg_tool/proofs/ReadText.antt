@@ -6,6 +6,7 @@ use Rattle.std.specs.List.{AllByRecursion}
 use Rattle.std.specs.Option.{option_map}
 use Rattle.std.proofs.lemmas.Bool.{false≢true}
 use Rattle.std.proofs.lemmas.List.{append-nil, drop_all, length-map}
+use Rattle.std.proofs.lemmas.Option.{same_Some}
 use Rattle.seg_values.specs.Tree.{Document}
 use Rattle.seg_model.specs.Columns.{Columns, columns}
 use Rattle.seg_model.specs.Contents.{Contents, Reading, full_reading, reading, reading_part, reading_with}
@@ -13,18 +14,18 @@ use Rattle.seg_model.specs.Fields.{Schema, Analyzer}
 use Rattle.seg_model.specs.Input.{Input, input_batches, input_survivors}
 use Rattle.seg_model.specs.Laws.{AreReadingsOf}
 use Rattle.seg_model.specs.Operations.{Batch}
+use Rattle.seg_model.specs.Valid.{Known}
 use Rattle.seg_open.specs.OpenSegment.{OpenSegment, contents_of}
-use Rattle.seg_join.specs.KeptSegment.{KeptSegment, marks_of, part_of}
+use Rattle.seg_open.specs.KeptSegment.{KeptSegment, marks_of, part_of}
 use Rattle.seg_batches.specs.Segments.{listed, segments_of}
-use Rattle.seg_merge.specs.DirectoryCalls.{Directories, WritesBoth, asked_of}
+use Rattle.seg_merge.specs.DirectoryCalls.{WritesBoth}
 use Rattle.seg_merge.specs.IndexFiles.{output_id, work_ids, work_segments}
+use Rattle.seg_merge.specs.Turns.{Directories}
+use Rattle.seg_merge.proofs.ReadBack.{reads_of}
 use Rattle.seg_text.specs.SegmentText.{segment_text}
 use Rattle.seg_tool.specs.Printing.{all_kept, read_segment, read_segment_text, read_text, read_work_text}
 use Rattle.seg_tool.specs.Run.{build_text, segment, work_text, output_text, IsTextOfInput}
 use Rattle.seg_tool.proofs.ReadBack.{as_many, of_schema}
-
-some_is : {X : Type 0} (x y : X) → Some x ≡ Some y → x ≡ y
-some_is x y e = cc
 
 -- contents that are all that is read of documents have their reading
 read_part : (schema : Schema) (analyzer : Analyzer) (documents : List Document) (contents : Contents) → full_reading schema analyzer documents ≡ Some contents → reading_part contents ≡ reading schema analyzer documents
@@ -32,7 +33,7 @@ read_part schema analyzer documents contents is = by (columns schema analyzer do
   where
     by : (o : Option Columns) → option_map (reading_with schema analyzer documents) o ≡ Some contents → reading_part contents ≡ reading schema analyzer documents
     by None none = absurd (false≢true (ap is_some none))
-    by (Some cs) some = ap reading_part (sym (some_is (reading_with schema analyzer documents cs) contents some))
+    by (Some cs) some = ap reading_part (sym (same_Some (reading_with schema analyzer documents cs) contents some))
 
 -- the text of a segment of such contents
 segment_is : (schema : Schema) (analyzer : Analyzer) (label : List ℕ) (id : ℕ) (documents : List Document) (alive : List Bool) (read : KeptSegment)
@@ -67,20 +68,20 @@ output_is schema analyzer id survivors output same is =
 
 -- ---- both
 
-module _ (analyzer : Analyzer) (input : Input) (read : List KeptSegment) (output : OpenSegment) (before after : Directories) (writes : WritesBoth (asked_of analyzer input) read output before after) where
+module _ (known : Known) (analyzer : Analyzer) (input : Input) (read : List KeptSegment) (output : OpenSegment) (before after : Directories) (writes : WritesBoth known analyzer input read output before after) where
   read_is_build : AreReadingsOf input.schema analyzer (input_batches analyzer input) (map part_of read)
       → full_reading input.schema analyzer (input_survivors analyzer input) ≡ Some (contents_of output)
       → read_text input.ids read output ≡ build_text analyzer input
   read_is_build are is =
       ap (λ xs. xs ++ read_segment_text (codes "output") (output_id input.ids) (all_kept output))
-      (work_is input.schema analyzer (work_ids input.ids) (input_batches analyzer input) read (of_schema input.schema _ read _ _ writes.work.reads) are)
+      (work_is input.schema analyzer (work_ids input.ids) (input_batches analyzer input) read (of_schema input.schema _ read _ _ (reads_of known analyzer input read before after writes.builds).2) are)
       ∙ ap (λ xs. work_text input.schema analyzer (work_ids input.ids) (input_batches analyzer input) ++ xs)
       (output_is input.schema analyzer (output_id input.ids) (input_survivors analyzer input) output writes.schema is)
 
   -- the text of what was read back
   pub text_of_read : (text : List ℕ) → (IsTrue before.work.tells → AreReadingsOf input.schema analyzer (input_batches analyzer input) (map part_of read))
       → (IsTrue before.work.tells → full_reading input.schema analyzer (input_survivors analyzer input) ≡ Some (contents_of output))
-      → text ≡ read_text input.ids read output → IsTextOfInput analyzer input before after text
+      → text ≡ read_text input.ids read output → IsTextOfInput known analyzer input before after text
   text_of_read text are is printed = record {
     read = read;
     output = output;
@@ -97,10 +98,10 @@ segments_few [] batches = omega arith
 segments_few (id ∷ ids) [] = omega arith
 segments_few (id ∷ ids) (b ∷ batches) = let rest = segments_few ids batches in omega (arith, rest)
 
-pub ids_enough : (analyzer : Analyzer) (given input : Input) (read : List KeptSegment) (output : OpenSegment) (before after : Directories) → given ≡ input
-    → WritesBoth (asked_of analyzer given) read output before after → length read ≤ length (work_ids input.ids)
-ids_enough analyzer given input read output before after same writes =
-    let many = as_many given.schema _ read _ _ writes.work.reads in
+pub ids_enough : (known : Known) (analyzer : Analyzer) (given input : Input) (read : List KeptSegment) (output : OpenSegment) (before after : Directories) → given ≡ input
+    → WritesBoth known analyzer given read output before after → length read ≤ length (work_ids input.ids)
+ids_enough known analyzer given input read output before after same writes =
+    let many = as_many given.schema _ read _ _ (reads_of known analyzer given read before after writes.builds).2 in
     let listed_many = length-map (work_segments analyzer given) (listed (length given.operations)) in
     let few = segments_few (work_ids given.ids) (input_batches analyzer given) in
     subst (λ (s : Input). length read ≤ length (work_ids s.ids)) same (omega (arith, many, listed_many, few))
@@ -154,7 +155,7 @@ same_text label id item reader alive is marks =
 
 last_at : (ids : List ℕ) (n id : ℕ) → n + 1 ≡ length ids → Some id ≡ slice_get ids n → id ≡ output_id ids
 last_at [] n id e is = absurd (omega (arith, e))
-last_at (x ∷ []) zero id e is = some_is id x is
+last_at (x ∷ []) zero id e is = same_Some id x is
 last_at (x ∷ []) (suc n) id e is = absurd (omega (arith, e))
 last_at (x ∷ y ∷ ids) zero id e is = absurd (omega (arith, e))
 last_at (x ∷ y ∷ ids) (suc n) id e is = last_at (y ∷ ids) n id (omega (arith, e)) is

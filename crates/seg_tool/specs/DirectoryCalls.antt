@@ -1,42 +1,47 @@
 -- What a run of `build` does to the work directory and to the output directory, by its status.
-use Rattle.std.specs.Prelude.{◌≡◌, ◌⊎◌, List, IsTrue}
+use Rattle.std.specs.Prelude.{◌≡◌, ◌⊎◌, List, Err, IsTrue}
 use Rattle.std.specs.FinMap.{len}
 use Rattle.seg_common.specs.Causes.{Rose}
 use Rattle.seg_values.specs.declared.error.TantivyError.{TantivyError}
 use Rattle.seg_values.specs.declared.error.TantivyError.TheVariants.{IndexAlreadyExists, OpenReadError, OpenWriteError, IoError, DataCorruption, OutOfMemory}
+use Rattle.seg_model.specs.Fields.{Analyzer}
+use Rattle.seg_model.specs.Input.{Input}
+use Rattle.seg_model.specs.Valid.{Known}
 use Rattle.seg_open.specs.OpenSegment.{OpenSegment}
-use Rattle.seg_join.specs.KeptSegment.{KeptSegment}
+use Rattle.seg_open.specs.KeptSegment.{KeptSegment}
 use Rattle.seg_directory.specs.State.{DirectoryState}
-use Rattle.seg_merge.specs.DirectoryCalls.{Asked, Directories, StopsIn, WritesBoth}
+use Rattle.seg_merge.specs.DirectoryCalls.{BuildsIndexes, WritesBoth}
+use Rattle.seg_merge.specs.Turns.{Directories}
 use Rattle.seg_tool.specs.declared.status.Status.{Status}
 use Rattle.seg_tool.specs.declared.status.Status.TheVariants.{Done, Refused, Exists, Directory, Damaged, Stream, Memory}
 
--- both indexes were written, the second of what was read of the first
-pub record Wrote (before after : Directories) : Type 0 where
-  pub asked : Asked
+-- both indexes of some input were written, the second of what was read of the first
+pub record Wrote (known : Known) (analyzer : Analyzer) (before after : Directories) : Type 0 where
+  pub meant : Input
   pub read : List KeptSegment
   pub output : OpenSegment
-  pub writes : WritesBoth asked read output before after
+  pub writes : WritesBoth known analyzer meant read output before after
 
 -- it stopped with an error
-pub record Stopped (e : TantivyError) (before after : Directories) : Type 0 where
-  pub asked : Asked
-  pub stops : StopsIn asked e before after
+pub record Stopped (known : Known) (analyzer : Analyzer) (e : TantivyError) (before after : Directories) : Type 0 where
+  pub meant : Input
+  pub stops : BuildsIndexes known analyzer meant (Err e) before after
 
 -- an error of a directory that failed
 abbrev pub IsFault : TantivyError → Type 0
 IsFault e = (e ≡ OpenReadError) ⊎ ((e ≡ OpenWriteError) ⊎ (e ≡ IoError))
 
 -- what becomes of the directories, by the status: nothing where they are not come to
-abbrev pub BuildDoes : Status → Directories → Directories → Type 0
-BuildDoes Done before after = Wrote before after
-BuildDoes (Refused e) before after = (after ≡ before) ⊎ Stopped e before after
-BuildDoes (Exists e) before after = (e ≡ IndexAlreadyExists) × Stopped e before after
-BuildDoes (Directory e) before after = IsFault e × Stopped e before after
-BuildDoes (Damaged name) before after = Stopped (DataCorruption name) before after
-BuildDoes Stream before after = (after ≡ before) ⊎ Wrote before after
-BuildDoes Memory before after = Stopped OutOfMemory before after ⊎ Wrote before after
-BuildDoes _ before after = after ≡ before
+abbrev pub BuildDoes : Known → Analyzer → Status → Directories → Directories → Type 0
+BuildDoes known analyzer Done before after = Wrote known analyzer before after
+BuildDoes known analyzer (Refused e) before after = (after ≡ before) ⊎ Stopped known analyzer e before after
+BuildDoes known analyzer (Exists e) before after = (e ≡ IndexAlreadyExists) × Stopped known analyzer e before after
+BuildDoes known analyzer (Directory e) before after = IsFault e × Stopped known analyzer e before after
+BuildDoes known analyzer (Damaged name) before after = Stopped known analyzer (DataCorruption name) before after
+BuildDoes known analyzer Stream before after = (after ≡ before) ⊎ Wrote known analyzer before after
+BuildDoes known analyzer Memory before after =
+    Stopped known analyzer OutOfMemory before after ⊎ Wrote known analyzer before after
+BuildDoes known analyzer _ before after = after ≡ before
 
 -- a directory that tells its files, of which there is none, and does not fail
 pub record IsReady (before after : DirectoryState) : Type 0 where

@@ -4,7 +4,7 @@ use Rattle.std.specs.FinMap.{entries}
 use Rattle.seg_model.specs.Contents.{reading_part}
 use Rattle.seg_postings.specs.FieldReading.{OpenField}
 use Rattle.seg_open.specs.OpenSegment.{OpenSegment, contents_of, terms_in}
-use Rattle.seg_join.specs.KeptSegment.{KeptSegment}
+use Rattle.seg_open.specs.KeptSegment.{KeptSegment}
 use Rattle.seg_merge.specs.IndexFiles.{output_id, work_ids}
 use Rattle.seg_text.specs.FieldText.{field_text}
 use Rattle.seg_text.specs.SegmentText.{PrintedSegment, segment_text}

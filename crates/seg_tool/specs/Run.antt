@@ -15,12 +15,13 @@ use Rattle.seg_model.specs.Input.{Input, input_batches, input_survivors}
 use Rattle.seg_model.specs.Operations.{Batch}
 use Rattle.seg_model.specs.Valid.{Known}
 use Rattle.seg_open.specs.OpenSegment.{OpenSegment}
-use Rattle.seg_join.specs.KeptSegment.{KeptSegment}
+use Rattle.seg_open.specs.KeptSegment.{KeptSegment}
 use Rattle.seg_refusals.specs.Admitted.{IsValidIf}
 use Rattle.seg_refusals.specs.Inputs.{is_built_input}
 use Rattle.seg_refusals.specs.Refusals.{first_error, refusal_error}
-use Rattle.seg_merge.specs.DirectoryCalls.{Directories, WritesBoth, asked_of}
+use Rattle.seg_merge.specs.DirectoryCalls.{WritesBoth}
 use Rattle.seg_merge.specs.IndexFiles.{IsMergedIndexOf, IsOutputIndexOf, IsWorkIndexOf, output_id, work_ids}
+use Rattle.seg_merge.specs.Turns.{Directories}
 use Rattle.seg_script.specs.Script.{json_of, script}
 use Rattle.seg_text.specs.SegmentText.{PrintedSegment, segment_text}
 use Rattle.seg_tool.specs.Printing.{read_text}
@@ -76,18 +77,18 @@ pub record IsValidScript (told : Type 0) (known : Known) (analyzer : Analyzer) (
   pub valid : IsValidIf told known analyzer meant
 
 -- both indexes of an input were written, and this is the text of the segments: of the work segments as they were read back, and of the output segment that these were merged into; where the work directory tells, it is that of the readings of the documents
-pub record IsTextOfInput (analyzer : Analyzer) (input : Input) (before after : Directories) (text : List ℕ) : Type 0 where
+pub record IsTextOfInput (known : Known) (analyzer : Analyzer) (input : Input) (before after : Directories) (text : List ℕ) : Type 0 where
   pub read : List KeptSegment
   pub output : OpenSegment
-  pub writes : WritesBoth (asked_of analyzer input) read output before after
+  pub writes : WritesBoth known analyzer input read output before after
   pub printed : text ≡ read_text input.ids read output
   pub told : IsTrue before.work.tells → text ≡ build_text analyzer input
 
 -- the bytes are a script, and this is the text of its indexes
-pub record IsTextOf (analyzer : Analyzer) (bytes : List ℕ) (before after : Directories) (text : List ℕ) : Type 0 where
+pub record IsTextOf (known : Known) (analyzer : Analyzer) (bytes : List ℕ) (before after : Directories) (text : List ℕ) : Type 0 where
   pub meant : Input
   pub is_script : script bytes ≡ Some meant
-  pub text_of : IsTextOfInput analyzer meant before after text
+  pub text_of : IsTextOfInput known analyzer meant before after text
 
 -- the bytes are a script, and the files are its work index
 pub record HasWorkIndex (analyzer : Analyzer) (bytes : List ℕ) (files : NamedFiles) : Type 0 where

@@ -1,5 +1,5 @@
 -- What a run does, by how it ends.
-use Rattle.std.specs.Prelude.{ℕ, ◌≡◌, ◌<◌, ◌≤◌, ◌+◌, List, length, Bool, true, false, Option, Some, None, IfSome, IsSome, String}
+use Rattle.std.specs.Prelude.{ℕ, ◌≡◌, ◌<◌, ◌≤◌, ◌+◌, List, length, true, false, Option, Some, None, IfSome, IsSome, String}
 use Rattle.std.specs.Io.KnownBytes.{Appends, IsAtEnd}
 use Rattle.std.specs.declared.alloc.Global.{Global}
 use Rattle.seg_common.specs.Causes.{Rose}
@@ -12,9 +12,9 @@ use Rattle.seg_model.specs.Fields.{Analyzer}
 use Rattle.seg_model.specs.Input.{Input}
 use Rattle.seg_model.specs.Valid.{Known}
 use Rattle.seg_open.specs.OpenSegment.{OpenSegment}
-use Rattle.seg_join.specs.KeptSegment.{KeptSegment}
+use Rattle.seg_open.specs.KeptSegment.{KeptSegment}
 use Rattle.seg_merge.specs.Builds.{Builds, StopsBuilding}
-use Rattle.seg_merge.specs.DirectoryCalls.{Directories}
+use Rattle.seg_merge.specs.Turns.{Directories}
 use Rattle.seg_script.specs.Script.{json_of, script}
 use Rattle.seg_tool.specs.Printing.{read_text}
 use Rattle.seg_tool.specs.Run.{is_build, max_script}

@@ -1,6 +1,6 @@
 //! From the bytes of a script to its indexes and the text of their segments.
 ghost use Rattle.std.specs.Prelude.{◌≡◌, ◌≤◌, ◌++◌, IfErr, IfOk, OnOk, length};
-ghost use Rattle.seg_merge.specs.DirectoryCalls.{both};
+ghost use Rattle.seg_merge.specs.Turns.{both};
 ghost use Rattle.seg_merge.specs.IndexFiles.{output_id, work_ids};
 ghost use Rattle.seg_tool.specs.Printing.{read_text, read_work_text};
 ghost use Rattle.seg_tool.specs.Runs.{Ends, EndsInput, Prints, PrintsInput};
@@ -15,7 +15,8 @@ use seg_input::BuildInput;
 use seg_merge::{BuiltIndex, build_index_with_readers};
 use seg_open::SegmentReader;
 use seg_script::{ScriptError, read_script};
-use seg_values::{Analyzers, ArgumentCause, TantivyError};
+use seg_values::{ArgumentCause, TantivyError};
+use seg_words::Analyzers;
 use std::alloc::{AllocError, Global};
 
 /// What is asked for is not built yet.
@@ -56,19 +57,8 @@ fn build_and_print<Z: Analyzers, W: Directory, O: Directory>(
     ensures ends { IfErr result (λ status. EndsInput (Z.knows analyzers.now) (Z.tokens_of analyzers.now) input.now status
         (both (W.state work.old) (O.state output.old)) (both (W.state work.new) (O.state output.new))) }
 {
-    let built = build_index_with_readers(
-        alloc,
-        &input.schema,
-        &input.settings,
-        analyzers,
-        &input.operations,
-        &input.cuts,
-        &input.filters,
-        &input.ids,
-        work,
-        output,
-    );
-    match built {
+    let given = input.as_ref();
+    match build_index_with_readers(alloc, &given, analyzers, work, output) {
         Ok(built) => match built_text(alloc, input, built) {
             Ok(text) => Ok(text),
             Err(AllocError) => Err(Status::Memory),

@@ -7,7 +7,7 @@ ghost use Rattle.seg_common.specs.Streams.{AppendsPart, TakesAtMost};
 ghost use Rattle.seg_tool.specs.Run.{is_build, max_script, first_of, HasMergedIndex, HasOutputIndex, HasWorkIndex, IsAdmitted, IsJson, IsNoScript, IsTextOf, IsValidScript, IsWhyRefused, IsWhyRefusedUntold, Gains, GainsPart};
 ghost use Rattle.seg_tool.specs.Runs.{Runs, sink_state, source_state, world};
 ghost use Rattle.seg_tool.specs.Statuses.{IfRefused, IfWritten, RefusedFor, status_line};
-ghost use Rattle.seg_merge.specs.DirectoryCalls.{both};
+ghost use Rattle.seg_merge.specs.Turns.{both};
 ghost use Rattle.seg_script.specs.Script.{json_of, script};
 ghost use Rattle.seg_tool.specs.DirectoryCalls.{BuildDoes, IsReady};
 ghost use Rattle.std.specs.FinMap.{len};
@@ -18,7 +18,8 @@ use crate::status::Status;
 use seg_common::{FileName, ReadError, Sink, SinkFailed, Source, read_to_end, write_whole};
 use seg_directory::Directory;
 use seg_model::valid_inputs_are_not_refused;
-use seg_values::{Analyzers, TantivyError};
+use seg_values::TantivyError;
+use seg_words::Analyzers;
 use std::alloc::Global;
 
 /// The most bytes of a script.
@@ -65,14 +66,14 @@ pub fn run<S: Source, K: Sink, F: Sink, Z: Analyzers, W: Directory, O: Directory
     // What goes to the sink: the text of the segments that were read back, and of what they were merged into.
     ensures done { result ≡ Status.Done → IfSome (S.left source.old)
         (λ bytes. (length bytes ≤ max_script)
-        × Gains (IsTextOf (Z.tokens_of analyzers.now) bytes
+        × Gains (IsTextOf (Z.knows analyzers.now) (Z.tokens_of analyzers.now) bytes
         (both (W.state work.old) (O.state output.old)) (both (W.state work.new) (O.state output.new)))
         (K.written sink.old) (K.written sink.new)) }
     ensures untouched { result ≢ Status.Done → result ≢ Status.Stream → sink.new ≡ sink.old }
     ensures stream { result ≡ Status.Stream →
         (Rose (S.faults source.old) (S.faults source.new) × (sink.new ≡ sink.old))
         ⊎ (Rose (K.faults sink.old) (K.faults sink.new) × IfSome (S.left source.old)
-        (λ bytes. GainsPart (IsTextOf (Z.tokens_of analyzers.now) bytes
+        (λ bytes. GainsPart (IsTextOf (Z.knows analyzers.now) (Z.tokens_of analyzers.now) bytes
         (both (W.state work.old) (O.state output.old)) (both (W.state work.new) (O.state output.new)))
         (K.written sink.old) (K.written sink.new))) }
 
@@ -89,7 +90,7 @@ pub fn run<S: Source, K: Sink, F: Sink, Z: Analyzers, W: Directory, O: Directory
         → IsTrue (O.state output.old).tells → len (O.state output.old).files ≡ 0
         → (e : TantivyError) → result ≢ Status.Exists e }
     ensures whole { IsTrue (W.state work.old).tells → (name : FileName) → result ≢ Status.Damaged name }
-    ensures calls { BuildDoes result
+    ensures calls { BuildDoes (Z.knows analyzers.now) (Z.tokens_of analyzers.now) result
         (both (W.state work.old) (O.state output.old)) (both (W.state work.new) (O.state output.new)) }
     ensures unwritten_script { result ≡ Status.Script → W.state work.new ≡ W.state work.old }
     ensures unwritten_words { result ≡ Status.Words → W.state work.new ≡ W.state work.old }

@@ -12,7 +12,7 @@ ghost use Rattle.seg_text.specs.DocumentText.{documents_text};
 ghost use Rattle.seg_text.specs.FieldText.{field_text, fields_text, term_line};
 ghost use Rattle.seg_text.specs.PostingText.{posting_text};
 ghost use Rattle.seg_text.specs.HeaderText.{dead_text, header_text};
-ghost use Rattle.seg_join.specs.KeptSegment.{KeptSegment, marks_of};
+ghost use Rattle.seg_open.specs.KeptSegment.{KeptSegment, marks_of};
 ghost use Rattle.seg_tool.specs.Printing.{opened_text, read_segment_text};
 
 use seg_bits::AliveBitSet;

@@ -79,8 +79,14 @@ fn put(streams: &mut Streams, is_output: bool, directory: MemoryDirectory) {
     }
 }
 
-/// Whether such a run ends with `Directory` and this line, and without a file in an output directory that doesn't fail; or
-/// with `Done` where it comes to fewer calls.
+/// How many files the output directory has where a call of the other one fails: those of the index that is begun in it
+/// before the work index is read back.
+fn files_begun(kind: CallKind) -> u64 {
+    if kind == CallKind::OpenRead { 1 } else { 0 }
+}
+
+/// Whether such a run ends with `Directory` and this line, and with the files that were begun in an output directory that
+/// doesn't fail; or with `Done` where it comes to fewer calls.
 fn call_fails(
     alloc: Global,
     fails_output: bool,
@@ -93,7 +99,7 @@ fn call_fails(
     let (expected, said) = if number < calls { (6, line) } else { (0, "") };
     let is_told = ended == expected && streams.faults.bytes() == said.as_bytes();
     let may_have_files = fails_output || number >= calls;
-    Ok(is_told && (may_have_files || streams.output.list(alloc).ok() == Some(0)))
+    Ok(is_told && (may_have_files || streams.output.list(alloc).ok() == Some(files_begun(kind))))
 }
 
 /// Whether each of this many calls may fail, and no further one comes.

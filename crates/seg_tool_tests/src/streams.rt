@@ -3,7 +3,7 @@
 use seg_common::{MemorySink, MemorySource};
 use seg_directory::{FailingCall, MemoryDirectory};
 use seg_tool::run;
-use seg_values::{DefaultTokenizer, TokenizerManager};
+use seg_words::{DefaultTokenizer, TokenizerManager};
 use std::alloc::{AllocError, Global};
 
 const ENTRY: &str =

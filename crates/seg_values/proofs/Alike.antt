@@ -1,14 +1,15 @@
 -- Lists that are the same up to a place, and what trees, pairs and addresses are known by.
-use Rattle.std.proofs.Common.{◌≡◌, ℕ, zero, suc, ◌+◌, ◌<◌, ◌*◌, ◌/◌, ◌%◌, List, [], ◌∷◌, length, Some, take, get_or, map, refl, sym, ap, subst, ◌∙◌, arith}
+use Rattle.std.proofs.Common.{◌≡◌, ℕ, zero, suc, ◌+◌, ◌<◌, ◌/◌, ◌%◌, List, [], ◌∷◌, length, Some, take, get_or, map, refl, sym, ap, subst, ◌∙◌, arith}
 use Rattle.std.specs.Prelude.{is_some, not, nat_eq, ◌&&◌, Bool, true, false}
 use mathlib.Core.Bool.{true≢false}
 use Rattle.std.specs.Bool.{Decides}
 use Rattle.std.specs.List.{slice_get}
 use Rattle.std.proofs.lemmas.List.{length-map}
-use Rattle.std.proofs.lemmas.Bool.Decides.{Decides-eqb, Decides-and, Decides-like, Decides-at}
+use Rattle.std.proofs.lemmas.Bool.Decides.{Decides-eqb, Decides-and, Decides-like}
 use Rattle.std.specs.Net.Addr.{octets_of}
+use Rattle.std.proofs.lemmas.Bool.{not-true, not-false}
 use Rattle.seg_values.specs.Code.{tree_code}
-use Rattle.seg_values.specs.Same.{same_by, same_by-decides}
+use Rattle.seg_words.specs.Same.{same_by, same_by-decides}
 use Rattle.seg_values.specs.Tree.{Tree, array, object, trees_from, members_from}
 
 module _ {Y : Type 0} where
@@ -83,21 +84,13 @@ array-inj ts us e = trees_from-inj ts us cc
 pub object-inj : (ms ns : List (List ℕ × Tree)) → object (members_from ms) ≡ object (members_from ns) → ms ≡ ns
 object-inj ms ns e = members_from-inj ms ns cc
 
-is_so : (b : Bool) → not b ≡ false → b ≡ true
-is_so true e = refl
-is_so false e = sym e
-
-is_not : (b : Bool) → not b ≡ true → b ≡ false
-is_not true e = sym e
-is_not false e = refl
-
 -- what the test of two pairs tells
 module _ (differ : Bool) (p q : ℕ × Tree) (is : differ ≡ not (nat_eq p.0 q.0 && same_by tree_code p.1 q.1)) where
   pairs : Decides (nat_eq p.0 q.0 && same_by tree_code p.1 q.1) (p ≡ q)
   pairs = Decides-like (nat_eq p.0 q.0 && same_by tree_code p.1 q.1) (λ e i. (e.0 i, e.1 i)) (λ e. (ap (λ (p : ℕ × Tree). p.0) e, ap (λ (p : ℕ × Tree). p.1) e)) (Decides-and (nat_eq p.0 q.0) (same_by tree_code p.1 q.1) (Decides-eqb p.0 q.0) (same_by-decides tree_code p.1 q.1))
 
   pub same_pair : differ ≡ false → p ≡ q
-  same_pair e = pairs.0 (is_so (nat_eq p.0 q.0 && same_by tree_code p.1 q.1) (sym is ∙ e))
+  same_pair e = pairs.0 (not-false (nat_eq p.0 q.0 && same_by tree_code p.1 q.1) (sym is ∙ e))
 
   pub other_pair : differ ≡ true → p ≡ q → ⊥
-  other_pair e same = true≢false (sym (pairs.1 same) ∙ is_not (nat_eq p.0 q.0 && same_by tree_code p.1 q.1) (sym is ∙ e))
+  other_pair e same = true≢false (sym (pairs.1 same) ∙ not-true (nat_eq p.0 q.0 && same_by tree_code p.1 q.1) (sym is ∙ e))

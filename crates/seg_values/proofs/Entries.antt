@@ -1,7 +1,6 @@
 -- Fields that are a schema, and one more.
-use Rattle.std.proofs.Common.{◌≡◌, ℕ, ◌+◌, ◌-◌, ◌^◌, ◌<◌, List, [], ◌∷◌, ◌++◌, length, length-append, Bool, true, ◌&&◌, nat_lt, None, refl, arith}
-use Rattle.std.proofs.lemmas.Bool.{and_parts}
-use Rattle.std.proofs.lemmas.Bool.Decides.{nat_tests}
+use Rattle.std.proofs.Common.{◌≡◌, ◌+◌, ◌-◌, ◌^◌, ◌<◌, List, [], ◌∷◌, ◌++◌, length, length-append, Bool, true, ◌&&◌, None, refl, arith}
+use Rattle.std.proofs.lemmas.Bool.{and_parts, lt-ltb}
 use Rattle.std.specs.List.{list_all}
 use Rattle.seg_values.specs.declared.schema.FieldEntry.{FieldEntry}
 use Rattle.seg_values.specs.Distinct.{all_distinct}
@@ -15,9 +14,6 @@ pub list_all-entry : (done : List FieldEntry) (e : FieldEntry) → list_all is_e
 list_all-entry [] e h k = rw k refl
 list_all-entry (x ∷ xs) e h k = let p = and_parts (is_entry x) (list_all is_entry xs) h in rw (p.0, list_all-entry xs e p.1 k) refl
 
-below : (n m : ℕ) → n < m → nat_lt n m ≡ true
-below n m h = grind (arith, nat_tests)
-
 all_three : (a b c : Bool) → a ≡ true → b ≡ true → c ≡ true → (a && (b && c)) ≡ true
 all_three a b c p q r = rw (p, q, r)
 
@@ -27,4 +23,4 @@ is_schema-push es e is entry none few =
     let p = and_parts (list_all is_entry es) _ is in
     let q = and_parts (all_distinct same_name es) _ p.1 in
     let more : length (es ++ e ∷ []) < 2 ^ 32 - 1 = omega (arith, few, length-append es (e ∷ [])) in
-    all_three _ _ _ (list_all-entry es e p.0 entry) (all_distinct-push same_name same_name-sym es e q.0 (unnamed e es none)) (below _ _ more)
+    all_three _ _ _ (list_all-entry es e p.0 entry) (all_distinct-push same_name same_name-sym es e q.0 (unnamed e.name es none)) (lt-ltb _ _ more)

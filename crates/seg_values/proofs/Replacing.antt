@@ -8,11 +8,11 @@ use Rattle.std.proofs.lemmas.Bool.Decides.{nat_tests}
 use Rattle.std.proofs.lemmas.List.{map-append}
 use Rattle.seg_values.specs.Facets.{replacement}
 
-abbrev AreHigh : List ℕ → Type 0
+abbrev pub AreHigh : List ℕ → Type 0
 AreHigh bs = AllByRecursion (λ b. 128 ≤ b) bs
 
 -- a character past ASCII has high bytes alone
-encode_high : (c : ℕ) → 128 ≤ c → AreHigh (encode c)
+pub encode_high : (c : ℕ) → 128 ≤ c → AreHigh (encode c)
 unfolding encode
 encode_high c le = by (ltb c 128) (ltb c 2048) (ltb c 65536) refl
   where

@@ -4,21 +4,11 @@ use Rattle.std.proofs.Common.{sym, ap, subst, inl, inr}
 use Rattle.std.specs.Prelude.{not, nat_eq, T}
 use Rattle.std.proofs.lemmas.Bool.Decides.{nat_tests}
 use Rattle.std.proofs.Common.{arith}
-use base.Stored.{Gv, gnil, gnum, gcons, Coded, coded_unit, coded_ℕ, coded_ℤ, coded_bool, coded_list, coded⊎, coded×, num}
+use base.Stored.{Gv, gnil, gnum, gcons, Coded, coded_unit, coded_ℕ, coded_ℤ, coded_bool, coded_list, coded⊎, num}
 use Rattle.std.specs.Coded.{code_by}
 use Rattle.seg_values.specs.Tree.{Leaf, null, text, pre_tokenized, unsigned, signed, boolean, date, facet, byte_string, ip, Tree, leaf, array, object, Trees, no_trees, tree, Members, no_members, member}
-use Rattle.seg_values.specs.declared.token.Token.{Token}
-use Rattle.seg_values.specs.declared.token.PreTokenizedString.{PreTokenizedString}
-
-abbrev pub token_code : Coded Token
-token_code =
-    code_by (ℕ × (ℕ × (ℕ × (ℕ × List ℕ)))) (coded× coded_ℕ (coded× coded_ℕ (coded× coded_ℕ (coded× coded_ℕ (coded_list coded_ℕ)))))
-    (λ t. (t.offset_from, (t.offset_to, (t.position, (t.position_length, t.text)))))
-    (λ p. record { offset_from = p.0; offset_to = p.1.0; position = p.1.1.0; position_length = p.1.1.1.0; text = p.1.1.1.1 })
-    (λ _. refl)
-
-abbrev pub pre_tokenized_code : Coded PreTokenizedString
-pre_tokenized_code = code_by (List ℕ × List Token) (coded× (coded_list coded_ℕ) (coded_list token_code)) (λ p. (p.text, p.tokens)) (λ p. record { text = p.0; tokens = p.1 }) (λ _. refl)
+use Rattle.seg_words.specs.declared.token.PreTokenizedString.{PreTokenizedString}
+use Rattle.seg_words.specs.Code.{pre_tokenized_code, key_code}
 
 abbrev pub LeafSum : Type 0
 LeafSum = Unit {0} ⊎ (List ℕ ⊎ (PreTokenizedString ⊎ (ℕ ⊎ (ℤ ⊎ (Bool ⊎ (ℤ ⊎ (List ℕ ⊎ (List ℕ ⊎ List ℕ))))))))
@@ -61,9 +51,6 @@ sum_leaf-leaf_sum (ip a) = refl
 
 abbrev pub leaf_code : Coded Leaf
 leaf_code = code_by LeafSum (coded⊎ coded_unit (coded⊎ (coded_list coded_ℕ) (coded⊎ pre_tokenized_code (coded⊎ coded_ℕ (coded⊎ coded_ℤ (coded⊎ coded_bool (coded⊎ coded_ℤ (coded⊎ (coded_list coded_ℕ) (coded⊎ (coded_list coded_ℕ) (coded_list coded_ℕ)))))))))) leaf_sum sum_leaf sum_leaf-leaf_sum
-
-abbrev pub key_code : Coded (List ℕ)
-key_code = coded_list coded_ℕ
 
 abbrev mutual
   pub code_tree : Tree → Gv

@@ -1,12 +1,8 @@
 -- Values whose texts are UTF-8.
-use Rattle.std.specs.Prelude.{ℕ, List, IsUtf8}
+use Rattle.std.specs.Prelude.{IsUtf8}
 use Rattle.std.specs.List.{AllByRecursion}
-use Rattle.seg_values.specs.declared.token.Token.{Token}
 use Rattle.seg_values.specs.Tree.{Leaf, text, pre_tokenized, facet, Tree, leaf, array, object, Trees, no_trees, tree, Members, no_members, member, Document}
-
--- each token's own text is
-abbrev pub AreUtf8Tokens : List Token → Type 0
-AreUtf8Tokens tokens = AllByRecursion (λ t. IsUtf8 t.text) tokens
+use Rattle.seg_words.specs.Utf8.{AreUtf8Tokens}
 
 -- bytes need not be a text, and what is no text is
 abbrev pub IsUtf8Leaf : Leaf → Type 0

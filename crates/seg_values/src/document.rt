@@ -4,8 +4,8 @@ ghost use Rattle.seg_values.specs.Tree as trees;
 ghost use Rattle.seg_values.specs.View.{tree_of};
 
 use crate::schema::Field;
-use crate::text::Text;
 use crate::value::OwnedValue;
+use seg_words::Text;
 use std::alloc::{AllocError, Global};
 use std::marker::Model;
 

@@ -1,49 +1,14 @@
-//! Equality of texts, documents and values: where what contracts see of them is equal.
+//! Equality of facets, values and documents: where what contracts see of them is equal.
 ghost use Rattle.std.specs.Prelude.{◌≡◌, ◌↔◌, IsTrue};
 ghost use Rattle.std.specs.Coded.{coded_list, coded×, coded_ℕ};
-ghost use Rattle.seg_values.specs.Code.{key_code, token_code, pre_tokenized_code, tree_code};
-ghost use Rattle.seg_values.specs.Same.{same_by, same_partial_equivalence, same_partial_equivalence_on, same_equivalence, same_equivalence_on};
+ghost use Rattle.seg_words.specs.Code.{key_code};
+ghost use Rattle.seg_values.specs.Code.{tree_code};
+ghost use Rattle.seg_words.specs.Same.{same_by, same_partial_equivalence, same_partial_equivalence_on, same_equivalence, same_equivalence_on};
 ghost use Rattle.seg_values.specs.View.{tree_of, member_of};
 
 use crate::document::TantivyDocument;
 use crate::facet::Facet;
-use crate::text::{Bytes, Text};
-use crate::token::{PreTokenizedString, Token, Tokens};
 use crate::value::{Member, Members, OwnedValue, Values};
-
-impl PartialEq for Text {
-    ghost eq = { same_by key_code };
-
-    ghost laws = { same_partial_equivalence key_code };
-
-    fn eq(&self, other: &Text) -> bool
-        ensures same { IsTrue result ↔ (self.now ≡ other.now) }
-        ensures value { result ≡ same_by key_code self.now other.now }
-    {
-        self.as_str() == other.as_str()
-    }
-}
-
-impl Eq for Text {
-    ghost laws = { same_equivalence key_code };
-}
-
-impl PartialEq for Bytes {
-    ghost eq = { same_by key_code };
-
-    ghost laws = { same_partial_equivalence key_code };
-
-    fn eq(&self, other: &Bytes) -> bool
-        ensures same { IsTrue result ↔ (self.now ≡ other.now) }
-        ensures value { result ≡ same_by key_code self.now other.now }
-    {
-        self.as_slice() == other.as_slice()
-    }
-}
-
-impl Eq for Bytes {
-    ghost laws = { same_equivalence key_code };
-}
 
 impl PartialEq for Facet {
     ghost eq = { same_by key_code };
@@ -60,61 +25,6 @@ impl PartialEq for Facet {
 
 impl Eq for Facet {
     ghost laws = { same_equivalence key_code };
-}
-
-impl PartialEq for Token {
-    ghost eq = { same_by token_code };
-
-    ghost laws = { same_partial_equivalence token_code };
-
-    fn eq(&self, other: &Token) -> bool
-        ensures same { IsTrue result ↔ (self.now ≡ other.now) }
-        ensures value { result ≡ same_by token_code self.now other.now }
-    {
-        self.offset_from == other.offset_from
-            && self.offset_to == other.offset_to
-            && self.position == other.position
-            && self.position_length == other.position_length
-            && self.text == other.text
-    }
-}
-
-impl Eq for Token {
-    ghost laws = { same_equivalence token_code };
-}
-
-impl PartialEq for Tokens {
-    ghost eq = { same_by (coded_list token_code) };
-
-    ghost laws = { same_partial_equivalence (coded_list token_code) };
-
-    fn eq(&self, other: &Tokens) -> bool
-        ensures same { IsTrue result ↔ (self.now ≡ other.now) }
-        ensures value { result ≡ same_by (coded_list token_code) self.now other.now }
-    {
-        self.as_slice() == other.as_slice()
-    }
-}
-
-impl Eq for Tokens {
-    ghost laws = { same_equivalence (coded_list token_code) };
-}
-
-impl PartialEq for PreTokenizedString {
-    ghost eq = { same_by pre_tokenized_code };
-
-    ghost laws = { same_partial_equivalence pre_tokenized_code };
-
-    fn eq(&self, other: &PreTokenizedString) -> bool
-        ensures same { IsTrue result ↔ (self.now ≡ other.now) }
-        ensures value { result ≡ same_by pre_tokenized_code self.now other.now }
-    {
-        self.text == other.text && self.tokens == other.tokens
-    }
-}
-
-impl Eq for PreTokenizedString {
-    ghost laws = { same_equivalence pre_tokenized_code };
 }
 
 impl PartialEq for OwnedValue {

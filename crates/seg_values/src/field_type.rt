@@ -2,18 +2,18 @@
 
 use crate::schema::FieldKind;
 
-/// The type of a field's values.
+/// The type of a field's values. They are ordered as they stand here.
 #[derive(Clone, Copy, Debug, PartialEq, Eq, PartialOrd, Ord)]
 pub enum FieldType {
-    Str,
-    U64,
-    I64,
-    Bool,
+    Bytes,
     Date,
     Facet,
-    Bytes,
+    I64,
     Json,
+    Bool,
     IpAddr,
+    Str,
+    U64,
 }
 
 impl From<FieldKind> for FieldType {

@@ -1,45 +1,33 @@
-//! What an index is given and how its texts are cut: values, documents, schemas, and tokenizers by name.
+//! What an index is given: values, documents, schemas and terms, and why a call of an index is refused.
 //!
-//! Contracts see a text as its bytes, tokens as a list, a value as a tree, a document as a list of fields with trees,
-//! and a schema as the list of its entries.
+//! Contracts see a value as a tree, a document as a list of fields with trees, and a schema as the list of its entries.
 //!
-//! Read `text`, `token` and `tokenizer` first, then `tokenizers`, `analyzers` and `tokenizer_manager` with the law in
-//! `laws`; then `value_error`, `value`, `facet` and `document`; last `schema` with `schema_fields`, `field_type` and
-//! `name_search`, `term` and `error`.
+//! Read `value_error`, `value`, `facet` and `document` first, then `schema` with `schema_fields`, `field_type` and
+//! `name_search`; last `term`, `compressor`, `postings_error` and `error`.
 #![tactic(auto)]
 
-mod analyzers;
+mod compressor;
 mod document;
 mod equality;
 mod error;
 mod facet;
 mod field_type;
-mod laws;
 mod name_search;
+mod postings_error;
 mod schema;
 mod schema_fields;
 mod term;
-mod text;
-mod token;
-mod tokenizer;
-mod tokenizer_manager;
-mod tokenizers;
 mod utf8;
 mod value;
 mod value_error;
 
-pub use analyzers::Analyzers;
+pub use compressor::Compressor;
 pub use document::{Documents, TantivyDocument};
 pub use error::{ArgumentCause, SchemaCause, TResult, TantivyError};
 pub use facet::Facet;
 pub use field_type::FieldType;
-pub use laws::tokens_are_words;
+pub use postings_error::PostingsError;
 pub use schema::{Field, FieldEntry, FieldKind, IndexOption, Schema, SchemaBuilder};
 pub use term::Term;
-pub use text::{Bytes, Text};
-pub use token::{MAX_TOKEN_LEN, PreTokenizedString, Token, Tokens};
-pub use tokenizer::Tokenizer;
-pub use tokenizer_manager::TokenizerManager;
-pub use tokenizers::{DefaultTokenizer, RawTokenizer, WhitespaceTokenizer};
 pub use value::{Member, Members, OwnedValue, Values};
 pub use value_error::ValueError;

@@ -1,48 +1,18 @@
 //! Texts are UTF-8 by their type, and a walk over a value says so of each text in it.
 ghost use Rattle.std.specs.Prelude.{IsUtf8};
 ghost use Rattle.seg_values.specs.Tree.{trees_from, members_from};
-ghost use Rattle.seg_values.specs.Utf8.{AreUtf8Tokens, IsUtf8Tree, AreUtf8Trees, AreUtf8Members, IsUtf8Document};
+ghost use Rattle.seg_values.specs.Utf8.{IsUtf8Tree, AreUtf8Trees, AreUtf8Members, IsUtf8Document};
 ghost use Rattle.seg_values.specs.View.{tree_of};
 
 use crate::document::TantivyDocument;
 use crate::facet::Facet;
-use crate::text::Text;
-use crate::token::{PreTokenizedString, Tokens};
 use crate::value::{Members, OwnedValue, Values};
-
-impl Text {
-    pub fn text_is_utf8(&self)
-        ensures { IsUtf8 self.now }
-    {
-        let _text = self.as_str();
-    }
-}
 
 impl Facet {
     pub fn text_is_utf8(&self)
         ensures { IsUtf8 self.now }
     {
         let _text = self.encoded_str();
-    }
-}
-
-impl Tokens {
-    pub fn texts_are_utf8(&self)
-        ensures { AreUtf8Tokens self.now }
-    {
-        for token in self.as_slice() {
-            token.text.text_is_utf8();
-        }
-    }
-}
-
-impl PreTokenizedString {
-    pub fn texts_are_utf8(&self)
-        ensures text { IsUtf8 self.now.text }
-        ensures tokens { AreUtf8Tokens self.now.tokens }
-    {
-        self.text.text_is_utf8();
-        self.tokens.texts_are_utf8();
     }
 }
 

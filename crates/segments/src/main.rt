@@ -4,9 +4,8 @@
 use seg_common::{ReaderSource, WriterSink};
 use seg_directory::FileDirectory;
 use seg_tool::{Status, run};
-use seg_values::{
-    DefaultTokenizer, RawTokenizer, TantivyError, TokenizerManager, WhitespaceTokenizer,
-};
+use seg_values::TantivyError;
+use seg_words::{DefaultTokenizer, RawTokenizer, TokenizerManager, WhitespaceTokenizer};
 use std::env::Env;
 use std::io::ErrorKind;
 use std::process::ExitCode;

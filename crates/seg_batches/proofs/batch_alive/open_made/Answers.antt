@@ -1,5 +1,4 @@
-use Rattle.seg_open.specs.OpenSegment.{contents_of}
-use Rattle.seg_batches.proofs.Left.{undamaged, one_contents}
+use Rattle.seg_batches.proofs.Left.{undamaged, reader_of}
 use Rattle.seg_batches.proofs.batch_alive.open_made.Goals as goal
 
 pub unreachable-requires : goal.unreachable-requires
@@ -7,7 +6,7 @@ unreachable-requires c =
     undamaged c.share.result c.args.schema.now c.share-2.result c.args.files.now c.args.max_doc c.share.ensures c.share-2.ensures
     c.in-Err-Damaged.field-0 c.in-Err-Damaged.field-0-0 c.in-Err-Damaged.field-0-is c.requires.whole c.in-Err-Damaged.ensures.err
 
-pub returns-in-Ok-clause-contents : goal.returns-in-Ok-clause-contents
-returns-in-Ok-clause-contents c =
-    one_contents c.share.result c.args.schema.now c.share-2.result c.args.files.now c.args.max_doc c.share.ensures c.share-2.ensures
-    c.files_spell_one_contents.ensures (contents_of c.in-Ok.reader) c.in-Ok.ensures.ok
+pub returns-in-Ok : goal.returns-in-Ok
+returns-in-Ok c =
+    reader_of c.share.result c.args.schema.now c.share-2.result c.args.files.now c.args.max_doc c.share.ensures c.share-2.ensures
+    c.in-Ok.reader c.in-Ok.ensures.of c.in-Ok.ensures.ok

@@ -1,4 +1,4 @@
-use Rattle.std.proofs.Common.{◌<◌, ◌≤◌, ◌^◌, arith, ap, inr, length, map}
+use Rattle.std.proofs.Common.{◌<◌, ◌≤◌, ◌^◌, arith, ap, inl, length, map}
 use Rattle.seg_model.specs.Operations.{additions}
 use Rattle.seg_input.specs.View.{operation_of}
 use Rattle.seg_batches.specs.Indexing.{AreOfBatch}
@@ -7,11 +7,11 @@ use Rattle.seg_batches.proofs.BatchSteps.{not_refused}
 use Rattle.seg_batches.proofs.Refused.{too_many}
 use Rattle.seg_batches.proofs.batch_indexing.index_batch.Goals as goal
 
-pub returns-then-count_additions-gt-MAX_DOCUMENTS-clause-passes : goal.returns-then-count_additions-gt-MAX_DOCUMENTS-clause-passes
-returns-then-count_additions-gt-MAX_DOCUMENTS-clause-passes g c =
+pub returns-then-count_additions-gt-MAX_DOCUMENTS-clause-tells : goal.returns-then-count_additions-gt-MAX_DOCUMENTS-clause-tells
+returns-then-count_additions-gt-MAX_DOCUMENTS-clause-tells g c =
     let operations = map operation_of c.args.operations.now in
     let many : 2 ^ 31 ≤ length (additions operations) = omega (arith, c.if-count_additions-gt-MAX_DOCUMENTS.true, c.count_additions.ensures) in
-    inr (too_many c.args.writer.1.schema (g.Z.Analyzers.tokens_of c.args.writer.0) c.args.first operations many)
+    inl (too_many c.args.writer.1.schema (g.Z.Analyzers.tokens_of c.args.writer.0) c.args.first operations many)
 
 pub returns-in-Ok-into_segment-clause-segment : goal.returns-in-Ok-into_segment-clause-segment
 returns-in-Ok-into_segment-clause-segment g c =
@@ -23,8 +23,8 @@ returns-in-Ok-into_segment-clause-segment g c =
     of_batch c.args.writer.1.schema (F c.args.writer.0) c.args.first operations writer.1 c.in-Ok.ensures.schema c.in-Ok.ensures.added
     (F writer.0) made.segment (ap F c.in-Ok.ensures.analyzers) few made.ensures.stands made.ensures.stamps
 
-pub returns-in-Ok-into_segment-clause-passes : goal.returns-in-Ok-into_segment-clause-passes
-returns-in-Ok-into_segment-clause-passes g c =
+pub returns-in-Ok-into_segment-clause-tells : goal.returns-in-Ok-into_segment-clause-tells
+returns-in-Ok-into_segment-clause-tells g c =
     let F = g.Z.Analyzers.tokens_of c.args.writer.0 in
     let schema = c.args.writer.1.schema in
     let operations = map operation_of c.args.operations.now in

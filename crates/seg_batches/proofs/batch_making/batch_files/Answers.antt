@@ -1,27 +1,33 @@
-use Rattle.std.proofs.Common.{ap, map}
+use Rattle.std.proofs.Common.{ap, map, sym, subst, []}
 use Rattle.seg_input.specs.View.{operation_of}
+use Rattle.seg_build.specs.SegmentWriting.{Writes}
 use Rattle.seg_build.specs.WriterStart.{start_refusal}
-use Rattle.seg_batches.proofs.Causes.{no_cause, passes_batch, passes_start}
+use Rattle.seg_batches.proofs.Causes.{no_cause, tells_batch, tells_start}
 use Rattle.seg_batches.proofs.Left.{of_given}
 use Rattle.seg_batches.proofs.batch_making.batch_files.Goals as goal
 
-pub returns-in-Err-clause-passes : goal.returns-in-Err-clause-passes
-returns-in-Err-clause-passes g c = passes_start _ _ c.in-Err.e c.in-Err.ensures.passes
+pub returns-in-Err-clause-tells : goal.returns-in-Err-clause-tells
+returns-in-Err-clause-tells g c = tells_start _ _ c.in-Err.e c.in-Err.ensures.tells
+
+pub index_batch-requires-clause-fresh : goal.index_batch-requires-clause-fresh
+index_batch-requires-clause-fresh g c =
+    let F = g.Z.Analyzers.tokens_of in
+    subst (λ z. Writes (F z) [] [] c.in-Ok.writer.1) (sym c.in-Ok.ensures.unused.0) c.in-Ok.ensures.unused.1.none
 
 pub returns-in-Ok-index_batch-clause-made : goal.returns-in-Ok-index_batch-clause-made
 returns-in-Ok-index_batch-clause-made g c =
     let F = g.Z.Analyzers.tokens_of in
     let writer = c.in-Ok.writer in
-    of_given writer.1.schema c.args.schema.now (F writer.0) (F c.args.analyzers.now) c.args.first (map operation_of c.args.operations.now) _ _ c.in-Ok.ensures.of.1 (ap F c.in-Ok.ensures.of.0) c.in-Ok-index_batch.ensures.segment
+    of_given writer.1.schema c.args.schema.now (F writer.0) (F c.args.analyzers.now) c.args.first (map operation_of c.args.operations.now) _ _ c.in-Ok.ensures.unused.1.of_schema (ap F c.in-Ok.ensures.unused.0) c.in-Ok-index_batch.ensures.segment
 
-pub returns-in-Ok-index_batch-clause-passes : goal.returns-in-Ok-index_batch-clause-passes
-returns-in-Ok-index_batch-clause-passes g c =
+pub returns-in-Ok-index_batch-clause-tells : goal.returns-in-Ok-index_batch-clause-tells
+returns-in-Ok-index_batch-clause-tells g c =
     let F = g.Z.Analyzers.tokens_of in
     let writer = c.in-Ok.writer in
-    no_cause (start_refusal (g.Z.Analyzers.knows c.args.analyzers.now) 15000 c.args.schema.now c.args.settings.now) writer.1.schema c.args.schema.now (F writer.0) (F c.args.analyzers.now) c.args.first (map operation_of c.args.operations.now) c.in-Ok.ensures.of.1 (ap F c.in-Ok.ensures.of.0) c.in-Ok.ensures.passes c.in-Ok-index_batch.ensures.passes
+    no_cause (start_refusal (g.Z.Analyzers.knows c.args.analyzers.now) 15000 c.args.schema.now c.args.settings.now) writer.1.schema c.args.schema.now (F writer.0) (F c.args.analyzers.now) c.args.first (map operation_of c.args.operations.now) c.in-Ok.ensures.unused.1.of_schema (ap F c.in-Ok.ensures.unused.0) c.in-Ok.ensures.tells c.in-Ok-index_batch.ensures.tells
 
-pub returns-clause-passes : goal.returns-clause-passes
-returns-clause-passes g c =
+pub returns-clause-tells : goal.returns-clause-tells
+returns-clause-tells g c =
     let F = g.Z.Analyzers.tokens_of in
     let writer = c.in-Ok.writer in
-    passes_batch (start_refusal (g.Z.Analyzers.knows c.args.analyzers.now) 15000 c.args.schema.now c.args.settings.now) writer.1.schema c.args.schema.now (F writer.0) (F c.args.analyzers.now) c.args.first (map operation_of c.args.operations.now) c.in-Ok.ensures.of.1 (ap F c.in-Ok.ensures.of.0) c.in-Ok.ensures.passes c.in-Err-index_batch.e c.in-Err-index_batch.ensures.passes
+    tells_batch (start_refusal (g.Z.Analyzers.knows c.args.analyzers.now) 15000 c.args.schema.now c.args.settings.now) writer.1.schema c.args.schema.now (F writer.0) (F c.args.analyzers.now) c.args.first (map operation_of c.args.operations.now) c.in-Ok.ensures.unused.1.of_schema (ap F c.in-Ok.ensures.unused.0) c.in-Ok.ensures.tells c.in-Err-index_batch.e c.in-Err-index_batch.ensures.tells

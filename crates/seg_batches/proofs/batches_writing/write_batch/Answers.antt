@@ -6,43 +6,50 @@ use Rattle.seg_model.specs.Operations.{Operation, additions}
 use Rattle.seg_input.specs.View.{operation_of}
 use Rattle.seg_build.specs.WriterStart.{start_refusal}
 use Rattle.seg_segment.specs.Standing.{StandFor}
-use Rattle.seg_batches.specs.Making.{Passes}
+use Rattle.seg_model.specs.Telling.{Tells}
 use Rattle.seg_batches.specs.Writing.{batch_between, batch_cause}
 use Rattle.seg_batches.proofs.BatchSteps.{range_mapped, segment_here, set_here}
 use Rattle.seg_batches.proofs.Causes.{begun, not_begun}
 use Rattle.seg_batches.proofs.batches_writing.write_batch.Goals as goal
 
-pub returns-in-Err-clause-does : goal.returns-in-Err-clause-does
-returns-in-Err-clause-does g c =
+pub returns-in-Err : goal.returns-in-Err
+returns-in-Err g c =
     let F = g.Z.Analyzers.tokens_of c.args.analyzers.now in
     let schema = c.args.schema.now in
     let first = c.args.first in
     let operations = map operation_of c.args.operations.now in
     let start = start_refusal (g.Z.Analyzers.knows c.args.analyzers.now) 15000 schema c.args.settings.now in
-    not_begun (batch_cause start schema F (enumerate_from first (slice_range operations first c.args.end))) schema F c.args.id (batch_between schema F first c.args.end operations) c.in-Err.e _
-    (subst (λ (os : List Operation). Passes {T = Unit {0}} (batch_cause start schema F (enumerate_from first os)) (Err c.in-Err.e)) (range_mapped c.args.operations.now first c.args.end) c.in-Err.ensures.passes)
+    record {
+      does =
+          not_begun (batch_cause start schema F (enumerate_from first (slice_range operations first c.args.end))) schema F c.args.id (batch_between schema F first c.args.end operations) c.in-Err.e _
+          (subst (λ (os : List Operation). Tells {T = Unit {0}} (batch_cause start schema F (enumerate_from first os)) (Err c.in-Err.e)) (range_mapped c.args.operations.now first c.args.end) c.in-Err.ensures.makes.tells);
+      segment = tt;
+      earlier = c.in-Err.ensures.makes.earlier;
+    }
 
 pub write_made-requires-clause-set : goal.write_made-requires-clause-set
 write_made-requires-clause-set g c =
     set_here c.args.operations.now c.args.first c.args.end c.requires.rises c.requires.within c.args.schema.now (g.Z.Analyzers.tokens_of c.args.analyzers.now) c.args.queue.now.operations c.requires.waits
-    c.in-Ok.made.max_doc c.in-Ok.ensures.number.0 c.in-Ok.made.alive c.in-Ok.ensures.alive
+    c.in-Ok.made.max_doc c.in-Ok.ensures.segment.number c.in-Ok.made.alive c.in-Ok.ensures.segment.left
 
-pub returns-clause-does : goal.returns-clause-does
-returns-clause-does g c =
+pub returns : goal.returns
+returns g c =
     let F = g.Z.Analyzers.tokens_of c.args.analyzers.now in
     let schema = c.args.schema.now in
     let first = c.args.first in
     let operations = map operation_of c.args.operations.now in
     let start = start_refusal (g.Z.Analyzers.knows c.args.analyzers.now) 15000 schema c.args.settings.now in
     let same = range_mapped c.args.operations.now first c.args.end in
-    begun (batch_cause start schema F (enumerate_from first (slice_range operations first c.args.end))) schema F c.args.id (batch_between schema F first c.args.end operations) c.in-Ok.made.files c.write_made.result _ _
-    (subst (λ (os : List Operation). batch_cause start schema F (enumerate_from first os) ≡ None) same c.in-Ok.ensures.passes)
-    (subst (λ (os : List Operation). StandFor schema F (additions os) c.in-Ok.made.files) same c.in-Ok.ensures.made)
-    c.write_made.ensures.works
-
-pub returns-clause-segment : goal.returns-clause-segment
-returns-clause-segment g c =
-    IfOk-weaker c.write_made.result _ _ (λ s is.
-    segment_here c.args.operations.now c.args.first c.args.end c.requires.rises c.requires.within c.args.schema.now (g.Z.Analyzers.tokens_of c.args.analyzers.now) c.args.queue.now.operations c.requires.waits
-    c.in-Ok.made.max_doc c.in-Ok.ensures.number.0 c.in-Ok.made.alive c.args.id s c.in-Ok.ensures.alive is)
-    c.write_made.ensures.segment
+    let made = c.in-Ok.ensures in
+    record {
+      does =
+          begun (batch_cause start schema F (enumerate_from first (slice_range operations first c.args.end))) schema F c.args.id (batch_between schema F first c.args.end operations) c.in-Ok.made.files c.write_made.result _ _
+          (subst (λ (os : List Operation). batch_cause start schema F (enumerate_from first os) ≡ None) same made.makes.tells)
+          (subst (λ (os : List Operation). StandFor schema F (additions os) c.in-Ok.made.files) same made.segment.stand)
+          c.write_made.ensures.works;
+      segment = IfOk-weaker c.write_made.result _ _ (λ s is.
+          segment_here c.args.operations.now first c.args.end c.requires.rises c.requires.within schema F c.args.queue.now.operations c.requires.waits
+          c.in-Ok.made.max_doc made.segment.number c.in-Ok.made.alive c.args.id s made.segment.left is)
+          c.write_made.ensures.segment;
+      earlier = made.makes.earlier;
+    }

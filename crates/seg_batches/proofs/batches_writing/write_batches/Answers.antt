@@ -1,36 +1,27 @@
-use Rattle.std.proofs.Common.{◌≡◌, ◌≤◌, rules, [], length, map, drop, refl, ap, ◌∙◌, arith}
+use Rattle.std.proofs.Common.{◌≤◌, rules, length, map, refl, ap, ◌∙◌, arith}
 use Rattle.std.proofs.lemmas.List.{drop_all, length-map}
 use Rattle.std.proofs.lemmas.Option.{slice_get_read}
 use Rattle.seg_model.specs.Operations.{batches}
-use Rattle.seg_alive.specs.Laws.{as_operations}
+use Rattle.seg_batches.specs.Laws.{as_operations}
 use Rattle.seg_build.specs.WriterStart.{start_refusal}
 use Rattle.seg_input.specs.View.{operation_of}
 use Rattle.seg_batches.specs.Segments.{segments_of}
 use Rattle.seg_batches.specs.Writing.{batch_causes}
 use Rattle.seg_batches.proofs.BatchSteps.{ends_here}
 use Rattle.seg_batches.proofs.BatchTurns.{first_place, turn_here}
-use Rattle.seg_batches.proofs.BatchesSoFar.{all_written, batch_ends, batch_more, none_yet, segments_turn, starved, starves}
-use Rattle.seg_batches.proofs.BatchesWritten.{does_calls, few, fresh, refused, stand, taken}
-use Rattle.seg_batches.proofs.SegmentTurns.{all_segments, passed_further}
+use Rattle.seg_batches.proofs.BatchesSoFar.{all_segments, all_written, batch_ends, batch_more, none_yet, segments_turn, starves}
+use Rattle.seg_batches.proofs.Passed.{passed_further}
 use Rattle.seg_batches.proofs.batches_writing.write_batches.Goals as goal
 
-pub returns-in-Err-clause-does : goal.returns-in-Err-clause-does
-returns-in-Err-clause-does g c =
+pub returns-in_default-clause-does : goal.returns-in_default-clause-does
+returns-in_default-clause-does g c =
     let F = g.Z.Analyzers.tokens_of c.args.analyzers.now in
     let schema = c.args.schema.now in
     let operations = map operation_of c.args.operations.now in
+    let ids = c.args.ids.now in
     let causes = batch_causes (start_refusal (g.Z.Analyzers.knows c.args.analyzers.now) 15000 schema c.args.settings.now) schema F c.args.cuts.now operations in
     let all = batches schema F c.args.cuts.now operations in
-    starved causes schema F c.args.ids.now all c.in-Err.e _ c.in-Err.ensures.err
-
-pub returns-in-Err-clause-fresh : goal.returns-in-Err-clause-fresh
-returns-in-Err-clause-fresh g c told absent = fresh (g.Z.Analyzers.knows c.args.analyzers.now) c.args.schema.now c.args.settings.now (g.Z.Analyzers.tokens_of c.args.analyzers.now) c.args.cuts.now (map operation_of c.args.operations.now) c.args.ids.now c.requires.ids _ _ _ c.requires.distinct (returns-in-Err-clause-does g c) told absent
-
-pub returns-in-Err-clause-calls : goal.returns-in-Err-clause-calls
-returns-in-Err-clause-calls g c = does_calls (g.Z.Analyzers.knows c.args.analyzers.now) c.args.schema.now c.args.settings.now (g.Z.Analyzers.tokens_of c.args.analyzers.now) c.args.cuts.now (map operation_of c.args.operations.now) c.args.ids.now c.requires.ids _ _ _ (returns-in-Err-clause-does g c)
-
-pub returns-in-Err-clause-refused : goal.returns-in-Err-clause-refused
-returns-in-Err-clause-refused g c = refused (g.Z.Analyzers.knows c.args.analyzers.now) c.args.schema.now c.args.settings.now (g.Z.Analyzers.tokens_of c.args.analyzers.now) c.args.cuts.now (map operation_of c.args.operations.now) c.args.ids.now c.requires.ids _ _ _ (returns-in-Err-clause-does g c)
+    starves causes schema F ids all ids causes all _ _ (none_yet causes schema F ids all _)
 
 pub write_batch-requires-clause-rises : goal.write_batch-requires-clause-rises
 write_batch-requires-clause-rises g c =
@@ -45,8 +36,8 @@ write_batch-requires-clause-within g c =
     (ends_here c.args.operations.now c.args.cuts.now c.loop-at.at end c.batch_end-end.ensures)).next.within in
     omega (arith, within, length-map c.args.operations.now operation_of)
 
-pub returns-in-Err-write_batch-clause-does : goal.returns-in-Err-write_batch-clause-does
-returns-in-Err-write_batch-clause-does g c =
+pub returns-in-Err-clause-does : goal.returns-in-Err-clause-does
+returns-in-Err-clause-does g c =
     let F = g.Z.Analyzers.tokens_of c.args.analyzers.now in
     let schema = c.args.schema.now in
     let cuts = c.args.cuts.now in
@@ -57,19 +48,10 @@ returns-in-Err-write_batch-clause-does g c =
     let end = c.batch_end-end.result in
     let t = turn_here schema F operations cuts at c.loop-at.first c.loop-at.invariant.place end (ends_here c.args.operations.now cuts at end c.batch_end-end.ensures) in
     let found = slice_get_read ids _ at c.index-ids-at.result refl c.loop-at-test.true c.index-ids-at.is in
-    batch_ends start schema F operations cuts at c.loop-at.first end t ids c.requires.ids c.index-ids-at.result found (batch_causes start schema F cuts operations) (batches schema F cuts operations) _ _ _ c.loop-at.invariant.so_far c.in-Err-write_batch.e c.in-Err-write_batch.ensures.does
+    batch_ends start schema F operations cuts at c.loop-at.first end t ids c.requires.ids c.index-ids-at.result found (batch_causes start schema F cuts operations) (batches schema F cuts operations) _ _ _ c.loop-at.invariant.so_far c.in-Err.e c.in-Err.ensures.does
 
-pub returns-in-Err-write_batch-clause-fresh : goal.returns-in-Err-write_batch-clause-fresh
-returns-in-Err-write_batch-clause-fresh g c told absent = fresh (g.Z.Analyzers.knows c.args.analyzers.now) c.args.schema.now c.args.settings.now (g.Z.Analyzers.tokens_of c.args.analyzers.now) c.args.cuts.now (map operation_of c.args.operations.now) c.args.ids.now c.requires.ids _ _ _ c.requires.distinct (returns-in-Err-write_batch-clause-does g c) told absent
-
-pub returns-in-Err-write_batch-clause-calls : goal.returns-in-Err-write_batch-clause-calls
-returns-in-Err-write_batch-clause-calls g c = does_calls (g.Z.Analyzers.knows c.args.analyzers.now) c.args.schema.now c.args.settings.now (g.Z.Analyzers.tokens_of c.args.analyzers.now) c.args.cuts.now (map operation_of c.args.operations.now) c.args.ids.now c.requires.ids _ _ _ (returns-in-Err-write_batch-clause-does g c)
-
-pub returns-in-Err-write_batch-clause-refused : goal.returns-in-Err-write_batch-clause-refused
-returns-in-Err-write_batch-clause-refused g c = refused (g.Z.Analyzers.knows c.args.analyzers.now) c.args.schema.now c.args.settings.now (g.Z.Analyzers.tokens_of c.args.analyzers.now) c.args.cuts.now (map operation_of c.args.operations.now) c.args.ids.now c.requires.ids _ _ _ (returns-in-Err-write_batch-clause-does g c)
-
-pub returns-in_default-clause-does : goal.returns-in_default-clause-does
-returns-in_default-clause-does g c =
+pub returns-in_default-keep-clause-does : goal.returns-in_default-keep-clause-does
+returns-in_default-keep-clause-does g c =
     let F = g.Z.Analyzers.tokens_of c.args.analyzers.now in
     let schema = c.args.schema.now in
     let cuts = c.args.cuts.now in
@@ -83,15 +65,6 @@ returns-in_default-clause-does g c =
     let t = turn_here schema F operations cuts at c.loop-at.first c.loop-at.invariant.place end (ends_here c.args.operations.now cuts at end c.batch_end-end.ensures) in
     let found = slice_get_read ids _ at c.index-ids-at.result refl c.loop-at-test.true c.index-ids-at.is in
     starves causes schema F ids all _ _ _ _ _ (batch_more start schema F operations cuts at c.loop-at.first end t ids c.requires.ids c.index-ids-at.result found causes all _ _ _ c.loop-at.invariant.so_far c.in-Ok-write_batch.segment c.in-Ok-write_batch.ensures.does)
-
-pub returns-in_default-clause-fresh : goal.returns-in_default-clause-fresh
-returns-in_default-clause-fresh g c told absent = fresh (g.Z.Analyzers.knows c.args.analyzers.now) c.args.schema.now c.args.settings.now (g.Z.Analyzers.tokens_of c.args.analyzers.now) c.args.cuts.now (map operation_of c.args.operations.now) c.args.ids.now c.requires.ids _ _ _ c.requires.distinct (returns-in_default-clause-does g c) told absent
-
-pub returns-in_default-clause-calls : goal.returns-in_default-clause-calls
-returns-in_default-clause-calls g c = does_calls (g.Z.Analyzers.knows c.args.analyzers.now) c.args.schema.now c.args.settings.now (g.Z.Analyzers.tokens_of c.args.analyzers.now) c.args.cuts.now (map operation_of c.args.operations.now) c.args.ids.now c.requires.ids _ _ _ (returns-in_default-clause-does g c)
-
-pub returns-in_default-clause-refused : goal.returns-in_default-clause-refused
-returns-in_default-clause-refused g c = refused (g.Z.Analyzers.knows c.args.analyzers.now) c.args.schema.now c.args.settings.now (g.Z.Analyzers.tokens_of c.args.analyzers.now) c.args.cuts.now (map operation_of c.args.operations.now) c.args.ids.now c.requires.ids _ _ _ (returns-in_default-clause-does g c)
 
 pub loop-at-init : goal.loop-at-init
 loop-at-init g c =
@@ -127,11 +100,13 @@ loop-at-preserved g c =
     let found = slice_get_read ids _ at id refl c.loop-at-test.true c.index-ids-at.is in
     record {
       place = t.next;
-      waits = ap as_operations here.queue ∙ so_far.waits;
-      cursor = here.within;
-      passed = passed_further first end _ t.rises here.passed;
-      segments = segments_turn start schema F operations cuts at first end t ids c.requires.ids id found c.loop-at.written.items c.keep.new.written.items (segments_of ids all) c.in-Ok-write_batch.segment c.in-Ok-keep.ensures here.segment so_far.segments;
-      so_far = batch_more start schema F operations cuts at first end t ids c.requires.ids id found (batch_causes start schema F cuts operations) all _ _ _ so_far.so_far c.in-Ok-write_batch.segment here.does;
+      waits = ap as_operations here.earlier.operations ∙ so_far.waits;
+      cursor = here.earlier.within;
+      passed = passed_further first end _ _ _ t.rises here.earlier;
+      segments =
+          segments_turn start schema F operations cuts at first end t ids c.requires.ids id found c.loop-at.written.items c.keep.new.written.items (segments_of ids all) c.in-Ok-write_batch.segment c.in-Ok-keep.ensures here.segment so_far.segments;
+      so_far =
+          batch_more start schema F operations cuts at first end t ids c.requires.ids id found (batch_causes start schema F cuts operations) all _ _ _ so_far.so_far c.in-Ok-write_batch.segment here.does;
     }
 
 pub returns-clause-does : goal.returns-clause-does
@@ -150,15 +125,3 @@ returns-clause-segments g c =
     let F = g.Z.Analyzers.tokens_of c.args.analyzers.now in
     let le : length c.args.ids.now ≤ c.loop-at.at = omega (arith, c.loop-at-test.false) in
     all_segments c.args.schema.now F (map operation_of c.args.operations.now) c.args.cuts.now c.args.ids.now c.loop-at.at c.loop-at.first c.loop-at.written.items _ le c.loop-at.invariant.segments
-
-pub returns-clause-few : goal.returns-clause-few
-returns-clause-few g c = few (g.Z.Analyzers.knows c.args.analyzers.now) c.args.schema.now c.args.settings.now (g.Z.Analyzers.tokens_of c.args.analyzers.now) c.args.cuts.now (map operation_of c.args.operations.now) c.args.ids.now c.requires.ids _ _ _ (returns-clause-does g c)
-
-pub returns-clause-taken : goal.returns-clause-taken
-returns-clause-taken g c = taken (g.Z.Analyzers.knows c.args.analyzers.now) c.args.schema.now c.args.settings.now (g.Z.Analyzers.tokens_of c.args.analyzers.now) c.args.cuts.now (map operation_of c.args.operations.now) c.args.ids.now c.requires.ids _ _ _ (returns-clause-does g c)
-
-pub returns-clause-stand : goal.returns-clause-stand
-returns-clause-stand g c = stand (g.Z.Analyzers.knows c.args.analyzers.now) c.args.schema.now c.args.settings.now (g.Z.Analyzers.tokens_of c.args.analyzers.now) c.args.cuts.now (map operation_of c.args.operations.now) c.args.ids.now c.requires.ids _ _ _ c.requires.distinct (returns-clause-does g c)
-
-pub returns-clause-calls : goal.returns-clause-calls
-returns-clause-calls g c = does_calls (g.Z.Analyzers.knows c.args.analyzers.now) c.args.schema.now c.args.settings.now (g.Z.Analyzers.tokens_of c.args.analyzers.now) c.args.cuts.now (map operation_of c.args.operations.now) c.args.ids.now c.requires.ids _ _ _ (returns-clause-does g c)

@@ -1,6 +1,6 @@
 use Rattle.std.proofs.Common.{◌≡◌, ◌++◌, map, drop}
 use Rattle.seg_removal.specs.Stamps.{stamped_deletes}
-use Rattle.seg_alive.specs.Laws.{as_operations}
+use Rattle.seg_batches.specs.Laws.{as_operations}
 use Rattle.seg_input.specs.View.{operation_of}
 use Rattle.seg_batches.proofs.delete_queue.delete_queue.Given as goal
 

@@ -8,7 +8,7 @@ returns-in-Err g c =
     let segments = c.args.segments.now in
     let at = c.loop-segment.segment-index in
     let found = slice_get_read segments _ at c.segment-item.result refl c.loop-segment-test.true c.segment-item.is in
-    stops_turn c.args.schema.now segments at c.segment-item.result found c.loop-segment.read.items _ _ _ c.loop-segment.invariant c.in-Err.e c.in-Err.ensures.stops
+    stops_turn c.args.schema.now segments at c.segment-item.result found c.loop-segment.read.items _ _ _ c.loop-segment.invariant c.in-Err.e c.in-Err.ensures
 
 pub loop-segment-init : goal.loop-segment-init
 loop-segment-init g c =
@@ -20,5 +20,5 @@ loop-segment-preserved g c =
     let segments = c.args.segments.now in
     let at = c.loop-segment.segment-index in
     let found = slice_get_read segments _ at c.segment-item.result refl c.loop-segment-test.true c.segment-item.is in
-    let here = c.in-Ok.ensures.read in
+    let here = c.in-Ok.ensures in
     reads_turn c.args.schema.now segments at c.segment-item.result found c.loop-segment.read.items _ _ _ c.loop-segment.invariant c.read_next.new.read.items here.0 here.1 here.2

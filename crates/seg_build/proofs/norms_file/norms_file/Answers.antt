@@ -1,21 +1,21 @@
-use Rattle.std.proofs.Common.{◌≡◌, ◌∙◌, List, Some, ap}
-use Rattle.std.specs.Prelude.{◌≢◌, ℕ, None, Vec}
+use Rattle.std.proofs.Common.{◌≡◌, ◌∙◌, Some, ap}
+use Rattle.std.specs.Prelude.{ℕ, Vec}
 use Rattle.std.specs.declared.alloc.Global.{Global}
 use Rattle.std.proofs.lemmas.Result.{IfOk-weaker}
-use Rattle.seg_values.specs.Tree.{Document}
-use Rattle.seg_model.specs.Fields.{Analyzer}
-use Rattle.seg_model.specs.Norms.{all_norms}
 use Rattle.seg_directory.specs.Composite.{composite}
-use Rattle.seg_postings.specs.FieldNorms.{norms_parts}
-use Rattle.seg_build.specs.Batch.{kept_norms}
-use Rattle.seg_build.specs.NormsFile.{kept_parts}
+use Rattle.seg_norms.specs.FieldNorms.{fields_with_lengths}
+use Rattle.seg_segment.specs.LengthsWritten.{parts_with}
+use Rattle.seg_build.specs.Filling.{HoldsNorms}
+use Rattle.seg_build.specs.NormsFile.{kept_ids}
 use Rattle.seg_build.proofs.NormParts.{kept_parts_are}
 use Rattle.seg_build.proofs.norms_file.norms_file.Goals as goal
 
-pub returns-clause-ok : goal.returns-clause-ok
-returns-clause-ok c =
-    IfOk-weaker c.close.result
-    (λ (file : Vec ℕ Global). (composite file.items ≡ c.add_fields.new.file) × (c.add_fields.new.file ≢ None))
-    (λ (file : Vec ℕ Global). (analyzer : Analyzer) (documents : List Document) → c.args.norms.now ≡ Some (kept_norms c.args.schema.now analyzer documents) → composite file.items ≡ Some (norms_parts c.args.schema.now (all_norms c.args.schema.now analyzer documents)))
-    (λ file h analyzer documents is. h.0 ∙ c.in_ok-add_fields.ensures.ok ∙ ap (λ fs. Some (kept_parts c.args.norms.now fs)) (c.deref.ensures.value ∙ c.in_ok-fields.ensures.ok) ∙ ap Some (kept_parts_are c.args.schema.now analyzer documents c.args.norms.now is))
-    c.close.ensures.ok
+pub returns : goal.returns
+returns c =
+    let schema = c.args.schema.now in
+    let batch = c.args.batch.now in
+    IfOk-weaker c.write_lengths.result
+    (λ (file : Vec ℕ Global). composite file.items ≡ Some (parts_with (kept_ids batch.norms) (fields_with_lengths schema)))
+    (λ (file : Vec ℕ Global). HoldsNorms schema batch file.items)
+    (λ file is analyzer documents kept. is ∙ ap Some (kept_parts_are schema analyzer documents batch.norms kept))
+    c.write_lengths.ensures

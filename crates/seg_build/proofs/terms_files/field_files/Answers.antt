@@ -10,5 +10,5 @@ write_fields-requires c = λ field entry at on.
     let many = c.requires.fields in
     omega (arith, within, many)
 
-pub returns-clause-ok : goal.returns-clause-ok
-returns-clause-ok c = IfOk-weaker c.write_fields.result _ _ (λ files h. fields_held c.args.schema.now c.requires.entries c.args.fields.now files h) c.write_fields.ensures.ok
+pub returns : goal.returns
+returns c = IfOk-weaker c.write_fields.result _ _ (λ files h. fields_held c.args.schema.now c.requires.entries c.args.fields.now files h) c.write_fields.ensures

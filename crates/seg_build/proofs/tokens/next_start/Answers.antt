@@ -1,9 +1,12 @@
-use Rattle.std.proofs.Common.{arith}
-use Rattle.seg_model.specs.Occurrences.{counted}
-use Rattle.seg_build.proofs.Rising.{reach-ge, rises-first}
+use Rattle.std.proofs.Common.{[], ◌∷◌, arith}
+use Rattle.seg_check.proofs.Adding.{start-from}
 use Rattle.seg_build.proofs.tokens.next_start.Goals as goal
 
-pub loop-token-init : goal.loop-token-init
-loop-token-init c =
-    let from = reach-ge c.args.start (counted c.args.tokens.now) in
-    record { reached = grind (arith, from); rising = rises-first (counted c.args.tokens.now); begun = grind arith; small = grind arith }
+pub overflow_cast-result : goal.overflow_cast-result
+overflow_cast-result c = omega (arith, start-from c.args.start (c.args.tokens.now ∷ []), c.text_width.ensures, c.requires)
+
+pub overflow_add-result : goal.overflow_add-result
+overflow_add-result c = omega (arith, start-from c.args.start (c.args.tokens.now ∷ []), c.text_width.ensures, c.requires)
+
+pub returns : goal.returns
+returns c = omega (arith, start-from c.args.start (c.args.tokens.now ∷ []), c.text_width.ensures, c.requires)

@@ -2,7 +2,7 @@ use Rattle.std.proofs.Common.{◌≡◌, ◌<◌, ◌+◌, length, ap, sym, ◌�
 use Rattle.seg_values.specs.Tree.{levels, array, object, trees_from, members_from}
 use Rattle.seg_values.specs.View.{tree_of}
 use Rattle.seg_values.proofs.Levels.{levels-at, member_levels-at}
-use Rattle.seg_model.specs.StoredForm.{sized, tree_form}
+use Rattle.seg_values.specs.StoredForm.{sized, tree_form}
 use Rattle.seg_check.specs.Sizes.{saturated}
 use Rattle.seg_check.proofs.Adding.{saturated-sum}
 use Rattle.seg_check.proofs.StoredLens.{array_begins, object_begins, tree_more, member_more, sized_bytes}

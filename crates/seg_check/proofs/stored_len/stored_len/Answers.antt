@@ -3,7 +3,7 @@ use Rattle.std.specs.List.{slice_get, flat_map}
 use Rattle.seg_values.specs.View.{tree_of}
 use Rattle.seg_model.specs.Fields.{is_field}
 use Rattle.seg_model.specs.Reading.{stored_document}
-use Rattle.seg_model.specs.StoredForm.{pair_form}
+use Rattle.seg_values.specs.StoredForm.{pair_form}
 use Rattle.seg_check.specs.Sizes.{saturated}
 use Rattle.seg_check.proofs.StoredLens.{pair_skipped, pair_kept, pair_more}
 use Rattle.seg_check.proofs.stored_len.stored_len.Goals as goal

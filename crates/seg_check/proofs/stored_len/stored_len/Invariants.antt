@@ -1,7 +1,7 @@
 use Rattle.std.proofs.Common.{◌≡◌, ◌+◌, ◌≤◌, length, drop}
 use Rattle.std.specs.List.{flat_map}
 use Rattle.seg_model.specs.Reading.{stored_document}
-use Rattle.seg_model.specs.StoredForm.{pair_form}
+use Rattle.seg_values.specs.StoredForm.{pair_form}
 use Rattle.seg_check.specs.Sizes.{saturated}
 use Rattle.seg_check.proofs.stored_len.stored_len.Given as goal
 

@@ -1,4 +1,3 @@
-use Rattle.std.proofs.Common.{ℕ}
 use Rattle.seg_directory.proofs.Doing.{went, for_ok}
 use Rattle.seg_directory.proofs.WorkSteps.{call_failed}
 use Rattle.seg_directory.proofs.calls.list_files.Goals as goal

@@ -1,4 +1,4 @@
-use Rattle.std.proofs.Common.{◌≡◌, ◌≢◌, ◌<◌, ◌*◌, sym, ◌∙◌, arith}
+use Rattle.std.proofs.Common.{◌≡◌, ◌≢◌, ◌*◌, sym, ◌∙◌, arith}
 use Rattle.seg_common.specs.LittleEndian.{u32_at}
 use Rattle.seg_directory.proofs.CompositeEntries.{absent, entry_found}
 use Rattle.seg_directory.proofs.composite_file.find_entry.Goals as goal

@@ -1,7 +1,7 @@
 use Rattle.std.proofs.Common.{ap, sym, subst, arith}
 use Rattle.std.specs.List.{AllByRecursion}
 use Rattle.std.proofs.lemmas.List.{drop_all}
-use Rattle.seg_join.specs.KeptSegment.{IsMarked, kept_count}
+use Rattle.seg_open.specs.KeptSegment.{IsMarked, kept_count}
 use Rattle.seg_join.proofs.KeptCounts.{count_split, joined_few, marked_first}
 use Rattle.seg_join.proofs.counting.num_joined_docs.Goals as goal
 

@@ -1,6 +1,6 @@
 use Rattle.std.proofs.Common.{◌≡◌, ◌<◌, ◌+◌, ◌^◌, drop}
 use Rattle.std.specs.List.{AllByRecursion}
-use Rattle.seg_join.specs.KeptSegment.{IsMarked, kept_count}
+use Rattle.seg_open.specs.KeptSegment.{IsMarked, kept_count}
 use Rattle.seg_join.proofs.counting.num_joined_docs.Given as goal
 
 abbrev pub invariant-loop-part : goal.invariant-loop-part

@@ -1,6 +1,6 @@
 use Rattle.std.proofs.Common.{◌+◌, ap, ◌∙◌, ◌++◌, ◌∷◌, []}
 use Rattle.seg_join.specs.JoinedTerms.{FieldsAreOpen}
-use Rattle.seg_join.specs.KeptSegment.{IsMarked}
+use Rattle.seg_open.specs.KeptSegment.{IsMarked}
 use Rattle.seg_join.specs.NewIds.{numbered_from}
 use Rattle.seg_join.proofs.NumberedParts.{parts_fit, part_numbered, all_left}
 use Rattle.seg_join.proofs.numbered_part.number_parts.Goals as goal

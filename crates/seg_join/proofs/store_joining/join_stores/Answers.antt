@@ -2,7 +2,7 @@ use Rattle.std.proofs.Common.{◌+◌, length, map, drop, Some, sym, ap, ◌∙�
 use Rattle.std.proofs.lemmas.List.{drop_all, length-append}
 use Rattle.seg_model.specs.Operations.{kept}
 use Rattle.seg_store.specs.Store.{documents_of}
-use Rattle.seg_store.specs.StoredDocument.{stored_document_of}
+use Rattle.seg_stored.specs.StoredDocument.{stored_document_of}
 use Rattle.seg_join.specs.JoinedStore.{kept_bytes, joined_bytes, joined_documents}
 use Rattle.seg_join.proofs.StoredRead.{as_many}
 use Rattle.seg_join.proofs.StoresJoined.{all_taken, both_read, bytes_split, documents_split, left_taken, less_fits, room_left, taken_read}

@@ -1,5 +1,5 @@
 use Rattle.std.proofs.Common.{◌≡◌, ◌<◌, ◌+◌, ◌^◌, length, map, drop, Some, option_map, IfSome}
-use Rattle.seg_store.specs.StoredDocument.{stored_document_of}
+use Rattle.seg_stored.specs.StoredDocument.{stored_document_of}
 use Rattle.seg_store.specs.Writing.{taken_count}
 use Rattle.seg_join.specs.JoinedStore.{joined_bytes, joined_documents, with_documents}
 use Rattle.seg_join.proofs.store_joining.join_stores.Given as goal

@@ -3,7 +3,7 @@ use Rattle.std.specs.List.{AllByRecursion}
 use Rattle.seg_model.specs.Reading.{Posting}
 use Rattle.seg_join.specs.MovedPostings.{moved, moved_from}
 use Rattle.seg_join.proofs.SourcePostings.{any_has, left_are, left_within, moved_next, none_left, all_behind}
-use Rattle.seg_join.proofs.GivenPostings.{AreGiven, none_given, may_take, given_more, all_given}
+use Rattle.seg_segment.proofs.GivenPostings.{AreGiven, none_given, may_take, given_more, all_given}
 use Rattle.seg_join.proofs.term_merging.add_postings.Goals as goal
 
 pub postings-postings-requires : goal.postings-postings-requires
@@ -36,12 +36,12 @@ loop-kind-preserved c =
     let behind = c.advance.ensures.left in
     record {
       given = subst (AreGiven key c.args.writer.now c.add_current.new.writer all) (sym (ap (moved source.ids) behind))
-          (given_more key c.args.writer.now all c.requires.takes c.loop-kind.writer (moved source.ids left) c.loop-kind.invariant.given _ _ (moved_next source.ids left) c.add_current.new.writer c.in_ok-add_current.ensures.ok);
+          (given_more key c.args.writer.now all c.requires.takes c.loop-kind.writer (moved source.ids left) c.loop-kind.invariant.given _ _ (moved_next source.ids left) c.add_current.new.writer c.in_ok-add_current.ensures);
       within = subst (AllByRecursion (λ (p : Posting). p.document < length source.ids)) (sym behind) (all_behind _ left c.loop-kind.invariant.within);
     }
 
-pub returns-clause-ok : goal.returns-clause-ok
-returns-clause-ok c =
+pub returns : goal.returns
+returns c =
     let source = c.args.source.now in
     let left = c.loop-kind.postings.left in
     all_given c.args.key.now c.args.writer.now (moved_from c.args.key.now source) c.requires.takes c.loop-kind.writer (moved source.ids left) c.loop-kind.invariant.given

@@ -4,7 +4,7 @@ use Rattle.std.proofs.lemmas.Result.{on_ok_weaker}
 use Rattle.std.proofs.lemmas.List.{drop_all}
 use Rattle.seg_join.specs.MovedPostings.{moved_from_all}
 use Rattle.seg_join.proofs.Standings.{all_given_at, given_at, segment_within, source_joinable, source_has, next_given}
-use Rattle.seg_join.proofs.GivenPostings.{AreGiven, none_given, may_begin, may_take, given_more, all_given, may_close, is_joined}
+use Rattle.seg_segment.proofs.GivenPostings.{AreGiven, none_given, may_begin, may_take, given_more, all_given, may_end, has_whole_term}
 use Rattle.seg_join.proofs.term_merging.join_term.Goals as goal
 
 pub loop-segment-init : goal.loop-segment-init
@@ -47,26 +47,26 @@ loop-segment-preserved c =
     let may = may_begin key all (c.requires.joinable.postings key) c.args.writer.now c.requires.opens in
     let source = c.index-sources-segment.result in
     let split = next_given key sources c.requires.joinable.each c.args.standings.now c.requires.standings c.loop-segment.segment-index c.loop-segment-test.true source c.index-sources-segment.is in
-    given_more key c.args.writer.now all may c.loop-segment.writer _ c.loop-segment.invariant _ _ split c.add_postings.new.writer c.in_ok-add_postings.ensures.ok
+    given_more key c.args.writer.now all may c.loop-segment.writer _ c.loop-segment.invariant _ _ split c.add_postings.new.writer c.in_ok-add_postings.ensures
 
-pub close_term-requires : goal.close_term-requires
-close_term-requires c =
+pub end_term-requires : goal.end_term-requires
+end_term-requires c =
     let key = c.args.key.now in
     let sources = c.args.sources.now in
     let all = moved_from_all key sources in
     let are = c.requires.joinable.postings key in
     let may = may_begin key all are c.args.writer.now c.requires.opens in
     let none = ap (flat_map (given_at sources key)) (drop_all c.loop-segment.segment-index c.args.standings.now c.loop-segment-test.false) in
-    may_close key all are c.args.writer.now c.loop-segment.writer (all_given key c.args.writer.now all may c.loop-segment.writer _ c.loop-segment.invariant none)
+    may_end key all are c.args.writer.now c.loop-segment.writer (all_given key c.args.writer.now all may c.loop-segment.writer _ c.loop-segment.invariant none)
 
-pub returns-clause-ok : goal.returns-clause-ok
-returns-clause-ok c =
+pub returns : goal.returns
+returns c =
     let key = c.args.key.now in
     let sources = c.args.sources.now in
     let all = moved_from_all key sources in
     let are = c.requires.joinable.postings key in
     let may = may_begin key all are c.args.writer.now c.requires.opens in
     let none = ap (flat_map (given_at sources key)) (drop_all c.loop-segment.segment-index c.args.standings.now c.loop-segment-test.false) in
-    on_ok_weaker c.close_term.result
-    (is_joined key all are c.args.writer.now c.loop-segment.writer (all_given key c.args.writer.now all may c.loop-segment.writer _ c.loop-segment.invariant none) c.requires.opens c.close_term.new.self)
-    c.close_term.ensures.ok
+    on_ok_weaker c.end_term.result
+    (has_whole_term key all are c.args.writer.now c.loop-segment.writer (all_given key c.args.writer.now all may c.loop-segment.writer _ c.loop-segment.invariant none) c.requires.opens c.end_term.new.self)
+    c.end_term.ensures

@@ -1,28 +1,32 @@
 use Rattle.std.proofs.Common.{◌∙◌, ap}
+use Rattle.std.proofs.lemmas.Option.{MatchOption-from_none}
 use Rattle.seg_meta.specs.View.{settings_of}
 use Rattle.seg_open.specs.OpenSegment.{contents_of}
 use Rattle.seg_refusals.specs.Inputs.{input_of}
 use Rattle.seg_merge.specs.IndexFiles.{merged_meta, output_id, work_ids}
 use Rattle.seg_merge.proofs.Built.{first_answer, first_same}
-use Rattle.seg_merge.proofs.WholeExits.{if_none}
 use Rattle.seg_merge.proofs.WholeJoined.{counts_survivors}
 use Rattle.seg_merge.proofs.building.build_index.Goals as goal
 
 pub returns-in-Ok-clause-first : goal.returns-in-Ok-clause-first
-returns-in-Ok-clause-first g c = if_none _ _ c.in-Ok.ensures.builds.admitted
+returns-in-Ok-clause-first g c = MatchOption-from_none _ _ c.in-Ok.ensures.builds.admitted
 
 pub returns-in-Ok-clause-untouched : goal.returns-in-Ok-clause-untouched
-returns-in-Ok-clause-untouched g c = if_none _ _ c.in-Ok.ensures.builds.admitted
+returns-in-Ok-clause-untouched g c = MatchOption-from_none _ _ c.in-Ok.ensures.builds.admitted
 
 pub returns-in-Ok-clause-valid : goal.returns-in-Ok-clause-valid
 returns-in-Ok-clause-valid g c = c.in-Ok.ensures.builds.valid
 
 pub returns-in-Ok-clause-index : goal.returns-in-Ok-clause-index
 returns-in-Ok-clause-index g c told =
-    let input = input_of c.args.schema.now c.args.settings.now c.args.operations.now c.args.cuts.now c.args.filters.now c.args.ids.now in
+    let input =
+    input_of c.args.schema.now c.args.settings.now c.args.operations.now c.args.cuts.now c.args.filters.now
+    c.args.ids.now in
     let F = g.Z.Analyzers.tokens_of c.args.analyzers.now in
     c.in-Ok.ensures.meta
-    ∙ ap (λ n. merged_meta (settings_of c.args.settings.now) c.args.schema.now (work_ids c.args.ids.now) (output_id c.args.ids.now) n)
+    ∙ ap
+    (λ n. merged_meta (settings_of c.args.settings.now) c.args.schema.now (work_ids c.args.ids.now)
+    (output_id c.args.ids.now) n)
     (counts_survivors F input (contents_of c.in-Ok.built.output) (c.in-Ok.ensures.builds.in_work told).survivors)
 
 pub returns-in-Ok-clause-meta : goal.returns-in-Ok-clause-meta

@@ -1,14 +1,27 @@
-use Rattle.std.proofs.Common.{refl}
-use Rattle.seg_batches.proofs.Following.{follows}
-use Rattle.seg_merge.specs.Filling.{at_work, at_output}
-use Rattle.seg_merge.proofs.WholeCalls.{begins}
+use Rattle.std.proofs.Common.{refl, subst}
+use Rattle.seg_directory.specs.Works.{Works}
+use Rattle.seg_model.specs.Input.{Input}
+use Rattle.seg_merge.specs.Turns.{both, stops, goes_on}
+use Rattle.seg_merge.specs.WritingSteps.{begin_steps}
 use Rattle.seg_merge.proofs.indexes.begin_indexes.Goals as goal
 
-pub returns-in-Err-clause-calls : goal.returns-in-Err-clause-calls
-returns-in-Err-clause-calls g c = at_work (follows (tt, tt) c.in-Err.ensures) refl
+pub returns-in-Err : goal.returns-in-Err
+returns-in-Err g c = stops c.in-Err.e refl (c.in-Err.ensures, refl)
 
-pub returns-in-Err-expect_no_files-clause-calls : goal.returns-in-Err-expect_no_files-clause-calls
-returns-in-Err-expect_no_files-clause-calls g c = at_output (follows (tt, tt) c.in-Ok.ensures) (follows (tt, tt) c.in-Err-expect_no_files.ensures)
+pub returns-in-Err-expect_no_files : goal.returns-in-Err-expect_no_files
+returns-in-Err-expect_no_files g c =
+    goes_on tt (both (g.W.Directory.state c.expect_no_files.new.directory) (g.O.Directory.state c.args.output.now))
+    (c.in-Ok.ensures, refl)
+    (stops c.in-Err-expect_no_files.e refl (c.in-Err-expect_no_files.ensures, refl))
 
-pub returns-clause-calls : goal.returns-clause-calls
-returns-clause-calls g c = begins c.begin_index.result _ _ _ (follows (tt, tt) c.in-Ok.ensures) (follows (tt, (tt, (tt, tt))) c.begin_index.ensures) (follows (tt, tt) c.in-Ok-expect_no_files.ensures)
+pub returns : goal.returns
+returns g c =
+    let listed = g.W.Directory.state c.expect_no_files.new.directory in
+    let output = g.O.Directory.state c.expect_no_files-2.new.directory in
+    goes_on tt (both listed (g.O.Directory.state c.args.output.now)) (c.in-Ok.ensures, refl)
+    (goes_on tt (both listed output) (c.in-Ok-expect_no_files.ensures, refl) (
+      subst
+          (λ (x : Input). Works (begin_steps x.settings x.schema) c.begin_index.result listed
+          (g.W.Directory.state c.begin_index.new.directory)) c.input.view_is c.begin_index.ensures,
+      refl,
+    ))

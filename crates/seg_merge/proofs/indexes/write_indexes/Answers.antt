@@ -1,200 +1,172 @@
-use Rattle.std.proofs.Common.{◌≡◌, ◌∙◌, ◌<◌, ◌^◌, ℕ, List, ap, subst, sym, length, map, Err, Some}
-use Rattle.std.proofs.lemmas.List.{length-map}
-use Rattle.seg_values.specs.declared.error.TantivyError.{TantivyError}
-use Rattle.seg_values.specs.declared.error.TantivyError.TheVariants.{IndexAlreadyExists}
-use Rattle.seg_model.specs.IndexOfFiles as index
-use Rattle.seg_model.specs.Valid.{are_distinct}
-use Rattle.seg_input.specs.View.{operation_of}
-use Rattle.seg_directory.specs.State.{DirectoryState}
-use Rattle.seg_refusals.specs.Inputs.{input_of}
-use Rattle.seg_open.specs.OpenSegment.{contents_of}
-use Rattle.seg_merge.specs.DirectoryCalls.{Directories, asked_of}
-use Rattle.seg_merge.specs.IndexFiles.{listed_of}
-use Rattle.seg_merge.proofs.IndexSteps.{tells-still}
-use Rattle.seg_merge.proofs.WholeCalls.{stops-beginning}
-use Rattle.seg_merge.proofs.WholeExits.{given_on, never_exists}
-use Rattle.seg_merge.proofs.WholeIds.{work_distinct, work_few, work_many}
-use Rattle.seg_merge.proofs.WholeInput.{as_output_index, as_work_index, both_in_turn, output_refused, read_fits, read_of_schema, stops_in_output, stops_in_work, survivors_as}
-use Rattle.seg_merge.proofs.WholeWork.{segments_absent}
+use Rattle.std.proofs.Common.{◌≤◌, ◌∙◌, Err, List, Ok, ap, arith, length, subst, sym}
+use Rattle.seg_directory.specs.Works.{Works}
+use Rattle.seg_meta.specs.View.{meta_of}
+use Rattle.seg_meta.specs.IndexOfFiles as index
+use Rattle.seg_meta.specs.IndexOfFiles.{ListedSegment}
+use Rattle.seg_model.specs.Input.{Input}
+use Rattle.seg_open.specs.KeptSegment.{KeptSegment, IsOfSchema}
+use Rattle.std.specs.List.{AllByRecursion}
+use Rattle.seg_batches.specs.Reading.{ReadsSegments}
+use Rattle.seg_merge.specs.DirectoryCalls.{MergesInto}
+use Rattle.seg_merge.specs.Filters.{FiltersFit}
+use Rattle.seg_merge.specs.IndexFiles.{output_id, work_ids}
+use Rattle.seg_merge.specs.Merging.{IsOutputOf}
+use Rattle.seg_merge.specs.Turns.{both}
+use Rattle.seg_merge.specs.WritingSteps.{begin_steps}
+use Rattle.seg_merge.proofs.FilledIndex.{read_back}
+use Rattle.seg_merge.proofs.InTurn.{all_written, at_beginning, at_filling, at_merging, at_output_beginning, at_reading, exit}
+use Rattle.seg_merge.proofs.Reached.{distinct, many, read_fits, read_of_schema}
+use Rattle.seg_merge.proofs.WholeIds.{ids_many, work_few}
 use Rattle.seg_merge.proofs.indexes.write_indexes.Goals as goal
 
-pub returns-in_err-begin_indexes-clause-stops : goal.returns-in_err-begin_indexes-clause-stops
-returns-in_err-begin_indexes-clause-stops g c =
-    let input = input_of c.args.schema.now c.args.settings.now c.args.operations.now c.args.cuts.now c.args.filters.now c.args.ids.now in
+pub returns-in_err-begin_indexes-clause-does : goal.returns-in_err-begin_indexes-clause-does
+returns-in_err-begin_indexes-clause-does g c =
     let F = g.Z.Analyzers.tokens_of c.args.analyzers.now in
-    given_on _ c.in_err-begin_indexes.field-0.0 c.from_residual.result c.from_residual.ensures.1 (stops-beginning (asked_of F input) c.in_err-begin_indexes.field-0.0 _ _ c.in_err-begin_indexes.ensures.calls)
+    let e = c.in_err-begin_indexes.field-0.0 in
+    exit F c.args.input.now (λ b. b.segments.items) e c.from_residual.result _ _ c.from_residual.ensures.1
+    (at_beginning F c.args.input.now e _ _ c.in_err-begin_indexes.ensures)
 
-pub write_work-requires-clause-ids : goal.write_work-requires-clause-ids
-write_work-requires-clause-ids g c =
-    let ids = c.split_ids-output_id.result.0.now in
-    let last = c.split_ids-output_id.result.1 in
-    let is = c.split_ids-output_id.ensures.work in
-    let same = c.split_ids-output_id.ensures.output in
-    ap length is ∙ work_many c.args.cuts.now c.args.ids.now c.requires.fits.ids
+pub split_ids-output_id-requires : goal.split_ids-output_id-requires
+split_ids-output_id-requires g c =
+    let some = ids_many c.args.input.now.cuts c.args.input.now.ids c.requires.fits.ids in
+    subst (λ (x : Input). 2 ≤ length x.ids) (sym c.input.view_is) (omega (arith, some))
 
-pub write_work-requires-clause-few : goal.write_work-requires-clause-few
-write_work-requires-clause-few g c =
-    let ids = c.split_ids-output_id.result.0.now in
-    let last = c.split_ids-output_id.result.1 in
-    let is = c.split_ids-output_id.ensures.work in
-    let same = c.split_ids-output_id.ensures.output in
-    subst (λ (l : List ℕ). length l < 2 ^ 32) (sym is) (work_few c.args.cuts.now c.args.ids.now c.requires.fits.batches c.requires.fits.ids)
+pub fill_work_index-requires-clause-ids : goal.fill_work_index-requires-clause-ids
+fill_work_index-requires-clause-ids g c =
+    c.split_ids-output_id.ensures.work ∙ ap (λ (x : Input). work_ids x.ids) c.input.view_is
 
-pub write_work-requires-clause-distinct : goal.write_work-requires-clause-distinct
-write_work-requires-clause-distinct g c =
-    let ids = c.split_ids-output_id.result.0.now in
-    let last = c.split_ids-output_id.result.1 in
-    let is = c.split_ids-output_id.ensures.work in
-    let same = c.split_ids-output_id.ensures.output in
-    ap are_distinct is ∙ work_distinct c.args.cuts.now c.args.ids.now c.requires.fits.ids
-
-pub returns-in_err-segments-clause-fresh : goal.returns-in_err-segments-clause-fresh
-returns-in_err-segments-clause-fresh g c told none told_output none_output =
-    let input = input_of c.args.schema.now c.args.settings.now c.args.operations.now c.args.cuts.now c.args.filters.now c.args.ids.now in
+pub returns-in_err-metas-clause-does : goal.returns-in_err-metas-clause-does
+returns-in_err-metas-clause-does g c =
     let F = g.Z.Analyzers.tokens_of c.args.analyzers.now in
-    let ids = c.split_ids-output_id.result.0.now in
-    let last = c.split_ids-output_id.result.1 in
-    let is = c.split_ids-output_id.ensures.work in
-    let same = c.split_ids-output_id.ensures.output in
-    let before : Directories = record { work = g.W.Directory.state c.args.work.now; output = g.O.Directory.state c.args.output.now } in
-    let begun : Directories = record { work = g.W.Directory.state c.begin_indexes.new.work; output = g.O.Directory.state c.begin_indexes.new.output } in
-    let began = c.in_ok-begin_indexes.ensures.calls in
-    let still = tells-still _ _ c.in_ok-begin_indexes.ensures.calls.0.tells told in
-    never_exists c.from_residual-in_err-segments.result (given_on (λ (e : TantivyError). e ≡ IndexAlreadyExists → ⊥) c.in_err-segments.field-0.0 c.from_residual-in_err-segments.result c.from_residual-in_err-segments.ensures.1
-    (λ exists. c.in_err-segments.ensures.fresh still (segments_absent _ _ none began.0.others (listed_of c.args.schema.now F ids c.args.cuts.now (map operation_of c.args.operations.now))) (ap Err exists)))
+    let a = both (g.W.Directory.state c.args.work.now) (g.O.Directory.state c.args.output.now) in
+    let w = g.W.Directory.state c.begin_indexes.new.work in
+    let o = g.O.Directory.state c.begin_indexes.new.output in
+    let e = c.in_err-metas.field-0.0 in
+    exit F c.args.input.now (λ b. b.segments.items) e c.from_residual-in_err-metas.result _ _
+    c.from_residual-in_err-metas.ensures.1
+    (at_filling F c.args.input.now tt a w o c.in_ok-begin_indexes.ensures e
+    (g.W.Directory.state c.fill_work_index.new.work) c.in_err-metas.ensures.does)
 
-pub returns-in_err-segments-clause-stops : goal.returns-in_err-segments-clause-stops
-returns-in_err-segments-clause-stops g c =
-    let input = input_of c.args.schema.now c.args.settings.now c.args.operations.now c.args.cuts.now c.args.filters.now c.args.ids.now in
+pub returns-in_err-begin_index-clause-does : goal.returns-in_err-begin_index-clause-does
+returns-in_err-begin_index-clause-does g c =
     let F = g.Z.Analyzers.tokens_of c.args.analyzers.now in
-    let ids = c.split_ids-output_id.result.0.now in
-    let last = c.split_ids-output_id.result.1 in
-    let is = c.split_ids-output_id.ensures.work in
-    let same = c.split_ids-output_id.ensures.output in
-    let before : Directories = record { work = g.W.Directory.state c.args.work.now; output = g.O.Directory.state c.args.output.now } in
-    let begun : Directories = record { work = g.W.Directory.state c.begin_indexes.new.work; output = g.O.Directory.state c.begin_indexes.new.output } in
-    let began = c.in_ok-begin_indexes.ensures.calls in
-    let worked : DirectoryState = g.W.Directory.state c.write_work.new.work in
-    given_on _ c.in_err-segments.field-0.0 c.from_residual-in_err-segments.result c.from_residual-in_err-segments.ensures.1
-    (stops_in_work F input ids is last same before begun began.0 began.1 c.in_err-segments.field-0.0 worked c.in_err-segments.ensures.stops)
+    let a = both (g.W.Directory.state c.args.work.now) (g.O.Directory.state c.args.output.now) in
+    let w = g.W.Directory.state c.begin_indexes.new.work in
+    let o = g.O.Directory.state c.begin_indexes.new.output in
+    let v = g.W.Directory.state c.fill_work_index.new.work in
+    let p = g.O.Directory.state c.begin_index.new.directory in
+    let e = c.in_err-begin_index.field-0.0 in
+    exit F c.args.input.now (λ b. b.segments.items) e c.from_residual-in_err-begin_index.result _ _
+    c.from_residual-in_err-begin_index.ensures.1
+    (at_output_beginning F c.args.input.now tt a w o c.in_ok-begin_indexes.ensures _ c.in_ok-metas.metas v
+    c.in_ok-metas.ensures.does e p
+    (subst (λ (x : Input). Works {T = Unit {0}} (begin_steps x.settings x.schema) (Err e) o p) c.input.view_is c.in_err-begin_index.ensures))
+
+pub returns-in_err-segments-clause-does : goal.returns-in_err-segments-clause-does
+returns-in_err-segments-clause-does g c =
+    let F = g.Z.Analyzers.tokens_of c.args.analyzers.now in
+    let a = both (g.W.Directory.state c.args.work.now) (g.O.Directory.state c.args.output.now) in
+    let w = g.W.Directory.state c.begin_indexes.new.work in
+    let o = g.O.Directory.state c.begin_indexes.new.output in
+    let v = g.W.Directory.state c.fill_work_index.new.work in
+    let p = g.O.Directory.state c.begin_index.new.directory in
+    let r = g.W.Directory.state c.read_work.new.work in
+    let e = c.in_err-segments.field-0.0 in
+    exit F c.args.input.now (λ b. b.segments.items) e c.from_residual-in_err-segments.result _ _
+    c.from_residual-in_err-segments.ensures.1
+    (at_reading F c.args.input.now tt a w o c.in_ok-begin_indexes.ensures _ c.in_ok-metas.metas v
+    c.in_ok-metas.ensures.does tt p
+    (subst (λ (x : Input). Works {T = Unit {0}} (begin_steps x.settings x.schema) (Ok tt) o p) c.input.view_is c.in_ok-begin_index.ensures) e r
+    (subst (λ (l : List ListedSegment). ReadsSegments c.args.input.now.schema l (Err e) v r)
+    (ap (λ (m : index.Meta). m.segments) c.in_ok-metas.ensures.meta) c.in_err-segments.ensures))
 
 pub write_output-requires-clause-parts : goal.write_output-requires-clause-parts
 write_output-requires-clause-parts g c =
-    let input = input_of c.args.schema.now c.args.settings.now c.args.operations.now c.args.cuts.now c.args.filters.now c.args.ids.now in
     let F = g.Z.Analyzers.tokens_of c.args.analyzers.now in
-    let ids = c.split_ids-output_id.result.0.now in
-    let last = c.split_ids-output_id.result.1 in
-    let is = c.split_ids-output_id.ensures.work in
-    let same = c.split_ids-output_id.ensures.output in
-    let begun : DirectoryState = g.W.Directory.state c.begin_indexes.new.work in
-    let worked : DirectoryState = g.W.Directory.state c.write_work.new.work in
-    let filled = c.in_ok-segments.ensures.reads in
+    let v = g.W.Directory.state c.fill_work_index.new.work in
+    let r = g.W.Directory.state c.read_work.new.work in
     let read = c.in_ok-segments.segments.items in
-    read_of_schema F input ids read c.deref.result.now begun worked c.deref.ensures.value filled
+    subst (λ (l : List KeptSegment). AllByRecursion (IsOfSchema c.args.input.now.schema) l) (sym c.deref.ensures.value)
+    (read_of_schema F c.args.input.now read v r
+    (subst (λ (l : List ListedSegment). ReadsSegments c.args.input.now.schema l (Ok read) v r)
+    (ap (λ (m : index.Meta). m.segments) c.in_ok-metas.ensures.meta) c.in_ok-segments.ensures))
 
 pub write_output-requires-clause-filters : goal.write_output-requires-clause-filters
 write_output-requires-clause-filters g c =
-    let input = input_of c.args.schema.now c.args.settings.now c.args.operations.now c.args.cuts.now c.args.filters.now c.args.ids.now in
     let F = g.Z.Analyzers.tokens_of c.args.analyzers.now in
-    let ids = c.split_ids-output_id.result.0.now in
-    let last = c.split_ids-output_id.result.1 in
-    let is = c.split_ids-output_id.ensures.work in
-    let same = c.split_ids-output_id.ensures.output in
-    let begun : DirectoryState = g.W.Directory.state c.begin_indexes.new.work in
-    let worked : DirectoryState = g.W.Directory.state c.write_work.new.work in
-    let filled = c.in_ok-segments.ensures.reads in
+    let v = g.W.Directory.state c.fill_work_index.new.work in
+    let r = g.W.Directory.state c.read_work.new.work in
     let read = c.in_ok-segments.segments.items in
-    read_fits F input ids read c.deref.result.now begun worked c.deref.ensures.value is c.requires.fits filled
+    subst (λ (l : List KeptSegment). FiltersFit c.args.input.now.filters l) (sym c.deref.ensures.value)
+    (read_fits F c.args.input.now c.requires.fits read v r
+    (subst (λ (l : List ListedSegment). ReadsSegments c.args.input.now.schema l (Ok read) v r)
+    (ap (λ (m : index.Meta). m.segments) c.in_ok-metas.ensures.meta) c.in_ok-segments.ensures))
 
-pub returns-in_err-written-clause-refused : goal.returns-in_err-written-clause-refused
-returns-in_err-written-clause-refused g c none told =
-    let input = input_of c.args.schema.now c.args.settings.now c.args.operations.now c.args.cuts.now c.args.filters.now c.args.ids.now in
+pub write_output-requires-clause-ids : goal.write_output-requires-clause-ids
+write_output-requires-clause-ids g c =
+    c.split_ids-output_id.ensures.work ∙ ap (λ (x : Input). work_ids x.ids) c.input.view_is
+
+pub write_output-requires-clause-id : goal.write_output-requires-clause-id
+write_output-requires-clause-id g c =
+    c.split_ids-output_id.ensures.output ∙ ap (λ (x : Input). output_id x.ids) c.input.view_is
+
+pub returns-in_err-written-clause-does : goal.returns-in_err-written-clause-does
+returns-in_err-written-clause-does g c =
     let F = g.Z.Analyzers.tokens_of c.args.analyzers.now in
-    let ids = c.split_ids-output_id.result.0.now in
-    let last = c.split_ids-output_id.result.1 in
-    let is = c.split_ids-output_id.ensures.work in
-    let same = c.split_ids-output_id.ensures.output in
-    let before : Directories = record { work = g.W.Directory.state c.args.work.now; output = g.O.Directory.state c.args.output.now } in
-    let begun : Directories = record { work = g.W.Directory.state c.begin_indexes.new.work; output = g.O.Directory.state c.begin_indexes.new.output } in
-    let began = c.in_ok-begin_indexes.ensures.calls in
-    let worked : DirectoryState = g.W.Directory.state c.write_work.new.work in
-    let filled = c.in_ok-segments.ensures.reads in
+    let a = both (g.W.Directory.state c.args.work.now) (g.O.Directory.state c.args.output.now) in
+    let w = g.W.Directory.state c.begin_indexes.new.work in
+    let o = g.O.Directory.state c.begin_indexes.new.output in
+    let v = g.W.Directory.state c.fill_work_index.new.work in
+    let p = g.O.Directory.state c.begin_index.new.directory in
+    let r = g.W.Directory.state c.read_work.new.work in
+    let q = g.O.Directory.state c.write_output.new.output in
     let read = c.in_ok-segments.segments.items in
-    let still = tells-still _ _ c.in_ok-begin_indexes.ensures.calls.0.tells told in
-    let written : DirectoryState = g.O.Directory.state c.write_output.new.output in
-    given_on _ c.in_err-written.field-0.0 c.from_residual-in_err-written.result c.from_residual-in_err-written.ensures.1
-    (output_refused F input (g.Z.Analyzers.knows c.args.analyzers.now) last read c.deref.result.now c.in_err-written.field-0.0 begun.output written c.deref.ensures.value c.requires.fits (c.in_ok-segments.ensures.readings still) c.built_schemas_have_no_columns.ensures
-    (record { built = c.requires.fits.built; small = c.in_ok-segments.ensures.small; taken = c.in_ok-segments.ensures.taken }) none c.in_err-written.ensures.stops)
+    let e = c.in_err-written.field-0.0 in
+    exit F c.args.input.now (λ b. b.segments.items) e c.from_residual-in_err-written.result _ _
+    c.from_residual-in_err-written.ensures.1
+    (at_merging F c.args.input.now tt a w o c.in_ok-begin_indexes.ensures _ c.in_ok-metas.metas v
+    c.in_ok-metas.ensures.does tt p
+    (subst (λ (x : Input). Works {T = Unit {0}} (begin_steps x.settings x.schema) (Ok tt) o p) c.input.view_is c.in_ok-begin_index.ensures) read r
+    (subst (λ (l : List ListedSegment). ReadsSegments c.args.input.now.schema l (Ok read) v r)
+    (ap (λ (m : index.Meta). m.segments) c.in_ok-metas.ensures.meta) c.in_ok-segments.ensures)
+    _ e (both r q)
+    (subst (λ (l : List KeptSegment). MergesInto c.args.input.now l (Err e) (both r p) (both r q)) c.deref.ensures.value
+    (c.in_err-written.ensures.does r)))
 
-pub returns-in_err-written-clause-stops : goal.returns-in_err-written-clause-stops
-returns-in_err-written-clause-stops g c =
-    let input = input_of c.args.schema.now c.args.settings.now c.args.operations.now c.args.cuts.now c.args.filters.now c.args.ids.now in
+pub returns-clause-built : goal.returns-clause-built
+returns-clause-built g c =
     let F = g.Z.Analyzers.tokens_of c.args.analyzers.now in
-    let ids = c.split_ids-output_id.result.0.now in
-    let last = c.split_ids-output_id.result.1 in
-    let is = c.split_ids-output_id.ensures.work in
-    let same = c.split_ids-output_id.ensures.output in
-    let before : Directories = record { work = g.W.Directory.state c.args.work.now; output = g.O.Directory.state c.args.output.now } in
-    let begun : Directories = record { work = g.W.Directory.state c.begin_indexes.new.work; output = g.O.Directory.state c.begin_indexes.new.output } in
-    let began = c.in_ok-begin_indexes.ensures.calls in
-    let worked : DirectoryState = g.W.Directory.state c.write_work.new.work in
-    let filled = c.in_ok-segments.ensures.reads in
+    let input = c.args.input.now in
     let read = c.in_ok-segments.segments.items in
-    let written : DirectoryState = g.O.Directory.state c.write_output.new.output in
-    given_on _ c.in_err-written.field-0.0 c.from_residual-in_err-written.result c.from_residual-in_err-written.ensures.1
-    (stops_in_output F input ids is last same before begun began.0 began.1 read c.deref.result.now c.deref.ensures.value worked written filled c.in_err-written.field-0.0 c.in_err-written.ensures.stops)
+    let fits = c.requires.fits in
+    record {
+      work_read =
+          read_back input.schema F (work_ids input.ids) input.cuts input.operations (many F input fits)
+          (work_few input.cuts input.ids fits.batches fits.ids) (distinct F input fits) input.settings
+          (meta_of c.in_ok-metas.metas) c.in_ok-metas.ensures.meta c.metas_read_back.ensures;
+      output =
+          subst
+          (λ (l : List KeptSegment). IsOutputOf input l c.in_ok-written.written.reader
+          (meta_of c.in_ok-written.written.metas))
+          c.deref.ensures.value c.in_ok-written.ensures.written;
+    }
 
-pub returns-clause-survivors : goal.returns-clause-survivors
-returns-clause-survivors g c told =
-    let input = input_of c.args.schema.now c.args.settings.now c.args.operations.now c.args.cuts.now c.args.filters.now c.args.ids.now in
+pub returns-clause-does : goal.returns-clause-does
+returns-clause-does g c =
     let F = g.Z.Analyzers.tokens_of c.args.analyzers.now in
-    let worked : DirectoryState = g.W.Directory.state c.write_work.new.work in
-    let filled = c.in_ok-segments.ensures.reads in
+    let a = both (g.W.Directory.state c.args.work.now) (g.O.Directory.state c.args.output.now) in
+    let w = g.W.Directory.state c.begin_indexes.new.work in
+    let o = g.O.Directory.state c.begin_indexes.new.output in
+    let v = g.W.Directory.state c.fill_work_index.new.work in
+    let p = g.O.Directory.state c.begin_index.new.directory in
+    let r = g.W.Directory.state c.read_work.new.work in
+    let q = g.O.Directory.state c.write_output.new.output in
     let read = c.in_ok-segments.segments.items in
-    let still = tells-still _ _ c.in_ok-begin_indexes.ensures.calls.0.tells told in
-    survivors_as F input c.joining_is_invisible.ensures c.built_parts_join.ensures read c.deref.result.now (contents_of c.in_ok-written.written.reader) c.deref.ensures.value c.requires.fits.built (c.in_ok-segments.ensures.readings still) c.in_ok-written.ensures.joined
-
-pub returns-clause-work_index : goal.returns-clause-work_index
-returns-clause-work_index g c told =
-    let input = input_of c.args.schema.now c.args.settings.now c.args.operations.now c.args.cuts.now c.args.filters.now c.args.ids.now in
-    let F = g.Z.Analyzers.tokens_of c.args.analyzers.now in
-    let ids = c.split_ids-output_id.result.0.now in
-    let last = c.split_ids-output_id.result.1 in
-    let is = c.split_ids-output_id.ensures.work in
-    let same = c.split_ids-output_id.ensures.output in
-    let still = tells-still _ _ c.in_ok-begin_indexes.ensures.calls.0.tells told in
-    as_work_index F input ids is (length c.args.operations.now) _ (sym (length-map c.args.operations.now operation_of)) (c.in_ok-segments.ensures.index still) (c.in_ok-segments.ensures.stand still) (c.in_ok-segments.ensures.alive still)
-
-pub returns-clause-output_index : goal.returns-clause-output_index
-returns-clause-output_index g c told told_output =
-    let input = input_of c.args.schema.now c.args.settings.now c.args.operations.now c.args.cuts.now c.args.filters.now c.args.ids.now in
-    let F = g.Z.Analyzers.tokens_of c.args.analyzers.now in
-    let ids = c.split_ids-output_id.result.0.now in
-    let last = c.split_ids-output_id.result.1 in
-    let is = c.split_ids-output_id.ensures.work in
-    let same = c.split_ids-output_id.ensures.output in
-    let worked : DirectoryState = g.W.Directory.state c.write_work.new.work in
-    let filled = c.in_ok-segments.ensures.reads in
-    let read = c.in_ok-segments.segments.items in
-    let still = tells-still _ _ c.in_ok-begin_indexes.ensures.calls.0.tells told in
-    let still_output = tells-still _ _ c.in_ok-begin_indexes.ensures.calls.1.tells told_output in
-    as_output_index F input ids is last same _ c.in_ok-written.written.reader
-    (survivors_as F input c.joining_is_invisible.ensures c.built_parts_join.ensures read c.deref.result.now (contents_of c.in_ok-written.written.reader) c.deref.ensures.value c.requires.fits.built (c.in_ok-segments.ensures.readings still) c.in_ok-written.ensures.joined)
-    (c.in_ok-written.ensures.index still_output ∙ ap (λ (m : index.Meta). Some m) c.in_ok-written.ensures.meta) (c.in_ok-written.ensures.held still_output)
-
-pub returns-clause-written : goal.returns-clause-written
-returns-clause-written g c =
-    let input = input_of c.args.schema.now c.args.settings.now c.args.operations.now c.args.cuts.now c.args.filters.now c.args.ids.now in
-    let F = g.Z.Analyzers.tokens_of c.args.analyzers.now in
-    let ids = c.split_ids-output_id.result.0.now in
-    let last = c.split_ids-output_id.result.1 in
-    let is = c.split_ids-output_id.ensures.work in
-    let same = c.split_ids-output_id.ensures.output in
-    let before : Directories = record { work = g.W.Directory.state c.args.work.now; output = g.O.Directory.state c.args.output.now } in
-    let begun : Directories = record { work = g.W.Directory.state c.begin_indexes.new.work; output = g.O.Directory.state c.begin_indexes.new.output } in
-    let began = c.in_ok-begin_indexes.ensures.calls in
-    let worked : DirectoryState = g.W.Directory.state c.write_work.new.work in
-    let filled = c.in_ok-segments.ensures.reads in
-    let read = c.in_ok-segments.segments.items in
-    let written : DirectoryState = g.O.Directory.state c.write_output.new.output in
-    both_in_turn F input ids is last same before begun began.0 began.1 read c.deref.result.now c.deref.ensures.value worked written filled c.in_ok-written.written.reader c.in_ok-written.ensures.writes c.in_ok-written.ensures.schema c.in_ok-written.ensures.joined c.in_ok-written.ensures.held
+    all_written F c.args.input.now tt a w o c.in_ok-begin_indexes.ensures _ c.in_ok-metas.metas v
+    c.in_ok-metas.ensures.does tt p
+    (subst (λ (x : Input). Works {T = Unit {0}} (begin_steps x.settings x.schema) (Ok tt) o p) c.input.view_is c.in_ok-begin_index.ensures) read r
+    (subst (λ (l : List ListedSegment). ReadsSegments c.args.input.now.schema l (Ok read) v r)
+    (ap (λ (m : index.Meta). m.segments) c.in_ok-metas.ensures.meta) c.in_ok-segments.ensures)
+    _ c.in_ok-written.written (both r q)
+    (subst (λ (l : List KeptSegment). MergesInto c.args.input.now l (Ok c.in_ok-written.written) (both r p) (both r q))
+    c.deref.ensures.value (c.in_ok-written.ensures.does r))

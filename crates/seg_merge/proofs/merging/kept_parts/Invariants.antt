@@ -1,6 +1,6 @@
 use Rattle.std.proofs.Common.{◌≡◌, ◌++◌, length, drop}
 use Rattle.std.specs.List.{AllByRecursion}
-use Rattle.seg_join.specs.KeptSegment.{IsMarked}
+use Rattle.seg_open.specs.KeptSegment.{IsMarked}
 use Rattle.seg_merge.specs.Joining.{keeps_of}
 use Rattle.seg_merge.proofs.merging.kept_parts.Given as goal
 

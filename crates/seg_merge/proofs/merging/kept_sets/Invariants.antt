@@ -1,5 +1,5 @@
 use Rattle.std.proofs.Common.{length, drop}
-use Rattle.seg_merge.specs.Filling.{FiltersFit}
+use Rattle.seg_merge.specs.Filters.{FiltersFit}
 use Rattle.seg_merge.proofs.FilteredSegments.{MarkedWith, SetsAre}
 use Rattle.seg_merge.proofs.merging.kept_sets.Given as goal
 

@@ -2,7 +2,7 @@ use Rattle.std.proofs.Common.{◌≡◌, ℕ, List, Bor, map, sym, ◌∙◌, ar
 use Rattle.std.specs.List.{list_any}
 use Rattle.std.specs.Str.{bytes_eq}
 use Rattle.std.proofs.lemmas.Grind.{common_steps}
-use Rattle.seg_meta.proofs.Any.{list_any-map}
+use Rattle.seg_common.proofs.Lists.{list_any-map}
 use Rattle.seg_meta.proofs.members.has_only.Goals as goal
 
 pub returns-then-not-is_among : goal.returns-then-not-is_among

@@ -1,5 +1,5 @@
 use Rattle.std.proofs.Common.{ℕ, ◌<◌, get_or}
-use Rattle.seg_model.specs.IndexOfFiles.{ListedSegment}
+use Rattle.seg_meta.specs.IndexOfFiles.{ListedSegment}
 use Rattle.seg_meta.specs.Fits.{SegmentFits}
 use Rattle.seg_meta.proofs.meta_law.segments_fit.Given as goal
 

@@ -16,7 +16,7 @@ returns-then-not-branch-clause-none c _ =
     let left = left-cons c.deref-item-items.result.now c.loop-item.item-index c.item-item.result c.loop-item-test.true c.item-item.is in
     let entry = c.in_ok-entry.entry in
     distinct_list-again entry_from same_name (2 ^ 32 - 1) same_name-sym (view c.args.json.now) (view c.item-item.result) c.loop-item.builder
-    (items_view (drop (c.loop-item.item-index + 1) c.deref-item-items.result.now)) c.loop-item.item-index entry (rw left at c.loop-item.invariant) c.in_ok-entry.ensures.ok (named entry c.loop-item.builder (c.add_entry.ensures.there there))
+    (items_view (drop (c.loop-item.item-index + 1) c.deref-item-items.result.now)) c.loop-item.item-index entry (rw left at c.loop-item.invariant) c.in_ok-entry.ensures.ok (named entry.name c.loop-item.builder (c.add_entry.ensures.there there))
 
 pub loop-item-preserved : goal.loop-item-preserved
 loop-item-preserved c =
@@ -26,4 +26,4 @@ loop-item-preserved c =
     let more = c.add_entry.ensures.added added in
     step entry_from same_name same_name-sym (view c.args.json.now) (view c.item-item.result) c.loop-item.builder c.add_entry.new.builder
     (items_view (drop (c.loop-item.item-index + 1) c.deref-item-items.result.now)) c.loop-item.item-index entry (rw left at c.loop-item.invariant) c.in_ok-entry.ensures.ok more
-    (unnamed entry c.loop-item.builder (c.add_entry.ensures.distinct added))
+    (unnamed entry.name c.loop-item.builder (c.add_entry.ensures.distinct added))

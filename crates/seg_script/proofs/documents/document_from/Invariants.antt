@@ -2,8 +2,8 @@ use Rattle.std.proofs.Common.{◌≡◌}
 use Rattle.std.specs.Vec.Iter.{into_iter_items}
 use Rattle.serde_json.specs.View.{view, items_view}
 use Rattle.seg_meta.specs.Reads.{list_of}
+use Rattle.seg_meta.proofs.ListRead.{so_far}
 use Rattle.seg_script.specs.Documents.{pair_from}
-use Rattle.seg_script.proofs.Each.{so_far}
 use Rattle.seg_script.proofs.documents.document_from.Given as goal
 
 abbrev pub invariant-loop-item : goal.invariant-loop-item

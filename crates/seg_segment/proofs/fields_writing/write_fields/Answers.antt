@@ -31,10 +31,10 @@ loop-at-preserved g c =
     let Has = g.T.TermsByField.has c.args.terms.now in
     let at : slice_get c.args.schema.now c.loop-at.at ≡ Some entry = ap (λ s. slice_get s c.loop-at.at) (sym c.fields-entries.ensures) ∙ slice_get_read entries (length entries) c.loop-at.at entry refl c.loop-at-test.true c.index-entries-at.is in
     one_written total Has c.args.schema.now c.loop-at.at c.loop-at.files c.loop-at.invariant entry at c.write_field.new.files
-    (subst (λ n. AddsIfIndexed total Has (is_indexed entry) n c.loop-at.files c.write_field.new.files) c.from_field_id-field.ensures c.in_ok-write_field.ensures.ok)
+    (subst (λ n. AddsIfIndexed total Has (is_indexed entry) n c.loop-at.files c.write_field.new.files) c.from_field_id-field.ensures c.in_ok-write_field.ensures)
 
-pub returns-clause-ok : goal.returns-clause-ok
-returns-clause-ok g c =
+pub returns : goal.returns
+returns g c =
     let many : length c.fields-entries.result.now ≡ length c.args.schema.now = ap length c.fields-entries.ensures in
     let all : length c.args.schema.now ≤ c.loop-at.at = omega (arith, many, c.loop-at-test.false) in
     have_fields (g.T.TermsByField.total c.args.terms.now) (g.T.TermsByField.has c.args.terms.now) c.args.schema.now c.loop-at.at c.loop-at.files c.loop-at.invariant all

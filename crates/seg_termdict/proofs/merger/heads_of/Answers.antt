@@ -2,9 +2,10 @@ use Rattle.std.proofs.Common.{◌≡◌, suc, ◌∙◌, ◌++◌, ◌∷◌, ma
 use Rattle.std.specs.Prelude.{All}
 use Rattle.std.specs.List.{AllByRecursion}
 use Rattle.std.specs.Vec.Iter.{into_iter_items}
+use Rattle.seg_common.proofs.Lists.{all_push}
 use Rattle.seg_termdict.specs.Streaming.{Stream}
 use Rattle.seg_termdict.specs.Merging.{Ascends, terms_of_stream}
-use Rattle.seg_termdict.proofs.Merges.{one_head, all_push}
+use Rattle.seg_termdict.proofs.Merges.{one_head}
 use Rattle.seg_termdict.proofs.merger.heads_of.Goals as goal
 
 pub loop-stream-preserved : goal.loop-stream-preserved

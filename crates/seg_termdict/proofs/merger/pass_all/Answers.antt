@@ -1,6 +1,6 @@
 use Rattle.std.proofs.Common.{◌∙◌, length, sym, ap, subst, arith}
 use Rattle.seg_common.specs.declared.term_info.TermInfo.{TermInfo}
-use Rattle.seg_model.specs.MergedTerms.{Standing}
+use Rattle.seg_termdict.specs.MergedTerms.{Standing}
 use Rattle.seg_termdict.specs.Merging.{info_of, ord_of}
 use Rattle.seg_termdict.proofs.Passing.{Passes, passes, at_end, fronts_low, noted_all, noted_more}
 use Rattle.seg_termdict.proofs.merger.pass_all.Goals as goal

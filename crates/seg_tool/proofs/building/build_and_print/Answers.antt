@@ -1,8 +1,7 @@
-use Rattle.std.proofs.Common.{◌≡◌, ◌∙◌, refl, subst}
+use Rattle.std.proofs.Common.{refl, subst}
 use Rattle.seg_model.specs.Input.{Input}
-use Rattle.seg_refusals.specs.Inputs.{input_of}
 use Rattle.seg_merge.specs.Builds.{Builds, StopsBuilding}
-use Rattle.seg_merge.specs.DirectoryCalls.{both}
+use Rattle.seg_merge.specs.Turns.{both}
 use Rattle.seg_tool.specs.Runs.{not_built, not_printed}
 use Rattle.seg_tool.proofs.ReadText.{ids_enough}
 use Rattle.seg_tool.proofs.building.build_and_print.Goals as goal
@@ -10,15 +9,15 @@ use Rattle.seg_tool.proofs.building.build_and_print.Goals as goal
 pub built_text-requires : goal.built_text-requires
 built_text-requires g c =
     let F = g.Z.Analyzers.tokens_of c.args.analyzers.now in
-    let same : input_of c.input.inside.schema c.input.inside.settings c.deref.result.now c.deref-2.result.now c.deref-3.result.now c.deref-4.result.now ≡ c.args.input.now = (λ i. input_of c.input.inside.schema c.input.inside.settings (c.deref.ensures.value i) (c.deref-2.ensures.value i) (c.deref-3.ensures.value i) (c.deref-4.ensures.value i)) ∙ c.input.view_is in
-    ids_enough F _ c.args.input.now c.in-Ok.built.segments.items c.in-Ok.built.output _ _ same c.in-Ok.ensures.builds.writes
+    let same = c.as_ref-given.ensures in
+    ids_enough (g.Z.Analyzers.knows c.args.analyzers.now) F _ c.args.input.now c.in-Ok.built.segments.items c.in-Ok.built.output _ _ same c.in-Ok.ensures.builds.writes
 
 pub returns-in-Ok-built_text-clause-prints : goal.returns-in-Ok-built_text-clause-prints
 returns-in-Ok-built_text-clause-prints g c =
     let F = g.Z.Analyzers.tokens_of c.args.analyzers.now in
-    let same : input_of c.input.inside.schema c.input.inside.settings c.deref.result.now c.deref-2.result.now c.deref-3.result.now c.deref-4.result.now ≡ c.args.input.now = (λ i. input_of c.input.inside.schema c.input.inside.settings (c.deref.ensures.value i) (c.deref-2.ensures.value i) (c.deref-3.ensures.value i) (c.deref-4.ensures.value i)) ∙ c.input.view_is in
+    let same = c.as_ref-given.ensures in
     let before = both (g.W.Directory.state c.args.work.now) (g.O.Directory.state c.args.output.now) in
-    let after = both (g.W.Directory.state c.build_index_with_readers-built.new.work) (g.O.Directory.state c.build_index_with_readers-built.new.output) in
+    let after = both (g.W.Directory.state c.build_index_with_readers.new.work) (g.O.Directory.state c.build_index_with_readers.new.output) in
     record {
       read = c.in-Ok.built.segments.items;
       output = c.in-Ok.built.output;
@@ -29,9 +28,9 @@ returns-in-Ok-built_text-clause-prints g c =
 pub returns-in-Err-built_text-clause-ends : goal.returns-in-Err-built_text-clause-ends
 returns-in-Err-built_text-clause-ends g c =
     let F = g.Z.Analyzers.tokens_of c.args.analyzers.now in
-    let same : input_of c.input.inside.schema c.input.inside.settings c.deref.result.now c.deref-2.result.now c.deref-3.result.now c.deref-4.result.now ≡ c.args.input.now = (λ i. input_of c.input.inside.schema c.input.inside.settings (c.deref.ensures.value i) (c.deref-2.ensures.value i) (c.deref-3.ensures.value i) (c.deref-4.ensures.value i)) ∙ c.input.view_is in
+    let same = c.as_ref-given.ensures in
     let before = both (g.W.Directory.state c.args.work.now) (g.O.Directory.state c.args.output.now) in
-    let after = both (g.W.Directory.state c.build_index_with_readers-built.new.work) (g.O.Directory.state c.build_index_with_readers-built.new.output) in
+    let after = both (g.W.Directory.state c.build_index_with_readers.new.work) (g.O.Directory.state c.build_index_with_readers.new.output) in
     not_printed _ refl (record {
       read = c.in-Ok.built.segments.items;
       output = c.in-Ok.built.output;
@@ -42,7 +41,7 @@ returns-in-Err-built_text-clause-ends g c =
 pub returns-in-Err-clause-ends : goal.returns-in-Err-clause-ends
 returns-in-Err-clause-ends g c =
     let F = g.Z.Analyzers.tokens_of c.args.analyzers.now in
-    let same : input_of c.input.inside.schema c.input.inside.settings c.deref.result.now c.deref-2.result.now c.deref-3.result.now c.deref-4.result.now ≡ c.args.input.now = (λ i. input_of c.input.inside.schema c.input.inside.settings (c.deref.ensures.value i) (c.deref-2.ensures.value i) (c.deref-3.ensures.value i) (c.deref-4.ensures.value i)) ∙ c.input.view_is in
+    let same = c.as_ref-given.ensures in
     let before = both (g.W.Directory.state c.args.work.now) (g.O.Directory.state c.args.output.now) in
-    let after = both (g.W.Directory.state c.build_index_with_readers-built.new.work) (g.O.Directory.state c.build_index_with_readers-built.new.output) in
+    let after = both (g.W.Directory.state c.build_index_with_readers.new.work) (g.O.Directory.state c.build_index_with_readers.new.output) in
     not_built c.in-Err.e c.status_of.ensures (subst (λ (s : Input). StopsBuilding (g.Z.Analyzers.knows c.args.analyzers.now) F s c.in-Err.e before after) same c.in-Err.ensures.stops)

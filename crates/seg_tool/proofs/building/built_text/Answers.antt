@@ -1,7 +1,7 @@
 use Rattle.std.proofs.Common.{◌≡◌, ◌∙◌, ℕ, List, ap, subst}
 use Rattle.std.specs.Prelude.{IfOk}
 use Rattle.seg_model.specs.Input.{Input}
-use Rattle.seg_join.specs.KeptSegment.{KeptSegment}
+use Rattle.seg_open.specs.KeptSegment.{KeptSegment}
 use Rattle.seg_tool.specs.Printing.{read_text}
 use Rattle.seg_tool.proofs.building.built_text.Goals as goal
 

@@ -3,7 +3,9 @@ use Rattle.std.specs.Prelude.{OnErr}
 use Rattle.seg_common.specs.FileNames.{extension}
 use Rattle.seg_common.specs.SegmentIds.{id_text}
 use Rattle.seg_common.specs.Streams.{AppendsPart}
-use Rattle.seg_tool.proofs.Parts.{at_error, part_of_front, last_part}
+use Rattle.seg_common.proofs.Known.{part_of_front}
+use Rattle.seg_common.proofs.Results.{at_error}
+use Rattle.seg_tool.proofs.Parts.{last_part}
 use Rattle.seg_tool.proofs.damage.write_part.Goals as goal
 
 pub returns-in_err-write_id-clause-err : goal.returns-in_err-write_id-clause-err

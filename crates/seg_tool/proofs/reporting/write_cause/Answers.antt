@@ -1,8 +1,10 @@
 use Rattle.std.proofs.Common.{◌≡◌, ◌++◌, ◌∙◌, ap, sym}
 use Rattle.std.specs.Prelude.{option_to_list}
+use Rattle.seg_common.proofs.Known.{part_of_front}
+use Rattle.seg_common.proofs.Results.{at_error}
 use Rattle.seg_tool.specs.Statuses.{cause_words, numbers_text, cause_text}
 use Rattle.seg_tool.proofs.CauseText.{cause_text-parts}
-use Rattle.seg_tool.proofs.Parts.{at_error, part_of_front, second_of_three, last_of_three}
+use Rattle.seg_tool.proofs.Parts.{second_of_three, last_of_three}
 use Rattle.seg_tool.proofs.reporting.write_cause.Goals as goal
 
 pub returns-in_err-write_whole-clause-err : goal.returns-in_err-write_whole-clause-err

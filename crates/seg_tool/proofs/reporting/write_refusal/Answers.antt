@@ -1,7 +1,9 @@
 use Rattle.std.proofs.Common.{[], ◌∷◌, ◌++◌}
 use Rattle.std.specs.Prelude.{codes}
+use Rattle.seg_common.proofs.Known.{front_and_part, part_of_front}
+use Rattle.seg_common.proofs.Results.{at_error}
 use Rattle.seg_tool.specs.Statuses.{cause_words, cause_text}
-use Rattle.seg_tool.proofs.Parts.{at_error, part_of_front, front_and_part, last_part}
+use Rattle.seg_tool.proofs.Parts.{last_part}
 use Rattle.seg_tool.proofs.reporting.write_refusal.Goals as goal
 
 pub returns-in_err-write_whole-clause-err : goal.returns-in_err-write_whole-clause-err

@@ -1,9 +1,9 @@
 use Rattle.std.proofs.Common.{IsUtf8}
 use Rattle.seg_values.specs.declared.value.Member.{Member}
-use Rattle.seg_values.specs.declared.value.OwnedValue.{OwnedValue}
 use Rattle.seg_values.specs.Utf8.{IsUtf8Tree}
 use Rattle.seg_values.specs.View.{tree_of}
-use Rattle.seg_values.proofs.Passed.{one_more, all_passed, are_utf8_trees, are_utf8_members}
+use Rattle.seg_words.proofs.Passed.{one_more, all_passed}
+use Rattle.seg_values.proofs.Utf8Trees.{are_utf8_trees, are_utf8_members}
 use Rattle.seg_values.proofs.value.+texts.Goals as goal
 
 abbrev IsUtf8Member : Member → Type 0

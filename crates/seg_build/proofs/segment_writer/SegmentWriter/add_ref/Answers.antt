@@ -15,7 +15,9 @@ with_document-requires g c =
     let d = c.args.document.now in
     let taken : is_taken schema F d ≡ true = subst (λ s. is_taken s F d ≡ true) c.schema-schema.ensures (ap is_none c.in-Ok.ensures.ok) in
     let place : length c.in-Some.parts.stamps.items < 2 ^ 31 - 1 = omega (arith, c.len.ensures, c.if-len-ge-MAX_DOCUMENTS.false) in
-    record { room = room_of schema F c.self.invariant.0 d taken c.texts_are_utf8.ensures c.args.opstamp c.self.inside.parts c.in-Some.parts (sym c.take.ensures.value ∙ c.in-Some.is) place c.self.invariant.2 }
+    let texts = c.deref.result.now in
+    let are : map (text_in d) texts ≡ document_texts schema F d = ap (map (text_in d)) c.deref.ensures.value ∙ c.in-Ok.ensures.texts ∙ ap (λ s. document_texts s F d) c.schema-schema.ensures in
+    record { room = room_of schema F c.self.invariant.0 d taken c.texts_are_utf8.ensures c.args.opstamp c.self.inside.parts c.in-Some.parts (sym c.take.ensures.value ∙ c.in-Some.is) place texts are c.self.invariant.2 }
 
 pub invariant_of-self-in-Ok-with_document : goal.invariant_of-self-in-Ok-with_document
 invariant_of-self-in-Ok-with_document g c =

@@ -1,10 +1,11 @@
 use Rattle.std.proofs.Common.{◌≡◌, true, refl, ap, sym, ◌∙◌, subst}
 use Rattle.std.specs.Prelude.{IfOk}
 use Rattle.std.proofs.lemmas.Result.{IfOk-weaker}
+use Rattle.std.proofs.lemmas.Option.{same_Some}
 use Rattle.seg_values.specs.View.{tree_of}
 use Rattle.seg_model.specs.Fields.{is_indexed}
 use Rattle.seg_check.specs.AllFields.{CutsMore}
-use Rattle.seg_check.proofs.FieldsCome.{order-of, order-none, read-at, none-past, at-most-one}
+use Rattle.seg_check.proofs.FieldsCome.{order-of, order-none, read-at, none-past}
 use Rattle.seg_check.proofs.TextsCome.{cut-passed}
 use Rattle.seg_check.proofs.positions.CutDocument.add_pair.Goals as goal
 
@@ -22,7 +23,7 @@ pub returns-then-not-is_indexed-clause-cut : goal.returns-then-not-is_indexed-cl
 returns-then-not-is_indexed-clause-cut g c passes document came at has =
     let here = read-at c.args.schema.now c.field_id-field.result c.args.field c.in-Some.entry.now c.in-Some.ensures.lookup.3.0 c.in-Some.ensures.lookup.1 c.field_id-field.ensures in
     cut-passed c.args.schema.now (g.Z.Analyzers.tokens_of c.args.analyzers.now) came c.args.field (tree_of c.args.value.now) document c.args.self.now
-    (λ entry at_entry. ap is_indexed (at-most-one entry c.in-Some.entry.now (sym at_entry ∙ here)) ∙ sym c.is_indexed.ensures ∙ c.if-not-is_indexed.true) has
+    (λ entry at_entry. ap is_indexed (same_Some entry c.in-Some.entry.now (sym at_entry ∙ here)) ∙ sym c.is_indexed.ensures ∙ c.if-not-is_indexed.true) has
 
 pub returns-clause-order : goal.returns-clause-order
 returns-clause-order g c =

@@ -9,5 +9,5 @@ pub tokens_of-requires : goal.tokens_of-requires
 tokens_of-requires c =
     subst (λ (ns : List NumberedSegment). AllByRecursion (IsOpenAt c.args.field) (parts_of ns)) (sym c.as_slice.ensures) (all_open c.requires.entry c.args.field (parts_of c.args.self.now) c.requires.segments)
 
-pub returns-clause-ok : goal.returns-clause-ok
-returns-clause-ok c = c.tokens_of.ensures ∙ ap (λ (ns : List NumberedSegment). min (tokens_in c.args.field (parts_of ns)) (2 ^ 64 - 1)) c.as_slice.ensures
+pub returns : goal.returns
+returns c = c.tokens_of.ensures ∙ ap (λ (ns : List NumberedSegment). min (tokens_in c.args.field (parts_of ns)) (2 ^ 64 - 1)) c.as_slice.ensures

@@ -1,9 +1,10 @@
-use Rattle.std.proofs.Common.{◌-◌, ◌^◌, ℕ, List, min, map, sym, ap, subst, ◌∙◌}
+use Rattle.std.proofs.Common.{◌-◌, ◌^◌, ℕ, List, min, map, refl, sym, ap, subst, ◌∙◌}
+use Rattle.std.specs.Prelude.{IsSomeAnd}
 use Rattle.std.specs.List.{AllByRecursion}
-use Rattle.seg_join.specs.JoinedTerms.{AreJoined, IsOpenAt, source_of, tokens_in}
+use Rattle.seg_segment.specs.WritingTerms.{IsUnwritten}
+use Rattle.seg_join.specs.JoinedTerms.{IsOpenAt, source_of, tokens_in}
 use Rattle.seg_join.specs.MovedPostings.{SourceTerms, Ascend}
 use Rattle.seg_join.specs.NewIds.{NumberedSegment, parts_of}
-use Rattle.seg_segment.specs.FieldsWritten.{IsWhole}
 use Rattle.seg_join.proofs.JoinedField.{joinable, whole}
 use Rattle.seg_join.proofs.NumberedParts.{all_open}
 use Rattle.seg_join.proofs.terms_joining.NumberedPartsTermsByField.write_terms.Goals as goal
@@ -17,10 +18,12 @@ write_terms-requires-clause-joinable c =
     let up = subst (AllByRecursion (λ (s : SourceTerms). Ascend s.terms)) (sym c.deref.ensures.value) c.in_ok-sources.ensures.ascend in
     joinable c.args.field c.args.self.now c.requires.can.ids c.requires.can.few c.deref.result.now (c.deref.ensures.value ∙ c.in_ok-sources.ensures.are ∙ ap (map (source_of c.args.field)) c.as_slice.ensures) up c.requires.can.entry c.requires.can.segments
 
-pub returns-clause-ok : goal.returns-clause-ok
-returns-clause-ok c =
+pub write_terms-requires-clause-unwritten : goal.write_terms-requires-clause-unwritten
+write_terms-requires-clause-unwritten c = subst (λ o. IsSomeAnd o IsUnwritten) (sym c.requires.begins) (record { empty = refl; closed = refl })
+
+pub returns : goal.returns
+returns c =
     let up = subst (AllByRecursion (λ (s : SourceTerms). Ascend s.terms)) (sym c.deref.ensures.value) c.in_ok-sources.ensures.ascend in
     let total : ℕ → ℕ = λ field. min (tokens_in field (parts_of c.args.self.now)) (2 ^ 64 - 1) in
-    subst (IsWhole total (AreJoined c.args.self.now) c.args.field) (sym c.into_field.ensures)
-    (whole c.args.field c.args.self.now c.requires.can.ids c.requires.can.few c.deref.result.now (c.deref.ensures.value ∙ c.in_ok-sources.ensures.are ∙ ap (map (source_of c.args.field)) c.as_slice.ensures) up
-    total c.new-writer.result c.write_terms.new.writer (c.new-writer.ensures ∙ c.requires.begins) c.in_ok-write_terms.ensures.ok)
+    whole c.args.field c.args.self.now c.requires.can.ids c.requires.can.few c.deref.result.now (c.deref.ensures.value ∙ c.in_ok-sources.ensures.are ∙ ap (map (source_of c.args.field)) c.as_slice.ensures) up
+    total c.args.writer c.write_terms.new.writer c.requires.begins c.in_ok-write_terms.ensures

@@ -2,7 +2,7 @@ use Rattle.std.proofs.Common.{◌≡◌, ◌∙◌, ◌⊎◌, ℕ, List, None, 
 use Rattle.seg_common.specs.LittleEndian.{u64_at}
 use Rattle.seg_termdict.specs.Dictionary.{Term, terms_of}
 use Rattle.seg_termdict.specs.Building.{last_term, positions_end}
-use Rattle.seg_postings.specs.declared.error.PostingsError.TheVariants.{Malformed, OutOfMemory}
+use Rattle.seg_values.specs.declared.postings_error.PostingsError.TheVariants.{Malformed, OutOfMemory}
 use Rattle.seg_postings.specs.FieldWriting.{TermWritten}
 use Rattle.seg_postings.specs.FieldReading.{FirstParts, IsFieldBy, written_terms, dictionary_terms}
 use Rattle.seg_postings.proofs.OpenedFields.{behind_total, lie_within, no_field_by, are_readable, opened, its_terms}

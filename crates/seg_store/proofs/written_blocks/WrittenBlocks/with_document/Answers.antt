@@ -1,6 +1,6 @@
 use Rattle.std.proofs.Common.{◌≡◌, List, ℕ, take, drop, ap, ◌∙◌, arith}
 use Rattle.std.proofs.lemmas.List.{take_at, drop_at}
-use Rattle.seg_model.specs.StoredForm.{stored_form}
+use Rattle.seg_values.specs.StoredForm.{stored_form}
 use Rattle.seg_store.specs.Writing.{with_document}
 use Rattle.seg_store.specs.Buffers.{Buffers, taken_of}
 use Rattle.seg_store.proofs.KeptBlocks.{if_ok}

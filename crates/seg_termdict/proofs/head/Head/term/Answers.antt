@@ -1,6 +1,6 @@
 use Rattle.std.proofs.Common.{◌≡◌, ◌∙◌, ◌<◌, ◌-◌, List, length, ap, sym, subst}
 use Rattle.seg_common.specs.declared.term_info.TermInfo.{TermInfo}
-use Rattle.seg_model.specs.SortedTerms.{RankedTerm}
+use Rattle.seg_termdict.specs.SortedTerms.{RankedTerm}
 use Rattle.seg_termdict.specs.Merging.{first}
 use Rattle.seg_termdict.specs.Streaming.{current}
 use Rattle.seg_termdict.proofs.Heads.{seen_as, stands_from}

@@ -1,5 +1,5 @@
 use Rattle.std.proofs.Common.{◌≡◌, ◌-◌, ap, ◌∙◌, arith}
-use Rattle.seg_model.specs.SortedTerms.{TermRange, streamed}
+use Rattle.seg_termdict.specs.SortedTerms.{TermRange, streamed}
 use Rattle.seg_termdict.specs.Ranges.{Ranged, sorted_terms, before_all}
 use Rattle.seg_termdict.proofs.Ranked.{streamed_between}
 use Rattle.seg_termdict.proofs.streamer_builder.TermStreamerBuilder.into_stream.Goals as goal

@@ -1,4 +1,4 @@
-use Rattle.std.proofs.Common.{◌≡◌, ◌<◌, ℕ, get_or}
+use Rattle.std.proofs.Common.{◌<◌, ℕ, get_or}
 use Rattle.seg_values.specs.Tree.{Tree}
 use Rattle.seg_values.specs.Utf8.{IsUtf8Tree}
 use Rattle.seg_values.proofs.document.TantivyDocument.texts_are_utf8.Given as goal

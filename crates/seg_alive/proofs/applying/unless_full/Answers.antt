@@ -1,9 +1,0 @@
-use Rattle.std.proofs.Common.{refl, sym, ◌∙◌}
-use Rattle.seg_alive.proofs.Missing.{full, missing}
-use Rattle.seg_alive.proofs.applying.unless_full.Goals as goal
-
-pub returns-then-len-max_value : goal.returns-then-len-max_value
-returns-then-len-max_value c = full c.args.set (sym c.len.ensures ∙ c.if-len-max_value.true ∙ c.max_value.ensures)
-
-pub returns : goal.returns
-returns c = (refl, missing c.args.set (λ all. c.if-len-max_value.false (c.len.ensures ∙ all ∙ sym c.max_value.ensures)))

@@ -1,0 +1,5 @@
+use Rattle.seg_bits.proofs.Meet.{alive_sets_meet}
+use Rattle.seg_bits.proofs.laws.alive_sets_meet.Goals as goal
+
+pub returns : goal.returns
+returns c = alive_sets_meet

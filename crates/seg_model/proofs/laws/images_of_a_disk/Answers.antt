@@ -1,5 +1,0 @@
-use Rattle.seg_model.proofs.Images.{untouched_names_stay}
-use Rattle.seg_model.proofs.laws.images_of_a_disk.Goals as goal
-
-pub returns-clause-untouched : goal.returns-clause-untouched
-returns-clause-untouched g c = untouched_names_stay _

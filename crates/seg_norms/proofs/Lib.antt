@@ -1,0 +1,5 @@
+mod LengthTable
+mod NormsFit
+mod NormsLists
+mod NormsOfParts
+mod PartIds

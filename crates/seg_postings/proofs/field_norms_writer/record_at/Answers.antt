@@ -1,6 +1,0 @@
-use Rattle.std.proofs.Common.{rules}
-use Rattle.seg_postings.proofs.NormsLists.{set_is_at_field}
-use Rattle.seg_postings.proofs.field_norms_writer.record_at.Goals as goal
-
-pub returns : goal.returns
-returns c = search (rules, set_is_at_field)

@@ -1,0 +1,14 @@
+pub mod Fronts
+pub mod Gathering
+pub mod MadeLeaves
+pub mod MadeTrees
+pub mod PassedLeaves
+pub mod PassedPairs
+pub mod PassedTrees
+pub mod PuttingTrees
+pub mod ReadBack
+pub mod ReadDocuments
+pub mod ReadTrees
+pub mod Standing
+pub mod StoredPairs
+pub mod WholeDocuments

@@ -1,0 +1,23 @@
+//! Stored documents: the bytes that a document is written to, and what is read from them.
+//!
+//! The bytes of a document read as fields with trees. `put_document` writes those of the stored pairs of a document;
+//! `is_stored_document` checks bytes without memory, and `document_of` makes a document of them.
+//!
+//! To be read in this order: `tree_writer`, `document_writer`, `document_law`; `pieces` (what is at the front of bytes),
+//! `tree_check`, `document_check`; `leaf_reader`, `tree_reader`, `document_reader`.
+#![tactic(auto)]
+
+mod document_check;
+mod document_law;
+mod document_reader;
+mod document_writer;
+mod leaf_reader;
+mod pieces;
+mod tree_check;
+mod tree_reader;
+mod tree_writer;
+
+pub use document_check::is_stored_document;
+pub use document_law::stored_documents_are_read;
+pub use document_reader::document_of;
+pub use document_writer::put_document;

@@ -1,0 +1,4 @@
+pub mod Cutting
+pub mod Passed
+pub mod Registering
+pub mod Wording
