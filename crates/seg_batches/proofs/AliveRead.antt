@@ -10,7 +10,7 @@ use Rattle.seg_common.specs.declared.name.FileName.TheVariants.{Alive}
 use Rattle.seg_values.specs.declared.error.TantivyError.{TantivyError}
 use Rattle.seg_values.specs.declared.error.TantivyError.TheVariants.{DataCorruption}
 use Rattle.seg_bits.specs.BitSets.{set_of}
-use Rattle.seg_directory.proofs.Doing.{broke, stops, then_does, went}
+use Rattle.seg_directory.proofs.Exports.{broke, stops, then_does, went}
 use Rattle.seg_directory.specs.Calls.{read}
 use Rattle.seg_directory.specs.State.{DirectoryState}
 use Rattle.seg_directory.specs.Works.{WorksFor, calls}

@@ -9,16 +9,14 @@ use Rattle.seg_common.specs.declared.name.FileName.TheVariants.{Alive}
 use Rattle.seg_common.proofs.Lists.{all_front, all_back}
 use Rattle.seg_values.specs.declared.error.TantivyError.{TantivyError}
 use Rattle.seg_values.specs.declared.error.TantivyError.TheVariants.{IndexAlreadyExists}
-use Rattle.seg_directory.proofs.NeverThere.{never_there}
-use Rattle.seg_directory.proofs.OtherFiles.{keeps_others}
-use Rattle.seg_directory.proofs.WorkLaws.{all_went}
+use Rattle.seg_directory.proofs.Exports.{all_went, keeps_others, never_there}
 use Rattle.seg_directory.specs.Files.{NamedFiles}
 use Rattle.seg_directory.specs.State.{DirectoryState}
 use Rattle.seg_directory.specs.Works.{Step, AllSuit, all_files_after}
 use Rattle.seg_meta.specs.IndexOfFiles.{Deletes}
 use Rattle.seg_model.specs.Valid.{are_distinct}
 use Rattle.seg_segment.specs.SegmentFiles.{AreAbsent}
-use Rattle.seg_segment.proofs.FilesMade.{newest}
+use Rattle.seg_segment.proofs.Exports.{newest}
 use Rattle.seg_batches.specs.AliveWriting.{AllTellMarks, TellMarks, WritesAlive, alive_step, alive_steps}
 use Rattle.seg_batches.specs.Segments.{AllTellAlive, TellsAlive, WrittenSegment, alive_file, alive_files, all_listed, deletes_of}
 use Rattle.seg_batches.proofs.Apart.{alive_apart, others_behind}

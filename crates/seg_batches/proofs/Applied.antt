@@ -12,7 +12,7 @@ use Rattle.seg_model.specs.Operations.{Operation, delete, additions, both_marked
 use Rattle.seg_removal.specs.Cleared.{clears, is_cleared_by, uncleared_by}
 use Rattle.seg_removal.specs.Laws.{AliveByPostings, DeletesClearInTurn}
 use Rattle.seg_removal.specs.Stamps.{stamped_deletes}
-use Rattle.seg_removal.proofs.Posted.{length-additions}
+use Rattle.seg_removal.proofs.Exports.{length-additions}
 use Rattle.seg_deletes.specs.declared.doc_opstamp_mapping.DocToOpstampMapping.TheVariants.{WithMap}
 use Rattle.seg_deletes.specs.declared.operation.DeleteOperation.{DeleteOperation}
 use Rattle.seg_batches.specs.Applying.{is_left_by, left_by}

@@ -10,7 +10,7 @@ use Rattle.seg_common.specs.declared.name.SegmentComponent.{SegmentComponent}
 use Rattle.seg_common.proofs.Lists.{all_both}
 use Rattle.seg_values.specs.Tree.{Document}
 use Rattle.seg_values.specs.declared.error.TantivyError.{TantivyError}
-use Rattle.seg_directory.proofs.WorkLaws.{all_went}
+use Rattle.seg_directory.proofs.Exports.{all_went}
 use Rattle.seg_directory.specs.Files.{NamedFiles}
 use Rattle.seg_directory.specs.State.{DirectoryState}
 use Rattle.seg_directory.specs.Works.{all_files_after}
@@ -21,9 +21,7 @@ use Rattle.seg_model.specs.Valid.{are_distinct}
 use Rattle.seg_segment.specs.Forms.{segment_forms}
 use Rattle.seg_segment.specs.SegmentFiles.{segment_names, write_steps}
 use Rattle.seg_segment.specs.declared.segment_files.SegmentFiles.{SegmentFiles}
-use Rattle.seg_segment.proofs.FilesMade.{six_there}
-use Rattle.seg_segment.proofs.KeptFiles.{all_touched, after_keeps}
-use Rattle.seg_segment.proofs.SpelledFiles.{held_on, stands_there}
+use Rattle.seg_segment.proofs.Exports.{after_keeps, all_touched, held_on, six_there, stands_there}
 use Rattle.seg_batches.specs.Segments.{AllStand}
 use Rattle.seg_batches.specs.Writing.{AllStandFor, MakesBatches, batches_steps}
 use Rattle.seg_batches.proofs.Apart.{others_behind, part_from_parts}

@@ -5,7 +5,7 @@ use Rattle.std.proofs.lemmas.List.{append-nil, drop_all, length-append, length-m
 use Rattle.seg_common.proofs.Lists.{drop-slice_get}
 use Rattle.seg_values.specs.declared.error.TantivyError.{TantivyError}
 use Rattle.seg_values.specs.declared.error.TantivyError.TheVariants.{OutOfMemory}
-use Rattle.seg_directory.proofs.Doing.{then_does, stops, answers, does_nothing}
+use Rattle.seg_directory.proofs.Exports.{answers, does_nothing, stops, then_does}
 use Rattle.seg_directory.specs.State.{DirectoryState}
 use Rattle.seg_directory.specs.Works.{Step, Works}
 use Rattle.seg_model.specs.Fields.{Schema, Analyzer}

@@ -8,8 +8,7 @@ use Rattle.seg_common.proofs.Lists.{all_back, all_front}
 use Rattle.seg_common.proofs.Results.{error_is}
 use Rattle.seg_values.specs.declared.error.TantivyError.{TantivyError}
 use Rattle.seg_values.specs.declared.error.TantivyError.TheVariants.{IndexAlreadyExists, OutOfMemory}
-use Rattle.seg_directory.proofs.NeverThere.{never_there}
-use Rattle.seg_directory.proofs.WorkLaws.{all_went}
+use Rattle.seg_directory.proofs.Exports.{all_went, in_first, in_next, never_there, parts_on}
 use Rattle.seg_directory.specs.Does.{GoesOn}
 use Rattle.seg_directory.specs.State.{DirectoryState}
 use Rattle.seg_directory.specs.Works.{StepGoes, StepBreaks, Works}
@@ -17,7 +16,7 @@ use Rattle.seg_model.specs.Checked.{first_of}
 use Rattle.seg_model.specs.Valid.{are_distinct}
 use Rattle.seg_segment.specs.SegmentFiles.{AreAbsent, segment_names, write_steps}
 use Rattle.seg_segment.specs.declared.segment_files.SegmentFiles.{SegmentFiles}
-use Rattle.seg_segment.proofs.FilesMade.{absent_suit, others_stay}
+use Rattle.seg_segment.proofs.Exports.{absent_suit, others_stay}
 use Rattle.seg_model.specs.Refused.{IfRefusal, IsRefusal}
 use Rattle.seg_batches.specs.Segments.{six_files}
 use Rattle.seg_batches.specs.Writing.{batches_steps}
@@ -27,7 +26,6 @@ use Rattle.seg_batches.proofs.BatchSteps.{if_refusal, refusal_weaker}
 use Rattle.seg_batches.proofs.CallErrors.{of_memory, unrefused}
 use Rattle.seg_batches.proofs.Causes.{IsFirst, TellsRefusal}
 use Rattle.seg_batches.proofs.Names.{still_absent}
-use Rattle.seg_directory.proofs.Parts.{in_first, in_next, parts_on}
 
 -- ---- no file of theirs is found
 

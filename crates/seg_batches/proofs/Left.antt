@@ -17,7 +17,7 @@ use Rattle.seg_model.specs.Operations.{Operation, additions, alive_after}
 use Rattle.seg_model.specs.Reading.{all_terms}
 use Rattle.seg_removal.specs.Laws.{ArePassed}
 use Rattle.seg_removal.specs.Stamps.{addition_stamps, stamped_deletes}
-use Rattle.seg_removal.proofs.Posted.{length-additions}
+use Rattle.seg_removal.proofs.Exports.{length-additions}
 use Rattle.seg_deletes.specs.declared.doc_opstamp_mapping.DocToOpstampMapping.TheVariants.{WithMap}
 use Rattle.seg_deletes.specs.declared.operation.DeleteOperation.{DeleteOperation}
 use Rattle.seg_segment.specs.Standing.{StandFor}

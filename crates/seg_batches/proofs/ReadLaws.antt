@@ -8,7 +8,7 @@ use Rattle.seg_common.specs.declared.name.FileName.TheVariants.{Alive}
 use Rattle.seg_values.specs.declared.error.TantivyError.{TantivyError}
 use Rattle.seg_values.specs.declared.error.TantivyError.TheVariants.{DataCorruption, OpenReadError}
 use Rattle.seg_bits.specs.BitSets.{set_of}
-use Rattle.seg_directory.proofs.WorkLaws.{all_went}
+use Rattle.seg_directory.proofs.Exports.{all_went}
 use Rattle.seg_directory.specs.Files.{NamedFiles}
 use Rattle.seg_directory.specs.State.{DirectoryState}
 use Rattle.seg_directory.specs.Works.{AllSuit}
@@ -20,11 +20,10 @@ use Rattle.seg_segment.specs.Forms.{segment_forms}
 use Rattle.seg_segment.specs.Holds.{Holds}
 use Rattle.seg_segment.specs.HoldsAlive.{HoldsAlive}
 use Rattle.seg_segment.specs.SegmentRead.{IsNoDamage, IsReadError}
-use Rattle.seg_segment.proofs.OnlyReads.{FindWhole, FindsDamage, OnlyReads, Unchanged, found_whole, reads_both, reads_rose, reads_so, reads_stay, suits_both, whole_both}
-use Rattle.seg_segment.proofs.ReadLaws.{is_there}
+use Rattle.seg_segment.proofs.Exports.{FindWhole, FindsDamage, OnlyReads, Unchanged, found_whole, is_there, reads_both, reads_rose, reads_so, reads_stay, suits_both, whole_both}
 use Rattle.seg_open.specs.OpenSegment.{contents_of}
 use Rattle.seg_open.specs.SegmentOpened.{open_steps}
-use Rattle.seg_open.proofs.OpenLaws.{open_has, open_only, open_whole}
+use Rattle.seg_open.proofs.Exports.{open_has, open_only, open_whole}
 use Rattle.seg_open.specs.KeptSegment.{KeptSegment}
 use Rattle.seg_batches.specs.Reading.{Found, IsFound, IsKept, AreFound, AreKept, ReadsSegments, alive_in, alive_read, alive_steps, all_steps, segment_steps}
 use Rattle.seg_batches.proofs.AliveRead.{agrees, is_set, undamaged}

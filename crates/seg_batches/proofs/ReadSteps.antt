@@ -5,7 +5,7 @@ use Rattle.std.proofs.lemmas.List.{take-append-drop}
 use Rattle.seg_common.proofs.Lists.{drop-slice_get, take-slice_get}
 use Rattle.seg_values.specs.declared.error.TantivyError.{TantivyError}
 use Rattle.seg_values.specs.declared.error.TantivyError.TheVariants.{OutOfMemory}
-use Rattle.seg_directory.proofs.Doing.{answers, does_nothing, stops, then_does}
+use Rattle.seg_directory.proofs.Exports.{answers, does_nothing, stops, then_does}
 use Rattle.seg_directory.specs.Does.{GoesOn}
 use Rattle.seg_directory.specs.State.{DirectoryState}
 use Rattle.seg_directory.specs.Works.{Step, StepGoes, StepBreaks, Works}

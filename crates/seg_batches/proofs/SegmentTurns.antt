@@ -12,8 +12,7 @@ use Rattle.seg_model.specs.Checked.{Cause, at_place, document_refusal, first_of}
 use Rattle.seg_model.specs.Fields.{Schema, Analyzer}
 use Rattle.seg_model.specs.Operations.{Operation, add, delete, delete_all, Batch, additions, batches_from}
 use Rattle.seg_model.specs.Refused.{added_by, batch_refusal, count_refusal, cut_from, numbers_refusal, operation_refusal}
-use Rattle.seg_model.proofs.FirstAnswers.{none_map, or_both}
-use Rattle.seg_model.proofs.Refused.{none_count}
+use Rattle.seg_model.proofs.Exports.{none_count, none_map, or_both}
 use Rattle.seg_batches.specs.Writing.{batch_cause}
 
 -- ---- documents

@@ -1,10 +1,10 @@
-pub mod Bits
-pub mod Found
-pub mod Kept
-pub mod Lowest
+mod Bits
+mod Found
+mod Kept
+mod Lowest
 mod Meet
-pub mod Members
-pub mod OneForm
-pub mod Shared
-pub mod Spelled
-pub mod Written
+mod Members
+mod OneForm
+mod Shared
+mod Spelled
+mod Written

@@ -10,7 +10,7 @@ use Rattle.seg_build.specs.Adding.{with_position, with_occurrence}
 use Rattle.seg_build.specs.declared.hits.Hit.{Hit}
 use Rattle.seg_build.specs.Grouped.{grouped}
 use Rattle.seg_build.specs.ByBytes.{by_bytes}
-use Rattle.seg_check.proofs.OnPaths.{Key, has_bytes}
+use Rattle.seg_check.proofs.Exports.{Key, has_bytes}
 use Rattle.seg_build.proofs.Grouping.{grouped-push}
 use Rattle.seg_build.proofs.Hashed.{get-by_bytes, by_bytes-updates, insert_same}
 

@@ -13,9 +13,7 @@ use Rattle.seg_directory.specs.State.{DirectoryState}
 use Rattle.seg_directory.specs.Works.{Works}
 use Rattle.seg_segment.specs.Forms.{segment_forms}
 use Rattle.seg_segment.specs.SegmentFiles.{HasFiles, write_steps}
-use Rattle.seg_segment.proofs.FilesMade.{are_made}
-use Rattle.seg_segment.proofs.OneContents.{one}
-use Rattle.seg_segment.proofs.SpelledFiles.{stands_there}
+use Rattle.seg_segment.proofs.Exports.{are_made, one, stands_there}
 use Rattle.seg_build.specs.FieldTerms.{fields_of}
 use Rattle.seg_build.specs.Finishing.{AreOfKept, Finishes, FinishesKept, IsMadeOfKept, starves, makes}
 use Rattle.seg_build.specs.Kept.{Kept}

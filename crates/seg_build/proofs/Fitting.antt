@@ -7,7 +7,7 @@ use Rattle.seg_values.specs.Tree.{Tree}
 use Rattle.seg_model.specs.Fields.{Analyzer, indexing_tokenizer}
 use Rattle.seg_model.specs.Checked.{positions_fall, unless, is_rising, value_texts, positions_refusal}
 use Rattle.seg_model.specs.Occurrences.{counted, value_tokens}
-use Rattle.seg_segment.proofs.BuiltEntries.{IsTextEntry}
+use Rattle.seg_segment.proofs.Exports.{IsTextEntry}
 
 -- an element within a list
 pub record IsElement {X : Type 0} (xs : List X) (i : ℕ) : Type 0 where

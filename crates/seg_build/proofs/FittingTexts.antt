@@ -12,10 +12,9 @@ use Rattle.seg_model.specs.Checked.{count_of, field_fits}
 use Rattle.seg_model.specs.Fields.{Schema, Analyzer, is_indexed, is_field, indexing_tokenizer}
 use Rattle.seg_model.specs.Occurrences.{counted, start_after, start_after_all, value_tokens}
 use Rattle.seg_check.specs.Texts.{text_of, tokens_at}
-use Rattle.seg_check.proofs.FieldsFit.{for_one_field}
-use Rattle.seg_check.proofs.Adding.{counts-add}
+use Rattle.seg_check.proofs.Exports.{counts-add, for_one_field}
 use Rattle.seg_segment.specs.Built.{is_built_schema}
-use Rattle.seg_segment.proofs.BuiltEntries.{text_entry_at}
+use Rattle.seg_segment.proofs.Exports.{text_entry_at}
 use Rattle.seg_build.specs.Field.{added, start_in, Fits}
 use Rattle.seg_build.specs.Steps.{AllFit, indexed_part, with_pair, with_pairs}
 use Rattle.seg_build.specs.declared.field.FieldPostings.{FieldPostings}

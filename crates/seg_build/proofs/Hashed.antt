@@ -11,7 +11,7 @@ use Rattle.std.specs.FinMap.{FinMap, get, find, insert, get-from_entries, get-in
 use Rattle.std.proofs.lemmas.Bool.{cond-true, cond-false}
 use Rattle.std.proofs.lemmas.Map.Text.{is_eq-slice_cmp}
 use Rattle.seg_build.specs.ByBytes.{by_bytes}
-use Rattle.seg_check.proofs.OnPaths.{Key, has_bytes, others_stay}
+use Rattle.seg_check.proofs.Exports.{Key, has_bytes, others_stay}
 
 -- maps that tell the same of each bytes are the same
 pub same_by_bytes : {Y : Type 0} (m n : FinMap (slice_cmp nat_cmp) Y) → ((q : List ℕ) → get m q ≡ get n q) → m ≡ n

@@ -10,7 +10,7 @@ use Rattle.seg_model.specs.Fields.{Schema, is_indexed, is_text, is_field, values
 use Rattle.seg_check.specs.Texts.{is_text_field, text_part}
 use Rattle.seg_segment.specs.Built.{is_built_schema}
 use Rattle.seg_build.specs.Steps.{indexed_part}
-use Rattle.seg_segment.proofs.BuiltEntries.{text_entry_at}
+use Rattle.seg_segment.proofs.Exports.{text_entry_at}
 
 module _ (k : ℕ) where
   values-own : (p : ℕ × Tree) (ps : Document) → nat_eq k p.0 ≡ true → values_of k (p ∷ ps) ≡ p.1 ∷ values_of k ps

@@ -21,7 +21,7 @@ use Rattle.seg_build.specs.Field.{count_in, added}
 use Rattle.seg_build.specs.Lengths.{AreUpTo, HaveLengths, with_counts, with_lengths}
 use Rattle.seg_build.specs.Steps.{fresh, indexed_part, with_pairs, with_documents}
 use Rattle.seg_build.specs.declared.field.FieldPostings.{FieldPostings}
-use Rattle.seg_segment.proofs.BuiltEntries.{text_entry_at}
+use Rattle.seg_segment.proofs.Exports.{text_entry_at}
 use Rattle.seg_build.proofs.Fitting.{element_at}
 use Rattle.seg_build.proofs.IndexedParts.{values_kept}
 use Rattle.seg_build.proofs.Places.{texts_of, texts_of-passed, added_all, count_in-added, field_after}

@@ -1,36 +1,37 @@
-pub mod Added
-pub mod Filled
-pub mod Finalized
-pub mod Fitting
-pub mod FittingTexts
-pub mod Grouping
-pub mod Growing
-pub mod Hashed
-pub mod IndexedParts
-pub mod Keeping
-pub mod KeptBatch
-pub mod KeptLengths
-pub mod MemoryTaken
-pub mod NoColumns
-pub mod NoFast
-pub mod NormParts
-pub mod Places
-pub mod RecordedLengths
-pub mod RecordedTerms
-pub mod Recording
-pub mod Refused
-pub mod Refusing
-pub mod Running
-pub mod Sorting
-pub mod Sound
-pub mod Standing
-pub mod StoringDocuments
-pub mod Taken
-pub mod TextCounts
-pub mod TextSteps
-pub mod Totals
-pub mod Whole
-pub mod WritableTerms
-pub mod WrittenFields
-pub mod WrittenHits
-pub mod WrittenTerms
+pub mod Exports
+mod Added
+mod Filled
+mod Finalized
+mod Fitting
+mod FittingTexts
+mod Grouping
+mod Growing
+mod Hashed
+mod IndexedParts
+mod Keeping
+mod KeptBatch
+mod KeptLengths
+mod MemoryTaken
+mod NoColumns
+mod NoFast
+mod NormParts
+mod Places
+mod RecordedLengths
+mod RecordedTerms
+mod Recording
+mod Refused
+mod Refusing
+mod Running
+mod Sorting
+mod Sound
+mod Standing
+mod StoringDocuments
+mod Taken
+mod TextCounts
+mod TextSteps
+mod Totals
+mod Whole
+mod WritableTerms
+mod WrittenFields
+mod WrittenHits
+mod WrittenTerms

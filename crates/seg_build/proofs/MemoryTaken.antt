@@ -21,7 +21,7 @@ use Rattle.seg_build.specs.MemoryUsage.{total, saturated, occurrence_count, leng
 use Rattle.seg_build.specs.SegmentWriting.{Stores, IsKeptOf}
 use Rattle.seg_build.specs.Steps.{indexed_part}
 use Rattle.seg_build.specs.declared.field.FieldPostings.{FieldPostings}
-use Rattle.seg_segment.proofs.BuiltEntries.{text_entry_at}
+use Rattle.seg_segment.proofs.Exports.{text_entry_at}
 use Rattle.seg_build.proofs.IndexedParts.{values_kept, values_dropped}
 use Rattle.seg_build.proofs.KeptLengths.{HasTokens}
 use Rattle.seg_build.proofs.Places.{length_texts, texts_of}

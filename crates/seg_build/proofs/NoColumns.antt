@@ -9,7 +9,7 @@ use Rattle.seg_model.specs.Fields.{Schema, Analyzer, values_of}
 use Rattle.seg_model.specs.Columns.{values_at, kind_fast_values, field_fast_values, fast_values, declared_type, column_named, declared_columns, value_keys, columns_from, columns}
 use Rattle.seg_values.specs.declared.schema.FieldEntry.{FieldEntry}
 use Rattle.seg_segment.specs.Built.{is_built_entry, is_built_schema}
-use Rattle.seg_segment.proofs.BuiltEntries.{not_fast}
+use Rattle.seg_segment.proofs.Exports.{not_fast}
 
 none_declared : (schema : Schema) → list_all (λ e. not e.fast) schema ≡ true → declared_columns schema ≡ []
 none_declared [] h = refl

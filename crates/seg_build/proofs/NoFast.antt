@@ -12,10 +12,10 @@ use Rattle.seg_meta.specs.declared.index_settings.IndexSettings.{IndexSettings}
 use Rattle.seg_model.specs.Checked.{unless}
 use Rattle.seg_model.specs.Fields.{Schema, is_text, is_json}
 use Rattle.seg_model.specs.Valid.{Known, names_fit, settings_fit, unknown_tokenizer_of, has_unknown_fast_tokenizer}
-use Rattle.seg_model.proofs.FirstAnswers.{or_none, map_none}
+use Rattle.seg_model.proofs.Exports.{map_none, or_none}
 use Rattle.seg_build.specs.WriterStart.{least_budget, start_refusal}
 use Rattle.seg_segment.specs.Built.{is_built_entry, is_built_schema}
-use Rattle.seg_segment.proofs.BuiltEntries.{not_fast}
+use Rattle.seg_segment.proofs.Exports.{not_fast}
 
 pub no_fast_tokenizer : (known : Known) (schema : Schema) → is_built_schema schema ≡ true → list_any (has_unknown_fast_tokenizer known) schema ≡ false
 no_fast_tokenizer known [] h = refl

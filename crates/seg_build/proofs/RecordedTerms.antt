@@ -22,7 +22,7 @@ use Rattle.seg_segment.specs.Built.{is_built_entry}
 use Rattle.seg_build.specs.Entries.{TermEntries}
 use Rattle.seg_build.specs.FieldTerms.{FieldTerms, positional, positional_terms, kept_as, postings_as, entries_as, recorded_fields, fields_of}
 use Rattle.seg_build.specs.Filling.{AreFieldsOf}
-use Rattle.seg_segment.proofs.BuiltEntries.{text_entry_at}
+use Rattle.seg_segment.proofs.Exports.{text_entry_at}
 use Rattle.seg_build.proofs.Whole.{no_terms, occurrences-unindexed}
 
 -- ---- what is recorded of a term

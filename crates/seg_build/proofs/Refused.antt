@@ -6,8 +6,8 @@ use Rattle.seg_values.specs.declared.error.TantivyError.TheVariants.{OutOfMemory
 use Rattle.seg_values.specs.Tree.{Document}
 use Rattle.seg_model.specs.Checked.{Cause, at_place, document_refusal}
 use Rattle.seg_model.specs.Fields.{Schema, Analyzer}
-use Rattle.seg_model.proofs.FirstAnswers.{some_none}
-use Rattle.seg_check.proofs.Causes.{cause-has}
+use Rattle.seg_model.proofs.Exports.{some_none}
+use Rattle.seg_check.proofs.Exports.{cause-has}
 use Rattle.seg_build.specs.SegmentWriting.{kept_of, SegmentWriting, HasPlace, Tells, AddsNone}
 use Rattle.seg_build.specs.declared.writer_parts.WriterParts.{WriterParts}
 use Rattle.seg_build.proofs.Keeping.{to_parts}

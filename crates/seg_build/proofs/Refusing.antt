@@ -15,7 +15,7 @@ use Rattle.seg_model.specs.Refused.{operation_refusal, count_refusal, numbers_re
 use Rattle.seg_model.specs.Valid.{Known, cuts_fit, batches_fit, filters_fit, ids_fit, names_fit, settings_fit, unknown_tokenizer_of, has_unknown_fast_tokenizer, unindexed_delete_of, shape_refusal, schema_refusal, delete_refusal, input_refusal}
 use Rattle.seg_meta.specs.View.{settings_of}
 use Rattle.seg_meta.specs.declared.index_settings.IndexSettings.{IndexSettings}
-use Rattle.seg_check.proofs.Causes.{EachHas, or_each, unless_each, first_each, cause-has}
+use Rattle.seg_check.proofs.Exports.{EachHas, cause-has, first_each, or_each, unless_each}
 use Rattle.seg_segment.specs.Built.{is_built_schema}
 use Rattle.seg_build.specs.WriterStart.{least_budget, start_refusal}
 

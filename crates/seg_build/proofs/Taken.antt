@@ -11,8 +11,8 @@ use Rattle.seg_model.specs.Checked.{Cause, past_limit, is_u32, count_of, texts_f
 use Rattle.seg_model.specs.Fields.{Schema, Analyzer, indexing_tokenizer, values_of, fields}
 use Rattle.seg_model.specs.Occurrences.{start_after_all}
 use Rattle.seg_values.specs.StoredForm.{stored_form}
-use Rattle.seg_model.proofs.FirstAnswers.{or_first, or_second, unless_true}
-use Rattle.seg_segment.proofs.BuiltEntries.{IsTextEntry}
+use Rattle.seg_model.proofs.Exports.{or_first, or_second, unless_true}
+use Rattle.seg_segment.proofs.Exports.{IsTextEntry}
 use Rattle.seg_build.proofs.Places.{texts_of}
 
 none_is : (o : Option Cause) → is_none o ≡ true → o ≡ None

@@ -19,7 +19,7 @@ use Rattle.seg_build.proofs.Fitting.{element_at}
 use Rattle.seg_build.proofs.IndexedParts.{part-kept, part-passed, indexed_pair}
 use Rattle.seg_build.proofs.KeptLengths.{HasTokens}
 use Rattle.seg_build.proofs.Places.{count_in-added}
-use Rattle.seg_segment.proofs.Turns.{drop-item}
+use Rattle.seg_segment.proofs.Exports.{drop-item}
 use Rattle.seg_build.proofs.Whole.{length-added_at}
 
 -- ---- the loop over the texts

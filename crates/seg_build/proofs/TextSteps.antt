@@ -9,7 +9,7 @@ use Rattle.seg_check.specs.declared.field_text.FieldText.{FieldText}
 use Rattle.seg_build.specs.Field.{Fits}
 use Rattle.seg_build.specs.Steps.{AllFit, with_pair, with_pairs, with_texts}
 use Rattle.seg_build.specs.declared.field.FieldPostings.{FieldPostings}
-use Rattle.seg_segment.proofs.Turns.{drop-item}
+use Rattle.seg_segment.proofs.Exports.{drop-item}
 
 -- the texts of the values are what the fields are given
 pub texts-pairs : (schema : Schema) (analyzer : Analyzer) (id : ℕ) (fields : List FieldPostings) (ps : Document)

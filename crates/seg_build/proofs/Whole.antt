@@ -22,7 +22,7 @@ use Rattle.seg_build.specs.FieldTerms.{positional, positional_terms}
 use Rattle.seg_check.specs.Texts.{tokens_at}
 use Rattle.seg_build.specs.Steps.{fresh, added_at, with_pair, with_pairs, with_documents, indexed_part}
 use Rattle.seg_build.specs.declared.field.FieldPostings.{FieldPostings}
-use Rattle.seg_segment.proofs.BuiltEntries.{IsTextEntry, text_entry_at}
+use Rattle.seg_segment.proofs.Exports.{IsTextEntry, text_entry_at}
 use Rattle.seg_build.proofs.Growing.{terms_of-push}
 use Rattle.seg_build.proofs.IndexedParts.{values_kept, values_dropped}
 use Rattle.seg_build.proofs.Places.{texts_of, added_all, terms-added_all, document-added_all, field_after}

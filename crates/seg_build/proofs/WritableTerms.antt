@@ -29,10 +29,9 @@ use Rattle.seg_segment.specs.Built.{is_built_entry}
 use Rattle.seg_build.specs.Entries.{TermEntries}
 use Rattle.seg_build.specs.FieldTerms.{positional}
 use Rattle.seg_build.specs.Writable.{PositionsCanBeWritten, BuiltTermsCanBeWritten}
-use Rattle.seg_segment.proofs.BuiltEntries.{IsTextEntry, text_entry_at}
-use Rattle.seg_check.proofs.FieldsFit.{for_one_field}
-use Rattle.seg_model.proofs.FirstAnswers.{or_both, unless_true}
-use Rattle.seg_check.proofs.Rising.{rises, rises_first}
+use Rattle.seg_segment.proofs.Exports.{IsTextEntry, text_entry_at}
+use Rattle.seg_check.proofs.Exports.{for_one_field, rises, rises_first}
+use Rattle.seg_model.proofs.Exports.{or_both, unless_true}
 use Rattle.seg_build.proofs.Fitting.{positions_refusal-text}
 use Rattle.seg_build.proofs.Places.{length_texts, reach-ge, start_after_all-ge, texts_of, texts_of-taken, texts_of-passed}
 use Rattle.seg_build.proofs.RecordedTerms.{option_of_text, no_terms_of}

@@ -10,8 +10,7 @@ use Rattle.seg_postings.specs.FieldWriting.{FieldWriting}
 use Rattle.seg_postings.specs.PostingsReading.{kind_kept, count_of, places_of}
 use Rattle.seg_postings.specs.Written.{Rise, IsOfKind, AreWritable}
 use Rattle.seg_segment.specs.WritingTerms.{AscendBy, AreOfTerm, MayTake, with_more}
-use Rattle.seg_segment.proofs.GivenPostings.{AreGiven, may_take, given_more}
-use Rattle.seg_segment.proofs.WrittenDocuments.{IsRecorded}
+use Rattle.seg_segment.proofs.Exports.{AreGiven, IsRecorded, given_more, may_take}
 use Rattle.seg_build.specs.declared.hits.Hit.{Hit}
 use Rattle.seg_build.specs.FieldTerms.{postings_as}
 use Rattle.seg_build.specs.Grouped.{grouped}

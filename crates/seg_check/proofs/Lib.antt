@@ -1,15 +1,16 @@
-pub mod Adding
-pub mod Causes
-pub mod Deep
-pub mod FieldsCome
-pub mod FieldsFit
-pub mod FirstRefusals
-pub mod JsonTrees
-pub mod LeafWalks
-pub mod LeavesCome
-pub mod OnPaths
-pub mod Places
-pub mod Rising
-pub mod StoredLens
-pub mod TextsCome
-pub mod ValuesCome
+pub mod Exports
+mod Adding
+mod Causes
+mod Deep
+mod FieldsCome
+mod FieldsFit
+mod FirstRefusals
+mod JsonTrees
+mod LeafWalks
+mod LeavesCome
+mod OnPaths
+mod Places
+mod Rising
+mod StoredLens
+mod TextsCome
+mod ValuesCome

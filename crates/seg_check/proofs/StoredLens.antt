@@ -9,7 +9,7 @@ use Rattle.seg_values.specs.Tree.{Tree, array, object, trees_from, members_from,
 use Rattle.seg_model.specs.Fields.{Schema, is_field}
 use Rattle.seg_model.specs.Reading.{stored_value, stored_document}
 use Rattle.seg_values.specs.StoredForm.{sized, tree_count, member_count, tree_form, tree_forms, member_forms, pair_form}
-use Rattle.seg_values.proofs.StoredCounts.{count_trees, count_members}
+use Rattle.seg_values.proofs.Exports.{count_members, count_trees}
 use Rattle.seg_check.specs.Sizes.{saturated}
 
 begins : (rest : List ℕ) (tag n m : ℕ) → n ≡ m → 1 + length (varint m) + length rest ≡ length (tag ∷ (varint n ++ rest))

@@ -1,3 +1,3 @@
-pub mod Flushes
-pub mod Skipping
-pub mod Skips
+mod Flushes
+mod Skipping
+mod Skips

@@ -1,13 +1,14 @@
+pub mod Exports
 mod CompositeEntries
 mod CompositeGrowing
 mod CompositeSpelled
 mod CompositeTables
-pub mod Doing
-pub mod Entries
+mod Doing
+mod Entries
 mod Images
-pub mod Listing
-pub mod NeverThere
-pub mod OtherFiles
-pub mod Parts
-pub mod WorkLaws
-pub mod WorkSteps
+mod Listing
+mod NeverThere
+mod OtherFiles
+mod Parts
+mod WorkLaws
+mod WorkSteps

@@ -6,7 +6,7 @@ use Rattle.seg_postings.specs.declared.record_kind.RecordKind.{RecordKind}
 use Rattle.seg_postings.specs.PostingsReading.{kind_kept, kept_kind_of, term_freq_of, positions_of}
 use Rattle.seg_postings.specs.Written.{Rise}
 use Rattle.seg_segment.specs.WritingTerms.{AreOfKind, posting_of}
-use Rattle.seg_segment.proofs.WrittenDocuments.{IsRecorded, are_of_kind, posting_is}
+use Rattle.seg_segment.proofs.Exports.{IsRecorded, are_of_kind, posting_is}
 use Rattle.seg_join.specs.MovedPostings.{under}
 
 module _ (id : ℕ) (left : List Posting) (kind : RecordKind) (keeps : kept_kind_of left ≡ Some kind) (count : ℕ) (counted : count ≡ term_freq_of left) (places : List ℕ) (placed : places ≡ positions_of left) (rise : Rise 0 (positions_of left)) where

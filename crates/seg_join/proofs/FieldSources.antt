@@ -17,8 +17,7 @@ use Rattle.seg_model.specs.Operations.{kept}
 use Rattle.seg_model.specs.Reading.{Recorded, Posting, postings_from, term_option}
 use Rattle.seg_model.specs.Shape.{IsRecordOf, ArePostings}
 use Rattle.seg_common.proofs.Lists.{all_both}
-use Rattle.seg_model.proofs.Grouped.{length-all_recorded}
-use Rattle.seg_model.proofs.ShapedTerms.{AreRecordsOf, each-kept, ArePostings-from, AreRecordsOf-all_recorded}
+use Rattle.seg_model.proofs.Exports.{ArePostings-from, AreRecordsOf, AreRecordsOf-all_recorded, each-kept, length-all_recorded}
 use Rattle.seg_open.specs.OpenSegment.{terms_in}
 use Rattle.seg_postings.specs.declared.record_kind.RecordKind.{RecordKind}
 use Rattle.seg_postings.specs.FieldReading.{ReadTerm, OpenField, written_terms}

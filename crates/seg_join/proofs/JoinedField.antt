@@ -9,14 +9,14 @@ use Rattle.seg_model.specs.Fields.{Schema, fields, is_indexed}
 use Rattle.seg_model.specs.Join.{joined_terms}
 use Rattle.seg_termdict.specs.MergedTerms.{merged_terms}
 use Rattle.seg_model.specs.Reading.{term_option}
-use Rattle.seg_model.proofs.Fields.{at_place}
+use Rattle.seg_model.proofs.Exports.{at_place}
 use Rattle.seg_postings.specs.FieldWriting.{TermWritten, FieldWriting, fresh}
 use Rattle.seg_postings.specs.Files.{FieldFiles}
 use Rattle.seg_postings.specs.Kinds.{kind_of}
 use Rattle.seg_segment.specs.FieldsWritten.{IsWhole, HaveFields}
 use Rattle.seg_segment.specs.HoldTerms.{HoldTerms}
 use Rattle.seg_segment.specs.WritingTerms.{with_terms}
-use Rattle.seg_segment.proofs.FieldsInTurn.{AreParts, hold_terms, is_whole}
+use Rattle.seg_segment.proofs.Exports.{AreParts, hold_terms, is_whole}
 use Rattle.seg_join.specs.JoinedTerms.{AreJoined, IsOfField, source_of}
 use Rattle.seg_open.specs.KeptSegment.{KeptSegment, kept_count, part_of}
 use Rattle.seg_join.specs.MovedPostings.{SourceTerms, Ascend, moved_from_all, ranked_of}

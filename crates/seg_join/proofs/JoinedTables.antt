@@ -13,9 +13,9 @@ use Rattle.seg_termdict.specs.MergedTerms.{Standing, standings_from, if_stands, 
 use Rattle.seg_model.specs.Reading.{Posting, if_any}
 use Rattle.seg_termdict.specs.SortedTerms.{key_cmp}
 use Rattle.seg_common.specs.Tables.{entry_of, tabulated}
-use Rattle.seg_termdict.proofs.MergedTerms.{merged_terms_answer}
+use Rattle.seg_termdict.proofs.Exports.{merged_terms_answer}
 use Rattle.seg_common.proofs.Tables.{texts_apart, IsComplete, same_table}
-use Rattle.seg_model.proofs.Terms.{complete_joined}
+use Rattle.seg_model.proofs.Exports.{complete_joined}
 use Rattle.seg_postings.specs.FieldWriting.{TermWritten}
 use Rattle.seg_termdict.specs.Merging.{MergedTerm, info_of}
 use Rattle.seg_open.specs.KeptSegment.{KeptSegment, part_of}

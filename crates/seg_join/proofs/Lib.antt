@@ -1,16 +1,17 @@
-pub mod CurrentPosting
-pub mod FieldSources
-pub mod JoinedField
-pub mod JoinedTables
-pub mod KeptCounts
-pub mod KeptLists
-pub mod MergedKeys
-pub mod MovedIds
-pub mod NormsJoined
-pub mod NumberedParts
-pub mod SegmentsJoined
-pub mod SortedEntries
-pub mod SourcePostings
-pub mod Standings
-pub mod StoredRead
-pub mod StoresJoined
+pub mod Exports
+mod CurrentPosting
+mod FieldSources
+mod JoinedField
+mod JoinedTables
+mod KeptCounts
+mod KeptLists
+mod MergedKeys
+mod MovedIds
+mod NormsJoined
+mod NumberedParts
+mod SegmentsJoined
+mod SortedEntries
+mod SourcePostings
+mod Standings
+mod StoredRead
+mod StoresJoined

@@ -13,12 +13,12 @@ use Rattle.seg_common.specs.declared.term_info.TermInfo.{TermInfo}
 use Rattle.seg_termdict.specs.MergedTerms.{Standing, standings_from, if_stands, merged_terms}
 use Rattle.seg_model.specs.Reading.{Posting}
 use Rattle.seg_termdict.specs.SortedTerms.{key_cmp}
-use Rattle.seg_termdict.proofs.MergedTerms.{merged_terms_answer}
+use Rattle.seg_termdict.proofs.Exports.{merged_terms_answer}
 use Rattle.seg_termdict.specs.Merging.{MergedTerm, ToldTerm, Merging, told, info_of, at_first, stepped, terms_of_stream}
 use Rattle.seg_termdict.specs.Streaming.{Stream, all_terms}
 use Rattle.seg_postings.specs.FieldWriting.{TermWritten, FieldWriting, with_open, last_written, MayOpen}
 use Rattle.seg_segment.specs.WritingTerms.{IsUnwritten, term_with, with_terms, with_whole_term}
-use Rattle.seg_segment.proofs.GivenPostings.{no_terms}
+use Rattle.seg_segment.proofs.Exports.{no_terms}
 use Rattle.seg_join.specs.MovedPostings.{SourceTerms, terms_of, ranked_of, moved_from_all}
 use Rattle.seg_join.specs.SourcesJoined.{joined_at, terms_joined}
 use Rattle.seg_join.proofs.SortedEntries.{find_there, first_below, sorted_entries}

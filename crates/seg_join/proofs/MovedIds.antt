@@ -8,7 +8,7 @@ use Rattle.seg_model.specs.Join.{recorded_at, all_recorded}
 use Rattle.seg_model.specs.Operations.{kept}
 use Rattle.seg_model.specs.Reading.{Recorded, Posting, listed, postings_from}
 use Rattle.seg_model.specs.Shape.{ArePostings}
-use Rattle.seg_model.proofs.Terms.{AreNone-kept, AreNone-all_recorded, postings_from-none}
+use Rattle.seg_model.proofs.Exports.{AreNone-all_recorded, AreNone-kept, postings_from-none}
 use Rattle.seg_join.specs.MovedPostings.{under, under_id, moved}
 use Rattle.seg_join.specs.NewIds.{new_ids}
 use Rattle.seg_join.proofs.KeptCounts.{counted_first}

@@ -13,7 +13,7 @@ use Rattle.seg_open.specs.OpenSegment.{contents_of}
 use Rattle.seg_norms.specs.FieldNorms.{fields_with_lengths, norms_parts}
 use Rattle.seg_norms.specs.NormsRead.{norms_of}
 use Rattle.seg_segment.specs.LengthsWritten.{parts_with}
-use Rattle.seg_segment.proofs.OneContents.{selected}
+use Rattle.seg_segment.proofs.Exports.{selected}
 use Rattle.seg_join.specs.JoinedNorms.{kept_ids, joined_ids}
 use Rattle.seg_open.specs.KeptSegment.{KeptSegment, part_of}
 use Rattle.seg_join.proofs.KeptLists.{kept_marked, kept_next, kept_of_none}

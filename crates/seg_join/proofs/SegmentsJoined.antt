@@ -21,7 +21,7 @@ use Rattle.seg_segment.specs.HoldTerms.{HoldTerms}
 use Rattle.seg_segment.specs.MadeFiles.{AreOfParts}
 use Rattle.seg_segment.specs.Spelling.{Spell}
 use Rattle.seg_segment.specs.declared.segment_files.SegmentFiles.{SegmentFiles}
-use Rattle.seg_open.proofs.BuiltTexts.{none_declared}
+use Rattle.seg_open.proofs.Exports.{none_declared}
 use Rattle.seg_join.specs.JoinedStore.{joined_documents}
 use Rattle.seg_open.specs.KeptSegment.{IsMarked, IsOfSchema, KeptSegment, kept_count, part_of}
 use Rattle.seg_join.specs.Laws.{BuiltPartsJoin}

@@ -9,8 +9,8 @@ use Rattle.seg_model.specs.Operations.{kept}
 use Rattle.seg_store.specs.Block.{Block}
 use Rattle.seg_store.specs.Store.{document_count, raw_documents, documents_of}
 use Rattle.seg_stored.specs.StoredDocument.{stored_document_of}
-use Rattle.seg_model.proofs.Live.{kept-map}
-use Rattle.seg_store.proofs.MadeDocuments.{documents_are_read, read_all}
+use Rattle.seg_model.proofs.Exports.{kept-map}
+use Rattle.seg_store.proofs.Exports.{documents_are_read, read_all}
 
 pub raw_counted : (blocks : List Block) → document_count blocks ≡ length (raw_documents blocks)
 raw_counted [] = refl

@@ -14,7 +14,7 @@ use Rattle.seg_stored.specs.StoredDocument.{stored_document_of}
 use Rattle.seg_store.specs.Writing.{Taken, with_document, all_blocks, taken_count}
 use Rattle.seg_open.specs.KeptSegment.{KeptSegment}
 use Rattle.seg_join.specs.JoinedStore.{kept_bytes, joined_bytes, joined_documents, with_documents, taken_documents}
-use Rattle.seg_store.proofs.MadeDocuments.{documents_are_read, read_all}
+use Rattle.seg_store.proofs.Exports.{documents_are_read, read_all}
 use Rattle.seg_join.proofs.KeptLists.{kept_next, kept_marked, marked_counted}
 use Rattle.seg_join.proofs.StoredRead.{read_as}
 

@@ -10,8 +10,8 @@ use Rattle.seg_model.specs.Valid.{Known}
 use Rattle.seg_open.specs.SegmentOpened.{IsNoDamage}
 use Rattle.seg_refusals.specs.Refusals.{first_error, refusal_error}
 use Rattle.seg_model.specs.Refused.{IsRefusal}
-use Rattle.seg_refusals.proofs.Refusing.{first_is_refusal}
-use Rattle.seg_batches.proofs.BatchSteps.{refusal_weaker}
+use Rattle.seg_refusals.proofs.Exports.{first_is_refusal}
+use Rattle.seg_batches.proofs.Exports.{refusal_weaker}
 use Rattle.seg_merge.specs.Builds.{StopsBuilding}
 use Rattle.seg_merge.specs.Turns.{Directories, stops}
 use Rattle.seg_merge.proofs.WholeRefused.{caused_refusal, refusal_undamaged}

@@ -1,7 +1,7 @@
 -- Where the writing of both indexes ends, with each directory by itself.
 use Rattle.std.proofs.Common.{◌≡◌, ◌∙◌, List, Result, Ok, Err, sym, ap, subst}
 use Rattle.seg_values.specs.declared.error.TantivyError.{TantivyError}
-use Rattle.seg_directory.proofs.Doing.{answers}
+use Rattle.seg_directory.proofs.Exports.{answers}
 use Rattle.seg_directory.specs.State.{DirectoryState}
 use Rattle.seg_directory.specs.Works.{Works}
 use Rattle.seg_model.specs.Fields.{Analyzer}

@@ -19,7 +19,7 @@ use Rattle.seg_model.specs.Valid.{are_distinct}
 use Rattle.seg_segment.specs.Holds.{Holds}
 use Rattle.seg_segment.specs.SegmentFiles.{AreAbsent, KeepsAllBut}
 use Rattle.seg_batches.specs.Segments.{AllStand, AllTellAlive, TellsAlive, WrittenSegment, alive_file, alive_files, all_listed, deletes_of, listed, segments_of, six_files}
-use Rattle.seg_segment.proofs.SpelledFiles.{held_on}
+use Rattle.seg_segment.proofs.Exports.{held_on}
 use Rattle.seg_merge.specs.IndexFiles.{listed_of, segments_files, written_of}
 
 -- ---- ids

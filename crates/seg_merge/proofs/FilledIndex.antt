@@ -4,9 +4,7 @@ use Rattle.std.specs.Prelude.{◌⊎◌}
 use Rattle.std.specs.List.{AllByRecursion, enumerate_from, list_all}
 use Rattle.seg_values.specs.declared.error.TantivyError.{TantivyError}
 use Rattle.seg_values.specs.declared.error.TantivyError.TheVariants.{IndexAlreadyExists}
-use Rattle.seg_directory.proofs.Doing.{answers, split_does, stops, then_does}
-use Rattle.seg_directory.proofs.NeverThere.{quiet_steps}
-use Rattle.seg_directory.proofs.WorkLaws.{all_went}
+use Rattle.seg_directory.proofs.Exports.{Parts, all_went, answers, in_first, in_next, parts_on, quiet_steps, split_does, stops, then_does}
 use Rattle.seg_directory.specs.State.{DirectoryState}
 use Rattle.seg_directory.specs.Works.{Step, Works}
 use Rattle.seg_meta.specs.MetaRead.{meta_read}
@@ -23,19 +21,12 @@ use Rattle.seg_model.specs.Valid.{are_distinct}
 use Rattle.seg_segment.specs.Forms.{segment_forms}
 use Rattle.seg_segment.specs.SegmentFiles.{AreAbsent, KeepsAllBut, segment_names}
 use Rattle.seg_segment.specs.declared.segment_files.SegmentFiles.{SegmentFiles}
-use Rattle.seg_segment.proofs.KeptFiles.{all_touched, keeps_untouched}
+use Rattle.seg_segment.proofs.Exports.{all_touched, keeps_untouched}
 use Rattle.seg_batches.specs.AliveWriting.{WritesAlive, alive_step, alive_steps}
 use Rattle.seg_batches.specs.Segments.{AllStand, AllTellAlive, WrittenSegment, alive_file, alive_files, all_listed, deletes_of, six_files}
 use Rattle.seg_batches.specs.Writing.{MakesBatches, batch_cause, batch_causes, batches_steps}
-use Rattle.seg_batches.proofs.AliveTold.{all_tell, alive_fresh}
-use Rattle.seg_batches.proofs.BatchesKeep.{all_stand}
-use Rattle.seg_batches.proofs.BatchesTold.{batches_fresh, batches_none, batches_told}
-use Rattle.seg_batches.proofs.BatchSteps.{refusal_weaker}
-use Rattle.seg_batches.proofs.Causes.{IsFirst, TellsRefusal}
-use Rattle.seg_directory.proofs.Parts.{Parts, in_first, in_next, parts_on}
-use Rattle.seg_batches.proofs.SegmentTurns.{IsFew, all_few, all_taken}
+use Rattle.seg_batches.proofs.Exports.{IsFew, IsFirst, TellsRefusal, alive_fresh, all_few, all_stand, all_taken, all_tell, batches_fresh, batches_none, batches_told, causes_tell, first_cause, refusal_weaker}
 use Rattle.seg_batches.proofs.Started as started
-use Rattle.seg_batches.proofs.Started.{causes_tell, first_cause}
 use Rattle.seg_merge.specs.IndexFiles.{listed_of, segments_files, written_of}
 use Rattle.seg_merge.specs.WorkIndexWriting.{FillsIndex, FinishesIndex, finish_steps, listing_meta}
 use Rattle.seg_merge.specs.WritingSteps.{publish_steps}

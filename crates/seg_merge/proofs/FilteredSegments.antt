@@ -11,7 +11,7 @@ use Rattle.seg_model.specs.Input.{Filter}
 use Rattle.seg_model.specs.Operations.{both_marked, filtered_by}
 use Rattle.seg_open.specs.OpenSegment.{OpenSegment}
 use Rattle.seg_open.specs.KeptSegment.{IsMarked, IsOfSchema, KeptSegment, marks_of}
-use Rattle.seg_batches.proofs.Applied.{both_full}
+use Rattle.seg_batches.proofs.Exports.{both_full}
 use Rattle.seg_merge.specs.Filters.{FilterFits, FiltersFit}
 use Rattle.seg_merge.specs.Joining.{filtered_segments, keeps_of, kept_marks}
 

@@ -3,7 +3,7 @@ use Rattle.std.proofs.Common.{◌≡◌, ◌<◌, ◌∙◌, ℕ, List, [], ◌�
 use Rattle.std.specs.Prelude.{◌⊎◌, OnOk}
 use Rattle.std.proofs.lemmas.List.{append-nil}
 use Rattle.seg_values.specs.declared.error.TantivyError.{TantivyError}
-use Rattle.seg_directory.proofs.Doing.{stops, then_does}
+use Rattle.seg_directory.proofs.Exports.{Parts, in_first, in_next, parts_on, stops, then_does}
 use Rattle.seg_directory.specs.State.{DirectoryState}
 use Rattle.seg_directory.specs.Works.{Works}
 use Rattle.seg_model.specs.Fields.{Schema}
@@ -11,7 +11,6 @@ use Rattle.seg_meta.specs.IndexOfFiles as index
 use Rattle.seg_model.specs.Input.{Settings}
 use Rattle.seg_batches.specs.AliveWriting.{AllTellMarks, WritesAlive, alive_step, alive_steps}
 use Rattle.seg_batches.specs.Segments.{WrittenSegment, deletes_of}
-use Rattle.seg_directory.proofs.Parts.{Parts, in_first, in_next, parts_on}
 use Rattle.seg_merge.specs.WorkIndexWriting.{FinishesIndex, finish_steps, listing_meta}
 use Rattle.seg_merge.specs.WritingSteps.{publish_steps}
 use Rattle.seg_merge.proofs.WholeExits.{at-ok}

@@ -2,7 +2,7 @@
 use Rattle.std.proofs.Common.{◌≡◌, List, [], Result, Ok, Err, IsErrAnd, refl, sym, ap, subst}
 use Rattle.std.proofs.lemmas.List.{append-nil}
 use Rattle.seg_values.specs.declared.error.TantivyError.{TantivyError}
-use Rattle.seg_directory.proofs.Doing.{answers, stops as stops_before}
+use Rattle.seg_directory.proofs.Exports.{answers, stops as stops_before}
 use Rattle.seg_directory.specs.State.{DirectoryState}
 use Rattle.seg_directory.specs.Works.{Step, Works}
 use Rattle.seg_model.specs.Fields.{Analyzer}

@@ -1,3 +1,4 @@
+pub mod Exports
 mod Built
 mod Exits
 mod FillSteps
@@ -11,9 +12,9 @@ mod MergedFiles
 mod MergedOutput
 mod OutputSteps
 mod Reached
-pub mod ReadBack
+mod ReadBack
 mod Steps
-pub mod Stopped
+mod Stopped
 mod WholeExits
 mod WholeIds
 mod WholeJoined

@@ -9,8 +9,7 @@ use Rattle.seg_common.specs.declared.name.SegmentComponent.{SegmentComponent}
 use Rattle.seg_common.specs.declared.name.SegmentComponent.TheVariants as component
 use Rattle.seg_values.specs.declared.error.TantivyError.{TantivyError}
 use Rattle.seg_values.specs.declared.error.TantivyError.TheVariants.{IndexAlreadyExists}
-use Rattle.seg_directory.proofs.Doing.{split_does}
-use Rattle.seg_directory.proofs.NeverThere.{never_there}
+use Rattle.seg_directory.proofs.Exports.{never_there, split_does, suits_then}
 use Rattle.seg_directory.specs.Files.{NamedFiles}
 use Rattle.seg_directory.specs.State.{DirectoryState}
 use Rattle.seg_directory.specs.Works.{Works}
@@ -21,9 +20,8 @@ use Rattle.seg_segment.specs.Forms.{segment_forms}
 use Rattle.seg_segment.specs.SegmentFiles.{AreAbsent, KeepsAllBut, segment_names, write_steps}
 use Rattle.seg_segment.specs.SegmentFiles as segment
 use Rattle.seg_segment.specs.declared.segment_files.SegmentFiles.{SegmentFiles}
-use Rattle.seg_segment.proofs.FilesMade.{absent_suit, are_made}
+use Rattle.seg_segment.proofs.Exports.{absent_suit, are_made}
 use Rattle.seg_merge.specs.WritingSteps.{fill_one_steps, publish_steps}
-use Rattle.seg_directory.proofs.Parts.{suits_then}
 use Rattle.seg_merge.proofs.Steps.{published_last, publishing_keeps}
 
 -- ---- the files

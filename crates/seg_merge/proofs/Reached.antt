@@ -3,7 +3,7 @@ use Rattle.std.proofs.Common.{◌≡◌, ◌≤◌, ◌∙◌, ◌+◌, List, []
 use Rattle.std.specs.FinMap.{len}
 use Rattle.std.specs.List.{AllByRecursion}
 use Rattle.seg_common.specs.declared.name.FileName.TheVariants.{Meta}
-use Rattle.seg_directory.proofs.WorkLaws.{all_went}
+use Rattle.seg_directory.proofs.Exports.{all_went}
 use Rattle.seg_directory.specs.State.{DirectoryState}
 use Rattle.seg_model.specs.Fields.{Analyzer}
 use Rattle.seg_model.specs.Input.{Input, input_batches}
@@ -11,7 +11,7 @@ use Rattle.seg_model.specs.Laws.{AreReadingsOf}
 use Rattle.seg_model.specs.Valid.{are_distinct}
 use Rattle.seg_segment.specs.Laws.{HoldsOneContents}
 use Rattle.seg_segment.specs.SegmentFiles.{AreAbsent, KeepsAllBut}
-use Rattle.seg_segment.proofs.KeptFiles.{keeps_untouched}
+use Rattle.seg_segment.proofs.Exports.{keeps_untouched}
 use Rattle.seg_open.specs.KeptSegment.{IsOfSchema, KeptSegment, part_of}
 use Rattle.seg_batches.specs.Segments.{AllStand, AllTellAlive}
 use Rattle.seg_refusals.specs.Admitted.{Fits}

@@ -6,8 +6,7 @@ use Rattle.std.specs.Option.{option_and_then}
 use Rattle.seg_common.specs.declared.name.FileName.TheVariants.{Meta}
 use Rattle.seg_common.specs.Names.{name_cmp_total}
 use Rattle.seg_values.specs.declared.error.TantivyError.{TantivyError}
-use Rattle.seg_directory.proofs.Doing.{split_does}
-use Rattle.seg_directory.proofs.WorkLaws.{all_went}
+use Rattle.seg_directory.proofs.Exports.{all_went, split_does}
 use Rattle.seg_directory.specs.Files.{NamedFiles}
 use Rattle.seg_directory.specs.State.{DirectoryState}
 use Rattle.seg_directory.specs.Works.{Step, Works}
@@ -20,7 +19,7 @@ use Rattle.seg_model.specs.Input.{Settings}
 use Rattle.seg_segment.specs.Forms.{segment_forms}
 use Rattle.seg_segment.specs.SegmentFiles.{KeepsAllBut}
 use Rattle.seg_segment.specs.declared.segment_files.SegmentFiles.{SegmentFiles}
-use Rattle.seg_segment.proofs.KeptFiles.{keeps_untouched}
+use Rattle.seg_segment.proofs.Exports.{keeps_untouched}
 use Rattle.seg_merge.specs.WritingSteps.{begin_steps, fill_one_steps, publish_steps}
 use Rattle.seg_merge.specs.IndexFiles.{merged_meta}
 use Rattle.seg_merge.proofs.IndexSteps.{tells-still}

@@ -7,8 +7,7 @@ use Rattle.seg_common.specs.Causes.{Rose}
 use Rattle.seg_values.specs.declared.error.ArgumentCause.TheVariants.{Documents}
 use Rattle.seg_values.specs.declared.error.TantivyError.{TantivyError}
 use Rattle.seg_values.specs.declared.error.TantivyError.TheVariants.{SchemaError, InvalidArgument, IndexAlreadyExists, OpenReadError, OpenWriteError, IoError, DataCorruption, SystemError, FieldNotFound, OutOfMemory}
-use Rattle.seg_directory.proofs.NeverThere.{never_there}
-use Rattle.seg_directory.proofs.WorkLaws.{all_went}
+use Rattle.seg_directory.proofs.Exports.{all_went, never_there}
 use Rattle.seg_directory.specs.Files.{NamedFiles}
 use Rattle.seg_directory.specs.State.{DirectoryState}
 use Rattle.seg_model.specs.Checked.{unless}
@@ -21,12 +20,11 @@ use Rattle.seg_build.specs.Laws.{BuiltHaveNoColumns}
 use Rattle.seg_open.specs.SegmentOpened.{IsNoDamage}
 use Rattle.seg_open.specs.KeptSegment.{KeptSegment, kept_count}
 use Rattle.seg_batches.specs.Reading.{ReadsSegments}
-use Rattle.seg_batches.proofs.ReadLaws.{segments_rose, segments_so}
-use Rattle.seg_batches.proofs.BatchSteps.{refusal_weaker}
+use Rattle.seg_batches.proofs.Exports.{refusal_weaker, segments_rose, segments_so}
 use Rattle.seg_refusals.specs.Admitted.{Fits}
 use Rattle.seg_refusals.specs.Refusals.{first_error, refusal_error}
 use Rattle.seg_model.specs.Refused.{IfRefusal, IsRefusal, batches_error}
-use Rattle.seg_refusals.proofs.Refusing.{first_is_refusal}
+use Rattle.seg_refusals.proofs.Exports.{first_is_refusal}
 use Rattle.seg_merge.specs.Builds.{AreEmpty, IsWhyUntold}
 use Rattle.seg_merge.specs.DirectoryCalls.{BuildsIndexes, too_many}
 use Rattle.seg_merge.specs.IndexFiles.{merged_meta, output_id, work_ids, work_listed}

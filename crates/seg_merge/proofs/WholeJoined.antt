@@ -10,11 +10,11 @@ use Rattle.seg_model.specs.Input.{Filter, Input, input_batches, input_survivors}
 use Rattle.seg_model.specs.Laws.{AreReadingsOf, JoiningIsInvisible}
 use Rattle.seg_model.specs.Operations.{Batch, both_marked, filtered, filtered_by, kept, live}
 use Rattle.seg_model.specs.Valid.{filter_fits, filters_fit}
-use Rattle.seg_model.proofs.Live.{was_read}
+use Rattle.seg_model.proofs.Exports.{was_read}
 use Rattle.seg_segment.specs.Built.{is_built_schema}
 use Rattle.seg_open.specs.KeptSegment.{KeptSegment, kept_count, part_of}
 use Rattle.seg_join.specs.Laws.{BuiltPartsJoin}
-use Rattle.seg_join.proofs.KeptCounts.{counted_first}
+use Rattle.seg_join.proofs.Exports.{counted_first}
 use Rattle.seg_merge.specs.Joining.{filtered_segments, joined}
 use Rattle.seg_merge.proofs.WholeRead.{IsCounted, batches_counted}
 

@@ -15,7 +15,7 @@ use Rattle.seg_model.specs.Input.{Filter}
 use Rattle.seg_model.specs.Laws.{IsReadingOf, AreReadingsOf}
 use Rattle.seg_model.specs.Operations.{Operation, Batch, batches_from}
 use Rattle.seg_model.specs.Valid.{filter_fits, filters_fit}
-use Rattle.seg_model.proofs.Live.{was_read}
+use Rattle.seg_model.proofs.Exports.{was_read}
 use Rattle.seg_segment.specs.Forms.{segment_forms}
 use Rattle.seg_segment.specs.HoldsAlive.{HoldsAlive}
 use Rattle.seg_segment.specs.Laws.{HoldsOneContents}
@@ -25,8 +25,7 @@ use Rattle.seg_directory.specs.State.{DirectoryState}
 use Rattle.seg_batches.specs.Reading.{ReadsSegments}
 use Rattle.seg_batches.specs.Segments.{AllStand, AllTellAlive, TellsAlive, all_listed, deletes_of, listed, segment_of, segments_of}
 use Rattle.seg_merge.specs.Filters.{FilterFits, FiltersFit}
-use Rattle.seg_batches.proofs.ReadLaws.{EachRead, HoldsMarks, IsHeld, IsOf, Whole, segments_of_schema}
-use Rattle.seg_batches.proofs.BatchSteps.{length-alive_after}
+use Rattle.seg_batches.proofs.Exports.{EachRead, HoldsMarks, IsHeld, IsOf, Whole, length-alive_after, segments_of_schema}
 
 -- ---- batches
 

@@ -25,10 +25,9 @@ use Rattle.seg_open.specs.SegmentOpened.{IsNoDamage}
 use Rattle.seg_refusals.specs.Admitted.{IsValidIf}
 use Rattle.seg_refusals.specs.Inputs.{is_built_input}
 use Rattle.seg_refusals.specs.Refusals.{first_error, later_refusal, refusal_error}
-use Rattle.seg_model.proofs.FirstAnswers.{or_second, or_both, first_none}
-use Rattle.seg_model.proofs.Refused.{Fits, Taken, parts_none, taken_pass}
+use Rattle.seg_model.proofs.Exports.{Fits, Taken, first_none, or_both, or_second, parts_none, taken_pass}
 use Rattle.seg_segment.specs.SegmentRead.{IsReadError}
-use Rattle.seg_batches.proofs.BatchSteps.{if_refusal}
+use Rattle.seg_batches.proofs.Exports.{if_refusal}
 
 -- ---- kinds of errors
 

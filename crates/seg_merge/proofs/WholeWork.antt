@@ -21,7 +21,7 @@ use Rattle.seg_directory.specs.State.{DirectoryState}
 use Rattle.seg_batches.specs.Reading.{ReadsSegments}
 use Rattle.seg_batches.specs.Segments.{AllStand, AllTellAlive, alive_file, alive_files, six_files}
 use Rattle.seg_merge.specs.IndexFiles.{listed_of, segments_files, written_of}
-use Rattle.seg_batches.proofs.ReadLaws.{segments_held, segments_undamaged}
+use Rattle.seg_batches.proofs.Exports.{segments_held, segments_undamaged}
 use Rattle.seg_merge.proofs.WholeRead.{batches_counted, are_whole, readings}
 use Rattle.seg_merge.proofs.FillSteps.{length-batches}
 

@@ -19,7 +19,7 @@ use Rattle.seg_open.specs.SegmentOpened.{IsNoDamage}
 use Rattle.seg_batches.specs.AliveWriting.{alive_step, alive_steps}
 use Rattle.seg_batches.specs.Segments.{WrittenSegment, deletes_of}
 use Rattle.seg_batches.specs.Writing.{batches_steps}
-use Rattle.seg_batches.proofs.Causes.{TellsRefusal}
+use Rattle.seg_batches.proofs.Exports.{TellsRefusal}
 use Rattle.seg_model.specs.Refused.{IfRefusal, IsRefusal}
 use Rattle.seg_merge.specs.WorkIndexWriting.{finish_steps}
 

@@ -15,7 +15,7 @@ use Rattle.seg_build.specs.Laws.{BuiltHaveNoColumns}
 use Rattle.seg_open.specs.OpenSegment.{OpenSegment, contents_of}
 use Rattle.seg_open.specs.KeptSegment.{KeptSegment, kept_count, part_of}
 use Rattle.seg_join.specs.Laws.{BuiltPartsJoin}
-use Rattle.seg_batches.proofs.ReadLaws.{segments_stay}
+use Rattle.seg_batches.proofs.Exports.{segments_stay}
 use Rattle.seg_refusals.specs.Admitted.{Fits}
 use Rattle.seg_refusals.specs.Refusals.{first_error}
 use Rattle.seg_merge.specs.Builds.{Builds}

@@ -1,11 +1,12 @@
-pub mod Ids
-pub mod Json
-pub mod ListRead
-pub mod MetaBack
-pub mod NoFloats
-pub mod PartsBack
-pub mod Plain
-pub mod Pretty
-pub mod SegmentIds
-pub mod TextBack
+pub mod Exports
+mod Ids
+mod Json
+mod ListRead
+mod MetaBack
+mod NoFloats
+mod PartsBack
+mod Plain
+mod Pretty
+mod SegmentIds
+mod TextBack
 mod Loads

@@ -7,7 +7,7 @@ use Rattle.serde_json.specs.Find.{as_array}
 use Rattle.serde_json.specs.View.{view, items_view}
 use Rattle.serde_json.specs.declared.value.Value.{Value}
 use Rattle.seg_values.specs.Distinct.{all_distinct}
-use Rattle.seg_values.proofs.Distinct.{all_distinct-push, all_distinct-again}
+use Rattle.seg_values.proofs.Exports.{all_distinct-again, all_distinct-push}
 use Rattle.seg_meta.specs.MetaRead.{distinct_list}
 use Rattle.seg_meta.specs.Reads.{given, provided, each, list_of}
 

@@ -3,7 +3,7 @@ use Rattle.std.proofs.Common.{◌≡◌, ℕ, List, [], ◌∷◌, Some, None, O
 use Rattle.seg_common.specs.declared.name.FileName.TheVariants as name
 use Rattle.seg_values.specs.declared.error.TantivyError.{TantivyError}
 use Rattle.seg_values.specs.declared.error.TantivyError.TheVariants.{DataCorruption, OutOfMemory}
-use Rattle.seg_directory.proofs.Doing.{went, broke, then_does, stops, does_nothing}
+use Rattle.seg_directory.proofs.Exports.{broke, does_nothing, stops, then_does, went}
 use Rattle.seg_directory.specs.Calls.{read}
 use Rattle.seg_directory.specs.State.{DirectoryState}
 use Rattle.seg_directory.specs.Works.{WorksFor, calls}

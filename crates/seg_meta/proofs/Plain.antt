@@ -12,7 +12,7 @@ use Rattle.serde_json.specs.Data.{Data, null, boolean, string, array, object, It
 use Rattle.serde_json.specs.View.{items_of}
 use Rattle.serde_json.specs.Written.{outline, items_outline, members_outline}
 use Rattle.seg_common.specs.SegmentIds.{hex_text, id_text}
-use Rattle.seg_model.proofs.Utf8.{IsUtf8-ascii}
+use Rattle.seg_model.proofs.Exports.{IsUtf8-ascii}
 use Rattle.seg_meta.specs.Fits.{IsText}
 use Rattle.seg_meta.specs.MetaJson.{count_json, text_json}
 use Rattle.seg_meta.proofs.Pretty.{AreUtf8, AreUtf8-append}

@@ -22,8 +22,7 @@ use Rattle.seg_model.specs.Contents.{Contents, full_reading, reading_with, norms
 use Rattle.seg_termdict.specs.SortedTerms.{key_cmp}
 use Rattle.seg_model.specs.Checked.{IsSound, document_refusal, wrong_value}
 use Rattle.seg_model.specs.Laws.{recorded_values}
-use Rattle.seg_model.proofs.Columns.{column_cmp_total}
-use Rattle.seg_model.proofs.ShapedReading.{readings_have_full_shape}
+use Rattle.seg_model.proofs.Exports.{column_cmp_total, readings_have_full_shape}
 use Rattle.seg_model_cases.specs.Given.{analyzer, entry, only, posting}
 use Rattle.seg_model_cases.specs.Contents.{documents, term_entries, column_entries, contents, ContentsCases}
 

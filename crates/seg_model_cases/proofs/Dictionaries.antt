@@ -3,7 +3,7 @@ use Rattle.std.proofs.Common.{ℕ, [], ◌∷◌, refl}
 use Rattle.std.specs.Prelude.{codes}
 use Rattle.std.specs.FinMap.{entries-from_sorted}
 use Rattle.seg_termdict.specs.SortedTerms.{key_cmp}
-use Rattle.seg_termdict.proofs.MergedTerms.{merged_terms_answer}
+use Rattle.seg_termdict.proofs.Exports.{merged_terms_answer}
 use Rattle.seg_model_cases.specs.Dictionaries.{listed, segments, DictionaryCases}
 
 pub dictionary_cases : DictionaryCases

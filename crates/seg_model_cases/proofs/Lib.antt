@@ -1,9 +1,9 @@
-pub mod Columns
-pub mod Contents
-pub mod Dictionaries
-pub mod Documents
-pub mod Files
-pub mod Json
-pub mod Operations
-pub mod Refusals
-pub mod Texts
+mod Columns
+mod Contents
+mod Dictionaries
+mod Documents
+mod Files
+mod Json
+mod Operations
+mod Refusals
+mod Texts

@@ -4,7 +4,7 @@ use Rattle.std.proofs.lemmas.Bool.{false≢true}
 use Rattle.seg_model.specs.Columns.{declared_columns, declared_type, column_named, is_declared}
 use Rattle.seg_model.specs.Fields.{Schema, is_text}
 use Rattle.seg_segment.specs.Built.{is_built_entry, is_built_schema}
-use Rattle.seg_segment.proofs.BuiltEntries.{both_true, not_fast, text_entry_at}
+use Rattle.seg_segment.proofs.Exports.{both_true, not_fast, text_entry_at}
 use Rattle.seg_open.specs.SegmentOpening.{AreTexts}
 
 pub none_declared : (schema : Schema) → is_built_schema schema ≡ true → declared_columns schema ≡ []

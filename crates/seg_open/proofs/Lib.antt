@@ -1,8 +1,9 @@
-pub mod BuiltTexts
-pub mod Disagreeing
-pub mod FieldsFit
-pub mod HeldFields
-pub mod OpenSpells
-pub mod OpenLaws
-pub mod Opened
-pub mod PlacesOpened
+pub mod Exports
+mod BuiltTexts
+mod Disagreeing
+mod FieldsFit
+mod HeldFields
+mod OpenSpells
+mod OpenLaws
+mod Opened
+mod PlacesOpened

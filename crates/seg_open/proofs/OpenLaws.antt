@@ -6,7 +6,7 @@ use Rattle.seg_common.specs.declared.name.SegmentComponent.{SegmentComponent}
 use Rattle.seg_values.specs.declared.error.TantivyError.{TantivyError}
 use Rattle.seg_model.specs.Contents.{Contents}
 use Rattle.seg_model.specs.Fields.{Schema}
-use Rattle.seg_directory.proofs.WorkLaws.{all_went}
+use Rattle.seg_directory.proofs.Exports.{all_went}
 use Rattle.seg_directory.specs.Files.{NamedFiles}
 use Rattle.seg_directory.specs.State.{DirectoryState}
 use Rattle.seg_directory.specs.Works.{AllSuit, passes}
@@ -14,9 +14,7 @@ use Rattle.seg_segment.specs.Holds.{Holds}
 use Rattle.seg_segment.specs.SegmentFiles.{HasFiles, bytes_of}
 use Rattle.seg_segment.specs.SegmentRead.{IsNoDamage, read_steps}
 use Rattle.seg_segment.specs.declared.segment_files.SegmentFiles.{SegmentFiles}
-use Rattle.seg_segment.proofs.OnlyReads.{FindWhole, FindsDamage, OnlyReads, found_whole, reads_stay, suits_both, whole_both}
-use Rattle.seg_segment.proofs.ReadLaws.{has_read, only_six, six_whole}
-use Rattle.seg_segment.proofs.SpelledFiles.{held_spells}
+use Rattle.seg_segment.proofs.Exports.{FindWhole, FindsDamage, OnlyReads, found_whole, has_read, held_spells, only_six, reads_stay, six_whole, suits_both, whole_both}
 use Rattle.seg_open.specs.Disagreement.{Disagree, up_to}
 use Rattle.seg_open.specs.OpenSegment.{OpenSegment, contents_of}
 use Rattle.seg_open.specs.SegmentOpened.{IsDamageOf, Opens, open_steps}

@@ -5,7 +5,7 @@ use Rattle.seg_common.specs.declared.name.FileName.TheVariants.{Part}
 use Rattle.seg_values.specs.declared.error.TantivyError.{TantivyError}
 use Rattle.seg_values.specs.declared.error.TantivyError.TheVariants.{DataCorruption}
 use Rattle.seg_model.specs.Fields.{Schema}
-use Rattle.seg_directory.proofs.Doing.{broke, does_nothing, stops, then_does, went}
+use Rattle.seg_directory.proofs.Exports.{broke, does_nothing, stops, then_does, went}
 use Rattle.seg_directory.specs.State.{DirectoryState}
 use Rattle.seg_directory.specs.Works.{WorksFor}
 use Rattle.seg_segment.specs.SegmentRead.{read_steps}

@@ -3,7 +3,7 @@ use Rattle.std.proofs.Common.{◌≡◌, ℕ, zero, suc, ◌+◌, ◌<◌, ◌�
 use Rattle.std.specs.List.{AllByRecursion}
 use Rattle.seg_termdict.specs.Dictionary.{AreInfos, postings_start, positions_start, info_of, term_of, terms_in, count_of, ends_of, keys_of, infos_of, IsDictionary, terms_of}
 use Rattle.seg_termdict.specs.Building.{last_term, postings_end, positions_end}
-use Rattle.seg_termdict.proofs.LastTerm.{terms_in-more, last_term-terms_in}
+use Rattle.seg_termdict.proofs.Exports.{last_term-terms_in, terms_in-more}
 use Rattle.seg_postings.specs.FieldParts.{LiesWithin}
 use Rattle.seg_postings.proofs.TermsRead.{within-more, within-push}
 

@@ -4,7 +4,7 @@ use Rattle.std.specs.FinMap.{entries, is_sorted, entries-from_sorted}
 use Rattle.std.specs.List.Sorted.{IsStrictlySortedBy}
 use Rattle.std.specs.Ordering.{nat_cmp}
 use Rattle.std.specs.Cmp.Lexicographic.{slice_cmp}
-use Rattle.seg_values.proofs.Rising.{is_sorted-rising}
+use Rattle.seg_values.proofs.Exports.{is_sorted-rising}
 use Rattle.seg_model.specs.Reading.{Posting}
 use Rattle.seg_termdict.specs.Dictionary.{Term}
 use Rattle.seg_postings.specs.FieldReading.{OpenField, ReadTerm, read_term, written_terms}

@@ -10,7 +10,7 @@ use Rattle.seg_common.specs.declared.term_info.TermInfo.{TermInfo}
 use Rattle.seg_common.proofs.Bytes.{u64_at-front, u64_at-end}
 use Rattle.seg_termdict.specs.Dictionary.{Term}
 use Rattle.seg_termdict.specs.Building.{Building, complete, with_key, with_info, postings_end, positions_end}
-use Rattle.seg_termdict.proofs.LastTerm.{last_term-push}
+use Rattle.seg_termdict.proofs.Exports.{last_term-push}
 use Rattle.seg_model.specs.Reading.{Posting}
 use Rattle.seg_postings.specs.declared.record_kind.RecordKind.{RecordKind}
 use Rattle.seg_postings.specs.declared.open_term.OpenTerm.{OpenTerm}

@@ -9,13 +9,13 @@ use Rattle.std.proofs.lemmas.Bool.{false≢true}
 use Rattle.seg_values.specs.declared.schema.FieldEntry.{FieldEntry}
 use Rattle.seg_values.specs.declared.schema.FieldKind.{FieldKind}
 use Rattle.seg_values.specs.declared.schema.FieldKind.TheVariants.{Text}
-use Rattle.seg_values.proofs.Rising.{is_sorted-rising}
+use Rattle.seg_values.proofs.Exports.{is_sorted-rising}
 use Rattle.seg_common.proofs.Tables.{texts_apart, same_key}
 use Rattle.seg_model.specs.Fields.{is_text, is_json, is_facet}
 use Rattle.seg_model.specs.Reading.{Posting, term_option}
 use Rattle.seg_model.specs.Shape.{ArePostings, IsTermWith}
 use Rattle.seg_termdict.specs.Dictionary.{Term, terms_of}
-use Rattle.seg_termdict.proofs.SortedKeys.{dictionary_sorted}
+use Rattle.seg_termdict.proofs.Exports.{dictionary_sorted}
 use Rattle.seg_postings.specs.Postings.{term_postings}
 use Rattle.seg_postings.specs.Field.{term_at, terms_at}
 use Rattle.seg_postings.specs.FieldWriting.{TermWritten}

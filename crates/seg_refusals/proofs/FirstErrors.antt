@@ -10,7 +10,7 @@ use Rattle.seg_model.specs.Checked.{unless}
 use Rattle.seg_model.specs.Fields.{Analyzer}
 use Rattle.seg_model.specs.Input.{Input, input_batches}
 use Rattle.seg_model.specs.Valid.{Known, shape_refusal, schema_refusal, delete_refusal, input_refusal, cuts_fit, batches_fit, filters_fit}
-use Rattle.seg_model.proofs.FirstAnswers.{or_both, unless_true}
+use Rattle.seg_model.proofs.Exports.{or_both, unless_true}
 use Rattle.seg_refusals.specs.Admitted.{Fits}
 use Rattle.seg_refusals.specs.Inputs.{is_built_input}
 use Rattle.seg_refusals.specs.Refusals.{first_error}

@@ -1,6 +1,7 @@
-pub mod Cuts
-pub mod Distinct
-pub mod Divided
-pub mod FirstErrors
-pub mod Places
-pub mod Refusing
+pub mod Exports
+mod Cuts
+mod Distinct
+mod Divided
+mod FirstErrors
+mod Places
+mod Refusing

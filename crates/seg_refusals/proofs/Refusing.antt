@@ -13,8 +13,8 @@ use Rattle.seg_model.specs.Input.{Input, Settings, input_batches}
 use Rattle.seg_model.specs.Operations.{Operation, add, delete, delete_all}
 use Rattle.seg_model.specs.Refused.{operation_refusal, count_refusal, numbers_refusal, added_by, batch_refusal, IsRefusal}
 use Rattle.seg_model.specs.Valid.{Known, cuts_fit, batches_fit, filters_fit, ids_fit, names_fit, settings_fit, unknown_tokenizer_of, has_unknown_fast_tokenizer, unindexed_delete_of, shape_refusal, schema_refusal, delete_refusal, input_refusal}
-use Rattle.seg_check.proofs.Causes.{EachHas, or_each, unless_each, first_each, cause-has}
-use Rattle.seg_build.proofs.Refusing.{map_each, shape_each, schema_each}
+use Rattle.seg_check.proofs.Exports.{EachHas, cause-has, first_each, or_each, unless_each}
+use Rattle.seg_build.proofs.Exports.{map_each, schema_each, shape_each}
 use Rattle.seg_refusals.specs.Inputs.{is_built_input}
 use Rattle.seg_refusals.specs.Refusals.{first_error, later_refusal}
 

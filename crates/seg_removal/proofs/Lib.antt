@@ -1,4 +1,5 @@
-pub mod Posted
-pub mod Stamped
-pub mod Told
-pub mod Turns
+pub mod Exports
+mod Posted
+mod Stamped
+mod Told
+mod Turns

@@ -13,8 +13,7 @@ use Rattle.seg_values.specs.Tree.{Document}
 use Rattle.seg_model.specs.Fields.{Schema, Analyzer}
 use Rattle.seg_model.specs.Occurrences.{Occurrence, occurrences_at, occurrences}
 use Rattle.seg_model.specs.Reading.{Recorded, Posting, if_occurs, term_option, recorded_in, postings_from, postings_of, field_terms, all_terms}
-use Rattle.seg_model.proofs.Fields.{at_place}
-use Rattle.seg_model.proofs.Terms.{get-terms_of, unwrap_if_any}
+use Rattle.seg_model.proofs.Exports.{at_place, get-terms_of, unwrap_if_any}
 use Rattle.seg_removal.specs.Postings.{terms_of_field, documents_with, is_member, marks}
 use Rattle.seg_removal.specs.Laws.{PostingsTellTerms}
 

@@ -4,7 +4,7 @@ use Rattle.serde_json.specs.Data.{Data}
 use Rattle.serde_json.specs.View.{view, items_view}
 use Rattle.serde_json.specs.declared.value.Value.{Value}
 use Rattle.seg_meta.specs.Reads.{given, each, list_of}
-use Rattle.seg_meta.proofs.ListRead.{left-cons, one_behind, so_far}
+use Rattle.seg_meta.proofs.Exports.{left-cons, one_behind, so_far}
 
 module _ {A : Type 0} (read : Data → Option A) (d : Data) (vs : List Value) (i : ℕ) (v : Value) (done : List A) where
   -- this many items were read, and the rest is still to be read

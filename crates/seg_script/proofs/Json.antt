@@ -4,7 +4,7 @@ use Rattle.std.specs.Str.{IsUtf8, is_utf8}
 use Rattle.std.proofs.lemmas.Str.{is_utf8-from_IsUtf8}
 use Rattle.serde_json.specs.Data.{Data}
 use Rattle.serde_json.specs.Read.{read}
-use Rattle.seg_meta.proofs.Json.{either}
+use Rattle.seg_meta.proofs.Exports.{either}
 use Rattle.seg_script.specs.Script.{json_of}
 
 -- a text that is read is the value of its bytes

@@ -6,4 +6,4 @@ mod Kept
 mod Items
 mod Limits
 mod Schema
-pub mod TextFields
+mod TextFields

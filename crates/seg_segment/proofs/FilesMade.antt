@@ -12,9 +12,7 @@ use Rattle.seg_common.specs.declared.name.FileName.TheVariants.{Part}
 use Rattle.seg_common.specs.declared.name.SegmentComponent.{SegmentComponent}
 use Rattle.seg_common.specs.declared.name.SegmentComponent.TheVariants.{Terms, Postings, Positions, Store, FastFields, FieldNorms}
 use Rattle.seg_values.specs.declared.error.TantivyError.{TantivyError}
-use Rattle.seg_directory.proofs.Doing.{then_does, stops}
-use Rattle.seg_directory.proofs.OtherFiles.{keeps_others}
-use Rattle.seg_directory.proofs.WorkLaws.{all_went}
+use Rattle.seg_directory.proofs.Exports.{all_went, keeps_others, stops, then_does}
 use Rattle.seg_directory.specs.Calls.{made}
 use Rattle.seg_directory.specs.Files.{NamedFiles}
 use Rattle.seg_directory.specs.State.{DirectoryState}

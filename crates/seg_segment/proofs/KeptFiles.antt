@@ -5,7 +5,7 @@ use Rattle.std.specs.List.{AllByRecursion}
 use Rattle.seg_common.specs.declared.name.FileName.{FileName}
 use Rattle.seg_values.specs.declared.error.TantivyError.{TantivyError}
 use Rattle.seg_values.specs.declared.error.TantivyError.TheVariants.{OutOfMemory}
-use Rattle.seg_directory.proofs.OtherFiles.{keeps_others}
+use Rattle.seg_directory.proofs.Exports.{keeps_others}
 use Rattle.seg_directory.specs.Calls.{Call, listed, read, made, replaced, synced, Keeps}
 use Rattle.seg_directory.specs.Does.{GoesOn}
 use Rattle.seg_directory.specs.Files.{NamedFiles}

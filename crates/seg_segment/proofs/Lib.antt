@@ -1,13 +1,14 @@
-pub mod BuiltEntries
-pub mod FieldsInTurn
-pub mod FilesMade
-pub mod GivenPostings
-pub mod KeptFiles
-pub mod LaidOut
-pub mod LengthsInTurn
-pub mod OneContents
-pub mod OnlyReads
-pub mod ReadLaws
-pub mod SpelledFiles
-pub mod Turns
-pub mod WrittenDocuments
+pub mod Exports
+mod BuiltEntries
+mod FieldsInTurn
+mod FilesMade
+mod GivenPostings
+mod KeptFiles
+mod LaidOut
+mod LengthsInTurn
+mod OneContents
+mod OnlyReads
+mod ReadLaws
+mod SpelledFiles
+mod Turns
+mod WrittenDocuments

@@ -1,17 +1,18 @@
-pub mod AliveDocuments
-pub mod BlockNumbers
-pub mod Blocks
-pub mod CacheEntries
-pub mod CacheUses
-pub mod Cases
-pub mod CutParts
-pub mod Cutting
-pub mod DocumentNumbers
-pub mod DocumentPlaces
-pub mod KeptBlocks
-pub mod MadeDocuments
-pub mod PartPlaces
-pub mod SplitFiles
-pub mod Stores
-pub mod Tables
-pub mod TakenLast
+pub mod Exports
+mod AliveDocuments
+mod BlockNumbers
+mod Blocks
+mod CacheEntries
+mod CacheUses
+mod Cases
+mod CutParts
+mod Cutting
+mod DocumentNumbers
+mod DocumentPlaces
+mod KeptBlocks
+mod MadeDocuments
+mod PartPlaces
+mod SplitFiles
+mod Stores
+mod Tables
+mod TakenLast

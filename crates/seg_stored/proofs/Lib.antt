@@ -1,14 +1,14 @@
-pub mod Fronts
-pub mod Gathering
-pub mod MadeLeaves
-pub mod MadeTrees
-pub mod PassedLeaves
-pub mod PassedPairs
-pub mod PassedTrees
-pub mod PuttingTrees
-pub mod ReadBack
-pub mod ReadDocuments
-pub mod ReadTrees
-pub mod Standing
-pub mod StoredPairs
-pub mod WholeDocuments
+mod Fronts
+mod Gathering
+mod MadeLeaves
+mod MadeTrees
+mod PassedLeaves
+mod PassedPairs
+mod PassedTrees
+mod PuttingTrees
+mod ReadBack
+mod ReadDocuments
+mod ReadTrees
+mod Standing
+mod StoredPairs
+mod WholeDocuments

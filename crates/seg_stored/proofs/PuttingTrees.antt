@@ -6,7 +6,7 @@ use Rattle.seg_common.specs.Varint.{varint}
 use Rattle.seg_common.proofs.Lists.{drop-slice_get}
 use Rattle.seg_values.specs.Tree.{Tree, array, object, trees_from, members_from}
 use Rattle.seg_values.specs.StoredForm.{sized, tree_count, member_count, tree_form, tree_forms, member_forms}
-use Rattle.seg_values.proofs.StoredCounts.{count_trees, count_members}
+use Rattle.seg_values.proofs.Exports.{count_members, count_trees}
 use Rattle.seg_stored.specs.Storable.{IsText, IsStorable, AreStorable, AreStorableMembers}
 
 module _ (out after : List ℕ) where

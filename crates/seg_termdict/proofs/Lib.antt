@@ -1,3 +1,4 @@
+pub mod Exports
 mod Assembled
 mod Bounds
 mod FrontLemmas
@@ -6,14 +7,14 @@ mod Growth
 mod Heads
 mod InfoLemmas
 mod KeyLemmas
-pub mod KeyOrder
-pub mod LastTerm
+mod KeyOrder
+mod LastTerm
 mod MergeSteps
-pub mod MergedTerms
+mod MergedTerms
 mod Merges
-pub mod Ordinals
+mod Ordinals
 mod Passing
-pub mod Ranges
+mod Ranges
 mod Ranked
-pub mod SortedKeys
+mod SortedKeys
 mod TermLemmas

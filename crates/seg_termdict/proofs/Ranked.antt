@@ -11,7 +11,7 @@ use Rattle.std.proofs.lemmas.List.{length-map, length-take-le, length-drop, leng
 use Rattle.std.proofs.lemmas.List.FromFn.{length-enumerate_from, get_or-enumerate_from}
 use Rattle.std.proofs.lemmas.Option.{slice_get-get_or}
 use Rattle.seg_common.specs.declared.term_info.TermInfo.{TermInfo}
-use Rattle.seg_values.proofs.Rising.{is_sorted-rising}
+use Rattle.seg_values.proofs.Exports.{is_sorted-rising}
 use Rattle.seg_termdict.specs.SortedTerms.{TermRange, RankedTerm, is_from, is_up_to, is_within, ranked, in_direction, streamed}
 use Rattle.seg_termdict.specs.Dictionary.{Term}
 use Rattle.seg_termdict.specs.LookUps.{HasKeyAt}

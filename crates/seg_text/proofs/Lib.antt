@@ -1,9 +1,10 @@
-pub mod AllAlive
-pub mod DeadIds
+pub mod Exports
+mod AllAlive
+mod DeadIds
 mod KnownTexts
-pub mod PlainDates
+mod PlainDates
 mod PlainTerms
-pub mod Placing
-pub mod PrintedTokens
-pub mod PrintedTrees
-pub mod ShownAddresses
+mod Placing
+mod PrintedTokens
+mod PrintedTrees
+mod ShownAddresses

@@ -8,12 +8,12 @@ use Rattle.seg_model.specs.Fields.{Analyzer}
 use Rattle.seg_model.specs.Input.{Input}
 use Rattle.seg_model.specs.Valid.{Known}
 use Rattle.seg_open.specs.SegmentOpened.{IsNoDamage}
-use Rattle.seg_refusals.proofs.Refusing.{first_is_refusal}
+use Rattle.seg_refusals.proofs.Exports.{first_is_refusal}
 use Rattle.seg_refusals.specs.Refusals.{first_error}
 use Rattle.seg_model.specs.Refused.{IfRefusal, IsRefusal}
 use Rattle.seg_merge.specs.DirectoryCalls.{BuildsIndexes}
 use Rattle.seg_merge.specs.Turns.{Directories}
-use Rattle.seg_merge.proofs.Stopped.{build_error}
+use Rattle.seg_merge.proofs.Exports.{build_error}
 use Rattle.seg_tool.specs.DirectoryCalls.{BuildDoes, Stopped}
 use Rattle.seg_tool.specs.Statuses.{IfRefused, status_of}
 use Rattle.seg_tool.specs.declared.status.Status.{Status}

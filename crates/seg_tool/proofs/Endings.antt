@@ -15,10 +15,10 @@ use Rattle.seg_model.specs.Laws.{ValidInputsAreNotRefused}
 use Rattle.seg_model.specs.Refused.{build_refusal}
 use Rattle.seg_model.specs.Input.{Input, uncompressed}
 use Rattle.seg_model.specs.Valid.{Known, IsValid, input_refusal}
-use Rattle.seg_model.proofs.FirstAnswers.{or_first, unless_true}
+use Rattle.seg_model.proofs.Exports.{or_first, unless_true}
 use Rattle.seg_merge.specs.DirectoryCalls.{BuildsIndexes}
 use Rattle.seg_merge.specs.Turns.{Directories, stops}
-use Rattle.seg_merge.proofs.Stopped.{IsBuildError, RoseIn, build_error}
+use Rattle.seg_merge.proofs.Exports.{IsBuildError, RoseIn, build_error}
 use Rattle.seg_refusals.specs.Admitted.{IsValidIf}
 use Rattle.seg_refusals.specs.Inputs.{is_built_input}
 use Rattle.seg_refusals.specs.Refusals.{first_error, later_refusal}

@@ -22,7 +22,7 @@ use Rattle.seg_text.specs.DocumentText.{document_line, documents_from, documents
 use Rattle.seg_text.specs.FieldText.{field_text, fields_text, term_line}
 use Rattle.seg_text.specs.HeaderText.{dead_text, header_text}
 use Rattle.seg_text.specs.SegmentText.{segment_text}
-use Rattle.seg_text.proofs.AllAlive.{count_by-replicate, dead_text-replicate}
+use Rattle.seg_text.proofs.Exports.{count_by-replicate, dead_text-replicate}
 use Rattle.seg_open.specs.KeptSegment.{marks_of}
 use Rattle.seg_tool.specs.Printing.{opened_text}
 

@@ -6,7 +6,7 @@ use Rattle.seg_meta.specs.IndexOfFiles.{ListedSegment}
 use Rattle.seg_open.specs.KeptSegment.{KeptSegment}
 use Rattle.seg_directory.specs.State.{DirectoryState}
 use Rattle.seg_batches.specs.Reading.{ReadsSegments}
-use Rattle.seg_batches.proofs.ReadLaws.{EachRead, IsOf, segments_of_schema}
+use Rattle.seg_batches.proofs.Exports.{EachRead, IsOf, segments_of_schema}
 
 each_counted : (schema : Schema) (segments : List ListedSegment) (read : List KeptSegment) → EachRead (IsOf schema) segments read → length read ≡ length segments
 each_counted schema [] [] h = refl

@@ -21,7 +21,7 @@ use Rattle.seg_batches.specs.Segments.{listed, segments_of}
 use Rattle.seg_merge.specs.DirectoryCalls.{WritesBoth}
 use Rattle.seg_merge.specs.IndexFiles.{output_id, work_ids, work_segments}
 use Rattle.seg_merge.specs.Turns.{Directories}
-use Rattle.seg_merge.proofs.ReadBack.{reads_of}
+use Rattle.seg_merge.proofs.Exports.{reads_of}
 use Rattle.seg_text.specs.SegmentText.{segment_text}
 use Rattle.seg_tool.specs.Printing.{all_kept, read_segment, read_segment_text, read_text, read_work_text}
 use Rattle.seg_tool.specs.Run.{build_text, segment, work_text, output_text, IsTextOfInput}

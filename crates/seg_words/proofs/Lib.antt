@@ -1,4 +1,5 @@
-pub mod Cutting
-pub mod Passed
-pub mod Registering
-pub mod Wording
+pub mod Exports
+mod Cutting
+mod Passed
+mod Registering
+mod Wording

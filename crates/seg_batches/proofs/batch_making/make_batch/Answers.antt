@@ -1,9 +1,9 @@
 use Rattle.std.proofs.Common.{inr, ◌≡◌, refl, ap, sym, subst, ◌∙◌, arith, length, map}
 use Rattle.seg_model.specs.Operations.{additions, alive_after}
-use Rattle.seg_removal.proofs.Posted.{length-additions}
+use Rattle.seg_removal.proofs.Exports.{length-additions}
 use Rattle.seg_batches.specs.Applying.{IsTold}
 use Rattle.seg_input.specs.View.{operation_of}
-use Rattle.seg_model.proofs.Telling.{told_on}
+use Rattle.seg_model.proofs.Exports.{told_on}
 use Rattle.seg_batches.proofs.Left.{made_whole}
 use Rattle.seg_batches.proofs.batch_making.make_batch.Goals as goal
 

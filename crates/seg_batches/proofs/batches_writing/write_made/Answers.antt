@@ -1,5 +1,5 @@
 use Rattle.std.proofs.Common.{[]}
-use Rattle.seg_directory.proofs.Doing.{answers, stops}
+use Rattle.seg_directory.proofs.Exports.{answers, stops}
 use Rattle.seg_batches.proofs.batches_writing.write_made.Goals as goal
 
 pub returns-in-Ok-clause-works : goal.returns-in-Ok-clause-works

@@ -1,5 +1,5 @@
 use Rattle.std.proofs.Common.{[], refl}
-use Rattle.seg_directory.proofs.Doing.{answers, stops}
+use Rattle.seg_directory.proofs.Exports.{answers, stops}
 use Rattle.seg_build.specs.Finishing.{starves}
 use Rattle.seg_build.proofs.Finalized.{finishes}
 use Rattle.seg_build.proofs.finishing.finish.Goals as goal

@@ -1,5 +1,5 @@
 use Rattle.std.proofs.Common.{[], ◌∷◌, arith}
-use Rattle.seg_check.proofs.Adding.{start-from}
+use Rattle.seg_check.proofs.Exports.{start-from}
 use Rattle.seg_build.proofs.tokens.next_start.Goals as goal
 
 pub overflow_cast-result : goal.overflow_cast-result

@@ -3,7 +3,7 @@ use Rattle.std.specs.Prelude.{slice_index}
 use Rattle.std.proofs.lemmas.Bool.Decides.{nat_tests}
 use Rattle.std.proofs.lemmas.List.{get_or-map}
 use Rattle.std.proofs.lemmas.Result.{on_ok_weaker}
-use Rattle.seg_segment.proofs.GivenPostings.{none_given, may_begin, all_given, may_end, has_whole_term}
+use Rattle.seg_segment.proofs.Exports.{all_given, has_whole_term, may_begin, may_end, none_given}
 use Rattle.seg_build.specs.declared.hits.Hit.{Hit}
 use Rattle.seg_build.specs.FieldTerms.{postings_as}
 use Rattle.seg_build.specs.Grouped.{grouped}

@@ -1,5 +1,5 @@
 use Rattle.std.proofs.Common.{length}
-use Rattle.seg_segment.proofs.GivenPostings.{AreGiven}
+use Rattle.seg_segment.proofs.Exports.{AreGiven}
 use Rattle.seg_build.specs.FieldTerms.{postings_as}
 use Rattle.seg_build.specs.Grouped.{grouped}
 use Rattle.seg_build.proofs.writing.write_term.Given as goal

@@ -1,7 +1,7 @@
 use Rattle.std.proofs.Common.{inr, ap, sym, ◌∙◌}
 use Rattle.std.specs.Prelude.{is_some}
 use Rattle.seg_model.specs.Checked.{Cause, at_place, fields_refusal, leaves_refusal}
-use Rattle.seg_model.proofs.FirstAnswers.{none_map}
+use Rattle.seg_model.proofs.Exports.{none_map}
 use Rattle.seg_check.proofs.FieldsCome.{falls-third}
 use Rattle.seg_check.proofs.document.checked_texts.Goals as goal
 

@@ -1,7 +1,7 @@
 use Rattle.std.proofs.Common.{◌<◌, ap, arith}
 use Rattle.seg_values.specs.Tree.{levels, array, trees_from}
 use Rattle.seg_values.specs.View.{tree_of}
-use Rattle.seg_values.proofs.Levels.{levels-at}
+use Rattle.seg_values.proofs.Exports.{levels-at}
 use Rattle.seg_check.proofs.kinds.+is_own_array.Goals as goal
 
 pub is_own_array-requires : goal.is_own_array-requires

@@ -1,7 +1,7 @@
 use Rattle.std.proofs.Common.{◌≡◌, ◌<◌, ◌++◌, length, map, ap, ◌∙◌, arith, false}
 use Rattle.seg_values.specs.Tree.{levels, array, object, trees_from, members_from}
 use Rattle.seg_values.specs.View.{tree_of}
-use Rattle.seg_values.proofs.Levels.{levels-at, member_levels-at}
+use Rattle.seg_values.proofs.Exports.{levels-at, member_levels-at}
 use Rattle.seg_check.specs.Leaves.{path_leaf, paths_from, key_bytes}
 use Rattle.seg_check.proofs.LeafWalks.{one_tree, one_member, take_front}
 use Rattle.seg_check.proofs.leaves.+push_leaves.Goals as goal

@@ -1,7 +1,7 @@
 use Rattle.std.proofs.Common.{◌≡◌, ◌<◌, ◌+◌, length, ap, sym, ◌∙◌, arith}
 use Rattle.seg_values.specs.Tree.{levels, array, object, trees_from, members_from}
 use Rattle.seg_values.specs.View.{tree_of}
-use Rattle.seg_values.proofs.Levels.{levels-at, member_levels-at}
+use Rattle.seg_values.proofs.Exports.{levels-at, member_levels-at}
 use Rattle.seg_values.specs.StoredForm.{sized, tree_form}
 use Rattle.seg_check.specs.Sizes.{saturated}
 use Rattle.seg_check.proofs.Adding.{saturated-sum}

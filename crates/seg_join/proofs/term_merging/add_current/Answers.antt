@@ -4,7 +4,7 @@ use Rattle.std.proofs.lemmas.Result.{on_ok_weaker}
 use Rattle.seg_common.specs.Growing.{HasGrown}
 use Rattle.seg_segment.specs.WritingTerms.{MayTake, with_more}
 use Rattle.seg_join.proofs.SourcePostings.{doc_within, current_moved}
-use Rattle.seg_segment.proofs.GivenPostings.{none_taken}
+use Rattle.seg_segment.proofs.Exports.{none_taken}
 use Rattle.seg_join.proofs.term_merging.add_current.Goals as goal
 
 pub new_id-requires : goal.new_id-requires

@@ -3,7 +3,7 @@ use Rattle.std.specs.List.{AllByRecursion}
 use Rattle.seg_model.specs.Reading.{Posting}
 use Rattle.seg_join.specs.MovedPostings.{moved, moved_from}
 use Rattle.seg_join.proofs.SourcePostings.{any_has, left_are, left_within, moved_next, none_left, all_behind}
-use Rattle.seg_segment.proofs.GivenPostings.{AreGiven, none_given, may_take, given_more, all_given}
+use Rattle.seg_segment.proofs.Exports.{AreGiven, all_given, given_more, may_take, none_given}
 use Rattle.seg_join.proofs.term_merging.add_postings.Goals as goal
 
 pub postings-postings-requires : goal.postings-postings-requires

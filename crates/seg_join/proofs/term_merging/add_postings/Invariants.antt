@@ -1,7 +1,7 @@
 use Rattle.std.proofs.Common.{◌<◌, length}
 use Rattle.std.specs.List.{AllByRecursion}
 use Rattle.seg_join.specs.MovedPostings.{moved, moved_from}
-use Rattle.seg_segment.proofs.GivenPostings.{AreGiven}
+use Rattle.seg_segment.proofs.Exports.{AreGiven}
 use Rattle.seg_join.proofs.term_merging.add_postings.Given as goal
 
 abbrev pub invariant-loop-kind : goal.invariant-loop-kind

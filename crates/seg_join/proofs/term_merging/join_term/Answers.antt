@@ -4,7 +4,7 @@ use Rattle.std.proofs.lemmas.Result.{on_ok_weaker}
 use Rattle.std.proofs.lemmas.List.{drop_all}
 use Rattle.seg_join.specs.MovedPostings.{moved_from_all}
 use Rattle.seg_join.proofs.Standings.{all_given_at, given_at, segment_within, source_joinable, source_has, next_given}
-use Rattle.seg_segment.proofs.GivenPostings.{AreGiven, none_given, may_begin, may_take, given_more, all_given, may_end, has_whole_term}
+use Rattle.seg_segment.proofs.Exports.{AreGiven, all_given, given_more, has_whole_term, may_begin, may_end, may_take, none_given}
 use Rattle.seg_join.proofs.term_merging.join_term.Goals as goal
 
 pub loop-segment-init : goal.loop-segment-init

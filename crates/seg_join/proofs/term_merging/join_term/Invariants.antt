@@ -1,7 +1,7 @@
 use Rattle.std.proofs.Common.{drop}
 use Rattle.std.specs.List.{flat_map}
 use Rattle.seg_join.specs.MovedPostings.{moved_from_all}
-use Rattle.seg_segment.proofs.GivenPostings.{AreGiven}
+use Rattle.seg_segment.proofs.Exports.{AreGiven}
 use Rattle.seg_join.proofs.Standings.{given_at}
 use Rattle.seg_join.proofs.term_merging.join_term.Given as goal
 

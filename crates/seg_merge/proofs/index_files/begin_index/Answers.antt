@@ -1,5 +1,5 @@
 use Rattle.std.proofs.Common.{[]}
-use Rattle.seg_directory.proofs.Doing.{answers, stops}
+use Rattle.seg_directory.proofs.Exports.{answers, stops}
 use Rattle.seg_meta.specs.View.{settings_of}
 use Rattle.seg_merge.proofs.Steps.{begun_of}
 use Rattle.seg_merge.proofs.index_files.begin_index.Goals as goal

@@ -1,5 +1,5 @@
 use Rattle.std.proofs.Common.{[], ◌∷◌}
-use Rattle.seg_directory.proofs.Doing.{stops, then_does}
+use Rattle.seg_directory.proofs.Exports.{stops, then_does}
 use Rattle.seg_directory.specs.Calls.{synced}
 use Rattle.seg_directory.specs.Works.{calls}
 use Rattle.seg_merge.proofs.index_files.save_index.Goals as goal

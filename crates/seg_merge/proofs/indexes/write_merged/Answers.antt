@@ -1,5 +1,5 @@
 use Rattle.std.proofs.Common.{[], ap, ◌∙◌}
-use Rattle.seg_directory.proofs.Doing.{answers, stops}
+use Rattle.seg_directory.proofs.Exports.{answers, stops}
 use Rattle.seg_meta.specs.View.{meta_of, settings_of}
 use Rattle.seg_merge.specs.IndexFiles.{merged_meta}
 use Rattle.seg_merge.proofs.Steps.{filled_of}

@@ -1,6 +1,6 @@
 use Rattle.std.proofs.Common.{◌∙◌, ◌<◌, ◌^◌, ℕ, Ok, [], ap, subst, sym}
 use Rattle.std.specs.List.{AllByRecursion}
-use Rattle.seg_directory.proofs.Doing.{answers, stops_at}
+use Rattle.seg_directory.proofs.Exports.{answers, stops_at}
 use Rattle.seg_meta.specs.View.{meta_of}
 use Rattle.seg_model.specs.Input.{Input}
 use Rattle.seg_segment.specs.Built.{is_built_schema}

@@ -1,6 +1,6 @@
 use Rattle.std.proofs.Common.{◌∙◌, refl}
 use Rattle.seg_open.specs.OpenSegment.{contents_of}
-use Rattle.seg_batches.proofs.Left.{undamaged}
+use Rattle.seg_batches.proofs.Exports.{undamaged}
 use Rattle.seg_merge.proofs.MergedFiles.{one_contents}
 use Rattle.seg_merge.proofs.merging.open_merged.Goals as goal
 

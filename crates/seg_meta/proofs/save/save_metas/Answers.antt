@@ -1,5 +1,5 @@
 use Rattle.std.proofs.Common.{ℕ, List, ◌∙◌, subst}
-use Rattle.seg_directory.proofs.Doing.{then_does, stops}
+use Rattle.seg_directory.proofs.Exports.{stops, then_does}
 use Rattle.seg_directory.specs.Works.{Works}
 use Rattle.seg_meta.specs.MetaSteps.{save_steps}
 use Rattle.seg_meta.proofs.save.save_metas.Goals as goal

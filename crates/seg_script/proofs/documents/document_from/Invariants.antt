@@ -2,7 +2,7 @@ use Rattle.std.proofs.Common.{◌≡◌}
 use Rattle.std.specs.Vec.Iter.{into_iter_items}
 use Rattle.serde_json.specs.View.{view, items_view}
 use Rattle.seg_meta.specs.Reads.{list_of}
-use Rattle.seg_meta.proofs.ListRead.{so_far}
+use Rattle.seg_meta.proofs.Exports.{so_far}
 use Rattle.seg_script.specs.Documents.{pair_from}
 use Rattle.seg_script.proofs.documents.document_from.Given as goal
 

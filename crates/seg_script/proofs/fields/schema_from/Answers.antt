@@ -3,8 +3,8 @@ use Rattle.std.proofs.lemmas.Grind.{common_steps}
 use Rattle.std.proofs.lemmas.List.{drop_all}
 use Rattle.serde_json.specs.View.{view, items_view}
 use Rattle.seg_values.specs.SchemaRules.{same_name}
-use Rattle.seg_values.proofs.SameNames.{same_name-sym, named, unnamed}
-use Rattle.seg_meta.proofs.ListRead.{left-cons, distinct_list-long, distinct_list-again, distinct_list-whole, step}
+use Rattle.seg_values.proofs.Exports.{named, same_name-sym, unnamed}
+use Rattle.seg_meta.proofs.Exports.{distinct_list-again, distinct_list-long, distinct_list-whole, left-cons, step}
 use Rattle.seg_script.specs.Fields.{entry_from}
 use Rattle.seg_script.specs.declared.error.ScriptError.TheVariants.{Later}
 use Rattle.seg_script.proofs.Schema.{schema_from-is}

@@ -1,7 +1,7 @@
 use Rattle.std.proofs.Common.{drop}
 use Rattle.serde_json.specs.View.{view, items_view}
 use Rattle.seg_values.specs.SchemaRules.{same_name}
-use Rattle.seg_meta.proofs.ListRead.{IsReadSoFar}
+use Rattle.seg_meta.proofs.Exports.{IsReadSoFar}
 use Rattle.seg_script.specs.Fields.{entry_from}
 use Rattle.seg_script.proofs.fields.schema_from.Given as goal
 

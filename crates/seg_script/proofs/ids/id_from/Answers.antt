@@ -1,6 +1,6 @@
 use Rattle.std.proofs.Common.{◌^◌, ◌<◌, rules}
 use Rattle.std.specs.Prelude.{IfSome}
-use Rattle.seg_meta.proofs.Ids.{is_id_from}
+use Rattle.seg_meta.proofs.Exports.{is_id_from}
 use Rattle.seg_script.proofs.ids.id_from.Goals as goal
 
 pub returns : goal.returns

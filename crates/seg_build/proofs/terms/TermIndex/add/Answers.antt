@@ -3,7 +3,7 @@ use Rattle.std.proofs.lemmas.Result.{on_ok_weaker, on_err_weaker}
 use Rattle.std.specs.HashMap as hash
 use Rattle.seg_build.specs.Grouped.{grouped}
 use Rattle.seg_build.specs.ByBytes.{by_bytes}
-use Rattle.seg_check.proofs.OnPaths.{has_bytes}
+use Rattle.seg_check.proofs.Exports.{has_bytes}
 use Rattle.seg_build.proofs.Added.{added_there, added_first, unchanged_there}
 use Rattle.seg_build.proofs.terms.TermIndex.add.Goals as goal
 

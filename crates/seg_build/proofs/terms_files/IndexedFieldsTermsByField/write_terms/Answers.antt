@@ -1,7 +1,7 @@
 use Rattle.std.proofs.Common.{Some, refl, sym, ap, subst, ◌∙◌}
 use Rattle.std.specs.Prelude.{IsSomeAnd}
 use Rattle.std.specs.List.{slice_get}
-use Rattle.seg_segment.proofs.FieldsInTurn.{is_whole}
+use Rattle.seg_segment.proofs.Exports.{is_whole}
 use Rattle.seg_segment.specs.WritingTerms.{IsUnwritten}
 use Rattle.seg_build.specs.TermsWritten.{all_written}
 use Rattle.seg_build.proofs.WrittenFields.{AreIn, total_in}

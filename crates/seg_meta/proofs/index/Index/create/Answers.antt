@@ -1,7 +1,7 @@
 use Rattle.std.proofs.Common.{◌≡◌, ℕ, List, [], None, Ok, Err, subst, ap}
 use Rattle.seg_model.specs.Fields.{Schema}
 use Rattle.seg_meta.specs.IndexOfFiles.{ListedSegment}
-use Rattle.seg_directory.proofs.Doing.{then_does, stops, answers}
+use Rattle.seg_directory.proofs.Exports.{answers, stops, then_does}
 use Rattle.seg_directory.specs.Works.{Works}
 use Rattle.seg_meta.specs.MetaSteps.{create_steps}
 use Rattle.seg_meta.specs.MetaText.{meta_text}

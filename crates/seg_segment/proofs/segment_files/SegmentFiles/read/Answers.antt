@@ -1,5 +1,5 @@
 use Rattle.std.proofs.Common.{[]}
-use Rattle.seg_directory.proofs.Doing.{answers, for_at, for_ok, stops, then_does}
+use Rattle.seg_directory.proofs.Exports.{answers, for_at, for_ok, stops, then_does}
 use Rattle.seg_segment.proofs.segment_files.SegmentFiles.read.Goals as goal
 
 pub returns-in_err-terms : goal.returns-in_err-terms

@@ -1,0 +1,12 @@
+-- What crates above may cite: all other modules are inner.
+pub use Rattle.seg_segment.proofs.BuiltEntries.{IsTextEntry, both_true, not_fast, text_entry_at}
+pub use Rattle.seg_segment.proofs.FieldsInTurn.{AreParts, AreTermsOf, hold_terms, is_whole}
+pub use Rattle.seg_segment.proofs.FilesMade.{absent_suit, are_made, newest, others_stay, six_there}
+pub use Rattle.seg_segment.proofs.GivenPostings.{AreGiven, all_given, given_more, has_whole_term, may_begin, may_end, may_take, no_terms, none_given, none_taken}
+pub use Rattle.seg_segment.proofs.KeptFiles.{after_keeps, all_touched, keeps_untouched}
+pub use Rattle.seg_segment.proofs.OneContents.{one, selected}
+pub use Rattle.seg_segment.proofs.OnlyReads.{FindWhole, FindsDamage, OnlyReads, Unchanged, found_whole, reads_both, reads_rose, reads_so, reads_stay, suits_both, whole_both}
+pub use Rattle.seg_segment.proofs.ReadLaws.{has_read, is_there, only_six, six_whole}
+pub use Rattle.seg_segment.proofs.SpelledFiles.{held_on, held_spells, stands_there}
+pub use Rattle.seg_segment.proofs.Turns.{drop-item}
+pub use Rattle.seg_segment.proofs.WrittenDocuments.{IsRecorded, are_of_kind, posting_is}
