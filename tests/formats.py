@@ -197,6 +197,11 @@ def read_postings(terms, data, max_doc):
 LENGTHS = list(range(32)) + [24 + (i % 8 + 8) * 2 ** (i // 8 - 1) for i in range(8, 232)]
 
 
+def length_id(length):
+    """The greatest id whose length is at most this one."""
+    return bisect_right(LENGTHS, length) - 1
+
+
 def check_lengths(entry, terms, norms):
     """Whether the lengths are those that the postings tell, in a field whose postings tell them."""
     lengths = [0] * len(norms)
@@ -204,7 +209,21 @@ def check_lengths(entry, terms, norms):
         for document, count in term.counts:
             lengths[document] += count if entry['kind'] == 'text' else 0
     if entry['kind'] == 'json' or entry['kind'] == 'text' and entry['index'] != 'basic':
-        check(list(norms) == [bisect_right(LENGTHS, n) - 1 for n in lengths], 'a length id is not that of the tokens')
+        check(list(norms) == list(map(length_id, lengths)), 'a length id is not that of the tokens')
+
+
+# ---- token totals of a merge
+
+MAX_TOTAL = 2 ** 64 - 1
+
+
+def live_tokens(total, norms, alive):
+    """How many tokens of a field a merge counts in the documents of a segment that are alive; `norms` is None where it has no lengths."""
+    if all(alive):
+        return total
+    if norms is not None:
+        return min(sum(LENGTHS[length] for length, is_alive in zip(norms, alive) if is_alive), MAX_TOTAL)
+    return total * alive.count(True) // len(alive)
 
 
 # ---- alive documents

@@ -198,10 +198,17 @@ class Segment:
         for at, terms in self.terms.items():
             with reading(self.name('idx')):
                 total = sum(count for term in terms for _, count in term.counts)
-                check(self.totals[at] == min(total, 2 ** 64 - 1), f'the token total of field {at} is not the sum of the counts')
+                check(self.totals[at] == min(total, formats.MAX_TOTAL), f'the token total of field {at} is not the sum of the counts')
             if at in self.norms:
                 with reading(self.name('fieldnorm')):
                     formats.check_lengths(self.schema[at], terms, self.norms[at])
+
+    def check_merged_from(self, segments):
+        """What holds besides where the segment was merged from these, without filters: the token totals."""
+        for at, total in self.totals.items():
+            with reading(self.name('idx')):
+                merged = sum(formats.live_tokens(s.totals[at], s.norms.get(at), s.alive) for s in segments if any(s.alive))
+                check(total == min(merged, formats.MAX_TOTAL), f'the token total of field {at} is {total} and not {merged}')
 
 
 def read_index(read):
@@ -231,7 +238,7 @@ def posting_text(term, place):
     return text
 
 
-def segment_text(segment, label):
+def segment_text(segment, label, is_full=False):
     lines = [f'{label} {segment.id} docs {segment.max_doc} alive {segment.alive.count(True)}']
     dead = [document for document, is_alive in enumerate(segment.alive) if not is_alive]
     if dead:
@@ -241,14 +248,24 @@ def segment_text(segment, label):
         for term in terms:
             lines.append(term_text(term.key) + ''.join(posting_text(term, place) for place in range(len(term.counts))))
     lines += [f'doc {document} {json_text(pairs)}' for document, pairs in enumerate(segment.stored)]
+    for at, ids in segment.norms.items() if is_full else []:
+        lines.append(' '.join([f'norms {json_text(segment.schema[at]["name"])}', *map(str, ids)]))
     return ''.join(line + '\n' for line in lines)
+
+
+def totals_text(segment):
+    """A line for each indexed field. The program prints no such line."""
+    return ''.join(f'total {json_text(segment.schema[at]["name"])} {total}\n' for at, total in segment.totals.items())
 
 
 def main():
     parser = argparse.ArgumentParser(description='Reads the segments of a folder by docs/FORMATS.md and prints them.')
     parser.add_argument('folder', nargs='?', type=Path, help='the folder with meta.json')
     parser.add_argument('label', nargs='?', default='work', help='the word before the id of a segment (work)')
-    parser.add_argument('--from-documents', action='store_true', help='check token totals and lengths too, which a merge may estimate')
+    parser.add_argument('--full', action='store_true', help='print the length ids too')
+    parser.add_argument('--totals', action='store_true', help='print the token total of each field too, which the program does not')
+    parser.add_argument('--from-documents', action='store_true', help='check the token totals and the lengths too, of segments that no merge made')
+    parser.add_argument('--merged-from', type=Path, metavar='WORK', help='check the token totals too, of a segment that the segments of this folder were merged into, without filters')
     parser.add_argument('--self-test', action='store_true', help='read the segment that docs/FORMATS.md gives in bytes, and damaged ones')
     words = parser.parse_args()
     if words.self_test:
@@ -257,13 +274,28 @@ def main():
     if words.folder is None:
         parser.error('a folder is wanted')
     try:
-        segments = read_index(lambda name: (words.folder / name).read_bytes())
-        for segment in segments if words.from_documents else []:
-            segment.check_from_documents()
+        segments = checked_segments(words)
     except Malformed as wrong:
         sys.exit(str(wrong))
     for segment in segments:
-        sys.stdout.buffer.write(segment_text(segment, words.label).encode())
+        text = segment_text(segment, words.label, words.full) + (totals_text(segment) if words.totals else '')
+        sys.stdout.buffer.write(text.encode())
+
+
+def checked_segments(words):
+    """The segments of the folder, with what holds of them besides."""
+    segments = index_in(words.folder)
+    work = index_in(words.merged_from) if words.merged_from else None
+    for segment in segments:
+        if words.from_documents:
+            segment.check_from_documents()
+        if work is not None:
+            segment.check_merged_from(work)
+    return segments
+
+
+def index_in(folder):
+    return read_index(lambda name: (folder / name).read_bytes())
 
 
 if __name__ == '__main__':

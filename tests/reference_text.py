@@ -1,11 +1,18 @@
 #!/usr/bin/env python3
-"""Prints what docs/SCRIPT.md says that `build` prints of a script on standard input.
+"""Prints what docs/SCRIPT.md says that `build` prints of a script on standard input; or what `merge` or `show` prints over the
+folder `work` that `build` leaves of it.
 
 It was written from that document and docs/FORMATS.md, and not from the code: it knows no segment, posting list or merge.
 """
+import argparse
 import json
 import re
 import sys
+from dataclasses import dataclass
+
+from formats import length_id
+
+MERGED_ID = 32 * 'f'
 
 SPLITS = {'default': '[\x00-\x2f\x3a-\x40\x5b-\x60\x7b-\x7f]+', 'whitespace': '[ \t\r\n]+'}
 
@@ -60,17 +67,28 @@ def field_lines(entry, documents):
     return [f'field {json_text(entry["name"])} terms {len(terms)}'] + [term_text(term) + ''.join(terms[term]) for term in sorted(terms)]
 
 
-def segment_lines(schema, label, segment_id, documents, alive):
+def is_indexed(entry):
+    return entry.get('index', 'no') != 'no'
+
+
+def norms_line(entry, documents):
+    """The length ids of a field: a length is the number of tokens of all its texts."""
+    lengths = [sum(len(tokens_of(entry, text)) for name, text in document if name == entry['name']) for document in documents]
+    return ' '.join([f'norms {json_text(entry["name"])}', *(str(length_id(length)) for length in lengths)])
+
+
+def segment_lines(schema, label, segment_id, documents, alive, is_full):
     lines = [f'{label} {segment_id} docs {len(documents)} alive {sum(alive)}']
     dead = [number for number, is_alive in enumerate(alive) if not is_alive]
     if dead:
         lines.append('dead ' + ' '.join(map(str, dead)))
-    for entry in schema:
-        if entry.get('index', 'no') != 'no':
-            lines += field_lines(entry, documents)
+    for entry in filter(is_indexed, schema):
+        lines += field_lines(entry, documents)
     stored = {entry['name'] for entry in schema if entry.get('stored')}
     for number, document in enumerate(documents):
         lines.append(f'doc {number} ' + json_text([pair for pair in document if pair[0] in stored]))
+    if is_full:
+        lines += [norms_line(entry, documents) for entry in schema if is_indexed(entry) and entry.get('norms', True)]
     return lines
 
 
@@ -83,20 +101,65 @@ def is_removed(schema, document, later):
     return any('delete' in operation and has_term(schema, document, *operation['delete']) for operation in later)
 
 
-def main():
-    script = json.load(sys.stdin)
-    schema, operations, cuts = script['schema'], script['operations'], script.get('cuts', [])
-    ids = script.get('ids') or [f'{number + 1:032x}' for number in range(len(cuts) + 2)]
+@dataclass
+class Batch:
+    """The documents of a batch, and for each whether it is alive, and whether the filter drops it."""
+    id: str
+    documents: list
+    alive: list
+    dropped: list
+
+
+def batches(script):
+    operations, cuts = script['operations'], script.get('cuts', [])
     filters = script.get('filters') or [None] * (len(cuts) + 1)
-    bounds, lines, survivors = [0, *cuts, len(operations)], [], []
-    for batch, (start, end) in enumerate(zip(bounds, bounds[1:])):
+    bounds = [0, *cuts, len(operations)]
+    for segment_id, start, end, dropped in zip(segment_ids(script), bounds, bounds[1:], filters):
         places = [place for place in range(start, end) if 'add' in operations[place]]
         documents = [operations[place]['add'] for place in places]
-        alive = [not is_removed(schema, document, operations[place + 1:]) for place, document in zip(places, documents)]
-        lines += segment_lines(schema, 'work', ids[batch], documents, alive)
-        dropped = filters[batch]['drop'] if filters[batch] else []
-        survivors += [document for number, document in enumerate(documents) if alive[number] and number not in dropped]
-    lines += segment_lines(schema, 'output', ids[-1], survivors, [True] * len(survivors))
+        alive = [not is_removed(script['schema'], document, operations[place + 1:]) for place, document in zip(places, documents)]
+        yield Batch(segment_id, documents, alive, [dropped is not None and number in dropped['drop'] for number in range(len(documents))])
+
+
+def segment_ids(script):
+    return script.get('ids') or [f'{number + 1:032x}' for number in range(len(script.get('cuts', [])) + 2)]
+
+
+def work_lines(script, label, is_full):
+    return [line for batch in batches(script) for line in segment_lines(script['schema'], label, batch.id, batch.documents, batch.alive, is_full)]
+
+
+def output_lines(script, segment_id, is_kept, is_full):
+    """The output segment of the documents that are kept."""
+    kept = [document for batch in batches(script) for number, document in enumerate(batch.documents) if is_kept(batch, number)]
+    return segment_lines(script['schema'], 'output', segment_id, kept, [True] * len(kept), is_full)
+
+
+def build_lines(script, is_full):
+    """A filter leaves out what it drops."""
+    is_kept = lambda batch, number: batch.alive[number] and not batch.dropped[number]
+    return work_lines(script, 'work', is_full) + output_lines(script, segment_ids(script)[-1], is_kept, is_full)
+
+
+def merge_lines(script):
+    """An index has no filters: all that is alive is kept."""
+    return output_lines(script, MERGED_ID, lambda batch, number: batch.alive[number], False)
+
+
+def main():
+    parser = argparse.ArgumentParser(description='Prints what the program is to print of a script, which is read from standard input.')
+    parser.add_argument('command', nargs='?', choices=['build', 'merge', 'show'], default='build', help='merge and show are over the folder work of a build')
+    parser.add_argument('--full', action='store_true', help='with build: the length ids too')
+    words = parser.parse_args()
+    if words.full and words.command != 'build':
+        parser.error('--full goes with build')
+    script = json.load(sys.stdin)
+    if words.command == 'build':
+        lines = build_lines(script, words.full)
+    elif words.command == 'merge':
+        lines = merge_lines(script)
+    else:
+        lines = work_lines(script, 'segment', True)
     sys.stdout.buffer.write(''.join(line + '\n' for line in lines).encode())
 
 

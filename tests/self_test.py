@@ -5,7 +5,7 @@ from pathlib import Path
 
 import formats
 from formats import COUNTS, DOCUMENTS, POSITIONS, Malformed, Reader, Term
-from read_segment import read_index, segment_text
+from read_segment import read_index, segment_text, totals_text
 
 DOCUMENT = Path(__file__).resolve().parent.parent / 'docs' / 'FORMATS.md'
 ID = '0' * 31 + '1'
@@ -121,6 +121,13 @@ ALIVE_SETS = [
 ]
 
 
+# a token total, the length ids, who is alive, and what a merge counts of it
+TOTALS = [
+    (42, [40, 1], [True, True], 42), (42, [40, 1], [True, False], 40), (42, [40, 1], [False, True], 1), (42, [40, 1], [False, False], 0), (42, None, [True, False], 21),
+    (7, None, [False, True, False], 2), (2 ** 64 - 1, None, [True, False], 2 ** 63 - 1), (0, [], [], 0), (0, None, [], 0),
+]
+
+
 def alive_of(data):
     return [document for document, is_alive in enumerate(formats.alive_set(data)) if is_alive]
 
@@ -151,6 +158,10 @@ def run():
     segment, = read_index(files.__getitem__)
     segment.check_from_documents()
     expect(segment_text(segment, 'work') == text, 'the example is printed otherwise')
+    expect(segment_text(segment, 'work', True) == text + 'norms "title" 1\n', 'the length ids are printed otherwise')
+    expect(totals_text(segment) == 'total "title" 1\n', 'the token total is told otherwise')
+    segment.check_merged_from([segment])
+    expect(refusal(segment.check_merged_from, [segment] * 2), 'a wrong token total of a merge is not found')
     try_damage(files)
     for extension, at, byte, rule in DAMAGES:
         name = ID + extension
@@ -165,6 +176,8 @@ def run():
         expect(or_none(value_text, bytes.fromhex(form)) == shown, f'the value {form}: {or_none(value_text, bytes.fromhex(form))}')
     for *given, read in POSTINGS:
         expect(or_none(postings_of, *given) == read, f'the postings {given}')
+    for *given, merged in TOTALS:
+        expect(formats.live_tokens(*given) == merged, f'the token total {given}')
     lengths = formats.LENGTHS
     expect(lengths == sorted(set(lengths)) and [lengths[i] for i in (39, 41, 48, 63, 248, 255)] == [39, 42, 56, 144, 1073741848, 2013265944], 'the lengths')
     print('self-test: all as docs/FORMATS.md says')

@@ -23,7 +23,9 @@ fn check(
 
 fn document_of(alloc: Global, value: OwnedValue) -> Result<TantivyDocument, AllocError> {
     let mut document = TantivyDocument::new(alloc);
-    document.add_field_value(Field::from_field_id(0), value)?;
+    let Ok(()) = document.add_field_value(Field::from_field_id(0), value) else {
+        return Err(AllocError);
+    };
     Ok(document)
 }
 
@@ -114,7 +116,10 @@ fn two_paths(alloc: Global) -> Result<TantivyDocument, AllocError> {
     let mut document = document_of(alloc, with_key(alloc, "a.b", text)?)?;
     let text = OwnedValue::Str(Text::copy_of(alloc, "a")?);
     let below = with_key(alloc, "b", text)?;
-    document.add_field_value(Field::from_field_id(0), with_key(alloc, "a", below)?)?;
+    let value = with_key(alloc, "a", below)?;
+    let Ok(()) = document.add_field_value(Field::from_field_id(0), value) else {
+        return Err(AllocError);
+    };
     Ok(document)
 }
 

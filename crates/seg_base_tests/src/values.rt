@@ -2,7 +2,10 @@
 
 use seg_common::DateTime;
 use seg_testing::schema;
-use seg_values::{Facet, Field, FieldKind, FieldType, IndexOption, Schema, Term, ValueError};
+use seg_values::{
+    Facet, Field, FieldKind, FieldType, IndexOption, Schema, TResult, TantivyError, Term,
+    ValueError,
+};
 use std::alloc::Global;
 use std::net::Ipv6Addr;
 use std::test::Fail;
@@ -78,6 +81,36 @@ fn bytes_of_terms(rt: HostRuntime) -> Result<(), Fail> {
     for (kind, bytes) in table {
         assert!(rt; has_bytes(rt.alloc(), kind, bytes)?, "{kind:?}");
     }
+    Ok(())
+}
+
+/// A term of a text, with its copy.
+fn twice(alloc: Global, field: u32, text: &str) -> TResult<(Term, Term)> {
+    let Ok(term) = Term::from_field_text(alloc, Field::from_field_id(field), text) else {
+        return Err(TantivyError::OutOfMemory);
+    };
+    let copy = term.try_clone(alloc)?;
+    Ok((term, copy))
+}
+
+/// Whether terms are equal to their copies, and to no other term.
+fn are_told_apart(alloc: Global) -> TResult<bool> {
+    let (a, copy_of_a) = twice(alloc, 3, "a")?;
+    let (b, copy_of_b) = twice(alloc, 3, "b")?;
+    let (further, _) = twice(alloc, 4, "a")?;
+    Ok(a == copy_of_a && b == copy_of_b && a != b && a != further)
+}
+
+#[test]
+fn terms_are_copied(rt: HostRuntime) {
+    assert!(rt; are_told_apart(rt.alloc()) == Ok(true));
+}
+
+#[test]
+fn schemas_are_copied(rt: HostRuntime) -> Result<(), Fail> {
+    let schema = schema(rt.alloc(), &[("a", FieldKind::Json, IndexOption::No)])?;
+    let copy = schema.try_clone(rt.alloc()).ok().ok_or("copy")?;
+    assert!(rt; copy.num_fields() == 1);
     Ok(())
 }
 

@@ -111,12 +111,12 @@ module _ (schema : Schema) (analyzer : Analyzer) (first : ℕ) (operations : Lis
       not_added : (e : TantivyError) → AddsNone analyzer document (first + i) old new e
           → (batch_error schema analyzer first operations ≡ Some e) ⊎ (e ≡ OutOfMemory)
       not_added SystemError h =
-          absurd (subst (λ o. IsSomeAnd o (IsKeptOf old.schema analyzer (additions (take i operations)) (addition_stamps first (take i operations)))) h.0 has)
+          absurd (subst (λ o. IsSomeAnd o (IsKeptOf old.schema analyzer old.block_size (additions (take i operations)) (addition_stamps first (take i operations)))) h.0 has)
       not_added OutOfMemory h = inr refl
       not_added (InvalidArgument argument.Documents) h = absurd (full old.kept has h.0)
         where
           full : (kept : Option Kept)
-              → IsSomeAnd kept (IsKeptOf old.schema analyzer (additions (take i operations)) (addition_stamps first (take i operations)))
+              → IsSomeAnd kept (IsKeptOf old.schema analyzer old.block_size (additions (take i operations)) (addition_stamps first (take i operations)))
               → IsSomeAnd kept IsFull → ⊥
           full None w f = f
           full (Some kept) w f =
@@ -148,7 +148,7 @@ module _ (schema : Schema) (analyzer : Analyzer) (first : ℕ) (operations : Lis
   were_taken = by writer.kept has
     where
       by : (kept : Option Kept)
-          → IsSomeAnd kept (IsKeptOf writer.schema analyzer (additions operations) (addition_stamps first operations))
+          → IsSomeAnd kept (IsKeptOf writer.schema analyzer writer.block_size (additions operations) (addition_stamps first operations))
           → list_all (is_taken schema analyzer) (additions operations) ≡ true
       by None k = absurd k
       by (Some kept) k = ap (λ s. list_all (is_taken s analyzer) (additions operations)) (sym same) ∙ k.taken

@@ -9,7 +9,6 @@ use Rattle.std.proofs.lemmas.List.{drop-drop, length-take-le, length-map, take-a
 use Rattle.std.proofs.lemmas.Option.{none-some}
 use Rattle.seg_common.proofs.Lists.{unnumbered}
 use Rattle.seg_values.specs.Tree.{Document}
-use Rattle.seg_values.specs.ValueBytes.{TermKey}
 use Rattle.seg_values.specs.declared.error.ArgumentCause.TheVariants.{Documents, Numbers}
 use Rattle.seg_values.specs.declared.error.TantivyError.{TantivyError}
 use Rattle.seg_values.specs.declared.error.TantivyError.TheVariants.{SchemaError, InvalidArgument, IndexAlreadyExists, OpenReadError, OpenWriteError, IoError, DataCorruption, SystemError, FieldNotFound, OutOfMemory}
@@ -30,6 +29,7 @@ use Rattle.seg_segment.specs.Standing.{StandFor}
 use Rattle.seg_segment.specs.declared.segment_files.SegmentFiles.{SegmentFiles}
 use Rattle.seg_batches.specs.Segments.{LacksSome, WrittenSegment, alive_of, segment_of}
 use Rattle.seg_batches.specs.Writing.{batch_between}
+use Rattle.seg_batches.specs.declared.term_target.TermTarget.{TermTarget}
 use Rattle.seg_batches.proofs.BatchTurns.{end_at}
 
 -- ---- which documents are alive
@@ -151,7 +151,7 @@ module _ (operations : List (UserOperation Document)) (first end : ℕ) where
     before_it : length (take first all) ≡ first
     before_it = length-take-le first all (omega (arith, rises, within, length-map operations operation_of))
 
-    module _ (schema : Schema) (analyzer : Analyzer) (queue : List (DeleteOperation TermKey))
+    module _ (schema : Schema) (analyzer : Analyzer) (queue : List (DeleteOperation TermTarget))
         (waits : as_operations queue ≡ stamped_deletes 0 all) (documents : ℕ)
         (counted : documents ≡ length (additions (map operation_of (slice_range operations first end))))
         (set : Option (List Bool)) where

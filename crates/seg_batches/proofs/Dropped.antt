@@ -1,10 +1,7 @@
--- The documents of postings, taken out of a set one by one.
-use Rattle.std.proofs.Common.{◌≡◌, ℕ, Bool, true, false, List, [], ◌∷◌, map, drop, refl, sym, ap, ◌∙◌}
-use Rattle.std.specs.Prelude.{◌||◌, ◌&&◌, ◌==◌, not, Some, None}
-use Rattle.std.proofs.lemmas.Option.{none-some}
+-- Numbers, taken out of a set one by one.
+use Rattle.std.proofs.Common.{◌≡◌, ℕ, zero, suc, ◌<◌, Bool, true, false, List, [], ◌∷◌, map, length, drop, get_or, refl, ap, ◌∙◌, arith}
+use Rattle.std.specs.Prelude.{◌||◌, ◌&&◌, ◌==◌, not}
 use Rattle.seg_model.specs.Reading.{Posting}
-use Rattle.seg_postings.specs.declared.record_kind.RecordKind.{RecordKind}
-use Rattle.seg_postings.specs.PostingsReading.{document_of, kept_kind_of}
 use Rattle.seg_removal.specs.Postings.{is_member}
 use Rattle.seg_batches.specs.Applying.{staying}
 use Rattle.seg_batches.proofs.Staying.{staying_twice, staying_all}
@@ -22,14 +19,13 @@ one_and_rest false e r = refl
 one_and_rest true true r = refl
 one_and_rest true false r = refl
 
--- the current document is taken out, then those after it
-pub dropped_more : (older : ℕ → Bool) (left : List Posting) (kind : RecordKind) (s : List Bool)
-    → kept_kind_of left ≡ Some kind
-    → staying (passes older (documents_of (drop 1 left))) (staying (passes older (document_of left ∷ [])) s) ≡ staying (passes older (documents_of left)) s
-dropped_more older [] kind s some = absurd (none-some kind some)
-dropped_more older (p ∷ ps) kind s some =
-    staying_twice (passes older (p.document ∷ [])) (passes older (documents_of ps)) (passes older (documents_of (p ∷ ps)))
-    (λ i. one_and_rest (older i) (i == p.document) (is_member i (documents_of ps))) s
+-- the number at a place is taken out, then those after it
+pub dropped_more : (older : ℕ → Bool) (ids : List ℕ) (at d : ℕ) (s : List Bool) → at < length ids
+    → staying (passes older (drop 1 (drop at ids))) (staying (passes older (get_or ids at d ∷ [])) s) ≡ staying (passes older (drop at ids)) s
+dropped_more older [] at d s lt = absurd (omega (arith, lt))
+dropped_more older (x ∷ ids) zero d s lt =
+    staying_twice (passes older (x ∷ [])) (passes older ids) (passes older (x ∷ ids)) (λ i. one_and_rest (older i) (i == x) (is_member i ids)) s
+dropped_more older (x ∷ ids) (suc at) d s lt = dropped_more older ids at d s (omega (arith, lt))
 
 none_passes : (d : Bool) → not (d && false) ≡ true
 none_passes true = refl
@@ -40,8 +36,3 @@ pub none_dropped : (older : ℕ → Bool) (ids : List ℕ) (s : List Bool) → i
 none_dropped older ids s none =
     ap (λ xs. staying (passes older xs) s) none
     ∙ staying_all (passes older []) s (λ i lt. none_passes (older i))
-
--- none is left
-pub all_dropped : (left : List Posting) → kept_kind_of left ≡ None → documents_of left ≡ []
-all_dropped [] none = refl
-all_dropped (p ∷ ps) none = absurd (none-some _ (sym none))

@@ -1,11 +1,10 @@
 -- What crates above may cite: all other modules are inner.
+pub use Rattle.seg_open.proofs.Exports.{both_full}
 pub use Rattle.seg_batches.proofs.AliveTold.{alive_fresh, all_tell}
-pub use Rattle.seg_batches.proofs.Applied.{both_full}
 pub use Rattle.seg_batches.proofs.BatchSteps.{if_refusal, length-alive_after, refusal_weaker}
 pub use Rattle.seg_batches.proofs.BatchesKeep.{all_stand}
 pub use Rattle.seg_batches.proofs.BatchesTold.{batches_fresh, batches_none, batches_told}
 pub use Rattle.seg_batches.proofs.Causes.{IsFirst, TellsRefusal}
 pub use Rattle.seg_batches.proofs.Left.{undamaged}
-pub use Rattle.seg_batches.proofs.ReadLaws.{EachRead, HoldsMarks, IsHeld, IsOf, Whole, segments_held, segments_of_schema, segments_rose, segments_so, segments_stay, segments_undamaged}
 pub use Rattle.seg_batches.proofs.SegmentTurns.{IsFew, all_few, all_taken}
 pub use Rattle.seg_batches.proofs.Started.{causes_tell, first_cause}

@@ -8,8 +8,8 @@ use Rattle.std.proofs.lemmas.Bool.{false≢true}
 use Rattle.std.proofs.lemmas.Option.{same_Some}
 use Rattle.seg_common.specs.declared.name.SegmentComponent.{SegmentComponent}
 use Rattle.seg_common.proofs.Lists.{drop-slice_get_none}
-use Rattle.seg_values.specs.ValueBytes.{TermKey}
 use Rattle.seg_values.specs.Tree.{Document}
+use Rattle.seg_meta.specs.Metas.{SegmentParts}
 use Rattle.seg_model.specs.Columns.{Columns, columns}
 use Rattle.seg_model.specs.Contents.{Contents, full_reading, reading_with}
 use Rattle.seg_model.specs.Fields.{Schema, Analyzer}
@@ -26,15 +26,15 @@ use Rattle.seg_segment.specs.SegmentFiles.{bytes_of}
 use Rattle.seg_segment.specs.Laws.{FilesSpellOneContents}
 use Rattle.seg_segment.specs.Spelling.{Spell}
 use Rattle.seg_open.specs.Disagreement.{Disagree, IsWhyNotOpen, up_to}
-use Rattle.seg_open.specs.SegmentOpened.{IsReaderOf}
 use Rattle.seg_open.specs.declared.open_error.OpenError.{OpenError}
 use Rattle.seg_open.specs.declared.open_error.OpenError.TheVariants.{Damaged}
 use Rattle.seg_segment.specs.declared.segment_files.SegmentFiles.{SegmentFiles}
-use Rattle.seg_batches.specs.Applying.{IsTold, left_by}
+use Rattle.seg_batches.specs.Applying.{IsTold, left_by, term_names}
 use Rattle.seg_batches.specs.Laws.{as_operations, AppliedDeletesLeaveTheAlive}
 use Rattle.seg_batches.specs.Indexing.{AreOfBatch}
 use Rattle.seg_batches.specs.Making.{AreWhole}
 use Rattle.seg_batches.specs.Waiting.{passed_below}
+use Rattle.seg_batches.specs.declared.term_target.TermTarget.{TermTarget}
 use Rattle.seg_batches.proofs.Passed.{batch_passes}
 
 -- ---- lists
@@ -78,6 +78,13 @@ made_whole schema analyzer documents files n made counted = record {
   counted = (read_of schema analyzer documents made.contents made.read).0 ∙ counted;
 }
 
+-- and so they are for a segment of this schema and number of documents
+pub whole_for : (segment : SegmentParts) (schema : Schema) (files : SegmentFiles) (n : ℕ)
+    → segment.schema ≡ schema → segment.meta.documents ≡ n → AreWhole schema files n
+    → AreWhole segment.schema files segment.meta.documents
+whole_for segment schema files n same counted whole =
+    subst (λ s. AreWhole s files segment.meta.documents) (sym same) (subst (AreWhole schema files) (sym counted) whole)
+
 module _ (given schema : Schema) (shared files : SegmentFiles) (n : ℕ) (same : given ≡ schema)
     (share : shared ≡ files) where
   -- files that are whole disagree nowhere
@@ -94,15 +101,6 @@ module _ (given schema : Schema) (shared files : SegmentFiles) (n : ℕ) (same :
       all [] = tt
       all (c ∷ cs) = (refl, all cs)
 
-  -- a reader has what they spell
-  pub reader_of : (reader : OpenSegment) → (reader.schema ≡ given) × (reader.documents ≡ n)
-      → Spell given shared (contents_of reader) → IsReaderOf schema n files reader
-  reader_of reader of spelled = record {
-    of_schema = of.0 ∙ same;
-    of_number = of.1;
-    spell = subst (λ s. Spell s files (contents_of reader)) same (subst (λ fs. Spell given fs (contents_of reader)) share spelled);
-  }
-
 -- ---- deletes that wait
 
 told_of : (n m : ℕ) (left alive : List Bool) (told : Option (List Bool)) → n ≡ m → left ≡ alive → IsTold n left told
@@ -111,12 +109,12 @@ told_of n m left alive told counted same h =
     subst (λ k. IsTold k alive told) counted (subst (λ l. IsTold n l told) same h)
 
 module _ (law : AppliedDeletesLeaveTheAlive) (schema : Schema) (analyzer : Analyzer) (before batch after : List Operation) (first : ℕ) (place : length before ≡ first) (stamps : Bor (List ℕ)) (are : stamps.now ≡ addition_stamps first batch)
-    (operations : List (DeleteOperation TermKey)) (all : as_operations operations ≡ stamped_deletes 0 (before ++ (batch ++ after))) (at : ℕ) (passed : passed_below first (take at operations)) where
+    (operations : List (DeleteOperation TermTarget)) (all : as_operations operations ≡ stamped_deletes 0 (before ++ (batch ++ after))) (at : ℕ) (passed : passed_below first (take at operations)) where
   counted : length (additions batch) ≡ length stamps.now
   counted = sym (ap length are ∙ length-additions first batch)
 
   -- those from a place on leave what no later operation removes
-  waiting_leave : left_by (all_terms schema analyzer (additions batch)) (WithMap stamps) (length (additions batch)) (drop at operations) ≡ alive_after schema analyzer batch after
+  waiting_leave : left_by (term_names (all_terms schema analyzer (additions batch))) (WithMap stamps) (length (additions batch)) (drop at operations) ≡ alive_after schema analyzer batch after
   waiting_leave = law schema analyzer before batch after stamps (take at operations) (drop at operations)
       (are ∙ ap (λ n. addition_stamps n batch) (sym place))
       (ap as_operations (take-append-drop at operations) ∙ all ∙ ap (stamped_deletes 0) (sym (append_assoc before batch after)))
@@ -126,22 +124,22 @@ module _ (law : AppliedDeletesLeaveTheAlive) (schema : Schema) (analyzer : Analy
   pub none_waits : drop at operations ≡ [] → IsTold (length stamps.now) (alive_after schema analyzer batch after) None
   none_waits none =
       sym waiting_leave
-      ∙ ap (left_by (all_terms schema analyzer (additions batch)) (WithMap stamps) (length (additions batch))) none
+      ∙ ap (left_by (term_names (all_terms schema analyzer (additions batch))) (WithMap stamps) (length (additions batch))) none
       ∙ all_pass 0 (length (additions batch))
       ∙ ap (λ n. replicate n true) counted
 
   -- what is told of those that a reader of the batch's files finds
   pub told_alive : FilesSpellOneContents
-      → (files : SegmentFiles) (reader : OpenSegment) (waiting : List (DeleteOperation TermKey)) (told : Option (List Bool))
+      → (files : SegmentFiles) (reader : OpenSegment) (waiting : List (DeleteOperation TermTarget)) (told : Option (List Bool))
       → StandFor schema analyzer (additions batch) files
-      → IsReaderOf schema (length stamps.now) files reader → waiting ≡ operations
-      → IsTold reader.documents (left_by (map terms_in reader.fields) (WithMap stamps) reader.documents (drop at waiting)) told
+      → Spell schema files (contents_of reader) → reader.documents ≡ length stamps.now → waiting ≡ operations
+      → IsTold reader.documents (left_by (term_names (map terms_in reader.fields)) (WithMap stamps) reader.documents (drop at waiting)) told
       → IsTold (length stamps.now) (alive_after schema analyzer batch after) told
-  told_alive one files reader waiting told made is same h =
+  told_alive one files reader waiting told made spelled number same h =
       let terms : map terms_in reader.fields ≡ all_terms schema analyzer (additions batch) =
-      ap (λ (c : Contents). c.terms) (one schema files (contents_of reader) made.contents is.spell made.spelled) ∙ (read_of schema analyzer (additions batch) made.contents made.read).1 in
-      told_of reader.documents (length stamps.now) (left_by (map terms_in reader.fields) (WithMap stamps) reader.documents (drop at waiting)) (alive_after schema analyzer batch after) told is.of_number
-      (ap (λ os. left_by (map terms_in reader.fields) (WithMap stamps) reader.documents (drop at os)) same
-      ∙ ap (λ ts. left_by ts (WithMap stamps) reader.documents (drop at operations)) terms
-      ∙ ap (λ n. left_by (all_terms schema analyzer (additions batch)) (WithMap stamps) n (drop at operations)) (is.of_number ∙ sym counted)
+      ap (λ (c : Contents). c.terms) (one schema files (contents_of reader) made.contents spelled made.spelled) ∙ (read_of schema analyzer (additions batch) made.contents made.read).1 in
+      told_of reader.documents (length stamps.now) (left_by (term_names (map terms_in reader.fields)) (WithMap stamps) reader.documents (drop at waiting)) (alive_after schema analyzer batch after) told number
+      (ap (λ os. left_by (term_names (map terms_in reader.fields)) (WithMap stamps) reader.documents (drop at os)) same
+      ∙ ap (λ ts. left_by (term_names ts) (WithMap stamps) reader.documents (drop at operations)) terms
+      ∙ ap (λ n. left_by (term_names (all_terms schema analyzer (additions batch))) (WithMap stamps) n (drop at operations)) (number ∙ sym counted)
       ∙ waiting_leave) h

@@ -1,6 +1,5 @@
 pub mod Exports
 mod Added
-mod AliveRead
 mod AliveSteps
 mod AliveTold
 mod AliveTurns
@@ -20,11 +19,9 @@ mod Leaving
 mod Left
 mod Marks
 mod Members
-mod Missing
+mod Named
 mod Names
 mod Passed
-mod ReadLaws
-mod ReadSteps
 mod Refused
 mod SegmentTurns
 mod Started

@@ -1,40 +1,11 @@
--- Marks of documents: how many are alive, whether all are, and whether one is not.
-use Rattle.std.proofs.Common.{◌≡◌, ℕ, zero, suc, ◌+◌, ◌-◌, ◌≤◌, Bool, true, false, List, [], ◌∷◌, length, replicate, Option, Some, None, refl, sym, ap, ◌∙◌, subst, arith}
+-- Marks of documents, and the deletes that they are listed as.
+use Rattle.std.proofs.Common.{◌≡◌, ℕ, ◌-◌, ◌≤◌, Bool, true, false, List, replicate, Option, Some, None, ap, ◌∙◌, subst, arith}
 use Rattle.std.specs.Prelude.{cond, not}
-use Rattle.std.specs.List.{Contains, count_by, list_all}
-use Rattle.std.proofs.lemmas.Bool.{false≢true}
-use Rattle.std.proofs.lemmas.List.Filters.{length-filter_both}
-use Rattle.std.proofs.lemmas.List.Sums.{length-filter, sum_by-cons}
+use Rattle.std.specs.List.{Contains, count_by}
 use Rattle.seg_bits.specs.BitSets.{member_count}
 use Rattle.seg_meta.specs.IndexOfFiles.{Deletes}
+use Rattle.seg_open.proofs.Exports.{all_alive, counts_both, some_lacks}
 use Rattle.seg_batches.specs.Segments.{LacksSome, alive_of, deletes_of}
-
--- those that are alive, and those that are not, are all
-pub counts_both : (set : List Bool) → member_count set + count_by not set ≡ length set
-counts_both set =
-    omega (arith, length-filter_both (λ b. b) not (λ b. refl) set, length-filter (λ b. b) set, length-filter not set)
-
--- ---- all
-
-pub all_alive : (n : ℕ) → list_all (λ b. b) (replicate n true) ≡ true
-all_alive zero = refl
-all_alive (suc n) = all_alive n
-
--- ---- not all
-
-module _ (b : Bool) (set : List Bool) where
-  count-cons : count_by not (b ∷ set) ≡ cond (not b) 1 0 + count_by not set
-  count-cons = sum_by-cons (λ x. cond (not x) 1 0) b set
-
-pub some_lacks : (set : List Bool) → Contains set false → (list_all (λ b. b) set ≡ false) × (1 ≤ count_by not set)
-some_lacks [] c = absurd (omega (arith, c.1))
-some_lacks (false ∷ set) c = (refl, omega (arith, count-cons false set))
-some_lacks (true ∷ set) (zero, lt, is) = absurd (false≢true (sym is))
-some_lacks (true ∷ set) (suc k, lt, is) =
-    let rest = some_lacks set (k, omega (arith, lt), is) in
-    (rest.0, omega (arith, rest.1, count-cons true set))
-
--- ---- deletes
 
 -- without a set there are none
 no_deletes : (stamp n : ℕ) → deletes_of stamp (replicate n true) ≡ None

@@ -43,6 +43,17 @@ all_from n f (b ∷ s) passes =
 pub staying_all : (f : ℕ → Bool) (s : List Bool) → ((i : ℕ) → i < length s → f i ≡ true) → staying f s ≡ s
 staying_all f s passes = all_from 0 f s (λ i ge lt. passes i (omega arith))
 
+alike_from : (n : ℕ) (f g : ℕ → Bool) (s : List Bool) → ((i : ℕ) → n ≤ i → i < n + length s → f i ≡ g i)
+    → staying_from n f s ≡ staying_from n g s
+alike_from n f g [] same = refl
+alike_from n f g (b ∷ s) same =
+    let here : (b && f n) ≡ (b && g n) = ap (λ c. b && c) (same n (omega arith) (omega arith)) in
+    λ j. here j ∷ alike_from (n + 1) f g s (λ i ge lt. same i (omega arith) (omega arith)) j
+
+-- two tests that agree on each number leave the same
+pub staying_alike : (f g : ℕ → Bool) (s : List Bool) → ((i : ℕ) → i < length s → f i ≡ g i) → staying f s ≡ staying g s
+staying_alike f g s same = alike_from 0 f g s (λ i ge lt. same i (omega arith))
+
 -- of the full set those stay that pass
 full_from : (n k : ℕ) (f : ℕ → Bool) → staying_from n f (replicate k true) ≡ map f (range_with_len n k)
 full_from n zero f = refl

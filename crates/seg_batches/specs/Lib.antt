@@ -3,7 +3,6 @@ pub mod Applying
 pub mod Indexing
 pub mod Laws
 pub mod Making
-pub mod Reading
 pub mod Segments
 pub mod Waiting
 pub mod Writing

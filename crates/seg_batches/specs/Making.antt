@@ -1,6 +1,5 @@
 -- Segments that are made of the documents of a batch.
 use Rattle.std.specs.Prelude.{ℕ, ◌≡◌, ◌<◌, ◌^◌, ◌++◌, List, length, Bool, Option, Result, IfOk}
-use Rattle.seg_values.specs.ValueBytes.{TermKey}
 use Rattle.seg_values.specs.declared.error.TantivyError.{TantivyError}
 use Rattle.seg_model.specs.Contents.{Contents}
 use Rattle.seg_model.specs.Fields.{Schema, Analyzer}
@@ -15,6 +14,7 @@ use Rattle.seg_model.specs.Telling.{Tells}
 use Rattle.seg_batches.specs.Applying.{IsTold}
 use Rattle.seg_batches.specs.Laws.{as_operations}
 use Rattle.seg_batches.specs.Waiting.{PassesEarlier}
+use Rattle.seg_batches.specs.declared.term_target.TermTarget.{TermTarget}
 
 -- six files spell contents of this many documents
 pub record AreWhole (schema : Schema) (files : SegmentFiles) (documents : ℕ) : Type 0 where
@@ -24,7 +24,7 @@ pub record AreWhole (schema : Schema) (files : SegmentFiles) (documents : ℕ) :
 
 -- what is told of the documents of a batch that deletes leave: of any batch that has these files and stamps, among all
 -- operations whose deletes wait
-abbrev pub IsLeft : Schema → SegmentFiles → ℕ → List ℕ → List (DeleteOperation TermKey) → Option (List Bool) → Type 0
+abbrev pub IsLeft : Schema → SegmentFiles → ℕ → List ℕ → List (DeleteOperation TermTarget) → Option (List Bool) → Type 0
 IsLeft schema files first stamps waiting told =
     (analyzer : Analyzer) (before batch after : List Operation) → length before ≡ first
     → StandFor schema analyzer (additions batch) files
@@ -34,14 +34,14 @@ IsLeft schema files first stamps waiting told =
 
 -- it is found which documents of a batch the deletes leave; its first operation has the place `first`
 pub record FindsLeft {E : Type 0} (schema : Schema) (files : SegmentFiles) (first : ℕ) (stamps : List ℕ)
-    (result : Result (Option (List Bool)) E) (old new : Queue TermKey) (cursor : ℕ) : Type 0 where
+    (result : Result (Option (List Bool)) E) (old new : Queue TermTarget) (cursor : ℕ) : Type 0 where
   pub left : IfOk result (IsLeft schema files first stamps old.operations)
   pub earlier : PassesEarlier first old new cursor
 
 -- the segment of a batch: its six files, how many documents it has, and what is told of those that deletes leave; its first
 -- operation has the place `first`
 pub record IsSegmentOf (schema : Schema) (analyzer : Analyzer) (first : ℕ) (operations : List Operation)
-    (waiting : List (DeleteOperation TermKey)) (files : SegmentFiles) (documents : ℕ) (told : Option (List Bool))
+    (waiting : List (DeleteOperation TermTarget)) (files : SegmentFiles) (documents : ℕ) (told : Option (List Bool))
     : Type 0 where
   pub stand : StandFor schema analyzer (additions operations) files
   pub number : documents ≡ length (additions operations)
@@ -52,6 +52,6 @@ pub record IsSegmentOf (schema : Schema) (analyzer : Analyzer) (first : ℕ) (op
 
 -- the segment of a batch is made, unless there is a cause, which is told
 pub record MakesSegment {T : Type 0} (cause : Option TantivyError) (first : ℕ) (result : Result T TantivyError)
-    (old new : Queue TermKey) (cursor : ℕ) : Type 0 where
+    (old new : Queue TermTarget) (cursor : ℕ) : Type 0 where
   pub tells : Tells cause result
   pub earlier : PassesEarlier first old new cursor

@@ -1,6 +1,6 @@
 -- The segments of batches, as they are listed, and the files that they are written to.
-use Rattle.std.specs.Prelude.{ℕ, ◌≡◌, List, [], ◌∷◌, map, length, Bool, not, true, false, replicate, Option, Some, None, if◌then◌else◌}
-use Rattle.std.specs.List.{Contains, flat_map, list_all, count_by}
+use Rattle.std.specs.Prelude.{ℕ, List, [], ◌∷◌, map, length, Bool, not, Option, Some, None, if◌then◌else◌}
+use Rattle.std.specs.List.{flat_map, list_all, count_by}
 use Rattle.seg_common.specs.declared.name.FileName.{FileName}
 use Rattle.seg_common.specs.declared.name.FileName.TheVariants.{Alive}
 use Rattle.seg_directory.specs.Files.{NamedFiles}
@@ -11,6 +11,7 @@ use Rattle.seg_model.specs.Operations.{Batch}
 use Rattle.seg_segment.specs.Forms.{segment_forms}
 use Rattle.seg_segment.specs.HoldsAlive.{HoldsAlive}
 use Rattle.seg_segment.specs.SegmentFiles.{segment_names}
+pub use Rattle.seg_open.specs.OpenSegment.{LacksSome, alive_of}
 
 -- ---- as they are listed
 
@@ -19,16 +20,6 @@ pub record WrittenSegment : Type 0 where
   pub id : ℕ
   pub documents : ℕ
   pub alive : List Bool
-
--- which of this many documents are alive: as a set says, or all where there is none
-abbrev pub alive_of : ℕ → Option (List Bool) → List Bool
-alive_of documents None = replicate documents true
-alive_of documents (Some set) = set
-
--- where there is a set it says of each of this many documents whether it is alive, and one is not
-abbrev pub LacksSome : ℕ → Option (List Bool) → Type 0
-LacksSome documents None = Unit {0}
-LacksSome documents (Some set) = (length set ≡ documents) × Contains set false
 
 -- the segment of a batch
 abbrev pub segment_of : ℕ → Batch → WrittenSegment

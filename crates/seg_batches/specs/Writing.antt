@@ -2,7 +2,6 @@
 use Rattle.std.specs.Prelude.{ℕ, ◌≡◌, ◌++◌, List, [], ◌∷◌, map, length, drop, slice_range, Option, Result, IfOk, OnOk}
 use Rattle.std.specs.List.{enumerate_from}
 use Rattle.std.specs.Option.{option_or}
-use Rattle.seg_values.specs.ValueBytes.{TermKey}
 use Rattle.seg_values.specs.declared.error.TantivyError.{TantivyError}
 use Rattle.seg_model.specs.Fields.{Schema, Analyzer}
 use Rattle.seg_model.specs.Operations.{Operation, Batch, additions, alive_after}
@@ -15,6 +14,7 @@ use Rattle.seg_segment.specs.Standing.{StandFor}
 use Rattle.seg_segment.specs.declared.segment_files.SegmentFiles.{SegmentFiles}
 use Rattle.seg_batches.specs.Segments.{WrittenSegment, segment_of}
 use Rattle.seg_batches.specs.Waiting.{PassesEarlier}
+use Rattle.seg_batches.specs.declared.term_target.TermTarget.{TermTarget}
 
 -- the batch of the operations from one place up to another, with what those after it leave alive
 abbrev pub batch_between : Schema → Analyzer → ℕ → ℕ → List Operation → Batch
@@ -56,7 +56,7 @@ pub record MakesBatch {T : Type 0} (cause : Option TantivyError) (schema : Schem
 
 -- and its segment is answered, while the deletes that wait are passed by; its first operation has the place `first`
 pub record WritesBatch (cause : Option TantivyError) (schema : Schema) (analyzer : Analyzer) (id first : ℕ)
-    (batch : Batch) (result : Result WrittenSegment TantivyError) (old new : Queue TermKey) (cursor : ℕ)
+    (batch : Batch) (result : Result WrittenSegment TantivyError) (old new : Queue TermTarget) (cursor : ℕ)
     (before after : DirectoryState) : Type 0 where
   pub does : MakesBatch cause schema analyzer id batch result before after
   pub segment : IfOk result (λ s. s ≡ segment_of id batch)

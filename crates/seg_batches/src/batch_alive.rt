@@ -1,20 +1,22 @@
 //! Which documents of a batch deletes leave.
-ghost use Rattle.std.specs.Prelude.{◌≡◌, ◌≤◌, ◌<◌, ◌^◌, true, length, map, take, drop, IfOk};
+ghost use Rattle.std.specs.Prelude.{◌≡◌, ◌≤◌, true, length, map, take, drop, IfOk};
 ghost use Rattle.seg_deletes.specs.declared.doc_opstamp_mapping.DocToOpstampMapping.TheVariants.{WithMap};
 ghost use Rattle.seg_segment.specs.Built.{is_built_schema};
 ghost use Rattle.seg_open.specs.OpenSegment.{terms_in};
-ghost use Rattle.seg_open.specs.SegmentOpened.{IsReaderOf};
-ghost use Rattle.seg_batches.specs.Applying.{IsTold, KeepsDeletes, left_by};
+ghost use Rattle.seg_open.specs.SegmentOpened.{HasFilesOf};
+ghost use Rattle.seg_batches.specs.Applying.{IsTold, KeepsDeletes, left_by, term_names};
 ghost use Rattle.seg_batches.specs.Making.{AreWhole, FindsLeft};
 ghost use Rattle.seg_batches.specs.Waiting.{SkipsEarlier, passed_below};
 
 use crate::applying::apply_deletes;
 use crate::laws::applied_deletes_leave_the_alive;
+use crate::term_target::TermTarget;
 use seg_bits::BitSet;
 use seg_deletes::{DeleteCursor, DeleteQueue, DocToOpstampMapping, Opstamp};
+use seg_meta::Segment;
 use seg_open::{OpenError, SegmentReader};
 use seg_segment::{SegmentFiles, files_spell_one_contents};
-use seg_values::{Schema, Term};
+use seg_values::{TResult, TantivyError};
 use std::alloc::{AllocError, Global};
 
 /// Which documents of a segment the deletes of a queue leave, and `None` where they leave all. The files are those of a
@@ -24,31 +26,37 @@ use std::alloc::{AllocError, Global};
 /// of a later one. Where none is left the files aren't opened.
 pub(crate) fn alive_documents(
     alloc: Global,
-    schema: &Schema,
+    segment: &Segment,
     files: &SegmentFiles,
     first: Opstamp,
     stamps: &[Opstamp],
-    queue: &mut DeleteQueue<Term>,
+    queue: &mut DeleteQueue<TermTarget>,
     cursor: &mut DeleteCursor,
-) -> Result<Option<BitSet>, AllocError>
-    requires built { is_built_schema schema.now ≡ true }
-    requires few { length stamps.now < 2 ^ 31 }
-    requires whole { AreWhole schema.now files.now (length stamps.now) }
+) -> TResult<Option<BitSet>>
+    requires built { is_built_schema segment.now.schema ≡ true }
+    requires number { segment.now.meta.documents ≡ length stamps.now }
+    requires whole { AreWhole segment.now.schema files.now segment.now.meta.documents }
     requires cursor { cursor.old ≤ queue.old.flushed }
     requires passed { passed_below first (take cursor.old queue.old.operations) }
-    ensures { FindsLeft schema.now files.now first stamps.now result queue.old queue.new cursor.new }
+    ensures { FindsLeft segment.now.schema files.now first stamps.now result queue.old queue.new cursor.new }
 {
     applied_deletes_leave_the_alive();
     files_spell_one_contents();
     if !skip_earlier(queue, cursor, first) {
         return Ok(None);
     }
-    let reader = open_made(alloc, schema, stamps.len() as u32, files)?;
+    let Ok(reader) = open_made(alloc, segment, files) else {
+        return Err(TantivyError::OutOfMemory);
+    };
     apply_from(alloc, reader, queue, *cursor, stamps)
 }
 
 /// Takes the cursor past the deletes with smaller stamps; whether another one is there.
-fn skip_earlier(queue: &mut DeleteQueue<Term>, cursor: &mut DeleteCursor, first: Opstamp) -> bool
+fn skip_earlier(
+    queue: &mut DeleteQueue<TermTarget>,
+    cursor: &mut DeleteCursor,
+    first: Opstamp,
+) -> bool
     requires cursor { cursor.old ≤ queue.old.flushed }
     requires passed { passed_below first (take cursor.old queue.old.operations) }
     ensures { SkipsEarlier first result queue.old queue.new cursor.new }
@@ -60,15 +68,14 @@ fn skip_earlier(queue: &mut DeleteQueue<Term>, cursor: &mut DeleteCursor, first:
 /// A reader of files that were just made.
 fn open_made(
     alloc: Global,
-    schema: &Schema,
-    max_doc: u32,
+    segment: &Segment,
     files: &SegmentFiles,
 ) -> Result<SegmentReader, AllocError>
-    requires built { is_built_schema schema.now ≡ true }
-    requires whole { AreWhole schema.now files.now max_doc }
-    ensures { IfOk result (IsReaderOf schema.now max_doc files.now) }
+    requires built { is_built_schema segment.now.schema ≡ true }
+    requires whole { AreWhole segment.now.schema files.now segment.now.meta.documents }
+    ensures { IfOk result (HasFilesOf segment.now files.now) }
 {
-    match SegmentReader::open_files(alloc, schema.share(), max_doc, files.share()) {
+    match SegmentReader::open_files(alloc, segment, files.share()) {
         Ok(reader) => Ok(reader),
         Err(OpenError::OutOfMemory) => Err(AllocError),
         Err(OpenError::Damaged(_)) => unreachable!(),
@@ -79,16 +86,17 @@ fn open_made(
 fn apply_from(
     alloc: Global,
     reader: SegmentReader,
-    queue: &mut DeleteQueue<Term>,
+    queue: &mut DeleteQueue<TermTarget>,
     mut cursor: DeleteCursor,
     stamps: &[Opstamp],
-) -> Result<Option<BitSet>, AllocError>
+) -> TResult<Option<BitSet>>
     requires stamps { length stamps.now ≡ reader.documents }
     requires cursor { cursor ≤ queue.old.flushed }
-    ensures left { IfOk result (IsTold reader.documents
-        (left_by (map terms_in reader.fields) (WithMap stamps.entry) reader.documents (drop cursor queue.old.operations))) }
+    ensures left { IfOk result (IsTold reader.documents (left_by (term_names (map terms_in reader.fields))
+        (WithMap stamps.entry) reader.documents (drop cursor queue.old.operations))) }
     ensures keeps { KeepsDeletes queue.old queue.new }
 {
     let mapping = DocToOpstampMapping::WithMap(stamps);
-    apply_deletes(alloc, &reader, queue, &mut cursor, &mapping)
+    let mut reader = reader;
+    apply_deletes(alloc, &mut reader, queue, &mut cursor, &mapping)
 }

@@ -12,14 +12,15 @@ ghost use Rattle.seg_batches.specs.Writing.{batch_cause};
 
 use crate::batch_alive::alive_documents;
 use crate::batch_indexing::{index_batch, new_writer};
+use crate::term_target::TermTarget;
 use seg_bits::BitSet;
 use seg_build::MemorySegment;
 use seg_common::SegmentId;
 use seg_deletes::{DeleteCursor, DeleteQueue, Opstamp};
 use seg_input::UserOperation;
-use seg_meta::IndexSettings;
+use seg_meta::{IndexSettings, Segment, SegmentMeta};
 use seg_segment::SegmentFiles;
-use seg_values::{Schema, TResult, TantivyDocument, TantivyError, Term};
+use seg_values::{Schema, TResult, TantivyDocument, TantivyError};
 use seg_words::Analyzers;
 use std::alloc::Global;
 
@@ -45,7 +46,7 @@ pub(crate) fn make_batch<Z: Analyzers>(
     id: SegmentId,
     first: Opstamp,
     operations: &[UserOperation<TantivyDocument>],
-    queue: &mut DeleteQueue<Term>,
+    queue: &mut DeleteQueue<TermTarget>,
     cursor: &mut DeleteCursor,
 ) -> TResult<MadeBatch>
     requires built { is_built_schema schema.now ≡ true }
@@ -59,12 +60,14 @@ pub(crate) fn make_batch<Z: Analyzers>(
         first result queue.old queue.new cursor.new }
 {
     let (files, stamps) = batch_files(alloc, schema, settings, analyzers, id, first, operations)?;
-    let Ok(alive) = alive_documents(alloc, schema, &files, first, &stamps, queue, cursor) else {
+    let max_doc = stamps.len() as u32;
+    let segment = Segment::new(schema.share(), SegmentMeta::new(id, max_doc, None));
+    let Ok(alive) = alive_documents(alloc, &segment, &files, first, &stamps, queue, cursor) else {
         return Err(TantivyError::OutOfMemory);
     };
     Ok(MadeBatch {
         files,
-        max_doc: stamps.len() as u32,
+        max_doc,
         alive,
     })
 }

@@ -16,13 +16,14 @@ ghost use Rattle.seg_batches.specs.Writing.{MakesBatches, WritesBatch, batch_bet
 
 use crate::batch_making::{MadeBatch, make_batch};
 use crate::delete_queue::delete_queue;
+use crate::term_target::TermTarget;
 use crate::written_segment::WrittenSegment;
 use seg_common::SegmentId;
 use seg_deletes::{DeleteCursor, DeleteQueue, Opstamp};
 use seg_directory::Directory;
 use seg_input::UserOperation;
 use seg_meta::IndexSettings;
-use seg_values::{Schema, TResult, TantivyDocument, TantivyError, Term};
+use seg_values::{Schema, TResult, TantivyDocument, TantivyError};
 use seg_words::Analyzers;
 use std::alloc::{AllocError, Global};
 
@@ -108,7 +109,7 @@ fn write_batch<Z: Analyzers, W: Directory>(
     operations: &[UserOperation<TantivyDocument>],
     first: usize,
     end: usize,
-    queue: &mut DeleteQueue<Term>,
+    queue: &mut DeleteQueue<TermTarget>,
     cursor: &mut DeleteCursor,
     directory: &mut W,
 ) -> TResult<WrittenSegment>

@@ -3,6 +3,7 @@ ghost use Rattle.std.specs.Prelude.{◌≡◌, map, IfOk, OnOk};
 ghost use Rattle.seg_input.specs.View.{operation_of};
 ghost use Rattle.seg_batches.specs.Waiting.{AllWait, IsQueued};
 
+use crate::term_target::TermTarget;
 use seg_deletes::{DeleteOperation, DeleteQueue, Opstamp};
 use seg_input::UserOperation;
 use seg_values::{TantivyDocument, Term};
@@ -12,7 +13,7 @@ use std::alloc::{AllocError, Global};
 pub(crate) fn delete_queue(
     alloc: Global,
     operations: &[UserOperation<TantivyDocument>],
-) -> Result<DeleteQueue<Term>, AllocError>
+) -> Result<DeleteQueue<TermTarget>, AllocError>
     ensures { IfOk result (AllWait (map operation_of operations.now)) }
 {
     let mut queue = DeleteQueue::new(alloc);
@@ -27,14 +28,14 @@ fn push_delete(
     alloc: Global,
     opstamp: Opstamp,
     operation: &UserOperation<TantivyDocument>,
-    queue: &mut DeleteQueue<Term>,
+    queue: &mut DeleteQueue<TermTarget>,
 ) -> Result<(), AllocError>
     ensures { OnOk result (IsQueued opstamp (operation_of operation.now) queue.old queue.new) }
 {
     match operation {
         UserOperation::Add(_) => Ok(()),
         UserOperation::Delete(term) => {
-            let target = copied_term(alloc, term)?;
+            let target = TermTarget(copied_term(alloc, term)?);
             let Ok(()) = queue.push(DeleteOperation { opstamp, target }) else {
                 return Err(AllocError);
             };

@@ -1,5 +1,5 @@
 //! Several term dictionaries, merged.
-ghost use Rattle.std.specs.Prelude.{◌≡◌, All, IfOk};
+ghost use Rattle.std.specs.Prelude.{◌≡◌, false, All, IfOk};
 
 use seg_common::OwnedBytes;
 use seg_termdict::{TermDictError, TermDictionary, TermMerger, TermStreamer};
@@ -52,7 +52,8 @@ fn streams_of<'a>(
     alloc: Global,
     dictionaries: &'a [TermDictionary],
 ) -> Result<Vec<TermStreamer<'a>>, AllocError>
-    ensures { IfOk result (λ streams. All (λ s. s.taken ≡ 0) streams.items) }
+    ensures fresh { IfOk result (λ streams. All (λ s. s.taken ≡ 0) streams.items) }
+    ensures forward { IfOk result (λ streams. All (λ s. s.backward ≡ false) streams.items) }
 {
     let mut streams = Vec::new(alloc);
     for dictionary in dictionaries {

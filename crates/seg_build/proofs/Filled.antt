@@ -18,10 +18,11 @@ use Rattle.seg_build.specs.SegmentWriting.{IsKeptOf}
 use Rattle.seg_segment.specs.Serializing.{Serializing, IsNormsFile, IsLaidOut}
 use Rattle.seg_segment.specs.Standing.{StandFor}
 use Rattle.seg_build.specs.StoredBatch.{IsStoredBatch}
+use Rattle.seg_build.specs.StoredBlocks.{HasBlocks}
 use Rattle.seg_build.specs.Totals.{TotalsAreCounts}
 use Rattle.seg_build.specs.declared.fields.IndexedBatch.{IndexedBatch}
 use Rattle.seg_segment.specs.declared.segment_files.SegmentFiles.{SegmentFiles}
-use Rattle.seg_build.proofs.KeptBatch.{listed, is_stored_batch}
+use Rattle.seg_build.proofs.KeptBatch.{has_blocks, listed, is_stored_batch}
 use Rattle.seg_build.proofs.Standing.{Spells, stands}
 
 of_norms : (P : List ℕ → Type 0) (o : Option (List ℕ)) (file : List ℕ) → IsSomeAnd o P → IsNormsFile o file → P file
@@ -35,9 +36,9 @@ module _ (segment : SegmentParts) (store : Option Taken) (batch : IndexedBatch) 
   pub made_totals : TotalsAreCounts files.postings batch.fields
   made_totals = both.1
 
-module _ (segment : SegmentParts) (analyzer : Analyzer) (built : is_built_schema segment.schema ≡ true) (documents : List Document) (stamps : List ℕ) (kept : Kept) (are : IsKeptOf segment.schema analyzer documents stamps kept) (batch : IndexedBatch) (count : ℕ) (fields : batch.fields ≡ recorded_fields segment.schema (listed kept.fields)) (norms : HasGrown kept.norms batch.norms (map (option_map (filled count)))) (many : count ≡ length kept.stamps) (new : Serializing) (is_filled : IsFilled segment kept.store batch count new) (files : SegmentFiles) (laid : IsLaidOut new files) where
+module _ (segment : SegmentParts) (analyzer : Analyzer) (built : is_built_schema segment.schema ≡ true) (size : ℕ) (documents : List Document) (stamps : List ℕ) (kept : Kept) (are : IsKeptOf segment.schema analyzer size documents stamps kept) (batch : IndexedBatch) (count : ℕ) (fields : batch.fields ≡ recorded_fields segment.schema (listed kept.fields)) (norms : HasGrown kept.norms batch.norms (map (option_map (filled count)))) (many : count ≡ length kept.stamps) (new : Serializing) (is_filled : IsFilled segment kept.store batch count new) (files : SegmentFiles) (laid : IsLaidOut new files) where
   stored : IsStoredBatch segment.schema analyzer documents batch count files.store
-  stored = is_stored_batch segment.schema analyzer built documents stamps kept are batch count files.store fields norms many (laid.store ∙ ap (option_map all_blocks) (sym laid.stored ∙ is_filled.store_is))
+  stored = is_stored_batch segment.schema analyzer built size documents stamps kept are batch count files.store fields norms many (laid.store ∙ ap (option_map all_blocks) (sym laid.stored ∙ is_filled.store_is))
 
   spells : Spells segment.schema batch documents files
   spells = record {
@@ -49,3 +50,6 @@ module _ (segment : SegmentParts) (analyzer : Analyzer) (built : is_built_schema
 
   pub made_stand : StandFor segment.schema analyzer documents files
   made_stand = stands segment.schema analyzer documents stored.built stored.utf8 batch files stored.indexed spells
+
+  pub made_blocks : HasBlocks segment.schema size documents files.store
+  made_blocks = has_blocks segment.schema analyzer built size documents stamps kept are files.store (laid.store ∙ ap (option_map all_blocks) (sym laid.stored ∙ is_filled.store_is))

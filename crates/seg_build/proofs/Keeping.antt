@@ -24,6 +24,7 @@ use Rattle.seg_build.specs.Lengths.{HaveLengths, with_lengths}
 use Rattle.seg_build.specs.MemoryUsage.{total, occurrence_count, text_count}
 use Rattle.seg_build.specs.SegmentWriting.{kept_of, Stores, IsKeptOf, IsUnderWay, HasPlace, Adds, HasRoom, HasTaken}
 use Rattle.seg_build.specs.Steps.{AllFit, fresh, indexed_part, with_documents, with_pairs, with_texts}
+use Rattle.seg_build.specs.StoredBlocks.{stored_with}
 use Rattle.seg_build.specs.declared.field.FieldPostings.{FieldPostings}
 use Rattle.seg_build.specs.declared.writer_parts.WriterParts.{WriterParts}
 use Rattle.seg_common.proofs.Lists.{all_push}
@@ -65,7 +66,7 @@ if_some : {X : Type 0} (P : X → Type 0) (o : Option X) → IsSomeAnd o P → I
 if_some P (Some x) h = h
 if_some P None h = absurd h
 
-module _ (schema : Schema) (analyzer : Analyzer) (entries : is_built_schema schema ≡ true) (documents : List Document) (d : Document) (taken : is_taken schema analyzer d ≡ true) (utf8 : IsUtf8Document d) (stamps : List ℕ) (stamp : ℕ) (old : Kept) (are : IsKeptOf schema analyzer documents stamps old) (place : HasPlace old) where
+module _ (schema : Schema) (analyzer : Analyzer) (entries : is_built_schema schema ≡ true) (documents : List Document) (d : Document) (taken : is_taken schema analyzer d ≡ true) (utf8 : IsUtf8Document d) (size : ℕ) (stamps : List ℕ) (stamp : ℕ) (old : Kept) (are : IsKeptOf schema analyzer size documents stamps old) (place : HasPlace old) where
   abbrev all : List Document
   all = documents ++ d ∷ []
 
@@ -100,7 +101,7 @@ module _ (schema : Schema) (analyzer : Analyzer) (entries : is_built_schema sche
         subst (λ (n : ℕ). AllFit n old.fields (map (text_in d) found)) (sym count)
         (subst (λ (fs : List FieldPostings). AllFit many fs (map (text_in d) found)) (sym are.fields)
         (subst (λ (ts : List (ℕ × List Token)). AllFit many (with_documents schema analyzer 0 (map (λ _. fresh) schema) documents) ts) (sym texts_are) fit));
-    store = if_some _ old.store (weaker (Stores schema documents) (λ w. taken_count w < 2 ^ 31 - 1) old.store (λ w s. omega (arith, s.count, few)) are.store);
+    store = if_some _ old.store (weaker (Stores schema size documents) (λ w. taken_count w < 2 ^ 31 - 1) old.store (λ w s. omega (arith, s.count, few)) are.store);
   }
 
   module _ (in_order : AreTakenLast) (found : List FieldText) (found_are : map (text_in d) found ≡ document_texts schema analyzer d) (new : Kept) (took : HasTaken schema d found stamp old new) where
@@ -130,9 +131,9 @@ module _ (schema : Schema) (analyzer : Analyzer) (entries : is_built_schema sche
     here : drop many all ≡ d ∷ drop (many + 1) all
     here = drop-front documents d
 
-    stored : IsSomeAnd new.store (HasStored schema all (many + 1))
-    stored = stored_turn in_order schema all many d (omega (arith, more)) (get_or-last documents d) (stored_form schema d) old.store new.store took.store refl took.reads
-        (weaker (Stores schema documents) (HasStored schema all many) old.store (λ w s. record { read = s.read ∙ ap (map (stored_document schema)) (sym before); taken = s.count; forms = s.forms ∙ ap (map (stored_form schema)) (sym before) }) are.store)
+    stored : IsSomeAnd new.store (HasStored schema size all (many + 1))
+    stored = stored_turn in_order schema size all many d (omega (arith, more)) (get_or-last documents d) (stored_form schema d) old.store new.store took.store refl took.reads
+        (weaker (Stores schema size documents) (HasStored schema size all many) old.store (λ w s. record { read = s.read ∙ ap (map (stored_document schema)) (sym before); taken = s.count; forms = s.forms ∙ ap (map (stored_form schema)) (sym before); cut = s.cut ∙ ap (λ ds. stored_with size (map (stored_form schema) ds)) (sym before) }) are.store)
 
     fields_now : new.fields ≡ with_documents schema analyzer 0 (map (λ _. fresh) schema) all
     fields_now = fields_turn schema analyzer all many within entries d here (map (λ _. fresh) schema) old.fields new.fields now after ∙ ap (with_documents schema analyzer 0 (map (λ _. fresh) schema)) whole
@@ -161,7 +162,7 @@ module _ (schema : Schema) (analyzer : Analyzer) (entries : is_built_schema sche
         let sum = all_added many (length schema) old.fields texts as_many_before within_fields in
         omega (arith, ap (total (count_in many)) put, sum, none_before, recorded)
 
-    pub one_more : IsKeptOf schema analyzer (documents ++ d ∷ []) (stamps ++ stamp ∷ []) new
+    pub one_more : IsKeptOf schema analyzer size (documents ++ d ∷ []) (stamps ++ stamp ∷ []) new
     one_more = record {
       taken = all-last (is_taken schema analyzer) documents d are.taken taken;
       few = omega (arith, few, more);
@@ -171,7 +172,7 @@ module _ (schema : Schema) (analyzer : Analyzer) (entries : is_built_schema sche
           (lengths_turn schema analyzer all many within entries d here (map (λ _. fresh) schema) old.fields new.fields refl now after as_many (map (λ (t : FieldText). t.field) found) places old.norms new.norms
           (subst (λ ds. IsSomeAnd old.norms (HaveLengths schema analyzer ds)) (sym before) are.norms)
           (took.norms ∙ ap (λ n. option_map (with_lengths n new.fields (map (λ (t : FieldText). t.field) found)) old.norms) count));
-      store = weaker (HasStored schema all (many + 1)) (Stores schema all) new.store (λ w s. record { read = s.read ∙ ap (map (stored_document schema)) whole; count = s.taken ∙ sym more; forms = s.forms ∙ ap (map (stored_form schema)) whole }) stored;
+      store = weaker (HasStored schema size all (many + 1)) (Stores schema size all) new.store (λ w s. record { read = s.read ∙ ap (map (stored_document schema)) whole; count = s.taken ∙ sym more; forms = s.forms ∙ ap (map (stored_form schema)) whole; cut = s.cut ∙ ap (λ ds. stored_with size (map (stored_form schema) ds)) whole }) stored;
       stamped = took.stamps ∙ ap (λ l. l ++ stamp ∷ []) are.stamped;
       each = omega (arith, length-append stamps (stamp ∷ []), more, are.each);
       occurrences = omega (arith, counted_as, took.occurrences, are.occurrences, total-last (occurrence_count schema analyzer) documents d);
@@ -191,7 +192,7 @@ module _ (schema : Schema) (analyzer : Analyzer) (entries : is_built_schema sche
 
   -- a writer under way can take one more document
   pub room_of : (texts : List FieldText) → map (text_in d) texts ≡ document_texts schema analyzer d → IfSome parts (λ p. IsUnderWay schema analyzer (kept_of p)) → HasRoom d texts (kept_of p)
-  room_of texts texts_are h = let u = under h in has_room schema analyzer entries u.documents d taken utf8 u.stamps stamp (kept_of p) u.are place texts texts_are
+  room_of texts texts_are h = let u = under h in has_room schema analyzer entries u.documents d taken utf8 u.block_size u.stamps stamp (kept_of p) u.are place texts texts_are
 
   module _ (in_order : AreTakenLast) (texts : List FieldText) (texts_are : map (text_in d) texts ≡ document_texts schema analyzer d) (new : WriterParts) (took : HasTaken schema d texts stamp (kept_of p) (kept_of new)) where
     -- is under way after it
@@ -199,15 +200,16 @@ module _ (schema : Schema) (analyzer : Analyzer) (entries : is_built_schema sche
     still_under_way h =
         let u = under h in
         record {
+          block_size = u.block_size;
           documents = u.documents ++ d ∷ [];
           stamps = u.stamps ++ stamp ∷ [];
-          are = one_more schema analyzer entries u.documents d taken utf8 u.stamps stamp (kept_of p) u.are place in_order texts texts_are (kept_of new) took;
+          are = one_more schema analyzer entries u.documents d taken utf8 u.block_size u.stamps stamp (kept_of p) u.are place in_order texts texts_are (kept_of new) took;
         }
 
     -- and has added it
-    pub adds : (id : ℕ) → Adds analyzer d stamp (record { schema = schema; id = id; kept = option_map kept_of parts }) (record { schema = schema; id = id; kept = Some (kept_of new) })
-    adds id = record {
+    pub adds : (id size : ℕ) → Adds analyzer d stamp (record { schema = schema; id = id; block_size = size; kept = option_map kept_of parts }) (record { schema = schema; id = id; block_size = size; kept = Some (kept_of new) })
+    adds id size = record {
       place = to_parts HasPlace parts p is place;
       taken = taken;
-      behind = λ documents stamps h. one_more schema analyzer entries documents d taken utf8 stamps stamp (kept_of p) (of_parts (IsKeptOf schema analyzer documents stamps) parts p is h) place in_order texts texts_are (kept_of new) took;
+      behind = λ documents stamps h. one_more schema analyzer entries documents d taken utf8 size stamps stamp (kept_of p) (of_parts (IsKeptOf schema analyzer size documents stamps) parts p is h) place in_order texts texts_are (kept_of new) took;
     }

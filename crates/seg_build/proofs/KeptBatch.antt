@@ -8,6 +8,7 @@ use Rattle.std.proofs.lemmas.Bool.{and_from}
 use Rattle.std.proofs.lemmas.List.{length-map}
 use Rattle.seg_common.specs.Growing.{HasGrown}
 use Rattle.seg_values.specs.declared.schema.FieldEntry.{FieldEntry}
+use Rattle.seg_values.specs.StoredForm.{stored_form}
 use Rattle.seg_values.specs.Tree.{Document}
 use Rattle.seg_model.specs.Built.{is_taken}
 use Rattle.seg_model.specs.Fields.{Schema, Analyzer}
@@ -25,6 +26,7 @@ use Rattle.seg_build.specs.Lengths.{HaveLengths}
 use Rattle.seg_build.specs.SegmentWriting.{Stores, IsKeptOf}
 use Rattle.seg_build.specs.Steps.{fresh}
 use Rattle.seg_build.specs.StoredBatch.{IsStoredBatch}
+use Rattle.seg_build.specs.StoredBlocks.{HasBlocks, stored_with}
 use Rattle.seg_build.specs.Writable.{PositionsCanBeWritten}
 use Rattle.seg_build.specs.declared.field.FieldPostings.{FieldPostings}
 use Rattle.seg_build.specs.declared.fields.IndexedBatch.{IndexedBatch}
@@ -36,11 +38,15 @@ use Rattle.seg_build.proofs.WritableTerms.{built_terms_can_be_written}
 abbrev pub listed : List FieldPostings → List TermEntries
 listed fields = map (λ f. entries f.terms) fields
 
-read_from : (schema : Schema) (documents : List Document) (o : Option Taken) (file : Option (List Block)) → file ≡ option_map all_blocks o → IsSomeAnd o (Stores schema documents) → option_map documents_of file ≡ Some (map (stored_document schema) documents)
-read_from schema documents (Some w) file is so = ap (option_map documents_of) is ∙ ap Some so.read
-read_from schema documents None file is so = absurd so
+read_from : (schema : Schema) (size : ℕ) (documents : List Document) (o : Option Taken) (file : Option (List Block)) → file ≡ option_map all_blocks o → IsSomeAnd o (Stores schema size documents) → option_map documents_of file ≡ Some (map (stored_document schema) documents)
+read_from schema size documents (Some w) file is so = ap (option_map documents_of) is ∙ ap Some so.read
+read_from schema size documents None file is so = absurd so
 
-module _ (schema : Schema) (analyzer : Analyzer) (built : is_built_schema schema ≡ true) (documents : List Document) (stamps : List ℕ) (kept : Kept) (are : IsKeptOf schema analyzer documents stamps kept) where
+cut_from : (schema : Schema) (size : ℕ) (documents : List Document) (o : Option Taken) (file : Option (List Block)) → file ≡ option_map all_blocks o → IsSomeAnd o (Stores schema size documents) → file ≡ Some (all_blocks (stored_with size (map (stored_form schema) documents)))
+cut_from schema size documents (Some w) file is so = is ∙ ap (λ (t : Taken). Some (all_blocks t)) so.cut
+cut_from schema size documents None file is so = absurd so
+
+module _ (schema : Schema) (analyzer : Analyzer) (built : is_built_schema schema ≡ true) (size : ℕ) (documents : List Document) (stamps : List ℕ) (kept : Kept) (are : IsKeptOf schema analyzer size documents stamps kept) where
   are_all_built : are_built schema analyzer documents ≡ true
   are_all_built = and_from (is_built_schema schema) (list_all (is_taken schema analyzer) documents) built are.taken
 
@@ -76,5 +82,9 @@ module _ (schema : Schema) (analyzer : Analyzer) (built : is_built_schema schema
     utf8 = are.utf8;
     indexed = record { fields = are_fields batch.fields fields; norms = all_lengths batch.norms count norms many };
     counted = many ∙ ap length are.stamped ∙ are.each;
-    stored = read_from schema documents kept.store (store_of store) file are.store;
+    stored = read_from schema size documents kept.store (store_of store) file are.store;
   }
+
+  -- and its blocks are cut by their size
+  pub has_blocks : (store : List ℕ) → store_of store ≡ option_map all_blocks kept.store → HasBlocks schema size documents store
+  has_blocks store file = cut_from schema size documents kept.store (store_of store) file are.store

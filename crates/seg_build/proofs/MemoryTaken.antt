@@ -86,20 +86,20 @@ bytes-taken w =
     ∙ sym (bytes-append (flat_map (λ (b : Block). b) w.closed) (flat_map (λ (b : Block). b) (last_block w.open_block)))
     ∙ ap byte_count (sym (flat_map-append (λ (b : Block). b) w.closed (last_block w.open_block)))
 
-bytes-stored : (schema : Schema) (documents : List Document) (o : Option Taken) → IsSomeAnd o (Stores schema documents) → taken_bytes o ≡ byte_count (map (stored_form schema) documents)
-bytes-stored schema documents (Some w) so = bytes-taken w ∙ ap byte_count so.forms
-bytes-stored schema documents None so = absurd so
+bytes-stored : (schema : Schema) (size : ℕ) (documents : List Document) (o : Option Taken) → IsSomeAnd o (Stores schema size documents) → taken_bytes o ≡ byte_count (map (stored_form schema) documents)
+bytes-stored schema size documents (Some w) so = bytes-taken w ∙ ap byte_count so.forms
+bytes-stored schema size documents None so = absurd so
 
 -- ---- the formula
 
 by_parts : (stored all occurrences most a b c r : ℕ) → occurrences ≡ saturated all → a ≡ min (occurrences * 16) (2 ^ 64 - 1) → b ≡ min (stored + a) (2 ^ 64 - 1) → c ≡ min most (2 ^ 64 - 1) → r ≡ min (b + c) (2 ^ 64 - 1) → r ≡ saturated (stored + 16 * all + most)
 by_parts stored all occurrences most a b c r o a_is b_is c_is r_is = omega (arith, o, a_is, b_is, c_is, r_is)
 
-module _ (schema : Schema) (analyzer : Analyzer) (documents : List Document) (stamps : List ℕ) (kept : Kept) (are : IsKeptOf schema analyzer documents stamps kept) where
+module _ (schema : Schema) (analyzer : Analyzer) (size : ℕ) (documents : List Document) (stamps : List ℕ) (kept : Kept) (are : IsKeptOf schema analyzer size documents stamps kept) where
   -- what is added up is the formula
   pub usage_is : (stored count lengths a b c r : ℕ) → stored ≡ taken_bytes kept.store → count ≡ length kept.stamps → lengths ≡ length_fields schema
       → a ≡ min (kept.occurrences * 16) (2 ^ 64 - 1) → b ≡ min (stored + a) (2 ^ 64 - 1) → c ≡ min (count * lengths) (2 ^ 64 - 1) → r ≡ min (b + c) (2 ^ 64 - 1)
       → r ≡ saturated (memory_usage schema analyzer documents)
   usage_is stored count lengths a b c r stored_is count_is lengths_is a_is b_is c_is r_is =
       by_parts stored (total (occurrence_count schema analyzer) documents) kept.occurrences (count * lengths) a b c r are.occurrences a_is b_is c_is r_is
-      ∙ (λ i. saturated ((stored_is ∙ bytes-stored schema documents kept.store are.store) i + 16 * total (occurrence_count schema analyzer) documents + (count_is ∙ ap length are.stamped ∙ are.each) i * lengths_is i))
+      ∙ (λ i. saturated ((stored_is ∙ bytes-stored schema size documents kept.store are.store) i + 16 * total (occurrence_count schema analyzer) documents + (count_is ∙ ap length are.stamped ∙ are.each) i * lengths_is i))

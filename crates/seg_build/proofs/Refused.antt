@@ -35,9 +35,9 @@ module _ (analyzer : Analyzer) (document : Document) (stamp : ℕ) (old new : Se
       by (Some cause) is h = subst (AddsNone analyzer document stamp old new) (inner (cause stamp) e (sym (ap (at_place stamp) is) ∙ tells)) (h (ap (at_place stamp) is))
 
 -- the parts that a writer had are its parts again
-pub refused : (analyzer : Analyzer) (document : Document) (stamp : ℕ) (schema : Schema) (id : ℕ) (parts : Option WriterParts) (p : WriterParts) → parts ≡ Some p → length p.stamps.items < 2 ^ 31 - 1 → (e : TantivyError) → (e ≡ OutOfMemory) ⊎ Tells schema analyzer document stamp e → (e ≡ OutOfMemory → ⊥)
-    → AddsNone analyzer document stamp (record { schema = schema; id = id; kept = option_map kept_of parts }) (record { schema = schema; id = id; kept = Some (kept_of p) }) e
-refused analyzer document stamp schema id parts p is place e (inl memory) other = absurd (other memory)
-refused analyzer document stamp schema id parts p is place e (inr tells) other =
-    adds_none analyzer document stamp (record { schema = schema; id = id; kept = option_map kept_of parts }) (record { schema = schema; id = id; kept = Some (kept_of p) })
-    (to_parts HasPlace parts p is place) (λ i. record { schema = schema; id = id; kept = option_map kept_of (sym is i) }) e tells
+pub refused : (analyzer : Analyzer) (document : Document) (stamp : ℕ) (schema : Schema) (id size : ℕ) (parts : Option WriterParts) (p : WriterParts) → parts ≡ Some p → length p.stamps.items < 2 ^ 31 - 1 → (e : TantivyError) → (e ≡ OutOfMemory) ⊎ Tells schema analyzer document stamp e → (e ≡ OutOfMemory → ⊥)
+    → AddsNone analyzer document stamp (record { schema = schema; id = id; block_size = size; kept = option_map kept_of parts }) (record { schema = schema; id = id; block_size = size; kept = Some (kept_of p) }) e
+refused analyzer document stamp schema id size parts p is place e (inl memory) other = absurd (other memory)
+refused analyzer document stamp schema id size parts p is place e (inr tells) other =
+    adds_none analyzer document stamp (record { schema = schema; id = id; block_size = size; kept = option_map kept_of parts }) (record { schema = schema; id = id; block_size = size; kept = Some (kept_of p) })
+    (to_parts HasPlace parts p is place) (λ i. record { schema = schema; id = id; block_size = size; kept = option_map kept_of (sym is i) }) e tells

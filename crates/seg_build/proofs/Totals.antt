@@ -1,7 +1,8 @@
 -- The counts of postings that hits make, and their sums.
-use Rattle.std.proofs.Common.{◌≡◌, ℕ, suc, ◌+◌, ◌≤◌, true, false, cond, List, [], ◌∷◌, length, drop, Some, sym, refl, ap, ◌∙◌, arith}
+use Rattle.std.proofs.Common.{◌≡◌, ℕ, suc, ◌+◌, ◌-◌, ◌^◌, ◌≤◌, min, true, false, cond, List, [], ◌∷◌, length, drop, Some, sym, refl, ap, ◌∙◌, arith}
 use Rattle.std.specs.Prelude.{◌==◌}
 use Rattle.std.specs.List.{fold, slice_get, AllByRecursion}
+use Rattle.std.proofs.lemmas.List.{drop_all}
 use Rattle.seg_model.specs.Reading.{Recorded, presence, frequency, positions, Posting}
 use Rattle.seg_postings.specs.declared.record_kind.RecordKind.{RecordKind}
 use Rattle.seg_postings.specs.declared.record_kind.RecordKind.TheVariants.{Documents, Counts, Positions}
@@ -104,12 +105,29 @@ abbrev pub and_total : ℕ → List Posting → ℕ
 and_total a ps = a + count_total ps
 
 -- one term more
-pub total_more : (total n : ℕ) (terms : List (List Posting)) (i : ℕ) (ps : List Posting) → slice_get terms i ≡ Some ps → n ≡ count_total ps → fold and_total (total + n) (drop (i + 1) terms) ≡ fold and_total total (drop i terms)
+total_more : (total n : ℕ) (terms : List (List Posting)) (i : ℕ) (ps : List Posting) → slice_get terms i ≡ Some ps → n ≡ count_total ps → fold and_total (total + n) (drop (i + 1) terms) ≡ fold and_total total (drop i terms)
 total_more total n terms i ps at many =
     ap (λ m. fold and_total (total + m) (drop (i + 1) terms)) many
     ∙ sym (ap (fold and_total total) (drop-slice_get terms i ps at))
 
--- a sum is no less than what it begins with
-pub total-ge : (total : ℕ) (terms : List (List Posting)) → total ≤ fold and_total total terms
-total-ge total [] = omega arith
-total-ge total (t ∷ terms) = let rest = total-ge (total + count_total t) terms in omega (arith, rest)
+-- a sum is what it begins with, and what comes
+total_from : (total : ℕ) (terms : List (List Posting)) → fold and_total total terms ≡ total + fold and_total 0 terms
+total_from total [] = omega arith
+total_from total (t ∷ terms) =
+    let here = total_from (total + count_total t) terms in
+    let rest = total_from (0 + count_total t) terms in
+    omega (arith, here, rest)
+
+-- one term more, where the sum stays at the greatest u64
+pub saturated_more : (total n next : ℕ) (terms : List (List Posting)) (i : ℕ) (ps : List Posting) → slice_get terms i ≡ Some ps → n ≡ count_total ps → next ≡ min (total + n) (2 ^ 64 - 1) → min (2 ^ 64 - 1) (fold and_total next (drop (i + 1) terms)) ≡ min (2 ^ 64 - 1) (fold and_total total (drop i terms))
+saturated_more total n next terms i ps at many is =
+    let all = total_more total n terms i ps at many in
+    let here = total_from next (drop (i + 1) terms) in
+    let whole = total_from (total + n) (drop (i + 1) terms) in
+    omega (arith, all, here, whole, is)
+
+-- after the last term
+pub saturated_end : (total : ℕ) (terms : List (List Posting)) (i : ℕ) → length terms ≤ i → total ≤ 2 ^ 64 - 1 → total ≡ min (2 ^ 64 - 1) (fold and_total total (drop i terms))
+saturated_end total terms i past few =
+    let all : total ≡ min (2 ^ 64 - 1) total = omega (arith, few) in
+    all ∙ ap (λ ts. min (2 ^ 64 - 1) (fold and_total total ts)) (sym (drop_all i terms past))

@@ -11,23 +11,34 @@ use Rattle.seg_segment.specs.Standing.{StandFor}
 use Rattle.seg_segment.specs.declared.segment_files.SegmentFiles.{SegmentFiles}
 use Rattle.seg_build.specs.FieldTerms.{fields_of}
 use Rattle.seg_build.specs.Kept.{Kept}
+use Rattle.seg_build.specs.StoredBlocks.{HasBlocks}
 use Rattle.seg_build.specs.SegmentWriting.{SegmentWriting, IsKeptOf}
 use Rattle.seg_build.specs.declared.memory_segment.MemorySegment.{MemorySegment}
 use Rattle.seg_build.specs.Totals.{TotalsAreCounts}
 
--- six files stand for documents, and the totals of their postings are counts
-pub record AreOfDocuments (schema : Schema) (analyzer : Analyzer) (documents : List Document) (files : SegmentFiles) : Type 0 where
+-- six files stand for documents, the totals of their postings are counts, and the blocks of the store are cut by a size
+pub record AreOfDocuments (schema : Schema) (analyzer : Analyzer) (block_size : ℕ) (documents : List Document)
+    (files : SegmentFiles) : Type 0 where
   pub stand : StandFor schema analyzer documents files
   pub totals : TotalsAreCounts files.postings (fields_of schema analyzer documents)
+  pub blocks : HasBlocks schema block_size documents files.store
 
 -- six files are of any documents that made what is kept
 abbrev pub AreOfKept : Schema → Kept → SegmentFiles → Type 0
-AreOfKept schema kept files = (analyzer : Analyzer) (documents : List Document) (stamps : List ℕ) → IsKeptOf schema analyzer documents stamps kept → AreOfDocuments schema analyzer documents files
+AreOfKept schema kept files =
+    (analyzer : Analyzer) (block_size : ℕ) (documents : List Document) (stamps : List ℕ)
+    → IsKeptOf schema analyzer block_size documents stamps kept
+    → AreOfDocuments schema analyzer block_size documents files
 
--- a segment in memory is of what is kept: its files and terms, and the stamps of its documents
+-- a segment in memory is of what is kept: its files, terms and blocks, and the stamps of its documents
 pub record IsMadeOfKept (schema : Schema) (kept : Kept) (made : MemorySegment) : Type 0 where
-  pub stand : (analyzer : Analyzer) (documents : List Document) (stamps : List ℕ) → IsKeptOf schema analyzer documents stamps kept → StandFor schema analyzer documents made.files
-  pub fields : (analyzer : Analyzer) (documents : List Document) (stamps : List ℕ) → IsKeptOf schema analyzer documents stamps kept → made.fields ≡ fields_of schema analyzer documents
+  pub stand : (analyzer : Analyzer) (block_size : ℕ) (documents : List Document) (stamps : List ℕ)
+      → IsKeptOf schema analyzer block_size documents stamps kept → StandFor schema analyzer documents made.files
+  pub fields : (analyzer : Analyzer) (block_size : ℕ) (documents : List Document) (stamps : List ℕ)
+      → IsKeptOf schema analyzer block_size documents stamps kept → made.fields ≡ fields_of schema analyzer documents
+  pub blocks : (analyzer : Analyzer) (block_size : ℕ) (documents : List Document) (stamps : List ℕ)
+      → IsKeptOf schema analyzer block_size documents stamps kept
+      → HasBlocks schema block_size documents made.files.store
   pub totals : TotalsAreCounts made.files.postings made.fields
   pub stamps : made.stamps.items ≡ kept.stamps
 

@@ -16,6 +16,7 @@ pub mod Runs
 pub mod SegmentWriting
 pub mod Steps
 pub mod StoredBatch
+pub mod StoredBlocks
 pub mod TermsWritten
 pub mod TokenTotal
 pub mod Totals

@@ -23,45 +23,52 @@ use Rattle.seg_build.specs.Kept.{Kept}
 use Rattle.seg_build.specs.Lengths.{HaveLengths, with_lengths}
 use Rattle.seg_build.specs.MemoryUsage.{total, saturated, occurrence_count, text_count}
 use Rattle.seg_build.specs.Steps.{AllFit, fresh, with_documents, with_texts}
+use Rattle.seg_build.specs.StoredBlocks.{stored_with}
 use Rattle.seg_build.specs.declared.writer_parts.WriterParts.{WriterParts}
 
 -- what the parts of a writer keep
 abbrev pub kept_of : WriterParts → Kept
 kept_of parts = record { fields = parts.fields.items; norms = parts.norms; store = parts.store; stamps = parts.stamps.items; occurrences = parts.occurrences }
 
--- the schema and the id of the segment, and what is kept of the documents added so far: nothing any more, once out of memory
+-- the schema and the id of the segment, the size of its store's blocks, and what is kept of the documents added so far:
+-- nothing any more, once out of memory
 pub record SegmentWriting : Type 0 where
   pub schema : Schema
   pub id : ℕ
+  pub block_size : ℕ
   pub kept : Option Kept
 
--- a store has taken these documents, as they are stored
-pub record Stores (schema : Schema) (documents : List Document) (taken : Taken) : Type 0 where
+-- a store has taken these documents, as they are stored, and cut them into blocks by their size
+pub record Stores (schema : Schema) (block_size : ℕ) (documents : List Document) (taken : Taken) : Type 0 where
   pub read : documents_of (all_blocks taken) ≡ map (stored_document schema) documents
   pub count : taken_count taken ≡ length documents
   pub forms : all_documents taken ≡ map (stored_form schema) documents
+  pub cut : taken ≡ stored_with block_size (map (stored_form schema) documents)
 
--- what these documents make, with their stamps
-pub record IsKeptOf (schema : Schema) (analyzer : Analyzer) (documents : List Document) (stamps : List ℕ) (kept : Kept) : Type 0 where
+-- what these documents make, with their stamps, where blocks have a size
+pub record IsKeptOf (schema : Schema) (analyzer : Analyzer) (block_size : ℕ) (documents : List Document)
+    (stamps : List ℕ) (kept : Kept) : Type 0 where
   pub taken : list_all (is_taken schema analyzer) documents ≡ true
   pub few : length documents < 2 ^ 31
   pub utf8 : AllByRecursion IsUtf8Document documents
   pub fields : kept.fields ≡ with_documents schema analyzer 0 (map (λ _. fresh) schema) documents
   pub norms : IsSomeAnd kept.norms (HaveLengths schema analyzer documents)
-  pub store : IsSomeAnd kept.store (Stores schema documents)
+  pub store : IsSomeAnd kept.store (Stores schema block_size documents)
   pub stamped : kept.stamps ≡ stamps
   pub each : length stamps ≡ length documents
   pub occurrences : kept.occurrences ≡ saturated (total (occurrence_count schema analyzer) documents)
 
 -- some documents make these
 pub record IsUnderWay (schema : Schema) (analyzer : Analyzer) (kept : Kept) : Type 0 where
+  pub block_size : ℕ
   pub documents : List Document
   pub stamps : List ℕ
-  pub are : IsKeptOf schema analyzer documents stamps kept
+  pub are : IsKeptOf schema analyzer block_size documents stamps kept
 
 -- a writer has these documents, with their stamps
 abbrev pub Writes : Analyzer → List Document → List ℕ → SegmentWriting → Type 0
-Writes analyzer documents stamps writer = IsSomeAnd writer.kept (IsKeptOf writer.schema analyzer documents stamps)
+Writes analyzer documents stamps writer =
+    IsSomeAnd writer.kept (IsKeptOf writer.schema analyzer writer.block_size documents stamps)
 
 -- how many documents a writer has; none any more, once out of memory
 abbrev pub document_count : Option Kept → ℕ
@@ -76,10 +83,11 @@ IsFull kept = 2 ^ 31 - 1 ≤ length kept.stamps
 abbrev pub HasPlace : Kept → Type 0
 HasPlace kept = length kept.stamps < 2 ^ 31 - 1
 
--- the same schema and id
+-- the same schema, id and size of blocks
 pub record IsOfSame (old new : SegmentWriting) : Type 0 where
   pub schema : new.schema ≡ old.schema
   pub id : new.id ≡ old.id
+  pub block_size : new.block_size ≡ old.block_size
 
 -- a document is added: it comes after the others
 pub record Adds (analyzer : Analyzer) (document : Document) (stamp : ℕ) (old new : SegmentWriting) : Type 0 where

@@ -1,5 +1,5 @@
 -- The terms of a field, as they are written.
-use Rattle.std.specs.Prelude.{ℕ, List, [], map, Option, Some, None}
+use Rattle.std.specs.Prelude.{ℕ, ◌-◌, ◌^◌, min, List, [], map, Option, Some, None}
 use Rattle.seg_model.specs.Reading.{Recorded, positions, Posting}
 use Rattle.seg_postings.specs.declared.record_kind.RecordKind.{RecordKind}
 use Rattle.seg_postings.specs.FieldWriting.{TermWritten}
@@ -20,7 +20,7 @@ abbrev pub all_written : Option FieldTerms → List TermWritten
 all_written None = []
 all_written (Some field) = map (written field.kind) field.terms
 
--- the total of their tokens
+-- the total of their tokens, at most the greatest u64
 abbrev pub written_total : Option FieldTerms → ℕ
 written_total None = 0
-written_total (Some field) = token_total field.terms
+written_total (Some field) = min (2 ^ 64 - 1) (token_total field.terms)

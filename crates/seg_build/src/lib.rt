@@ -10,14 +10,13 @@
 //! hash table), `sorted` (its terms in byte order), `tokens` and `field` (what
 //! one more text adds), `lengths` (the field norms of a document), `usage` (how much memory documents take), `fields` (those
 //! of all documents); `writing` (the terms of a field, into a `TermWriter`), `terms_files` and `norms_file` (the parts
-//! of files), `filling` (what the components of a segment are to hold); `add_operation`, `entry`, `adding` (the texts of a
+//! of files), `filling` (what the components of a segment are to hold); `add_operation`, `adding` (the texts of a
 //! document that passed its check), `writer_start`, `writer_parts`, `memory_segment`, `finishing` and `segment_writer`;
 //! `laws` (terms that were indexed can be written).
 #![tactic(auto)]
 
 mod add_operation;
 mod adding;
-mod entry;
 mod field;
 mod fields;
 mod filling;
@@ -39,7 +38,6 @@ mod writer_start;
 mod writing;
 
 pub use add_operation::{AddOperation, Opstamp};
-pub use entry::is_built_schema;
 pub use fields::{IndexedBatch, IndexedFields};
 pub use hits::Hit;
 pub use laws::{built_schemas_have_no_columns, built_terms_can_be_written};
@@ -47,4 +45,4 @@ pub use memory_segment::MemorySegment;
 pub use runs::first_run;
 pub use segment_writer::SegmentWriter;
 pub use sorted::SortedTerms;
-pub use writer_start::{LEAST_BUDGET, start_refusal};
+pub use writer_start::{LEAST_BUDGET, settings_fit, start_refusal};

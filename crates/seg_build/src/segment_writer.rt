@@ -8,6 +8,7 @@ ghost use Rattle.seg_build.specs.Finishing.{Finalizes};
 ghost use Rattle.seg_segment.specs.Forms.{segment_forms};
 ghost use Rattle.seg_build.specs.MemoryUsage.{memory_usage, saturated};
 ghost use Rattle.seg_segment.specs.Standing.{StandFor};
+ghost use Rattle.seg_build.specs.StoredBlocks.{HasBlocks};
 ghost use Rattle.seg_build.specs.Totals.{TotalsAreCounts};
 ghost use Rattle.seg_build.specs.WriterStart.{IsStartError, start_refusal};
 
@@ -36,6 +37,7 @@ pub struct SegmentWriter<'a, Z: Analyzers> {
     alloc: Global,
     analyzers: &'a Z,
     segment: Segment,
+    block_size: u32,
     parts: Option<WriterParts>,
 }
 
@@ -57,6 +59,7 @@ impl<'a, Z: Analyzers> Model for SegmentWriter<'a, Z> {
       record {
         schema = w.segment.schema;
         id = w.segment.meta.id;
+        block_size = w.block_size;
         kept = option_map kept_of w.parts;
       },
     ) };
@@ -79,6 +82,7 @@ impl<'a, Z: Analyzers> SegmentWriter<'a, Z> {
     ) -> TResult<SegmentWriter<'a, Z>>
         ensures ok { IfOk result (λ w. Writes (Z.tokens_of analyzers.now) [] [] w.1) }
         ensures of { IfOk result (λ w. (w.0 ≡ analyzers.now) × (w.1.schema ≡ segment.schema) × (w.1.id ≡ segment.meta.id)) }
+        ensures blocks { IfOk result (λ w. w.1.block_size ≡ settings.now.docstore_blocksize) }
         ensures refused { IfSome (start_refusal (Z.knows analyzers.now) memory_budget_in_bytes segment.schema settings.now)
             (λ e. result ≡ Err e) }
         ensures errors { IfErr result IsStartError }
@@ -90,13 +94,15 @@ impl<'a, Z: Analyzers> SegmentWriter<'a, Z> {
         if let Some(e) = start_refusal(analyzers, memory_budget_in_bytes, schema, settings) {
             return Err(e);
         }
-        let Ok(parts) = WriterParts::new(alloc, schema, settings.docstore_blocksize) else {
+        let block_size = settings.docstore_blocksize;
+        let Ok(parts) = WriterParts::new(alloc, schema, block_size) else {
             return Err(TantivyError::OutOfMemory);
         };
         Ok(SegmentWriter {
             alloc,
             analyzers,
             segment,
+            block_size,
             parts: Some(parts),
         })
     }
@@ -193,6 +199,10 @@ impl<'a, Z: Analyzers> SegmentWriter<'a, Z> {
             → Writes (Z.tokens_of self.entry.0) documents stamps self.entry.1
             → (postings : List ℕ) → get (W.state directory.new).files (FileName.Part self.entry.1.id SegmentComponent.Postings) ≡ Some postings
             → TotalsAreCounts postings (fields_of self.entry.1.schema (Z.tokens_of self.entry.0) documents)) }
+        ensures blocks { IsTrue (W.state directory.old).tells → OnOk result ((documents : List Document) (stamps : List ℕ)
+            → Writes (Z.tokens_of self.entry.0) documents stamps self.entry.1
+            → (store : List ℕ) → get (W.state directory.new).files (FileName.Part self.entry.1.id SegmentComponent.Store) ≡ Some store
+            → HasBlocks self.entry.1.schema self.entry.1.block_size documents store) }
         ensures stamps { IfOk result (λ answer. (documents : List Document) (stamps : List ℕ) → Writes (Z.tokens_of self.entry.0) documents stamps self.entry.1 → answer.items ≡ stamps) }
         ensures does { Finalizes self.entry.1 result (W.state directory.old) (W.state directory.new) }
     {
@@ -200,6 +210,7 @@ impl<'a, Z: Analyzers> SegmentWriter<'a, Z> {
             alloc,
             analyzers: _,
             segment,
+            block_size: _,
             parts,
         } = self;
         match parts {
@@ -217,6 +228,9 @@ impl<'a, Z: Analyzers> SegmentWriter<'a, Z> {
             → Writes (Z.tokens_of self.entry.0) documents stamps self.entry.1
             → made.fields ≡ fields_of self.entry.1.schema (Z.tokens_of self.entry.0) documents) }
         ensures totals { IfOk result (λ made. TotalsAreCounts made.files.postings made.fields) }
+        ensures blocks { IfOk result (λ made. (documents : List Document) (stamps : List ℕ)
+            → Writes (Z.tokens_of self.entry.0) documents stamps self.entry.1
+            → HasBlocks self.entry.1.schema self.entry.1.block_size documents made.files.store) }
         ensures stamps { IfOk result (λ made. (documents : List Document) (stamps : List ℕ) → Writes (Z.tokens_of self.entry.0) documents stamps self.entry.1 → made.stamps.items ≡ stamps) }
         ensures lacking { self.entry.1.kept ≡ None → result ≡ Err TantivyError.SystemError }
         ensures errors { IfErr result (λ e. ((e ≡ TantivyError.SystemError) × (self.entry.1.kept ≡ None)) ⊎ (e ≡ TantivyError.OutOfMemory)) }
@@ -225,6 +239,7 @@ impl<'a, Z: Analyzers> SegmentWriter<'a, Z> {
             alloc,
             analyzers: _,
             segment,
+            block_size: _,
             parts,
         } = self;
         let Some(parts) = parts else {

@@ -1,5 +1,5 @@
 //! Terms in byte order.
-ghost use Rattle.std.specs.Prelude.{◌≡◌, ◌<◌, ◌≤◌, ◌^◌, length, Some, None, IfOk, IfSome};
+ghost use Rattle.std.specs.Prelude.{◌≡◌, ◌<◌, ◌-◌, ◌^◌, length, min, Some, IfOk};
 ghost use Rattle.std.specs.FinMap.{entries};
 ghost use Rattle.std.specs.List.{slice_get};
 ghost use Rattle.std.specs.Map.{keys_of, values_of};
@@ -72,18 +72,17 @@ impl SortedTerms {
         pair.1.as_slice()
     }
 
-    /// How often the terms occur in all, as far as that is recorded: where their documents alone are, once in each. None
-    /// where that is no u64.
-    pub fn total_num_tokens(&self) -> Option<u64>
-        ensures total { IfSome result (λ n. n ≡ token_total self.now.terms) }
-        ensures none { result ≡ None → 2 ^ 64 ≤ token_total self.now.terms }
+    /// How often the terms occur in all, as far as that is recorded: where their documents alone are, once in each. A
+    /// sum past the greatest u64 stays at it.
+    pub fn total_num_tokens(&self) -> u64
+        ensures { result ≡ min (2 ^ 64 - 1) (token_total self.now.terms) }
     {
         let mut total: u64 = 0;
         for at in 0..self.len() {
             let count = recorded_count(self.kind, self.hits_at(at)) as u64;
-            total = total.checked_add(count)?;
+            total = total.saturating_add(count);
         }
-        Some(total)
+        total
     }
 }
 

@@ -23,10 +23,7 @@ impl TermsByField for IndexedFields {
 
     fn total_num_tokens(&self, field: Field) -> Result<u64, AllocError> {
         let terms = self.writable_terms(field.field_id() as usize);
-        match terms.total_num_tokens() {
-            Some(total) => Ok(total),
-            None => Err(AllocError),
-        }
+        Ok(terms.total_num_tokens())
     }
 
     fn write_terms(

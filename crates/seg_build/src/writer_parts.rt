@@ -29,7 +29,7 @@ impl WriterParts {
 
     /// Parts of no documents.
     pub fn new(alloc: Global, schema: &Schema, block_size: u32) -> Result<WriterParts, AllocError>
-        ensures { IfOk result (λ parts. (analyzer : Analyzer) → IsKeptOf schema.now analyzer [] [] (kept_of parts)) }
+        ensures { IfOk result (λ parts. (analyzer : Analyzer) → IsKeptOf schema.now analyzer block_size [] [] (kept_of parts)) }
     {
         let fields = new_fields(alloc, schema.fields())?;
         let Ok(norms) = FieldNormsWriter::for_schema(alloc, schema) else {

@@ -7,9 +7,9 @@ ghost use Rattle.seg_model.specs.Valid as valid;
 ghost use Rattle.seg_segment.specs.Built.{is_built_schema};
 ghost use Rattle.seg_build.specs.WriterStart.{IsStartError, start_refusal};
 
-use crate::entry::is_built_schema;
 use seg_check::indexing_tokenizer;
 use seg_meta::IndexSettings;
+use seg_segment::is_built_schema;
 use seg_values::{ArgumentCause, Compressor, Field, FieldEntry, Schema, SchemaCause, TantivyError};
 use seg_words::Analyzers;
 
@@ -60,7 +60,7 @@ fn name_fits(entry: &FieldEntry) -> bool
 }
 
 /// Stored documents are not compressed, and no thread of its own is asked for.
-fn settings_fit(settings: &IndexSettings) -> bool
+pub fn settings_fit(settings: &IndexSettings) -> bool
     ensures { result ≡ valid.settings_fit (settings_of settings.now) }
 {
     match settings.docstore_compression {

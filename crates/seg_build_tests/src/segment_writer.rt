@@ -19,15 +19,26 @@ fn title_body(alloc: Global) -> Result<Schema, AllocError> {
     )
 }
 
+/// The addition of a document of the title `b`.
+fn addition(alloc: Global, opstamp: Opstamp) -> Result<AddOperation, AllocError> {
+    Ok(AddOperation {
+        opstamp,
+        document: document(alloc, &[(0, "b")])?,
+    })
+}
+
+#[test]
+fn additions_are_compared(rt: HostRuntime) -> Result<(), Fail> {
+    let nine = addition(rt.alloc(), 9)?;
+    assert!(rt; nine == addition(rt.alloc(), 9)? && nine != addition(rt.alloc(), 8)?);
+    Ok(())
+}
+
 /// A writer with a document of the title `b`.
 fn writer(alloc: Global, analyzers: &Words) -> TResult<SegmentWriter<'_, Words>> {
     let segment = segment(title_body(alloc)?, 0);
     let mut writer = SegmentWriter::for_segment(alloc, 15_000, segment, &settings(16), analyzers)?;
-    let operation = AddOperation {
-        opstamp: 9,
-        document: document(alloc, &[(0, "b")])?,
-    };
-    writer.add_document(operation)?;
+    writer.add_document(addition(alloc, 9)?)?;
     Ok(writer)
 }
 

@@ -36,7 +36,9 @@ fn in_each_field(alloc: Global, texts: &[&str]) -> Result<TantivyDocument, Alloc
     let mut document = TantivyDocument::new(alloc);
     for text in texts {
         for field in NOT_INDEXED..=POSITIONS {
-            document.add_text(Field::from_field_id(field), text)?;
+            let Ok(()) = document.add_text(Field::from_field_id(field), text) else {
+                return Err(AllocError);
+            };
         }
     }
     Ok(document)
@@ -65,9 +67,7 @@ fn shown(alloc: Global, fields: &IndexedFields) -> Result<String, AllocError> {
 
 fn show_field(out: &mut String, terms: &SortedTerms) -> Result<(), AllocError> {
     out.push(kind_letter(terms.kind()))?;
-    if let Some(total) = terms.total_num_tokens() {
-        write!(out, "{total}")?;
-    }
+    write!(out, "{}", terms.total_num_tokens())?;
     out.push('[')?;
     for at in 0..terms.len() {
         show_term(out, terms.bytes_at(at), terms.hits_at(at))?;

@@ -2,8 +2,10 @@
 //!
 //! A case is a script, `NAME.json`, and what is to come of it: `NAME.txt`, the printed text, or `NAME.status`, the status
 //! and below it the line on standard error. Where a case has neither, its folder has an `all.status`. It runs `build`, or
-//! the words that `NAME.words` has, a word a line. A second step over the same directories is `NAME.2.json` with files of
-//! its own beside it, a third one `NAME.3.json`, and so on.
+//! the words that `NAME.words` has, a word a line; where these read no script, `NAME.json` is empty. A second step over the
+//! same directories is `NAME.2.json` with files of its own beside it, a third one `NAME.3.json`, and so on. Where there is a
+//! file `NAME.fresh`, the output directory is emptied before the step; a file `NAME.meta` is put into the work directory
+//! before it, as its meta.
 //!
 //! To be read in this order: `listing` (which cases there are), `step`, `running`, `difference`.
 #![tactic(auto)]

@@ -1,8 +1,8 @@
 //! A step is run over directories in memory.
 
-use crate::step::Step;
+use crate::step::{Start, Step};
 use anyhow::Result;
-use seg_common::{MemorySink, MemorySource};
+use seg_common::{FileName, MemorySink, MemorySource};
 use seg_directory::MemoryDirectory;
 use seg_tool::{Status, run};
 use seg_words::{DefaultTokenizer, RawTokenizer, TokenizerManager, WhitespaceTokenizer};
@@ -24,6 +24,24 @@ impl Directories {
             work: directory(alloc)?,
             output: directory(alloc)?,
         })
+    }
+
+    /// Does what is to be done before a step.
+    fn prepare(&mut self, alloc: Global, start: &Start) -> Result<(), AllocError> {
+        if start.is_output_emptied {
+            self.output = directory(alloc)?;
+        }
+        match &start.meta {
+            Some(meta) => put_meta(&mut self.work, meta.as_str()),
+            None => Ok(()),
+        }
+    }
+}
+
+fn put_meta(directory: &mut MemoryDirectory, meta: &str) -> Result<(), AllocError> {
+    match directory.put(FileName::Meta, meta.as_bytes()) {
+        Ok(()) => Ok(()),
+        Err(_) => Err(AllocError),
     }
 }
 
@@ -57,6 +75,7 @@ fn run_step(
     faults: &mut MemorySink,
     directories: &mut Directories,
 ) -> Result<u8, AllocError> {
+    directories.prepare(alloc, &step.start)?;
     let mut source = MemorySource::new(alloc, &step.script, Vec::new(alloc))?;
     let mut analyzers = TokenizerManager::new(alloc);
     analyzers.register("default", Box::new(alloc, DefaultTokenizer)?)?;

@@ -9,9 +9,19 @@ use std::{fs, io};
 /// What is run, and what is to come of it.
 #[derive(Drop)]
 pub(crate) struct Step {
+    pub start: Start,
     pub words: Vec<String>,
     pub script: Vec<u8>,
     pub expected: String,
+}
+
+/// What is done with the directories before it.
+#[derive(Drop)]
+pub(crate) struct Start {
+    /// The meta that the work directory is given.
+    pub meta: Option<String>,
+    /// Whether the output directory is emptied.
+    pub is_output_emptied: bool,
 }
 
 /// Reads a step of a case; nothing where the case has no such step.
@@ -27,6 +37,7 @@ pub(crate) fn read_step<R: Files + AllocGlobal>(
         return Ok(None);
     }
     Ok(Some(Step {
+        start: read_start(rt, path.as_str())?,
         words: words(rt, path.as_str())?,
         script: fs::read(rt, script.as_str())?,
         expected: expected(rt, folder, path.as_str())?,
@@ -40,6 +51,17 @@ fn step_path(alloc: Global, folder: &str, case: &str, number: u32) -> Result<Str
     } else {
         format!(in alloc; "{folder}/{case}.{number}")
     }
+}
+
+/// What is done before a step, as its files say.
+fn read_start<R: Files + AllocGlobal>(rt: &R, path: &str) -> io::Result<Start> {
+    let fresh = format!(in rt.alloc(); "{path}.fresh")?;
+    let is_output_emptied = fs::exists(rt, fresh.as_str())?;
+    let meta = text_if_there(rt, format!(in rt.alloc(); "{path}.meta")?)?;
+    Ok(Start {
+        meta,
+        is_output_emptied,
+    })
 }
 
 /// The words of a step: `build` where no file has others.

@@ -43,6 +43,16 @@ impl CompositeFile {
         }
     }
 
+    /// The same file once more, of the same bytes; this takes no memory.
+    pub fn share(&self) -> CompositeFile
+        ensures { result ≡ self.now }
+    {
+        CompositeFile {
+            bytes: self.bytes.share(),
+            count: self.count,
+        }
+    }
+
     /// The bytes of a field, which share those of the file: found in the table by halving.
     pub fn open_read(&self, field: Field) -> Option<OwnedBytes>
         ensures { result ≡ field_of self.now field }

@@ -1,14 +1,11 @@
 -- A code of operations, by which a proof tells them apart.
-use Rattle.std.specs.Prelude.{◌≡◌, ℕ, List, refl, ◌⊎◌}
+use Rattle.std.specs.Prelude.{◌≡◌, List, refl, ◌⊎◌}
 use Rattle.std.proofs.Common.{inl, inr}
-use Rattle.std.specs.Coded.{Coded, code_by, coded×, coded⊎, coded_list, coded_ℕ}
+use Rattle.std.specs.Coded.{Coded, code_by, coded⊎, coded_list}
 use Rattle.seg_values.specs.Tree.{Document}
-use Rattle.seg_model.specs.Codes.{bytes_code, document_code}
+use Rattle.seg_values.specs.Code.{term_code}
+use Rattle.seg_model.specs.Codes.{document_code}
 use Rattle.seg_model.specs.Operations.{TermKey, Operation, add, delete, delete_all}
-
--- a term is stored as its field and its bytes
-abbrev pub term_code : Coded TermKey
-term_code = code_by (ℕ × List ℕ) (coded× coded_ℕ bytes_code) (λ t. (t.field, t.bytes)) (λ p. record { field = p.0; bytes = p.1 }) (λ _. refl)
 
 -- one alternative for each operation
 abbrev pub OperationSum : Type 0

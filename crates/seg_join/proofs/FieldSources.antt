@@ -18,7 +18,7 @@ use Rattle.seg_model.specs.Reading.{Recorded, Posting, postings_from, term_optio
 use Rattle.seg_model.specs.Shape.{IsRecordOf, ArePostings}
 use Rattle.seg_common.proofs.Lists.{all_both}
 use Rattle.seg_model.proofs.Exports.{ArePostings-from, AreRecordsOf, AreRecordsOf-all_recorded, each-kept, length-all_recorded}
-use Rattle.seg_open.specs.OpenSegment.{terms_in}
+use Rattle.seg_open.specs.OpenSegment.{OpenSegment, kept_count, part_of, terms_in}
 use Rattle.seg_postings.specs.declared.record_kind.RecordKind.{RecordKind}
 use Rattle.seg_postings.specs.FieldReading.{ReadTerm, OpenField, written_terms}
 use Rattle.seg_postings.specs.FieldWriting.{TermWritten}
@@ -26,7 +26,6 @@ use Rattle.seg_postings.specs.HeldTerms.{terms_held}
 use Rattle.seg_postings.specs.Kinds.{kind_of}
 use Rattle.seg_postings.specs.PostingsReading.{kind_kept, count_of}
 use Rattle.seg_join.specs.JoinedTerms.{IsOfField, terms_read, source_of}
-use Rattle.seg_open.specs.KeptSegment.{KeptSegment, kept_count, part_of}
 use Rattle.seg_join.specs.MovedPostings.{SourceTerms, Ascend, moved_from, moved_from_all, postings_with, term_at}
 use Rattle.seg_join.specs.NewIds.{new_ids, numbered_from}
 use Rattle.seg_join.specs.SourcesJoined.{IsJoinable, AreJoinable}
@@ -93,13 +92,13 @@ length-new_ids first (false ∷ marks) = ap suc (length-new_ids first marks)
 -- ---- segments
 
 module _ (entry : FieldEntry) (field : ℕ) where
-  abbrev source : ℕ → KeptSegment → SourceTerms
+  abbrev source : ℕ → OpenSegment → SourceTerms
   source first p = source_of field (record { part = p; ids = new_ids first p.alive })
 
-  abbrev pub sources_from : ℕ → List KeptSegment → List SourceTerms
+  abbrev pub sources_from : ℕ → List OpenSegment → List SourceTerms
   sources_from first ps = map (source_of field) (numbered_from first ps)
 
-  module _ (first : ℕ) (p : KeptSegment) (is : IsOfField entry field p) (up : Ascend (source_of field (record { part = p; ids = new_ids first p.alive })).terms) where
+  module _ (first : ℕ) (p : OpenSegment) (is : IsOfField entry field p) (up : Ascend (source_of field (record { part = p; ids = new_ids first p.alive })).terms) where
     terms_are : (source first p).terms ≡ is.opened.terms
     terms_are = ap terms_read is.is_open
 
@@ -111,54 +110,54 @@ module _ (entry : FieldEntry) (field : ℕ) where
       read_is = held_is is.opened opened_up key ∙ found_pairs key is.opened.terms ∙ ap (λ ts. option_map (λ (t : ReadTerm). t.postings) (term_at key ts)) (sym terms_are)
 
       -- the terms of the contents have the same at a key
-      column_is : term_column field key (part_of p) ≡ all_recorded 0 p.segment.documents (postings_with key (source first p).terms)
+      column_is : term_column field key (part_of p) ≡ all_recorded 0 p.documents (postings_with key (source first p).terms)
       column_is =
           let at : terms_at (part_of p).contents field ≡ terms_held (written_terms is.opened) =
-          get_or_from_slice_get (map terms_in p.segment.fields) field (terms_in (Some is.opened)) empty (slice_get-map terms_in p.segment.fields field ∙ ap (option_map terms_in) is.is_open) in
-          ap (λ m. all_recorded 0 p.segment.documents (unwrap_or (get m key) [])) at
-          ∙ ap (λ o. all_recorded 0 p.segment.documents (unwrap_or o [])) read_is
+          get_or_from_slice_get (map terms_in p.fields) field (terms_in (Some is.opened)) empty (slice_get-map terms_in p.fields field ∙ ap (option_map terms_in) is.is_open) in
+          ap (λ m. all_recorded 0 p.documents (unwrap_or (get m key) [])) at
+          ∙ ap (λ o. all_recorded 0 p.documents (unwrap_or o [])) read_is
 
-      shaped : ArePostings (term_option entry key) 0 p.segment.documents (postings_with key (source first p).terms)
-      shaped = subst (λ o. ArePostings (term_option entry key) 0 p.segment.documents (unwrap_or o [])) read_is (by (get (terms_held (written_terms is.opened)) key) refl)
+      shaped : ArePostings (term_option entry key) 0 p.documents (postings_with key (source first p).terms)
+      shaped = subst (λ o. ArePostings (term_option entry key) 0 p.documents (unwrap_or o [])) read_is (by (get (terms_held (written_terms is.opened)) key) refl)
         where
-          by : (o : Option (List Posting)) → get (terms_held (written_terms is.opened)) key ≡ o → ArePostings (term_option entry key) 0 p.segment.documents (unwrap_or o [])
+          by : (o : Option (List Posting)) → get (terms_held (written_terms is.opened)) key ≡ o → ArePostings (term_option entry key) 0 p.documents (unwrap_or o [])
           by None e = tt
           by (Some ps) e = (is.shape key ps e).postings_ascend
 
       moved_one : moved_from key (source first p) ≡ postings_from first (kept p.alive (term_column field key (part_of p)))
-      moved_one = moved_is_kept (term_option entry key) first p.segment.documents p.alive (postings_with key (source first p).terms) is.marked shaped ∙ ap (λ rs. postings_from first (kept p.alive rs)) (sym column_is)
+      moved_one = moved_is_kept (term_option entry key) first p.documents p.alive (postings_with key (source first p).terms) is.marked shaped ∙ ap (λ rs. postings_from first (kept p.alive rs)) (sym column_is)
 
       records : AreRecordsOf (term_option entry key) (term_column field key (part_of p))
-      records = subst (AreRecordsOf (term_option entry key)) (sym column_is) (AreRecordsOf-all_recorded (term_option entry key) 0 p.segment.documents 0 p.segment.documents (postings_with key (source first p).terms) shaped)
+      records = subst (AreRecordsOf (term_option entry key)) (sym column_is) (AreRecordsOf-all_recorded (term_option entry key) 0 p.documents 0 p.documents (postings_with key (source first p).terms) shaped)
 
       counted : length (kept p.alive (term_column field key (part_of p))) ≡ member_count p.alive
-      counted = kept_counted p.alive (term_column field key (part_of p)) (is.marked ∙ sym (ap length column_is ∙ length-all_recorded 0 p.segment.documents (postings_with key (source first p).terms)))
+      counted = kept_counted p.alive (term_column field key (part_of p)) (is.marked ∙ sym (ap length column_is ∙ length-all_recorded 0 p.documents (postings_with key (source first p).terms)))
 
     within : AllByRecursion (λ (t : ReadTerm). AllByRecursion (λ (x : Posting). x.document < length (new_ids first p.alive)) t.postings) (source first p).terms
     within = subst (AllByRecursion (λ (t : ReadTerm). AllByRecursion (λ (x : Posting). x.document < length (new_ids first p.alive)) t.postings)) (sym terms_are) (each is.opened.terms (all_held is.opened opened_up [] is.opened.terms refl))
       where
-        many : p.segment.documents ≡ length (new_ids first p.alive)
+        many : p.documents ≡ length (new_ids first p.alive)
         many = sym is.marked ∙ sym (length-new_ids first p.alive)
 
         each : (ts : List ReadTerm) → AllByRecursion (λ (t : ReadTerm). get (terms_held (written_terms is.opened)) t.bytes ≡ Some t.postings) ts → AllByRecursion (λ (t : ReadTerm). AllByRecursion (λ (x : Posting). x.document < length (new_ids first p.alive)) t.postings) ts
         each [] h = tt
         each (t ∷ ts) h =
-            (subst (λ n. AllByRecursion (λ (x : Posting). x.document < n) t.postings) many (all_low (term_option entry t.bytes) 0 p.segment.documents t.postings (is.shape t.bytes t.postings h.0).postings_ascend), each ts h.1)
+            (subst (λ n. AllByRecursion (λ (x : Posting). x.document < n) t.postings) many (all_low (term_option entry t.bytes) 0 p.documents t.postings (is.shape t.bytes t.postings h.0).postings_ascend), each ts h.1)
 
   -- ---- all of them
 
-  abbrev AreUp : ℕ → List KeptSegment → Type 0
+  abbrev AreUp : ℕ → List OpenSegment → Type 0
   AreUp first ps = AllByRecursion (λ (s : SourceTerms). Ascend s.terms) (sources_from first ps)
 
-  abbrev columns : List ℕ → List KeptSegment → List (Option Recorded)
+  abbrev columns : List ℕ → List OpenSegment → List (Option Recorded)
   columns key ps = live_of (term_column field key) (map part_of ps)
 
-  joinable : (first : ℕ) (ps : List KeptSegment) → AllByRecursion (IsOfField entry field) ps → AreUp first ps → AllByRecursion IsJoinable (sources_from first ps)
+  joinable : (first : ℕ) (ps : List OpenSegment) → AllByRecursion (IsOfField entry field) ps → AreUp first ps → AllByRecursion IsJoinable (sources_from first ps)
   joinable first [] all up = tt
   joinable first (p ∷ ps) all up = (record { ascend = up.0; within = within first p all.0 up.0 }, joinable (first + member_count p.alive) ps all.1 up.1)
 
   module _ (key : List ℕ) where
-    moved_all : (first : ℕ) (ps : List KeptSegment) → AllByRecursion (IsOfField entry field) ps → AreUp first ps → moved_from_all key (sources_from first ps) ≡ postings_from first (columns key ps)
+    moved_all : (first : ℕ) (ps : List OpenSegment) → AllByRecursion (IsOfField entry field) ps → AreUp first ps → moved_from_all key (sources_from first ps) ≡ postings_from first (columns key ps)
     moved_all first [] all up = refl
     moved_all first (p ∷ ps) all up =
         let here = kept p.alive (term_column field key (part_of p)) in
@@ -167,11 +166,11 @@ module _ (entry : FieldEntry) (field : ℕ) where
         ∙ ap (λ n. postings_from first here ++ postings_from (first + n) (columns key ps)) (sym (counted first p all.0 up.0 key))
         ∙ sym (postings_append first here (columns key ps))
 
-    all_records : (first : ℕ) (ps : List KeptSegment) → AllByRecursion (IsOfField entry field) ps → AreUp first ps → AreRecordsOf (term_option entry key) (columns key ps)
+    all_records : (first : ℕ) (ps : List OpenSegment) → AllByRecursion (IsOfField entry field) ps → AreUp first ps → AreRecordsOf (term_option entry key) (columns key ps)
     all_records first [] all up = tt
     all_records first (p ∷ ps) all up = all_both _ (kept p.alive (term_column field key (part_of p))) (columns key ps) (each-kept _ p.alive (term_column field key (part_of p)) (records first p all.0 up.0 key)) (all_records (first + member_count p.alive) ps all.1 up.1)
 
-    all_counted : (first : ℕ) (ps : List KeptSegment) → AllByRecursion (IsOfField entry field) ps → AreUp first ps → length (columns key ps) ≡ kept_count ps
+    all_counted : (first : ℕ) (ps : List OpenSegment) → AllByRecursion (IsOfField entry field) ps → AreUp first ps → length (columns key ps) ≡ kept_count ps
     all_counted first [] all up = refl
     all_counted first (p ∷ ps) all up =
         let here = kept p.alive (term_column field key (part_of p)) in
@@ -180,7 +179,7 @@ module _ (entry : FieldEntry) (field : ℕ) where
         let rest = all_counted (first + member_count p.alive) ps all.1 up.1 in
         omega (arith, both, one, rest)
 
-  module _ (ps : List KeptSegment) (all : AllByRecursion (IsOfField entry field) ps) (few : kept_count ps < 2 ^ 31) (up : AllByRecursion (λ (s : SourceTerms). Ascend s.terms) (map (source_of field) (numbered_from 0 ps))) where
+  module _ (ps : List OpenSegment) (all : AllByRecursion (IsOfField entry field) ps) (few : kept_count ps < 2 ^ 31) (up : AllByRecursion (λ (s : SourceTerms). Ascend s.terms) (map (source_of field) (numbered_from 0 ps))) where
     pub moved_are_joined : (key : List ℕ) → moved_from_all key (sources_from 0 ps) ≡ joined_postings (map part_of ps) field key
     moved_are_joined key = moved_all key 0 ps all up
 

@@ -1,9 +1,10 @@
 -- Fields whose joined terms are written.
 use Rattle.std.proofs.Common.{◌≡◌, ℕ, ◌^◌, ◌<◌, true, List, map, Some, None, Option, sym, ap, ◌∙◌, subst}
-use Rattle.std.specs.Prelude.{IfSome, IsSomeAnd}
+use Rattle.std.specs.Prelude.{IsSomeAnd}
 use Rattle.std.specs.FinMap.{entries, empty}
 use Rattle.std.specs.List.{AllByRecursion, slice_get}
 use Rattle.seg_common.specs.Growing.{HasGrown}
+use Rattle.seg_directory.specs.Composite.{composite}
 use Rattle.seg_values.specs.declared.schema.FieldEntry.{FieldEntry}
 use Rattle.seg_model.specs.Fields.{Schema, fields, is_indexed}
 use Rattle.seg_model.specs.Join.{joined_terms}
@@ -16,9 +17,12 @@ use Rattle.seg_postings.specs.Kinds.{kind_of}
 use Rattle.seg_segment.specs.FieldsWritten.{IsWhole, HaveFields}
 use Rattle.seg_segment.specs.HoldTerms.{HoldTerms}
 use Rattle.seg_segment.specs.WritingTerms.{with_terms}
-use Rattle.seg_segment.proofs.Exports.{AreParts, hold_terms, is_whole}
+use Rattle.seg_segment.specs.Totals.{TellTotals}
+use Rattle.seg_segment.proofs.Exports.{AreParts, hold_terms, is_whole, told_totals}
 use Rattle.seg_join.specs.JoinedTerms.{AreJoined, IsOfField, source_of}
-use Rattle.seg_open.specs.KeptSegment.{KeptSegment, kept_count, part_of}
+use Rattle.seg_join.specs.JoinedTotals.{joined_total}
+use Rattle.seg_join.specs.Joining.{HoldJoined}
+use Rattle.seg_open.specs.OpenSegment.{OpenSegment, kept_count, part_of}
 use Rattle.seg_join.specs.MovedPostings.{SourceTerms, Ascend, moved_from_all, ranked_of}
 use Rattle.seg_join.specs.NewIds.{NumberedSegment, numbered_from, parts_of}
 use Rattle.seg_join.specs.SourcesJoined.{AreJoinable, terms_joined}
@@ -26,7 +30,7 @@ use Rattle.seg_join.proofs.FieldSources.{sources_from, are_joinable, moved_are_j
 use Rattle.seg_join.proofs.JoinedTables.{are_joined_terms}
 
 module _ (field : ℕ) (ns : List NumberedSegment) (numbered : ns ≡ numbered_from 0 (parts_of ns)) (few : kept_count (parts_of ns) < 2 ^ 31) (sources : List SourceTerms) (are : sources ≡ map (source_of field) ns) (up : AllByRecursion (λ (s : SourceTerms). Ascend s.terms) sources) where
-  abbrev parts : List KeptSegment
+  abbrev parts : List OpenSegment
   parts = parts_of ns
 
   module _ (entry : FieldEntry) (all : AllByRecursion (IsOfField entry field) (parts_of ns)) where
@@ -51,9 +55,9 @@ module _ (field : ℕ) (ns : List NumberedSegment) (numbered : ns ≡ numbered_f
 
 -- ---- what the files hold
 
-module _ (schema : Schema) (parts : List KeptSegment) (ns : List NumberedSegment) (same : parts_of ns ≡ parts) (total : ℕ → ℕ) (of : (field : ℕ) (entry : FieldEntry) → slice_get schema field ≡ Some entry → is_indexed entry ≡ true → AllByRecursion (IsOfField entry field) (parts_of ns)) (terms postings positions : List ℕ) where
-  all_joined : (files : FieldFiles) → HaveFields total (AreJoined ns) schema files → AreParts terms postings positions files → HoldTerms schema terms postings positions (map (joined_terms (map part_of parts)) (fields schema))
-  all_joined files have are_parts = hold_terms total (AreJoined ns) schema files have terms postings positions are_parts _ (λ field entry written at on joined.
+module _ (schema : Schema) (parts : List OpenSegment) (ns : List NumberedSegment) (same : parts_of ns ≡ parts) (total : ℕ → ℕ) (of : (field : ℕ) (entry : FieldEntry) → slice_get schema field ≡ Some entry → is_indexed entry ≡ true → AllByRecursion (IsOfField entry field) (parts_of ns)) (agree : (field : ℕ) (entry : FieldEntry) → slice_get schema field ≡ Some entry → total field ≡ joined_total parts (field, entry)) where
+  all_joined : (files : FieldFiles) → HaveFields total (AreJoined ns) schema files → (terms postings positions : List ℕ) → AreParts terms postings positions files → HoldTerms schema terms postings positions (map (joined_terms (map part_of parts)) (fields schema))
+  all_joined files have terms postings positions are_parts = hold_terms total (AreJoined ns) schema files have terms postings positions are_parts _ (λ field entry written at on joined.
       let segments = of field entry at on in
       record {
         kinds = joined.kinds entry segments;
@@ -62,6 +66,12 @@ module _ (schema : Schema) (parts : List KeptSegment) (ns : List NumberedSegment
             ∙ ap entries (sym (at_place (joined_terms (map part_of parts)) empty field schema entry at));
       })
 
-  pub hold_joined : (files : Option FieldFiles) → IsSomeAnd files (HaveFields total (AreJoined ns) schema) → IfSome files (AreParts terms postings positions) → HoldTerms schema terms postings positions (map (joined_terms (map part_of parts)) (fields schema))
-  hold_joined None have are_parts = absurd have
-  hold_joined (Some files) have are_parts = all_joined files have are_parts
+  all_told : (files : FieldFiles) → HaveFields total (AreJoined ns) schema files → (postings : List ℕ) → composite postings ≡ Some files.postings → TellTotals schema (joined_total parts) postings
+  all_told files have postings file = λ field entry at on. told_totals total (AreJoined ns) schema files postings have file field entry at on ∙ ap Some (agree field entry at)
+
+  pub hold_joined : (files : Option FieldFiles) → IsSomeAnd files (HaveFields total (AreJoined ns) schema) → IsSomeAnd files (HoldJoined schema parts)
+  hold_joined None have = absurd have
+  hold_joined (Some files) have = λ terms postings positions in_terms in_postings in_positions. (
+    all_joined files have terms postings positions (in_terms, in_postings, in_positions),
+    all_told files have postings in_postings,
+  )

@@ -18,7 +18,7 @@ use Rattle.seg_common.proofs.Tables.{texts_apart, IsComplete, same_table}
 use Rattle.seg_model.proofs.Exports.{complete_joined}
 use Rattle.seg_postings.specs.FieldWriting.{TermWritten}
 use Rattle.seg_termdict.specs.Merging.{MergedTerm, info_of}
-use Rattle.seg_open.specs.KeptSegment.{KeptSegment, part_of}
+use Rattle.seg_open.specs.OpenSegment.{OpenSegment, part_of}
 use Rattle.seg_join.specs.MovedPostings.{SourceTerms, moved_from_all, ranked_of}
 use Rattle.seg_join.specs.SourcesJoined.{IsJoinable, joined_at, terms_joined}
 use Rattle.seg_segment.specs.WritingTerms.{term_with}
@@ -70,7 +70,7 @@ module _ (sources : List SourceTerms) where
           ap if_any (sym (all_given_at q sources each) ∙ ap (λ ss. flat_map (given_at sources q) (map info_of ss)) stands);
     }
 
-    module _ (ps : List KeptSegment) (field : ℕ) (entry : FieldEntry) (same : (key : List ℕ) → moved_from_all key sources ≡ joined_postings (map part_of ps) field key) where
+    module _ (ps : List OpenSegment) (field : ℕ) (entry : FieldEntry) (same : (key : List ℕ) → moved_from_all key sources ≡ joined_postings (map part_of ps) field key) where
       pub are_joined_terms : map (λ (t : TermWritten). (t.bytes, t.postings)) (terms_joined sources) ≡ entries (joined_terms (map part_of ps) (field, entry))
       are_joined_terms =
           table_is

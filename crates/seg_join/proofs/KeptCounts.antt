@@ -7,7 +7,12 @@ use Rattle.seg_model.specs.Operations.{kept}
 use Rattle.seg_bits.specs.BitSets.{member_count}
 use Rattle.seg_store.specs.Store.{documents_of}
 use Rattle.seg_join.specs.JoinedStore.{joined_documents}
-use Rattle.seg_open.specs.KeptSegment.{IsMarked, KeptSegment, kept_count}
+use Rattle.seg_model.specs.Shape.{HasFullShape}
+use Rattle.seg_open.specs.OpenSegment.{OpenSegment, contents_of, kept_count}
+
+-- what a segment holds has full shape, for its schema
+abbrev pub HasShape : OpenSegment → Type 0
+HasShape s = HasFullShape s.schema (contents_of s)
 
 pub counted_first : (b : Bool) (bs : List Bool) → member_count (b ∷ bs) ≡ cond b 1 0 + member_count bs
 counted_first b bs = sum_by-cons (λ (c : Bool). cond c 1 0) b bs
@@ -25,18 +30,19 @@ kept_few (b ∷ bs) (x ∷ xs) =
     let few = few_first b x (kept bs xs) (member_count bs) (kept_few bs xs) in
     omega (arith, first, few)
 
-pub joined_few : (parts : List KeptSegment) → length (joined_documents parts) ≤ kept_count parts
+pub joined_few : (parts : List OpenSegment) → length (joined_documents parts) ≤ kept_count parts
 joined_few [] = omega arith
 joined_few (p ∷ ps) =
-    let first = kept p.alive (documents_of p.segment.blocks) in
+    let first = kept p.alive (documents_of p.blocks) in
     let both = length-append first (joined_documents ps) in
-    let few = kept_few p.alive (documents_of p.segment.blocks) in
+    let few = kept_few p.alive (documents_of p.blocks) in
     let rest = joined_few ps in
     omega (arith, both, few, rest)
 
 -- from a place on
-pub count_split : (parts : List KeptSegment) (i : ℕ) (p : KeptSegment) → i < length parts → p ≡ get_or parts i p → kept_count (drop i parts) ≡ member_count p.alive + kept_count (drop (i + 1) parts)
+pub count_split : (parts : List OpenSegment) (i : ℕ) (p : OpenSegment) → i < length parts → p ≡ get_or parts i p → kept_count (drop i parts) ≡ member_count p.alive + kept_count (drop (i + 1) parts)
 count_split parts i p lt is = ap kept_count (drop_more parts i p lt ∙ ap (λ q. q ∷ drop (i + 1) parts) (sym is))
 
-pub marked_first : (parts : List KeptSegment) (i : ℕ) (p : KeptSegment) → i < length parts → p ≡ get_or parts i p → IsMarked p → AllByRecursion IsMarked (drop (i + 1) parts) → AllByRecursion IsMarked (drop i parts)
-marked_first parts i p lt is first rest = subst (AllByRecursion IsMarked) (sym (drop_more parts i p lt ∙ ap (λ q. q ∷ drop (i + 1) parts) (sym is))) (first, rest)
+-- what holds of the segment at a place, and of those after it
+pub all_first : (P : OpenSegment → Type 0) (parts : List OpenSegment) (i : ℕ) (p : OpenSegment) → i < length parts → p ≡ get_or parts i p → P p → AllByRecursion P (drop (i + 1) parts) → AllByRecursion P (drop i parts)
+all_first P parts i p lt is first rest = subst (AllByRecursion P) (sym (drop_more parts i p lt ∙ ap (λ q. q ∷ drop (i + 1) parts) (sym is))) (first, rest)

@@ -15,3 +15,6 @@ mod SourcePostings
 mod Standings
 mod StoredRead
 mod StoresJoined
+mod TotalsJoined
+mod FittingFilters
+mod MergedFiles

@@ -35,6 +35,13 @@ at_first_term sources streams are = subst (All (λ (s : Stream). s.taken ≡ 0))
     each [] = tt
     each (x ∷ xs) = (refl, each xs)
 
+pub all_forward : (sources : List SourceTerms) (streams : List Stream) → streams ≡ map stream_of sources → All (λ s. s.backward ≡ false) streams
+all_forward sources streams are = subst (All (λ (s : Stream). s.backward ≡ false)) (sym are) (All-from_recursion _ _ (each sources))
+  where
+    each : (xs : List SourceTerms) → AllByRecursion (λ (s : Stream). s.backward ≡ false) (map stream_of xs)
+    each [] = tt
+    each (x ∷ xs) = (refl, each xs)
+
 pub streams_ranked : (sources : List SourceTerms) (streams : List Stream) → streams ≡ map stream_of sources → map terms_of_stream streams ≡ map ranked_of sources
 streams_ranked sources streams are = ap (map terms_of_stream) are ∙ each sources
   where

@@ -9,13 +9,12 @@ use Rattle.seg_model.specs.Fields.{Schema, has_lengths, fields}
 use Rattle.seg_model.specs.Join.{joined_norms, live_of}
 use Rattle.seg_model.specs.Operations.{kept}
 use Rattle.seg_directory.specs.Composite.{Part, field_of}
-use Rattle.seg_open.specs.OpenSegment.{contents_of}
+use Rattle.seg_open.specs.OpenSegment.{OpenSegment, contents_of, part_of}
 use Rattle.seg_norms.specs.FieldNorms.{fields_with_lengths, norms_parts}
 use Rattle.seg_norms.specs.NormsRead.{norms_of}
 use Rattle.seg_segment.specs.LengthsWritten.{parts_with}
 use Rattle.seg_segment.proofs.Exports.{selected}
 use Rattle.seg_join.specs.JoinedNorms.{kept_ids, joined_ids}
-use Rattle.seg_open.specs.KeptSegment.{KeptSegment, part_of}
 use Rattle.seg_join.proofs.KeptLists.{kept_marked, kept_next, kept_of_none}
 
 -- what is done, and what is left of it, one place on
@@ -31,8 +30,8 @@ pub one_id : (marks : List Bool) (xs before now : List ℕ) (i id : ℕ) → get
 one_id marks xs before now i id alive is pushed = pushed ∙ sym (ap (λ ids. before ++ ids) (kept_marked marks xs i id alive is))
 
 -- a segment that has no part for a field adds none
-pub no_ids : (field : ℕ) (p : KeptSegment) (ids : List ℕ) → field_of p.segment.norms field ≡ None → ids ≡ ids ++ kept_ids field p
-no_ids field p ids none = sym (ap (λ xs. ids ++ xs) (kept_of_none p.alive (unwrap_or (field_of p.segment.norms field) []) (ap (λ o. unwrap_or o []) none)) ∙ append-nil ids)
+pub no_ids : (field : ℕ) (p : OpenSegment) (ids : List ℕ) → field_of p.norms field ≡ None → ids ≡ ids ++ kept_ids field p
+no_ids field p ids none = sym (ap (λ xs. ids ++ xs) (kept_of_none p.alive (unwrap_or (field_of p.norms field) []) (ap (λ o. unwrap_or o []) none)) ∙ append-nil ids)
 
 -- ---- the ids at a field of a schema
 
@@ -44,21 +43,21 @@ entry_at n zero (x ∷ es) e is i at =
 entry_at n (suc k) (x ∷ es) e is i at = entry_at (n + 1) k es e is i (omega (arith, at))
 
 module _ (schema : Schema) (k : ℕ) (e : FieldEntry) (is : slice_get schema k ≡ Some e) where
-  made_at : (f : ℕ × FieldEntry → List ℕ) → slice_index_or (map f (fields schema)) k [] ≡ f (k, e)
+  pub made_at : (f : ℕ × FieldEntry → List ℕ) → slice_index_or (map f (fields schema)) k [] ≡ f (k, e)
   made_at f =
       sym (unwrap_or-slice_get (map f (fields schema)) k [])
       ∙ ap (λ o. unwrap_or o []) (slice_get-map f (fields schema) k)
       ∙ ap (λ o. unwrap_or (option_map f o) []) (entry_at 0 k schema e is k (omega arith))
 
-  live_ids : (parts : List KeptSegment) → AllByRecursion (λ p. p.segment.schema ≡ schema) parts → live_of (λ p. norms_at p.contents k) (map part_of parts) ≡ joined_ids parts k
+  live_ids : (parts : List OpenSegment) → AllByRecursion (λ p. p.schema ≡ schema) parts → live_of (λ p. norms_at p.contents k) (map part_of parts) ≡ joined_ids parts k
   live_ids [] same = refl
   live_ids (p ∷ ps) same =
-      let here : norms_at (contents_of p.segment) k ≡ unwrap_or (field_of p.segment.norms k) [] =
-      ap (λ s. slice_index_or (norms_of s p.segment.norms) k []) same.0 ∙ made_at (λ f. unwrap_or (field_of p.segment.norms f.0) []) in
+      let here : norms_at (contents_of p) k ≡ unwrap_or (field_of p.norms k) [] =
+      ap (λ s. slice_index_or (norms_of s p.norms) k []) same.0 ∙ made_at (λ f. unwrap_or (field_of p.norms f.0) []) in
       ap (λ ids. kept p.alive ids ++ live_of (λ q. norms_at q.contents k) (map part_of ps)) here
       ∙ ap (λ ids. kept_ids k p ++ ids) (live_ids ps same.1)
 
-  norms_are : (parts : List KeptSegment) → AllByRecursion (λ p. p.segment.schema ≡ schema) parts → has_lengths e ≡ true → joined_ids parts k ≡ slice_index_or (map (joined_norms (map part_of parts)) (fields schema)) k []
+  norms_are : (parts : List OpenSegment) → AllByRecursion (λ p. p.schema ≡ schema) parts → has_lengths e ≡ true → joined_ids parts k ≡ slice_index_or (map (joined_norms (map part_of parts)) (fields schema)) k []
   norms_are parts same has =
       sym (made_at (joined_norms (map part_of parts))
       ∙ ap (λ b. cond b (live_of (λ p. norms_at p.contents k) (map part_of parts)) []) has
@@ -77,7 +76,7 @@ each_same n (e ∷ es) G H same =
     (each_same (n + 1) es G H (λ k i x at is has. same (suc k) i x (omega (arith, at)) is has))
 
 -- the parts are those of the joined norms
-pub parts_are : (schema : Schema) (parts : List KeptSegment) → AllByRecursion (λ p. p.segment.schema ≡ schema) parts
+pub parts_are : (schema : Schema) (parts : List OpenSegment) → AllByRecursion (λ p. p.schema ≡ schema) parts
     → parts_with (joined_ids parts) (fields_with_lengths schema) ≡ norms_parts schema (map (joined_norms (map part_of parts)) (fields schema))
 parts_are schema parts same =
     each_same 0 schema (λ f. (f, joined_ids parts f)) (λ f. (f, slice_index_or (map (joined_norms (map part_of parts)) (fields schema)) f []))

@@ -10,11 +10,10 @@ use Rattle.seg_bits.specs.BitSets.{member_count}
 use Rattle.seg_values.specs.declared.schema.FieldEntry.{FieldEntry}
 use Rattle.seg_model.specs.Fields.{Schema, is_indexed}
 use Rattle.seg_model.specs.Contents.{terms_at}
-use Rattle.seg_open.specs.OpenSegment.{contents_of, terms_in}
+use Rattle.seg_open.specs.OpenSegment.{IsMarked, IsOfSchema, OpenSegment, contents_of, kept_count, terms_in}
 use Rattle.seg_postings.specs.FieldReading.{OpenField, written_terms}
 use Rattle.seg_postings.specs.HeldTerms.{terms_held}
 use Rattle.seg_join.specs.JoinedTerms.{FieldsAreOpen, IsOpenAt, IsOfField, source_of}
-use Rattle.seg_open.specs.KeptSegment.{KeptSegment, IsMarked, IsOfSchema, kept_count}
 use Rattle.seg_join.specs.MovedPostings.{SourceTerms}
 use Rattle.seg_join.specs.NewIds.{new_ids, NumberedSegment, numbered_from, parts_of}
 use Rattle.seg_join.proofs.KeptCounts.{counted_first}
@@ -52,7 +51,7 @@ module _ (marks : List Bool) (d : ℕ) (lt : d < length marks) (b : Bool) (is : 
 
 -- ---- segments
 
-module _ (parts : List KeptSegment) (i : ℕ) (lt : i < length parts) (p : KeptSegment) (is : p ≡ get_or parts i p) where
+module _ (parts : List OpenSegment) (i : ℕ) (lt : i < length parts) (p : OpenSegment) (is : p ≡ get_or parts i p) where
   part_split : drop i parts ≡ p ∷ drop (i + 1) parts
   part_split = drop_more parts i p lt ∙ ap (λ x. x ∷ drop (i + 1) parts) (sym is)
 
@@ -72,43 +71,43 @@ module _ (parts : List KeptSegment) (i : ℕ) (lt : i < length parts) (p : KeptS
       ∙ so_far
 
   -- what holds of each that is left
-  pub all_left : (P : KeptSegment → Type 0) → P p → AllByRecursion P (drop (i + 1) parts) → AllByRecursion P (drop i parts)
+  pub all_left : (P : OpenSegment → Type 0) → P p → AllByRecursion P (drop (i + 1) parts) → AllByRecursion P (drop i parts)
   all_left P here rest = subst (AllByRecursion P) (sym part_split) (here, rest)
 
-pub parts_back : (first : ℕ) (parts : List KeptSegment) → parts_of (numbered_from first parts) ≡ parts
+pub parts_back : (first : ℕ) (parts : List OpenSegment) → parts_of (numbered_from first parts) ≡ parts
 parts_back first [] = refl
 parts_back first (p ∷ parts) = ap (λ l. p ∷ l) (parts_back (first + member_count p.alive) parts)
 
 -- ---- an indexed field of segments of full shape
 
-open_there : (field : ℕ) (p : KeptSegment) (entry : FieldEntry) → FieldsAreOpen p → slice_get p.segment.schema field ≡ Some entry → is_indexed entry ≡ true → IsOpenAt field p
-open_there field p entry same at on = by (slice_get p.segment.fields field) refl
+open_there : (field : ℕ) (p : OpenSegment) (entry : FieldEntry) → FieldsAreOpen p → slice_get p.schema field ≡ Some entry → is_indexed entry ≡ true → IsOpenAt field p
+open_there field p entry same at on = by (slice_get p.fields field) refl
   where
-    told : option_map is_some (slice_get p.segment.fields field) ≡ Some true
+    told : option_map is_some (slice_get p.fields field) ≡ Some true
     told =
-        sym (slice_get-map is_some p.segment.fields field)
+        sym (slice_get-map is_some p.fields field)
         ∙ ap (λ (l : List Bool). slice_get l field) same
-        ∙ slice_get-map is_indexed p.segment.schema field
+        ∙ slice_get-map is_indexed p.schema field
         ∙ ap (option_map is_indexed) at
         ∙ ap Some on
 
-    by : (o : Option (Option OpenField)) → slice_get p.segment.fields field ≡ o → IsOpenAt field p
+    by : (o : Option (Option OpenField)) → slice_get p.fields field ≡ o → IsOpenAt field p
     by None e = absurd (none-some true (ap (option_map is_some) (sym e) ∙ told))
     by (Some None) e = absurd (false≢true (same_Some false true (ap (option_map is_some) (sym e) ∙ told)))
     by (Some (Some f)) e = (f, e)
 
 -- what holds of each segment holds of one
-pub part_at : (P : KeptSegment → Type 0) (ns : List NumberedSegment) (i : ℕ) (n : NumberedSegment) → i < length ns → n ≡ get_or ns i n → AllByRecursion P (parts_of ns) → P n.part
+pub part_at : (P : OpenSegment → Type 0) (ns : List NumberedSegment) (i : ℕ) (n : NumberedSegment) → i < length ns → n ≡ get_or ns i n → AllByRecursion P (parts_of ns) → P n.part
 part_at P [] i n lt is all = absurd (omega (arith, lt))
 part_at P (x ∷ ns) zero n lt is all = subst (λ (y : NumberedSegment). P y.part) (sym is) all.0
 part_at P (x ∷ ns) (suc i) n lt is all = part_at P ns i n (omega (arith, lt)) is all.1
 
-pub all_open : (entry : FieldEntry) (field : ℕ) (ps : List KeptSegment) → AllByRecursion (IsOfField entry field) ps → AllByRecursion (IsOpenAt field) ps
+pub all_open : (entry : FieldEntry) (field : ℕ) (ps : List OpenSegment) → AllByRecursion (IsOfField entry field) ps → AllByRecursion (IsOpenAt field) ps
 all_open entry field [] all = tt
 all_open entry field (p ∷ ps) all = ((all.0.opened, all.0.is_open), all_open entry field ps all.1)
 
 -- segments of a schema have its indexed fields
-pub all_of_field : (schema : Schema) (field : ℕ) (entry : FieldEntry) → slice_get schema field ≡ Some entry → is_indexed entry ≡ true → (ps : List KeptSegment)
+pub all_of_field : (schema : Schema) (field : ℕ) (entry : FieldEntry) → slice_get schema field ≡ Some entry → is_indexed entry ≡ true → (ps : List OpenSegment)
     → AllByRecursion (IsOfSchema schema) ps → AllByRecursion IsMarked ps → AllByRecursion FieldsAreOpen ps → AllByRecursion (IsOfField entry field) ps
 all_of_field schema field entry at on [] of marked fields = tt
 all_of_field schema field entry at on (p ∷ ps) of marked fields =
@@ -118,8 +117,8 @@ all_of_field schema field entry at on (p ∷ ps) of marked fields =
         is_open = there.1;
         marked = marked.0;
         shape = λ term postings is.
-            let same : terms_at (contents_of p.segment) field ≡ terms_held (written_terms there.0) =
-            get_or_from_slice_get (map terms_in p.segment.fields) field (terms_in (Some there.0)) empty (slice_get-map terms_in p.segment.fields field ∙ ap (option_map terms_in) there.1) in
+            let same : terms_at (contents_of p) field ≡ terms_held (written_terms there.0) =
+            get_or_from_slice_get (map terms_in p.fields) field (terms_in (Some there.0)) empty (slice_get-map terms_in p.fields field ∙ ap (option_map terms_in) there.1) in
             of.0.1.terms field entry at on term postings (ap (λ m. get m term) same ∙ is);
       },
       all_of_field schema field entry at on ps of.1 marked.1 fields.1,
@@ -143,7 +142,7 @@ all_pushed {X = X} P before now x pushed all here = subst (AllByRecursion P) (sy
 
 -- ---- all segments
 
-module _ (ns : List NumberedSegment) (parts : List KeptSegment) (is : ns ≡ numbered_from 0 parts) where
+module _ (ns : List NumberedSegment) (parts : List OpenSegment) (is : ns ≡ numbered_from 0 parts) where
   pub same_parts : parts_of ns ≡ parts
   same_parts = ap parts_of is ∙ parts_back 0 parts
 

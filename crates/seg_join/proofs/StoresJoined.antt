@@ -12,7 +12,7 @@ use Rattle.seg_store.specs.BlockLaw.{all_documents, AreTakenLast}
 use Rattle.seg_store.specs.Store.{documents_of}
 use Rattle.seg_stored.specs.StoredDocument.{stored_document_of}
 use Rattle.seg_store.specs.Writing.{Taken, with_document, all_blocks, taken_count}
-use Rattle.seg_open.specs.KeptSegment.{KeptSegment}
+use Rattle.seg_open.specs.OpenSegment.{OpenSegment}
 use Rattle.seg_join.specs.JoinedStore.{kept_bytes, joined_bytes, joined_documents, with_documents, taken_documents}
 use Rattle.seg_store.proofs.Exports.{documents_are_read, read_all}
 use Rattle.seg_join.proofs.KeptLists.{kept_next, kept_marked, marked_counted}
@@ -86,13 +86,13 @@ all_taken rest (Some w) all none is = sym (ap (λ ds. Some (with_documents ds w)
 
 -- ---- part after part
 
-part_split : (parts : List KeptSegment) (i : ℕ) (p : KeptSegment) → i < length parts → p ≡ get_or parts i p → drop i parts ≡ p ∷ drop (i + 1) parts
+part_split : (parts : List OpenSegment) (i : ℕ) (p : OpenSegment) → i < length parts → p ≡ get_or parts i p → drop i parts ≡ p ∷ drop (i + 1) parts
 part_split parts i p lt is = drop_more parts i p lt ∙ ap (λ q. q ∷ drop (i + 1) parts) (sym is)
 
-pub bytes_split : (parts : List KeptSegment) (i : ℕ) (p : KeptSegment) → i < length parts → p ≡ get_or parts i p → joined_bytes (drop i parts) ≡ kept_bytes p ++ joined_bytes (drop (i + 1) parts)
+pub bytes_split : (parts : List OpenSegment) (i : ℕ) (p : OpenSegment) → i < length parts → p ≡ get_or parts i p → joined_bytes (drop i parts) ≡ kept_bytes p ++ joined_bytes (drop (i + 1) parts)
 bytes_split parts i p lt is = ap joined_bytes (part_split parts i p lt is)
 
-pub documents_split : (parts : List KeptSegment) (i : ℕ) (p : KeptSegment) → i < length parts → p ≡ get_or parts i p → joined_documents (drop i parts) ≡ kept p.alive (documents_of p.segment.blocks) ++ joined_documents (drop (i + 1) parts)
+pub documents_split : (parts : List OpenSegment) (i : ℕ) (p : OpenSegment) → i < length parts → p ≡ get_or parts i p → joined_documents (drop i parts) ≡ kept p.alive (documents_of p.blocks) ++ joined_documents (drop (i + 1) parts)
 documents_split parts i p lt is = ap joined_documents (part_split parts i p lt is)
 
 pub both_read : (bs cs : List (List ℕ)) (ds es : List Document) → map stored_document_of bs ≡ map Some ds → map stored_document_of cs ≡ map Some es → map stored_document_of (bs ++ cs) ≡ map Some (ds ++ es)

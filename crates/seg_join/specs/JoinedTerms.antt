@@ -1,8 +1,7 @@
 -- The terms of a field in segments, joined.
-use Rattle.std.specs.Prelude.{◌≡◌, ◌+◌, ◌*◌, ◌/◌, ◌<◌, ◌^◌, ◌==◌, if◌then◌else◌, ℕ, List, [], ◌∷◌, map, is_some, Option, Some, None}
+use Rattle.std.specs.Prelude.{◌≡◌, ◌<◌, ◌^◌, ℕ, List, [], map, is_some, Option, Some, None}
 use Rattle.std.specs.FinMap.{get, entries}
 use Rattle.std.specs.List.{slice_get, AllByRecursion}
-use Rattle.seg_bits.specs.BitSets.{member_count}
 use Rattle.seg_values.specs.declared.schema.FieldEntry.{FieldEntry}
 use Rattle.seg_model.specs.Fields.{is_indexed}
 use Rattle.seg_model.specs.Join.{joined_terms}
@@ -12,17 +11,17 @@ use Rattle.seg_postings.specs.FieldReading.{ReadTerm, OpenField, written_terms}
 use Rattle.seg_postings.specs.FieldWriting.{TermWritten}
 use Rattle.seg_postings.specs.HeldTerms.{terms_held}
 use Rattle.seg_postings.specs.Kinds.{kind_of}
-use Rattle.seg_open.specs.KeptSegment.{KeptSegment, IsMarked, kept_count, part_of}
+use Rattle.seg_open.specs.OpenSegment.{OpenSegment, IsMarked, kept_count, part_of}
 use Rattle.seg_join.specs.MovedPostings.{SourceTerms}
 use Rattle.seg_join.specs.NewIds.{NumberedSegment, numbered_from, parts_of}
 
 -- each field that is indexed is open, and no other
-abbrev pub FieldsAreOpen : KeptSegment → Type 0
-FieldsAreOpen p = map is_some p.segment.fields ≡ map is_indexed p.segment.schema
+abbrev pub FieldsAreOpen : OpenSegment → Type 0
+FieldsAreOpen p = map is_some p.fields ≡ map is_indexed p.schema
 
 -- a field is open
-abbrev pub IsOpenAt : ℕ → KeptSegment → Type 0
-IsOpenAt field p = (opened : OpenField) × (slice_get p.segment.fields field ≡ Some (Some opened))
+abbrev pub IsOpenAt : ℕ → OpenSegment → Type 0
+IsOpenAt field p = (opened : OpenField) × (slice_get p.fields field ≡ Some (Some opened))
 
 -- the terms that are read of a field; none where it isn't open
 abbrev pub terms_read : Option (Option OpenField) → List ReadTerm
@@ -32,14 +31,14 @@ terms_read (Some (Some f)) = f.terms
 
 -- the terms of a field in a segment, with the new ids of its documents
 abbrev pub source_of : ℕ → NumberedSegment → SourceTerms
-source_of field n = record { terms = terms_read (slice_get n.part.segment.fields field); ids = n.ids }
+source_of field n = record { terms = terms_read (slice_get n.part.fields field); ids = n.ids }
 
 -- a field with this entry is open in a segment, and each of its terms has the form of full shape
-pub record IsOfField (entry : FieldEntry) (field : ℕ) (p : KeptSegment) : Type 0 where
+pub record IsOfField (entry : FieldEntry) (field : ℕ) (p : OpenSegment) : Type 0 where
   pub opened : OpenField
-  pub is_open : slice_get p.segment.fields field ≡ Some (Some opened)
+  pub is_open : slice_get p.fields field ≡ Some (Some opened)
   pub marked : IsMarked p
-  pub shape : (term : List ℕ) (postings : List Posting) → get (terms_held (written_terms opened)) term ≡ Some postings → IsTermWith entry p.segment.documents term postings
+  pub shape : (term : List ℕ) (postings : List Posting) → get (terms_held (written_terms opened)) term ≡ Some postings → IsTermWith entry p.documents term postings
 
 -- the terms of a field can be joined: it is open in each segment, and the kept documents have their new ids
 pub record CanJoin (numbered : List NumberedSegment) (field : ℕ) : Type 0 where
@@ -52,18 +51,3 @@ pub record CanJoin (numbered : List NumberedSegment) (field : ℕ) : Type 0 wher
 pub record AreJoined (numbered : List NumberedSegment) (field : ℕ) (terms : List TermWritten) : Type 0 where
   pub kinds : (entry : FieldEntry) → AllByRecursion (IsOfField entry field) (parts_of numbered) → AllByRecursion (λ t. t.kind ≡ kind_of (term_option entry t.bytes)) terms
   pub are : (entry : FieldEntry) → AllByRecursion (IsOfField entry field) (parts_of numbered) → map (λ t. (t.bytes, t.postings)) terms ≡ entries (joined_terms (map part_of (parts_of numbered)) (field, entry))
-
--- as large a part of the tokens of a segment as is kept of its documents, rounded down
-abbrev pub kept_tokens : ℕ → ℕ → ℕ → ℕ
-kept_tokens tokens live documents = if live == documents then tokens else tokens * live / documents
-
--- the total of tokens that is read of a field; 0 where it isn't open
-abbrev pub total_read : Option (Option OpenField) → ℕ
-total_read None = 0
-total_read (Some None) = 0
-total_read (Some (Some f)) = f.total
-
--- an estimate of the tokens of a field in the kept documents of segments
-abbrev pub tokens_in : ℕ → List KeptSegment → ℕ
-tokens_in field [] = 0
-tokens_in field (p ∷ parts) = kept_tokens (total_read (slice_get p.segment.fields field)) (member_count p.alive) p.segment.documents + tokens_in field parts

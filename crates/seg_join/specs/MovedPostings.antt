@@ -8,7 +8,7 @@ use Rattle.seg_common.specs.declared.term_info.TermInfo.{TermInfo}
 use Rattle.seg_model.specs.Reading.{Posting}
 use Rattle.seg_termdict.specs.SortedTerms.{RankedTerm}
 use Rattle.seg_termdict.specs.Dictionary.{Term}
-use Rattle.seg_termdict.specs.Ranges.{ranked_terms}
+use Rattle.seg_termdict.specs.Streaming.{ranked_terms}
 use Rattle.seg_postings.specs.FieldReading.{ReadTerm}
 
 -- the terms of a field in a segment, and the new ids of the segment's documents

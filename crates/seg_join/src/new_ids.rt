@@ -3,7 +3,7 @@ ghost use Rattle.std.specs.Prelude.{◌≡◌, ◌<◌, ◌+◌, ◌^◌, ◌++�
 ghost use Rattle.seg_bits.specs.BitSets.{member_count};
 ghost use Rattle.seg_join.specs.NewIds.{id_of, new_ids};
 
-use crate::merge_part::MergePart;
+use seg_open::SegmentReader;
 use std::alloc::{AllocError, Global};
 use std::marker::Model;
 
@@ -27,12 +27,12 @@ impl Model for NewIds {
 
 impl NewIds {
     /// Gives the documents that are kept their ids, from `first` on.
-    pub(crate) fn new(alloc: Global, part: &MergePart<'_>, first: u32) -> Result<NewIds, AllocError>
+    pub(crate) fn new(alloc: Global, part: &SegmentReader, first: u32) -> Result<NewIds, AllocError>
         requires { first + member_count part.now.alive < 2 ^ 31 }
         ensures { IfOk result (λ ids. ids ≡ new_ids first part.now.alive) }
     {
         part.documents_are_marked();
-        let max_doc = part.reader().max_doc();
+        let max_doc = part.max_doc();
         let mut ids = Vec::with_capacity(alloc, max_doc as usize)?;
         let mut next = first;
         for doc in 0..max_doc {

@@ -7,25 +7,25 @@ ghost use Rattle.seg_model.specs.Operations.{kept};
 ghost use Rattle.seg_directory.specs.Composite.{composite};
 ghost use Rattle.seg_norms.specs.FieldNorms.{norms_parts};
 ghost use Rattle.seg_join.specs.JoinedNorms.{joined_ids, kept_ids};
-ghost use Rattle.seg_open.specs.KeptSegment.{part_of};
+ghost use Rattle.seg_open.specs.OpenSegment.{part_of};
 
-use crate::merge_part::MergePart;
 use seg_norms::{FieldNormReader, FieldNormsSerializer};
+use seg_open::SegmentReader;
 use seg_segment::{LengthsByField, write_lengths};
 use seg_values::{Field, Schema};
 use std::alloc::{AllocError, Global};
 use std::marker::Model;
 
 /// The bytes of the file of length ids of segments that are joined.
-pub fn join_norms(
+pub(crate) fn join_norms(
     alloc: Global,
     schema: &Schema,
-    parts: &[MergePart<'_>],
+    parts: &[SegmentReader],
 ) -> Result<Vec<u8>, AllocError>
-    requires schema { AllByRecursion (λ p. p.segment.schema ≡ schema.now) parts.now }
+    requires schema { AllByRecursion (λ p. p.schema ≡ schema.now) parts.now }
     ensures { IfOk result (λ file. composite file.items ≡ Some (norms_parts schema.now (map (joined_norms (map part_of parts.now)) (model.fields schema.now)))) }
 {
-    let lengths = JoinedLengths::new(alloc, parts)?;
+    let lengths = JoinedLengths { alloc, parts };
     write_lengths(alloc, schema, &lengths)
 }
 
@@ -33,37 +33,16 @@ pub fn join_norms(
 #[derive(Drop)]
 struct JoinedLengths<'a> {
     alloc: Global,
-    parts: Vec<MergePart<'a>>,
+    parts: &'a [SegmentReader],
 }
 
 impl<'a> Model for JoinedLengths<'a> {
     ghost use Rattle.std.specs.Prelude.{List};
-    ghost use Rattle.seg_open.specs.KeptSegment.{KeptSegment};
+    ghost use Rattle.seg_open.specs.OpenSegment.{OpenSegment};
 
-    ghost Value = { List KeptSegment };
+    ghost Value = { List OpenSegment };
 
-    ghost view = { λ l. l.parts.items };
-}
-
-impl<'a> JoinedLengths<'a> {
-    fn new(alloc: Global, parts: &[MergePart<'a>]) -> Result<JoinedLengths<'a>, AllocError>
-        ensures { IfOk result (λ lengths. lengths ≡ parts.now) }
-    {
-        let mut shared = Vec::new(alloc);
-        for part in parts {
-            shared.push(part.share())?;
-        }
-        Ok(JoinedLengths {
-            alloc,
-            parts: shared,
-        })
-    }
-
-    fn as_slice(&self) -> &[MergePart<'a>]
-        ensures { result.now ≡ self.now }
-    {
-        &self.parts
-    }
+    ghost view = { λ l. l.parts.now };
 }
 
 impl<'a> LengthsByField for JoinedLengths<'a> {
@@ -72,7 +51,7 @@ impl<'a> LengthsByField for JoinedLengths<'a> {
     ghost ids = { λ parts field. joined_ids parts field };
 
     fn write_ids(&self, field: Field, file: &mut FieldNormsSerializer) -> Result<(), AllocError> {
-        let ids = ids_of(self.alloc, field, self.as_slice())?;
+        let ids = ids_of(self.alloc, field, self.parts)?;
         match file.serialize_field(field, &ids) {
             Ok(()) => Ok(()),
             Err(_) => Err(AllocError),
@@ -81,7 +60,7 @@ impl<'a> LengthsByField for JoinedLengths<'a> {
 }
 
 /// The ids of a field in the kept documents.
-fn ids_of(alloc: Global, field: Field, parts: &[MergePart<'_>]) -> Result<Vec<u8>, AllocError>
+fn ids_of(alloc: Global, field: Field, parts: &[SegmentReader]) -> Result<Vec<u8>, AllocError>
     ensures { IfOk result (λ ids. ids.items ≡ joined_ids parts.now field) }
 {
     let mut ids = Vec::new(alloc);
@@ -92,10 +71,10 @@ fn ids_of(alloc: Global, field: Field, parts: &[MergePart<'_>]) -> Result<Vec<u8
 }
 
 /// Adds the ids of a field in the kept documents of a segment.
-fn add_ids(part: &MergePart<'_>, field: Field, ids: &mut Vec<u8>) -> Result<(), AllocError>
+fn add_ids(part: &SegmentReader, field: Field, ids: &mut Vec<u8>) -> Result<(), AllocError>
     ensures { OnOk result (ids.new.items ≡ ids.old.items ++ kept_ids field part.now) }
 {
-    let Some(norms) = part.reader().fieldnorms_readers().get_field(field) else {
+    let Some(norms) = part.fieldnorms_readers().get_field(field) else {
         return Ok(());
     };
     add_kept(part, &norms, ids)
@@ -103,14 +82,14 @@ fn add_ids(part: &MergePart<'_>, field: Field, ids: &mut Vec<u8>) -> Result<(), 
 
 /// Adds the ids of the kept documents of a segment.
 fn add_kept(
-    part: &MergePart<'_>,
+    part: &SegmentReader,
     norms: &FieldNormReader,
     ids: &mut Vec<u8>,
 ) -> Result<(), AllocError>
     ensures { OnOk result (ids.new.items ≡ ids.old.items ++ kept part.now.alive norms.now) }
 {
     part.documents_are_marked();
-    for doc in 0..part.reader().max_doc() {
+    for doc in 0..part.max_doc() {
         add_id(part, norms, doc, ids)?;
     }
     Ok(())
@@ -118,7 +97,7 @@ fn add_kept(
 
 /// Adds the id of a document, where it has one and is kept.
 fn add_id(
-    part: &MergePart<'_>,
+    part: &SegmentReader,
     norms: &FieldNormReader,
     doc: u32,
     ids: &mut Vec<u8>,

@@ -6,11 +6,14 @@ ghost use Rattle.seg_stored.specs.StoredDocument.{stored_document_of};
 ghost use Rattle.seg_store.specs.Writing.{taken_count};
 ghost use Rattle.seg_join.specs.JoinedStore.{joined_bytes, joined_documents, kept_bytes, taken_documents, with_documents};
 
-use crate::merge_part::MergePart;
+use seg_open::SegmentReader;
 use seg_store::{StoreError, StoreWriter, documents_stay_in_order};
 
 /// Adds the kept documents of segments, one segment after another. Their stored bytes are copied, and nothing is decoded.
-pub fn join_stores(parts: &[MergePart<'_>], writer: &mut StoreWriter) -> Result<(), StoreError>
+pub(crate) fn join_stores(
+    parts: &[SegmentReader],
+    writer: &mut StoreWriter,
+) -> Result<(), StoreError>
     requires limit { IfSome writer.old (λ w. taken_count w + length (joined_documents parts.now) < 2 ^ 31) }
     ensures ok { OnOk result (writer.new ≡ option_map (with_documents (joined_bytes parts.now)) writer.old) }
     ensures reads { OnOk result (map stored_document_of (joined_bytes parts.now) ≡ map Some (joined_documents parts.now)) }
@@ -25,10 +28,10 @@ pub fn join_stores(parts: &[MergePart<'_>], writer: &mut StoreWriter) -> Result<
 }
 
 /// Adds the kept documents of a segment.
-fn add_part(part: &MergePart<'_>, writer: &mut StoreWriter) -> Result<(), StoreError>
-    requires limit { IfSome writer.old (λ w. taken_count w + length (kept part.now.alive (documents_of part.now.segment.blocks)) < 2 ^ 31) }
+fn add_part(part: &SegmentReader, writer: &mut StoreWriter) -> Result<(), StoreError>
+    requires limit { IfSome writer.old (λ w. taken_count w + length (kept part.now.alive (documents_of part.now.blocks)) < 2 ^ 31) }
     ensures ok { OnOk result (writer.new ≡ option_map (with_documents (kept_bytes part.now)) writer.old) }
-    ensures reads { OnOk result (map stored_document_of (kept_bytes part.now) ≡ map Some (kept part.now.alive (documents_of part.now.segment.blocks))) }
+    ensures reads { OnOk result (map stored_document_of (kept_bytes part.now) ≡ map Some (kept part.now.alive (documents_of part.now.blocks))) }
     ensures err { IfErr result (λ e. (e ≡ StoreError.OutOfMemory) × (writer.new ≡ None)) }
 {
     documents_stay_in_order();
@@ -40,22 +43,22 @@ fn add_part(part: &MergePart<'_>, writer: &mut StoreWriter) -> Result<(), StoreE
 }
 
 /// How many documents a segment stores; each can be read.
-fn stored_count(part: &MergePart<'_>) -> u32
-    ensures counted { result ≡ document_count part.now.segment.blocks }
-    ensures reads { map stored_document_of (kept_bytes part.now) ≡ map Some (kept part.now.alive (documents_of part.now.segment.blocks)) }
+fn stored_count(part: &SegmentReader) -> u32
+    ensures counted { result ≡ document_count part.now.blocks }
+    ensures reads { map stored_document_of (kept_bytes part.now) ≡ map Some (kept part.now.alive (documents_of part.now.blocks)) }
 {
-    part.reader().store_reader().num_docs()
+    part.store_reader().num_docs()
 }
 
 /// Adds a document, where it is kept.
-fn add_document(part: &MergePart<'_>, doc: u32, writer: &mut StoreWriter) -> Result<(), StoreError>
-    requires is { doc < document_count part.now.segment.blocks }
+fn add_document(part: &SegmentReader, doc: u32, writer: &mut StoreWriter) -> Result<(), StoreError>
+    requires is { doc < document_count part.now.blocks }
     requires limit { get_or part.now.alive doc false ≡ true → IfSome writer.old (λ w. taken_count w < 2 ^ 31 - 1) }
-    ensures ok { OnOk result (writer.new ≡ option_map (with_documents (kept (take 1 (drop doc part.now.alive)) (take 1 (drop doc (raw_documents part.now.segment.blocks))))) writer.old) }
+    ensures ok { OnOk result (writer.new ≡ option_map (with_documents (kept (take 1 (drop doc part.now.alive)) (take 1 (drop doc (raw_documents part.now.blocks))))) writer.old) }
     ensures err { IfErr result (λ e. (e ≡ StoreError.OutOfMemory) × (writer.new ≡ None)) }
 {
     if !part.is_alive(doc) {
         return Ok(());
     }
-    writer.store_bytes(part.reader().store_reader().raw(doc).as_slice())
+    writer.store_bytes(part.store_reader().raw(doc).as_slice())
 }

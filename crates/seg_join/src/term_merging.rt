@@ -1,5 +1,5 @@
 //! The terms of a field in segments, merged key by key.
-ghost use Rattle.std.specs.Prelude.{◌≡◌, ◌<◌, ◌++◌, ℕ, List, map, take, length, nat_lt, Some, None, All, IfOk, IfSome, IsSome, IsSomeAnd, IsTrue, OnOk};
+ghost use Rattle.std.specs.Prelude.{◌≡◌, ◌<◌, ◌++◌, ℕ, List, map, take, length, false, nat_lt, Some, None, All, IfOk, IfSome, IsSome, IsSomeAnd, IsTrue, OnOk};
 ghost use Rattle.std.specs.FinMap.{entries};
 ghost use Rattle.std.specs.List.{AllByRecursion};
 ghost use Rattle.seg_common.specs.Growing.{HasGrown};
@@ -59,7 +59,8 @@ fn streams_of<'a>(
     sources: &[TermSource<'a>],
 ) -> Result<Vec<TermStreamer<'a>>, AllocError>
     ensures are { IfOk result (λ streams. streams.items ≡ map (λ s. all_terms (terms_of s)) sources.now) }
-    ensures first { IfOk result (λ streams. All (λ s. s.taken ≡ 0) streams.items) }
+    ensures fresh { IfOk result (λ streams. All (λ s. s.taken ≡ 0) streams.items) }
+    ensures forward { IfOk result (λ streams. All (λ s. s.backward ≡ false) streams.items) }
 {
     let mut streams = Vec::new(alloc);
     for source in sources {

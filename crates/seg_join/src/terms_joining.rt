@@ -1,49 +1,45 @@
 //! The terms of segments, joined.
-ghost use Rattle.std.specs.Prelude.{◌≡◌, ◌<◌, ◌-◌, ◌^◌, true, map, min, IfOk};
+ghost use Rattle.std.specs.Prelude.{◌≡◌, ◌<◌, ◌^◌, true, map, IfOk, IsSomeAnd};
 ghost use Rattle.std.specs.List.{AllByRecursion};
-ghost use Rattle.seg_model.specs.Fields as model;
-ghost use Rattle.seg_model.specs.Join.{joined_terms};
 ghost use Rattle.seg_segment.specs.Built.{is_built_schema};
-ghost use Rattle.seg_segment.specs.HoldTerms.{HoldTerms};
-ghost use Rattle.seg_join.specs.JoinedTerms.{IsOpenAt, source_of, tokens_in};
-ghost use Rattle.seg_open.specs.KeptSegment.{IsOfSchema, kept_count, part_of};
+ghost use Rattle.seg_join.specs.JoinedTerms.{IsOpenAt, source_of};
+ghost use Rattle.seg_join.specs.JoinedTotals.{tokens_in};
+ghost use Rattle.seg_join.specs.Joining.{HoldJoined};
+ghost use Rattle.seg_open.specs.OpenSegment.{IsOfSchema, kept_count};
 ghost use Rattle.seg_join.specs.MovedPostings.{Ascend};
 ghost use Rattle.seg_join.specs.NewIds.{parts_of};
 
-use crate::merge_part::MergePart;
 use crate::numbered_part::{NumberedPart, NumberedParts, number_parts};
 use crate::term_merging::write_terms;
 use crate::term_source::TermSource;
-use seg_postings::PostingsFiles;
+use seg_open::SegmentReader;
+use seg_postings::InvertedIndexSerializer;
 use seg_segment::{TermWriter, TermsByField, write_fields};
-use seg_values::{Field, PostingsError, Schema};
+use seg_values::{Field, Schema};
 use std::alloc::{AllocError, Global};
 
-/// The files of the terms, postings and positions of segments that are joined. A term is written where a kept document has
+/// The terms, postings and positions of segments that are joined. A term is written where a document that is alive has
 /// it, and no more than one term of each segment is in memory at a time.
 pub(crate) fn join_terms(
     alloc: Global,
     schema: &Schema,
-    parts: &[MergePart<'_>],
-) -> Result<PostingsFiles, AllocError>
+    parts: &[SegmentReader],
+) -> Result<InvertedIndexSerializer, AllocError>
     requires built { is_built_schema schema.now ≡ true }
     requires parts { AllByRecursion (IsOfSchema schema.now) parts.now }
     requires few { kept_count parts.now < 2 ^ 31 }
-    ensures { IfOk result (λ files. HoldTerms schema.now files.terms.items files.postings.items files.positions.items (map (joined_terms (map part_of parts.now)) (model.fields schema.now))) }
+    ensures { IfOk result (λ files. IsSomeAnd files (HoldJoined schema.now parts.now)) }
 {
     let numbered = number_parts(alloc, parts)?;
-    let Ok(files) = write_fields(alloc, schema, &numbered)?.close() else {
-        return Err(AllocError);
-    };
-    Ok(files)
+    write_fields(alloc, schema, &numbered)
 }
 
 impl<'a> TermsByField for NumberedParts<'a> {
-    ghost use Rattle.std.specs.Prelude.{◌-◌, ◌^◌, min};
-    ghost use Rattle.seg_join.specs.JoinedTerms.{AreJoined, CanJoin, tokens_in};
+    ghost use Rattle.seg_join.specs.JoinedTerms.{AreJoined, CanJoin};
+    ghost use Rattle.seg_join.specs.JoinedTotals.{tokens_in};
     ghost use Rattle.seg_join.specs.NewIds.{parts_of};
 
-    ghost total = { λ parts field. min (tokens_in field (parts_of parts)) (2 ^ 64 - 1) };
+    ghost total = { λ parts field. tokens_in field (parts_of parts) };
 
     ghost has = { λ parts field terms. AreJoined parts field terms };
 
@@ -83,10 +79,10 @@ fn sources_of<'a>(
     Ok(sources)
 }
 
-/// An estimate of the tokens of an indexed field in all kept documents; `u64::MAX` where it is more.
+/// The tokens of an indexed field in all documents that are alive, at most `u64::MAX`.
 fn tokens_of(field: Field, parts: &[NumberedPart<'_>]) -> u64
     requires { AllByRecursion (IsOpenAt field) (parts_of parts.now) }
-    ensures { result ≡ min (tokens_in field (parts_of parts.now)) (2 ^ 64 - 1) }
+    ensures { result ≡ tokens_in field (parts_of parts.now) }
 {
     let mut tokens = 0u64;
     for part in parts {

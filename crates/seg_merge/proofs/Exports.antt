@@ -1,3 +1,2 @@
 -- What crates above may cite: all other modules are inner.
-pub use Rattle.seg_merge.proofs.ReadBack.{reads_of}
 pub use Rattle.seg_merge.proofs.Stopped.{IsBuildError, RoseIn, build_error}

@@ -26,11 +26,10 @@ use Rattle.seg_batches.specs.AliveWriting.{WritesAlive, alive_step, alive_steps}
 use Rattle.seg_batches.specs.Segments.{AllStand, AllTellAlive, WrittenSegment, alive_file, alive_files, all_listed, deletes_of, six_files}
 use Rattle.seg_batches.specs.Writing.{MakesBatches, batch_cause, batch_causes, batches_steps}
 use Rattle.seg_batches.proofs.Exports.{IsFew, IsFirst, TellsRefusal, alive_fresh, all_few, all_stand, all_taken, all_tell, batches_fresh, batches_none, batches_told, causes_tell, first_cause, refusal_weaker}
-use Rattle.seg_batches.proofs.Started as started
 use Rattle.seg_merge.specs.IndexFiles.{listed_of, segments_files, written_of}
 use Rattle.seg_merge.specs.WorkIndexWriting.{FillsIndex, FinishesIndex, finish_steps, listing_meta}
 use Rattle.seg_merge.specs.WritingSteps.{publish_steps}
-use Rattle.seg_merge.proofs.FillSteps.{alive_absent, as_many, ids_are, listed_are, meta_list, no_alive_file, six_absent, stand_kept, tell_kept}
+use Rattle.seg_merge.proofs.FillSteps.{alive_absent, as_many, as_many_cut, ids_are, listed_are, meta_list, no_alive_file, six_absent, stand_kept, tell_kept}
 use Rattle.seg_merge.proofs.FinishSteps.{FinishParts, in_alive, in_meta, finish_parts}
 use Rattle.seg_merge.proofs.IndexSteps.{tells-still}
 use Rattle.seg_merge.proofs.Steps.{published, publishing_keeps}
@@ -161,7 +160,7 @@ module _ (settings : Settings) (schema : Schema) (analyzer : Analyzer) (ids cuts
 
   module _ (many : length ids ≡ length cuts + 1) where
     each : length causes ≡ length ids
-    each = started.as_many (batch_cause None schema analyzer) 0 cuts (enumerate_from 0 operations) ∙ sym many
+    each = as_many_cut (batch_cause None schema analyzer) 0 cuts (enumerate_from 0 operations) ∙ sym many
 
     -- where it ends: in a batch, or after all of them
     data FillParts {T : Type 0} (r : Result T TantivyError) (a c : DirectoryState) : Type 0 where

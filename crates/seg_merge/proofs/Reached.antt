@@ -1,7 +1,6 @@
 -- What is known of both directories, where their writing comes to some place.
-use Rattle.std.proofs.Common.{◌≡◌, ◌≤◌, ◌∙◌, ◌+◌, List, [], ◌∷◌, IsTrue, map, length, true, Ok, refl, sym, arith}
+use Rattle.std.proofs.Common.{◌≡◌, ◌≤◌, ◌∙◌, ◌+◌, List, [], ◌∷◌, IsTrue, map, length, true, sym, arith}
 use Rattle.std.specs.FinMap.{len}
-use Rattle.std.specs.List.{AllByRecursion}
 use Rattle.seg_common.specs.declared.name.FileName.TheVariants.{Meta}
 use Rattle.seg_directory.proofs.Exports.{all_went}
 use Rattle.seg_directory.specs.State.{DirectoryState}
@@ -12,20 +11,22 @@ use Rattle.seg_model.specs.Valid.{are_distinct}
 use Rattle.seg_segment.specs.Laws.{HoldsOneContents}
 use Rattle.seg_segment.specs.SegmentFiles.{AreAbsent, KeepsAllBut}
 use Rattle.seg_segment.proofs.Exports.{keeps_untouched}
-use Rattle.seg_open.specs.KeptSegment.{IsOfSchema, KeptSegment, part_of}
+use Rattle.seg_open.specs.OpenSegment.{OpenSegment, part_of}
 use Rattle.seg_batches.specs.Segments.{AllStand, AllTellAlive}
 use Rattle.seg_refusals.specs.Admitted.{Fits}
-use Rattle.seg_merge.specs.Filters.{FiltersFit}
+use Rattle.seg_merge.specs.DirectoryCalls.{merge_of}
 use Rattle.seg_merge.specs.IndexFiles.{segments_files, work_ids, work_listed, work_segments}
+use Rattle.seg_merge.specs.MergeAnswers.{AllHaveHeld, LiveAreWhole}
+use Rattle.seg_merge.specs.SegmentsMerged.{live_asked}
 use Rattle.seg_merge.specs.Turns.{Directories}
-use Rattle.seg_merge.proofs.Exits.{Begun, Filled, Read, Reads}
+use Rattle.seg_merge.proofs.Exits.{Begun, Filled}
 use Rattle.seg_merge.proofs.FilledIndex.{filled_alive, filled_small, filled_stand, filled_taken, filled_tells}
+use Rattle.seg_merge.proofs.FillSteps.{length-batches}
 use Rattle.seg_merge.proofs.IndexSteps.{tells-still}
 use Rattle.seg_merge.proofs.WholeIds.{work_distinct, work_many}
-use Rattle.seg_merge.proofs.WholeRead.{are_of_schema, filters_read}
+use Rattle.seg_merge.proofs.WholeRead.{are_whole, batches_counted, live_batches, readings}
 use Rattle.seg_merge.proofs.WholeRefused.{IsWritten}
-use Rattle.seg_merge.proofs.WholeWork.{filled_readings, segments_absent}
-use Rattle.seg_merge.proofs.FillSteps.{length-batches}
+use Rattle.seg_merge.proofs.WholeWork.{segments_absent}
 
 module _ (analyzer : Analyzer) (input : Input) where
   -- ---- both directories list no file, and the work index is begun
@@ -71,6 +72,16 @@ module _ (analyzer : Analyzer) (input : Input) where
             filled.begun_at w filled.fills;
       }
 
+      -- no count of faults fell
+      pub filled_later : a.work.faults ≤ w.faults
+      filled_later = omega (arith, begun_later a filled.begun_at o filled.begun, (all_went filled.fills.works).later)
+
+      pub filled_output_later : a.output.faults ≤ o.faults
+      filled_output_later = (all_went filled.begun.lists_output).later
+
+      pub output_told : IsTrue a.output.tells → IsTrue o.tells
+      output_told told = tells-still _ _ (all_went filled.begun.lists_output).tells told
+
       module _ (told : IsTrue a.work.tells) where
         pub told_begun : IsTrue filled.begun_at.tells
         told_begun = tells-still _ _ (begun_tells a filled.begun_at o filled.begun) told
@@ -92,37 +103,20 @@ module _ (analyzer : Analyzer) (input : Input) where
             filled_alive input.settings input.schema analyzer (work_ids input.ids) input.cuts input.operations many
             distinct tt filled.begun_at w filled.fills told_begun
 
-        -- what is read back of it are the readings of the batches
-        pub are_readings : HoldsOneContents → (read : List KeptSegment) (c : DirectoryState)
-            → Reads analyzer input (Ok read) w c
-            → AreReadingsOf input.schema analyzer (input_batches analyzer input) (map part_of read)
-        are_readings law read c reads =
-            filled_readings input.schema analyzer input.operations input.cuts (work_ids input.ids)
-            (length input.operations) refl (work_listed analyzer input) refl
-            w c work_stands work_tells_alive told_filled law many read reads
+        -- its segments are whole
+        pub work_whole : LiveAreWhole w.files (merge_of analyzer input).segments
+        work_whole =
+            are_whole input.schema analyzer (length input.operations) w.files (work_ids input.ids)
+            (input_batches analyzer input) (batches_counted input.schema analyzer 0 input.cuts input.operations)
+            work_stands work_tells_alive
 
-    -- ---- what the merge asks for
-
-    pub read_fits : (read : List KeptSegment) (w c : DirectoryState) → Reads analyzer input (Ok read) w c
-        → FiltersFit input.filters read
-    read_fits read w c reads =
-        filters_read input.schema (length input.operations) input.filters (work_ids input.ids)
-        (input_batches analyzer input) read w c
-        (many ∙ sym (length-batches input.schema analyzer 0 input.cuts input.operations)) fits.filters reads
-
-  pub read_of_schema : (read : List KeptSegment) (w c : DirectoryState) → Reads analyzer input (Ok read) w c
-      → AllByRecursion (IsOfSchema input.schema) read
-  read_of_schema read w c reads = are_of_schema input.schema (work_listed analyzer input) read w c reads
-
-  -- ---- and the output index is begun
-
-  module _ (read : List KeptSegment) (a : Directories) (w o : DirectoryState) (was : Read analyzer input read a w o) where
-    pub output_tells : o.tells ≡ a.output.tells
-    output_tells = (all_went was.begins_output).tells ∙ (all_went was.filled.begun.lists_output).tells
-
-    pub output_later : a.output.faults ≤ o.faults
-    output_later = omega (arith, (all_went was.filled.begun.lists_output).later, (all_went was.begins_output).later)
-
-    pub output_keeps : KeepsAllBut (Meta ∷ []) a.output.files o.files
-    output_keeps other untouched =
-        keeps_untouched was.begins_output other untouched ∙ keeps_untouched was.filled.begun.lists_output other tt
+        -- what is opened of it are the readings of the live batches
+        pub are_readings : HoldsOneContents → (opened : List OpenSegment)
+            → AllHaveHeld w.files (live_asked (merge_of analyzer input).segments input.filters) opened
+            → AreReadingsOf input.schema analyzer
+            (live_batches (length input.operations) input.filters (input_batches analyzer input)) (map part_of opened)
+        are_readings law opened held =
+            readings input.schema analyzer (length input.operations) w.files law input.filters (work_ids input.ids)
+            (input_batches analyzer input)
+            (many ∙ sym (length-batches input.schema analyzer 0 input.cuts input.operations))
+            (batches_counted input.schema analyzer 0 input.cuts input.operations) work_stands work_tells_alive opened held

@@ -1,8 +1,8 @@
--- What the reading back of the work index comes to.
-use Rattle.std.proofs.Common.{◌≡◌, ℕ, ◌-◌, List, [], ◌∷◌, map, length, take, drop, Bool, true, false, cond, Option, None, Some, Ok, refl, sym, ap, ◌∙◌, arith}
-use Rattle.std.specs.Prelude.{not, replicate}
+-- What the opening of the work segments comes to: those that are live have the readings of their batches.
+use Rattle.std.proofs.Common.{◌≡◌, ◌∙◌, ℕ, ◌-◌, List, [], ◌∷◌, map, length, take, drop, Bool, true, false, cond, Option, None, Some, refl, sym, ap, arith}
+use Rattle.std.specs.Prelude.{◌&&◌, not, replicate}
 use Rattle.std.specs.List.{AllByRecursion, list_all, count_by}
-use Rattle.std.proofs.lemmas.Bool.{false≢true, and_parts, eqb-true}
+use Rattle.std.proofs.lemmas.Bool.{false≢true, and_parts}
 use Rattle.std.proofs.lemmas.Option.{same_Some}
 use Rattle.seg_values.specs.Tree.{Document}
 use Rattle.seg_directory.specs.Files.{NamedFiles}
@@ -11,21 +11,23 @@ use Rattle.seg_model.specs.Contents.{Contents, full_reading}
 use Rattle.seg_model.specs.Fields.{Schema, Analyzer}
 use Rattle.seg_meta.specs.IndexOfFiles as index
 use Rattle.seg_meta.specs.IndexOfFiles.{Deletes, ListedSegment}
+use Rattle.seg_meta.specs.Metas as metas
+use Rattle.seg_meta.specs.Metas.{SegmentParts}
 use Rattle.seg_model.specs.Input.{Filter}
 use Rattle.seg_model.specs.Laws.{IsReadingOf, AreReadingsOf}
-use Rattle.seg_model.specs.Operations.{Operation, Batch, batches_from}
+use Rattle.seg_model.specs.Operations.{Operation, Batch, batches_from, filtered_by}
 use Rattle.seg_model.specs.Valid.{filter_fits, filters_fit}
 use Rattle.seg_model.proofs.Exports.{was_read}
 use Rattle.seg_segment.specs.Forms.{segment_forms}
 use Rattle.seg_segment.specs.HoldsAlive.{HoldsAlive}
 use Rattle.seg_segment.specs.Laws.{HoldsOneContents}
-use Rattle.seg_open.specs.OpenSegment.{contents_of}
-use Rattle.seg_open.specs.KeptSegment.{IsOfSchema, KeptSegment, part_of}
-use Rattle.seg_directory.specs.State.{DirectoryState}
-use Rattle.seg_batches.specs.Reading.{ReadsSegments}
+use Rattle.seg_open.specs.OpenSegment.{OpenSegment, contents_of, part_of}
+use Rattle.seg_open.specs.SegmentOpened.{Asked}
+use Rattle.seg_join.specs.Merger.{all_fit, fits}
 use Rattle.seg_batches.specs.Segments.{AllStand, AllTellAlive, TellsAlive, all_listed, deletes_of, listed, segment_of, segments_of}
-use Rattle.seg_merge.specs.Filters.{FilterFits, FiltersFit}
-use Rattle.seg_batches.proofs.Exports.{EachRead, HoldsMarks, IsHeld, IsOf, Whole, length-alive_after, segments_of_schema}
+use Rattle.seg_batches.proofs.Exports.{length-alive_after}
+use Rattle.seg_merge.specs.MergeAnswers.{AllHaveHeld, HasHeld, HoldsMarks, LiveAreWhole}
+use Rattle.seg_merge.specs.SegmentsMerged.{is_live, live_asked}
 
 -- ---- batches
 
@@ -43,7 +45,27 @@ module _ (schema : Schema) (analyzer : Analyzer) where
         (drop (cut - from) operations),
   )
 
--- ---- what is read
+-- a batch under its filter
+abbrev pub under : Option Filter → Batch → Batch
+under f batch = record { documents = batch.documents; alive = filtered_by f batch.alive }
+
+module _ (stamp : ℕ) where
+  -- whether the meta counts a document of its segment that isn't deleted
+  abbrev pub has_live : Batch → Bool
+  has_live batch = is_live (listed stamp (segment_of 0 batch))
+
+  -- the batches with such a document, each under its filter
+  abbrev pub live_batches : List (Option Filter) → List Batch → List Batch
+  live_batches filters [] = []
+  live_batches [] (batch ∷ batches) = []
+  live_batches (f ∷ filters) (batch ∷ batches) =
+      cond (has_live batch) (under f batch ∷ live_batches filters batches) (live_batches filters batches)
+
+  -- their segments
+  abbrev pub parts_of : Schema → List ℕ → List Batch → List SegmentParts
+  parts_of schema ids batches = map (metas.segment_of schema) (all_listed stamp (segments_of ids batches))
+
+-- ---- what is opened
 
 -- an alive file tells one set
 one_set : (files : NamedFiles) (id stamp documents : ℕ) (as' bs : List Bool) → HoldsAlive files id stamp documents as'
@@ -80,30 +102,49 @@ one_fewer : {X Y : Type 0} (x : X) (xs : List X) (y : Y) (ys : List Y) → lengt
 one_fewer x xs y ys many = omega (arith, many)
 
 module _ (schema : Schema) (analyzer : Analyzer) (stamp : ℕ) (files : NamedFiles) (law : HoldsOneContents) where
-  reads_one : (id : ℕ) (batch : Batch) (read : KeptSegment) → IsCounted batch
+  abbrev asked_for : Option Filter → ℕ → Batch → Asked
+  asked_for f id batch = record { segment = metas.segment_of schema (listed stamp (segment_of id batch)); custom = f }
+
+  reads_one : (f : Option Filter) (id : ℕ) (batch : Batch) (read : OpenSegment) → IsCounted batch
       → index.StandsFor segment_forms files schema analyzer id batch.documents
-      → TellsAlive files id (length batch.documents) batch.alive (deletes_of stamp batch.alive) → IsHeld schema files (listed stamp (segment_of id batch)) read → IsReadingOf schema analyzer batch (part_of read)
-  reads_one id batch read counted stands tell held = record {
+      → TellsAlive files id (length batch.documents) batch.alive (deletes_of stamp batch.alive)
+      → HasHeld files (asked_for f id batch) read → IsReadingOf schema analyzer (under f batch) (part_of read)
+  reads_one f id batch read counted stands tell held = record {
     contents =
         stands.read ∙ ap (λ (c : Contents). Some c)
-        (law files id schema stands.contents (contents_of read.segment) stands.held held.contents);
-    alive = alive_read files stamp id (length batch.documents) batch.alive read.alive counted tell held.alive;
+        (law files id schema stands.contents (contents_of read) stands.held held.contents);
+    alive =
+        held.cut ∙ ap (filtered_by f)
+        (alive_read files stamp id (length batch.documents) batch.alive held.marks counted tell held.alive);
   }
 
-  -- each segment that is read has the reading of its batch
-  pub readings : (ids : List ℕ) (batches : List Batch) (read : List KeptSegment) → length ids ≡ length batches
+  abbrev Read : List Batch → List Asked → Type 0
+  Read batches asked =
+      (opened : List OpenSegment) → AllHaveHeld files asked opened → AreReadingsOf schema analyzer batches (map part_of opened)
+
+  read_if : (t : Bool) (f : Option Filter) (id : ℕ) (batch : Batch) (asked : List Asked) (batches : List Batch)
+      → ((s : OpenSegment) → HasHeld files (asked_for f id batch) s → IsReadingOf schema analyzer (under f batch) (part_of s))
+      → Read batches asked → Read (cond t (under f batch ∷ batches) batches) (cond t (asked_for f id batch ∷ asked) asked)
+  read_if true f id batch asked batches one next [] h = absurd h
+  read_if true f id batch asked batches one next (s ∷ opened) h = (one s h.0, next opened h.1)
+  read_if false f id batch asked batches one next opened h = next opened h
+
+  -- each segment that is opened has the reading of its batch
+  pub readings : (filters : List (Option Filter)) (ids : List ℕ) (batches : List Batch) → length ids ≡ length batches
       → AllByRecursion IsCounted batches → AllStand schema analyzer files ids batches
-      → AllTellAlive files stamp (segments_of ids batches) → EachRead (IsHeld schema files) (all_listed stamp (segments_of ids batches)) read → AreReadingsOf schema analyzer batches (map part_of read)
-  readings [] [] [] many counted stand tell h = tt
-  readings [] [] (r ∷ read) many counted stand tell h = absurd h
-  readings [] (batch ∷ batches) read many counted stand tell h = absurd (no_members batch batches many)
-  readings (id ∷ ids) [] read many counted stand tell h = absurd (some_members id ids many)
-  readings (id ∷ ids) (batch ∷ batches) [] many counted stand tell h = absurd h
-  readings (id ∷ ids) (batch ∷ batches) (r ∷ read) many counted stand tell h = (
-    reads_one id batch r counted.0 stand.0 tell.0 h.0,
-    readings ids batches read
-        (one_fewer id ids batch batches many) counted.1 stand.1 tell.1 h.1,
-  )
+      → AllTellAlive files stamp (segments_of ids batches)
+      → Read (live_batches stamp filters batches) (live_asked (parts_of stamp schema ids batches) filters)
+  readings filters [] [] many counted stand tell [] h = tt
+  readings filters [] [] many counted stand tell (s ∷ opened) h = absurd h
+  readings filters [] (batch ∷ batches) many counted stand tell opened h = absurd (no_members batch batches many)
+  readings filters (id ∷ ids) [] many counted stand tell opened h = absurd (some_members id ids many)
+  readings [] (id ∷ ids) (batch ∷ batches) many counted stand tell [] h = tt
+  readings [] (id ∷ ids) (batch ∷ batches) many counted stand tell (s ∷ opened) h = absurd h
+  readings (f ∷ filters) (id ∷ ids) (batch ∷ batches) many counted stand tell opened h =
+      read_if (has_live stamp batch) f id batch (live_asked (parts_of stamp schema ids batches) filters)
+      (live_batches stamp filters batches)
+      (λ s held. reads_one f id batch s counted.0 stand.0 tell.0 held)
+      (readings filters ids batches (one_fewer id ids batch batches many) counted.1 stand.1 tell.1) opened h
 
 -- ---- no damage
 
@@ -126,7 +167,7 @@ module _ (schema : Schema) (analyzer : Analyzer) (stamp : ℕ) (files : NamedFil
   whole_one : (id : ℕ) (batch : Batch) → IsCounted batch
       → index.StandsFor segment_forms files schema analyzer id batch.documents
       → TellsAlive files id (length batch.documents) batch.alive (deletes_of stamp batch.alive)
-      → Whole schema files (listed stamp (segment_of id batch))
+      → index.IsWhole segment_forms files schema (listed stamp (segment_of id batch))
   whole_one id batch counted stands tell = record {
     contents = stands.contents;
     held = stands.held;
@@ -137,52 +178,36 @@ module _ (schema : Schema) (analyzer : Analyzer) (stamp : ℕ) (files : NamedFil
   -- segments that stand for documents are whole
   pub are_whole : (ids : List ℕ) (batches : List Batch) → AllByRecursion IsCounted batches
       → AllStand schema analyzer files ids batches → AllTellAlive files stamp (segments_of ids batches)
-      → AllByRecursion (Whole schema files) (all_listed stamp (segments_of ids batches))
+      → LiveAreWhole files (parts_of stamp schema ids batches)
   are_whole [] batches counted stand tell = tt
   are_whole (id ∷ ids) [] counted stand tell = tt
-  are_whole (id ∷ ids) (batch ∷ batches) counted stand tell =
-      (whole_one id batch counted.0 stand.0 tell.0, are_whole ids batches counted.1 stand.1 tell.1)
+  are_whole (id ∷ ids) (batch ∷ batches) counted stand tell = (
+    λ live. whole_one id batch counted.0 stand.0 tell.0,
+    are_whole ids batches counted.1 stand.1 tell.1,
+  )
 
 -- ---- what the merge asks for
 
-each_of_schema : (schema : Schema) (segments : List ListedSegment) (read : List KeptSegment)
-    → EachRead (IsOf schema) segments read → AllByRecursion (IsOfSchema schema) read
-each_of_schema schema [] [] h = tt
-each_of_schema schema [] (r ∷ read) h = absurd h
-each_of_schema schema (s ∷ segments) [] h = absurd h
-each_of_schema schema (s ∷ segments) (r ∷ read) h =
-    ((h.0.of_schema, h.0.shape), each_of_schema schema segments read h.1)
+pub parts_of_one : (schema : Schema) (segments : List ListedSegment)
+    → AllByRecursion (λ (s : SegmentParts). s.schema ≡ schema) (map (metas.segment_of schema) segments)
+parts_of_one schema [] = tt
+parts_of_one schema (s ∷ segments) = (refl, parts_of_one schema segments)
 
-pub are_of_schema : (schema : Schema) (segments : List ListedSegment) (read : List KeptSegment) (a b : DirectoryState)
-    → ReadsSegments schema segments (Ok read) a b → AllByRecursion (IsOfSchema schema) read
-are_of_schema schema segments read a b h =
-    each_of_schema schema segments read (segments_of_schema schema segments read a b h)
+one_fits : (schema : Schema) (stamp : ℕ) (f : Option Filter) (id : ℕ) (batch : Batch) → filter_fits f batch ≡ true
+    → fits f (metas.segment_of schema (listed stamp (segment_of id batch))) ≡ true
+one_fits schema stamp None id batch h = refl
+one_fits schema stamp (Some f) id batch h = h
 
-filter_read : (filter : Option Filter) (batch : Batch) (r : KeptSegment) → filter_fits filter batch ≡ true
-    → r.segment.documents ≡ length batch.documents → FilterFits filter r
-filter_read None batch r fit number = tt
-filter_read (Some f) batch r fit number = eqb-true (length f) (length batch.documents) fit ∙ sym number
-
-module _ (schema : Schema) (stamp : ℕ) where
-  each_filter : (filters : List (Option Filter)) (ids : List ℕ) (batches : List Batch) (read : List KeptSegment)
-      → length ids ≡ length batches → filters_fit filters batches ≡ true
-      → EachRead (IsOf schema) (all_listed stamp (segments_of ids batches)) read → FiltersFit filters read
-  each_filter [] [] [] [] many fit h = tt
-  each_filter [] [] [] (r ∷ read) many fit h = absurd h
-  each_filter [] (id ∷ ids) [] read many fit h = absurd (some_members id ids many)
-  each_filter [] ids (batch ∷ batches) read many fit h = absurd (false≢true fit)
-  each_filter (f ∷ filters) ids [] read many fit h = absurd (false≢true fit)
-  each_filter (f ∷ filters) [] (batch ∷ batches) read many fit h = absurd (no_members batch batches many)
-  each_filter (f ∷ filters) (id ∷ ids) (batch ∷ batches) [] many fit h = absurd h
-  each_filter (f ∷ filters) (id ∷ ids) (batch ∷ batches) (r ∷ read) many fit h =
-      let fits = and_parts (filter_fits f batch) (filters_fit filters batches) fit in (
-        filter_read f batch r fits.0 h.0.of_number,
-        each_filter filters ids batches read
-            (one_fewer id ids batch batches many) fits.1 h.1,
-      )
-
-  pub filters_read : (filters : List (Option Filter)) (ids : List ℕ) (batches : List Batch) (read : List KeptSegment) (a b : DirectoryState)
-      → length ids ≡ length batches → filters_fit filters batches ≡ true
-      → ReadsSegments schema (all_listed stamp (segments_of ids batches)) (Ok read) a b → FiltersFit filters read
-  filters_read filters ids batches read a b many fit h =
-      each_filter filters ids batches read many fit (segments_of_schema schema _ read a b h)
+-- filters that fit the batches fit their segments
+pub parts_fit : (schema : Schema) (stamp : ℕ) (filters : List (Option Filter)) (ids : List ℕ) (batches : List Batch)
+    → length ids ≡ length batches → filters_fit filters batches ≡ true
+    → all_fit filters (parts_of stamp schema ids batches) ≡ true
+parts_fit schema stamp [] [] [] many fit = refl
+parts_fit schema stamp [] ids (batch ∷ batches) many fit = absurd (false≢true fit)
+parts_fit schema stamp [] (id ∷ ids) [] many fit = absurd (some_members id ids many)
+parts_fit schema stamp (f ∷ filters) ids [] many fit = absurd (false≢true fit)
+parts_fit schema stamp (f ∷ filters) [] (batch ∷ batches) many fit = absurd (no_members batch batches many)
+parts_fit schema stamp (f ∷ filters) (id ∷ ids) (batch ∷ batches) many fit =
+    let both = and_parts (filter_fits f batch) (filters_fit filters batches) fit in
+    ap (λ t. t && all_fit filters (parts_of stamp schema ids batches)) (one_fits schema stamp f id batch both.0)
+    ∙ parts_fit schema stamp filters ids batches (one_fewer id ids batch batches many) both.1

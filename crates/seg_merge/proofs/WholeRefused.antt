@@ -1,5 +1,5 @@
 -- The errors of building: which of them tell a refusal or damage, and which refusals there are.
-use Rattle.std.proofs.Common.{◌≡◌, ◌≤◌, ◌<◌, ◌^◌, ℕ, ◌-◌, List, [], ◌∷◌, length, true, Option, None, Some, refl, sym, ap, subst, ◌∙◌, inl, inr}
+use Rattle.std.proofs.Common.{◌≡◌, ◌≤◌, ◌<◌, ◌^◌, ℕ, List, [], ◌∷◌, length, Bool, true, false, Option, None, Some, refl, sym, ap, subst, ◌∙◌, inl, inr}
 use Rattle.std.specs.Prelude.{◌⊎◌, is_none, is_some}
 use Rattle.std.specs.List.{AllByRecursion, enumerate_from, list_all}
 use Rattle.std.specs.Option.{option_or}
@@ -17,7 +17,7 @@ use Rattle.seg_model.specs.Fields.{Schema, Analyzer}
 use Rattle.seg_model.specs.Input.{Input, input_batches, input_survivors}
 use Rattle.seg_model.specs.Operations.{Operation, Batch, additions, batches_from}
 use Rattle.seg_model.specs.Refused.{cut_from, count_refusal, numbers_refusal, batch_refusal, build_refusal, IfRefusal, IsRefusal, batches_error}
-use Rattle.seg_model.specs.Valid.{Known, shape_refusal, schema_refusal, input_refusal}
+use Rattle.seg_model.specs.Valid.{Known, shape_refusal, schema_refusal, input_refusal, names_fit, settings_fit}
 use Rattle.seg_segment.specs.Built.{is_built_schema}
 use Rattle.seg_build.specs.Laws.{BuiltHaveNoColumns}
 use Rattle.seg_build.specs.WriterStart.{start_refusal}
@@ -83,6 +83,22 @@ caused_refusal known analyzer input e (inl is) =
     if_refusal (λ x. refusal_error known analyzer input ≡ Some x) e (first_is_refused known analyzer input e is)
 caused_refusal known analyzer input e (inr is) =
     subst (IfRefusal (λ x. refusal_error known analyzer input ≡ Some x)) (sym is) tt
+
+-- the settings are supported
+unless_true : (b : Bool) (e : TantivyError) → unless b e ≡ None → b ≡ true
+unless_true true e h = refl
+unless_true false e h = absurd (cc h)
+
+pub settings_suit : (known : Known) (analyzer : Analyzer) (input : Input) → first_error known analyzer input ≡ None
+    → settings_fit input.settings ≡ true
+settings_suit known analyzer input none =
+    let shaped =
+    or_both (shape_refusal input.operations input.cuts input.filters (input_batches analyzer input) input.ids) _
+    (none_first known analyzer input none) in
+    let begun = or_both (schema_refusal known input.schema input.settings) _ shaped.1 in
+    let named = or_both (unless (names_fit input.schema) (InvalidArgument argument.FieldName)) _ begun.0 in
+    let fits = or_both (unless (settings_fit input.settings) (InvalidArgument argument.Settings)) _ named.1 in
+    unless_true (settings_fit input.settings) (InvalidArgument argument.Settings) fits.0
 
 -- ---- a writer is made
 

@@ -1,55 +1,89 @@
--- The work index, filled, and read back.
-use Rattle.std.proofs.Common.{◌≡◌, ◌≢◌, ℕ, ◌+◌, List, [], ◌∷◌, ◌++◌, map, length, Option, None, Some, Ok, Err, sym, ap, subst, ◌∙◌}
-use Rattle.std.specs.Prelude.{IsTrue}
+-- The work index, filled: what its segments are merged to, and files that are not there.
+use Rattle.std.proofs.Common.{◌≡◌, ◌≢◌, ◌∙◌, ℕ, ◌+◌, true, List, [], ◌∷◌, ◌++◌, map, length, Option, None, Some, refl, sym, ap, subst, arith}
 use Rattle.std.specs.FinMap.{get, len, empty_of_len, get-empty}
 use Rattle.std.specs.List.{AllByRecursion}
 use Rattle.seg_common.specs.Names.{name_cmp}
 use Rattle.seg_common.specs.declared.name.FileName.{FileName}
 use Rattle.seg_common.specs.declared.name.FileName.TheVariants.{Alive, Meta, Part}
 use Rattle.seg_common.specs.declared.name.SegmentComponent.{SegmentComponent}
-use Rattle.seg_values.specs.declared.error.TantivyError.{TantivyError}
 use Rattle.seg_directory.specs.Files.{NamedFiles}
-use Rattle.seg_model.specs.Fields.{Schema, Analyzer}
 use Rattle.seg_meta.specs.IndexOfFiles.{Deletes, ListedSegment}
-use Rattle.seg_model.specs.Laws.{AreReadingsOf}
-use Rattle.seg_model.specs.Operations.{Operation, batches}
-use Rattle.seg_segment.specs.Laws.{HoldsOneContents}
+use Rattle.seg_meta.specs.Metas as metas
+use Rattle.seg_meta.specs.Metas.{SegmentParts}
+use Rattle.seg_model.specs.Fields.{Schema, Analyzer}
+use Rattle.seg_model.specs.Input.{Input}
+use Rattle.seg_model.specs.Valid.{settings_fit}
+use Rattle.seg_refusals.specs.Admitted.{Fits}
+use Rattle.seg_segment.specs.Built.{is_built_schema}
 use Rattle.seg_segment.specs.SegmentFiles.{AreAbsent, KeepsAllBut}
-use Rattle.seg_open.specs.SegmentOpened.{IsNoDamage}
-use Rattle.seg_open.specs.KeptSegment.{KeptSegment, part_of}
-use Rattle.seg_directory.specs.State.{DirectoryState}
-use Rattle.seg_batches.specs.Reading.{ReadsSegments}
-use Rattle.seg_batches.specs.Segments.{AllStand, AllTellAlive, alive_file, alive_files, six_files}
-use Rattle.seg_merge.specs.IndexFiles.{listed_of, segments_files, written_of}
-use Rattle.seg_batches.proofs.Exports.{segments_held, segments_undamaged}
-use Rattle.seg_merge.proofs.WholeRead.{batches_counted, are_whole, readings}
-use Rattle.seg_merge.proofs.FillSteps.{length-batches}
+use Rattle.seg_batches.specs.Segments.{alive_file, alive_files, six_files}
+use Rattle.seg_merge.specs.DirectoryCalls.{merge_of}
+use Rattle.seg_merge.specs.IndexFiles.{merged_meta, output_id, segments_files, work_ids, work_listed}
+use Rattle.seg_merge.specs.SegmentsMerged.{AreMerged, first_schema, output_meta_of}
+use Rattle.seg_merge.proofs.FillSteps.{length-batches, listed_are}
+use Rattle.seg_merge.proofs.WholeIds.{work_many}
+use Rattle.seg_merge.proofs.WholeRead.{parts_fit, parts_of_one}
 
--- ---- read back
+-- ---- its segments are merged
 
-module _ (schema : Schema) (analyzer : Analyzer) (operations : List Operation) (cuts ids : List ℕ) (stamp : ℕ) (counted : stamp ≡ length operations) (segments : List ListedSegment) (same : segments ≡ listed_of schema analyzer ids cuts operations) where
-  module _ (a b : DirectoryState) (stand : AllStand schema analyzer a.files ids (batches schema analyzer cuts operations)) (tell : AllTellAlive a.files stamp (written_of schema analyzer ids cuts operations)) (told : IsTrue a.tells) where
-    pub filled_readings : HoldsOneContents → length ids ≡ length cuts + 1 → (read : List KeptSegment)
-        → ReadsSegments schema segments (Ok read) a b
-        → AreReadingsOf schema analyzer (batches schema analyzer cuts operations) (map part_of read)
-    filled_readings law many read h =
-        readings schema analyzer (length operations) a.files law ids (batches schema analyzer cuts operations) read
-        (many ∙ sym (length-batches schema analyzer 0 cuts operations))
-        (batches_counted schema analyzer 0 cuts operations) stand
-        (subst (λ n. AllTellAlive a.files n (written_of schema analyzer ids cuts operations)) counted tell)
-        (segments_held schema _ read a b told
-        (subst (λ (l : List ListedSegment). ReadsSegments schema l (Ok read) a b) same h))
+map_again : {X Y Z : Type 0} (f : X → Y) (g : Y → Z) (xs : List X) → map g (map f xs) ≡ map (λ x. g (f x)) xs
+map_again f g [] = refl
+map_again f g (x ∷ xs) = ap (λ l. g (f x) ∷ l) (map_again f g xs)
 
-    pub filled_undamaged : (e : TantivyError) → ReadsSegments schema segments (Err e) a b → IsNoDamage e
-    filled_undamaged e h =
-        segments_undamaged schema (listed_of schema analyzer ids cuts operations) e a b
-        (are_whole schema analyzer (length operations) a.files ids (batches schema analyzer cuts operations)
-        (batches_counted schema analyzer 0 cuts operations) stand
-        (subst (λ n. AllTellAlive a.files n (written_of schema analyzer ids cuts operations)) counted tell))
-        told (subst (λ (l : List ListedSegment). ReadsSegments schema l (Err e) a b) same h)
+-- a list with a member is not empty
+has_member : {X : Type 0} (n : ℕ) (xs : List X) → length xs ≡ n + 1 → xs ≡ [] → ⊥
+has_member n [] many is = absurd (omega (arith, many))
+has_member n (x ∷ xs) many is = cc is
+
+first_is : (schema : Schema) (segments : List ListedSegment) → (segments ≡ [] → ⊥)
+    → first_schema (map (metas.segment_of schema) segments) ≡ schema
+first_is schema [] some = absurd (some refl)
+first_is schema (s ∷ segments) some = refl
+
+mapped_some : {X Y : Type 0} (f : X → Y) (xs : List X) → (xs ≡ [] → ⊥) → map f xs ≡ [] → ⊥
+mapped_some f [] some is = some refl
+mapped_some f (x ∷ xs) some is = cc is
+
+module _ (analyzer : Analyzer) (input : Input) (fits : Fits analyzer input) where
+  listed_ids : map (λ (s : ListedSegment). s.id) (work_listed analyzer input) ≡ work_ids input.ids
+  listed_ids =
+      listed_are input.schema analyzer (work_ids input.ids) input.cuts input.operations
+      (work_many input.cuts input.ids fits.ids)
+
+  some_listed : work_listed analyzer input ≡ [] → ⊥
+  some_listed is =
+      has_member (length input.cuts) (work_ids input.ids) (work_many input.cuts input.ids fits.ids)
+      (sym listed_ids ∙ ap (map (λ (s : ListedSegment). s.id)) is)
+
+  -- of the schema of the input
+  pub work_schema : first_schema (map (metas.segment_of input.schema) (work_listed analyzer input)) ≡ input.schema
+  work_schema = first_is input.schema (work_listed analyzer input) some_listed
+
+  -- what the output index says of itself
+  pub work_merged_meta : (documents : ℕ) → output_meta_of (merge_of analyzer input) documents
+      ≡ merged_meta input.settings input.schema (work_ids input.ids) (output_id input.ids) documents
+  work_merged_meta documents =
+      ap (λ (s : Schema). merged_meta input.settings s (map (λ (p : SegmentParts). p.meta.id) (map (metas.segment_of input.schema) (work_listed analyzer input))) (output_id input.ids) documents) work_schema
+      ∙ ap (λ (ids : List ℕ). merged_meta input.settings input.schema ids (output_id input.ids) documents)
+      (map_again (metas.segment_of input.schema) (λ (p : SegmentParts). p.meta.id) (work_listed analyzer input) ∙ listed_ids)
+
+  -- nothing refuses them
+  pub are_merged : settings_fit input.settings ≡ true → AreMerged (merge_of analyzer input)
+  are_merged settings = record {
+    some = mapped_some (metas.segment_of input.schema) (work_listed analyzer input) some_listed;
+    of_one =
+        subst
+        (λ (schema : Schema). AllByRecursion (λ (s : SegmentParts). s.schema ≡ schema) (map (metas.segment_of input.schema) (work_listed analyzer input)))
+        (sym work_schema) (parts_of_one input.schema (work_listed analyzer input));
+    built = ap is_built_schema work_schema ∙ fits.built;
+    fit =
+        parts_fit input.schema (length input.operations) input.filters (work_ids input.ids) _
+        (work_many input.cuts input.ids fits.ids ∙ sym (length-batches input.schema analyzer 0 input.cuts input.operations))
+        fits.filters;
+    settings = settings;
+  }
 
 -- ---- files that are not there
-
 all-both : {X : Type 0} (P : X → Type 0) (xs ys : List X) → AllByRecursion P xs → AllByRecursion P ys
     → AllByRecursion P (xs ++ ys)
 all-both P [] ys h k = k

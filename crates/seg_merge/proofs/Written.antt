@@ -1,53 +1,49 @@
 -- What is known where both indexes are written.
-use Rattle.std.proofs.Common.{◌≡◌, ◌<◌, ◌^◌, ◌∙◌, ℕ, List, IsTrue, map, None, Some, Ok, refl, sym, ap, subst}
+use Rattle.std.proofs.Common.{◌≡◌, ◌<◌, ◌^◌, ◌∙◌, ℕ, IsTrue, length, map, None, Some, Ok, sym, ap, subst}
+use Rattle.seg_directory.specs.Files.{NamedFiles}
 use Rattle.seg_directory.specs.State.{DirectoryState}
-use Rattle.seg_directory.specs.Works.{Works}
-use Rattle.seg_model.specs.Contents.{Contents, full_reading}
-use Rattle.seg_model.specs.Fields.{Analyzer}
+use Rattle.seg_model.specs.Contents.{full_reading}
+use Rattle.seg_model.specs.Fields.{Schema, Analyzer}
 use Rattle.seg_meta.specs.IndexOfFiles as index
 use Rattle.seg_model.specs.Input.{Input, input_batches, input_survivors}
 use Rattle.seg_model.specs.Laws.{AreReadingsOf, JoiningIsInvisible}
 use Rattle.seg_model.specs.Valid.{Known}
 use Rattle.seg_segment.specs.Holds.{Holds}
 use Rattle.seg_segment.specs.Laws.{HoldsOneContents}
-use Rattle.seg_segment.specs.Spelling.{Spell}
 use Rattle.seg_build.specs.Laws.{BuiltHaveNoColumns}
-use Rattle.seg_open.specs.OpenSegment.{OpenSegment, contents_of}
-use Rattle.seg_open.specs.KeptSegment.{KeptSegment, kept_count, part_of}
+use Rattle.seg_open.specs.OpenSegment.{kept_count, part_of}
 use Rattle.seg_join.specs.Laws.{BuiltPartsJoin}
-use Rattle.seg_batches.proofs.Exports.{segments_stay}
 use Rattle.seg_refusals.specs.Admitted.{Fits}
 use Rattle.seg_refusals.specs.Refusals.{first_error}
-use Rattle.seg_merge.specs.Builds.{Builds}
-use Rattle.seg_merge.specs.DirectoryCalls.{WritesIndexes}
-use Rattle.seg_merge.specs.IndexFiles.{IsMergedIndexOf, IsOutputIndexOf, IsWorkIndexOf, merged_meta, output_id, work_ids, work_listed}
-use Rattle.seg_merge.specs.Joining.{filtered_segments}
-use Rattle.seg_merge.specs.Merging.{IsBuilt, IsReadBack}
-use Rattle.seg_merge.specs.Turns.{Directories, goes_on}
-use Rattle.seg_merge.specs.WritingSteps.{fill_one_steps}
+use Rattle.seg_merge.specs.Builds.{Builds, IsBuilt}
+use Rattle.seg_merge.specs.DirectoryCalls.{WritesIndexes, merge_of}
+use Rattle.seg_merge.specs.IndexFiles.{IsOutputIndexOf, IsWorkIndexOf, merged_meta, output_id, output_meta, work_ids}
+use Rattle.seg_merge.specs.MergeAnswers.{AllHaveHeld, IsMergeOf}
+use Rattle.seg_merge.specs.SegmentsMerged.{joined, live_asked}
+use Rattle.seg_merge.specs.Turns.{Directories}
 use Rattle.seg_merge.proofs.Exits.{Wrote, wrote}
 use Rattle.seg_merge.proofs.FilledIndex.{filled_index}
-use Rattle.seg_merge.proofs.IndexSteps.{tells-still}
-use Rattle.seg_merge.proofs.OutputSteps.{one_files, one_index}
-use Rattle.seg_merge.proofs.Reached.{are_readings, distinct, is_written, many, output_empty, output_tells, told_begun, work_empty, work_stands, work_tells_alive}
-use Rattle.seg_merge.proofs.WholeJoined.{counts_survivors, survivors_joined}
+use Rattle.seg_merge.proofs.MergeErrors.{few_passed}
+use Rattle.seg_merge.proofs.MergeHeld.{opened_held, opened_stays}
+use Rattle.seg_merge.proofs.Reached.{are_readings, distinct, is_written, many, output_empty, told_begun, told_filled, work_empty, work_stands, work_tells_alive}
+use Rattle.seg_merge.proofs.WholeJoined.{kept_survivors, survivors_joined}
+use Rattle.seg_merge.proofs.WholeRead.{live_batches}
 use Rattle.seg_merge.proofs.WholeRefused.{is_valid_if}
+use Rattle.seg_merge.proofs.WholeWork.{work_merged_meta, work_schema}
 
-module _ (known : Known) (analyzer : Analyzer) (input : Input) (fits : Fits analyzer input) (none : first_error known analyzer input ≡ None)
-    (read : List KeptSegment) (output : OpenSegment) (meta : index.Meta)
-    (built : IsBuilt analyzer input read output meta) (output_read : IsReadBack meta)
-    (a b : Directories) (writes : WritesIndexes analyzer input (Ok read) a b) where
-  abbrev w : Wrote analyzer input read a b
-  w = wrote analyzer input read a b writes
+module _ {T : Type 0} (x : T) (known : Known) (analyzer : Analyzer) (input : Input) (fits : Fits analyzer input) (none : first_error known analyzer input ≡ None)
+    (meta : index.Meta) (a b : Directories) (built : IsBuilt analyzer input a b meta) (writes : WritesIndexes analyzer input (Ok x) a b) where
+  abbrev w : Wrote analyzer input a b
+  w = wrote analyzer input x a b writes
 
   abbrev work_at : DirectoryState
-  work_at = w.was_read.filled_at
+  work_at = w.between.work
 
-  abbrev listed_at : DirectoryState
-  listed_at = w.was_read.listed_at
+  abbrev output_at : DirectoryState
+  output_at = w.between.output
 
   same_files : b.work.files ≡ work_at.files
-  same_files = (segments_stay input.schema (work_listed analyzer input) work_at b.work (Ok read) w.was_read.reads).files
+  same_files = opened_stays (merge_of analyzer input) w.opened work_at b.work w.merged.was.opens
 
   -- ---- the work index
 
@@ -57,93 +53,78 @@ module _ (known : Known) (analyzer : Analyzer) (input : Input) (fits : Fits anal
       index_of =
           filled_index input.settings input.schema analyzer (work_ids input.ids) input.cuts input.operations
           (many analyzer input fits) (distinct analyzer input fits)
-          tt w.was_read.filled.begun_at work_at w.was_read.filled.fills
-          (told_begun analyzer input fits a work_at listed_at w.was_read.filled told) built.work_read;
-      stand = work_stands analyzer input fits a work_at listed_at w.was_read.filled told;
-      alive = work_tells_alive analyzer input fits a work_at listed_at w.was_read.filled told;
+          tt w.filled.begun_at work_at w.filled.fills
+          (told_begun analyzer input fits a work_at output_at w.filled told) built.work_read;
+      stand = work_stands analyzer input fits a work_at output_at w.filled told;
+      alive = work_tells_alive analyzer input fits a work_at output_at w.filled told;
     })
 
-    readings : HoldsOneContents → AreReadingsOf input.schema analyzer (input_batches analyzer input) (map part_of read)
-    readings one =
-        are_readings analyzer input fits a work_at listed_at w.was_read.filled told one read b.work w.was_read.reads
+    -- the survivors are no more than a segment can hold
+    few : HoldsOneContents → length (input_survivors analyzer input) < 2 ^ 31
+    few one =
+        let held = opened_held (merge_of analyzer input) w.opened work_at b.work (told_filled analyzer input fits a work_at output_at w.filled told) w.merged.was.opens in
+        subst (λ (n : ℕ). n < 2 ^ 31)
+        (kept_survivors (length input.operations) analyzer input w.opened fits.filters
+        (are_readings analyzer input fits a work_at output_at w.filled told one w.opened held))
+        (few_passed (kept_count w.opened) w.merged.few)
 
-    survivors : JoiningIsInvisible → BuiltPartsJoin → HoldsOneContents
-        → full_reading input.schema analyzer (input_survivors analyzer input) ≡ Some (contents_of output)
-    survivors law join_law one =
-        survivors_joined law join_law analyzer input read fits.built (readings one) ∙ ap (λ (c : Contents). Some c)
-        (sym built.output.merge.joins)
+    -- ---- the merge, of what the work files hold
 
-  -- ---- the output index
+    abbrev merge : IsMergeOf (merge_of analyzer input) b.work.files (IsTrue a.output.tells) b.output.files meta
+    merge = built.merged.merged told
 
-  written_meta : meta ≡ merged_meta input.settings input.schema (work_ids input.ids) (output_id input.ids) output.documents
-  written_meta = built.output.meta_is
+    module _ (one : HoldsOneContents) where
+      readings_of : AreReadingsOf input.schema analyzer (live_batches (length input.operations) input.filters (input_batches analyzer input)) (map part_of merge.opened)
+      readings_of =
+          are_readings analyzer input fits a work_at output_at w.filled told one merge.opened
+          (subst (λ (files : NamedFiles). AllHaveHeld files (live_asked (merge_of analyzer input).segments input.filters) merge.opened) same_files merge.held)
 
-  module _ (told : IsTrue a.output.tells) where
-    told_output : IsTrue w.begun_at.tells
-    told_output = tells-still _ _ (output_tells analyzer input read a b.work w.begun_at w.was_read) told
+      as_many : kept_count merge.opened ≡ length (input_survivors analyzer input)
+      as_many = kept_survivors (length input.operations) analyzer input merge.opened fits.filters readings_of
 
-    as_written : Works {T = Unit {0}} (fill_one_steps (merged_meta input.settings input.schema (work_ids input.ids) (output_id input.ids) output.documents) (output_id input.ids) w.fills_output.files) (Ok tt) w.begun_at b.output
-    as_written =
-        subst (λ (n : ℕ). Works {T = Unit {0}} (fill_one_steps (merged_meta input.settings input.schema (work_ids input.ids) (output_id input.ids) n) (output_id input.ids) w.fills_output.files) (Ok tt) w.begun_at b.output)
-        (sym built.output.merge.number) w.fills_output.works
+      meta_is : meta ≡ output_meta analyzer input
+      meta_is =
+          merge.counted ∙ work_merged_meta analyzer input fits (kept_count merge.opened)
+          ∙ ap (merged_meta input.settings input.schema (work_ids input.ids) (output_id input.ids)) as_many
 
-    merged_index : IsMergedIndexOf input output.documents b.output.files
-    merged_index =
-        one_index (merged_meta input.settings input.schema (work_ids input.ids) (output_id input.ids) output.documents)
-        (output_id input.ids) w.fills_output.files (Ok tt) as_written
-        (subst (λ (m : index.Meta). IsReadBack m) written_meta output_read) told_output
+      survivors : JoiningIsInvisible → BuiltPartsJoin
+          → full_reading input.schema analyzer (input_survivors analyzer input) ≡ Some (joined input.schema merge.opened)
+      survivors law join_law =
+          survivors_joined law join_law (length input.operations) analyzer input merge.opened fits.built fits.filters readings_of
 
-    held : Holds b.output.files (output_id input.ids) input.schema (contents_of output)
-    held = record {
-      files = w.fills_output.files;
-      there =
-          one_files
-          (merged_meta input.settings input.schema (work_ids input.ids) (output_id input.ids)
-          (kept_count (filtered_segments input.filters read)))
-          (output_id input.ids) w.fills_output.files (Ok tt) w.fills_output.works told_output;
-      spelled =
-          subst (λ (c : Contents). Spell input.schema w.fills_output.files c) (sym built.output.merge.joins)
-          w.fills_output.spell;
-    }
-
-  output_index : IsTrue a.output.tells
-      → full_reading input.schema analyzer (input_survivors analyzer input) ≡ Some (contents_of output)
-      → IsOutputIndexOf analyzer input b.output.files
-  output_index told full = record {
-    index_of =
-        merged_index told ∙ ap
-        (λ n. Some (merged_meta input.settings input.schema (work_ids input.ids) (output_id input.ids) n))
-        (counts_survivors analyzer input (contents_of output) full);
-    stands = record { contents = contents_of output; read = full; held = held told };
-  }
+      output_index : JoiningIsInvisible → BuiltPartsJoin → IsTrue a.output.tells → IsOutputIndexOf analyzer input b.output.files
+      output_index law join_law told_output = record {
+        index_of = merge.index_of told_output ∙ ap (λ (m : index.Meta). Some m) meta_is;
+        stands = record {
+          contents = joined input.schema merge.opened;
+          read = survivors law join_law;
+          held =
+              subst (λ (s : Schema). Holds b.output.files (output_id input.ids) s (joined s merge.opened))
+              (work_schema analyzer input fits) (merge.joins told_output);
+        };
+      }
 
   -- ---- both
 
   pub builds_both : JoiningIsInvisible → BuiltPartsJoin → BuiltHaveNoColumns → HoldsOneContents
-      → Builds known analyzer input read output a b
+      → Builds known analyzer input meta a b
   builds_both law join_law columns one = record {
     admitted = none;
     valid =
         is_valid_if known analyzer input (IsTrue a.work.tells) columns
-        (is_written analyzer input fits a work_at listed_at w.was_read.filled) none
-        (λ told. subst (λ n. n < 2 ^ 31)
-        (sym built.output.merge.number ∙ counts_survivors analyzer input (contents_of output)
-        (survivors told law join_law one)) built.output.merge.few);
-    writes = record {
-      builds = goes_on tt a (none, refl) writes;
-      schema = built.output.merge.of_schema;
-      is_joined = built.output.merge.joins;
-      held = held;
-    };
+        (is_written analyzer input fits a work_at output_at w.filled) none (λ told. few told one);
+    counted = (
+      built.merged.counted.0,
+      built.merged.counted.1 ∙ work_merged_meta analyzer input fits built.merged.counted.0,
+    );
     in_work = λ told. record {
-      was_empty = work_empty analyzer input a w.was_read.filled.begun_at listed_at w.was_read.filled.begun told;
+      was_empty = work_empty analyzer input a w.filled.begun_at output_at w.filled.begun told;
       index = work_index told;
-      readings = readings told one;
-      survivors = survivors told law join_law one;
-      output_index = λ told_output. output_index told_output (survivors told law join_law one);
+      meta_is = meta_is told one;
+      output_index = output_index told one law join_law;
     };
     in_output = λ told. record {
-      was_empty = output_empty analyzer input a w.was_read.filled.begun_at listed_at w.was_read.filled.begun told;
-      index = merged_index told;
+      was_empty = output_empty analyzer input a w.filled.begun_at output_at w.filled.begun told;
+      index_of = built.merged.index_of told;
     };
   }

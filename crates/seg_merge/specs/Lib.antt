@@ -1,9 +1,9 @@
 pub mod Builds
 pub mod DirectoryCalls
-pub mod Filters
+pub mod EntryOptions
 pub mod IndexFiles
-pub mod Joining
-pub mod Merging
+pub mod MergeAnswers
+pub mod SegmentsMerged
 pub mod Turns
 pub mod WorkIndexWriting
 pub mod WritingSteps

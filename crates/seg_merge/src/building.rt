@@ -1,7 +1,6 @@
 //! The building of an index.
 ghost use Rattle.std.specs.Prelude.{◌≡◌, ◌≢◌, ◌⊎◌, ℕ, Some, Err, IfOk, IfErr, IfSome, IsTrue, OnOk};
 ghost use Rattle.std.specs.FinMap.{len};
-ghost use Rattle.seg_meta.specs.Saving.{IsMetaList};
 ghost use Rattle.seg_meta.specs.View.{meta_of, settings_of};
 ghost use Rattle.seg_meta.specs.IndexOfFiles as index;
 ghost use Rattle.seg_segment.specs.Forms.{segment_forms};
@@ -11,48 +10,40 @@ ghost use Rattle.seg_refusals.specs.Inputs.{input_of};
 ghost use Rattle.seg_refusals.specs.Refusals.{first_error, refusal_error};
 ghost use Rattle.seg_model.specs.Refused.{IfRefusal};
 ghost use Rattle.seg_merge.specs.Builds.{Builds, StopsBuilding};
-ghost use Rattle.seg_merge.specs.DirectoryCalls.{WritesUpTo};
+ghost use Rattle.seg_merge.specs.DirectoryCalls.{BuildsIndexes};
 ghost use Rattle.seg_merge.specs.IndexFiles.{IsOutputIndexOf, IsWorkIndexOf, merged_meta, output_id, output_meta, work_ids};
 ghost use Rattle.seg_merge.specs.Turns.{both};
 
-use crate::indexes::{BuiltSegments, write_indexes};
-use seg_batches::ReadSegment;
+use crate::indexes::write_indexes;
 use seg_bits::AliveBitSet;
 use seg_build::built_schemas_have_no_columns;
 use seg_common::SegmentId;
 use seg_directory::Directory;
 use seg_input::{BuildInputRef, UserOperation};
 use seg_join::built_parts_join;
-use seg_meta::{Index, IndexSettings, metas_read_back};
+use seg_meta::{Index, IndexSettings};
 use seg_model::joining_is_invisible;
-use seg_open::SegmentReader;
 use seg_refusals::check_input;
 use seg_segment::files_hold_one_contents;
 use seg_values::{ArgumentCause, Schema, TResult, TantivyDocument, TantivyError};
 use seg_words::Analyzers;
 use std::alloc::Global;
 
-/// An index that was built, the work segments that it was merged from, as they were read back, and its own segment.
-#[derive(Drop)]
-pub struct BuiltIndex {
-    pub index: Index,
-    pub segments: Vec<ReadSegment>,
-    pub output: SegmentReader,
-}
-
-/// Builds the index of some operations: writes a segment a batch into the directory `work`, and one of all that is left into
-/// the directory `output`. Batch b is of the operations up to cut b, its segment has id b, and the output's has the last id;
-/// a filter says which documents of its batch are kept. A delete removes the documents added before it that have its term,
-/// in whatever batch; an alive file says which documents of a segment are left, where deletes remove some.
+/// Builds the index of some operations: writes a segment a batch into the directory `work`, and one of all that is left
+/// into the directory `output`. Batch b is of the operations up to cut b, its segment has id b, and the output's has the
+/// last id; a filter says which documents of its batch are kept. A delete removes the documents added before it that have
+/// its term, in whatever batch; an alive file says which documents of a segment are left, where deletes remove some.
 ///
-/// First both directories are listed. The work index is begun and filled, and then the output index is begun. It is merged
-/// from what the work directory answers when its segments are read back, each file once; a file that is missing there, or
-/// doesn't agree with those read before it, is told as `DataCorruption`. Last the output index is filled.
+/// First both directories are listed. The work index is begun and filled, and then its segments are merged into the
+/// output index by `merge_filtered_segments`, as the work directory answers them: each file of a segment with a live
+/// document is read once; a file that is missing there, or doesn't agree with those read before it, is told as
+/// `DataCorruption`.
 ///
 /// Refusals come in this order: what is not built yet (fields with columns, indexed fields of other kinds than texts),
-/// `Cuts`, `Batches`, `Filters`, `SegmentIds`, `FieldName`, `Settings`, `Tokenizer`, `DeleteField`; then each directory that
-/// has files; then, batch by batch after the files of those before it, `Documents`, and the first document that does not
-/// pass its check; and last, when the output index is begun, `Documents`, where more are left than one segment can hold.
+/// `Cuts`, `Batches`, `Filters`, `SegmentIds`, `FieldName`, `Settings`, `Tokenizer`, `DeleteField`; then each directory
+/// that has files; then, batch by batch after the files of those before it, `Documents`, and the first document that does
+/// not pass its check; and last, when the output index is begun, `Documents`, where more are left than one segment can
+/// hold.
 pub fn build_index<Z: Analyzers, W: Directory, O: Directory>(
     alloc: Global,
     schema: &Schema,
@@ -92,7 +83,7 @@ pub fn build_index<Z: Analyzers, W: Directory, O: Directory>(
         → IsTrue (O.state output.old).tells → len (O.state output.old).files ≡ 0
         → result ≢ Err TantivyError.IndexAlreadyExists }
     ensures whole { IsTrue (W.state work.old).tells → IfErr result IsNoDamage }
-    ensures calls { WritesUpTo (Z.knows analyzers.now) (Z.tokens_of analyzers.now)
+    ensures calls { BuildsIndexes (Z.knows analyzers.now) (Z.tokens_of analyzers.now)
         (input_of schema.now settings.now operations.now cuts.now filters.now ids.now) result
         (both (W.state work.old) (O.state output.old)) (both (W.state work.new) (O.state output.new)) }
 {
@@ -104,50 +95,37 @@ pub fn build_index<Z: Analyzers, W: Directory, O: Directory>(
         filters,
         ids,
     };
-    match build_index_with_readers(alloc, &input, analyzers, work, output) {
-        Ok(built) => Ok(built.index),
+    match build_input(alloc, &input, analyzers, work, output) {
+        Ok(index) => Ok(index),
         Err(e) => Err(e),
     }
 }
 
-/// As `build_index`, with readers of the work segments, as they were read back, and of what the output holds.
-pub fn build_index_with_readers<Z: Analyzers, W: Directory, O: Directory>(
+/// Builds the index of an input.
+fn build_input<Z: Analyzers, W: Directory, O: Directory>(
     alloc: Global,
     input: &BuildInputRef<'_>,
     analyzers: &Z,
     work: &mut W,
     output: &mut O,
-) -> TResult<BuiltIndex>
-    ensures builds { IfOk result (λ built. Builds (Z.knows analyzers.now) (Z.tokens_of analyzers.now) input.now built.segments.items built.output
+) -> TResult<Index>
+    ensures builds { IfOk result (λ built. Builds (Z.knows analyzers.now) (Z.tokens_of analyzers.now) input.now (meta_of built)
         (both (W.state work.old) (O.state output.old)) (both (W.state work.new) (O.state output.new))) }
-    ensures meta { IfOk result (λ built. meta_of built.index
-        ≡ merged_meta input.now.settings input.now.schema (work_ids input.now.ids) (output_id input.now.ids) built.output.documents) }
     ensures stops { IfErr result (λ e. StopsBuilding (Z.knows analyzers.now) (Z.tokens_of analyzers.now) input.now e
         (both (W.state work.old) (O.state output.old)) (both (W.state work.new) (O.state output.new))) }
+    ensures calls { BuildsIndexes (Z.knows analyzers.now) (Z.tokens_of analyzers.now) input.now result
+        (both (W.state work.old) (O.state output.old)) (both (W.state work.new) (O.state output.new)) }
 {
     joining_is_invisible();
     built_parts_join();
     built_schemas_have_no_columns();
     files_hold_one_contents();
-    check_input(alloc, analyzers, input)?;
-    let built = write_indexes(alloc, input, analyzers, work, output)?;
-    metas_read_back(&built.metas);
-    Ok(built_index(built))
-}
-
-/// The index of what was built, with its readers.
-fn built_index(built: BuiltSegments) -> BuiltIndex
-    requires { IsMetaList built.metas.segments }
-    ensures { (result.index ≡ built.metas) × (result.segments ≡ built.segments) × (result.output ≡ built.output) }
-{
-    let BuiltSegments {
-        metas,
-        segments,
-        output,
-    } = built;
-    BuiltIndex {
-        index: Index::from_metas(metas),
-        segments,
-        output,
+    match check_input(alloc, analyzers, input) {
+        Ok(()) => {}
+        Err(e) => return Err(e),
+    }
+    match write_indexes(alloc, input, analyzers, work, output) {
+        Ok(index) => Ok(index),
+        Err(e) => Err(e),
     }
 }

@@ -1,20 +1,21 @@
-//! Builds an index from operations on documents.
+//! Builds an index from operations on documents, and merges segments into one.
 //!
-//! `build_index` checks what it is handed in, writes a segment a batch into a work directory, reads these segments back, and
-//! writes what they are merged into, into an output directory.
+//! `merge_filtered_segments` reads segments from a directory, and writes what they are merged into, as an index of one
+//! segment, into another. `build_index` checks what it is handed in, writes a segment a batch into a work directory,
+//! and merges these segments, as the work directory answers them, into an output directory.
 //!
-//! To be read in this order: `payload` and `metas` (what an index says of itself), `index_files` (an index is begun, and its
-//! meta saved), `work_index` (the segments of the batches), `merging` (what was read, merged), `output_index`, `indexes`
-//! (both in turn), `building`.
+//! To be read in this order: `payload` and `metas` (what an index says of itself), `index_files` (an index is begun, and
+//! its meta saved), `filtered_merging` (segments, merged), `work_index` (the segments of the batches), `indexes` (both
+//! indexes in turn), `building`.
 #![tactic(auto)]
 
 mod building;
+mod filtered_merging;
 mod index_files;
 mod indexes;
-mod merging;
 mod metas;
-mod output_index;
 mod payload;
 mod work_index;
 
-pub use building::{BuiltIndex, build_index, build_index_with_readers};
+pub use building::build_index;
+pub use filtered_merging::merge_filtered_segments;

@@ -5,6 +5,7 @@ ghost use Rattle.seg_common.specs.SegmentIds.{id_text};
 ghost use Rattle.seg_merge.specs.IndexFiles.{merge_payload};
 
 use seg_common::SegmentId;
+use seg_meta::Segment;
 use seg_words::Text;
 use std::alloc::{AllocError, Global};
 
@@ -46,4 +47,15 @@ fn push_id(text: &mut String, id: SegmentId) -> Result<(), AllocError>
 {
     let mut buffer = [0u8; 32];
     text.push_str(id.encode_uuid(&mut buffer))
+}
+
+/// The ids of segments.
+pub(crate) fn ids_of(alloc: Global, segments: &[Segment]) -> Result<Vec<SegmentId>, AllocError>
+    ensures { IfOk result (λ ids. ids.items ≡ map (λ s. s.meta.id) segments.now) }
+{
+    let mut ids = Vec::new(alloc);
+    for segment in segments {
+        ids.push(segment.id())?;
+    }
+    Ok(ids)
 }

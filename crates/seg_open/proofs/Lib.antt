@@ -1,9 +1,13 @@
 pub mod Exports
+mod AliveRead
 mod BuiltTexts
 mod Disagreeing
 mod FieldsFit
 mod HeldFields
-mod OpenSpells
+mod Marks
 mod OpenLaws
+mod OpenSpells
 mod Opened
+mod OpenedLaws
+mod OpeningSteps
 mod PlacesOpened

@@ -1,23 +1,20 @@
--- What the opening of a segment says of the directory.
-use Rattle.std.proofs.Common.{◌≡◌, ℕ, List, [], ◌∷◌, Option, Some, None, Result, Ok, Err, IfOk, IfErr, refl, sym, subst}
-use Rattle.std.specs.Prelude.{IfSome, IsTrue}
+-- The steps by which the six files of a segment are opened.
+use Rattle.std.proofs.Common.{◌≡◌, ℕ, List, [], ◌∷◌, Option, Some, None, refl, sym, subst}
+use Rattle.std.specs.Prelude.{IfSome}
 use Rattle.std.specs.List.{AllByRecursion}
 use Rattle.seg_common.specs.declared.name.SegmentComponent.{SegmentComponent}
 use Rattle.seg_values.specs.declared.error.TantivyError.{TantivyError}
 use Rattle.seg_model.specs.Contents.{Contents}
 use Rattle.seg_model.specs.Fields.{Schema}
-use Rattle.seg_directory.proofs.Exports.{all_went}
 use Rattle.seg_directory.specs.Files.{NamedFiles}
-use Rattle.seg_directory.specs.State.{DirectoryState}
 use Rattle.seg_directory.specs.Works.{AllSuit, passes}
 use Rattle.seg_segment.specs.Holds.{Holds}
 use Rattle.seg_segment.specs.SegmentFiles.{HasFiles, bytes_of}
-use Rattle.seg_segment.specs.SegmentRead.{IsNoDamage, read_steps}
+use Rattle.seg_segment.specs.SegmentRead.{read_steps}
 use Rattle.seg_segment.specs.declared.segment_files.SegmentFiles.{SegmentFiles}
-use Rattle.seg_segment.proofs.Exports.{FindWhole, FindsDamage, OnlyReads, found_whole, has_read, held_spells, only_six, reads_stay, six_whole, suits_both, whole_both}
+use Rattle.seg_segment.proofs.Exports.{FindWhole, FindsDamage, OnlyReads, has_read, held_spells, only_six, six_whole, suits_both, whole_both}
 use Rattle.seg_open.specs.Disagreement.{Disagree, up_to}
-use Rattle.seg_open.specs.OpenSegment.{OpenSegment, contents_of}
-use Rattle.seg_open.specs.SegmentOpened.{IsDamageOf, Opens, open_steps}
+use Rattle.seg_open.specs.SegmentOpened.{IsDamageOf, open_steps}
 
 module _ (id : ℕ) (schema : Schema) (documents : ℕ) where
   -- a file that can't be completed is damage
@@ -49,18 +46,3 @@ module _ (id : ℕ) (schema : Schema) (documents : ℕ) where
     open_whole files refusal damaged =
         whole_both directory (read_steps id files) (passes refusal ∷ []) (six_whole directory id held.files files held.there)
         (λ suits. (no_damage files refusal damaged (has_read directory id files suits), tt))
-
-  module _ (a b : DirectoryState) where
-    -- what is open is held
-    pub opens_held : (r : Result OpenSegment TantivyError) → Opens id schema documents r a b → IsTrue a.tells → IfOk r (λ s. Holds b.files id schema (contents_of s))
-    opens_held (Ok s) o told = record {
-      files = o.files;
-      there = subst (λ (fs : NamedFiles). HasFiles fs id o.files) (sym (reads_stay (open_only o.files o.refusal o.damaged) o.works).files) (open_has a.files o.files o.refusal ((all_went o.works).suits told));
-      spelled = o.is.spell;
-    }
-    opens_held (Err e) o told = tt
-
-    -- a segment that is whole is not found damaged
-    pub opens_whole : (r : Result OpenSegment TantivyError) → Opens id schema documents r a b → IsTrue a.tells → (contents : Contents) → Holds a.files id schema contents → contents.documents ≡ documents → IfErr r IsNoDamage
-    opens_whole (Ok s) o told contents held number = tt
-    opens_whole (Err e) o told contents held number = found_whole told (open_whole a.files contents held number o.files o.refusal o.damaged) o.works

@@ -3,17 +3,18 @@ use Rattle.std.proofs.Common.{◌≡◌, ℕ, zero, suc, arith, true, false, Lis
 use Rattle.std.specs.Prelude.{is_some, unwrap_or}
 use Rattle.std.specs.FinMap.{get, empty, get-empty}
 use Rattle.std.specs.List.{slice_index_or}
-use Rattle.std.specs.Option.{option_map}
+use Rattle.std.specs.Option.{option_and_then, option_map}
 use Rattle.std.specs.Ordering.{nat_cmp}
 use Rattle.std.specs.Cmp.Lexicographic.{slice_cmp}
 use Rattle.std.proofs.lemmas.Bool.{false≢true}
 use Rattle.std.proofs.lemmas.List.{length-map}
 use Rattle.std.proofs.lemmas.Option.{slice_get-map, unwrap_or-slice_get}
+use Rattle.seg_common.specs.LittleEndian.{u64_at}
 use Rattle.seg_values.specs.declared.schema.FieldEntry.{FieldEntry}
 use Rattle.seg_model.specs.Fields.{is_indexed}
 use Rattle.seg_model.specs.Reading.{Terms, Posting}
 use Rattle.seg_model.specs.Shape.{HasFullShape, IsTermWith}
-use Rattle.seg_directory.specs.Composite.{Part}
+use Rattle.seg_directory.specs.Composite.{Part, field_of}
 use Rattle.seg_store.specs.Store.{documents_of}
 use Rattle.seg_postings.specs.FieldReading.{OpenField, written_terms}
 use Rattle.seg_postings.specs.HeldTerms.{TermsReadHaveShape}
@@ -22,6 +23,7 @@ use Rattle.seg_segment.specs.HoldTerms.{HoldsField}
 use Rattle.seg_open.specs.OpenSegment.{OpenSegment, terms_in, contents_of}
 use Rattle.seg_open.specs.SegmentOpening.{TermsAreOpen, IsOpen, AreTexts}
 use Rattle.seg_open.specs.FieldsOpening.{IsPlaceOpened}
+use Rattle.seg_open.specs.SegmentOpened.{HaveTotals}
 use Rattle.seg_segment.specs.Spelling.{Spell}
 use Rattle.seg_segment.specs.declared.segment_files.SegmentFiles.{SegmentFiles}
 
@@ -49,6 +51,15 @@ record IsOpenAt (entry : FieldEntry) (field documents : ℕ) (terms postings pos
   opened : OpenField
   at : slice_get fields field ≡ Some (Some opened)
   is : IsOpened entry field documents terms postings positions opened
+
+-- the total of each open field is told
+pub open_totals : (files : SegmentFiles) (s : OpenSegment) → TermsAreOpen s.schema s.documents files.terms files.postings files.positions s.fields → HaveTotals s.fields files.postings
+open_totals files s t field opened at =
+    let p = there s.schema s.fields field (Some opened) (sym t.opened.per_field) at in
+    let is : IsOpened p.value field s.documents t.term_parts t.posting_parts t.position_parts opened = (t.opened.each field p.value (Some opened) p.at at).1 in
+    ap (λ (o : Option (List Part)). option_map (λ (part : List ℕ). u64_at part 0) (option_and_then (λ (parts : List Part). field_of parts field) o)) t.posting_file.file
+    ∙ ap (option_map (λ (part : List ℕ). u64_at part 0)) is.in_postings
+    ∙ ap (λ (n : ℕ). Some n) is.by.spells.counted
 
 module _ (law : TermsReadHaveShape) (files : SegmentFiles) (s : OpenSegment) (are : AreTexts s.schema) (has : IsOpen files s) where
   t : TermsAreOpen s.schema s.documents files.terms files.postings files.positions s.fields

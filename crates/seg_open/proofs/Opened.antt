@@ -1,52 +1,96 @@
--- The opening of a segment, by how it ends.
-use Rattle.std.proofs.Common.{◌≡◌, ℕ, None, Some, Ok, Err, refl, sym, subst}
-use Rattle.std.specs.Prelude.{Result}
+-- The opening of the six files of a segment, by how it ends.
+use Rattle.std.proofs.Common.{◌≡◌, ℕ, true, None, Some, Result, Ok, Err, IfErr, refl, sym, ap, subst, ◌∙◌}
+use Rattle.std.specs.Option.{option_map}
 use Rattle.seg_common.specs.declared.name.FileName.TheVariants.{Part}
+use Rattle.seg_common.specs.declared.name.SegmentComponent.{SegmentComponent}
 use Rattle.seg_values.specs.declared.error.TantivyError.{TantivyError}
 use Rattle.seg_values.specs.declared.error.TantivyError.TheVariants.{DataCorruption}
-use Rattle.seg_model.specs.Fields.{Schema}
 use Rattle.seg_directory.proofs.Exports.{broke, does_nothing, stops, then_does, went}
 use Rattle.seg_directory.specs.State.{DirectoryState}
 use Rattle.seg_directory.specs.Works.{WorksFor}
+use Rattle.seg_meta.specs.Metas.{SegmentParts}
+use Rattle.seg_model.specs.Fields.{Schema}
+use Rattle.seg_model.specs.Shape.{HasFullShape}
+use Rattle.seg_postings.specs.HeldTerms.{TermsReadHaveShape}
+use Rattle.seg_segment.specs.Built.{is_built_schema}
 use Rattle.seg_segment.specs.SegmentRead.{read_steps}
+use Rattle.seg_segment.specs.Spelling.{Spell}
 use Rattle.seg_segment.specs.declared.segment_files.SegmentFiles.{SegmentFiles}
-use Rattle.seg_open.specs.Disagreement.{IsWhyNotOpen}
-use Rattle.seg_open.specs.OpenSegment.{OpenSegment}
-use Rattle.seg_open.specs.SegmentOpened.{IsReaderOf, Opens, error_of}
+use Rattle.seg_open.specs.Disagreement.{Disagree, IsWhyNotOpen}
+use Rattle.seg_open.specs.FileSizes.{sizes_of}
+use Rattle.seg_open.specs.OpenSegment.{OpenSegment, contents_of}
+use Rattle.seg_open.specs.SegmentOpening.{AreTexts, IsOpen}
+use Rattle.seg_open.specs.SegmentOpened.{HasFilesOf, OpensFiles, error_of}
 use Rattle.seg_open.specs.declared.open_error.OpenError.{OpenError}
 use Rattle.seg_open.specs.declared.open_error.OpenError.TheVariants.{Damaged, OutOfMemory}
+use Rattle.seg_open.proofs.BuiltTexts.{built_are_texts}
+use Rattle.seg_open.proofs.OpenSpells.{open_spells, open_totals}
 
-module _ (id : ℕ) (schema : Schema) (documents : ℕ) {a b : DirectoryState} where
+module _ (segment : SegmentParts) {a b : DirectoryState} where
   -- a file can't be read
-  unread : (e : TantivyError) → WorksFor {T = SegmentFiles} (read_steps id) (Err e) a b → Opens id schema documents (Err e) a b
+  unread : (e : TantivyError) → WorksFor {T = SegmentFiles} (read_steps segment.meta.id) (Err e) a b → OpensFiles segment (Err e) a b
   unread e failed = record { files = failed.does.0; refusal = None; works = stops _ failed.does.1; damaged = tt; is = tt }
 
-  module _ (files : SegmentFiles) (first : WorksFor (read_steps id) (Ok files) a b) where
-    opened : (s : OpenSegment) → IsReaderOf schema documents files s → Opens id schema documents (Ok s) a b
+  module _ (files : SegmentFiles) (first : WorksFor (read_steps segment.meta.id) (Ok files) a b) where
+    opened : (s : OpenSegment) → HasFilesOf segment files s → OpensFiles segment (Ok s) a b
     opened s is = record { files = files; refusal = None; works = then_does first.does (went (refl, refl)); damaged = tt; is = is }
 
     -- the files can't be opened
-    unopened : (e : OpenError) → IsWhyNotOpen schema documents files e → Opens id schema documents (Err (error_of id e)) a b
+    unopened : (e : OpenError) → IsWhyNotOpen segment.schema segment.meta.documents files e → OpensFiles segment (Err (error_of segment.meta.id e)) a b
     unopened (Damaged c) why = record {
       files = files;
-      refusal = Some (DataCorruption (Part id c));
+      refusal = Some (DataCorruption (Part segment.meta.id c));
       works = then_does first.does (broke (refl, refl));
       damaged = record { component = c; told = refl; disagree = why };
       is = tt;
     }
     unopened OutOfMemory why = record { files = files; refusal = None; works = then_does first.does (does_nothing _); damaged = tt; is = tt }
 
--- what the code calls them
-module _ (own_id id : ℕ) (own_schema schema : Schema) (own_number documents : ℕ) (id_is : own_id ≡ id) (schema_is : own_schema ≡ schema) (number_is : own_number ≡ documents) {a b : DirectoryState} where
-  as_listed : (r : Result OpenSegment TantivyError) → Opens own_id own_schema own_number r a b → Opens id schema documents r a b
-  as_listed r h = subst (λ i. Opens i schema documents r a b) id_is (subst (λ s. Opens own_id s documents r a b) schema_is (subst (λ n. Opens own_id own_schema n r a b) number_is h))
+-- a reader of files that are open
+pub has_files : TermsReadHaveShape → (segment : SegmentParts) (files : SegmentFiles) (s : OpenSegment) → is_built_schema segment.schema ≡ true
+    → s.id ≡ segment.meta.id → s.schema ≡ segment.schema → s.documents ≡ segment.meta.documents
+    → s.stamp ≡ option_map (λ d. d.stamp) segment.meta.deletes → s.sizes ≡ sizes_of files → IsOpen files s → HasFilesOf segment files s
+has_files law segment files s built id schema number stamp sizes has = record {
+  of_id = id;
+  of_schema = schema;
+  of_number = number;
+  of_stamp = stamp;
+  of_sizes = sizes;
+  spell =
+      subst (λ (t : Schema). Spell t files (contents_of s)) schema
+      (open_spells law files s (subst AreTexts (sym schema) (built_are_texts segment.schema built)) has);
+  totals = open_totals files s has.terms;
+}
 
-  pub is_unread : (e : TantivyError) → WorksFor {T = SegmentFiles} (read_steps own_id) (Err e) a b → Opens id schema documents (Err e) a b
-  is_unread e failed = as_listed _ (unread _ _ _ e failed)
+-- and its shape
+pub has_shape : TermsReadHaveShape → (files : SegmentFiles) (s : OpenSegment) → is_built_schema s.schema ≡ true → IsOpen files s → HasFullShape s.schema (contents_of s)
+has_shape law files s built has = (open_spells law files s (built_are_texts s.schema built) has).shape
+
+-- what the code calls the schema and the number of documents
+pub as_listed : (own schema : Schema) (number documents : ℕ) (files : SegmentFiles) → own ≡ schema → number ≡ documents
+    → (r : Result OpenSegment OpenError) → IfErr r (IsWhyNotOpen own number files) → IfErr r (IsWhyNotOpen schema documents files)
+as_listed own schema number documents files schema_is number_is r h =
+    subst (λ (s : Schema). IfErr r (IsWhyNotOpen s documents files)) schema_is
+    (subst (λ (n : ℕ). IfErr r (IsWhyNotOpen own n files)) number_is h)
+
+pub told_of_listed : (own schema : Schema) (number documents : ℕ) (files : SegmentFiles) (component : SegmentComponent) → own ≡ schema → number ≡ documents
+    → Disagree own number files component → Disagree schema documents files component
+told_of_listed own schema number documents files component schema_is number_is h =
+    subst (λ (s : Schema). Disagree s documents files component) schema_is
+    (subst (λ (n : ℕ). Disagree own n files component) number_is h)
+
+-- what the code calls its id
+module _ (segment : SegmentParts) (own_id : ℕ) (id_is : own_id ≡ segment.meta.id) {a b : DirectoryState} where
+  pub is_unread : (e : TantivyError) → WorksFor {T = SegmentFiles} (read_steps own_id) (Err e) a b → OpensFiles segment (Err e) a b
+  is_unread e failed = unread segment e (subst (λ i. WorksFor {T = SegmentFiles} (read_steps i) (Err e) a b) id_is failed)
 
   module _ (files : SegmentFiles) (first : WorksFor (read_steps own_id) (Ok files) a b) where
-    pub is_opened : (s : OpenSegment) → IsReaderOf own_schema own_number files s → Opens id schema documents (Ok s) a b
-    is_opened s is = as_listed _ (opened _ _ _ files first s is)
+    listed : WorksFor (read_steps segment.meta.id) (Ok files) a b
+    listed = subst (λ i. WorksFor {T = SegmentFiles} (read_steps i) (Ok files) a b) id_is first
 
-    pub is_unopened : (e : OpenError) (told : TantivyError) → told ≡ error_of own_id e → IsWhyNotOpen own_schema own_number files e → Opens id schema documents (Err told) a b
-    is_unopened e told is why = subst (λ x. Opens id schema documents (Err x) a b) (sym is) (as_listed _ (unopened _ _ _ files first e why))
+    pub is_opened : (s : OpenSegment) → HasFilesOf segment files s → OpensFiles segment (Ok s) a b
+    is_opened s is = opened segment files listed s is
+
+    pub is_unopened : (e : OpenError) (told : TantivyError) → told ≡ error_of own_id e → IsWhyNotOpen segment.schema segment.meta.documents files e → OpensFiles segment (Err told) a b
+    is_unopened e told is why =
+        subst (λ x. OpensFiles segment (Err x) a b) (sym (is ∙ ap (λ i. error_of i e) id_is)) (unopened segment files listed e why)

@@ -1,8 +1,11 @@
+pub mod AliveDocuments
+pub mod Answers
 pub mod Disagreement
 pub mod FieldOpening
 pub mod FieldsOpening
+pub mod FileSizes
 pub mod IndexedParts
-pub mod KeptSegment
 pub mod OpenSegment
+pub mod ReaderParts
 pub mod SegmentOpened
 pub mod SegmentOpening

@@ -1,142 +1,169 @@
 //! A segment that is open.
-ghost use Rattle.std.specs.Prelude.{◌≡◌, true, map, is_some, Some, None, slice_get, IfOk, IfErr, IfSome, IsTrue, MatchOption};
-ghost use Rattle.seg_model.specs.Contents.{Contents};
+ghost use Rattle.std.specs.Prelude.{◌≡◌, true, length, map, is_some, None, replicate, IfOk, IfErr, IfSome, IsTrue};
+ghost use Rattle.seg_meta.specs.IndexOfFiles as index;
 ghost use Rattle.seg_model.specs.Fields.{is_indexed};
 ghost use Rattle.seg_segment.specs.Built.{is_built_schema};
+ghost use Rattle.seg_segment.specs.Forms.{segment_forms};
 ghost use Rattle.seg_segment.specs.Holds.{Holds};
-ghost use Rattle.seg_open.specs.OpenSegment.{contents_of};
-ghost use Rattle.seg_open.specs.SegmentOpened.{IsNoDamage, Opens};
-ghost use Rattle.seg_segment.specs.Spelling.{Spell};
 ghost use Rattle.seg_open.specs.Disagreement.{IsWhyNotOpen};
+ghost use Rattle.seg_open.specs.OpenSegment.{LacksSome, alive_of, contents_of};
+ghost use Rattle.seg_open.specs.SegmentOpened.{HasFilesOf, IsNoDamage, Opens, OpensFiles};
 
+use crate::alive_reading::{cut_by, read_deletes};
 use crate::fields_opening::open_fields;
+use crate::file_sizes::FileSizes;
 use crate::open_error::OpenError;
 use crate::parts_opening::{are_columns, open_norms, open_store};
 use crate::term_files::open_term_files;
-use seg_common::SegmentComponent;
+use seg_bits::AliveBitSet;
+use seg_common::{SegmentComponent, SegmentId, Shared};
 use seg_directory::Directory;
 use seg_meta::Segment;
 use seg_norms::FieldNormReaders;
 use seg_postings::{InvertedIndexReader, terms_read_have_shape};
-use seg_segment::SegmentFiles;
+use seg_segment::{SegmentFiles, is_built_schema};
 use seg_store::StoreReader;
-use seg_values::{Field, Schema, TResult};
+use seg_values::{ArgumentCause, Schema, TResult, TantivyError};
 use std::alloc::Global;
 use std::marker::Model;
 
-/// Reads what the files of a segment hold, out of their bytes. It is seen as its schema and number of documents, the terms
-/// of its fields, the blocks of its store, and its length ids.
+/// Reads what the files of a segment hold, out of their bytes. It is seen as its id, its schema and number of documents,
+/// the terms of its fields, the blocks of its store and its length ids, which documents are alive, the stamp of their
+/// deletes, and the sizes of its files.
 #[derive(Drop)]
 pub struct SegmentReader {
-    schema: Schema,
-    max_doc: u32,
-    fields: Vec<Option<InvertedIndexReader>>,
-    store: StoreReader,
-    norms: FieldNormReaders,
+    pub(crate) alloc: Global,
+    pub(crate) id: SegmentId,
+    pub(crate) schema: Schema,
+    pub(crate) max_doc: u32,
+    pub(crate) fields: Vec<Option<Shared<InvertedIndexReader>>>,
+    pub(crate) store: StoreReader,
+    pub(crate) norms: FieldNormReaders,
+    pub(crate) alive: Option<AliveBitSet>,
+    pub(crate) delete_opstamp: Option<u64>,
+    pub(crate) sizes: FileSizes,
 }
 
 impl Model for SegmentReader {
-    ghost use Rattle.std.specs.Prelude.{◌≡◌, map, is_some};
+    ghost use Rattle.std.specs.Prelude.{◌≡◌, true, map, is_some};
     ghost use Rattle.seg_model.specs.Fields.{is_indexed};
-    ghost use Rattle.seg_open.specs.OpenSegment.{OpenSegment};
+    ghost use Rattle.seg_model.specs.Shape.{HasFullShape};
+    ghost use Rattle.seg_segment.specs.Built.{is_built_schema};
+    ghost use Rattle.seg_open.specs.OpenSegment.{LacksSome, OpenSegment, alive_of, contents_in};
 
     ghost Value = { OpenSegment };
 
-    ghost view = { λ r. record { schema = r.schema; documents = r.max_doc; fields = r.fields.items; blocks = r.store; norms = r.norms } };
+    ghost view = { λ r. record {
+      id = r.id;
+      schema = r.schema;
+      documents = r.max_doc;
+      fields = r.fields.items;
+      blocks = r.store;
+      norms = r.norms;
+      alive = alive_of r.max_doc r.alive;
+      stamp = r.delete_opstamp;
+      sizes = r.sizes;
+    } };
 
-    ghost invariant = { λ r. map is_some r.fields.items ≡ map is_indexed r.schema };
+    ghost invariant = { λ r. (map is_some r.fields.items ≡ map is_indexed r.schema) × LacksSome r.max_doc r.alive
+        × (is_built_schema r.schema ≡ true)
+        × HasFullShape r.schema (contents_in r.schema r.max_doc r.fields.items r.store r.norms) };
 }
 
 impl SegmentReader {
-    /// Opens a segment of a directory: reads its six files, each once, and checks each whole and against those before it. So
-    /// far the schema is one that is built.
+    /// Opens a segment of a directory: reads its six files and, where it has deletes, its alive file, each once, and
+    /// checks each whole and against those before it, in the order terms, store, postings, positions, fast fields,
+    /// field norms, alive. `DataCorruption` names the first that is missing or does not agree. `Later`, before a file
+    /// is read: the schema has a fast field, or an indexed one of another kind than text. `OpenReadError`: a file can't
+    /// be read.
     pub fn open<W: Directory>(
         alloc: Global,
         segment: &Segment,
         directory: &mut W,
     ) -> TResult<SegmentReader>
-        requires built { is_built_schema segment.now.schema ≡ true }
-        ensures does { Opens segment.now.meta.id segment.now.schema segment.now.meta.documents
+        ensures does { Opens (record { segment = segment.now; custom = None })
             result (W.state directory.old) (W.state directory.new) }
         ensures holds { IsTrue (W.state directory.old).tells → IfOk result
             (λ r. Holds (W.state directory.new).files segment.now.meta.id segment.now.schema (contents_of r)) }
-        ensures whole { IsTrue (W.state directory.old).tells → (contents : Contents)
-            → Holds (W.state directory.old).files segment.now.meta.id segment.now.schema contents
-            → contents.documents ≡ segment.now.meta.documents
+        ensures whole { IsTrue (W.state directory.old).tells
+            → index.IsWhole segment_forms (W.state directory.old).files segment.now.schema segment.now.meta
             → IfErr result IsNoDamage }
     {
-        let schema = segment.schema().share();
+        SegmentReader::open_with_custom_alive_set(alloc, segment, None, directory)
+    }
+
+    /// As `open`; of the documents that are alive, only those of a custom set count as alive, where one is given. It is
+    /// of as many documents as the segment has.
+    pub fn open_with_custom_alive_set<W: Directory>(
+        alloc: Global,
+        segment: &Segment,
+        custom: Option<AliveBitSet>,
+        directory: &mut W,
+    ) -> TResult<SegmentReader>
+        requires custom { IfSome custom (λ set. length set ≡ segment.now.meta.documents) }
+        ensures does { Opens (record { segment = segment.now; custom = custom })
+            result (W.state directory.old) (W.state directory.new) }
+        ensures holds { IsTrue (W.state directory.old).tells → IfOk result
+            (λ r. Holds (W.state directory.new).files segment.now.meta.id segment.now.schema (contents_of r)) }
+        ensures whole { IsTrue (W.state directory.old).tells
+            → index.IsWhole segment_forms (W.state directory.old).files segment.now.schema segment.now.meta
+            → IfErr result IsNoDamage }
+    {
+        if !is_built_schema(segment.schema().fields()) {
+            return Err(TantivyError::InvalidArgument(ArgumentCause::Later));
+        }
+        let reader = match SegmentReader::read_files(alloc, segment, directory) {
+            Ok(reader) => reader,
+            Err(e) => return Err(e),
+        };
+        let id = segment.id();
+        let max_doc = segment.meta().max_doc();
+        let deletes = segment.meta().deletes();
+        let alive = match read_deletes(alloc, id, max_doc, deletes, directory) {
+            Ok(alive) => alive,
+            Err(e) => return Err(e),
+        };
+        match cut_by(alloc, alive, custom, max_doc) {
+            Ok(alive) => Ok(reader.with_alive(alive)),
+            Err(_) => Err(TantivyError::OutOfMemory),
+        }
+    }
+
+    /// Reads the six files, and opens them. All documents count as alive yet.
+    fn read_files<W: Directory>(
+        alloc: Global,
+        segment: &Segment,
+        directory: &mut W,
+    ) -> TResult<SegmentReader>
+        requires built { is_built_schema segment.now.schema ≡ true }
+        ensures { OpensFiles segment.now result (W.state directory.old) (W.state directory.new) }
+    {
         let id = segment.id();
         let files = match SegmentFiles::read(alloc, id, directory) {
             Ok(files) => files,
             Err(e) => return Err(e),
         };
-        match SegmentReader::open_files(alloc, schema, segment.meta().max_doc(), files) {
+        match SegmentReader::open_files(alloc, segment, files) {
             Ok(reader) => Ok(reader),
             Err(e) => Err(e.of_segment(id)),
         }
     }
 
-    /// How many documents the segment has, the deleted ones with them.
-    pub fn max_doc(&self) -> u32
-        ensures { result ≡ self.now.documents }
-    {
-        self.max_doc
-    }
-
-    pub fn schema(&self) -> &Schema
-        ensures { result.now ≡ self.now.schema }
-    {
-        &self.schema
-    }
-
-    /// Each field of the schema has its terms where it is indexed, and none elsewhere.
-    pub fn indexed_fields_are_open(&self)
-        ensures { map is_some self.now.fields ≡ map is_indexed self.now.schema }
-    {
-        let _fields = &self.fields;
-    }
-
-    /// The terms of a field, with their postings; none where the field isn't indexed.
-    pub fn inverted_index(&self, field: Field) -> Option<&InvertedIndexReader>
-        ensures { MatchOption result
-            (IfSome (slice_get self.now.fields field) (λ o. o ≡ None))
-            (λ r. slice_get self.now.fields field ≡ Some (Some r.now)) }
-    {
-        match self.fields.get(field.field_id() as usize) {
-            Some(opened) => opened.as_ref(),
-            None => None,
-        }
-    }
-
-    /// The stored documents.
-    pub fn store_reader(&self) -> &StoreReader
-        ensures { result.now ≡ self.now.blocks }
-    {
-        &self.store
-    }
-
-    /// The length ids.
-    pub fn fieldnorms_readers(&self) -> &FieldNormReaders
-        ensures { result.now ≡ self.now.norms }
-    {
-        &self.norms
-    }
-
-    /// Opens the files of a segment of this many documents, each checked whole and against those that are read before it: for
-    /// a segment whose bytes are wanted besides, so that each file is read once.
+    /// Opens the files of a segment, each checked whole and against those that are read before it: for files that were
+    /// just made, too. All documents count as alive.
     pub fn open_files(
         alloc: Global,
-        schema: Schema,
-        max_doc: u32,
+        segment: &Segment,
         files: SegmentFiles,
     ) -> Result<SegmentReader, OpenError>
-        requires built { is_built_schema schema ≡ true }
-        ensures of { IfOk result (λ r. (r.schema ≡ schema) × (r.documents ≡ max_doc)) }
-        ensures ok { IfOk result (λ r. Spell schema files (contents_of r)) }
-        ensures err { IfErr result (IsWhyNotOpen schema max_doc files) }
+        requires built { is_built_schema segment.now.schema ≡ true }
+        ensures ok { IfOk result (HasFilesOf segment.now files) }
+        ensures err { IfErr result (IsWhyNotOpen segment.now.schema segment.now.meta.documents files) }
     {
         terms_read_have_shape();
+        let sizes = FileSizes::of(&files);
+        let schema = segment.schema().share();
+        let max_doc = segment.meta().max_doc();
         let SegmentFiles {
             terms,
             store,
@@ -157,11 +184,24 @@ impl SegmentReader {
             return Err(OpenError::Damaged(SegmentComponent::FieldNorms));
         };
         Ok(SegmentReader {
+            alloc,
+            id: segment.id(),
             schema,
             max_doc,
             fields,
             store,
             norms,
+            alive: None,
+            delete_opstamp: segment.meta().delete_opstamp(),
+            sizes,
         })
+    }
+
+    /// The same segment, of which these documents are alive; all where no set is given.
+    fn with_alive(self, alive: Option<AliveBitSet>) -> SegmentReader
+        requires { LacksSome self.documents alive }
+        ensures { result ≡ record self { alive = alive_of self.documents alive } }
+    {
+        SegmentReader { alive, ..self }
     }
 }

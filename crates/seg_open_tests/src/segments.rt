@@ -1,6 +1,8 @@
 //! A small segment, and how it is opened.
 
-use seg_build::{SegmentWriter, is_built_schema};
+use seg_bits::AliveBitSet;
+use seg_build::SegmentWriter;
+use seg_common::OwnedBytes;
 use seg_directory::MemoryDirectory;
 use seg_meta::Segment;
 use seg_open::SegmentReader;
@@ -35,9 +37,27 @@ fn written(alloc: Global) -> TResult<MemoryDirectory> {
 /// The segment, open.
 pub(crate) fn opened(alloc: Global) -> TResult<SegmentReader> {
     let mut directory = written(alloc)?;
+    SegmentReader::open(alloc, &titles(alloc)?, &mut directory)
+}
+
+/// The segment, open, of which the first document alone counts as alive.
+pub(crate) fn opened_first(alloc: Global) -> TResult<SegmentReader> {
+    let mut directory = written(alloc)?;
     let segment = titles(alloc)?;
-    if !is_built_schema(segment.schema().fields()) {
+    let first = first_alone(alloc)?;
+    if first.bitset().max_value() != segment.meta().max_doc() {
         return Err(TantivyError::SystemError);
     }
-    SegmentReader::open(alloc, &segment, &mut directory)
+    SegmentReader::open_with_custom_alive_set(alloc, &segment, Some(first), &mut directory)
+}
+
+/// The first of two documents, as a set.
+fn first_alone(alloc: Global) -> TResult<AliveBitSet> {
+    let Ok(bytes) = OwnedBytes::new(alloc, &[2, 0, 0, 0, 1, 0, 0, 0, 0, 0, 0, 0]) else {
+        return Err(TantivyError::OutOfMemory);
+    };
+    match AliveBitSet::open(bytes) {
+        Ok(set) => Ok(set),
+        Err(_) => Err(TantivyError::SystemError),
+    }
 }

@@ -1,5 +1,5 @@
 //! Reads the operations of a script.
-ghost use Rattle.std.specs.Prelude.{◌≡◌, ◌≢◌, [], ◌∷◌, length, map, Some, None, Err, IfOk, MatchOption, string_bytes, option_map};
+ghost use Rattle.std.specs.Prelude.{◌≡◌, ◌≢◌, [], ◌∷◌, ◌++◌, length, map, Some, None, Err, IfOk, OnOk, MatchOption, string_bytes, option_map};
 ghost use Rattle.serde_json.specs.Find.{as_str};
 ghost use Rattle.serde_json.specs.View.{view};
 ghost use Rattle.seg_values.specs.View.{tree_of};
@@ -14,7 +14,7 @@ use seg_input::UserOperation;
 use seg_values::{Field, OwnedValue, Schema, TantivyDocument, Term};
 use seg_words::Text;
 use serde_json::{Map, Value};
-use std::alloc::Global;
+use std::alloc::{AllocError, Global};
 
 /// The operations that a list is.
 pub(crate) fn operations_from(
@@ -87,11 +87,21 @@ fn document_from(
     let mut document = TantivyDocument::new(alloc);
     for item in items {
         match pair_from(schema, item) {
-            Some((field, value)) => document.add_field_value(field, value)?,
+            Some((field, value)) => add(&mut document, field, value)?,
             None => return Err(ScriptError::Later),
         }
     }
     Ok(document)
+}
+
+/// Adds a field with its value at the end of a document.
+fn add(document: &mut TantivyDocument, field: Field, value: OwnedValue) -> Result<(), AllocError>
+    ensures { OnOk result (document.new ≡ document.old ++ (field, tree_of value) ∷ []) }
+{
+    match document.add_field_value(field, value) {
+        Ok(()) => Ok(()),
+        Err(_) => Err(AllocError),
+    }
 }
 
 /// A field and its value, whose text is moved.

@@ -8,5 +8,6 @@ pub use Rattle.seg_segment.proofs.OneContents.{one, selected}
 pub use Rattle.seg_segment.proofs.OnlyReads.{FindWhole, FindsDamage, OnlyReads, Unchanged, found_whole, reads_both, reads_rose, reads_so, reads_stay, suits_both, whole_both}
 pub use Rattle.seg_segment.proofs.ReadLaws.{has_read, is_there, only_six, six_whole}
 pub use Rattle.seg_segment.proofs.SpelledFiles.{held_on, held_spells, stands_there}
+pub use Rattle.seg_segment.proofs.ToldTotals.{told_totals}
 pub use Rattle.seg_segment.proofs.Turns.{drop-item}
 pub use Rattle.seg_segment.proofs.WrittenDocuments.{IsRecorded, are_of_kind, posting_is}

@@ -10,5 +10,6 @@ mod OneContents
 mod OnlyReads
 mod ReadLaws
 mod SpelledFiles
+mod ToldTotals
 mod Turns
 mod WrittenDocuments

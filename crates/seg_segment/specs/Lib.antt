@@ -12,4 +12,5 @@ pub mod SegmentRead
 pub mod Serializing
 pub mod Spelling
 pub mod Standing
+pub mod Totals
 pub mod WritingTerms

@@ -98,6 +98,15 @@ impl SegmentSerializer {
         &self.segment
     }
 
+    /// The segment, and the writer of its store, with what this has taken: for a serializer whose other components have
+    /// nothing yet, and which `from_parts` makes again.
+    pub fn into_store(self) -> (Segment, StoreWriter)
+        ensures { (result.0 ≡ self.segment) × (result.1 ≡ self.store) }
+    {
+        let SegmentSerializer { segment, store, .. } = self;
+        (segment, store)
+    }
+
     /// Writes the six files, in the order field norms, fast fields, terms, postings, positions, store. Lengths that were
     /// not put are a composite without parts.
     pub fn close<W: Directory>(self, directory: &mut W) -> TResult<()>

@@ -45,6 +45,18 @@ impl CachedStoreReader {
         ensures err { IfErr result (λ e. ((e ≡ StoreError.Malformed) × (store_of bytes ≡ None)) ⊎ ((e ≡ StoreError.OutOfMemory) × (is_some (store_of bytes) ≡ true))) }
     {
         let store = StoreReader::open(bytes)?;
+        CachedStoreReader::new(alloc, store, cache_num_blocks)
+    }
+
+    /// The reader of a store that is open, which keeps this many blocks; 0: none.
+    pub fn new(
+        alloc: Global,
+        store: StoreReader,
+        cache_num_blocks: usize,
+    ) -> Result<CachedStoreReader, StoreError>
+        ensures ok { IfOk result (λ r. r ≡ unused cache_num_blocks store) }
+        ensures err { IfErr result (λ e. e ≡ StoreError.OutOfMemory) }
+    {
         let cache = BlockCache::new(alloc, cache_num_blocks)?;
         Ok(CachedStoreReader {
             alloc,

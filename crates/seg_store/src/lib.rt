@@ -5,7 +5,7 @@
 //! keeps. The bytes of a document are those of `seg_stored`.
 //!
 //! To be read in this order: `error`; `checkpoint`, `written_blocks`, `store_writer`, `block_law`; `parts`, `block_check`,
-//! `store_check`; `locating`, `block_reader`; `raw_docs`, `store_reader`; `cache_stats`, `block_cache`,
+//! `store_check`; `locating`, `block_reader`; `raw_docs`, `checkpoints`, `store_reader`; `cache_stats`, `block_cache`,
 //! `cached_store_reader`.
 #![tactic(auto)]
 
@@ -16,6 +16,7 @@ mod block_reader;
 mod cache_stats;
 mod cached_store_reader;
 mod checkpoint;
+mod checkpoints;
 mod error;
 mod locating;
 mod parts;
@@ -29,6 +30,7 @@ pub use block_law::documents_stay_in_order;
 pub use cache_stats::CacheStats;
 pub use cached_store_reader::CachedStoreReader;
 pub use checkpoint::Checkpoint;
+pub use checkpoints::Checkpoints;
 pub use error::StoreError;
 pub use raw_docs::RawDocs;
 pub use store_reader::StoreReader;

@@ -4,11 +4,12 @@ ghost use Rattle.std.specs.List.{slice_get};
 ghost use Rattle.seg_store.specs.Alive.{alive_behind};
 ghost use Rattle.seg_store.specs.Block.{is_block, documents_in};
 ghost use Rattle.seg_store.specs.Cache.{block_of};
-ghost use Rattle.seg_store.specs.Checkpoints.{stored_size};
+ghost use Rattle.seg_store.specs.Checkpoints.{checkpoints, stored_size};
 ghost use Rattle.seg_stored.specs.StoredDocument.{is_stored_document};
 ghost use Rattle.seg_store.specs.Store.{store_of, document_count, raw_documents, documents_of};
 
 use crate::checkpoint::{CHECKPOINT_BYTES, Checkpoint, checkpoint_at};
+use crate::checkpoints::Checkpoints;
 use crate::error::StoreError;
 use crate::locating::{self, block_place, checkpoint_table, document_place, first_document};
 use crate::raw_docs::RawDocs;
@@ -49,6 +50,15 @@ impl StoreReader {
         Ok(StoreReader { bytes })
     }
 
+    /// The same reader once more, of the same bytes; this takes no memory.
+    pub fn share(&self) -> StoreReader
+        ensures { result ≡ self.now }
+    {
+        StoreReader {
+            bytes: self.bytes.share(),
+        }
+    }
+
     /// How many documents there are.
     pub fn num_docs(&self) -> u32
         ensures counted { result ≡ document_count self.now }
@@ -72,6 +82,13 @@ impl StoreReader {
         ensures byte_end { result.byte_end ≡ stored_size (take (index + 1) self.now) }
     {
         checkpoint_at(checkpoint_table(self.bytes.as_slice()), index)
+    }
+
+    /// Where each block ends, in order.
+    pub fn block_checkpoints(&self) -> Checkpoints<'_>
+        ensures { result ≡ checkpoints self.now }
+    {
+        Checkpoints::new(self)
     }
 
     /// The bytes that a document is stored as.

@@ -41,6 +41,17 @@ fn checkpoint(reader: &StoreReader, index: usize) -> Option<Checkpoint> {
     Some(reader.checkpoint(index))
 }
 
+/// Whether the checkpoints come as those of the blocks, one after another.
+fn come_in_order(reader: &StoreReader) -> bool {
+    let mut checkpoints = reader.block_checkpoints();
+    for index in 0..reader.block_count() {
+        if checkpoints.next() != checkpoint(reader, index) {
+            return false;
+        }
+    }
+    checkpoints.next().is_none()
+}
+
 /// Whether a document has these stored bytes.
 fn has(alloc: Global, reader: &StoreReader, doc: u32, stored: &[u8]) -> Result<bool, CommonError> {
     let wanted = OwnedBytes::new(alloc, stored)?;
@@ -70,5 +81,17 @@ fn sizes_are_told(rt: HostRuntime) -> Result<(), Fail> {
     };
     assert!(rt; checkpoint(&reader, 1) == Some(second));
     assert!(rt; reader.space_usage() == ByteCount(100));
+    Ok(())
+}
+
+#[test]
+fn checkpoints_come_in_order(rt: HostRuntime) -> Result<(), Fail> {
+    let reader = open(rt.alloc(), FOUR)?;
+    let first = Checkpoint {
+        doc_end: 2,
+        byte_end: 25,
+    };
+    assert!(rt; reader.block_checkpoints().next() == Some(first));
+    assert!(rt; come_in_order(&reader));
     Ok(())
 }

@@ -97,7 +97,9 @@ fn document_of(alloc: Global, value: OwnedValue) -> Result<TantivyDocument, Allo
     ensures { IfOk result AreShallow }
 {
     let mut document = TantivyDocument::new(alloc);
-    document.add_field_value(Field::from_field_id(0), value)?;
+    let Ok(()) = document.add_field_value(Field::from_field_id(0), value) else {
+        return Err(AllocError);
+    };
     Ok(document)
 }
 

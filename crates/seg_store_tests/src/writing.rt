@@ -38,7 +38,9 @@ fn title(alloc: Global) -> Result<TantivyDocument, AllocError>
     ensures { IfOk result AreShallow }
 {
     let mut document = TantivyDocument::new(alloc);
-    document.add_text(Field::from_field_id(0), "a")?;
+    let Ok(()) = document.add_text(Field::from_field_id(0), "a") else {
+        return Err(AllocError);
+    };
     Ok(document)
 }
 

@@ -40,7 +40,9 @@ fn read_pairs(alloc: Global, bytes: &mut &[u8]) -> Result<Option<TantivyDocument
         let Some(pair) = read_pair(alloc, bytes)? else {
             return Ok(None);
         };
-        document.add_field_value(pair.0, pair.1)?;
+        let Ok(()) = document.add_field_value(pair.0, pair.1) else {
+            return Err(AllocError);
+        };
     }
     Ok(Some(document))
 }

@@ -15,8 +15,8 @@ use Rattle.seg_values.proofs.Exports.{is_sorted-rising}
 use Rattle.seg_termdict.specs.SortedTerms.{TermRange, RankedTerm, is_from, is_up_to, is_within, ranked, in_direction, streamed}
 use Rattle.seg_termdict.specs.Dictionary.{Term}
 use Rattle.seg_termdict.specs.LookUps.{HasKeyAt}
-use Rattle.seg_termdict.specs.Streaming.{no_term}
-use Rattle.seg_termdict.specs.Ranges.{sorted_terms, ranked_terms, key_at, IsCut, between, place_of, no_ranked, current}
+use Rattle.seg_termdict.specs.Streaming.{ranked_terms, no_term, no_ranked, current}
+use Rattle.seg_termdict.specs.Ranges.{sorted_terms, key_at, IsCut, between, place_of}
 
 -- a term with its ordinal
 abbrev pub ranked_of : ℕ × Term → RankedTerm TermInfo
@@ -63,13 +63,19 @@ module _ (terms : List Term) (start end : ℕ) (within : end ≤ length terms) w
       ∙ ap (λ (i : ℕ). ranked_of (i, get_or terms i no_term)) e
 
   -- the term that a streamer has come to
-  pub comes_to : (backward : Bool) (n : ℕ) → start + n < end → current (record { terms = between backward terms start end; taken = n + 1 }) ≡ ranked_of (place_of backward start end n, get_or terms (place_of backward start end n) no_term)
+  pub comes_to : (backward : Bool) (n : ℕ) → start + n < end → current (record { terms = between backward terms start end; backward = backward; taken = n + 1 }) ≡ ranked_of (place_of backward start end n, get_or terms (place_of backward start end n) no_term)
   comes_to backward n lt = ap (λ (k : ℕ). get_or (no_ranked ∷ between backward terms start end) k no_ranked) (add-one n) ∙ between_at backward n lt
 
-  pub stands_at : (backward : Bool) (taken : ℕ) → 0 < taken → start + taken ≤ end → current (record { terms = between backward terms start end; taken = taken }) ≡ ranked_of (place_of backward start end (taken - 1), get_or terms (place_of backward start end (taken - 1)) no_term)
+  pub stands_at : (backward : Bool) (taken : ℕ) → 0 < taken → start + taken ≤ end → current (record { terms = between backward terms start end; backward = backward; taken = taken }) ≡ ranked_of (place_of backward start end (taken - 1), get_or terms (place_of backward start end (taken - 1)) no_term)
   stands_at backward taken pos le =
       let e : taken ≡ taken - 1 + 1 = omega (arith, pos) in
-      ap (λ (k : ℕ). current (record { terms = between backward terms start end; taken = k })) e ∙ comes_to backward (taken - 1) (omega (arith, pos, le))
+      ap (λ (k : ℕ). current (record { terms = between backward terms start end; backward = backward; taken = k })) e ∙ comes_to backward (taken - 1) (omega (arith, pos, le))
+
+-- from the first to the last are all
+pub all_between : (terms : List Term) (n : ℕ) → n ≡ length terms → between false terms 0 n ≡ ranked_terms terms
+all_between terms n is =
+    let e : n - 0 ≡ n = omega arith in
+    ap (λ (k : ℕ). take k (ranked_terms terms)) e ∙ take_all n (ranked_terms terms) (omega (arith, is, ranked_length terms))
 
 -- what is at a place
 pub info_there : (terms : List Term) (i : ℕ) (info : TermInfo) → i < length terms → IsSomeAnd (slice_get terms i) (λ t. t.1 ≡ info) → (get_or terms i no_term).1 ≡ info

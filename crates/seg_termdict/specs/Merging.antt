@@ -7,8 +7,7 @@ use Rattle.std.specs.Str.{bytes_eq}
 use Rattle.seg_common.specs.declared.term_info.TermInfo.{TermInfo}
 use Rattle.seg_termdict.specs.SortedTerms.{RankedTerm, key_cmp}
 use Rattle.seg_termdict.specs.MergedTerms.{Standing, keys_in, merged_terms}
-use Rattle.seg_termdict.specs.Streaming.{Stream}
-use Rattle.seg_termdict.specs.Ranges.{ranked_terms, no_ranked}
+use Rattle.seg_termdict.specs.Streaming.{Stream, no_ranked}
 
 -- a key, and where it is
 abbrev pub MergedTerm : Type 0
@@ -36,7 +35,7 @@ pub record Merging : Type 0 where
 
 -- the terms of a stream that has come to none
 abbrev pub terms_of_stream : Stream → List (RankedTerm TermInfo)
-terms_of_stream s = ranked_terms s.terms
+terms_of_stream s = s.terms
 
 -- before the first merged term of some streams
 abbrev pub before_merged : List Stream → Merging

@@ -1,21 +1,16 @@
--- The terms of a dictionary with their ordinals, the ranges of them, and the terms of a range, one after another.
-use Rattle.std.specs.Prelude.{◌≡◌, ℕ, ◌+◌, ◌-◌, ◌<◌, ◌≤◌, Bool, true, false, nat_lt, if◌then◌else◌, List, ◌∷◌, map, length, get_or, slice_range}
+-- Ranges of the terms of a dictionary.
+use Rattle.std.specs.Prelude.{◌≡◌, ℕ, ◌+◌, ◌-◌, ◌<◌, ◌≤◌, Bool, true, false, if◌then◌else◌, List, length, get_or, slice_range}
 use Rattle.std.specs.FinMap.{from_sorted}
-use Rattle.std.specs.List.{enumerate_from}
 use Rattle.std.specs.Ordering.{is_lt, is_le}
 use Rattle.std.specs.declared.ops.Bound.{Bound}
 use Rattle.seg_common.specs.declared.term_info.TermInfo.{TermInfo}
 use Rattle.seg_termdict.specs.SortedTerms.{SortedTerms, TermRange, RankedTerm, key_cmp, in_direction, all_terms_range}
 use Rattle.seg_termdict.specs.Dictionary.{Term}
-use Rattle.seg_termdict.specs.Streaming.{no_term}
+use Rattle.seg_termdict.specs.Streaming.{ranked_terms, no_term}
 
 -- the terms of a dictionary, which strictly ascend, as a map
 abbrev pub sorted_terms : List Term → SortedTerms TermInfo
 sorted_terms terms = from_sorted terms
-
--- each with its ordinal
-abbrev pub ranked_terms : List Term → List (RankedTerm TermInfo)
-ranked_terms terms = map (λ t. record { ord = t.0; key = t.1.0; info = t.1.1 }) (enumerate_from 0 terms)
 
 -- ---- where a range begins and ends
 
@@ -63,30 +58,3 @@ with_upper bound r = record { terms = r.terms; range = record { lower = r.range.
 -- terms come from the greatest on
 abbrev pub turned_backward : Ranged → Ranged
 turned_backward r = record { terms = r.terms; range = record { lower = r.range.lower; upper = r.range.upper; backward = true } }
-
--- ---- streams
-
--- the terms of a range, in its direction, and how many of them a streamer has come to
-pub record RangeStream : Type 0 where
-  pub terms : List (RankedTerm TermInfo)
-  pub taken : ℕ
-
--- before the first of the terms
-abbrev pub before_all : List (RankedTerm TermInfo) → RangeStream
-before_all terms = record { terms = terms; taken = 0 }
-
--- what is in the place of a term before the first
-abbrev pub no_ranked : RankedTerm TermInfo
-no_ranked = record { ord = 0; key = no_term.0; info = no_term.1 }
-
--- a term apart from its ordinal
-abbrev pub without_ord : RankedTerm TermInfo → Term
-without_ord t = (t.key, t.info)
-
--- the term that a streamer has come to last
-abbrev pub current : RangeStream → RankedTerm TermInfo
-current s = get_or (no_ranked ∷ s.terms) s.taken no_ranked
-
--- the next term, where there is one
-abbrev pub advanced : RangeStream → RangeStream
-advanced s = if nat_lt s.taken (length s.terms) then record { terms = s.terms; taken = s.taken + 1 } else s

@@ -123,7 +123,7 @@ impl TermDictionary {
     pub fn stream(&self) -> TermStreamer<'_>
         ensures { result ≡ all_terms self.now }
     {
-        TermStreamer::new(self)
+        TermStreamer::new(self, 0, self.num_terms(), false)
     }
 
     /// A range of the terms: all of them, until bounds are set. It takes no memory yet.

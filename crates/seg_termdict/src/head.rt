@@ -1,5 +1,5 @@
 //! One of the streams that are merged.
-ghost use Rattle.std.specs.Prelude.{◌≡◌, ◌<◌, drop, nat_lt, length};
+ghost use Rattle.std.specs.Prelude.{◌≡◌, ◌<◌, drop, false, nat_lt, length};
 ghost use Rattle.seg_termdict.specs.Merging.{Ascends, first, terms_of_stream};
 
 use crate::format::TermOrdinal;
@@ -18,11 +18,10 @@ impl<'a> Model for Head<'a> {
     ghost use Rattle.std.specs.Prelude.{◌≡◌, ◌-◌, ◌<◌, ◌≤◌, true, if◌then◌else◌, List, [], drop, length};
     ghost use Rattle.seg_common.specs.declared.term_info.TermInfo.{TermInfo};
     ghost use Rattle.seg_termdict.specs.SortedTerms.{RankedTerm};
-    ghost use Rattle.seg_termdict.specs.Ranges.{ranked_terms};
 
     ghost Value = { List (RankedTerm TermInfo) };
 
-    ghost view = { λ h. if h.stands then drop (h.stream.taken - 1) (ranked_terms h.stream.terms) else [] };
+    ghost view = { λ h. if h.stands then drop (h.stream.taken - 1) h.stream.terms else [] };
 
     ghost invariant = { λ h. h.stands ≡ true → (0 < h.stream.taken) × (h.stream.taken ≤ length h.stream.terms) };
 }
@@ -30,7 +29,8 @@ impl<'a> Model for Head<'a> {
 impl<'a> Head<'a> {
     /// Goes to the first term of a streamer.
     pub(crate) fn new(mut stream: TermStreamer<'a>) -> Head<'a>
-        requires { stream.taken ≡ 0 }
+        requires fresh { stream.taken ≡ 0 }
+        requires forward { stream.backward ≡ false }
         ensures terms { result ≡ terms_of_stream stream.entry }
         ensures order { Ascends result }
     {

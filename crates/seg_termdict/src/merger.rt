@@ -1,5 +1,5 @@
 //! The terms of several dictionaries, merged.
-ghost use Rattle.std.specs.Prelude.{◌≡◌, ◌<◌, None, Some, ◌++◌, [], ◌∷◌, map, drop, get_or, slice_set, nat_lt, length, All, IfOk, IfErr, OnOk, IfSome, IsSome, IsSomeAnd, IsTrue};
+ghost use Rattle.std.specs.Prelude.{◌≡◌, ◌<◌, false, None, Some, ◌++◌, [], ◌∷◌, map, drop, get_or, slice_set, nat_lt, length, All, IfOk, IfErr, OnOk, IfSome, IsSome, IsSomeAnd, IsTrue};
 ghost use Rattle.std.specs.List.{AllByRecursion};
 ghost use Rattle.std.specs.List.Sorted.{IsPermutation};
 ghost use Rattle.seg_common.specs.Growing.{HasGrown};
@@ -44,12 +44,13 @@ impl<'a> Model for TermMerger<'a> {
 }
 
 impl<'a> TermMerger<'a> {
-    /// Stands before the first term of streamers that have come to none.
+    /// Stands before the first term of streamers that have come to none, and go forward.
     pub fn new(
         alloc: Global,
         streams: Vec<TermStreamer<'a>>,
     ) -> Result<TermMerger<'a>, TermDictError>
-        requires { All (λ s. s.taken ≡ 0) streams.items }
+        requires fresh { All (λ s. s.taken ≡ 0) streams.items }
+        requires forward { All (λ s. s.backward ≡ false) streams.items }
         ensures ok { IfOk result (λ merger. merger ≡ Some (before_merged streams.entry.items)) }
         ensures err { IfErr result (λ e. e ≡ TermDictError.OutOfMemory) }
     {
@@ -120,7 +121,8 @@ impl<'a> TermMerger<'a> {
 }
 
 fn heads_of<'a>(alloc: Global, streams: Vec<TermStreamer<'a>>) -> Result<Vec<Head<'a>>, AllocError>
-    requires { All (λ s. s.taken ≡ 0) streams.items }
+    requires fresh { All (λ s. s.taken ≡ 0) streams.items }
+    requires forward { All (λ s. s.backward ≡ false) streams.items }
     ensures terms { IfOk result (λ heads. heads.items ≡ map terms_of_stream streams.entry.items) }
     ensures order { IfOk result (λ heads. AllByRecursion Ascends heads.items) }
 {

@@ -1,54 +1,66 @@
-//! The terms of a dictionary, one after another.
-ghost use Rattle.std.specs.Prelude.{◌≡◌, ◌-◌, ◌<◌, nat_lt, length, map, option_map, slice_get};
+//! The terms of a dictionary, or of a range of them, one after another.
+ghost use Rattle.std.specs.Prelude.{◌≡◌, ◌+◌, ◌<◌, ◌≤◌, false, nat_lt, length, option_map, slice_get};
 ghost use Rattle.std.specs.Borrow.{sem};
-ghost use Rattle.std.specs.Cmp.Lexicographic.{slice_cmp};
-ghost use Rattle.std.specs.List.Sorted.{IsStrictlySortedBy};
-ghost use Rattle.std.specs.Ordering.{nat_cmp};
-ghost use Rattle.seg_termdict.specs.Dictionary.{Term};
-ghost use Rattle.seg_termdict.specs.Streaming.{all_terms, current, advanced};
+ghost use Rattle.seg_termdict.specs.Merging.{Ascends};
+ghost use Rattle.seg_termdict.specs.Ranges.{between, place_of};
+ghost use Rattle.seg_termdict.specs.Streaming.{before_all, without_ord, current, advanced};
 
 use crate::dictionary::TermDictionary;
 use crate::format::TermOrdinal;
 use seg_common::TermInfo;
 use std::marker::Model;
 
-/// The terms of a dictionary in the order of their keys, by which `advance` goes. It takes no memory: a key is a slice
-/// of the dictionary's bytes.
+/// The terms between two places of a dictionary, in a direction, by which `advance` goes. It takes no memory: a key is a
+/// slice of the dictionary's bytes.
 #[derive(Drop)]
 pub struct TermStreamer<'a> {
     dictionary: &'a TermDictionary,
+    start: usize,
+    end: usize,
+    backward: bool,
     taken: usize,
     info: TermInfo,
 }
 
 impl<'a> Model for TermStreamer<'a> {
-    ghost use Rattle.std.specs.Prelude.{◌≡◌, ◌≤◌, length};
+    ghost use Rattle.std.specs.Prelude.{◌≡◌, ◌+◌, ◌≤◌, length};
+    ghost use Rattle.seg_termdict.specs.Ranges.{between};
     ghost use Rattle.seg_termdict.specs.Streaming.{Stream, current};
 
     ghost Value = { Stream };
 
-    ghost view = { λ s. record { terms = s.dictionary.now; taken = s.taken } };
+    ghost view = { λ s. record { terms = between s.backward s.dictionary.now s.start s.end; backward = s.backward; taken = s.taken } };
 
-    ghost invariant = { λ s. (s.taken ≤ length s.dictionary.now) × (s.info ≡ (current (record { terms = s.dictionary.now; taken = s.taken })).1) };
+    ghost invariant = { λ s. (s.end ≤ length s.dictionary.now) × (s.start + s.taken ≤ s.end) × (s.info ≡ (current (record { terms = between s.backward s.dictionary.now s.start s.end; backward = s.backward; taken = s.taken })).info) };
 }
 
 impl<'a> TermStreamer<'a> {
     ghost use Rattle.seg_termdict.specs.StreamEnds.{EndsAdvanced};
 
-    /// Stands before the first term.
-    pub(crate) fn new(dictionary: &'a TermDictionary) -> TermStreamer<'a>
-        ensures { result ≡ all_terms dictionary.now }
+    /// Stands before the terms from one place up to another.
+    pub(crate) fn new(
+        dictionary: &'a TermDictionary,
+        start: usize,
+        end: usize,
+        backward: bool,
+    ) -> TermStreamer<'a>
+        requires order { start ≤ end }
+        requires within { end ≤ length dictionary.now }
+        ensures { result ≡ before_all backward (between backward dictionary.now start end) }
     {
         TermStreamer {
             dictionary,
+            start,
+            end,
+            backward,
             taken: 0,
             info: TermInfo::default(),
         }
     }
 
-    /// What the dictionary was checked for: the keys strictly ascend in byte order.
+    /// What the dictionary was checked for: unless they come backward, the keys strictly ascend in byte order.
     pub fn keys_ascend(&self)
-        ensures { IsStrictlySortedBy (slice_cmp nat_cmp) (map (λ t. t.0) self.now.terms) }
+        ensures { self.now.backward ≡ false → Ascends self.now.terms }
     {
         self.dictionary.keys_ascend();
     }
@@ -58,17 +70,18 @@ impl<'a> TermStreamer<'a> {
         ensures more { result ≡ nat_lt self.old.taken (length self.old.terms) }
         ensures place { self.new ≡ advanced self.old }
     {
-        if self.taken >= self.dictionary.num_terms() {
+        if self.start + self.taken >= self.end {
             return false;
         }
-        self.info = self.dictionary.term_info_from_ord(self.taken as u64);
+        let next = place(self.start, self.end, self.backward, self.taken);
+        self.info = self.dictionary.term_info_from_ord(next as u64);
         self.taken += 1;
         true
     }
 
     /// Goes on to the next term, and lends its key and what is known of it; at the end it stays at the last.
     pub fn next(&mut self) -> Option<(&[u8], &TermInfo)>
-        ensures term { option_map (λ t. (t.0.now, t.1.now)) result ≡ slice_get self.old.terms self.old.taken }
+        ensures term { option_map (λ t. (t.0.now, t.1.now)) result ≡ option_map without_ord (slice_get self.old.terms self.old.taken) }
         ensures* place { sem 𝓛 (EndsAdvanced self.entry) }
     {
         if !self.advance() {
@@ -77,44 +90,62 @@ impl<'a> TermStreamer<'a> {
         Some(self.term())
     }
 
-    /// The place of the term; 0 before the first `advance`.
+    /// The place of the term among all of the dictionary; 0 before the first `advance`.
     pub fn term_ord(&self) -> TermOrdinal
-        ensures { result ≡ self.now.taken - 1 }
+        ensures { result ≡ (current self.now).ord }
     {
-        self.taken.saturating_sub(1) as u64
+        if self.taken == 0 {
+            0
+        } else {
+            place(self.start, self.end, self.backward, self.taken - 1) as u64
+        }
     }
 
     /// The key of the term; empty before the first `advance`.
     pub fn key(&self) -> &[u8]
-        ensures { result.now ≡ (current self.now).0 }
+        ensures { result.now ≡ (current self.now).key }
     {
         if self.taken == 0 {
             &[]
         } else {
-            self.dictionary.key(self.taken - 1)
+            self.last_key()
         }
     }
 
     /// The key of the term that it has come to, for as long as the dictionary lives.
     pub(crate) fn last_key(&self) -> &'a [u8]
         requires { 0 < self.now.taken }
-        ensures { result.now ≡ (current self.now).0 }
+        ensures { result.now ≡ (current self.now).key }
     {
         let dictionary = self.dictionary;
-        dictionary.key(self.taken - 1)
+        let last = place(self.start, self.end, self.backward, self.taken - 1);
+        dictionary.key(last)
     }
 
     /// What is known of the term; all zero before the first `advance`.
     pub fn value(&self) -> &TermInfo
-        ensures { result.now ≡ (current self.now).1 }
+        ensures { result.now ≡ (current self.now).info }
     {
         &self.info
     }
 
     /// `key` and `value`, lent at once.
     fn term(&self) -> (&[u8], &TermInfo)
-        ensures { (result.0.now, result.1.now) ≡ current self.now }
+        ensures { (result.0.now, result.1.now) ≡ without_ord (current self.now) }
     {
         (self.key(), self.value())
+    }
+}
+
+/// The place of the term that comes next after this many.
+fn place(start: usize, end: usize, backward: bool, taken: usize) -> usize
+    requires { start + taken < end }
+    ensures place { result ≡ place_of backward start end taken }
+    ensures within { result < end }
+{
+    if backward {
+        end - 1 - taken
+    } else {
+        start + taken
     }
 }

@@ -2,12 +2,13 @@
 ghost use Rattle.std.specs.Prelude.{◌≡◌, not, IfOk, IfErr};
 ghost use Rattle.std.specs.declared.ops.Bound.TheVariants.{Included, Excluded};
 ghost use Rattle.seg_termdict.specs.SortedTerms.{is_from, is_up_to, streamed};
-ghost use Rattle.seg_termdict.specs.Ranges.{IsCut, sorted_terms, unbounded, with_lower, with_upper, turned_backward, before_all};
+ghost use Rattle.seg_termdict.specs.Ranges.{IsCut, sorted_terms, unbounded, with_lower, with_upper, turned_backward};
+ghost use Rattle.seg_termdict.specs.Streaming.{before_all};
 
 use crate::dictionary::TermDictionary;
 use crate::error::TermDictError;
 use crate::kept_key::KeptKey;
-use crate::range_streamer::RangeStreamer;
+use crate::streamer::TermStreamer;
 use std::alloc::Global;
 use std::marker::Model;
 use std::ops::Bound;
@@ -99,13 +100,13 @@ impl<'a> TermStreamerBuilder<'a> {
     }
 
     /// Stands before the first term of the range. Bounds are found by halving.
-    pub fn into_stream(self) -> RangeStreamer<'a>
-        ensures { result ≡ before_all (streamed self.entry.range (sorted_terms self.entry.terms)) }
+    pub fn into_stream(self) -> TermStreamer<'a>
+        ensures { result ≡ before_all self.entry.range.backward (streamed self.entry.range (sorted_terms self.entry.terms)) }
     {
         self.dictionary.keys_ascend();
         let start = start_place(self.dictionary, &self.lower);
         let end = end_place(self.dictionary, &self.upper).max(start);
-        RangeStreamer::new(self.dictionary, start, end, self.backward)
+        TermStreamer::new(self.dictionary, start, end, self.backward)
     }
 }
 

@@ -1,5 +1,5 @@
 //! Terms of several dictionaries, merged.
-ghost use Rattle.std.specs.Prelude.{◌≡◌, ◌∷◌, [], ◌++◌, OnOk};
+ghost use Rattle.std.specs.Prelude.{◌≡◌, ◌∷◌, [], ◌++◌, false, IfOk, OnOk};
 ghost use Rattle.seg_termdict.specs.Streaming.{all_terms};
 
 use crate::words::{INFO, four_words, opened};
@@ -38,6 +38,34 @@ fn merger_of<'a>(
     TermMerger::new(alloc, streams)
 }
 
+/// The words from `blur` on.
+fn from_blur(alloc: Global, words: &TermDictionary) -> Result<TermStreamer<'_>, TermDictError>
+    ensures fresh { IfOk result (λ s. s.taken ≡ 0) }
+    ensures forward { IfOk result (λ s. s.backward ≡ false) }
+{
+    Ok(words.range(alloc).ge(b"blur")?.into_stream())
+}
+
+fn add_range<'a>(
+    streams: &mut Vec<TermStreamer<'a>>,
+    stream: TermStreamer<'a>,
+) -> Result<(), AllocError>
+    ensures { OnOk result (streams.new.items ≡ streams.old.items ++ stream.entry ∷ []) }
+{
+    streams.push(stream)?;
+    Ok(())
+}
+
+/// A merger of a range of words.
+fn merger_of_range<'a>(
+    alloc: Global,
+    words: &'a TermDictionary,
+) -> Result<TermMerger<'a>, TermDictError> {
+    let mut streams: Vec<TermStreamer<'a>> = Vec::new(alloc);
+    add_range(&mut streams, from_blur(alloc, words)?)?;
+    TermMerger::new(alloc, streams)
+}
+
 /// Whether a merger goes on to a term with this key, in these dictionaries.
 fn comes_to(
     merger: &mut TermMerger<'_>,
@@ -72,5 +100,21 @@ fn each_key_comes_once(rt: HostRuntime) -> Result<(), Fail> {
     let one = four_words(rt.alloc())?;
     let two = two_words(rt.alloc())?;
     assert!(rt; comes_to_each(rt.alloc(), &one, &two)?);
+    Ok(())
+}
+
+/// Whether a merger of a range gives its words with their ordinals, and then none.
+fn comes_to_range(alloc: Global, words: &TermDictionary) -> Result<bool, TermDictError> {
+    let mut merger = merger_of_range(alloc, words)?;
+    let blur = comes_to(&mut merger, b"blur", &[(0, 2)])?;
+    let donovan = comes_to(&mut merger, b"donovan", &[(0, 3)])?;
+    let past = merger.advance()?;
+    Ok(blur && donovan && !past)
+}
+
+#[test]
+fn a_range_is_merged(rt: HostRuntime) -> Result<(), Fail> {
+    let words = four_words(rt.alloc())?;
+    assert!(rt; comes_to_range(rt.alloc(), &words)?);
     Ok(())
 }

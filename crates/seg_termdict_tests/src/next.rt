@@ -3,7 +3,7 @@
 use crate::dictionary::{FIRST, SECOND, TWO, open};
 use crate::words::{INFO, four_words};
 use seg_common::TermInfo;
-use seg_termdict::{RangeStreamer, TermStreamer};
+use seg_termdict::TermStreamer;
 use std::test::Fail;
 
 /// Whether the next term has this key and this info.
@@ -15,7 +15,7 @@ fn comes_to(stream: &mut TermStreamer<'_>, key: &[u8], info: TermInfo) -> bool {
 }
 
 /// The same of a range of words.
-fn comes_to_word(stream: &mut RangeStreamer<'_>, word: &[u8]) -> bool {
+fn comes_to_word(stream: &mut TermStreamer<'_>, word: &[u8]) -> bool {
     match stream.next() {
         Some((found, known)) => found == word && *known == INFO,
         None => false,

@@ -1,12 +1,12 @@
 //! Ranges by each kind of bound, forward and backward.
 
 use crate::words::{INFO, four_words};
-use seg_termdict::{RangeStreamer, TermDictError, TermDictionary, TermOrdinal};
+use seg_termdict::{TermDictError, TermDictionary, TermOrdinal, TermStreamer};
 use std::alloc::Global;
 use std::test::Fail;
 
 /// Whether a streamer goes on to just these keys, at these places.
-fn gives(mut stream: RangeStreamer<'_>, terms: &[(&[u8], TermOrdinal)]) -> bool {
+fn gives(mut stream: TermStreamer<'_>, terms: &[(&[u8], TermOrdinal)]) -> bool {
     for (key, ord) in terms {
         if !stream.advance() || stream.key() != *key || stream.term_ord() != *ord {
             return false;

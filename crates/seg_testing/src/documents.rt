@@ -7,7 +7,9 @@ use std::alloc::{AllocError, Global};
 pub fn document(alloc: Global, texts: &[(u32, &str)]) -> Result<TantivyDocument, AllocError> {
     let mut document = TantivyDocument::new(alloc);
     for (field, text) in texts {
-        document.add_text(Field::from_field_id(*field), text)?;
+        let Ok(()) = document.add_text(Field::from_field_id(*field), text) else {
+            return Err(AllocError);
+        };
     }
     Ok(document)
 }

@@ -4,6 +4,7 @@ pub mod DocumentText
 pub mod FieldText
 pub mod HeaderText
 pub mod Json
+pub mod NormsText
 pub mod PlacedMembers
 pub mod PostingText
 pub mod SegmentText

@@ -1,8 +1,8 @@
 //! The printed text of a segment, by pieces that a caller puts together. Each call appends its piece.
 //!
-//! Its model: `segment_text` gives the bytes that stand for what a segment holds under a schema.
+//! Its model: `segment_text` gives the bytes that stand for what a segment holds under a schema, and `full_segment_text` those with its length ids.
 //!
-//! In reading order: `decimal`, `hexadecimal`, `quoted` and `comma` are what lines are made of, `header` are the first lines, `term`, `posting` and `field` are the index. `date`, `leaf`, `pre_tokenized` and `value` are values as JSON, `pair` is a field with one, and `document` the line of a document of any values.
+//! In reading order: `decimal`, `hexadecimal`, `quoted` and `comma` are what lines are made of, `header` are the first lines, `term`, `posting` and `field` are the index, `norms` are the last lines. `date`, `leaf`, `pre_tokenized` and `value` are values as JSON, `pair` is a field with one, and `document` the line of a document of any values.
 #![tactic(auto)]
 
 mod comma;
@@ -13,6 +13,7 @@ mod field;
 mod header;
 mod hexadecimal;
 mod leaf;
+mod norms;
 mod pair;
 mod posting;
 mod pre_tokenized;
@@ -23,5 +24,6 @@ mod value;
 pub use document::push_document;
 pub use field::push_field;
 pub use header::{push_dead, push_header};
+pub use norms::push_norms;
 pub use posting::{RecordedRef, push_posting};
 pub use term::push_term;

@@ -1,106 +1,42 @@
--- What it says that `build` ended with a status, and no text.
-use Rattle.std.proofs.Common.{◌≡◌, ℕ, List, Option, None, Some, refl, sym, ap, subst, ◌∙◌, inl, inr}
-use Rattle.std.specs.Prelude.{◌⊎◌, IfSome, IsSome, IsTrue, Result, Ok, Err, IfOk, IfErr}
+-- What it says that the job of a script ended with a status and no text, or with a text.
+use Rattle.std.proofs.Common.{◌≡◌, ◌≢◌, ◌∙◌, ℕ, List, Option, None, Some, Result, Ok, Err, IsTrue, refl, sym, ap, subst, inl, inr}
+use Rattle.std.specs.Prelude.{◌⊎◌, IfSome, IsSome}
 use Rattle.std.proofs.lemmas.Option.{MatchOption-from_none}
-use Rattle.seg_common.specs.declared.name.FileName.{FileName}
-use Rattle.seg_values.specs.declared.error.ArgumentCause.TheVariants.{Documents}
+use Rattle.seg_values.specs.declared.error.ArgumentCause.TheVariants.{Documents, Later}
 use Rattle.seg_values.specs.declared.error.TantivyError.{TantivyError}
 use Rattle.seg_values.specs.declared.error.TantivyError.TheVariants.{SchemaError, InvalidArgument, IndexAlreadyExists, OpenReadError, OpenWriteError, IoError, DataCorruption, SystemError, FieldNotFound, OutOfMemory}
+use Rattle.seg_meta.specs.Reads.{given}
 use Rattle.seg_model.specs.Fields.{Analyzer}
 use Rattle.seg_model.specs.Input.{Input}
+use Rattle.seg_model.specs.Refused.{IfRefusal}
 use Rattle.seg_model.specs.Valid.{Known}
 use Rattle.seg_refusals.specs.Refusals.{first_error}
-use Rattle.seg_model.specs.Refused.{IfRefusal}
-use Rattle.seg_merge.specs.Builds.{AreEmpty}
 use Rattle.seg_merge.specs.Turns.{Directories}
-use Rattle.seg_script.specs.Script.{json_of, script}
-use Rattle.seg_tool.specs.DirectoryCalls.{BuildDoes, Stopped, Wrote}
+use Rattle.seg_merge.proofs.Exports.{IsBuildError, RoseIn}
+use Rattle.seg_script.specs.Script.{json_of, script, script_from}
+use Rattle.seg_tool.specs.DirectoryCalls.{BuildDoes, Stopped}
+use Rattle.seg_tool.specs.Jobs.{AreEmpty, BuildsScript, BuildsText, NotBuilt, WithStatus, no_json, no_memory, no_script, of_input}
 use Rattle.seg_tool.specs.Run.{first_of, refusal_of, IsWhyRefused, IsWhyRefusedUntold}
-use Rattle.seg_tool.specs.Runs.{EndsInput, not_built, not_printed, PrintsInput, Prints, Ends, no_json, no_script, no_memory, of_input}
 use Rattle.seg_tool.specs.Statuses.{IfRefused, IfWritten, RefusedFor, status_of}
 use Rattle.seg_tool.specs.declared.status.Status.{Status}
 use Rattle.seg_tool.specs.declared.status.Status.TheVariants.{Done, Words, Script, Refused, Exists, Directory, Damaged, Stream, Memory}
-use Rattle.seg_tool.proofs.Built.{ends-with, first_statuses, refused_as, undamaged_status}
-use Rattle.seg_tool.proofs.Endings.{json_some, stopped-before}
+use Rattle.seg_tool.specs.declared.words.Detail.{Detail}
+use Rattle.seg_tool.proofs.BuildLaws.{NotPrinted, not_admitted, not_damaged, not_error, not_first, not_fresh, not_printed, not_refused, not_untold}
+use Rattle.seg_tool.proofs.StatusLaws.{IsEarly, IsErrorOf, IsOfError, answer_of, early_error, error_of, exists_only, first_statuses, if_refused, is_error, of_error, refused_as, undamaged_as, when_written}
 
--- ---- statuses
+-- ---- scripts
 
--- a status without a text
-abbrev pub IsEarly : Status → Type 0
-IsEarly Done = ⊥
-IsEarly Words = ⊥
-IsEarly Stream = ⊥
-IsEarly _ = Unit {0}
+-- what is a script is JSON text
+some_given : {X Y : Type 0} (o : Option X) (f : X → Option Y) (y : Y) → given o f ≡ Some y → IsSome o
+some_given None f y is = absurd (cc is)
+some_given (Some x) f y is = refl
 
--- and one of an error
-abbrev IsOfError : Status → Type 0
-IsOfError Done = ⊥
-IsOfError Words = ⊥
-IsOfError Script = ⊥
-IsOfError Stream = ⊥
-IsOfError _ = Unit {0}
-
-of_error : (e : TantivyError) → IsOfError (status_of e)
-of_error (SchemaError cause) = tt
-of_error (InvalidArgument cause) = tt
-of_error IndexAlreadyExists = tt
-of_error OpenReadError = tt
-of_error OpenWriteError = tt
-of_error IoError = tt
-of_error (DataCorruption name) = tt
-of_error SystemError = tt
-of_error FieldNotFound = tt
-of_error OutOfMemory = tt
-
-early_error : (s : Status) → IsOfError s → IsEarly s
-early_error Done h = h
-early_error Words h = h
-early_error Script h = tt
-early_error Stream h = h
-early_error (Refused e) h = tt
-early_error (Exists e) h = tt
-early_error (Directory e) h = tt
-early_error (Damaged name) h = tt
-early_error Memory h = tt
-
-if_refused : (s : Status) (P : Type 0) → P → IfRefused s (λ _. P)
-if_refused (Refused e) P p = p
-if_refused Done P p = tt
-if_refused Words P p = tt
-if_refused Script P p = tt
-if_refused (Exists e) P p = tt
-if_refused (Directory e) P p = tt
-if_refused (Damaged name) P p = tt
-if_refused Stream P p = tt
-if_refused Memory P p = tt
-
-when_written : (s : Status) (P : Type 0) → P → IfWritten s (λ _. P)
-when_written (Exists e) P p = p
-when_written (Directory e) P p = p
-when_written (Damaged name) P p = p
-when_written Done P p = tt
-when_written Words P p = tt
-when_written Script P p = tt
-when_written (Refused e) P p = tt
-when_written Stream P p = tt
-when_written Memory P p = tt
-
--- only files that are there are told as such
-exists_only : (e x : TantivyError) → status_of e ≡ Exists x → (e ≡ IndexAlreadyExists → ⊥) → ⊥
-exists_only IndexAlreadyExists x is not = not refl
-exists_only (SchemaError cause) x is not = cc is
-exists_only (InvalidArgument cause) x is not = cc is
-exists_only OpenReadError x is not = cc is
-exists_only OpenWriteError x is not = cc is
-exists_only IoError x is not = cc is
-exists_only (DataCorruption name) x is not = cc is
-exists_only SystemError x is not = cc is
-exists_only FieldNotFound x is not = cc is
-exists_only OutOfMemory x is not = cc is
+json_some : (bytes : List ℕ) (meant : Input) → script bytes ≡ Some meant → IsSome (json_of bytes)
+json_some bytes meant is = some_given (json_of bytes) script_from meant is
 
 -- ---- the first refusal
 
-if_some : (o : Option TantivyError) (P : TantivyError → Type 0) → ((e : TantivyError) → P e) → IfSome o P
+pub if_some : (o : Option TantivyError) (P : TantivyError → Type 0) → ((e : TantivyError) → P e) → IfSome o P
 if_some None P all = tt
 if_some (Some e) P all = all e
 
@@ -117,100 +53,149 @@ module _ (status : Status) (a b : Directories) (e : TantivyError) (is : status �
 
 -- ---- how it ended
 
-wrote : {known : Known} {analyzer : Analyzer} {meant : Input} {text : List ℕ} {a b : Directories} → PrintsInput known analyzer meant text a b → Wrote known analyzer a b
-wrote {meant = meant} prints = record { meant = meant; read = prints.read; output = prints.output; writes = prints.builds.writes }
+-- with a status: the bytes are no JSON text, or no script of what is built so far; memory ran out; or it is that of an error
+pub data Ends (known : Known) (analyzer : Analyzer) (detail : Detail) (bytes : List ℕ) (status : Status) (a b : Directories) : Type 0 where
+  e_json : status ≡ Script → json_of bytes ≡ None → b ≡ a → Ends known analyzer detail bytes status a b
+  e_script : status ≡ Refused (InvalidArgument Later) → IsSome (json_of bytes) → script bytes ≡ None → b ≡ a → Ends known analyzer detail bytes status a b
+  e_memory : status ≡ Memory → b ≡ a → Ends known analyzer detail bytes status a b
+  e_input : (meant : Input) (e : TantivyError) → script bytes ≡ Some meant → status ≡ status_of e
+      → BuildsText known analyzer meant detail (Err e) a b → NotPrinted known analyzer meant detail e a b → Ends known analyzer detail bytes status a b
 
-module _ {known : Known} {analyzer : Analyzer} {bytes : List ℕ} {status : Status} {a b : Directories} where
-  pub ended_early : Ends known analyzer bytes status a b → IsEarly status
-  ended_early (no_json is none same) = subst IsEarly (sym is) tt
-  ended_early (no_script is json none same) = subst IsEarly (sym is) tt
-  ended_early (no_memory is same) = subst IsEarly (sym is) tt
-  ended_early (of_input meant says (not_built e is stops)) = subst IsEarly (sym is) (early_error (status_of e) (of_error e))
-  ended_early (of_input meant says (not_printed text is prints)) = subst IsEarly (sym is) tt
+-- or with a text
+pub record Prints (known : Known) (analyzer : Analyzer) (detail : Detail) (bytes text : List ℕ) (a b : Directories) : Type 0 where
+  pub meant : Input
+  pub is_script : script bytes ≡ Some meant
+  pub builds : BuildsText known analyzer meant detail (Ok text) a b
 
-  pub ended_script : Ends known analyzer bytes status a b → status ≡ Script → json_of bytes ≡ None
-  ended_script (no_json is none same) at = none
-  ended_script (no_script is json none same) at = absurd (cc (sym is ∙ at))
-  ended_script (no_memory is same) at = absurd (cc (sym is ∙ at))
-  ended_script (of_input meant says (not_built e is stops)) at = absurd (subst IsOfError (sym is ∙ at) (of_error e))
-  ended_script (of_input meant says (not_printed text is prints)) at = absurd (cc (sym is ∙ at))
+module _ {known : Known} {analyzer : Analyzer} {detail : Detail} {bytes : List ℕ} {a b : Directories} where
+  pub script_ends : {status : Status} → BuildsScript known analyzer detail bytes (Err status) a b → Ends known analyzer detail bytes status a b
+  script_ends (no_json is none same) = e_json (cc is) none same
+  script_ends (no_script is json none same) = e_script (cc is) json none same
+  script_ends (no_memory is same) = e_memory (cc is) same
+  script_ends {status = status} (of_input meant says w) = by (error_of status w.answer w.is)
+    where
+      by : IsErrorOf status w.answer → Ends known analyzer detail bytes status a b
+      by (is_error e is told) =
+          let stops = subst (λ (r : Result (List ℕ) TantivyError). BuildsText known analyzer meant detail r a b) is w.does_so in
+          e_input meant e says told stops (not_printed known analyzer meant detail e a b stops)
 
-  pub ended_unwritten : Ends known analyzer bytes status a b → status ≡ Script → b ≡ a
-  ended_unwritten (no_json is none same) at = same
-  ended_unwritten (no_script is json none same) at = same
-  ended_unwritten (no_memory is same) at = same
-  ended_unwritten (of_input meant says (not_built e is stops)) at = absurd (subst IsOfError (sym is ∙ at) (of_error e))
-  ended_unwritten (of_input meant says (not_printed text is prints)) at = absurd (cc (sym is ∙ at))
+  pub script_prints : {text : List ℕ} → BuildsScript known analyzer detail bytes (Ok text) a b → Prints known analyzer detail bytes text a b
+  script_prints (no_json is none same) = absurd (cc is)
+  script_prints (no_script is json none same) = absurd (cc is)
+  script_prints (no_memory is same) = absurd (cc is)
+  script_prints {text = text} (of_input meant says w) = record {
+    meant = meant;
+    is_script = says;
+    builds = subst (λ (r : Result (List ℕ) TantivyError). BuildsText known analyzer meant detail r a b) (answer_of text w.answer w.is) w.does_so;
+  }
 
-  pub ended_json : Ends known analyzer bytes status a b → IfRefused status (λ _. IsSome (json_of bytes))
-  ended_json (no_json is none same) = subst (λ (s : Status). IfRefused s (λ _. IsSome (json_of bytes))) (sym is) tt
-  ended_json (no_script is json none same) = if_refused status _ json
-  ended_json (no_memory is same) = subst (λ (s : Status). IfRefused s (λ _. IsSome (json_of bytes))) (sym is) tt
-  ended_json (of_input meant says ends) = if_refused status _ (json_some bytes meant says)
+module _ {known : Known} {analyzer : Analyzer} {detail : Detail} {a b : Directories} where
+  -- the status of the error with which it stops
+  ends_as : (meant : Input) (e : TantivyError) → BuildsText known analyzer meant detail (Err e) a b → IsBuildError e a b → BuildDoes known analyzer detail (status_of e) a b
+  ends_as meant IndexAlreadyExists s h = (refl, record { meant = meant; stops = s })
+  ends_as meant OpenReadError s h = (inl refl, record { meant = meant; stops = s })
+  ends_as meant OpenWriteError s h = (inr (inl refl), record { meant = meant; stops = s })
+  ends_as meant IoError s h = (inr (inr refl), record { meant = meant; stops = s })
+  ends_as meant OutOfMemory s h = inr (record { meant = meant; stops = s })
+  ends_as meant (SchemaError cause) s h = inr (record { meant = meant; stops = s })
+  ends_as meant (InvalidArgument cause) s h = inr (record { meant = meant; stops = s })
+  ends_as meant (DataCorruption name) s h = (tt, record { meant = meant; stops = s })
+  ends_as meant SystemError s h = absurd h
+  ends_as meant FieldNotFound s h = absurd h
 
-  pub ended_refused : IsTrue a.work.tells → Ends known analyzer bytes status a b → IfRefused status (IsWhyRefused known analyzer bytes)
-  ended_refused told (no_json is none same) = subst (λ (s : Status). IfRefused s (IsWhyRefused known analyzer bytes)) (sym is) tt
-  ended_refused told (no_script is json none same) = subst (λ (s : Status). IfRefused s (IsWhyRefused known analyzer bytes)) (sym is) (ap (refusal_of known analyzer) none)
-  ended_refused told (no_memory is same) = subst (λ (s : Status). IfRefused s (IsWhyRefused known analyzer bytes)) (sym is) tt
-  ended_refused told (of_input meant says (not_built e is stops)) =
+module _ {known : Known} {analyzer : Analyzer} {detail : Detail} {bytes : List ℕ} {status : Status} {a b : Directories} where
+  pub ended_early : Ends known analyzer detail bytes status a b → IsEarly status
+  ended_early (e_json is none same) = subst IsEarly (sym is) tt
+  ended_early (e_script is json none same) = subst IsEarly (sym is) tt
+  ended_early (e_memory is same) = subst IsEarly (sym is) tt
+  ended_early (e_input meant e says is stops h) = subst IsEarly (sym is) (early_error (status_of e) (of_error e))
+
+  pub ended_script : Ends known analyzer detail bytes status a b → status ≡ Script → json_of bytes ≡ None
+  ended_script (e_json is none same) at = none
+  ended_script (e_script is json none same) at = absurd (cc (sym is ∙ at))
+  ended_script (e_memory is same) at = absurd (cc (sym is ∙ at))
+  ended_script (e_input meant e says is stops h) at = absurd (subst IsOfError (sym is ∙ at) (of_error e))
+
+  pub ended_unwritten : Ends known analyzer detail bytes status a b → status ≡ Script → b ≡ a
+  ended_unwritten (e_json is none same) at = same
+  ended_unwritten (e_script is json none same) at = absurd (cc (sym is ∙ at))
+  ended_unwritten (e_memory is same) at = absurd (cc (sym is ∙ at))
+  ended_unwritten (e_input meant e says is stops h) at = absurd (subst IsOfError (sym is ∙ at) (of_error e))
+
+  pub ended_json : Ends known analyzer detail bytes status a b → IfRefused status (λ _. IsSome (json_of bytes))
+  ended_json (e_json is none same) = subst (λ (s : Status). IfRefused s (λ _. IsSome (json_of bytes))) (sym is) tt
+  ended_json (e_script is json none same) = if_refused status _ json
+  ended_json (e_memory is same) = subst (λ (s : Status). IfRefused s (λ _. IsSome (json_of bytes))) (sym is) tt
+  ended_json (e_input meant e says is stops h) = if_refused status _ (json_some bytes meant says)
+
+  pub ended_refused : IsTrue a.work.tells → IsTrue a.output.tells → Ends known analyzer detail bytes status a b → IfRefused status (IsWhyRefused known analyzer bytes)
+  ended_refused told told_out (e_json is none same) = subst (λ (s : Status). IfRefused s (IsWhyRefused known analyzer bytes)) (sym is) tt
+  ended_refused told told_out (e_script is json none same) = subst (λ (s : Status). IfRefused s (IsWhyRefused known analyzer bytes)) (sym is) (ap (refusal_of known analyzer) none)
+  ended_refused told told_out (e_memory is same) = subst (λ (s : Status). IfRefused s (IsWhyRefused known analyzer bytes)) (sym is) tt
+  ended_refused told told_out (e_input meant e says is stops h) =
       subst (λ (s : Status). IfRefused s (IsWhyRefused known analyzer bytes)) (sym is)
-      (refused_as (IsWhyRefused known analyzer bytes) e (subst (λ (o : Option Input). IfRefusal (λ x. refusal_of known analyzer o ≡ Some x) e) (sym says) (stops.refused told)))
-  ended_refused told (of_input meant says (not_printed text is prints)) = subst (λ (s : Status). IfRefused s (IsWhyRefused known analyzer bytes)) (sym is) tt
+      (refused_as (IsWhyRefused known analyzer bytes) e
+      (subst (λ (o : Option Input). IfRefusal (λ x. refusal_of known analyzer o ≡ Some x) e) (sym says) (not_refused known analyzer meant detail e a b told told_out h)))
 
-  pub ended_untold : Ends known analyzer bytes status a b → IfRefused status (IsWhyRefusedUntold known analyzer bytes)
-  ended_untold (no_json is none same) = subst (λ (s : Status). IfRefused s (IsWhyRefusedUntold known analyzer bytes)) (sym is) tt
-  ended_untold (no_script is json none same) = subst (λ (s : Status). IfRefused s (IsWhyRefusedUntold known analyzer bytes)) (sym is) (inl (ap (refusal_of known analyzer) none))
-  ended_untold (no_memory is same) = subst (λ (s : Status). IfRefused s (IsWhyRefusedUntold known analyzer bytes)) (sym is) tt
-  ended_untold (of_input meant says (not_built e is stops)) =
+  pub ended_untold : Ends known analyzer detail bytes status a b → IfRefused status (IsWhyRefusedUntold known analyzer bytes)
+  ended_untold (e_json is none same) = subst (λ (s : Status). IfRefused s (IsWhyRefusedUntold known analyzer bytes)) (sym is) tt
+  ended_untold (e_script is json none same) = subst (λ (s : Status). IfRefused s (IsWhyRefusedUntold known analyzer bytes)) (sym is) (inl (ap (refusal_of known analyzer) none))
+  ended_untold (e_memory is same) = subst (λ (s : Status). IfRefused s (IsWhyRefusedUntold known analyzer bytes)) (sym is) tt
+  ended_untold (e_input meant e says is stops h) =
       subst (λ (s : Status). IfRefused s (IsWhyRefusedUntold known analyzer bytes)) (sym is)
-      (refused_as (IsWhyRefusedUntold known analyzer bytes) e (subst (λ (o : Option Input). IfRefusal (λ x. (refusal_of known analyzer o ≡ Some x) ⊎ (x ≡ InvalidArgument Documents)) e) (sym says) stops.untold))
-  ended_untold (of_input meant says (not_printed text is prints)) = subst (λ (s : Status). IfRefused s (IsWhyRefusedUntold known analyzer bytes)) (sym is) tt
+      (refused_as (IsWhyRefusedUntold known analyzer bytes) e
+      (subst (λ (o : Option Input). IfRefusal (λ x. (refusal_of known analyzer o ≡ Some x) ⊎ ((x ≡ InvalidArgument Documents) ⊎ (x ≡ InvalidArgument Later))) e) (sym says) (not_untold known analyzer meant detail e a b h)))
 
-  pub ended_first : Ends known analyzer bytes status a b → IsSome (json_of bytes) → IfSome (first_of known analyzer (script bytes)) (λ e. RefusedFor e status × (b ≡ a))
-  ended_first (no_json is none same) json = absurd (cc (subst IsSome none json))
-  ended_first (no_script is _ none same) json = subst (λ (o : Option Input). IfSome (first_of known analyzer o) (λ e. RefusedFor e status × (b ≡ a))) (sym none) (inl is, same)
-  ended_first (no_memory is same) json = if_some (first_of known analyzer (script bytes)) _ (λ e. (inr (inl is), same))
-  ended_first (of_input meant says (not_built e is stops)) json =
+  pub ended_first : Ends known analyzer detail bytes status a b → IsSome (json_of bytes) → IfSome (first_of known analyzer (script bytes)) (λ e. RefusedFor e status × (b ≡ a))
+  ended_first (e_json is none same) json = absurd (cc (subst IsSome none json))
+  ended_first (e_script is _ none same) json = subst (λ (o : Option Input). IfSome (first_of known analyzer o) (λ e. RefusedFor e status × (b ≡ a))) (sym none) (inl is, same)
+  ended_first (e_memory is same) json = if_some (first_of known analyzer (script bytes)) _ (λ e. (inr (inl is), same))
+  ended_first (e_input meant e says is stops h) json =
       subst (λ (o : Option Input). IfSome (first_of known analyzer o) (λ e. RefusedFor e status × (b ≡ a))) (sym says)
-      (stopped_first status a b e is (first_error known analyzer meant) (first_statuses known analyzer meant) stops.first)
-  ended_first (of_input meant says (not_printed text is prints)) json = MatchOption-from_none (first_of known analyzer (script bytes)) _ (ap (first_of known analyzer) says ∙ prints.builds.admitted)
+      (stopped_first status a b e is (first_error known analyzer meant) (first_statuses known analyzer meant) (not_first known analyzer meant detail e a b h))
 
-  pub ended_written : Ends known analyzer bytes status a b → IfWritten status (λ _. first_of known analyzer (script bytes) ≡ None)
-  ended_written (no_json is none same) = subst (λ (s : Status). IfWritten s (λ _. first_of known analyzer (script bytes) ≡ None)) (sym is) tt
-  ended_written (no_script is json none same) = subst (λ (s : Status). IfWritten s (λ _. first_of known analyzer (script bytes) ≡ None)) (sym is) tt
-  ended_written (no_memory is same) = subst (λ (s : Status). IfWritten s (λ _. first_of known analyzer (script bytes) ≡ None)) (sym is) tt
-  ended_written (of_input meant says (not_built e is stops)) =
-      stopped_written status a b e is _ (first_error known analyzer meant) (λ none. ap (first_of known analyzer) says ∙ none) (first_statuses known analyzer meant) stops.first
-  ended_written (of_input meant says (not_printed text is prints)) = when_written status _ (ap (first_of known analyzer) says ∙ prints.builds.admitted)
+  pub ended_written : Ends known analyzer detail bytes status a b → IfWritten status (λ _. first_of known analyzer (script bytes) ≡ None)
+  ended_written (e_json is none same) = subst (λ (s : Status). IfWritten s (λ _. first_of known analyzer (script bytes) ≡ None)) (sym is) tt
+  ended_written (e_script is json none same) = subst (λ (s : Status). IfWritten s (λ _. first_of known analyzer (script bytes) ≡ None)) (sym is) tt
+  ended_written (e_memory is same) = subst (λ (s : Status). IfWritten s (λ _. first_of known analyzer (script bytes) ≡ None)) (sym is) tt
+  ended_written (e_input meant e says is stops h) =
+      stopped_written status a b e is _ (first_error known analyzer meant) (λ none. ap (first_of known analyzer) says ∙ none) (first_statuses known analyzer meant)
+      (not_first known analyzer meant detail e a b h)
 
-  pub ended_fresh : AreEmpty a → Ends known analyzer bytes status a b → (x : TantivyError) → status ≡ Exists x → ⊥
-  ended_fresh empty (no_json is none same) x at = cc (sym is ∙ at)
-  ended_fresh empty (no_script is json none same) x at = cc (sym is ∙ at)
-  ended_fresh empty (no_memory is same) x at = cc (sym is ∙ at)
-  ended_fresh empty (of_input meant says (not_built e is stops)) x at = exists_only e x (sym is ∙ at) (stops.fresh empty)
-  ended_fresh empty (of_input meant says (not_printed text is prints)) x at = cc (sym is ∙ at)
+  pub ended_fresh : AreEmpty a → Ends known analyzer detail bytes status a b → (x : TantivyError) → status ≢ Exists x
+  ended_fresh empty (e_json is none same) x at = cc (sym is ∙ at)
+  ended_fresh empty (e_script is json none same) x at = cc (sym is ∙ at)
+  ended_fresh empty (e_memory is same) x at = cc (sym is ∙ at)
+  ended_fresh empty (e_input meant e says is stops h) x at = exists_only e x (sym is ∙ at) (not_fresh known analyzer meant detail e a b empty h)
 
-  pub ended_whole : IsTrue a.work.tells → Ends known analyzer bytes status a b → (name : FileName) → status ≡ Damaged name → ⊥
-  ended_whole told (no_json is none same) name at = cc (sym is ∙ at)
-  ended_whole told (no_script is json none same) name at = cc (sym is ∙ at)
-  ended_whole told (no_memory is same) name at = cc (sym is ∙ at)
-  ended_whole told (of_input meant says (not_built e is stops)) name at = undamaged_status status e name is (stops.whole told) at
-  ended_whole told (of_input meant says (not_printed text is prints)) name at = cc (sym is ∙ at)
+  pub ended_whole : IsTrue a.work.tells → IsTrue a.output.tells → Ends known analyzer detail bytes status a b → (x : TantivyError) → status ≢ Damaged x
+  ended_whole told told_out (e_json is none same) x at = cc (sym is ∙ at)
+  ended_whole told told_out (e_script is json none same) x at = cc (sym is ∙ at)
+  ended_whole told told_out (e_memory is same) x at = cc (sym is ∙ at)
+  ended_whole told told_out (e_input meant e says is stops h) x at = undamaged_as e x (sym is ∙ at) (not_damaged known analyzer meant detail e a b told told_out h)
 
-  pub ended_does : Ends known analyzer bytes status a b → BuildDoes known analyzer status a b
-  ended_does (no_json is none same) = subst (λ (s : Status). BuildDoes known analyzer s a b) (sym is) same
-  ended_does (no_script is json none same) = subst (λ (s : Status). BuildDoes known analyzer s a b) (sym is) (inl same)
-  ended_does (no_memory is same) = subst (λ (s : Status). BuildDoes known analyzer s a b) (sym is) (inl (subst (λ (d : Directories). Stopped known analyzer OutOfMemory a d) (sym same) (stopped-before known analyzer a)))
-  ended_does (of_input meant says (not_built e is stops)) = ends-with known analyzer meant a b status e is stops.stops
-  ended_does (of_input meant says (not_printed text is prints)) = subst (λ (s : Status). BuildDoes known analyzer s a b) (sym is) (inr (wrote prints))
+  pub ended_does : Ends known analyzer detail bytes status a b → BuildDoes known analyzer detail status a b
+  ended_does (e_json is none same) = subst (λ (s : Status). BuildDoes known analyzer detail s a b) (sym is) same
+  ended_does (e_script is json none same) = subst (λ (s : Status). BuildDoes known analyzer detail s a b) (sym is) (inl same)
+  ended_does (e_memory is same) = subst (λ (s : Status). BuildDoes known analyzer detail s a b) (sym is) (inl same)
+  ended_does (e_input meant e says is stops h) =
+      subst (λ (s : Status). BuildDoes known analyzer detail s a b) (sym is) (ends_as meant e stops (not_error known analyzer meant detail e a b h))
 
--- ---- what is known of an input is known of the script that it is in
-
-module _ (known : Known) (analyzer : Analyzer) (bytes : List ℕ) (a b : Directories) (meant : Input) (says : script bytes ≡ Some meant) where
-  pub script_prints : {T : Type 0} (items : T → List ℕ) (r : Result T Status) → IfOk r (λ t. PrintsInput known analyzer meant (items t) a b) → IfOk r (λ t. Prints known analyzer bytes (items t) a b)
-  script_prints items (Ok t) prints = record { meant = meant; is_script = says; prints = prints }
-  script_prints items (Err s) prints = tt
-
-  pub script_ends : {T : Type 0} (r : Result T Status) → IfErr r (λ s. EndsInput known analyzer meant s a b) → IfErr r (λ s. Ends known analyzer bytes s a b)
-  script_ends (Ok t) ends = tt
-  script_ends (Err s) ends = of_input meant says ends
+  -- the error of a directory was counted
+  pub ended_fault : Ends known analyzer detail bytes status a b → (x : TantivyError) → status ≡ Directory x → RoseIn a b
+  ended_fault (e_json is none same) x at = absurd (cc (sym is ∙ at))
+  ended_fault (e_script is json none same) x at = absurd (cc (sym is ∙ at))
+  ended_fault (e_memory is same) x at = absurd (cc (sym is ∙ at))
+  ended_fault (e_input meant e says is stops h) x at = fault_rose e (sym is ∙ at) (not_error known analyzer meant detail e a b h)
+    where
+      fault_rose : (e : TantivyError) → status_of e ≡ Directory x → IsBuildError e a b → RoseIn a b
+      fault_rose OpenReadError at h = h
+      fault_rose OpenWriteError at h = h
+      fault_rose IoError at h = h
+      fault_rose (SchemaError cause) at h = absurd (cc at)
+      fault_rose (InvalidArgument cause) at h = absurd (cc at)
+      fault_rose IndexAlreadyExists at h = absurd (cc at)
+      fault_rose (DataCorruption name) at h = absurd (cc at)
+      fault_rose SystemError at h = absurd h
+      fault_rose FieldNotFound at h = absurd h
+      fault_rose OutOfMemory at h = absurd (cc at)

@@ -1,29 +1,33 @@
 -- The text of what is read, one term, one field or one document more, and of a segment, part by part.
-use Rattle.std.proofs.Common.{◌≡◌, ℕ, zero, suc, ◌+◌, ◌<◌, List, [], ◌∷◌, ◌++◌, map, drop, length, Option, Some, None, true, refl, sym, ap, ◌∙◌, append_assoc, arith, add-one, get_or}
-use Rattle.std.specs.Prelude.{Bool, count_by, is_some, nat_lt, if◌then◌else◌, replicate, Result, OnOk}
-use Rattle.std.specs.Borrow.{Bor}
+use Rattle.std.proofs.Common.{◌≡◌, ℕ, zero, suc, ◌+◌, ◌<◌, ◌≤◌, List, [], ◌∷◌, ◌++◌, map, drop, length, Option, Some, None, true, false, refl, sym, ap, ◌∙◌, append_assoc, arith, add-one, get_or}
+use Rattle.std.specs.Prelude.{Any, Bool, count_by, is_some, nat_lt, if◌then◌else◌, replicate, unwrap_or, Result, OnOk}
 use Rattle.std.specs.FinMap.{entries}
-use Rattle.std.specs.List.{slice_get, flat_map, AllByRecursion}
+use Rattle.std.specs.List.{slice_get, slice_index_or, enumerate_from, flat_map, AllByRecursion}
 use Rattle.std.proofs.lemmas.Bool.{ltb-true}
-use Rattle.std.proofs.lemmas.List.{append-nil, length-map}
+use Rattle.std.proofs.lemmas.Bool.Decides.{nat_tests}
+use Rattle.std.proofs.lemmas.List.{append-nil, drop_all, length-map}
+use Rattle.std.proofs.lemmas.Option.{same_Some}
 use Rattle.std.proofs.lemmas.Result.{on_ok_weaker}
 use Rattle.seg_common.specs.declared.term_info.TermInfo.{TermInfo}
 use Rattle.seg_common.proofs.Lists.{drop-slice_get}
 use Rattle.seg_values.specs.Tree.{Document}
 use Rattle.seg_values.specs.declared.schema.FieldEntry.{FieldEntry}
-use Rattle.seg_model.specs.Fields.{Schema, is_indexed}
-use Rattle.seg_model.specs.Contents.{Reading}
+use Rattle.seg_directory.specs.Composite.{Part, field_of}
+use Rattle.seg_model.specs.Fields.{Schema, has_lengths, is_indexed}
 use Rattle.seg_model.specs.Reading.{Posting}
+use Rattle.seg_norms.specs.NormsRead.{norms_of}
 use Rattle.seg_termdict.specs.Dictionary.{Term}
-use Rattle.seg_termdict.specs.Streaming.{Stream, no_term, current, advanced}
+use Rattle.seg_termdict.specs.SortedTerms.{RankedTerm}
+use Rattle.seg_termdict.specs.Streaming.{Stream, no_ranked, no_term, current, advanced, ranked_terms}
+use Rattle.seg_termdict.proofs.Exports.{ranked_at, ranked_length, ranked_of}
 use Rattle.seg_postings.specs.FieldReading.{ReadTerm, OpenField, dictionary_terms}
 use Rattle.seg_open.specs.OpenSegment.{terms_in}
 use Rattle.seg_text.specs.DocumentText.{document_line, documents_from, documents_text}
 use Rattle.seg_text.specs.FieldText.{field_text, fields_text, term_line}
 use Rattle.seg_text.specs.HeaderText.{dead_text, header_text}
-use Rattle.seg_text.specs.SegmentText.{segment_text}
-use Rattle.seg_text.proofs.Exports.{count_by-replicate, dead_text-replicate}
-use Rattle.seg_open.specs.KeptSegment.{marks_of}
+use Rattle.seg_text.specs.NormsText.{norms_line, norms_text}
+use Rattle.seg_text.specs.SegmentText.{PrintedSegment, full_segment_text, segment_text}
+use Rattle.seg_text.proofs.Exports.{dead_text-replicate}
 use Rattle.seg_tool.specs.Printing.{opened_text}
 
 -- ---- fields
@@ -71,36 +75,64 @@ next_term (t ∷ ts) zero key info left lt key_is info_is all =
     λ j. (sym k j, sym p j) ∷ map pair_of ts
 next_term (t ∷ ts) (suc i) key info left lt key_is info_is all = next_term ts i key info left (omega (arith, lt)) key_is info_is all.1
 
+-- an item at a place, whatever is answered elsewhere
+index_as : {X : Type 0} (xs : List X) (i : ℕ) (d : X) → slice_index_or xs i (get_or xs i d) ≡ get_or xs i d
+index_as [] i d = refl
+index_as (x ∷ xs) zero d = refl
+index_as (x ∷ xs) (suc i) d = index_as xs i d
+
+not_less : (n m : ℕ) → nat_lt n m ≡ false → m ≤ n
+not_less n m h = grind (arith, nat_tests)
+
 abbrev pub one_further : Stream → Stream
-one_further s = record { terms = s.terms; taken = s.taken + 1 }
+one_further s = record { terms = s.terms; backward = s.backward; taken = s.taken + 1 }
 
 -- where a stream goes on
 pub further : (s after : Stream) → nat_lt s.taken (length s.terms) ≡ true → after ≡ advanced s → after ≡ one_further s
 further s after more is = is ∙ ap (λ b. if b then one_further s else s) more
 
-module _ (f : OpenField) (s after : Stream) (of : s.terms ≡ dictionary_terms f) (more : nat_lt s.taken (length s.terms) ≡ true) (is : after ≡ advanced s) where
-  pub still_of : after.terms ≡ dictionary_terms f
+module _ (f : OpenField) (s after : Stream) (of : s.terms ≡ ranked_terms (dictionary_terms f)) (more : nat_lt s.taken (length s.terms) ≡ true) (is : after ≡ advanced s) where
+  pub still_of : after.terms ≡ ranked_terms (dictionary_terms f)
   still_of = ap (λ (x : Stream). x.terms) (further s after more is) ∙ of
-
-  come_to : current after ≡ get_or (dictionary_terms f) s.taken no_term
-  come_to =
-      ap current (further s after more is)
-      ∙ ap (λ k. get_or (no_term ∷ s.terms) k no_term) (add-one s.taken)
-      ∙ ap (λ ts. get_or ts s.taken no_term) of
 
   within : s.taken < length f.terms
   within =
       let lt : s.taken < length s.terms = ltb-true _ _ more in
-      omega (arith, lt, ap length of, length-map f.terms term_of)
+      omega (arith, lt, ap length of, ranked_length (dictionary_terms f), length-map f.terms term_of)
+
+  come_to : current after ≡ ranked_of (s.taken, get_or (dictionary_terms f) s.taken no_term)
+  come_to =
+      ap current (further s after more is)
+      ∙ ap (λ k. get_or (no_ranked ∷ s.terms) k no_ranked) (add-one s.taken)
+      ∙ ap (λ ts. get_or ts s.taken no_ranked) of
+      ∙ ranked_at (dictionary_terms f) s.taken (omega (arith, within, length-map f.terms term_of))
+
+  -- the info is that of a term
+  pub info_held : (info : TermInfo) → info ≡ (current after).info → Any (λ (t : Term). t.1 ≡ info) (dictionary_terms f)
+  info_held info info_is = (
+    s.taken,
+    get_or (dictionary_terms f) s.taken no_term,
+    omega (arith, within, length-map f.terms term_of),
+    index_as (dictionary_terms f) s.taken no_term,
+    sym (info_is ∙ ap (λ (t : RankedTerm TermInfo). t.info) come_to),
+  )
 
   -- one term more
-  pub terms_more : (before key : List ℕ) (info : TermInfo) (left : List Posting) → key ≡ (current after).0 → info ≡ (current after).1 → AllByRecursion (λ (t : ReadTerm). t.info ≡ info → left ≡ t.postings) f.terms
+  pub terms_more : (before key : List ℕ) (info : TermInfo) (left : List Posting) → key ≡ (current after).key → info ≡ (current after).info → AllByRecursion (λ (t : ReadTerm). t.info ≡ info → left ≡ t.postings) f.terms
       → (before ++ term_line (key, left)) ++ flat_map term_line (map pair_of (drop after.taken f.terms)) ≡ before ++ flat_map term_line (map pair_of (drop s.taken f.terms))
   terms_more before key info left key_is info_is all =
       ap (λ (x : Stream). (before ++ term_line (key, left)) ++ flat_map term_line (map pair_of (drop x.taken f.terms))) (further s after more is)
       ∙ append_assoc before (term_line (key, left)) (flat_map term_line (map pair_of (drop (s.taken + 1) f.terms)))
       ∙ ap (λ k. before ++ (term_line (key, left) ++ flat_map term_line (map pair_of (drop k f.terms)))) (add-one s.taken)
-      ∙ ap (λ ts. before ++ flat_map term_line ts) (sym (next_term f.terms s.taken key info left within (key_is ∙ ap (λ (t : Term). t.0) come_to) (info_is ∙ ap (λ (t : Term). t.1) come_to) all))
+      ∙ ap (λ ts. before ++ flat_map term_line ts) (sym (next_term f.terms s.taken key info left within (key_is ∙ ap (λ (t : RankedTerm TermInfo). t.key) come_to) (info_is ∙ ap (λ (t : RankedTerm TermInfo). t.info) come_to) all))
+
+-- no term is left after the last
+pub terms_done : (f : OpenField) (s : Stream) → s.terms ≡ ranked_terms (dictionary_terms f) → nat_lt s.taken (length s.terms) ≡ false → (before all : List ℕ)
+    → before ++ flat_map term_line (map pair_of (drop s.taken f.terms)) ≡ all → before ≡ all
+terms_done f s of done before all is =
+    let le : length s.terms ≤ s.taken = not_less s.taken (length s.terms) done in
+    let none : drop s.taken f.terms ≡ [] = drop_all s.taken f.terms (omega (arith, le, ap length of, ranked_length (dictionary_terms f), length-map f.terms term_of)) in
+    sym (append-nil before) ∙ ap (λ (ts : List ReadTerm). before ++ flat_map term_line (map pair_of ts)) (sym none) ∙ is
 
 -- ---- documents
 
@@ -113,37 +145,73 @@ documents_more before schema documents i d is =
 
 -- ---- the segment
 
--- without a set all are alive, and no line tells of deleted documents
-pub all_head : {T E : Type 0} (r : Result T E) (label : List ℕ) (id n : ℕ) (out new : List ℕ) → OnOk r (new ≡ out ++ header_text label id n n)
-    → OnOk r (new ≡ out ++ (header_text label id n (count_by (λ b. b) (replicate n true)) ++ dead_text (replicate n true)))
-all_head r label id n out new =
-    on_ok_weaker r (λ e.
-    e
-    ∙ ap (λ k. out ++ header_text label id n k) (sym (count_by-replicate n))
-    ∙ ap (λ xs. out ++ xs) (sym (append-nil (header_text label id n (count_by (λ b. b) (replicate n true)))))
-    ∙ ap (λ xs. out ++ (header_text label id n (count_by (λ b. b) (replicate n true)) ++ xs)) (sym (dead_text-replicate n)))
-
-pub unset_head : {T E : Type 0} (r : Result T E) (label : List ℕ) (id n : ℕ) (alive : Option (Bor (List Bool))) (out new : List ℕ) → ((set : Bor (List Bool)) → alive ≡ Some set → ⊥) → OnOk r (new ≡ out ++ header_text label id n n)
-    → OnOk r (new ≡ out ++ (header_text label id n (count_by (λ b. b) (marks_of n alive)) ++ dead_text (marks_of n alive)))
-unset_head r label id n None out new unset head = all_head r label id n out new head
-unset_head r label id n (Some set) out new unset head = absurd (unset set refl)
+-- where all are alive, no line tells of deleted documents
+pub none_deleted : (out : List ℕ) (n : ℕ) (alive : List Bool) → alive ≡ replicate n true → out ≡ out ++ dead_text alive
+none_deleted out n alive is = sym (ap (λ xs. out ++ xs) (ap dead_text is ∙ dead_text-replicate n) ∙ append-nil out)
 
 -- the first lines, the fields and the documents make it
-pub segment_read : {T E : Type 0} (r : Result T E) (label : List ℕ) (id : ℕ) (schema same : Schema) (reading : Reading) (documents : List Document) (n : ℕ) (alive : Option (Bor (List Bool))) (out one two three : List ℕ)
-    → n ≡ reading.documents → same ≡ schema → documents ≡ reading.stored
-    → one ≡ out ++ (header_text label id n (count_by (λ b. b) (marks_of n alive)) ++ dead_text (marks_of n alive)) → two ≡ one ++ fields_text schema reading.terms
+pub segment_read : {T E : Type 0} (r : Result T E) (schema same : Schema) (segment : PrintedSegment) (documents : List Document) (out one two three : List ℕ)
+    → same ≡ schema → documents ≡ segment.reading.stored
+    → one ≡ out ++ (header_text segment.label segment.id segment.reading.documents (count_by (λ b. b) segment.alive) ++ dead_text segment.alive)
+    → two ≡ one ++ fields_text schema segment.reading.terms
     → OnOk r (three ≡ two ++ documents_text same documents)
-    → OnOk r (three ≡ out ++ segment_text schema (record { label = label; id = id; alive = marks_of reading.documents alive; reading = reading }))
-segment_read r label id schema same reading documents n alive out one two three number schema_is stored header fields =
-    let line = header_text label id reading.documents (count_by (λ b. b) (marks_of reading.documents alive)) in
-    let dead = dead_text (marks_of reading.documents alive) in
-    let texts = fields_text schema reading.terms in
-    let lines = documents_text schema reading.stored in
+    → OnOk r (three ≡ out ++ segment_text schema segment)
+segment_read r schema same segment documents out one two three schema_is stored header fields =
+    let line = header_text segment.label segment.id segment.reading.documents (count_by (λ b. b) segment.alive) in
+    let dead = dead_text segment.alive in
+    let texts = fields_text schema segment.reading.terms in
+    let lines = documents_text schema segment.reading.stored in
     on_ok_weaker r (λ e.
     e
     ∙ ap (λ s. two ++ documents_text s documents) schema_is
     ∙ ap (λ ds. two ++ documents_text schema ds) stored
-    ∙ ap (λ xs. xs ++ lines) (fields ∙ ap (λ xs. xs ++ texts) (header ∙ ap (λ k. out ++ (header_text label id k (count_by (λ b. b) (marks_of k alive)) ++ dead_text (marks_of k alive))) number))
+    ∙ ap (λ xs. xs ++ lines) (fields ∙ ap (λ xs. xs ++ texts) header)
     ∙ append_assoc (out ++ (line ++ dead)) texts lines
     ∙ append_assoc out (line ++ dead) (texts ++ lines)
     ∙ ap (λ xs. out ++ xs) (append_assoc line dead (texts ++ lines)))
+
+-- ---- length ids
+
+-- one entry more
+pub norms_more : (before : List ℕ) (schema : Schema) (norms : List (List ℕ)) (i : ℕ) (e : FieldEntry) (ids : List ℕ)
+    → slice_get schema i ≡ Some e → slice_get norms i ≡ Some ids
+    → (before ++ (if has_lengths e then norms_line e.name ids else [])) ++ norms_text (drop (i + 1) schema) (drop (i + 1) norms)
+    ≡ before ++ norms_text (drop i schema) (drop i norms)
+norms_more before schema norms i e ids at in_place =
+    append_assoc before (if has_lengths e then norms_line e.name ids else []) (norms_text (drop (i + 1) schema) (drop (i + 1) norms))
+    ∙ ap (λ k. before ++ ((if has_lengths e then norms_line e.name ids else []) ++ norms_text (drop k schema) (drop k norms))) (add-one i)
+    ∙ ap (λ xs. before ++ xs) (sym (norms_here schema norms i e ids at in_place))
+  where
+    norms_here : (schema : Schema) (norms : List (List ℕ)) (i : ℕ) (e : FieldEntry) (ids : List ℕ)
+        → slice_get schema i ≡ Some e → slice_get norms i ≡ Some ids
+        → norms_text (drop i schema) (drop i norms) ≡ (if has_lengths e then norms_line e.name ids else []) ++ norms_text (drop (suc i) schema) (drop (suc i) norms)
+    norms_here [] norms i e ids at in_place = absurd cc
+    norms_here (x ∷ schema) [] i e ids at in_place = absurd cc
+    norms_here (x ∷ schema) (n ∷ norms) zero e ids at in_place =
+        ap (λ (y : FieldEntry). (if has_lengths y then norms_line y.name n else []) ++ norms_text schema norms) (same_Some x e at)
+        ∙ ap (λ (k : List ℕ). (if has_lengths e then norms_line e.name k else []) ++ norms_text schema norms) (same_Some n ids in_place)
+    norms_here (x ∷ schema) (n ∷ norms) (suc i) e ids at in_place = norms_here schema norms i e ids at in_place
+
+-- the ids of the field at a place, of numbered fields
+fields_at : (parts : List Part) (first : ℕ) (schema : Schema) (i : ℕ) (e : FieldEntry) → slice_get schema i ≡ Some e
+    → slice_get (map (λ (f : ℕ × FieldEntry). unwrap_or (field_of parts f.0) []) (enumerate_from first schema)) i ≡ Some (unwrap_or (field_of parts (first + i)) [])
+fields_at parts first [] i e at = absurd cc
+fields_at parts first (x ∷ schema) zero e at = let same : first ≡ first + zero = omega arith in ap (λ k. Some (unwrap_or (field_of parts k) [])) same
+fields_at parts first (x ∷ schema) (suc i) e at =
+    let same : first + 1 + i ≡ first + suc i = omega arith in
+    fields_at parts (first + 1) schema i e at ∙ ap (λ k. Some (unwrap_or (field_of parts k) [])) same
+
+pub norms_at_place : (parts : List Part) (schema : Schema) (i : ℕ) (e : FieldEntry) → slice_get schema i ≡ Some e
+    → slice_get (norms_of schema parts) i ≡ Some (unwrap_or (field_of parts i) [])
+norms_at_place parts schema i e at =
+    let same : 0 + i ≡ i = omega arith in
+    fields_at parts 0 schema i e at ∙ ap (λ k. Some (unwrap_or (field_of parts k) [])) same
+
+-- ---- in full
+
+-- the text, and then the length ids
+pub full_read : {T E : Type 0} (r : Result T E) (schema : Schema) (segment : PrintedSegment) (norms : List (List ℕ)) (out one two : List ℕ)
+    → one ≡ out ++ segment_text schema segment → OnOk r (two ≡ one ++ norms_text schema norms)
+    → OnOk r (two ≡ out ++ full_segment_text schema segment norms)
+full_read r schema segment norms out one two first =
+    on_ok_weaker r (λ e. e ∙ ap (λ xs. xs ++ norms_text schema norms) first ∙ append_assoc out (segment_text schema segment) (norms_text schema norms))

@@ -1,165 +1,230 @@
--- The text of segments that were read back is that of what an input asks for.
-use Rattle.std.proofs.Common.{◌≡◌, ◌≤◌, ℕ, ◌+◌, ◌-◌, zero, suc, List, [], ◌∷◌, ◌++◌, drop, get_or, length, map, Option, None, Some, true, refl, sym, ap, ◌∙◌, subst, codes, append_assoc, add-one, arith}
-use Rattle.std.specs.Prelude.{Bool, replicate, is_some, slice_get, IsTrue}
-use Rattle.std.specs.Borrow.{Bor}
-use Rattle.std.specs.List.{AllByRecursion}
+-- The text of the indexes of an input, where the directories tell their files.
+use Rattle.std.proofs.Common.{◌≡◌, ◌∙◌, ℕ, ◌-◌, suc, List, [], ◌∷◌, ◌++◌, take, drop, length, map, Bool, true, false, cond, Option, None, Some, refl, sym, ap, subst, codes}
+use Rattle.std.specs.Prelude.{not, replicate, is_some}
+use Rattle.std.specs.List.{AllByRecursion, count_by, list_all}
 use Rattle.std.specs.Option.{option_map}
 use Rattle.std.proofs.lemmas.Bool.{false≢true}
-use Rattle.std.proofs.lemmas.List.{append-nil, drop_all, length-map}
+use Rattle.std.proofs.lemmas.List.{append-nil}
 use Rattle.std.proofs.lemmas.Option.{same_Some}
 use Rattle.seg_values.specs.Tree.{Document}
+use Rattle.seg_directory.specs.Files.{NamedFiles}
+use Rattle.seg_bits.specs.BitSets.{set_of}
+use Rattle.seg_meta.specs.IndexOfFiles as index
+use Rattle.seg_meta.specs.IndexOfFiles.{Deletes, ListedSegment, Meta}
+use Rattle.seg_meta.specs.View.{meta_of}
+use Rattle.seg_meta.specs.declared.index_meta.IndexMeta.{IndexMeta}
 use Rattle.seg_model.specs.Columns.{Columns, columns}
-use Rattle.seg_model.specs.Contents.{Contents, Reading, full_reading, reading, reading_part, reading_with}
+use Rattle.seg_model.specs.Contents.{Contents, full_reading, reading_part, reading_with}
 use Rattle.seg_model.specs.Fields.{Schema, Analyzer}
 use Rattle.seg_model.specs.Input.{Input, input_batches, input_survivors}
-use Rattle.seg_model.specs.Laws.{AreReadingsOf}
-use Rattle.seg_model.specs.Operations.{Batch}
-use Rattle.seg_model.specs.Valid.{Known}
+use Rattle.seg_model.specs.Norms.{all_norms}
+use Rattle.seg_model.specs.Operations.{Batch, Operation, add, additions, alive_after, batches_from, delete, delete_all}
+use Rattle.seg_segment.specs.Forms.{segment_forms}
+use Rattle.seg_segment.specs.HoldsAlive.{HoldsAlive}
+use Rattle.seg_segment.specs.Laws.{HoldsOneContents}
 use Rattle.seg_open.specs.OpenSegment.{OpenSegment, contents_of}
-use Rattle.seg_open.specs.KeptSegment.{KeptSegment, marks_of, part_of}
-use Rattle.seg_batches.specs.Segments.{listed, segments_of}
-use Rattle.seg_merge.specs.DirectoryCalls.{WritesBoth}
-use Rattle.seg_merge.specs.IndexFiles.{output_id, work_ids, work_segments}
-use Rattle.seg_merge.specs.Turns.{Directories}
-use Rattle.seg_merge.proofs.Exports.{reads_of}
-use Rattle.seg_text.specs.SegmentText.{segment_text}
-use Rattle.seg_tool.specs.Printing.{all_kept, read_segment, read_segment_text, read_text, read_work_text}
-use Rattle.seg_tool.specs.Run.{build_text, segment, work_text, output_text, IsTextOfInput}
-use Rattle.seg_tool.proofs.ReadBack.{as_many, of_schema}
+use Rattle.seg_batches.specs.Segments.{AllStand, AllTellAlive, TellsAlive, all_listed, deletes_of, segment_of, segments_of}
+use Rattle.seg_merge.specs.IndexFiles.{IsOutputIndexOf, IsWorkIndexOf, output_id, undeleted, work_ids}
+use Rattle.seg_merge.specs.MergeAnswers.{HoldsMarks}
+use Rattle.seg_tool.specs.Indexes.{AreReadOf, IsPrinted, IsReadOf}
+use Rattle.seg_tool.specs.Printing.{printed_text, read_segment_text, read_texts}
+use Rattle.seg_tool.specs.Run.{build_text, documents_text, output_text, work_text}
+use Rattle.seg_tool.specs.declared.words.Detail.{Detail}
 
--- contents that are all that is read of documents have their reading
-read_part : (schema : Schema) (analyzer : Analyzer) (documents : List Document) (contents : Contents) → full_reading schema analyzer documents ≡ Some contents → reading_part contents ≡ reading schema analyzer documents
-read_part schema analyzer documents contents is = by (columns schema analyzer documents) is
+-- ---- one segment
+
+module _ (detail : Detail) (label : List ℕ) where
+  -- the text of contents, under an id and with marks
+  abbrev text_with : Schema → ℕ → List Bool → Contents → List ℕ
+  text_with schema id alive contents =
+      printed_text detail schema (record { label = label; id = id; alive = alive; reading = reading_part contents }) contents.norms
+
+  -- a segment with all that is read of documents
+  pub segment_is : (schema : Schema) (analyzer : Analyzer) (id : ℕ) (documents : List Document) (alive : List Bool) (s : OpenSegment)
+      → s.schema ≡ schema → s.id ≡ id → s.alive ≡ alive → full_reading schema analyzer documents ≡ Some (contents_of s)
+      → read_segment_text label detail s ≡ documents_text detail schema analyzer label id documents alive
+  segment_is schema analyzer id documents alive s same of_id marks is =
+      ap (λ c. text_with c s.id s.alive (contents_of s)) same
+      ∙ ap (λ i. text_with schema i s.alive (contents_of s)) of_id
+      ∙ ap (λ (m : List Bool). text_with schema id m (contents_of s)) marks
+      ∙ by (columns schema analyzer documents) is
+    where
+      by : (o : Option Columns) → option_map (reading_with schema analyzer documents) o ≡ Some (contents_of s)
+          → text_with schema id alive (contents_of s) ≡ documents_text detail schema analyzer label id documents alive
+      by None none = absurd (false≢true (ap is_some none))
+      by (Some cs) some = ap (text_with schema id alive) (sym (same_Some (reading_with schema analyzer documents cs) (contents_of s) some))
+
+-- ---- which documents are alive
+
+-- it is said of each document of a batch whether it is alive
+abbrev IsCounted : Batch → Type 0
+IsCounted b = length b.alive ≡ length b.documents
+
+length-alive_after : (schema : Schema) (analyzer : Analyzer) (operations after : List Operation)
+    → length (alive_after schema analyzer operations after) ≡ length (additions operations)
+length-alive_after schema analyzer [] after = refl
+length-alive_after schema analyzer (add document ∷ operations) after = ap (λ n. suc n) (length-alive_after schema analyzer operations after)
+length-alive_after schema analyzer (delete term ∷ operations) after = length-alive_after schema analyzer operations after
+length-alive_after schema analyzer (delete_all terms ∷ operations) after = length-alive_after schema analyzer operations after
+
+batches_counted : (schema : Schema) (analyzer : Analyzer) (from : ℕ) (cuts : List ℕ) (operations : List Operation)
+    → AllByRecursion IsCounted (batches_from schema analyzer from cuts operations)
+batches_counted schema analyzer from [] operations = (length-alive_after schema analyzer operations [], tt)
+batches_counted schema analyzer from (cut ∷ cuts) operations = (
+  length-alive_after schema analyzer (take (cut - from) operations) (drop (cut - from) operations),
+  batches_counted schema analyzer cut cuts (drop (cut - from) operations),
+)
+
+all_marked : (alive : List Bool) → list_all (λ b. b) alive ≡ true → alive ≡ replicate (length alive) true
+all_marked [] h = refl
+all_marked (true ∷ bs) h = ap (λ l. true ∷ l) (all_marked bs h)
+all_marked (false ∷ bs) h = absurd (false≢true h)
+
+-- an alive file tells one set
+one_set : (files : NamedFiles) (id stamp documents : ℕ) (bs cs : List Bool) → HoldsAlive files id stamp documents bs
+    → HoldsAlive files id stamp documents cs → bs ≡ cs
+one_set files id stamp documents bs cs h k =
+    same_Some bs cs (sym h.set ∙ ap set_of (same_Some h.file k.file (sym h.there ∙ k.there)) ∙ k.set)
+
+module _ (files : NamedFiles) (stamp id documents : ℕ) (alive read : List Bool) (counted : length alive ≡ documents) where
+  abbrev removed : Deletes
+  removed = record { number = count_by not alive; stamp = stamp }
+
+  alive_as : (t : Bool) → list_all (λ b. b) alive ≡ t → TellsAlive files id documents alive (cond t None (Some removed))
+      → HoldsMarks files id documents (cond t None (Some removed)) read → read ≡ alive
+  alive_as true all tells held = held ∙ ap (λ n. replicate n true) (sym counted) ∙ sym (all_marked alive all)
+  alive_as false all tells held = one_set files id stamp documents read alive held tells
+
+  alive_is : TellsAlive files id documents alive (deletes_of stamp alive)
+      → HoldsMarks files id documents (deletes_of stamp alive) read → read ≡ alive
+  alive_is tells held = alive_as (list_all (λ b. b) alive) refl tells held
+
+-- ---- all segments
+
+module _ (law : HoldsOneContents) (detail : Detail) (schema : Schema) (analyzer : Analyzer) (files : NamedFiles) where
+  -- what is read of a segment that stands for documents
+  stands_as : (id : ℕ) (documents : List Document) (s : OpenSegment) (l : ListedSegment) → l.id ≡ id
+      → index.StandsFor segment_forms files schema analyzer id documents → IsReadOf files schema l s
+      → full_reading schema analyzer documents ≡ Some (contents_of s)
+  stands_as id documents s l same stands read =
+      stands.read
+      ∙ ap (λ (c : Contents). Some c)
+      (law files id schema stands.contents (contents_of s) stands.held (subst (λ i. segment_forms.Holds files i schema (contents_of s)) same read.holds))
+
+  work_is : (stamp : ℕ) (ids : List ℕ) (batches : List Batch) (opened : List OpenSegment) → AllByRecursion IsCounted batches
+      → AllStand schema analyzer files ids batches → AllTellAlive files stamp (segments_of ids batches)
+      → AreReadOf files schema (all_listed stamp (segments_of ids batches)) opened
+      → read_texts (codes "work") detail opened ≡ work_text detail schema analyzer ids batches
+  work_is stamp [] batches [] counted stand tell read = refl
+  work_is stamp [] batches (s ∷ opened) counted stand tell read = absurd read
+  work_is stamp (id ∷ ids) [] [] counted stand tell read = refl
+  work_is stamp (id ∷ ids) [] (s ∷ opened) counted stand tell read = absurd read
+  work_is stamp (id ∷ ids) (b ∷ batches) [] counted stand tell read = absurd read
+  work_is stamp (id ∷ ids) (b ∷ batches) (s ∷ opened) counted stand tell read =
+      ap (λ xs. xs ++ read_texts (codes "work") detail opened)
+      (segment_is detail (codes "work") schema analyzer id b.documents b.alive s read.0.of_schema read.0.of_id
+      (alive_is files stamp id (length b.documents) b.alive s.alive counted.0 tell.0 read.0.alive)
+      (stands_as id b.documents s (record { id = id; documents = length b.documents; deletes = deletes_of stamp b.alive }) refl stand.0 read.0))
+      ∙ ap (λ xs. documents_text detail schema analyzer (codes "work") id b.documents b.alive ++ xs)
+      (work_is stamp ids batches opened counted.1 stand.1 tell.1 read.1)
+
+  output_is : (id : ℕ) (survivors : List Document) (opened : List OpenSegment)
+      → index.StandsFor segment_forms files schema analyzer id survivors → AreReadOf files schema (undeleted id (length survivors) ∷ []) opened
+      → read_texts (codes "output") detail opened ≡ output_text detail schema analyzer id survivors
+  output_is id survivors [] stands read = absurd read
+  output_is id survivors (s ∷ t ∷ opened) stands read = absurd read.1
+  output_is id survivors (s ∷ []) stands read =
+      append-nil (read_segment_text (codes "output") detail s)
+      ∙ segment_is detail (codes "output") schema analyzer id survivors (replicate (length survivors) true) s read.0.of_schema read.0.of_id read.0.alive
+      (stands_as id survivors s (undeleted id (length survivors)) refl stands read.0)
+
+-- ---- both indexes
+
+-- what was printed of files with an index of this meta
+read_as : (front label : List ℕ) (detail : Detail) (files : NamedFiles) (text : List ℕ) (p : IsPrinted front label detail files text) (meta : Meta)
+    → index.index_of segment_forms files ≡ Some meta → AreReadOf files meta.schema meta.segments p.opened
+read_as front label detail files text p meta is =
+    subst (λ (m : Meta). AreReadOf files m.schema m.segments p.opened) (same_Some (meta_of p.metas) meta (sym p.is_index ∙ is)) p.are_read
+
+module _ (law : HoldsOneContents) (detail : Detail) (analyzer : Analyzer) (input : Input) where
+  pub work_read : (front : List ℕ) (files : NamedFiles) (text : List ℕ) → IsPrinted front (codes "work") detail files text → IsWorkIndexOf analyzer input files
+      → text ≡ front ++ work_text detail input.schema analyzer (work_ids input.ids) (input_batches analyzer input)
+  work_read front files text p is =
+      p.printed
+      ∙ ap (λ xs. front ++ xs)
+      (work_is law detail input.schema analyzer files (length input.operations) (work_ids input.ids) (input_batches analyzer input) p.opened
+      (batches_counted input.schema analyzer 0 input.cuts input.operations) is.stand is.alive
+      (read_as front (codes "work") detail files text p _ is.index_of))
+
+  pub output_read : (front : List ℕ) (files : NamedFiles) (text : List ℕ) → IsPrinted front (codes "output") detail files text → IsOutputIndexOf analyzer input files
+      → text ≡ front ++ output_text detail input.schema analyzer (output_id input.ids) (input_survivors analyzer input)
+  output_read front files text p is =
+      p.printed
+      ∙ ap (λ xs. front ++ xs)
+      (output_is law detail input.schema analyzer files (output_id input.ids) (input_survivors analyzer input) p.opened is.stands
+      (read_as front (codes "output") detail files text p _ is.index_of))
+
+  -- the text of both
+  pub both_read : (work_files output_files : NamedFiles) (work text : List ℕ) → IsPrinted [] (codes "work") detail work_files work
+      → IsPrinted work (codes "output") detail output_files text → IsWorkIndexOf analyzer input work_files → IsOutputIndexOf analyzer input output_files
+      → text ≡ build_text detail analyzer input
+  both_read work_files output_files work text p q is output_index =
+      output_read work output_files text q output_index
+      ∙ ap (λ xs. xs ++ output_text detail input.schema analyzer (output_id input.ids) (input_survivors analyzer input)) (work_read [] work_files work p is)
+
+-- ---- segments that stand for documents are whole
+
+counts : (schema : Schema) (analyzer : Analyzer) (documents : List Document) (contents : Contents)
+    → full_reading schema analyzer documents ≡ Some contents → contents.documents ≡ length documents
+counts schema analyzer documents contents is = by (columns schema analyzer documents) is
   where
-    by : (o : Option Columns) → option_map (reading_with schema analyzer documents) o ≡ Some contents → reading_part contents ≡ reading schema analyzer documents
+    by : (o : Option Columns) → option_map (reading_with schema analyzer documents) o ≡ Some contents → contents.documents ≡ length documents
     by None none = absurd (false≢true (ap is_some none))
-    by (Some cs) some = ap reading_part (sym (same_Some (reading_with schema analyzer documents cs) contents some))
+    by (Some cs) some = ap (λ (c : Contents). c.documents) (sym (same_Some (reading_with schema analyzer documents cs) contents some))
 
--- the text of a segment of such contents
-segment_is : (schema : Schema) (analyzer : Analyzer) (label : List ℕ) (id : ℕ) (documents : List Document) (alive : List Bool) (read : KeptSegment)
-    → read.segment.schema ≡ schema → full_reading schema analyzer documents ≡ Some (contents_of read.segment) → read.alive ≡ alive
-    → read_segment_text label id read ≡ segment_text schema (segment schema analyzer label id documents alive)
-segment_is schema analyzer label id documents alive read same is marks =
-    ap (λ s. segment_text s (read_segment label id read)) same
-    ∙ ap (λ (r : Reading). segment_text schema (record { label = label; id = id; alive = read.alive; reading = r })) (read_part schema analyzer documents (contents_of read.segment) is)
-    ∙ ap (λ (m : List Bool). segment_text schema (segment schema analyzer label id documents m)) marks
+module _ (schema : Schema) (analyzer : Analyzer) (files : NamedFiles) where
+  agrees : (stamp id : ℕ) (batch : Batch) (t : Bool) → IsCounted batch
+      → TellsAlive files id (length batch.documents) batch.alive (cond t None (Some (record { number = count_by not batch.alive; stamp = stamp })))
+      → index.DeletesAgree segment_forms files (record { id = id; documents = length batch.documents; deletes = deletes_of stamp batch.alive })
+      (cond t None (Some (record { number = count_by not batch.alive; stamp = stamp })))
+  agrees stamp id batch true counted tell = tt
+  agrees stamp id batch false counted tell = (batch.alive, tell, counted, refl)
 
--- ---- the work segments
-
-work_is : (schema : Schema) (analyzer : Analyzer) (ids : List ℕ) (batches : List Batch) (read : List KeptSegment)
-    → AllByRecursion (λ (r : KeptSegment). r.segment.schema ≡ schema) read → AreReadingsOf schema analyzer batches (map part_of read)
-    → read_work_text ids read ≡ work_text schema analyzer ids batches
-work_is schema analyzer [] batches read of are = refl
-work_is schema analyzer (id ∷ ids) [] [] of are = refl
-work_is schema analyzer (id ∷ ids) [] (r ∷ read) of are = absurd are
-work_is schema analyzer (id ∷ ids) (b ∷ batches) [] of are = absurd are
-work_is schema analyzer (id ∷ ids) (b ∷ batches) (r ∷ read) of are =
-    ap (λ xs. xs ++ read_work_text ids read) (segment_is schema analyzer (codes "work") id b.documents b.alive r of.0 are.0.contents are.0.alive)
-    ∙ ap (λ xs. segment_text schema (segment schema analyzer (codes "work") id b.documents b.alive) ++ xs) (work_is schema analyzer ids batches read of.1 are.1)
-
--- ---- the output segment
-
-output_is : (schema : Schema) (analyzer : Analyzer) (id : ℕ) (survivors : List Document) (output : OpenSegment)
-    → output.schema ≡ schema → full_reading schema analyzer survivors ≡ Some (contents_of output)
-    → read_segment_text (codes "output") id (all_kept output) ≡ output_text schema analyzer id survivors
-output_is schema analyzer id survivors output same is =
-    segment_is schema analyzer (codes "output") id survivors (replicate (length survivors) true) (all_kept output) same is
-    (ap (λ (r : Reading). replicate r.documents true) (read_part schema analyzer survivors (contents_of output) is))
-
--- ---- both
-
-module _ (known : Known) (analyzer : Analyzer) (input : Input) (read : List KeptSegment) (output : OpenSegment) (before after : Directories) (writes : WritesBoth known analyzer input read output before after) where
-  read_is_build : AreReadingsOf input.schema analyzer (input_batches analyzer input) (map part_of read)
-      → full_reading input.schema analyzer (input_survivors analyzer input) ≡ Some (contents_of output)
-      → read_text input.ids read output ≡ build_text analyzer input
-  read_is_build are is =
-      ap (λ xs. xs ++ read_segment_text (codes "output") (output_id input.ids) (all_kept output))
-      (work_is input.schema analyzer (work_ids input.ids) (input_batches analyzer input) read (of_schema input.schema _ read _ _ (reads_of known analyzer input read before after writes.builds).2) are)
-      ∙ ap (λ xs. work_text input.schema analyzer (work_ids input.ids) (input_batches analyzer input) ++ xs)
-      (output_is input.schema analyzer (output_id input.ids) (input_survivors analyzer input) output writes.schema is)
-
-  -- the text of what was read back
-  pub text_of_read : (text : List ℕ) → (IsTrue before.work.tells → AreReadingsOf input.schema analyzer (input_batches analyzer input) (map part_of read))
-      → (IsTrue before.work.tells → full_reading input.schema analyzer (input_survivors analyzer input) ≡ Some (contents_of output))
-      → text ≡ read_text input.ids read output → IsTextOfInput known analyzer input before after text
-  text_of_read text are is printed = record {
-    read = read;
-    output = output;
-    writes = writes;
-    printed = printed;
-    told = λ told. printed ∙ read_is_build (are told) (is told);
+  whole_one : (stamp id : ℕ) (batch : Batch) → IsCounted batch → index.StandsFor segment_forms files schema analyzer id batch.documents
+      → TellsAlive files id (length batch.documents) batch.alive (deletes_of stamp batch.alive)
+      → index.IsWhole segment_forms files schema (record { id = id; documents = length batch.documents; deletes = deletes_of stamp batch.alive })
+  whole_one stamp id batch counted stands tell = record {
+    contents = stands.contents;
+    held = stands.held;
+    number = counts schema analyzer batch.documents stands.contents stands.read;
+    deletes_agree = agrees stamp id batch (list_all (λ b. b) batch.alive) counted tell;
   }
 
--- ---- ids
+  all_whole : (stamp : ℕ) (ids : List ℕ) (batches : List Batch) → AllByRecursion IsCounted batches
+      → AllStand schema analyzer files ids batches → AllTellAlive files stamp (segments_of ids batches)
+      → AllByRecursion (index.IsWhole segment_forms files schema) (all_listed stamp (segments_of ids batches))
+  all_whole stamp [] batches counted stand tell = tt
+  all_whole stamp (id ∷ ids) [] counted stand tell = tt
+  all_whole stamp (id ∷ ids) (batch ∷ batches) counted stand tell =
+      (whole_one stamp id batch counted.0 stand.0 tell.0, all_whole stamp ids batches counted.1 stand.1 tell.1)
 
--- each work segment has an id
-segments_few : (ids : List ℕ) (batches : List Batch) → length (segments_of ids batches) ≤ length ids
-segments_few [] batches = omega arith
-segments_few (id ∷ ids) [] = omega arith
-segments_few (id ∷ ids) (b ∷ batches) = let rest = segments_few ids batches in omega (arith, rest)
+module _ (analyzer : Analyzer) (input : Input) (files : NamedFiles) where
+  -- those of a work index
+  pub work_whole : IsWorkIndexOf analyzer input files
+      → AllByRecursion (index.IsWhole segment_forms files input.schema) (all_listed (length input.operations) (segments_of (work_ids input.ids) (input_batches analyzer input)))
+  work_whole is =
+      all_whole input.schema analyzer files (length input.operations) (work_ids input.ids) (input_batches analyzer input)
+      (batches_counted input.schema analyzer 0 input.cuts input.operations) is.stand is.alive
 
-pub ids_enough : (known : Known) (analyzer : Analyzer) (given input : Input) (read : List KeptSegment) (output : OpenSegment) (before after : Directories) → given ≡ input
-    → WritesBoth known analyzer given read output before after → length read ≤ length (work_ids input.ids)
-ids_enough known analyzer given input read output before after same writes =
-    let many = as_many given.schema _ read _ _ (reads_of known analyzer given read before after writes.builds).2 in
-    let listed_many = length-map (work_segments analyzer given) (listed (length given.operations)) in
-    let few = segments_few (work_ids given.ids) (input_batches analyzer given) in
-    subst (λ (s : Input). length read ≤ length (work_ids s.ids)) same (omega (arith, many, listed_many, few))
-
--- the id of a work segment by its place
-pub id_at : (ids : List ℕ) (i x : ℕ) → i + 1 ≤ length (work_ids ids) → get_or ids i x ≡ get_or (work_ids ids) i x
-id_at [] i x lt = absurd (omega (arith, lt))
-id_at (id ∷ []) i x lt = absurd (omega (arith, lt))
-id_at (id ∷ other ∷ ids) zero x lt = refl
-id_at (id ∷ other ∷ ids) (suc i) x lt = id_at (other ∷ ids) i x (omega (arith, lt))
-
--- there are no more of them than ids
-pub work_ids_few : (ids : List ℕ) → length (work_ids ids) ≤ length ids
-work_ids_few [] = omega arith
-work_ids_few (id ∷ []) = omega arith
-work_ids_few (id ∷ other ∷ ids) = let rest = work_ids_few (other ∷ ids) in omega (arith, rest)
-
--- one segment more
-next_text : (ids : List ℕ) (read : List KeptSegment) (i x : ℕ) (r y : KeptSegment) → i + 1 ≤ length read → length read ≤ length ids → get_or read i y ≡ r
-    → read_work_text (drop i ids) (drop i read) ≡ read_segment_text (codes "work") (get_or ids i x) r ++ read_work_text (drop (suc i) ids) (drop (suc i) read)
-next_text ids [] i x r y lt few is = absurd (omega (arith, lt))
-next_text [] (s ∷ read) i x r y lt few is = absurd (omega (arith, few))
-next_text (id ∷ ids) (s ∷ read) zero x r y lt few is = ap (λ (k : KeptSegment). read_segment_text (codes "work") id k ++ read_work_text ids read) is
-next_text (id ∷ ids) (s ∷ read) (suc i) x r y lt few is = next_text ids read i x r y (omega (arith, lt)) (omega (arith, few)) is
-
-pub work_more : (before : List ℕ) (ids : List ℕ) (read : List KeptSegment) (i id x : ℕ) (r y : KeptSegment) → i + 1 ≤ length read → length read ≤ length (work_ids ids) → get_or read i y ≡ r → id ≡ get_or ids i x
-    → (before ++ read_segment_text (codes "work") id r) ++ read_work_text (drop (i + 1) (work_ids ids)) (drop (i + 1) read) ≡ before ++ read_work_text (drop i (work_ids ids)) (drop i read)
-work_more before ids read i id x r y lt few is id_is =
-    append_assoc before (read_segment_text (codes "work") id r) (read_work_text (drop (i + 1) (work_ids ids)) (drop (i + 1) read))
-    ∙ ap (λ k. before ++ (read_segment_text (codes "work") k r ++ read_work_text (drop (i + 1) (work_ids ids)) (drop (i + 1) read))) (id_is ∙ id_at ids i x (omega (arith, lt, few)))
-    ∙ ap (λ k. before ++ (read_segment_text (codes "work") (get_or (work_ids ids) i x) r ++ read_work_text (drop k (work_ids ids)) (drop k read))) (add-one i)
-    ∙ ap (λ xs. before ++ xs) (sym (next_text (work_ids ids) read i x r y lt few is))
-
-no_text : (ids : List ℕ) → read_work_text ids [] ≡ []
-no_text [] = refl
-no_text (id ∷ ids) = refl
-
--- nothing is left after the last
-pub work_done : (before all : List ℕ) (ids : List ℕ) (read : List KeptSegment) (i : ℕ) → length read ≤ i → before ++ read_work_text (drop i ids) (drop i read) ≡ all → before ≡ all
-work_done before all ids read i le is =
-    sym (append-nil before) ∙ ap (λ xs. before ++ xs) (sym (ap (read_work_text (drop i ids)) (drop_all i read le) ∙ no_text (drop i ids))) ∙ is
-
--- a segment that was read, by its parts
-pub same_text : (label : List ℕ) (id : ℕ) (item : KeptSegment) (reader : OpenSegment) (alive : Option (Bor (List Bool))) → reader ≡ item.segment → marks_of item.segment.documents alive ≡ item.alive
-    → read_segment_text label id (record { segment = reader; alive = marks_of reader.documents alive }) ≡ read_segment_text label id item
-same_text label id item reader alive is marks =
-    ap (λ (s : OpenSegment). read_segment_text label id (record { segment = s; alive = marks_of s.documents alive })) is
-    ∙ ap (λ (m : List Bool). read_segment_text label id (record { segment = item.segment; alive = m })) marks
-
--- ---- the id of the output segment
-
-last_at : (ids : List ℕ) (n id : ℕ) → n + 1 ≡ length ids → Some id ≡ slice_get ids n → id ≡ output_id ids
-last_at [] n id e is = absurd (omega (arith, e))
-last_at (x ∷ []) zero id e is = same_Some id x is
-last_at (x ∷ []) (suc n) id e is = absurd (omega (arith, e))
-last_at (x ∷ y ∷ ids) zero id e is = absurd (omega (arith, e))
-last_at (x ∷ y ∷ ids) (suc n) id e is = last_at (y ∷ ids) n id (omega (arith, e)) is
-
-pub last_is : (ids : List ℕ) (id : ℕ) → Some id ≡ slice_get ids (length ids - 1) → id ≡ output_id ids
-last_is [] id is = absurd (false≢true (ap is_some (sym is)))
-last_is (x ∷ ids) id is = let e : length (x ∷ ids) - 1 + 1 ≡ length (x ∷ ids) = omega arith in last_at (x ∷ ids) (length (x ∷ ids) - 1) id e is
+  -- that of an output index
+  pub output_whole : IsOutputIndexOf analyzer input files
+      → AllByRecursion (index.IsWhole segment_forms files input.schema) (undeleted (output_id input.ids) (length (input_survivors analyzer input)) ∷ [])
+  output_whole is = (
+    record {
+      contents = is.stands.contents;
+      held = is.stands.held;
+      number = counts input.schema analyzer (input_survivors analyzer input) is.stands.contents is.stands.read;
+      deletes_agree = tt;
+    },
+    tt,
+  )

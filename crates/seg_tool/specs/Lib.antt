@@ -1,5 +1,9 @@
 pub mod DirectoryCalls
+pub mod Indexes
+pub mod Jobs
 pub mod Printing
+pub mod ReadingBack
 pub mod Run
 pub mod Runs
 pub mod Statuses
+pub mod Words

@@ -1,37 +1,34 @@
--- The text of segments that are read.
-use Rattle.std.specs.Prelude.{ℕ, List, [], ◌∷◌, ◌++◌, codes, replicate, true, Option, Some}
+-- The text of segments that are open.
+use Rattle.std.specs.Prelude.{List, [], ◌∷◌, ◌++◌, ℕ, Option, Some}
 use Rattle.std.specs.FinMap.{entries}
 use Rattle.seg_model.specs.Contents.{reading_part}
 use Rattle.seg_postings.specs.FieldReading.{OpenField}
 use Rattle.seg_open.specs.OpenSegment.{OpenSegment, contents_of, terms_in}
-use Rattle.seg_open.specs.KeptSegment.{KeptSegment}
-use Rattle.seg_merge.specs.IndexFiles.{output_id, work_ids}
+use Rattle.seg_model.specs.Fields.{Schema}
 use Rattle.seg_text.specs.FieldText.{field_text}
-use Rattle.seg_text.specs.SegmentText.{PrintedSegment, segment_text}
+use Rattle.seg_text.specs.SegmentText.{PrintedSegment, full_segment_text, segment_text}
+use Rattle.seg_tool.specs.declared.words.Detail.{Detail}
+use Rattle.seg_tool.specs.declared.words.Detail.TheVariants.{Brief, Full}
 
 -- the text at a place of the fields, by the name there: none where no field is open
 abbrev pub opened_text : List ℕ → Option (Option OpenField) → List ℕ
 opened_text name (Some (Some f)) = field_text name (entries (terms_in (Some f)))
 opened_text name _ = []
 
--- what a segment reads as
-abbrev pub read_segment : List ℕ → ℕ → KeptSegment → PrintedSegment
-read_segment label id read = record { label = label; id = id; alive = read.alive; reading = reading_part (contents_of read.segment) }
+-- the text of a segment with these length ids
+abbrev pub printed_text : Detail → Schema → PrintedSegment → List (List ℕ) → List ℕ
+printed_text Brief schema segment norms = segment_text schema segment
+printed_text Full schema segment norms = full_segment_text schema segment norms
+
+-- what an open segment reads as
+abbrev pub read_segment : List ℕ → OpenSegment → PrintedSegment
+read_segment label s = record { label = label; id = s.id; alive = s.alive; reading = reading_part (contents_of s) }
 
 -- its text
-abbrev pub read_segment_text : List ℕ → ℕ → KeptSegment → List ℕ
-read_segment_text label id read = segment_text read.segment.schema (read_segment label id read)
+abbrev pub read_segment_text : List ℕ → Detail → OpenSegment → List ℕ
+read_segment_text label detail s = printed_text detail s.schema (read_segment label s) (contents_of s).norms
 
--- a segment without deletes
-abbrev pub all_kept : OpenSegment → KeptSegment
-all_kept segment = record { segment = segment; alive = replicate segment.documents true }
-
--- work segments, each under its id
-abbrev pub read_work_text : List ℕ → List KeptSegment → List ℕ
-read_work_text [] read = []
-read_work_text (id ∷ ids) [] = []
-read_work_text (id ∷ ids) (s ∷ read) = read_segment_text (codes "work") id s ++ read_work_text ids read
-
--- the work segments that were read back, and then the output segment
-abbrev pub read_text : List ℕ → List KeptSegment → OpenSegment → List ℕ
-read_text ids read output = read_work_text (work_ids ids) read ++ read_segment_text (codes "output") (output_id ids) (all_kept output)
+-- the text of open segments, one after another
+abbrev pub read_texts : List ℕ → Detail → List OpenSegment → List ℕ
+read_texts label detail [] = []
+read_texts label detail (s ∷ opened) = read_segment_text label detail s ++ read_texts label detail opened

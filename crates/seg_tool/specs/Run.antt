@@ -1,8 +1,6 @@
 -- What a run of `build` prints, what it leaves in the directories, and why it is refused.
-use Rattle.std.specs.Prelude.{ℕ, ◌≡◌, ◌<◌, ◌≤◌, ◌⊎◌, List, [], ◌∷◌, ◌++◌, length, replicate, Bool, true, false, Option, Some, None, IsSome, codes, String, string_bytes, IsTrue}
-use Rattle.std.specs.declared.alloc.Global.{Global}
+use Rattle.std.specs.Prelude.{ℕ, ◌≡◌, ◌<◌, ◌≤◌, ◌⊎◌, List, [], ◌∷◌, ◌++◌, length, replicate, Bool, true, Option, Some, None, Ok, IsSome, codes, IsTrue}
 use Rattle.std.specs.Io.KnownBytes.{Appends}
-use Rattle.std.specs.Str.{bytes_eq}
 use Rattle.seg_common.specs.Streams.{AppendsPart}
 use Rattle.seg_values.specs.declared.error.ArgumentCause.TheVariants.{Documents, Later}
 use Rattle.seg_values.specs.declared.error.TantivyError.{TantivyError}
@@ -12,25 +10,19 @@ use Rattle.seg_directory.specs.Files.{NamedFiles}
 use Rattle.seg_model.specs.Contents.{reading}
 use Rattle.seg_model.specs.Fields.{Schema, Analyzer}
 use Rattle.seg_model.specs.Input.{Input, input_batches, input_survivors}
+use Rattle.seg_model.specs.Norms.{all_norms}
 use Rattle.seg_model.specs.Operations.{Batch}
 use Rattle.seg_model.specs.Valid.{Known}
-use Rattle.seg_open.specs.OpenSegment.{OpenSegment}
-use Rattle.seg_open.specs.KeptSegment.{KeptSegment}
 use Rattle.seg_refusals.specs.Admitted.{IsValidIf}
 use Rattle.seg_refusals.specs.Inputs.{is_built_input}
 use Rattle.seg_refusals.specs.Refusals.{first_error, refusal_error}
-use Rattle.seg_merge.specs.DirectoryCalls.{WritesBoth}
 use Rattle.seg_merge.specs.IndexFiles.{IsMergedIndexOf, IsOutputIndexOf, IsWorkIndexOf, output_id, work_ids}
 use Rattle.seg_merge.specs.Turns.{Directories}
 use Rattle.seg_script.specs.Script.{json_of, script}
-use Rattle.seg_text.specs.SegmentText.{PrintedSegment, segment_text}
-use Rattle.seg_tool.specs.Printing.{read_text}
-
--- the words are `build` alone
-abbrev pub is_build : List (String Global) → Bool
-is_build [] = false
-is_build (word ∷ []) = bytes_eq (string_bytes word) (codes "build")
-is_build (word ∷ other ∷ words) = false
+use Rattle.seg_text.specs.SegmentText.{PrintedSegment}
+use Rattle.seg_tool.specs.Jobs.{BuildsText}
+use Rattle.seg_tool.specs.Printing.{printed_text}
+use Rattle.seg_tool.specs.declared.words.Detail.{Detail}
 
 -- ---- the text
 
@@ -38,22 +30,28 @@ is_build (word ∷ other ∷ words) = false
 abbrev pub segment : Schema → Analyzer → List ℕ → ℕ → List Document → List Bool → PrintedSegment
 segment schema analyzer label id documents alive = record { label = label; id = id; alive = alive; reading = reading schema analyzer documents }
 
+-- its text
+abbrev pub documents_text : Detail → Schema → Analyzer → List ℕ → ℕ → List Document → List Bool → List ℕ
+documents_text detail schema analyzer label id documents alive =
+    printed_text detail schema (segment schema analyzer label id documents alive) (all_norms schema analyzer documents)
+
 -- a work segment a batch
-abbrev pub work_text : Schema → Analyzer → List ℕ → List Batch → List ℕ
-work_text schema analyzer [] batches = []
-work_text schema analyzer (id ∷ ids) [] = []
-work_text schema analyzer (id ∷ ids) (batch ∷ batches) =
-    segment_text schema (segment schema analyzer (codes "work") id batch.documents batch.alive) ++ work_text schema analyzer ids batches
+abbrev pub work_text : Detail → Schema → Analyzer → List ℕ → List Batch → List ℕ
+work_text detail schema analyzer [] batches = []
+work_text detail schema analyzer (id ∷ ids) [] = []
+work_text detail schema analyzer (id ∷ ids) (batch ∷ batches) =
+    documents_text detail schema analyzer (codes "work") id batch.documents batch.alive ++ work_text detail schema analyzer ids batches
 
 -- the output segment, of the survivors
-abbrev pub output_text : Schema → Analyzer → ℕ → List Document → List ℕ
-output_text schema analyzer id survivors = segment_text schema (segment schema analyzer (codes "output") id survivors (replicate (length survivors) true))
+abbrev pub output_text : Detail → Schema → Analyzer → ℕ → List Document → List ℕ
+output_text detail schema analyzer id survivors =
+    documents_text detail schema analyzer (codes "output") id survivors (replicate (length survivors) true)
 
 -- the work segments in order, and then the output segment
-abbrev pub build_text : Analyzer → Input → List ℕ
-build_text analyzer input =
-    work_text input.schema analyzer (work_ids input.ids) (input_batches analyzer input)
-    ++ output_text input.schema analyzer (output_id input.ids) (input_survivors analyzer input)
+abbrev pub build_text : Detail → Analyzer → Input → List ℕ
+build_text detail analyzer input =
+    work_text detail input.schema analyzer (work_ids input.ids) (input_batches analyzer input)
+    ++ output_text detail input.schema analyzer (output_id input.ids) (input_survivors analyzer input)
 
 -- ---- the script
 
@@ -76,19 +74,16 @@ pub record IsValidScript (told : Type 0) (known : Known) (analyzer : Analyzer) (
   pub built : is_built_input meant ≡ true
   pub valid : IsValidIf told known analyzer meant
 
--- both indexes of an input were written, and this is the text of the segments: of the work segments as they were read back, and of the output segment that these were merged into; where the work directory tells, it is that of the readings of the documents
-pub record IsTextOfInput (known : Known) (analyzer : Analyzer) (input : Input) (before after : Directories) (text : List ℕ) : Type 0 where
-  pub read : List KeptSegment
-  pub output : OpenSegment
-  pub writes : WritesBoth known analyzer input read output before after
-  pub printed : text ≡ read_text input.ids read output
-  pub told : IsTrue before.work.tells → text ≡ build_text analyzer input
+-- both indexes of an input were written, and this is the text of what was read of both then; where both directories tell, it is that of the readings of the documents
+pub record IsTextOfInput (known : Known) (analyzer : Analyzer) (detail : Detail) (input : Input) (before after : Directories) (text : List ℕ) : Type 0 where
+  pub builds : BuildsText known analyzer input detail (Ok text) before after
+  pub told : IsTrue before.work.tells → IsTrue before.output.tells → text ≡ build_text detail analyzer input
 
 -- the bytes are a script, and this is the text of its indexes
-pub record IsTextOf (known : Known) (analyzer : Analyzer) (bytes : List ℕ) (before after : Directories) (text : List ℕ) : Type 0 where
+pub record IsTextOf (known : Known) (analyzer : Analyzer) (detail : Detail) (bytes : List ℕ) (before after : Directories) (text : List ℕ) : Type 0 where
   pub meant : Input
   pub is_script : script bytes ≡ Some meant
-  pub text_of : IsTextOfInput known analyzer meant before after text
+  pub text_of : IsTextOfInput known analyzer detail meant before after text
 
 -- the bytes are a script, and the files are its work index
 pub record HasWorkIndex (analyzer : Analyzer) (bytes : List ℕ) (files : NamedFiles) : Type 0 where
@@ -120,9 +115,10 @@ refusal_of known analyzer (Some input) = refusal_error known analyzer input
 abbrev pub IsWhyRefused : Known → Analyzer → List ℕ → TantivyError → Type 0
 IsWhyRefused known analyzer bytes e = refusal_of known analyzer (script bytes) ≡ Some e
 
--- or more documents were read back than one segment can hold
+-- or more documents were read back than one segment can hold, or a meta with a schema that is not built yet
 abbrev pub IsWhyRefusedUntold : Known → Analyzer → List ℕ → TantivyError → Type 0
-IsWhyRefusedUntold known analyzer bytes e = IsWhyRefused known analyzer bytes e ⊎ (e ≡ InvalidArgument Documents)
+IsWhyRefusedUntold known analyzer bytes e =
+    IsWhyRefused known analyzer bytes e ⊎ ((e ≡ InvalidArgument Documents) ⊎ (e ≡ InvalidArgument Later))
 
 -- the first of them, before a directory is called
 abbrev pub first_of : Known → Analyzer → Option Input → Option TantivyError

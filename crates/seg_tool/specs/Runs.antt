@@ -1,57 +1,21 @@
--- What a run does, by how it ends.
-use Rattle.std.specs.Prelude.{ℕ, ◌≡◌, ◌<◌, ◌≤◌, ◌+◌, List, length, true, false, Option, Some, None, IfSome, IsSome, String}
+-- What a run does, by its words and by how it ends.
+use Rattle.std.specs.Prelude.{ℕ, ◌≡◌, ◌<◌, ◌≤◌, ◌+◌, List, length, Option, Some, None, Result, Ok, Err, IfSome, String}
 use Rattle.std.specs.Io.KnownBytes.{Appends, IsAtEnd}
 use Rattle.std.specs.declared.alloc.Global.{Global}
 use Rattle.seg_common.specs.Causes.{Rose}
 use Rattle.seg_common.specs.Idle.{Idle, OnlyLastIsIdle}
 use Rattle.seg_common.specs.Streams.{AppendsPart, IsAllOf, TakesAtMost}
-use Rattle.seg_values.specs.declared.error.ArgumentCause.TheVariants.{Later}
-use Rattle.seg_values.specs.declared.error.TantivyError.{TantivyError}
-use Rattle.seg_values.specs.declared.error.TantivyError.TheVariants.{InvalidArgument}
 use Rattle.seg_model.specs.Fields.{Analyzer}
-use Rattle.seg_model.specs.Input.{Input}
 use Rattle.seg_model.specs.Valid.{Known}
-use Rattle.seg_open.specs.OpenSegment.{OpenSegment}
-use Rattle.seg_open.specs.KeptSegment.{KeptSegment}
-use Rattle.seg_merge.specs.Builds.{Builds, StopsBuilding}
 use Rattle.seg_merge.specs.Turns.{Directories}
-use Rattle.seg_script.specs.Script.{json_of, script}
-use Rattle.seg_tool.specs.Printing.{read_text}
-use Rattle.seg_tool.specs.Run.{is_build, max_script}
-use Rattle.seg_tool.specs.Statuses.{status_of}
+use Rattle.seg_tool.specs.Jobs.{BuildsScript, MergesText, ShowsText, WithStatus}
+use Rattle.seg_tool.specs.Run.{max_script}
+use Rattle.seg_tool.specs.Words.{command_of}
 use Rattle.seg_tool.specs.declared.status.Status.{Status}
-use Rattle.seg_tool.specs.declared.status.Status.TheVariants.{Done, Words, Script, Refused, Stream, Memory}
-
--- ---- of an input
-
--- its indexes are built, and this is the text of what was read of them
-pub record PrintsInput (known : Known) (analyzer : Analyzer) (input : Input) (text : List ℕ) (before after : Directories) : Type 0 where
-  pub read : List KeptSegment
-  pub output : OpenSegment
-  pub builds : Builds known analyzer input read output before after
-  pub printed : text ≡ read_text input.ids read output
-
--- or they are not built, or there is no memory for the text
-pub data EndsInput (known : Known) (analyzer : Analyzer) (input : Input) (status : Status) (before after : Directories) : Type 0 where
-  not_built : (e : TantivyError) → status ≡ status_of e → StopsBuilding known analyzer input e before after → EndsInput known analyzer input status before after
-  not_printed : (text : List ℕ) → status ≡ Memory → PrintsInput known analyzer input text before after → EndsInput known analyzer input status before after
-
--- ---- of the bytes of a script
-
--- they are a script, and this is the text of its indexes
-pub record Prints (known : Known) (analyzer : Analyzer) (bytes text : List ℕ) (before after : Directories) : Type 0 where
-  pub meant : Input
-  pub is_script : script bytes ≡ Some meant
-  pub prints : PrintsInput known analyzer meant text before after
-
--- or there is none: they are no JSON text, or no script of what is built so far; memory ran out; or it ends with the input
-pub data Ends (known : Known) (analyzer : Analyzer) (bytes : List ℕ) (status : Status) (before after : Directories) : Type 0 where
-  no_json : status ≡ Script → json_of bytes ≡ None → after ≡ before → Ends known analyzer bytes status before after
-  no_script : status ≡ Refused (InvalidArgument Later) → IsSome (json_of bytes) → script bytes ≡ None → after ≡ before → Ends known analyzer bytes status before after
-  no_memory : status ≡ Memory → after ≡ before → Ends known analyzer bytes status before after
-  of_input : (meant : Input) → script bytes ≡ Some meant → EndsInput known analyzer meant status before after → Ends known analyzer bytes status before after
-
--- ---- of a whole run
+use Rattle.seg_tool.specs.declared.status.Status.TheVariants.{Done, Words, Script, Stream, Memory}
+use Rattle.seg_tool.specs.declared.words.Command.{Command}
+use Rattle.seg_tool.specs.declared.words.Command.TheVariants.{Build, Merge, Show}
+use Rattle.seg_tool.specs.declared.words.Detail.{Detail}
 
 -- what is told of a source, and of a sink
 pub record SourceState : Type 0 where
@@ -92,18 +56,63 @@ pub record TakesAll (bytes : List ℕ) (before after : SourceState) : Type 0 whe
   pub short : length bytes ≤ max_script
   pub end : IsAtEnd after.left
 
--- the words are no command, and nothing is touched; the source fails, has too many bytes, or memory runs out; there is no text; the sink fails; or all goes well
-pub data Runs {S K : Type 0} (known : Known) (analyzer : Analyzer) (words : List (String Global)) (status : Status) (source source_after : S) (sink sink_after : K) (before after : World) : Type 0 where
-  no_command : is_build words ≡ false → status ≡ Words → source_after ≡ source → sink_after ≡ sink → after ≡ before → Runs known analyzer words status source source_after sink sink_after before after
-  not_read : is_build words ≡ true → status ≡ Stream → Rose before.source.faults after.source.faults → Takes before.source after.source
-      → sink_after ≡ sink → after.sink ≡ before.sink → after.directories ≡ before.directories → Runs known analyzer words status source source_after sink sink_after before after
-  too_long : is_build words ≡ true → status ≡ Script → IfSome before.source.left (λ all. max_script < length all) → Takes before.source after.source
-      → sink_after ≡ sink → after.sink ≡ before.sink → after.directories ≡ before.directories → Runs known analyzer words status source source_after sink sink_after before after
-  starved : is_build words ≡ true → status ≡ Memory → Takes before.source after.source
-      → sink_after ≡ sink → after.sink ≡ before.sink → after.directories ≡ before.directories → Runs known analyzer words status source source_after sink sink_after before after
-  ended : (bytes : List ℕ) → is_build words ≡ true → TakesAll bytes before.source after.source → Ends known analyzer bytes status before.directories after.directories
-      → sink_after ≡ sink → after.sink ≡ before.sink → Runs known analyzer words status source source_after sink sink_after before after
-  not_written : (bytes text : List ℕ) → is_build words ≡ true → status ≡ Stream → TakesAll bytes before.source after.source → Prints known analyzer bytes text before.directories after.directories
-      → AppendsPart before.sink.written after.sink.written text → Rose before.sink.faults after.sink.faults → before.sink.faults ≤ after.sink.faults → Runs known analyzer words status source source_after sink sink_after before after
-  done : (bytes text : List ℕ) → is_build words ≡ true → status ≡ Done → TakesAll bytes before.source after.source → Prints known analyzer bytes text before.directories after.directories
-      → Appends before.sink.written after.sink.written text → before.sink.faults ≤ after.sink.faults → Runs known analyzer words status source source_after sink sink_after before after
+-- a text is written whole, or the sink fails
+pub data WritesText (text : List ℕ) (status : Status) (before after : SinkState) : Type 0 where
+  written : status ≡ Done → Appends before.written after.written text → before.faults ≤ after.faults → WritesText text status before after
+  failed : status ≡ Stream → AppendsPart before.written after.written text → Rose before.faults after.faults
+      → before.faults ≤ after.faults → WritesText text status before after
+
+-- a text is made and written, or there is none, and nothing goes to the sink
+pub data EndsJob {K : Type 0} (does : Result (List ℕ) Status → Directories → Directories → Type 0) (status : Status) (sink sink_after : K)
+    (before after : World) : Type 0 where
+  no_text : does (Err status) before.directories after.directories → sink_after ≡ sink → after.sink ≡ before.sink
+      → EndsJob does status sink sink_after before after
+  has_text : (text : List ℕ) → does (Ok text) before.directories after.directories → WritesText text status before.sink after.sink
+      → EndsJob does status sink sink_after before after
+
+-- the source fails, has too many bytes, or memory runs out; or all its bytes are read, and the job ends with them
+pub data RunsBuild {K : Type 0} (known : Known) (analyzer : Analyzer) (detail : Detail) (status : Status) (sink sink_after : K)
+    (before after : World) : Type 0 where
+  not_read : status ≡ Stream → Rose before.source.faults after.source.faults → Takes before.source after.source
+      → sink_after ≡ sink → after.sink ≡ before.sink → after.directories ≡ before.directories
+      → RunsBuild known analyzer detail status sink sink_after before after
+  too_long : status ≡ Script → IfSome before.source.left (λ all. max_script < length all) → Takes before.source after.source
+      → sink_after ≡ sink → after.sink ≡ before.sink → after.directories ≡ before.directories
+      → RunsBuild known analyzer detail status sink sink_after before after
+  starved : status ≡ Memory → Takes before.source after.source
+      → sink_after ≡ sink → after.sink ≡ before.sink → after.directories ≡ before.directories
+      → RunsBuild known analyzer detail status sink sink_after before after
+  is_read : (bytes : List ℕ) → TakesAll bytes before.source after.source
+      → EndsJob (BuildsScript known analyzer detail bytes) status sink sink_after before after
+      → RunsBuild known analyzer detail status sink sink_after before after
+
+-- words that are no command touch nothing
+pub record TouchesNothing {S K : Type 0} (status : Status) (source source_after : S) (sink sink_after : K)
+    (before after : World) : Type 0 where
+  pub is : status ≡ Words
+  pub same_source : source_after ≡ source
+  pub same_sink : sink_after ≡ sink
+  pub same : after ≡ before
+
+-- a job that reads no source
+pub record RunsUnread {S K : Type 0} (does : Result (List ℕ) Status → Directories → Directories → Type 0) (status : Status)
+    (source source_after : S) (sink sink_after : K) (before after : World) : Type 0 where
+  pub same_source : source_after ≡ source
+  pub same : after.source ≡ before.source
+  pub ends : EndsJob does status sink sink_after before after
+
+-- by the command
+abbrev pub RunsCommand : {S K : Type 0} → Known → Analyzer → Option Command → Status → S → S → K → K → World → World → Type 0
+RunsCommand known analyzer None status source source_after sink sink_after before after =
+    TouchesNothing status source source_after sink sink_after before after
+RunsCommand known analyzer (Some (Build detail)) status source source_after sink sink_after before after =
+    RunsBuild known analyzer detail status sink sink_after before after
+RunsCommand known analyzer (Some Merge) status source source_after sink sink_after before after =
+    RunsUnread (WithStatus MergesText) status source source_after sink sink_after before after
+RunsCommand known analyzer (Some Show) status source source_after sink sink_after before after =
+    RunsUnread (WithStatus ShowsText) status source source_after sink sink_after before after
+
+-- by the words
+pub record Runs {S K : Type 0} (known : Known) (analyzer : Analyzer) (words : List (String Global)) (status : Status)
+    (source source_after : S) (sink sink_after : K) (before after : World) : Type 0 where
+  pub runs : RunsCommand known analyzer (command_of words) status source source_after sink sink_after before after

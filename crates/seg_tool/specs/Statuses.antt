@@ -18,7 +18,7 @@ number_of Script = 3
 number_of (Refused e) = 4
 number_of (Exists e) = 5
 number_of (Directory e) = 6
-number_of (Damaged name) = 7
+number_of (Damaged e) = 7
 number_of Stream = 8
 number_of Memory = 9
 
@@ -31,14 +31,14 @@ IfRefused _ P = Unit {0}
 abbrev pub IfWritten : Status → (TantivyError → Type 0) → Type 0
 IfWritten (Exists e) P = P e
 IfWritten (Directory e) P = P e
-IfWritten (Damaged name) P = P (DataCorruption name)
+IfWritten (Damaged e) P = P e
 IfWritten _ P = Unit {0}
 
 -- refused for this, or before that no memory, or a source that failed
 abbrev pub RefusedFor : TantivyError → Status → Type 0
 RefusedFor e status = (status ≡ Refused e) ⊎ ((status ≡ Memory) ⊎ (status ≡ Stream))
 
--- the status of an error of an index that is built
+-- the status of an error of an index
 abbrev pub status_of : TantivyError → Status
 status_of (SchemaError cause) = Refused (SchemaError cause)
 status_of (InvalidArgument cause) = Refused (InvalidArgument cause)
@@ -46,7 +46,7 @@ status_of IndexAlreadyExists = Exists IndexAlreadyExists
 status_of OpenReadError = Directory OpenReadError
 status_of OpenWriteError = Directory OpenWriteError
 status_of IoError = Directory IoError
-status_of (DataCorruption name) = Damaged name
+status_of (DataCorruption name) = Damaged (DataCorruption name)
 status_of _ = Memory
 
 -- the name of a cause, and its numbers
@@ -110,6 +110,11 @@ fault_text OpenReadError = codes "directory: list or read failed"
 fault_text OpenWriteError = codes "directory: write failed"
 fault_text _ = codes "directory: meta or sync failed"
 
+-- which file is damaged
+abbrev pub damage_text : TantivyError → List ℕ
+damage_text (DataCorruption name) = codes "damaged: " ++ (name_text name ++ 10 ∷ [])
+damage_text _ = codes "damaged: a file" ++ 10 ∷ []
+
 -- the line that is said of a status; of Done nothing
 abbrev pub status_line : Status → List ℕ
 status_line Done = []
@@ -118,15 +123,15 @@ status_line Script = codes "script: not a valid script" ++ 10 ∷ []
 status_line (Refused e) = codes "refused: " ++ (cause_text (cause_words e) ++ 10 ∷ [])
 status_line (Exists e) = codes "exists: a directory is not empty" ++ 10 ∷ []
 status_line (Directory e) = fault_text e ++ 10 ∷ []
-status_line (Damaged name) = codes "damaged: " ++ (name_text name ++ 10 ∷ [])
+status_line (Damaged e) = damage_text e
 status_line Stream = codes "stream: read or write failed" ++ 10 ∷ []
 status_line Memory = codes "memory: not enough" ++ 10 ∷ []
 
--- a status of an error of what is built
+-- a status of an error of an index
 abbrev pub IsOfErrors : Status → Type 0
 IsOfErrors (Refused e) = Unit {0}
 IsOfErrors (Exists e) = Unit {0}
 IsOfErrors (Directory e) = Unit {0}
-IsOfErrors (Damaged name) = Unit {0}
+IsOfErrors (Damaged e) = Unit {0}
 IsOfErrors Memory = Unit {0}
 IsOfErrors _ = ⊥

@@ -1,39 +1,36 @@
-//! From the bytes of a script to its indexes and the text of their segments.
-ghost use Rattle.std.specs.Prelude.{◌≡◌, ◌≤◌, ◌++◌, IfErr, IfOk, OnOk, length};
+//! From the bytes of a script to its indexes, and to the text of what the directories then answer.
+ghost use Rattle.std.specs.Prelude.{◌≡◌};
 ghost use Rattle.seg_merge.specs.Turns.{both};
-ghost use Rattle.seg_merge.specs.IndexFiles.{output_id, work_ids};
-ghost use Rattle.seg_tool.specs.Printing.{read_text, read_work_text};
-ghost use Rattle.seg_tool.specs.Runs.{Ends, EndsInput, Prints, PrintsInput};
+ghost use Rattle.seg_open.specs.Answers.{seen_as};
+ghost use Rattle.seg_tool.specs.Jobs.{BuildsBoth, BuildsScript, BuildsText};
 ghost use Rattle.seg_tool.specs.Statuses.{status_of};
 
-use crate::printing::push_segment;
+use crate::reading_back::print_index;
 use crate::status::Status;
-use seg_batches::ReadSegment;
-use seg_common::SegmentId;
+use crate::words::Detail;
 use seg_directory::Directory;
-use seg_input::BuildInput;
-use seg_merge::{BuiltIndex, build_index_with_readers};
-use seg_open::SegmentReader;
+use seg_input::{BuildInput, BuildInputRef};
+use seg_merge::build_index;
+use seg_meta::Index;
 use seg_script::{ScriptError, read_script};
-use seg_values::{ArgumentCause, TantivyError};
+use seg_values::{ArgumentCause, TResult, TantivyError};
 use seg_words::Analyzers;
-use std::alloc::{AllocError, Global};
+use std::alloc::Global;
 
 /// What is asked for is not built yet.
 const LATER: TantivyError = TantivyError::InvalidArgument(ArgumentCause::Later);
 
-/// Writes the indexes of a script, and answers what is printed of them.
+/// Writes the indexes of a script, and answers what is then printed of them.
 pub(crate) fn build<Z: Analyzers, W: Directory, O: Directory>(
     alloc: Global,
     analyzers: &Z,
     bytes: Vec<u8>,
+    detail: Detail,
     work: &mut W,
     output: &mut O,
 ) -> Result<Vec<u8>, Status>
-    ensures prints { IfOk result (λ text. Prints (Z.knows analyzers.now) (Z.tokens_of analyzers.now) bytes.items text.items
-        (both (W.state work.old) (O.state output.old)) (both (W.state work.new) (O.state output.new))) }
-    ensures ends { IfErr result (λ status. Ends (Z.knows analyzers.now) (Z.tokens_of analyzers.now) bytes.items status
-        (both (W.state work.old) (O.state output.old)) (both (W.state work.new) (O.state output.new))) }
+    ensures { BuildsScript (Z.knows analyzers.now) (Z.tokens_of analyzers.now) detail bytes.items (seen_as (λ t. t.items) result)
+        (both (W.state work.old) (O.state output.old)) (both (W.state work.new) (O.state output.new)) }
 {
     let input = match read_script(alloc, bytes) {
         Ok(input) => input,
@@ -41,91 +38,61 @@ pub(crate) fn build<Z: Analyzers, W: Directory, O: Directory>(
         Err(ScriptError::Later) => return Err(Status::Refused(LATER)),
         Err(ScriptError::OutOfMemory) => return Err(Status::Memory),
     };
-    build_and_print(alloc, analyzers, &input, work, output)
+    match build_and_print(alloc, analyzers, &input, detail, work, output) {
+        Ok(text) => Ok(text),
+        Err(e) => Err(status_of(e)),
+    }
 }
 
-/// Writes the indexes of an input, and answers what is printed of them.
+/// Writes the indexes of an input, and answers what is then printed of them.
 fn build_and_print<Z: Analyzers, W: Directory, O: Directory>(
+    alloc: Global,
+    analyzers: &Z,
+    input: &BuildInput,
+    detail: Detail,
+    work: &mut W,
+    output: &mut O,
+) -> TResult<Vec<u8>>
+    ensures { BuildsText (Z.knows analyzers.now) (Z.tokens_of analyzers.now) input.now detail (seen_as (λ t. t.items) result)
+        (both (W.state work.old) (O.state output.old)) (both (W.state work.new) (O.state output.new)) }
+{
+    let _index = match build_both(alloc, analyzers, input, work, output) {
+        Ok(index) => index,
+        Err(e) => return Err(e),
+    };
+    let out = match print_index(alloc, Vec::new(alloc), "work", detail, work) {
+        Ok(out) => out,
+        Err(e) => return Err(e),
+    };
+    print_index(alloc, out, "output", detail, output)
+}
+
+/// Writes the indexes of an input.
+fn build_both<Z: Analyzers, W: Directory, O: Directory>(
     alloc: Global,
     analyzers: &Z,
     input: &BuildInput,
     work: &mut W,
     output: &mut O,
-) -> Result<Vec<u8>, Status>
-    ensures prints { IfOk result (λ text. PrintsInput (Z.knows analyzers.now) (Z.tokens_of analyzers.now) input.now text.items
-        (both (W.state work.old) (O.state output.old)) (both (W.state work.new) (O.state output.new))) }
-    ensures ends { IfErr result (λ status. EndsInput (Z.knows analyzers.now) (Z.tokens_of analyzers.now) input.now status
-        (both (W.state work.old) (O.state output.old)) (both (W.state work.new) (O.state output.new))) }
+) -> TResult<Index>
+    ensures { BuildsBoth (Z.knows analyzers.now) (Z.tokens_of analyzers.now) input.now result
+        (both (W.state work.old) (O.state output.old)) (both (W.state work.new) (O.state output.new)) }
 {
-    let given = input.as_ref();
-    match build_index_with_readers(alloc, &given, analyzers, work, output) {
-        Ok(built) => match built_text(alloc, input, built) {
-            Ok(text) => Ok(text),
-            Err(AllocError) => Err(Status::Memory),
-        },
-        Err(e) => Err(status_of(e)),
-    }
+    let BuildInputRef {
+        schema,
+        settings,
+        operations,
+        cuts,
+        filters,
+        ids,
+    } = input.as_ref();
+    build_index(
+        alloc, schema, settings, analyzers, operations, cuts, filters, ids, work, output,
+    )
 }
 
-/// The text of the segments of an index that was built.
-fn built_text(alloc: Global, input: &BuildInput, built: BuiltIndex) -> Result<Vec<u8>, AllocError>
-    requires { length built.segments.items ≤ length (work_ids input.now.ids) }
-    ensures { IfOk result (λ t. t.items ≡ read_text input.now.ids built.segments.items built.output) }
-{
-    segments_text(alloc, &input.ids, &built.segments, &built.output)
-}
-
-/// The text of the work segments that were read back, and of the output segment.
-fn segments_text(
-    alloc: Global,
-    ids: &[SegmentId],
-    segments: &[ReadSegment],
-    output: &SegmentReader,
-) -> Result<Vec<u8>, AllocError>
-    requires { length segments.now ≤ length (work_ids ids.now) }
-    ensures { IfOk result (λ t. t.items ≡ read_text ids.now segments.now output.now) }
-{
-    let mut out = Vec::new(alloc);
-    push_work_segments(&mut out, alloc, ids, segments)?;
-    push_segment(&mut out, alloc, "output", output_id(ids), output, None)?;
-    Ok(out)
-}
-
-/// The id of the output segment: the last. Where there is no id it is that of zeros.
-fn output_id(ids: &[SegmentId]) -> SegmentId
-    ensures { result ≡ output_id ids.now }
-{
-    match ids.last() {
-        Some(id) => *id,
-        None => SegmentId::from_u128(0),
-    }
-}
-
-/// The text of the work segments, each under its id.
-fn push_work_segments(
-    out: &mut Vec<u8>,
-    alloc: Global,
-    ids: &[SegmentId],
-    segments: &[ReadSegment],
-) -> Result<(), AllocError>
-    requires { length segments.now ≤ length (work_ids ids.now) }
-    ensures { OnOk result (out.new.items ≡ out.old.items ++ read_work_text (work_ids ids.now) segments.now) }
-{
-    for (place, segment) in segments.iter().enumerate() {
-        push_segment(
-            out,
-            alloc,
-            "work",
-            ids[place],
-            segment.reader(),
-            segment.alive(),
-        )?;
-    }
-    Ok(())
-}
-
-/// The status of an error of the indexes that are written.
-fn status_of(error: TantivyError) -> Status
+/// The status of an error of an index.
+pub(crate) fn status_of(error: TantivyError) -> Status
     ensures { result ≡ status_of error }
 {
     match error {
@@ -134,7 +101,7 @@ fn status_of(error: TantivyError) -> Status
         TantivyError::OpenReadError | TantivyError::OpenWriteError | TantivyError::IoError => {
             Status::Directory(error)
         }
-        TantivyError::DataCorruption { name } => Status::Damaged(name),
+        TantivyError::DataCorruption { name: _ } => Status::Damaged(error),
         _ => Status::Memory,
     }
 }

@@ -1,24 +1,34 @@
 //! The whole of a run: the words, the source, the sink, and the line on what went wrong.
-ghost use Rattle.std.specs.Prelude.{◌≡◌, ◌≢◌, ◌≤◌, ◌+◌, ◌⊎◌, ◌↔◌, ℕ, List, Some, false, true, length, IsErrAnd, IsSome, IfOk, IfErr, IfSome, IsErrOf, IsTrue, OnOk};
+ghost use Rattle.std.specs.Prelude.{◌≡◌, ◌≢◌, ◌<◌, ◌≤◌, ◌+◌, ◌^◌, ◌⊎◌, ◌↔◌, ℕ, List, Some, None, true, length, IsSome, IfOk, IfErr, IfSome, IsTrue};
+ghost use Rattle.std.specs.FinMap.{len};
 ghost use Rattle.std.specs.Io.KnownBytes.{Appends, IsAtEnd};
 ghost use Rattle.seg_common.specs.Causes.{Rose};
 ghost use Rattle.seg_common.specs.Idle.{OnlyLastIsIdle};
 ghost use Rattle.seg_common.specs.Streams.{AppendsPart, TakesAtMost};
-ghost use Rattle.seg_tool.specs.Run.{is_build, max_script, first_of, HasMergedIndex, HasOutputIndex, HasWorkIndex, IsAdmitted, IsJson, IsNoScript, IsTextOf, IsValidScript, IsWhyRefused, IsWhyRefusedUntold, Gains, GainsPart};
-ghost use Rattle.seg_tool.specs.Runs.{Runs, sink_state, source_state, world};
-ghost use Rattle.seg_tool.specs.Statuses.{IfRefused, IfWritten, RefusedFor, status_line};
+ghost use Rattle.seg_directory.specs.State.{DirectoryState};
 ghost use Rattle.seg_merge.specs.Turns.{both};
+ghost use Rattle.seg_open.specs.Answers.{seen_as};
 ghost use Rattle.seg_script.specs.Script.{json_of, script};
-ghost use Rattle.seg_tool.specs.DirectoryCalls.{BuildDoes, IsReady};
-ghost use Rattle.std.specs.FinMap.{len};
+ghost use Rattle.seg_segment.specs.Built.{is_built_schema};
+ghost use Rattle.seg_tool.specs.DirectoryCalls.{BuildDoes, IsReady, JobDoes};
+ghost use Rattle.seg_tool.specs.Indexes.{HasWholeIndex, IsMergedText, IsShownText};
+ghost use Rattle.seg_tool.specs.Jobs.{BuildsScript, MergesText, ShowsText, WithStatus};
+ghost use Rattle.seg_tool.specs.Run.{max_script, first_of, HasMergedIndex, HasOutputIndex, HasWorkIndex, IsAdmitted, IsJson, IsNoScript, IsTextOf, IsValidScript, IsWhyRefused, IsWhyRefusedUntold, Gains, GainsPart};
+ghost use Rattle.seg_tool.specs.Runs.{EndsJob, Runs, RunsBuild, SourceState, WritesText, sink_state, source_state, world};
+ghost use Rattle.seg_tool.specs.Statuses.{IfRefused, IfWritten, RefusedFor, status_line};
+ghost use Rattle.seg_tool.specs.Words.{IfBuild, IfMerge, IfShow, UnlessBuild, command_of};
 
-use crate::building::build;
+use crate::building::{build, status_of};
+use crate::merging::merge_and_print;
+use crate::reading_back::print_index;
 use crate::reporting::report;
 use crate::status::Status;
+use crate::words::{Command, Detail, command_of};
 use seg_common::{FileName, ReadError, Sink, SinkFailed, Source, read_to_end, write_whole};
 use seg_directory::Directory;
 use seg_model::valid_inputs_are_not_refused;
-use seg_values::TantivyError;
+use seg_segment::files_hold_one_contents;
+use seg_values::{TResult, TantivyError};
 use seg_words::Analyzers;
 use std::alloc::Global;
 
@@ -27,11 +37,16 @@ const MAX_SCRIPT: usize = 67_108_864;
 
 /// Does what the words say, and answers how it went.
 ///
-/// `build` reads the source to its end as a script and writes an index of its documents into the directory `work`, a segment
-/// a batch. It reads the segments of that index back, each of their files once, merges what was read into the one segment of
-/// an index in the directory `output`, and writes the text of all these segments, of what was read, to the sink. On any
-/// status but `Done` one line is written to `faults`; a failing write there changes nothing. What is written to a directory
-/// before it fails stays there.
+/// - `build` reads the source to its end as a script and writes an index of its documents into the directory `work`, a
+///   segment a batch. It reads the segments of that index back, and merges what was read into the one segment of an index in
+///   the directory `output`. Then it prints both, of what the directories answer; with `--full` each segment's length ids too.
+/// - `merge` merges the segments of the index in `work` that have a live document into an index of one segment, of the id of
+///   32 digits f, in `output`, and prints it.
+/// - `show` prints the index in `work` in full.
+///
+/// An index is printed out of its directory: its meta is read, and then each segment that it lists is opened and printed
+/// before the next. The text goes to the sink once it is whole. On any status but `Done` one line is written to `faults`; a
+/// failing write there changes nothing. What is written to a directory before it fails stays there.
 pub fn run<S: Source, K: Sink, F: Sink, Z: Analyzers, W: Directory, O: Directory>(
     alloc: Global,
     words: &[String],
@@ -42,68 +57,94 @@ pub fn run<S: Source, K: Sink, F: Sink, Z: Analyzers, W: Directory, O: Directory
     work: &mut W,
     output: &mut O,
 ) -> Status
-    ensures words { result ≡ Status.Words ↔ (is_build words.now ≡ false) }
+    ensures words { result ≡ Status.Words ↔ (command_of words.now ≡ None) }
 
     // What each status says of the bytes that the source had left.
     ensures script { result ≡ Status.Script → IfSome (S.left source.old) IsNoScript }
-    ensures refused { IsTrue (W.state work.old).tells
-        → IfRefused result (λ e. IfSome (S.left source.old)
-        (λ bytes. IsWhyRefused (Z.knows analyzers.now) (Z.tokens_of analyzers.now) bytes e)) }
-    ensures refused_untold { IfRefused result (λ e. IfSome (S.left source.old)
-        (λ bytes. IsWhyRefusedUntold (Z.knows analyzers.now) (Z.tokens_of analyzers.now) bytes e)) }
-    ensures json { IfRefused result (λ _. IfSome (S.left source.old) IsJson) }
-    ensures first { (bytes : List ℕ) → is_build words.now ≡ true → S.left source.old ≡ Some bytes
+    ensures refused { IsTrue (W.state work.old).tells → IsTrue (O.state output.old).tells
+        → IfBuild (command_of words.now) (λ _. IfRefused result (λ e. IfSome (S.left source.old)
+        (λ bytes. IsWhyRefused (Z.knows analyzers.now) (Z.tokens_of analyzers.now) bytes e))) }
+    ensures refused_untold { IfBuild (command_of words.now) (λ _. IfRefused result (λ e. IfSome (S.left source.old)
+        (λ bytes. IsWhyRefusedUntold (Z.knows analyzers.now) (Z.tokens_of analyzers.now) bytes e))) }
+    ensures json { IfBuild (command_of words.now) (λ _. IfRefused result (λ _. IfSome (S.left source.old) IsJson)) }
+    ensures first { IfBuild (command_of words.now) (λ _. (bytes : List ℕ) → S.left source.old ≡ Some bytes
         → length bytes ≤ max_script → IsSome (json_of bytes)
         → IfSome (first_of (Z.knows analyzers.now) (Z.tokens_of analyzers.now) (script bytes))
-        (λ e. RefusedFor e result × (W.state work.new ≡ W.state work.old) × (O.state output.new ≡ O.state output.old)) }
+        (λ e. RefusedFor e result × (W.state work.new ≡ W.state work.old) × (O.state output.new ≡ O.state output.old))) }
 
-    ensures written { IfWritten result (λ _. IfSome (S.left source.old)
-        (IsAdmitted (Z.knows analyzers.now) (Z.tokens_of analyzers.now))) }
-    ensures valid { result ≡ Status.Done
+    ensures written { IfBuild (command_of words.now) (λ _. IfWritten result (λ _. IfSome (S.left source.old)
+        (IsAdmitted (Z.knows analyzers.now) (Z.tokens_of analyzers.now)))) }
+    ensures valid { IfBuild (command_of words.now) (λ _. result ≡ Status.Done
         → IfSome (S.left source.old)
-        (IsValidScript (IsTrue (W.state work.old).tells) (Z.knows analyzers.now) (Z.tokens_of analyzers.now)) }
+        (IsValidScript (IsTrue (W.state work.old).tells) (Z.knows analyzers.now) (Z.tokens_of analyzers.now))) }
 
-    // What goes to the sink: the text of the segments that were read back, and of what they were merged into.
-    ensures done { result ≡ Status.Done → IfSome (S.left source.old)
+    // What goes to the sink: the text of the segments that are opened once all is written.
+    ensures done { IfBuild (command_of words.now) (λ detail. result ≡ Status.Done → IfSome (S.left source.old)
         (λ bytes. (length bytes ≤ max_script)
-        × Gains (IsTextOf (Z.knows analyzers.now) (Z.tokens_of analyzers.now) bytes
+        × Gains (IsTextOf (Z.knows analyzers.now) (Z.tokens_of analyzers.now) detail bytes
+        (both (W.state work.old) (O.state output.old)) (both (W.state work.new) (O.state output.new)))
+        (K.written sink.old) (K.written sink.new))) }
+    ensures merged { IfMerge (command_of words.now) (result ≡ Status.Done → Gains (IsMergedText
+        (both (W.state work.old) (O.state output.old)) (both (W.state work.new) (O.state output.new)))
+        (K.written sink.old) (K.written sink.new)) }
+    ensures shown { IfShow (command_of words.now) (result ≡ Status.Done → Gains (IsShownText
         (both (W.state work.old) (O.state output.old)) (both (W.state work.new) (O.state output.new)))
         (K.written sink.old) (K.written sink.new)) }
     ensures untouched { result ≢ Status.Done → result ≢ Status.Stream → sink.new ≡ sink.old }
-    ensures stream { result ≡ Status.Stream →
+    ensures stream { IfBuild (command_of words.now) (λ detail. result ≡ Status.Stream →
         (Rose (S.faults source.old) (S.faults source.new) × (sink.new ≡ sink.old))
         ⊎ (Rose (K.faults sink.old) (K.faults sink.new) × IfSome (S.left source.old)
-        (λ bytes. GainsPart (IsTextOf (Z.knows analyzers.now) (Z.tokens_of analyzers.now) bytes
+        (λ bytes. GainsPart (IsTextOf (Z.knows analyzers.now) (Z.tokens_of analyzers.now) detail bytes
         (both (W.state work.old) (O.state output.old)) (both (W.state work.new) (O.state output.new)))
-        (K.written sink.old) (K.written sink.new))) }
+        (K.written sink.old) (K.written sink.new)))) }
+    ensures stream_merged { IfMerge (command_of words.now) (result ≡ Status.Stream →
+        Rose (K.faults sink.old) (K.faults sink.new) × GainsPart (IsMergedText
+        (both (W.state work.old) (O.state output.old)) (both (W.state work.new) (O.state output.new)))
+        (K.written sink.old) (K.written sink.new)) }
+    ensures stream_shown { IfShow (command_of words.now) (result ≡ Status.Stream →
+        Rose (K.faults sink.old) (K.faults sink.new) × GainsPart (IsShownText
+        (both (W.state work.old) (O.state output.old)) (both (W.state work.new) (O.state output.new)))
+        (K.written sink.old) (K.written sink.new)) }
 
     // What becomes of the directories.
-    ensures work_index { result ≡ Status.Done → IsTrue (W.state work.old).tells → IfSome (S.left source.old)
-        (λ bytes. HasWorkIndex (Z.tokens_of analyzers.now) bytes (W.state work.new).files) }
-    ensures work_was_empty { result ≡ Status.Done → IsTrue (W.state work.old).tells → len (W.state work.old).files ≡ 0 }
-    ensures output_index { result ≡ Status.Done → IsTrue (W.state work.old).tells → IsTrue (O.state output.old).tells → IfSome (S.left source.old)
-        (λ bytes. HasOutputIndex (Z.tokens_of analyzers.now) bytes (O.state output.new).files) }
-    ensures output_meta { result ≡ Status.Done → IsTrue (O.state output.old).tells → IfSome (S.left source.old)
-        (λ bytes. HasMergedIndex bytes (O.state output.new).files) }
-    ensures output_was_empty { result ≡ Status.Done → IsTrue (O.state output.old).tells → len (O.state output.old).files ≡ 0 }
-    ensures fresh { IsTrue (W.state work.old).tells → len (W.state work.old).files ≡ 0
+    ensures work_index { IfBuild (command_of words.now) (λ _. result ≡ Status.Done → IsTrue (W.state work.old).tells
+        → IfSome (S.left source.old)
+        (λ bytes. HasWorkIndex (Z.tokens_of analyzers.now) bytes (W.state work.new).files)) }
+    ensures work_was_empty { IfBuild (command_of words.now) (λ _. result ≡ Status.Done → IsTrue (W.state work.old).tells
+        → len (W.state work.old).files ≡ 0) }
+    ensures output_index { IfBuild (command_of words.now) (λ _. result ≡ Status.Done → IsTrue (W.state work.old).tells
+        → IsTrue (O.state output.old).tells → IfSome (S.left source.old)
+        (λ bytes. HasOutputIndex (Z.tokens_of analyzers.now) bytes (O.state output.new).files)) }
+    ensures output_meta { IfBuild (command_of words.now) (λ _. result ≡ Status.Done → IsTrue (O.state output.old).tells
+        → IfSome (S.left source.old) (λ bytes. HasMergedIndex bytes (O.state output.new).files)) }
+    ensures output_was_empty { IfBuild (command_of words.now) (λ _. result ≡ Status.Done
+        → IsTrue (O.state output.old).tells → len (O.state output.old).files ≡ 0) }
+    ensures fresh { IfBuild (command_of words.now) (λ _. IsTrue (W.state work.old).tells → len (W.state work.old).files ≡ 0
         → IsTrue (O.state output.old).tells → len (O.state output.old).files ≡ 0
-        → (e : TantivyError) → result ≢ Status.Exists e }
-    ensures whole { IsTrue (W.state work.old).tells → (name : FileName) → result ≢ Status.Damaged name }
-    ensures calls { BuildDoes (Z.knows analyzers.now) (Z.tokens_of analyzers.now) result
-        (both (W.state work.old) (O.state output.old)) (both (W.state work.new) (O.state output.new)) }
+        → (e : TantivyError) → result ≢ Status.Exists e) }
+    ensures whole { IfBuild (command_of words.now) (λ _. IsTrue (W.state work.old).tells → IsTrue (O.state output.old).tells
+        → (e : TantivyError) → result ≢ Status.Damaged e) }
+    ensures calls { IfBuild (command_of words.now) (λ detail. BuildDoes (Z.knows analyzers.now) (Z.tokens_of analyzers.now) detail result
+        (both (W.state work.old) (O.state output.old)) (both (W.state work.new) (O.state output.new))) }
+    ensures merge_calls { IfMerge (command_of words.now) (JobDoes MergesText result
+        (both (W.state work.old) (O.state output.old)) (both (W.state work.new) (O.state output.new))) }
+    ensures show_calls { IfShow (command_of words.now) (JobDoes ShowsText result
+        (both (W.state work.old) (O.state output.old)) (both (W.state work.new) (O.state output.new))) }
+    ensures merge_stays { IfMerge (command_of words.now) ((W.state work.new).files ≡ (W.state work.old).files) }
+    ensures show_stays { IfShow (command_of words.now) (((W.state work.new).files ≡ (W.state work.old).files)
+        × (O.state output.new ≡ O.state output.old)) }
     ensures unwritten_script { result ≡ Status.Script → W.state work.new ≡ W.state work.old }
     ensures unwritten_words { result ≡ Status.Words → W.state work.new ≡ W.state work.old }
     ensures output_unwritten_script { result ≡ Status.Script → O.state output.new ≡ O.state output.old }
     ensures output_unwritten_words { result ≡ Status.Words → O.state output.new ≡ O.state output.old }
 
     // What is taken of the source.
-    ensures end { result ≡ Status.Done → IsAtEnd (S.left source.new) }
-    ensures end_refused { IfRefused result (λ _. IsAtEnd (S.left source.new)) }
-    ensures end_written { IfWritten result (λ _. IsAtEnd (S.left source.new)) }
+    ensures end { IfBuild (command_of words.now) (λ _. result ≡ Status.Done → IsAtEnd (S.left source.new)) }
+    ensures end_refused { IfBuild (command_of words.now) (λ _. IfRefused result (λ _. IsAtEnd (S.left source.new))) }
+    ensures end_written { IfBuild (command_of words.now) (λ _. IfWritten result (λ _. IsAtEnd (S.left source.new))) }
     ensures taken { TakesAtMost (max_script + 1) (S.left source.old) (S.left source.new) }
     ensures turns { OnlyLastIsIdle (S.idle source.old) (S.idle source.new) }
-    ensures unread { result ≡ Status.Words → source.new ≡ source.old }
+    ensures unread { UnlessBuild (command_of words.now) (source.new ≡ source.old) }
 
     // What is said of the status.
     ensures quiet { result ≡ Status.Done → faults.new ≡ faults.old }
@@ -113,22 +154,25 @@ pub fn run<S: Source, K: Sink, F: Sink, Z: Analyzers, W: Directory, O: Directory
         × AppendsPart (F.written faults.old) (F.written faults.new) (status_line result)) }
 
     // What ends well: a valid script, over empty directories that tell, where nothing fails.
-    ensures complete { (bytes : List ℕ) → is_build words.now ≡ true → S.left source.old ≡ Some bytes
+    ensures complete { IfBuild (command_of words.now) (λ _. (bytes : List ℕ) → S.left source.old ≡ Some bytes
         → length bytes ≤ max_script
         → IsValidScript (Unit {0}) (Z.knows analyzers.now) (Z.tokens_of analyzers.now) bytes
-        → IsReady (W.state work.old)
-        (W.state work.new)
-        → IsReady (O.state output.old)
-        (O.state output.new)
+        → IsReady (W.state work.old) (W.state work.new)
+        → IsReady (O.state output.old) (O.state output.new)
         → ¬ (Rose (S.faults source.old) (S.faults source.new))
         → ¬ (Rose (K.faults sink.old) (K.faults sink.new))
-        → (result ≡ Status.Done) ⊎ (result ≡ Status.Memory) }
+        → (result ≡ Status.Done) ⊎ (result ≡ Status.Memory)) }
+    // An index of whole segments, of a schema that is built, where nothing fails, is shown.
+    ensures complete_show { IfShow (command_of words.now) (HasWholeIndex (W.state work.old) (W.state work.new)
+        → ¬ (Rose (K.faults sink.old) (K.faults sink.new))
+        → (result ≡ Status.Done) ⊎ (result ≡ Status.Memory)) }
 
     ensures count { S.faults source.old ≤ S.faults source.new }
     ensures count_sink { K.faults sink.old ≤ K.faults sink.new }
     ensures count_faults { F.faults faults.old ≤ F.faults faults.new }
 {
     valid_inputs_are_not_refused();
+    files_hold_one_contents();
     let status = execute(alloc, words, source, sink, analyzers, work, output);
     report_unless_done(faults, &status);
     status
@@ -164,30 +208,80 @@ fn execute<S: Source, K: Sink, Z: Analyzers, W: Directory, O: Directory>(
         (world (source_state (S.left source.new) (S.idle source.new) (S.faults source.new))
         (sink_state (K.written sink.new) (K.faults sink.new)) (both (W.state work.new) (O.state output.new))) }
 {
-    if !is_build(words) {
-        return Status::Words;
+    match command_of(words) {
+        Some(Command::Build(detail)) => {
+            run_build(alloc, detail, source, sink, analyzers, work, output)
+        }
+        Some(Command::Merge) => run_merge(alloc, sink, work, output),
+        Some(Command::Show) => run_show(alloc, sink, work),
+        None => Status::Words,
     }
+}
+
+/// Reads the source, writes the indexes of its script, and prints them.
+fn run_build<S: Source, K: Sink, Z: Analyzers, W: Directory, O: Directory>(
+    alloc: Global,
+    detail: Detail,
+    source: &mut S,
+    sink: &mut K,
+    analyzers: &Z,
+    work: &mut W,
+    output: &mut O,
+) -> Status
+    ensures { RunsBuild (Z.knows analyzers.now) (Z.tokens_of analyzers.now) detail result sink.old sink.new
+        (world (source_state (S.left source.old) (S.idle source.old) (S.faults source.old))
+        (sink_state (K.written sink.old) (K.faults sink.old)) (both (W.state work.old) (O.state output.old)))
+        (world (source_state (S.left source.new) (S.idle source.new) (S.faults source.new))
+        (sink_state (K.written sink.new) (K.faults sink.new)) (both (W.state work.new) (O.state output.new))) }
+{
     let bytes = match read_to_end(alloc, source, MAX_SCRIPT) {
         Ok(bytes) => bytes,
         Err(ReadError::Fault) => return Status::Stream,
         Err(ReadError::TooLong) => return Status::Script,
         Err(ReadError::OutOfMemory) => return Status::Memory,
     };
-    let text = match build(alloc, analyzers, bytes, work, output) {
-        Ok(text) => text,
-        Err(status) => return status,
-    };
-    match write_whole(sink, &text) {
-        Ok(()) => Status::Done,
-        Err(SinkFailed) => Status::Stream,
+    match build(alloc, analyzers, bytes, detail, work, output) {
+        Ok(text) => write_text(sink, &text),
+        Err(status) => status,
     }
 }
 
-fn is_build(words: &[String]) -> bool
-    ensures { result ≡ is_build words.now }
+/// Merges the segments of the work index, and prints the output index.
+fn run_merge<K: Sink, W: Directory, O: Directory>(
+    alloc: Global,
+    sink: &mut K,
+    work: &mut W,
+    output: &mut O,
+) -> Status
+    ensures { (source : SourceState) → EndsJob (WithStatus MergesText) result sink.old sink.new
+        (world source (sink_state (K.written sink.old) (K.faults sink.old)) (both (W.state work.old) (O.state output.old)))
+        (world source (sink_state (K.written sink.new) (K.faults sink.new)) (both (W.state work.new) (O.state output.new))) }
 {
-    match words {
-        [word] => word.as_str() == "build",
-        _ => false,
+    match merge_and_print(alloc, work, output) {
+        Ok(text) => write_text(sink, &text),
+        Err(e) => status_of(e),
+    }
+}
+
+/// Prints the work index in full.
+fn run_show<K: Sink, W: Directory>(alloc: Global, sink: &mut K, work: &mut W) -> Status
+    ensures { (source : SourceState) → (output : DirectoryState) → EndsJob (WithStatus ShowsText) result sink.old sink.new
+        (world source (sink_state (K.written sink.old) (K.faults sink.old)) (both (W.state work.old) output))
+        (world source (sink_state (K.written sink.new) (K.faults sink.new)) (both (W.state work.new) output)) }
+{
+    match print_index(alloc, Vec::new(alloc), "segment", Detail::Full, work) {
+        Ok(text) => write_text(sink, &text),
+        Err(e) => status_of(e),
+    }
+}
+
+/// Writes a whole text.
+fn write_text<K: Sink>(sink: &mut K, text: &[u8]) -> Status
+    ensures { WritesText text.now result
+        (sink_state (K.written sink.old) (K.faults sink.old)) (sink_state (K.written sink.new) (K.faults sink.new)) }
+{
+    match write_whole(sink, text) {
+        Ok(()) => Status::Done,
+        Err(SinkFailed) => Status::Stream,
     }
 }

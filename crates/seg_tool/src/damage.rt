@@ -5,11 +5,26 @@ ghost use Rattle.seg_common.specs.Causes.{HasCause};
 ghost use Rattle.seg_common.specs.FileNames.{name_text};
 ghost use Rattle.seg_common.specs.SegmentIds.{id_text};
 ghost use Rattle.seg_common.specs.Streams.{StaysTold, AppendsPart};
+ghost use Rattle.seg_tool.specs.Statuses.{damage_text};
 
 use seg_common::{FileName, SegmentComponent, SegmentId, Sink, SinkFailed, write_whole};
+use seg_values::TantivyError;
 
 /// Which file is damaged. It takes no memory.
-pub(crate) fn write_damage<F: Sink>(faults: &mut F, name: &FileName) -> Result<(), SinkFailed>
+pub(crate) fn write_damage<F: Sink>(faults: &mut F, error: &TantivyError) -> Result<(), SinkFailed>
+    ensures ok { OnOk result (Appends (F.written faults.old) (F.written faults.new) (damage_text error.now)) }
+    ensures err { OnErr result (AppendsPart (F.written faults.old) (F.written faults.new) (damage_text error.now)) }
+    ensures told { StaysTold (F.written faults.old) (F.written faults.new) }
+    ensures cause { HasCause (F.faults faults.old) (F.faults faults.new) result }
+{
+    match error {
+        TantivyError::DataCorruption { name } => write_damaged(faults, name),
+        _ => write_whole(faults, b"damaged: a file\n"),
+    }
+}
+
+/// That the file of a name is damaged.
+fn write_damaged<F: Sink>(faults: &mut F, name: &FileName) -> Result<(), SinkFailed>
     ensures ok { OnOk result (Appends (F.written faults.old) (F.written faults.new)
         (codes "damaged: " ++ (name_text name.now ++ 10 ∷ []))) }
     ensures err { OnErr result (AppendsPart (F.written faults.old) (F.written faults.new)

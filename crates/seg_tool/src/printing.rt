@@ -1,7 +1,8 @@
-//! The text of a segment, out of the bytes of its files.
-ghost use Rattle.std.specs.Prelude.{◌≡◌, ◌<◌, ◌-◌, ◌^◌, ◌++◌, map, length, take, count_by, is_some, slice_get, Some, OnOk};
+//! The text of a segment that is open.
+ghost use Rattle.std.specs.Prelude.{◌≡◌, ◌<◌, ◌-◌, ◌^◌, ◌++◌, map, length, take, is_some, slice_get, Some, OnOk};
 ghost use Rattle.std.specs.FinMap.{entries};
 ghost use Rattle.std.specs.List.{flat_map};
+ghost use Rattle.seg_bits.specs.BitSets.{member_count};
 ghost use Rattle.seg_model.specs.Fields.{is_indexed};
 ghost use Rattle.seg_store.specs.Store.{documents_of};
 ghost use Rattle.seg_postings.specs.FieldReading.{written_terms};
@@ -12,11 +13,11 @@ ghost use Rattle.seg_text.specs.DocumentText.{documents_text};
 ghost use Rattle.seg_text.specs.FieldText.{field_text, fields_text, term_line};
 ghost use Rattle.seg_text.specs.PostingText.{posting_text};
 ghost use Rattle.seg_text.specs.HeaderText.{dead_text, header_text};
-ghost use Rattle.seg_open.specs.KeptSegment.{KeptSegment, marks_of};
-ghost use Rattle.seg_tool.specs.Printing.{opened_text, read_segment_text};
+ghost use Rattle.seg_text.specs.SegmentText.{segment_text};
+ghost use Rattle.seg_tool.specs.Printing.{opened_text, read_segment, read_segment_text};
 
-use seg_bits::AliveBitSet;
-use seg_common::SegmentId;
+use crate::norm_lines::push_all_norms;
+use crate::words::Detail;
 use seg_open::SegmentReader;
 use seg_postings::{InvertedIndexReader, RecordKind, SegmentPostings};
 use seg_store::StoreReader;
@@ -26,42 +27,59 @@ use seg_text::{
 use seg_values::{Field, FieldEntry, Schema};
 use std::alloc::{AllocError, Global};
 
-/// Appends the text of a segment that is open, of whose documents those in the set are alive, and without a set all.
-/// After an error it is open what `out` holds.
+/// Appends the text of a segment that is open, in full with its length ids. After an error it is open what `out` holds.
 pub(crate) fn push_segment(
     out: &mut Vec<u8>,
     alloc: Global,
     label: &str,
-    id: SegmentId,
+    detail: Detail,
     reader: &SegmentReader,
-    alive: Option<&AliveBitSet>,
 ) -> Result<(), AllocError>
-    requires size { length (marks_of reader.now.documents alive) ≡ reader.now.documents }
-    ensures { OnOk result (out.new.items ≡ out.old.items
-        ++ read_segment_text label.now id (record { segment = reader.now; alive = marks_of reader.now.documents alive.entry })) }
+    ensures { OnOk result (out.new.items ≡ out.old.items ++ read_segment_text label.now detail reader.now) }
 {
-    push_head(out, label, id, reader.max_doc(), alive)?;
+    match detail {
+        Detail::Brief => push_contents(out, alloc, label, reader),
+        Detail::Full => {
+            push_contents(out, alloc, label, reader)?;
+            push_all_norms(out, alloc, reader)
+        }
+    }
+}
+
+/// Appends the text of a segment without its length ids.
+fn push_contents(
+    out: &mut Vec<u8>,
+    alloc: Global,
+    label: &str,
+    reader: &SegmentReader,
+) -> Result<(), AllocError>
+    ensures { OnOk result (out.new.items ≡ out.old.items ++ segment_text reader.now.schema (read_segment label.now reader.now)) }
+{
+    push_head(out, label, reader)?;
     push_fields(out, alloc, reader)?;
     push_documents(out, alloc, reader.schema(), reader.store_reader())
 }
 
 /// Appends the first line, and the line of the deleted documents.
-fn push_head(
-    out: &mut Vec<u8>,
-    label: &str,
-    id: SegmentId,
-    max_doc: u32,
-    alive: Option<&AliveBitSet>,
-) -> Result<(), AllocError>
+fn push_head(out: &mut Vec<u8>, label: &str, reader: &SegmentReader) -> Result<(), AllocError>
     ensures { OnOk result (out.new.items ≡ out.old.items
-        ++ (header_text label.now id max_doc (count_by (λ b. b) (marks_of max_doc alive.entry))
-        ++ dead_text (marks_of max_doc alive.entry))) }
+        ++ (header_text label.now reader.now.id reader.now.documents (member_count reader.now.alive)
+        ++ dead_text reader.now.alive)) }
 {
-    let Some(alive) = alive else {
-        return push_header(out, label, id, max_doc as usize, max_doc as usize);
-    };
-    push_header(out, label, id, max_doc as usize, alive.num_alive_docs())?;
-    push_dead(out, alive)
+    let documents = reader.max_doc() as usize;
+    let alive = reader.num_docs() as usize;
+    push_header(out, label, reader.segment_id(), documents, alive)?;
+    push_deleted(out, reader)
+}
+
+/// Appends the line of the deleted documents; none where all are alive.
+fn push_deleted(out: &mut Vec<u8>, reader: &SegmentReader) -> Result<(), AllocError>
+    ensures { OnOk result (out.new.items ≡ out.old.items ++ dead_text reader.now.alive) }
+{
+    match reader.alive_bitset() {
+        Some(alive) => push_dead(out, alive),
+        None => Ok(()),
+    }
 }
 
 /// Appends a line for each document of the store.
@@ -119,7 +137,7 @@ fn push_place(
     requires { place < 2 ^ 32 - 1 }
     ensures { OnOk result (out.new.items ≡ out.old.items ++ opened_text name.now (slice_get reader.now.fields place)) }
 {
-    match reader.inverted_index(Field::from_field_id(place as u32)) {
+    match reader.opened_field(Field::from_field_id(place as u32)) {
         Some(field) => push_terms(out, alloc, name, field),
         None => Ok(()),
     }

@@ -27,7 +27,7 @@ pub fn report<F: Sink>(faults: &mut F, status: &Status) -> Result<(), SinkFailed
         Status::Refused(error) => write_refusal(faults, error),
         Status::Exists(_) => write_whole(faults, b"exists: a directory is not empty\n"),
         Status::Directory(error) => write_fault(faults, error),
-        Status::Damaged(name) => write_damage(faults, name),
+        Status::Damaged(error) => write_damage(faults, error),
         Status::Stream => write_whole(faults, b"stream: read or write failed\n"),
         Status::Memory => write_whole(faults, b"memory: not enough\n"),
     }

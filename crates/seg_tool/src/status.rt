@@ -2,7 +2,6 @@
 ghost use Rattle.std.specs.Prelude.{◌≡◌};
 ghost use Rattle.seg_tool.specs.Statuses.{number_of};
 
-use seg_common::FileName;
 use seg_values::TantivyError;
 
 /// How a run went.
@@ -14,14 +13,14 @@ pub enum Status {
     Words,
     /// The bytes of the source are no script.
     Script,
-    /// The script is refused.
+    /// The script is refused, or the segments that were to be merged or printed.
     Refused(TantivyError),
     /// A directory has files already.
     Exists(TantivyError),
     /// A directory failed.
     Directory(TantivyError),
-    /// A file of a work segment was missing when it was read back, or didn't agree with those read before it.
-    Damaged(FileName),
+    /// A file of an index was missing when it was read, or didn't agree with those read before it.
+    Damaged(TantivyError),
     /// The source or the sink failed.
     Stream,
     /// There was not enough memory.

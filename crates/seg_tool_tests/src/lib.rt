@@ -7,3 +7,5 @@ mod failures;
 mod reporting;
 #[cfg(test)]
 mod streams;
+#[cfg(test)]
+mod words;

@@ -17,10 +17,14 @@ fn is_told(alloc: Global, status: &Status, number: u8, line: &str) -> Result<boo
 fn memory_and_damaged_files(rt: HostRuntime) -> Result<(), Fail> {
     let alive = FileName::Alive(SegmentId::from_u128(255), 17);
     let alive_line = "damaged: 000000000000000000000000000000ff.17.del\n";
+    let damaged = TantivyError::DataCorruption { name: alive };
+    let no_meta = TantivyError::DataCorruption {
+        name: FileName::Meta,
+    };
     for (status, number, line) in [
         (Status::Memory, 9, "memory: not enough\n"),
-        (Status::Damaged(alive), 7, alive_line),
-        (Status::Damaged(FileName::Meta), 7, "damaged: meta.json\n"),
+        (Status::Damaged(damaged), 7, alive_line),
+        (Status::Damaged(no_meta), 7, "damaged: meta.json\n"),
     ] {
         assert!(rt; is_told(rt.alloc(), &status, number, line)?, "{line}");
     }

@@ -80,12 +80,21 @@ pub(crate) fn directory_with(
 
 /// The number of a run of `build` over the streams.
 pub(crate) fn run_over(alloc: Global, streams: &mut Streams) -> Result<u8, AllocError> {
+    let words = vec![in alloc; String::from_str(alloc, "build")?]?;
+    run_words(alloc, streams, &words)
+}
+
+/// The number of a run of words over the streams.
+pub(crate) fn run_words(
+    alloc: Global,
+    streams: &mut Streams,
+    words: &[String],
+) -> Result<u8, AllocError> {
     let mut analyzers = TokenizerManager::new(alloc);
     analyzers.register("default", Box::new(alloc, DefaultTokenizer)?)?;
-    let words = vec![in alloc; String::from_str(alloc, "build")?]?;
     let status = run(
         alloc,
-        &words,
+        words,
         &mut streams.source,
         &mut streams.sink,
         &mut streams.faults,

@@ -1,12 +1,13 @@
--- A code of trees, by which a proof tells them apart.
+-- Codes of trees and of terms, by which a proof tells them apart.
 use Rattle.std.specs.Prelude.{◌≡◌, ℕ, ℤ, Bool, List, refl, ◌⊎◌}
 use Rattle.std.proofs.Common.{sym, ap, subst, inl, inr}
 use Rattle.std.specs.Prelude.{not, nat_eq, T}
 use Rattle.std.proofs.lemmas.Bool.Decides.{nat_tests}
 use Rattle.std.proofs.Common.{arith}
-use base.Stored.{Gv, gnil, gnum, gcons, Coded, coded_unit, coded_ℕ, coded_ℤ, coded_bool, coded_list, coded⊎, num}
+use base.Stored.{Gv, gnil, gnum, gcons, Coded, coded_unit, coded_ℕ, coded_ℤ, coded_bool, coded_list, coded⊎, coded×, num}
 use Rattle.std.specs.Coded.{code_by}
 use Rattle.seg_values.specs.Tree.{Leaf, null, text, pre_tokenized, unsigned, signed, boolean, date, facet, byte_string, ip, Tree, leaf, array, object, Trees, no_trees, tree, Members, no_members, member}
+use Rattle.seg_values.specs.ValueBytes.{TermKey}
 use Rattle.seg_words.specs.declared.token.PreTokenizedString.{PreTokenizedString}
 use Rattle.seg_words.specs.Code.{pre_tokenized_code, key_code}
 
@@ -114,3 +115,7 @@ mutual
 
 abbrev pub tree_code : Coded Tree
 tree_code = record { code = code_tree; inj = tree_inj }
+
+-- a term is stored as its field and its bytes
+abbrev pub term_code : Coded TermKey
+term_code = code_by (ℕ × List ℕ) (coded× coded_ℕ key_code) (λ t. (t.field, t.bytes)) (λ p. record { field = p.0; bytes = p.1 }) (λ _. refl)

@@ -1,10 +1,11 @@
 //! A document: fields with values, in order.
-ghost use Rattle.std.specs.Prelude.{◌≡◌, ℕ, ◌<◌, [], ◌∷◌, ◌++◌, length, slice_get, Some, OnOk, OnErr};
+ghost use Rattle.std.specs.Prelude.{◌≡◌, ℕ, ◌<◌, [], ◌∷◌, ◌++◌, length, slice_get, Some, OnOk, OnErr, IsOkUnless};
 ghost use Rattle.seg_values.specs.Tree as trees;
 ghost use Rattle.seg_values.specs.View.{tree_of};
 
 use crate::schema::Field;
 use crate::value::OwnedValue;
+use crate::value_error::ValueError;
 use seg_words::Text;
 use std::alloc::{AllocError, Global};
 use std::marker::Model;
@@ -52,21 +53,31 @@ impl TantivyDocument {
         self.pairs.len()
     }
 
-    pub fn add_field_value(&mut self, field: Field, value: OwnedValue) -> Result<(), AllocError>
+    pub fn add_field_value(&mut self, field: Field, value: OwnedValue) -> Result<(), ValueError>
+        ensures ok { OnOk result (self.new ≡ self.old ++ (field, tree_of value) ∷ []) }
+        ensures err { OnErr result (self.new ≡ self.old) }
+        ensures memory { IsOkUnless result ValueError.OutOfMemory }
+    {
+        self.push(field, value)?;
+        Ok(())
+    }
+
+    pub fn add_text(&mut self, field: Field, text: &str) -> Result<(), ValueError>
+        ensures ok { OnOk result
+            (self.new ≡ self.old ++ (field, trees.leaf (trees.text text.now)) ∷ []) }
+        ensures err { OnErr result (self.new ≡ self.old) }
+        ensures memory { IsOkUnless result ValueError.OutOfMemory }
+    {
+        let text = Text::copy_of(*self.pairs.allocator(), text)?;
+        self.add_field_value(field, OwnedValue::Str(text))
+    }
+
+    fn push(&mut self, field: Field, value: OwnedValue) -> Result<(), AllocError>
         ensures ok { OnOk result (self.new ≡ self.old ++ (field, tree_of value) ∷ []) }
         ensures err { OnErr result (self.new ≡ self.old) }
     {
         self.pairs.push(FieldValue { field, value })?;
         Ok(())
-    }
-
-    pub fn add_text(&mut self, field: Field, text: &str) -> Result<(), AllocError>
-        ensures ok { OnOk result
-            (self.new ≡ self.old ++ (field, trees.leaf (trees.text text.now)) ∷ []) }
-        ensures err { OnErr result (self.new ≡ self.old) }
-    {
-        let text = Text::copy_of(*self.pairs.allocator(), text)?;
-        self.add_field_value(field, OwnedValue::Str(text))
     }
 
     pub fn pair(&self, at: usize) -> (Field, &OwnedValue)

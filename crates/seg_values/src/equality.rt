@@ -1,13 +1,14 @@
-//! Equality of facets, values and documents: where what contracts see of them is equal.
+//! Equality of facets, terms, values and documents: where what contracts see of them is equal.
 ghost use Rattle.std.specs.Prelude.{◌≡◌, ◌↔◌, IsTrue};
 ghost use Rattle.std.specs.Coded.{coded_list, coded×, coded_ℕ};
 ghost use Rattle.seg_words.specs.Code.{key_code};
-ghost use Rattle.seg_values.specs.Code.{tree_code};
+ghost use Rattle.seg_values.specs.Code.{term_code, tree_code};
 ghost use Rattle.seg_words.specs.Same.{same_by, same_partial_equivalence, same_partial_equivalence_on, same_equivalence, same_equivalence_on};
 ghost use Rattle.seg_values.specs.View.{tree_of, member_of};
 
 use crate::document::TantivyDocument;
 use crate::facet::Facet;
+use crate::term::Term;
 use crate::value::{Member, Members, OwnedValue, Values};
 
 impl PartialEq for Facet {
@@ -25,6 +26,23 @@ impl PartialEq for Facet {
 
 impl Eq for Facet {
     ghost laws = { same_equivalence key_code };
+}
+
+impl PartialEq for Term {
+    ghost eq = { same_by term_code };
+
+    ghost laws = { same_partial_equivalence term_code };
+
+    fn eq(&self, other: &Term) -> bool
+        ensures same { IsTrue result ↔ (self.now ≡ other.now) }
+        ensures value { result ≡ same_by term_code self.now other.now }
+    {
+        is_same_term(self, other)
+    }
+}
+
+impl Eq for Term {
+    ghost laws = { same_equivalence term_code };
 }
 
 impl PartialEq for OwnedValue {
@@ -93,6 +111,12 @@ impl PartialEq for TantivyDocument {
 
 impl Eq for TantivyDocument {
     ghost laws = { same_equivalence (coded_list (coded× coded_ℕ tree_code)) };
+}
+
+fn is_same_term(a: &Term, b: &Term) -> bool
+    ensures { IsTrue result ↔ (a.now ≡ b.now) }
+{
+    a.field() == b.field() && a.serialized_value_bytes() == b.serialized_value_bytes()
 }
 
 fn are_same_pairs(a: &TantivyDocument, b: &TantivyDocument) -> bool

@@ -1,9 +1,10 @@
 //! Terms.
-ghost use Rattle.std.specs.Prelude.{◌≡◌, ℕ, IfOk, IsOkUnless};
+ghost use Rattle.std.specs.Prelude.{◌≡◌, ℕ, IfOk, IfErr, IsOkUnless};
 ghost use Rattle.std.specs.Net.Addr.{ipv6_octets};
 ghost use Rattle.seg_values.specs.Tree.{text, unsigned, signed, boolean, date, facet, byte_string, ip};
 ghost use Rattle.seg_values.specs.ValueBytes.{raised, value_bytes};
 
+use crate::error::{TResult, TantivyError};
 use crate::facet::Facet;
 use crate::schema::Field;
 use crate::value_error::ValueError;
@@ -100,6 +101,20 @@ impl Term {
         ensures memory { IsOkUnless result ValueError.OutOfMemory }
     {
         Self::from_field_bytes(alloc, field, &value.octets())
+    }
+
+    /// A copy of the field and the bytes.
+    pub fn try_clone(&self, alloc: Global) -> TResult<Term>
+        ensures ok { IfOk result (λ copy. copy ≡ self.now) }
+        ensures err { IfErr result (λ e. e ≡ TantivyError.OutOfMemory) }
+    {
+        match Vec::from_slice(alloc, &self.bytes) {
+            Ok(bytes) => Ok(Term {
+                field: self.field,
+                bytes,
+            }),
+            Err(_) => Err(TantivyError::OutOfMemory),
+        }
     }
 
     pub fn field(&self) -> Field

@@ -1,5 +1,5 @@
 use Rattle.std.proofs.Common.{◌≡◌, ◌∙◌, Some, ap, map}
-use Rattle.std.specs.Prelude.{ℕ, List, Vec}
+use Rattle.std.specs.Prelude.{ℕ, Vec}
 use Rattle.std.specs.declared.alloc.Global.{Global}
 use Rattle.std.proofs.lemmas.Result.{IfOk-weaker}
 use Rattle.seg_model.specs.Fields.{fields}
@@ -8,7 +8,7 @@ use Rattle.seg_directory.specs.Composite.{composite}
 use Rattle.seg_norms.specs.FieldNorms.{fields_with_lengths, norms_parts}
 use Rattle.seg_segment.specs.LengthsWritten.{parts_with}
 use Rattle.seg_join.specs.JoinedNorms.{joined_ids}
-use Rattle.seg_open.specs.KeptSegment.{KeptSegment, part_of}
+use Rattle.seg_open.specs.OpenSegment.{part_of}
 use Rattle.seg_join.proofs.NormsJoined.{parts_are}
 use Rattle.seg_join.proofs.norms_joining.join_norms.Goals as goal
 
@@ -17,7 +17,7 @@ returns c =
     let schema = c.args.schema.now in
     let parts = c.args.parts.now in
     IfOk-weaker c.write_lengths.result
-    (λ (file : Vec ℕ Global). composite file.items ≡ Some (parts_with (joined_ids c.in_ok-lengths.lengths) (fields_with_lengths schema)))
+    (λ (file : Vec ℕ Global). composite file.items ≡ Some (parts_with (joined_ids parts) (fields_with_lengths schema)))
     (λ (file : Vec ℕ Global). composite file.items ≡ Some (norms_parts schema (map (joined_norms (map part_of parts)) (fields schema))))
-    (λ file is. is ∙ ap (λ (ps : List KeptSegment). Some (parts_with (joined_ids ps) (fields_with_lengths schema))) c.in_ok-lengths.ensures ∙ ap Some (parts_are schema parts c.requires.schema))
+    (λ file is. is ∙ ap Some (parts_are schema parts c.requires.schema))
     c.write_lengths.ensures

@@ -1,6 +1,6 @@
 use Rattle.std.proofs.Common.{◌+◌, ap, ◌∙◌, ◌++◌, ◌∷◌, []}
 use Rattle.seg_join.specs.JoinedTerms.{FieldsAreOpen}
-use Rattle.seg_open.specs.KeptSegment.{IsMarked}
+use Rattle.seg_open.specs.OpenSegment.{IsMarked}
 use Rattle.seg_join.specs.NewIds.{numbered_from}
 use Rattle.seg_join.proofs.NumberedParts.{parts_fit, part_numbered, all_left}
 use Rattle.seg_join.proofs.numbered_part.number_parts.Goals as goal
@@ -13,8 +13,8 @@ loop-part-preserved c =
     let first = c.loop-part.first in
     let pushed = c.in_ok-push.ensures.items ∙ ap (λ x. c.loop-part.numbered.items ++ x ∷ []) c.in_ok-new.ensures.is in
     record {
-      numbered = part_numbered parts i c.loop-part-test.true p c.part-item.is first _ (numbered_from 0 parts) c.loop-part.numbered.items c.push.new.self.items c.loop-part.invariant.numbered pushed (ap (λ n. first + n) c.num_live.ensures);
-      room = parts_fit parts i c.loop-part-test.true p c.part-item.is first 2147483648 _ c.loop-part.invariant.room (ap (λ n. first + n) c.num_live.ensures);
+      numbered = part_numbered parts i c.loop-part-test.true p c.part-item.is first _ (numbered_from 0 parts) c.loop-part.numbered.items c.push.new.self.items c.loop-part.invariant.numbered pushed (ap (λ n. first + n) c.num_docs.ensures);
+      room = parts_fit parts i c.loop-part-test.true p c.part-item.is first 2147483648 _ c.loop-part.invariant.room (ap (λ n. first + n) c.num_docs.ensures);
       marked = λ h. c.loop-part.invariant.marked (all_left parts i c.loop-part-test.true p c.part-item.is IsMarked c.in_ok-new.ensures.marked h);
       fields = λ h. c.loop-part.invariant.fields (all_left parts i c.loop-part-test.true p c.part-item.is FieldsAreOpen c.in_ok-new.ensures.fields h);
     }

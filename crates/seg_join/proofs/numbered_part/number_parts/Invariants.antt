@@ -1,7 +1,7 @@
 use Rattle.std.proofs.Common.{◌≡◌, ◌+◌, ◌^◌, ◌<◌, ◌++◌, drop}
 use Rattle.std.specs.List.{AllByRecursion}
 use Rattle.seg_join.specs.JoinedTerms.{FieldsAreOpen}
-use Rattle.seg_open.specs.KeptSegment.{IsMarked, kept_count}
+use Rattle.seg_open.specs.OpenSegment.{IsMarked, kept_count}
 use Rattle.seg_join.specs.NewIds.{numbered_from}
 use Rattle.seg_join.proofs.numbered_part.number_parts.Given as goal
 

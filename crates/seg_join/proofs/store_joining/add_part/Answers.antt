@@ -11,14 +11,14 @@ use Rattle.seg_join.proofs.store_joining.add_part.Goals as goal
 pub add_document-requires-clause-limit : goal.add_document-requires-clause-limit
 add_document-requires-clause-limit c alive =
     let part = c.args.part.now in
-    let raw = raw_documents part.segment.blocks in
-    let count : c.stored_count-count.result ≡ length raw = c.stored_count-count.ensures.counted ∙ raw_counted part.segment.blocks in
+    let raw = raw_documents part.blocks in
+    let count : c.stored_count-count.result ≡ length raw = c.stored_count-count.ensures.counted ∙ raw_counted part.blocks in
     one_fits part.alive raw c.loop-doc.doc 2147483648 c.loop-doc.writer (omega (arith, count, c.loop-doc-test.true)) alive c.loop-doc.invariant.room
 
 pub loop-doc-init : goal.loop-doc-init
 loop-doc-init c =
     let part = c.args.part.now in
-    let documents = kept part.alive (documents_of part.segment.blocks) in
+    let documents = kept part.alive (documents_of part.blocks) in
     let many = as_many (kept_bytes part) documents c.stored_count-count.ensures.reads in
     record {
       added = refl;
@@ -28,7 +28,7 @@ loop-doc-init c =
 pub loop-doc-preserved : goal.loop-doc-preserved
 loop-doc-preserved c =
     let part = c.args.part.now in
-    let raw = raw_documents part.segment.blocks in
+    let raw = raw_documents part.blocks in
     let i = c.loop-doc.doc in
     let here = kept (take 1 (drop i part.alive)) (take 1 (drop i raw)) in
     let rest = kept (drop (i + 1) part.alive) (drop (i + 1) raw) in
@@ -42,7 +42,7 @@ loop-doc-preserved c =
 pub returns-clause-ok : goal.returns-clause-ok
 returns-clause-ok c =
     let part = c.args.part.now in
-    let raw = raw_documents part.segment.blocks in
+    let raw = raw_documents part.blocks in
     let i = c.loop-doc.doc in
-    let count : c.stored_count-count.result ≡ length raw = c.stored_count-count.ensures.counted ∙ raw_counted part.segment.blocks in
+    let count : c.stored_count-count.result ≡ length raw = c.stored_count-count.ensures.counted ∙ raw_counted part.blocks in
     all_taken (kept (drop i part.alive) (drop i raw)) c.loop-doc.writer _ (kept_past part.alive raw i (omega (arith, count, c.loop-doc-test.false))) c.loop-doc.invariant.added

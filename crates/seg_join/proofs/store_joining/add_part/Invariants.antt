@@ -7,6 +7,6 @@ use Rattle.seg_join.proofs.store_joining.add_part.Given as goal
 
 abbrev pub invariant-loop-doc : goal.invariant-loop-doc
 invariant-loop-doc l = record {
-  added : option_map (with_documents (kept (drop l.doc l.part.alive) (drop l.doc (raw_documents l.part.segment.blocks)))) l.writer ≡ option_map (with_documents (kept_bytes l.part)) l.initial.writer;
-  room : IfSome l.writer (λ w. taken_count w + length (kept (drop l.doc l.part.alive) (drop l.doc (raw_documents l.part.segment.blocks))) < 2 ^ 31);
+  added : option_map (with_documents (kept (drop l.doc l.part.alive) (drop l.doc (raw_documents l.part.blocks)))) l.writer ≡ option_map (with_documents (kept_bytes l.part)) l.initial.writer;
+  room : IfSome l.writer (λ w. taken_count w + length (kept (drop l.doc l.part.alive) (drop l.doc (raw_documents l.part.blocks))) < 2 ^ 31);
 }

@@ -1,11 +1,5 @@
-use Rattle.std.proofs.Common.{◌∙◌, ap}
 use Rattle.std.proofs.lemmas.Option.{MatchOption-from_none}
-use Rattle.seg_meta.specs.View.{settings_of}
-use Rattle.seg_open.specs.OpenSegment.{contents_of}
-use Rattle.seg_refusals.specs.Inputs.{input_of}
-use Rattle.seg_merge.specs.IndexFiles.{merged_meta, output_id, work_ids}
 use Rattle.seg_merge.proofs.Built.{first_answer, first_same}
-use Rattle.seg_merge.proofs.WholeJoined.{counts_survivors}
 use Rattle.seg_merge.proofs.building.build_index.Goals as goal
 
 pub returns-in-Ok-clause-first : goal.returns-in-Ok-clause-first
@@ -18,19 +12,10 @@ pub returns-in-Ok-clause-valid : goal.returns-in-Ok-clause-valid
 returns-in-Ok-clause-valid g c = c.in-Ok.ensures.builds.valid
 
 pub returns-in-Ok-clause-index : goal.returns-in-Ok-clause-index
-returns-in-Ok-clause-index g c told =
-    let input =
-    input_of c.args.schema.now c.args.settings.now c.args.operations.now c.args.cuts.now c.args.filters.now
-    c.args.ids.now in
-    let F = g.Z.Analyzers.tokens_of c.args.analyzers.now in
-    c.in-Ok.ensures.meta
-    ∙ ap
-    (λ n. merged_meta (settings_of c.args.settings.now) c.args.schema.now (work_ids c.args.ids.now)
-    (output_id c.args.ids.now) n)
-    (counts_survivors F input (contents_of c.in-Ok.built.output) (c.in-Ok.ensures.builds.in_work told).survivors)
+returns-in-Ok-clause-index g c told = (c.in-Ok.ensures.builds.in_work told).meta_is
 
 pub returns-in-Ok-clause-meta : goal.returns-in-Ok-clause-meta
-returns-in-Ok-clause-meta g c = (c.in-Ok.built.output.documents, c.in-Ok.ensures.meta)
+returns-in-Ok-clause-meta g c = c.in-Ok.ensures.builds.counted
 
 pub returns-in-Ok-clause-work_index : goal.returns-in-Ok-clause-work_index
 returns-in-Ok-clause-work_index g c told = (c.in-Ok.ensures.builds.in_work told).index
@@ -42,13 +27,13 @@ pub returns-in-Ok-clause-output_index : goal.returns-in-Ok-clause-output_index
 returns-in-Ok-clause-output_index g c told told_output = (c.in-Ok.ensures.builds.in_work told).output_index told_output
 
 pub returns-in-Ok-clause-output_meta : goal.returns-in-Ok-clause-output_meta
-returns-in-Ok-clause-output_meta g c told = rw c.in-Ok.ensures.meta (c.in-Ok.ensures.builds.in_output told).index
+returns-in-Ok-clause-output_meta g c told = (c.in-Ok.ensures.builds.in_output told).index_of
 
 pub returns-in-Ok-clause-output_was_empty : goal.returns-in-Ok-clause-output_was_empty
 returns-in-Ok-clause-output_was_empty g c told = (c.in-Ok.ensures.builds.in_output told).was_empty
 
 pub returns-in-Ok-clause-calls : goal.returns-in-Ok-clause-calls
-returns-in-Ok-clause-calls g c = (c.in-Ok.built.segments.items, c.in-Ok.built.output, c.in-Ok.ensures.builds.writes)
+returns-in-Ok-clause-calls g c = c.in-Ok.ensures.calls
 
 pub returns-in-Err-clause-first : goal.returns-in-Err-clause-first
 returns-in-Err-clause-first g c = first_answer _ _ _ _ _ c.in-Err.ensures.stops.first
@@ -66,4 +51,4 @@ pub returns-in-Err-clause-whole : goal.returns-in-Err-clause-whole
 returns-in-Err-clause-whole g c told = c.in-Err.ensures.stops.whole told
 
 pub returns-in-Err-clause-calls : goal.returns-in-Err-clause-calls
-returns-in-Err-clause-calls g c = c.in-Err.ensures.stops.stops
+returns-in-Err-clause-calls g c = c.in-Err.ensures.calls

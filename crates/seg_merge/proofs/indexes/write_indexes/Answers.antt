@@ -1,30 +1,29 @@
-use Rattle.std.proofs.Common.{◌≤◌, ◌∙◌, Err, List, Ok, ap, arith, length, subst, sym}
-use Rattle.seg_directory.specs.Works.{Works}
+use Rattle.std.proofs.Common.{◌≤◌, ◌<◌, ◌^◌, ◌∙◌, ℕ, List, ap, arith, length, subst, sym}
+use Rattle.std.specs.Prelude.{IfOk}
 use Rattle.seg_meta.specs.View.{meta_of}
 use Rattle.seg_meta.specs.IndexOfFiles as index
 use Rattle.seg_meta.specs.IndexOfFiles.{ListedSegment}
 use Rattle.seg_model.specs.Input.{Input}
-use Rattle.seg_open.specs.KeptSegment.{KeptSegment, IsOfSchema}
-use Rattle.std.specs.List.{AllByRecursion}
-use Rattle.seg_batches.specs.Reading.{ReadsSegments}
-use Rattle.seg_merge.specs.DirectoryCalls.{MergesInto}
-use Rattle.seg_merge.specs.Filters.{FiltersFit}
-use Rattle.seg_merge.specs.IndexFiles.{output_id, work_ids}
-use Rattle.seg_merge.specs.Merging.{IsOutputOf}
+use Rattle.seg_model.specs.Valid.{are_distinct}
+use Rattle.seg_merge.specs.DirectoryCalls.{merge_listed}
+use Rattle.seg_merge.specs.IndexFiles.{output_id, work_ids, work_segments}
+use Rattle.seg_merge.specs.MergeAnswers.{IsMergedAs}
+use Rattle.seg_merge.specs.SegmentsMerged.{AreMerged, MergesLive}
 use Rattle.seg_merge.specs.Turns.{both}
-use Rattle.seg_merge.specs.WritingSteps.{begin_steps}
+use Rattle.seg_merge.proofs.Exits.{filled_so_far}
 use Rattle.seg_merge.proofs.FilledIndex.{read_back}
-use Rattle.seg_merge.proofs.InTurn.{all_written, at_beginning, at_filling, at_merging, at_output_beginning, at_reading, exit}
-use Rattle.seg_merge.proofs.Reached.{distinct, many, read_fits, read_of_schema}
+use Rattle.seg_merge.proofs.FillSteps.{as_many, ids_are, meta_list}
+use Rattle.seg_merge.proofs.InTurn.{at_beginning, at_filling, at_merging}
+use Rattle.seg_merge.proofs.MergeCalled.{is_built}
+use Rattle.seg_merge.proofs.Reached.{distinct, many}
 use Rattle.seg_merge.proofs.WholeIds.{ids_many, work_few}
+use Rattle.seg_merge.proofs.WholeRefused.{settings_suit}
+use Rattle.seg_merge.proofs.WholeWork.{are_merged}
 use Rattle.seg_merge.proofs.indexes.write_indexes.Goals as goal
 
-pub returns-in_err-begin_indexes-clause-does : goal.returns-in_err-begin_indexes-clause-does
-returns-in_err-begin_indexes-clause-does g c =
-    let F = g.Z.Analyzers.tokens_of c.args.analyzers.now in
-    let e = c.in_err-begin_indexes.field-0.0 in
-    exit F c.args.input.now (λ b. b.segments.items) e c.from_residual.result _ _ c.from_residual.ensures.1
-    (at_beginning F c.args.input.now e _ _ c.in_err-begin_indexes.ensures)
+pub returns-in-Err-clause-does : goal.returns-in-Err-clause-does
+returns-in-Err-clause-does g c =
+    at_beginning (g.Z.Analyzers.tokens_of c.args.analyzers.now) c.args.input.now _ c.in-Err.e _ _ c.in-Err.ensures
 
 pub split_ids-output_id-requires : goal.split_ids-output_id-requires
 split_ids-output_id-requires g c =
@@ -35,138 +34,70 @@ pub fill_work_index-requires-clause-ids : goal.fill_work_index-requires-clause-i
 fill_work_index-requires-clause-ids g c =
     c.split_ids-output_id.ensures.work ∙ ap (λ (x : Input). work_ids x.ids) c.input.view_is
 
-pub returns-in_err-metas-clause-does : goal.returns-in_err-metas-clause-does
-returns-in_err-metas-clause-does g c =
+pub returns-in-Err-fill_work_index-clause-does : goal.returns-in-Err-fill_work_index-clause-does
+returns-in-Err-fill_work_index-clause-does g c =
+    at_filling (g.Z.Analyzers.tokens_of c.args.analyzers.now) c.args.input.now c.in-Ok.field-0
+    (both (g.W.Directory.state c.args.work.now) (g.O.Directory.state c.args.output.now))
+    (g.W.Directory.state c.begin_indexes.new.work) (g.O.Directory.state c.begin_indexes.new.output) c.in-Ok.ensures
+    _ _ c.in-Err-fill_work_index.e (g.W.Directory.state c.fill_work_index.new.work) c.in-Err-fill_work_index.ensures.does
+
+pub merge_work-requires-clause-list : goal.merge_work-requires-clause-list
+merge_work-requires-clause-list g c =
     let F = g.Z.Analyzers.tokens_of c.args.analyzers.now in
-    let a = both (g.W.Directory.state c.args.work.now) (g.O.Directory.state c.args.output.now) in
-    let w = g.W.Directory.state c.begin_indexes.new.work in
-    let o = g.O.Directory.state c.begin_indexes.new.output in
-    let e = c.in_err-metas.field-0.0 in
-    exit F c.args.input.now (λ b. b.segments.items) e c.from_residual-in_err-metas.result _ _
-    c.from_residual-in_err-metas.ensures.1
-    (at_filling F c.args.input.now tt a w o c.in_ok-begin_indexes.ensures e
-    (g.W.Directory.state c.fill_work_index.new.work) c.in_err-metas.ensures.does)
+    let i = c.args.input.now in
+    let fits = c.requires.fits in
+    meta_list (length i.operations) (work_segments F i) c.in-Ok-fill_work_index.metas.segments
+    (ap (λ (m : index.Meta). m.segments) c.in-Ok-fill_work_index.ensures.meta)
+    (subst (λ (n : ℕ). n < 2 ^ 32) (sym (as_many i.schema F (work_ids i.ids) i.cuts i.operations (many F i fits)))
+    (work_few i.cuts i.ids fits.batches fits.ids))
+    (ap are_distinct (ids_are i.schema F (work_ids i.ids) i.cuts i.operations (many F i fits)) ∙ distinct F i fits)
 
-pub returns-in_err-begin_index-clause-does : goal.returns-in_err-begin_index-clause-does
-returns-in_err-begin_index-clause-does g c =
-    let F = g.Z.Analyzers.tokens_of c.args.analyzers.now in
-    let a = both (g.W.Directory.state c.args.work.now) (g.O.Directory.state c.args.output.now) in
-    let w = g.W.Directory.state c.begin_indexes.new.work in
-    let o = g.O.Directory.state c.begin_indexes.new.output in
-    let v = g.W.Directory.state c.fill_work_index.new.work in
-    let p = g.O.Directory.state c.begin_index.new.directory in
-    let e = c.in_err-begin_index.field-0.0 in
-    exit F c.args.input.now (λ b. b.segments.items) e c.from_residual-in_err-begin_index.result _ _
-    c.from_residual-in_err-begin_index.ensures.1
-    (at_output_beginning F c.args.input.now tt a w o c.in_ok-begin_indexes.ensures _ c.in_ok-metas.metas v
-    c.in_ok-metas.ensures.does e p
-    (subst (λ (x : Input). Works {T = Unit {0}} (begin_steps x.settings x.schema) (Err e) o p) c.input.view_is c.in_err-begin_index.ensures))
+pub merge_work-requires-clause-schema : goal.merge_work-requires-clause-schema
+merge_work-requires-clause-schema g c = ap (λ (m : index.Meta). m.schema) c.in-Ok-fill_work_index.ensures.meta
 
-pub returns-in_err-segments-clause-does : goal.returns-in_err-segments-clause-does
-returns-in_err-segments-clause-does g c =
-    let F = g.Z.Analyzers.tokens_of c.args.analyzers.now in
-    let a = both (g.W.Directory.state c.args.work.now) (g.O.Directory.state c.args.output.now) in
-    let w = g.W.Directory.state c.begin_indexes.new.work in
-    let o = g.O.Directory.state c.begin_indexes.new.output in
-    let v = g.W.Directory.state c.fill_work_index.new.work in
-    let p = g.O.Directory.state c.begin_index.new.directory in
-    let r = g.W.Directory.state c.read_work.new.work in
-    let e = c.in_err-segments.field-0.0 in
-    exit F c.args.input.now (λ b. b.segments.items) e c.from_residual-in_err-segments.result _ _
-    c.from_residual-in_err-segments.ensures.1
-    (at_reading F c.args.input.now tt a w o c.in_ok-begin_indexes.ensures _ c.in_ok-metas.metas v
-    c.in_ok-metas.ensures.does tt p
-    (subst (λ (x : Input). Works {T = Unit {0}} (begin_steps x.settings x.schema) (Ok tt) o p) c.input.view_is c.in_ok-begin_index.ensures) e r
-    (subst (λ (l : List ListedSegment). ReadsSegments c.args.input.now.schema l (Err e) v r)
-    (ap (λ (m : index.Meta). m.segments) c.in_ok-metas.ensures.meta) c.in_err-segments.ensures))
-
-pub write_output-requires-clause-parts : goal.write_output-requires-clause-parts
-write_output-requires-clause-parts g c =
-    let F = g.Z.Analyzers.tokens_of c.args.analyzers.now in
-    let v = g.W.Directory.state c.fill_work_index.new.work in
-    let r = g.W.Directory.state c.read_work.new.work in
-    let read = c.in_ok-segments.segments.items in
-    subst (λ (l : List KeptSegment). AllByRecursion (IsOfSchema c.args.input.now.schema) l) (sym c.deref.ensures.value)
-    (read_of_schema F c.args.input.now read v r
-    (subst (λ (l : List ListedSegment). ReadsSegments c.args.input.now.schema l (Ok read) v r)
-    (ap (λ (m : index.Meta). m.segments) c.in_ok-metas.ensures.meta) c.in_ok-segments.ensures))
-
-pub write_output-requires-clause-filters : goal.write_output-requires-clause-filters
-write_output-requires-clause-filters g c =
-    let F = g.Z.Analyzers.tokens_of c.args.analyzers.now in
-    let v = g.W.Directory.state c.fill_work_index.new.work in
-    let r = g.W.Directory.state c.read_work.new.work in
-    let read = c.in_ok-segments.segments.items in
-    subst (λ (l : List KeptSegment). FiltersFit c.args.input.now.filters l) (sym c.deref.ensures.value)
-    (read_fits F c.args.input.now c.requires.fits read v r
-    (subst (λ (l : List ListedSegment). ReadsSegments c.args.input.now.schema l (Ok read) v r)
-    (ap (λ (m : index.Meta). m.segments) c.in_ok-metas.ensures.meta) c.in_ok-segments.ensures))
-
-pub write_output-requires-clause-ids : goal.write_output-requires-clause-ids
-write_output-requires-clause-ids g c =
-    c.split_ids-output_id.ensures.work ∙ ap (λ (x : Input). work_ids x.ids) c.input.view_is
-
-pub write_output-requires-clause-id : goal.write_output-requires-clause-id
-write_output-requires-clause-id g c =
+pub merge_work-requires-clause-id : goal.merge_work-requires-clause-id
+merge_work-requires-clause-id g c =
     c.split_ids-output_id.ensures.output ∙ ap (λ (x : Input). output_id x.ids) c.input.view_is
 
-pub returns-in_err-written-clause-does : goal.returns-in_err-written-clause-does
-returns-in_err-written-clause-does g c =
+pub merge_work-requires-clause-merged : goal.merge_work-requires-clause-merged
+merge_work-requires-clause-merged g c =
+    let knows = g.Z.Analyzers.knows c.args.analyzers.now in
     let F = g.Z.Analyzers.tokens_of c.args.analyzers.now in
-    let a = both (g.W.Directory.state c.args.work.now) (g.O.Directory.state c.args.output.now) in
-    let w = g.W.Directory.state c.begin_indexes.new.work in
-    let o = g.O.Directory.state c.begin_indexes.new.output in
-    let v = g.W.Directory.state c.fill_work_index.new.work in
-    let p = g.O.Directory.state c.begin_index.new.directory in
-    let r = g.W.Directory.state c.read_work.new.work in
-    let q = g.O.Directory.state c.write_output.new.output in
-    let read = c.in_ok-segments.segments.items in
-    let e = c.in_err-written.field-0.0 in
-    exit F c.args.input.now (λ b. b.segments.items) e c.from_residual-in_err-written.result _ _
-    c.from_residual-in_err-written.ensures.1
-    (at_merging F c.args.input.now tt a w o c.in_ok-begin_indexes.ensures _ c.in_ok-metas.metas v
-    c.in_ok-metas.ensures.does tt p
-    (subst (λ (x : Input). Works {T = Unit {0}} (begin_steps x.settings x.schema) (Ok tt) o p) c.input.view_is c.in_ok-begin_index.ensures) read r
-    (subst (λ (l : List ListedSegment). ReadsSegments c.args.input.now.schema l (Ok read) v r)
-    (ap (λ (m : index.Meta). m.segments) c.in_ok-metas.ensures.meta) c.in_ok-segments.ensures)
-    _ e (both r q)
-    (subst (λ (l : List KeptSegment). MergesInto c.args.input.now l (Err e) (both r p) (both r q)) c.deref.ensures.value
-    (c.in_err-written.ensures.does r)))
+    let i = c.args.input.now in
+    subst (λ (l : List ListedSegment). AreMerged (merge_listed i l))
+    (sym (ap (λ (m : index.Meta). m.segments) c.in-Ok-fill_work_index.ensures.meta))
+    (are_merged F i c.requires.fits (settings_suit knows F i c.requires.admitted))
 
 pub returns-clause-built : goal.returns-clause-built
 returns-clause-built g c =
     let F = g.Z.Analyzers.tokens_of c.args.analyzers.now in
-    let input = c.args.input.now in
-    let read = c.in_ok-segments.segments.items in
+    let i = c.args.input.now in
     let fits = c.requires.fits in
-    record {
-      work_read =
-          read_back input.schema F (work_ids input.ids) input.cuts input.operations (many F input fits)
-          (work_few input.cuts input.ids fits.batches fits.ids) (distinct F input fits) input.settings
-          (meta_of c.in_ok-metas.metas) c.in_ok-metas.ensures.meta c.metas_read_back.ensures;
-      output =
-          subst
-          (λ (l : List KeptSegment). IsOutputOf input l c.in_ok-written.written.reader
-          (meta_of c.in_ok-written.written.metas))
-          c.deref.ensures.value c.in_ok-written.ensures.written;
-    }
-
-pub returns-clause-does : goal.returns-clause-does
-returns-clause-does g c =
-    let F = g.Z.Analyzers.tokens_of c.args.analyzers.now in
     let a = both (g.W.Directory.state c.args.work.now) (g.O.Directory.state c.args.output.now) in
     let w = g.W.Directory.state c.begin_indexes.new.work in
     let o = g.O.Directory.state c.begin_indexes.new.output in
     let v = g.W.Directory.state c.fill_work_index.new.work in
-    let p = g.O.Directory.state c.begin_index.new.directory in
-    let r = g.W.Directory.state c.read_work.new.work in
-    let q = g.O.Directory.state c.write_output.new.output in
-    let read = c.in_ok-segments.segments.items in
-    all_written F c.args.input.now tt a w o c.in_ok-begin_indexes.ensures _ c.in_ok-metas.metas v
-    c.in_ok-metas.ensures.does tt p
-    (subst (λ (x : Input). Works {T = Unit {0}} (begin_steps x.settings x.schema) (Ok tt) o p) c.input.view_is c.in_ok-begin_index.ensures) read r
-    (subst (λ (l : List ListedSegment). ReadsSegments c.args.input.now.schema l (Ok read) v r)
-    (ap (λ (m : index.Meta). m.segments) c.in_ok-metas.ensures.meta) c.in_ok-segments.ensures)
-    _ c.in_ok-written.written (both r q)
-    (subst (λ (l : List KeptSegment). MergesInto c.args.input.now l (Ok c.in_ok-written.written) (both r p) (both r q))
-    c.deref.ensures.value (c.in_ok-written.ensures.does r))
+    let b = both (g.W.Directory.state c.merge_work.new.work) (g.O.Directory.state c.merge_work.new.output) in
+    is_built F i fits a (both v o)
+    (filled_so_far F i c.in-Ok.field-0 c.in-Ok-fill_work_index.metas a w o v c.in-Ok.ensures c.in-Ok-fill_work_index.ensures.does)
+    meta_of
+    (read_back i.schema F (work_ids i.ids) i.cuts i.operations (many F i fits)
+    (work_few i.cuts i.ids fits.batches fits.ids) (distinct F i fits) i.settings
+    (meta_of c.in-Ok-fill_work_index.metas) c.in-Ok-fill_work_index.ensures.meta c.metas_read_back.ensures)
+    c.merge_work.result b
+    (subst (λ (l : List ListedSegment). IfOk c.merge_work.result (λ x. IsMergedAs (merge_listed i l) (both v o) b (meta_of x)))
+    (ap (λ (m : index.Meta). m.segments) c.in-Ok-fill_work_index.ensures.meta) c.merge_work.ensures.built)
+
+pub returns-clause-does : goal.returns-clause-does
+returns-clause-does g c =
+    let F = g.Z.Analyzers.tokens_of c.args.analyzers.now in
+    let i = c.args.input.now in
+    let a = both (g.W.Directory.state c.args.work.now) (g.O.Directory.state c.args.output.now) in
+    let w = g.W.Directory.state c.begin_indexes.new.work in
+    let o = g.O.Directory.state c.begin_indexes.new.output in
+    let v = g.W.Directory.state c.fill_work_index.new.work in
+    let b = both (g.W.Directory.state c.merge_work.new.work) (g.O.Directory.state c.merge_work.new.output) in
+    at_merging F i c.in-Ok.field-0 a w o c.in-Ok.ensures c.in-Ok-fill_work_index.metas v c.in-Ok-fill_work_index.ensures.does
+    c.merge_work.result b
+    (subst (λ (l : List ListedSegment). MergesLive (merge_listed i l) c.merge_work.result (both v o) b)
+    (ap (λ (m : index.Meta). m.segments) c.in-Ok-fill_work_index.ensures.meta) c.merge_work.ensures.does)

@@ -1,28 +1,19 @@
-use Rattle.std.proofs.Common.{[], ◌∷◌, ◌++◌}
-use Rattle.std.specs.Prelude.{codes}
-use Rattle.seg_common.specs.FileNames.{name_text}
-use Rattle.seg_common.proofs.Known.{front_and_part, part_of_front}
-use Rattle.seg_common.proofs.Results.{at_error}
-use Rattle.seg_tool.proofs.Parts.{last_part}
+use Rattle.std.proofs.Common.{List, ℕ, subst}
+use Rattle.std.specs.Prelude.{OnOk, OnErr}
+use Rattle.std.specs.Io.KnownBytes.{Appends}
+use Rattle.seg_common.specs.Streams.{AppendsPart}
+use Rattle.seg_tool.proofs.Faults.{other_damage}
 use Rattle.seg_tool.proofs.damage.write_damage.Goals as goal
 
-pub returns-in_err-write_whole-clause-err : goal.returns-in_err-write_whole-clause-err
-returns-in_err-write_whole-clause-err g c =
-    at_error c.from_residual.result
-    (part_of_front (g.F.Sink.written c.args.faults.now) (g.F.Sink.written c.write_whole.new.sink) (codes "damaged: ") (name_text c.args.name.now ++ 10 ∷ []) c.in_err-write_whole.ensures.err)
-
-pub returns-in_err-write_name-clause-err : goal.returns-in_err-write_name-clause-err
-returns-in_err-write_name-clause-err g c =
+pub returns-in_default : goal.returns-in_default
+returns-in_default g c =
     let W = g.F.Sink.written in
-    let text = name_text c.args.name.now in
-    at_error c.from_residual-in_err-write_name.result
-    (front_and_part (W c.args.faults.now) (W c.write_whole.new.sink) (W c.write_name.new.faults) (codes "damaged: ") (text ++ 10 ∷ []) c.in_ok-write_whole.ensures.ok
-    (part_of_front (W c.write_whole.new.sink) (W c.write_name.new.faults) text (10 ∷ []) c.in_err-write_name.ensures.err))
-
-pub returns-clause-err : goal.returns-clause-err
-returns-clause-err g c =
-    let W = g.F.Sink.written in
-    let text = name_text c.args.name.now in
-    let end = W c.write_whole-2.new.sink in
-    last_part c.write_whole-2.result (W c.args.faults.now) (W c.write_whole.new.sink) end (codes "damaged: ") (text ++ 10 ∷ []) c.in_ok-write_whole.ensures.ok
-    (last_part c.write_whole-2.result (W c.write_whole.new.sink) (W c.write_name.new.faults) end text (10 ∷ []) c.in_ok-write_name.ensures.ok c.write_whole-2.ensures.err)
+    let old = W c.args.faults.now in
+    let new = W c.write_whole.new.sink in
+    let is = other_damage c.args.error.now c.in_default.not-DataCorruption in
+    record {
+      ok = subst (λ (xs : List ℕ). OnOk c.write_whole.result (Appends old new xs)) is c.write_whole.ensures.ok;
+      err = subst (λ (xs : List ℕ). OnErr c.write_whole.result (AppendsPart old new xs)) is c.write_whole.ensures.err;
+      told = c.write_whole.ensures.told;
+      cause = c.write_whole.ensures.cause;
+    }

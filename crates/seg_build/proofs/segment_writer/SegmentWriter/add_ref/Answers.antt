@@ -43,8 +43,8 @@ returns-in-Ok-with_document-clause-ok g c =
     let place : length c.in-Some.parts.stamps.items < 2 ^ 31 - 1 = omega (arith, c.len.ensures, c.if-len-ge-MAX_DOCUMENTS.false) in
     let are : map (text_in d) texts ≡ document_texts schema F d = ap (map (text_in d)) c.deref.ensures.value ∙ c.in-Ok.ensures.texts ∙ ap (λ s. document_texts s F d) c.schema-schema.ensures in
     let took : HasTaken schema d texts c.args.opstamp (kept_of c.in-Some.parts) (kept_of new) = subst (λ s. HasTaken s d texts c.args.opstamp (kept_of c.in-Some.parts) (kept_of new)) c.schema-schema.ensures c.in-Ok-with_document.ensures in
-    subst (λ v. Adds (g.Z.Analyzers.tokens_of v.0) d c.args.opstamp v.1 (record { schema = schema; id = c.self.inside.segment.meta.id; kept = Some (kept_of new) })) c.self.view_is
-    (adds schema F c.self.invariant.0 d taken c.texts_are_utf8.ensures c.args.opstamp c.self.inside.parts c.in-Some.parts (sym c.take.ensures.value ∙ c.in-Some.is) place c.documents_stay_in_order.ensures texts are new took c.self.inside.segment.meta.id)
+    subst (λ v. Adds (g.Z.Analyzers.tokens_of v.0) d c.args.opstamp v.1 (record { schema = schema; id = c.self.inside.segment.meta.id; block_size = c.self.inside.block_size; kept = Some (kept_of new) })) c.self.view_is
+    (adds schema F c.self.invariant.0 d taken c.texts_are_utf8.ensures c.args.opstamp c.self.inside.parts c.in-Some.parts (sym c.take.ensures.value ∙ c.in-Some.is) place c.documents_stay_in_order.ensures texts are new took c.self.inside.segment.meta.id c.self.inside.block_size)
 
 pub returns : goal.returns
 returns g c =
@@ -60,8 +60,8 @@ returns g c =
     let told : (e ≡ OutOfMemory) ⊎ Tells schema F d stamp e = subst (λ s. (e ≡ OutOfMemory) ⊎ Tells s F d stamp e) c.schema-schema.ensures c.in-Err.ensures.err in
     record {
       ok = tt;
-      err = subst (λ v. AddsNone (g.Z.Analyzers.tokens_of v.0) d stamp v.1 (record { schema = schema; id = id; kept = Some (kept_of parts) }) e) c.self.view_is
-          (refused F d stamp schema id c.self.inside.parts parts is place e told c.in_default-e.not-OutOfMemory);
+      err = subst (λ v. AddsNone (g.Z.Analyzers.tokens_of v.0) d stamp v.1 (record { schema = schema; id = id; block_size = c.self.inside.block_size; kept = Some (kept_of parts) }) e) c.self.view_is
+          (refused F d stamp schema id c.self.inside.block_size c.self.inside.parts parts is place e told c.in_default-e.not-OutOfMemory);
       analyzers = ap (λ v. v.0) c.self.view_is;
-      same = record { schema = ap (λ v. v.1.schema) c.self.view_is; id = ap (λ v. v.1.id) c.self.view_is };
+      same = record { schema = ap (λ v. v.1.schema) c.self.view_is; id = ap (λ v. v.1.id) c.self.view_is; block_size = ap (λ v. v.1.block_size) c.self.view_is };
     }

@@ -17,11 +17,17 @@ returns-in-Some-clause-does g c =
 pub returns-in-Some-clause-stands : goal.returns-in-Some-clause-stands
 returns-in-Some-clause-stands g c told =
     let writer = c.args.self.1 in
-    on_ok_weaker c.finish.result (λ all documents stamps w. (all (g.Z.Analyzers.tokens_of c.args.self.0) documents stamps w).0)
+    on_ok_weaker c.finish.result (λ all documents stamps w. (all (g.Z.Analyzers.tokens_of c.args.self.0) writer.block_size documents stamps w).0)
     (are_finished writer.schema writer.id c.finish.result _ _ told writer.kept (returns-in-Some-clause-does g c))
 
 pub returns-in-Some-clause-totals : goal.returns-in-Some-clause-totals
 returns-in-Some-clause-totals g c told =
     let writer = c.args.self.1 in
-    on_ok_weaker c.finish.result (λ all documents stamps w. (all (g.Z.Analyzers.tokens_of c.args.self.0) documents stamps w).1)
+    on_ok_weaker c.finish.result (λ all documents stamps w. (all (g.Z.Analyzers.tokens_of c.args.self.0) writer.block_size documents stamps w).1)
+    (are_finished writer.schema writer.id c.finish.result _ _ told writer.kept (returns-in-Some-clause-does g c))
+
+pub returns-in-Some-clause-blocks : goal.returns-in-Some-clause-blocks
+returns-in-Some-clause-blocks g c told =
+    let writer = c.args.self.1 in
+    on_ok_weaker c.finish.result (λ all documents stamps w. (all (g.Z.Analyzers.tokens_of c.args.self.0) writer.block_size documents stamps w).2)
     (are_finished writer.schema writer.id c.finish.result _ _ told writer.kept (returns-in-Some-clause-does g c))

@@ -14,13 +14,14 @@ invariant_of-result g c =
       subst (λ s. is_built_schema s ≡ true) c.schema-schema.ensures (c.in_default.ensures.built refl),
       subst (λ s. AllByRecursion (λ (e : FieldEntry). IsTrue (knows (indexing_tokenizer e))) s) c.schema-schema.ensures (c.in_default.ensures.known refl),
       record {
+        block_size = c.args.settings.now.docstore_blocksize;
         documents = [];
         stamps = [];
-        are = subst (λ s. IsKeptOf s F [] [] (kept_of c.in-Ok.parts)) c.schema-schema.ensures (c.in-Ok.ensures F);
+        are = subst (λ s. IsKeptOf s F c.args.settings.now.docstore_blocksize [] [] (kept_of c.in-Ok.parts)) c.schema-schema.ensures (c.in-Ok.ensures F);
       },
     )
 
 pub returns-clause-ok : goal.returns-clause-ok
 returns-clause-ok g c =
     let F = g.Z.Analyzers.tokens_of c.args.analyzers.now in
-    subst (λ s. IsKeptOf s F [] [] (kept_of c.in-Ok.parts)) c.schema-schema.ensures (c.in-Ok.ensures F)
+    subst (λ s. IsKeptOf s F c.args.settings.now.docstore_blocksize [] [] (kept_of c.in-Ok.parts)) c.schema-schema.ensures (c.in-Ok.ensures F)

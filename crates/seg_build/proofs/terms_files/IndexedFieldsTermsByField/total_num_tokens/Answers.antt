@@ -3,6 +3,6 @@ use Rattle.std.specs.List.{slice_get}
 use Rattle.seg_build.specs.TermsWritten.{written_total}
 use Rattle.seg_build.proofs.terms_files.IndexedFieldsTermsByField.total_num_tokens.Goals as goal
 
-pub returns-in-Some : goal.returns-in-Some
-returns-in-Some c =
-    c.in-Some.ensures.total ∙ ap written_total (sym (ap (slice_get c.args.self.now) (sym c.field_id.ensures) ∙ c.writable_terms-terms.ensures.at))
+pub returns : goal.returns
+returns c =
+    c.total_num_tokens.ensures ∙ ap written_total (sym (ap (slice_get c.args.self.now) (sym c.field_id.ensures) ∙ c.writable_terms-terms.ensures.at))

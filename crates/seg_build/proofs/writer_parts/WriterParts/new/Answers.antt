@@ -14,7 +14,7 @@ returns c = λ analyzer. record {
   utf8 = tt;
   fields = c.in_ok-fields.ensures ∙ ap (map (λ (e : FieldEntry). fresh)) c.fields.ensures;
   norms = subst (λ o. IsSomeAnd o (HaveLengths c.args.schema.now analyzer [])) (sym c.in-Ok.ensures.ok) (lengths_before c.args.schema.now analyzer);
-  store = subst (λ o. IsSomeAnd o (Stores c.args.schema.now [])) (sym c.in-Ok-new.ensures.ok) (record { read = refl; count = refl; forms = refl });
+  store = subst (λ o. IsSomeAnd o (Stores c.args.schema.now c.args.block_size [])) (sym c.in-Ok-new.ensures.ok) (record { read = refl; count = refl; forms = refl; cut = refl });
   stamped = c.new-2.ensures.items;
   each = refl;
   occurrences = refl;

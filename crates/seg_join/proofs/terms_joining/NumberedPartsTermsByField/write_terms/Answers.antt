@@ -1,8 +1,9 @@
-use Rattle.std.proofs.Common.{◌-◌, ◌^◌, ℕ, List, min, map, refl, sym, ap, subst, ◌∙◌}
+use Rattle.std.proofs.Common.{ℕ, List, map, refl, sym, ap, subst, ◌∙◌}
 use Rattle.std.specs.Prelude.{IsSomeAnd}
 use Rattle.std.specs.List.{AllByRecursion}
 use Rattle.seg_segment.specs.WritingTerms.{IsUnwritten}
-use Rattle.seg_join.specs.JoinedTerms.{IsOpenAt, source_of, tokens_in}
+use Rattle.seg_join.specs.JoinedTerms.{IsOpenAt, source_of}
+use Rattle.seg_join.specs.JoinedTotals.{tokens_in}
 use Rattle.seg_join.specs.MovedPostings.{SourceTerms, Ascend}
 use Rattle.seg_join.specs.NewIds.{NumberedSegment, parts_of}
 use Rattle.seg_join.proofs.JoinedField.{joinable, whole}
@@ -24,6 +25,6 @@ write_terms-requires-clause-unwritten c = subst (λ o. IsSomeAnd o IsUnwritten) 
 pub returns : goal.returns
 returns c =
     let up = subst (AllByRecursion (λ (s : SourceTerms). Ascend s.terms)) (sym c.deref.ensures.value) c.in_ok-sources.ensures.ascend in
-    let total : ℕ → ℕ = λ field. min (tokens_in field (parts_of c.args.self.now)) (2 ^ 64 - 1) in
+    let total : ℕ → ℕ = λ field. tokens_in field (parts_of c.args.self.now) in
     whole c.args.field c.args.self.now c.requires.can.ids c.requires.can.few c.deref.result.now (c.deref.ensures.value ∙ c.in_ok-sources.ensures.are ∙ ap (map (source_of c.args.field)) c.as_slice.ensures) up
     total c.args.writer c.write_terms.new.writer c.requires.begins c.in_ok-write_terms.ensures

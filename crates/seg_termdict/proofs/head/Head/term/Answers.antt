@@ -1,4 +1,4 @@
-use Rattle.std.proofs.Common.{◌≡◌, ◌∙◌, ◌<◌, ◌-◌, List, length, ap, sym, subst}
+use Rattle.std.proofs.Common.{◌≡◌, ◌∙◌, ◌<◌, List, length, ap, sym, subst}
 use Rattle.seg_common.specs.declared.term_info.TermInfo.{TermInfo}
 use Rattle.seg_termdict.specs.SortedTerms.{RankedTerm}
 use Rattle.seg_termdict.specs.Merging.{first}
@@ -10,5 +10,5 @@ pub returns : goal.returns
 returns c =
     let s = c.self.inside.stream in
     let stands = stands_from s c.self.inside.stands (subst (λ (ts : List (RankedTerm TermInfo)). 0 < length ts) (sym c.self.view_is) c.requires) in
-    let told : (c.term_ord.result, c.value.result.now) ≡ (s.taken - 1, (current s).1) = λ i. (c.term_ord.ensures i, c.value.ensures i) in
+    let told : (c.term_ord.result, c.value.result.now) ≡ ((current s).ord, (current s).info) = λ i. (c.term_ord.ensures i, c.value.ensures i) in
     told ∙ ap (λ (ts : List (RankedTerm TermInfo)). ((first ts).ord, (first ts).info)) (seen_as s c.self.inside.stands c.args.self.now c.self.invariant stands c.self.view_is)

@@ -1,0 +1,20 @@
+//! What deletes name.
+ghost use Rattle.std.specs.Prelude.{◌≡◌, ℕ, Bool, IfOk, IfErr};
+ghost use Rattle.seg_open.specs.OpenSegment.{OpenSegment};
+ghost use Rattle.seg_batches.specs.Applying.{named_below};
+
+use seg_open::SegmentReader;
+use seg_values::{TResult, TantivyError};
+use std::alloc::Global;
+
+/// What a delete names: of each segment some documents.
+pub trait DeleteTarget {
+    /// Whether a document of a segment is named.
+    ghost names: { Self → OpenSegment → ℕ → Bool };
+
+    /// The ids of the documents of a segment that are named, ascending. The reader stays as it was.
+    fn documents(&self, alloc: Global, reader: &mut SegmentReader) -> TResult<Vec<u32>>
+        ensures ok { IfOk result (λ docs. docs.items ≡ named_below reader.old.documents (names self.now reader.old)) }
+        ensures same { reader.new ≡ reader.old }
+        ensures err { IfErr result (λ e. e ≡ TantivyError.OutOfMemory) };
+}

@@ -1,0 +1,26 @@
+//! Deletes by a term.
+
+use crate::delete_target::DeleteTarget;
+use crate::term_documents::term_documents;
+use seg_open::SegmentReader;
+use seg_values::{TResult, TantivyError, Term};
+use std::alloc::Global;
+
+/// Names the documents that have a term.
+#[derive(Drop)]
+pub struct TermTarget(pub Term);
+
+impl DeleteTarget for TermTarget {
+    ghost use Rattle.std.specs.Prelude.{map};
+    ghost use Rattle.seg_removal.specs.Cleared.{has_posting};
+    ghost use Rattle.seg_open.specs.OpenSegment.{terms_in};
+
+    ghost names = { λ target segment document. has_posting (map terms_in segment.fields) document target.0 };
+
+    fn documents(&self, alloc: Global, reader: &mut SegmentReader) -> TResult<Vec<u32>> {
+        match term_documents(alloc, reader, &self.0) {
+            Ok(docs) => Ok(docs),
+            Err(_) => Err(TantivyError::OutOfMemory),
+        }
+    }
+}

@@ -1,0 +1,164 @@
+//! The merger of segments.
+ghost use Rattle.std.specs.Prelude.{◌≡◌, ◌≢◌, ◌<◌, ◌^◌, ℕ, map, None, IfOk, IfErr, OnOk};
+ghost use Rattle.std.specs.List.{AllByRecursion};
+ghost use Rattle.std.specs.Option.{option_or};
+ghost use Rattle.seg_model.specs.Telling.{Tells};
+ghost use Rattle.seg_segment.specs.Serializing.{unfilled};
+ghost use Rattle.seg_open.specs.OpenSegment.{kept_count};
+ghost use Rattle.seg_open.specs.SegmentOpened.{later};
+ghost use Rattle.seg_join.specs.Merger.{IsMergerOf, OpensMerger, WritesJoined, too_many};
+
+use crate::counting::num_joined_docs;
+use crate::filters::{filters_fit, no_filters};
+use crate::segment_joining::join_into;
+use seg_bits::AliveBitSet;
+use seg_directory::Directory;
+use seg_meta::Segment;
+use seg_model::joins_have_full_shape;
+use seg_open::{SegmentReader, open_segments};
+use seg_segment::{SegmentSerializer, is_built_schema};
+use seg_values::{ArgumentCause, Schema, TResult, TantivyError};
+use std::alloc::Global;
+use std::marker::Model;
+
+/// What is asked for is not built yet.
+const LATER: TantivyError = TantivyError::InvalidArgument(ArgumentCause::Later);
+
+/// Merges segments of one schema: the documents of each that are alive, one segment after another. It is seen as the
+/// schema and what the readers have.
+#[derive(Drop)]
+pub struct IndexMerger {
+    alloc: Global,
+    schema: Schema,
+    readers: Vec<SegmentReader>,
+    max_doc: u32,
+}
+
+impl Model for IndexMerger {
+    ghost use Rattle.std.specs.Prelude.{◌≡◌, ◌<◌, ◌^◌, true};
+    ghost use Rattle.std.specs.List.{AllByRecursion};
+    ghost use Rattle.seg_segment.specs.Built.{is_built_schema};
+    ghost use Rattle.seg_open.specs.OpenSegment.{IsMarked, IsOfSchema, kept_count};
+    ghost use Rattle.seg_join.specs.Merger.{Merging};
+
+    ghost Value = { Merging };
+
+    ghost view = { λ m. record { schema = m.schema; readers = m.readers.items } };
+
+    ghost invariant = { λ m. (is_built_schema m.schema ≡ true) × AllByRecursion (IsOfSchema m.schema) m.readers.items
+        × AllByRecursion IsMarked m.readers.items × (m.max_doc ≡ kept_count m.readers.items) × (m.max_doc < 2 ^ 31) };
+}
+
+impl IndexMerger {
+    /// Opens the segments, one after another, and counts their documents that are alive. It refuses as
+    /// `open_with_custom_alive_set`, but never by `Filters`.
+    pub fn open<W: Directory>(
+        alloc: Global,
+        schema: Schema,
+        segments: &[Segment],
+        directory: &mut W,
+    ) -> TResult<IndexMerger>
+        requires schema { AllByRecursion (λ s. s.schema ≡ schema) segments.now }
+        ensures { OpensMerger schema segments.now (map (λ _. None) segments.now) result
+            (W.state directory.old) (W.state directory.new) }
+    {
+        let Ok(filters) = no_filters(alloc, segments.len()) else {
+            return Err(TantivyError::OutOfMemory);
+        };
+        IndexMerger::open_with_custom_alive_set(alloc, schema, segments, filters, directory)
+    }
+
+    /// Opens the segments, each under its filter: of the documents that are alive, it keeps those of its set.
+    /// `Filters`: there are not as many filters as segments, or a set is not of as many documents as its segment has;
+    /// before it `Later`, for a schema that is not built yet. Then come the errors of `SegmentReader::open`, segment by
+    /// segment; and last `Documents`, where 2^31 documents or more are alive.
+    pub fn open_with_custom_alive_set<W: Directory>(
+        alloc: Global,
+        schema: Schema,
+        segments: &[Segment],
+        filters: Vec<Option<AliveBitSet>>,
+        directory: &mut W,
+    ) -> TResult<IndexMerger>
+        requires schema { AllByRecursion (λ s. s.schema ≡ schema) segments.now }
+        ensures { OpensMerger schema segments.now filters.items result
+            (W.state directory.old) (W.state directory.new) }
+    {
+        if !is_built_schema(schema.fields()) {
+            return Err(LATER);
+        }
+        if !filters_fit(segments, &filters) {
+            return Err(TantivyError::InvalidArgument(ArgumentCause::Filters));
+        }
+        match open_segments(alloc, segments, &filters, directory) {
+            Ok(readers) => IndexMerger::from_readers(alloc, schema, readers),
+            Err(e) => Err(e),
+        }
+    }
+
+    /// Of segments that are open. `Documents`: 2^31 documents or more are alive; `Later`, before that: the schema is
+    /// not built yet.
+    pub fn from_readers(
+        alloc: Global,
+        schema: Schema,
+        readers: Vec<SegmentReader>,
+    ) -> TResult<IndexMerger>
+        requires schema { AllByRecursion (λ r. r.schema ≡ schema) readers.items }
+        ensures told { Tells (option_or (later schema) (too_many (kept_count readers.items))) result }
+        ensures ok { IfOk result (IsMergerOf schema readers.items) }
+        ensures err { IfErr result (λ e. e ≢ TantivyError.OutOfMemory) }
+    {
+        if !is_built_schema(schema.fields()) {
+            return Err(LATER);
+        }
+        match num_joined_docs(&readers) {
+            Some(max_doc) => Ok(IndexMerger {
+                alloc,
+                schema,
+                readers,
+                max_doc,
+            }),
+            None => Err(TantivyError::InvalidArgument(ArgumentCause::Documents)),
+        }
+    }
+
+    /// The schema of the segments.
+    pub fn schema(&self) -> &Schema
+        ensures { result.now ≡ self.now.schema }
+    {
+        &self.schema
+    }
+
+    /// How many documents the merged segment has.
+    pub fn max_doc(&self) -> u32
+        ensures counted { result ≡ kept_count self.now.readers }
+        ensures few { result < 2 ^ 31 }
+    {
+        self.max_doc
+    }
+
+    /// Makes the six files of a segment of the merger's schema, whose serializer has nothing yet, in a directory, and
+    /// answers how many documents it has.
+    pub fn write<O: Directory>(
+        &mut self,
+        serializer: SegmentSerializer,
+        directory: &mut O,
+    ) -> TResult<u32>
+        requires fresh { (block_size : ℕ) × (serializer ≡ unfilled serializer.segment block_size) }
+        requires schema { serializer.segment.schema ≡ self.old.schema }
+        ensures same { self.new ≡ self.old }
+        ensures does { (block_size : ℕ) → serializer ≡ unfilled serializer.segment block_size
+            → WritesJoined serializer.segment block_size self.old.readers result
+            (O.state directory.old) (O.state directory.new) }
+        ensures number { IfOk result (λ documents. documents ≡ kept_count self.old.readers) }
+        ensures few { OnOk result (kept_count self.old.readers < 2 ^ 31) }
+    {
+        joins_have_full_shape();
+        let Ok(filled) = join_into(self.alloc, serializer, &self.readers, self.max_doc) else {
+            return Err(TantivyError::OutOfMemory);
+        };
+        match filled.close(directory) {
+            Ok(()) => Ok(self.max_doc),
+            Err(e) => Err(e),
+        }
+    }
+}

@@ -1,0 +1,58 @@
+use Rattle.std.proofs.Common.{refl}
+use Rattle.std.proofs.lemmas.Option.{MatchOption-from_none}
+use Rattle.seg_meta.specs.View.{meta_of}
+use Rattle.seg_merge.specs.Turns.{both, goes_on, stops}
+use Rattle.seg_merge.proofs.Built.{not_begun}
+use Rattle.seg_merge.proofs.Exits.{exits}
+use Rattle.seg_merge.proofs.Stopped.{stopped_fresh, stopped_refused, stopped_untold, stopped_whole}
+use Rattle.seg_merge.proofs.WholeRefused.{settings_suit}
+use Rattle.seg_merge.proofs.Written.{builds_both}
+use Rattle.seg_merge.proofs.building.build_input.Goals as goal
+
+pub returns-in-Err-clause-stops : goal.returns-in-Err-clause-stops
+returns-in-Err-clause-stops g c = not_begun _ _ _ c.in-Err.e _ c.in-Err.ensures.told
+
+pub returns-in-Err-clause-calls : goal.returns-in-Err-clause-calls
+returns-in-Err-clause-calls g c = stops c.in-Err.e refl (c.in-Err.ensures.told, refl)
+
+pub returns-in-Ok-write_indexes-clause-builds : goal.returns-in-Ok-write_indexes-clause-builds
+returns-in-Ok-write_indexes-clause-builds g c =
+    builds_both c.in-Ok-write_indexes.index (g.Z.Analyzers.knows c.args.analyzers.now) (g.Z.Analyzers.tokens_of c.args.analyzers.now) c.args.input.now
+    c.in-Ok.ensures.fits c.in-Ok.ensures.told (meta_of c.in-Ok-write_indexes.index)
+    (both (g.W.Directory.state c.args.work.now) (g.O.Directory.state c.args.output.now))
+    (both (g.W.Directory.state c.write_indexes.new.work) (g.O.Directory.state c.write_indexes.new.output))
+    c.in-Ok-write_indexes.ensures.built c.in-Ok-write_indexes.ensures.does
+    c.joining_is_invisible.ensures c.built_parts_join.ensures c.built_schemas_have_no_columns.ensures
+    c.files_hold_one_contents.ensures
+
+pub returns-in-Ok-write_indexes-clause-calls : goal.returns-in-Ok-write_indexes-clause-calls
+returns-in-Ok-write_indexes-clause-calls g c =
+    goes_on tt (both (g.W.Directory.state c.args.work.now) (g.O.Directory.state c.args.output.now))
+    (c.in-Ok.ensures.told, refl) c.in-Ok-write_indexes.ensures.does
+
+pub returns-in-Err-write_indexes-clause-stops : goal.returns-in-Err-write_indexes-clause-stops
+returns-in-Err-write_indexes-clause-stops g c =
+    let knows = g.Z.Analyzers.knows c.args.analyzers.now in
+    let F = g.Z.Analyzers.tokens_of c.args.analyzers.now in
+    let i = c.args.input.now in
+    let before = both (g.W.Directory.state c.args.work.now) (g.O.Directory.state c.args.output.now) in
+    let after = both (g.W.Directory.state c.write_indexes.new.work) (g.O.Directory.state c.write_indexes.new.output) in
+    let e = c.in-Err-write_indexes.e in
+    let admitted = c.in-Ok.ensures.told in
+    let fits = c.in-Ok.ensures.fits in
+    let settings = settings_suit knows F i admitted in
+    let exit = exits F i _ e before after c.in-Err-write_indexes.ensures.does in
+    record {
+      first = MatchOption-from_none _ _ admitted;
+      refused =
+          stopped_refused knows F i fits settings admitted e before after exit c.built_schemas_have_no_columns.ensures
+          c.files_hold_one_contents.ensures;
+      untold = stopped_untold knows F i fits settings admitted e before after exit;
+      fresh = stopped_fresh knows F i fits settings admitted e before after exit;
+      whole = stopped_whole knows F i fits settings admitted e before after exit;
+    }
+
+pub returns-in-Err-write_indexes-clause-calls : goal.returns-in-Err-write_indexes-clause-calls
+returns-in-Err-write_indexes-clause-calls g c =
+    goes_on tt (both (g.W.Directory.state c.args.work.now) (g.O.Directory.state c.args.output.now))
+    (c.in-Ok.ensures.told, refl) c.in-Err-write_indexes.ensures.does

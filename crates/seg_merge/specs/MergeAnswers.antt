@@ -1,0 +1,79 @@
+-- What is known of the merge of segments, by what it answers.
+use Rattle.std.specs.Prelude.{ℕ, ◌≡◌, ◌⊎◌, List, [], ◌∷◌, replicate, true, Bool, Option, Some, None, IsTrue}
+use Rattle.std.specs.List.{AllByRecursion}
+use Rattle.seg_common.specs.Causes.{Rose}
+use Rattle.seg_values.specs.declared.error.ArgumentCause.TheVariants.{Documents}
+use Rattle.seg_values.specs.declared.error.TantivyError.{TantivyError}
+use Rattle.seg_values.specs.declared.error.TantivyError.TheVariants.{DataCorruption, IndexAlreadyExists, InvalidArgument, IoError, OpenReadError, OpenWriteError, OutOfMemory}
+use Rattle.seg_directory.specs.Files.{NamedFiles}
+use Rattle.seg_meta.specs.IndexOfFiles as index
+use Rattle.seg_meta.specs.IndexOfFiles.{Deletes, Meta}
+use Rattle.seg_meta.specs.Metas.{SegmentParts}
+use Rattle.seg_model.specs.Operations.{filtered_by}
+use Rattle.seg_segment.specs.Forms.{segment_forms}
+use Rattle.seg_segment.specs.Holds.{Holds}
+use Rattle.seg_segment.specs.HoldsAlive.{HoldsAlive}
+use Rattle.seg_open.specs.OpenSegment.{OpenSegment, contents_of, kept_count}
+use Rattle.seg_open.specs.SegmentOpened.{Asked}
+use Rattle.seg_merge.specs.SegmentsMerged.{IsRefusal, MergeInput, first_schema, is_live, joined, live_asked, output_meta_of}
+use Rattle.seg_merge.specs.Turns.{Directories}
+
+-- ---- errors
+
+-- with which errors a merge ends: a refusal, or too many documents; a file that is there, damage, or out of memory; or
+-- a call failed, and then a fault of that directory was counted
+abbrev pub IsMergeError : MergeInput → Directories → Directories → TantivyError → Type 0
+IsMergeError m before after (InvalidArgument cause) =
+    IsRefusal m m.segments (Some (InvalidArgument cause)) ⊎ (cause ≡ Documents)
+IsMergeError m before after IndexAlreadyExists = Unit {0}
+IsMergeError m before after (DataCorruption name) = Unit {0}
+IsMergeError m before after OutOfMemory = Unit {0}
+IsMergeError m before after OpenReadError =
+    Rose before.work.faults after.work.faults ⊎ Rose before.output.faults after.output.faults
+IsMergeError m before after OpenWriteError = Rose before.output.faults after.output.faults
+IsMergeError m before after IoError = Rose before.output.faults after.output.faults
+IsMergeError m before after _ = ⊥
+
+-- each segment with a live document is whole
+abbrev pub LiveAreWhole : NamedFiles → List SegmentParts → Type 0
+LiveAreWhole files segments =
+    AllByRecursion (λ s. is_live s.meta ≡ true → index.IsWhole segment_forms files s.schema s.meta) segments
+
+-- ---- what is merged
+
+-- the alive file holds these marks; without deletes all are alive
+abbrev pub HoldsMarks : NamedFiles → ℕ → ℕ → Option Deletes → List Bool → Type 0
+HoldsMarks files id documents None alive = alive ≡ replicate documents true
+HoldsMarks files id documents (Some d) alive = HoldsAlive files id d.stamp documents alive
+
+-- an open segment has what files hold of one that is asked for: its contents, and of the documents that are alive there
+-- those that its filter keeps
+pub record HasHeld (files : NamedFiles) (a : Asked) (s : OpenSegment) : Type 0 where
+  pub contents : Holds files a.segment.meta.id a.segment.schema (contents_of s)
+  pub marks : List Bool
+  pub alive : HoldsMarks files a.segment.meta.id a.segment.meta.documents a.segment.meta.deletes marks
+  pub cut : s.alive ≡ filtered_by a.custom marks
+
+-- and so each
+abbrev pub AllHaveHeld : NamedFiles → List Asked → List OpenSegment → Type 0
+AllHaveHeld files [] [] = Unit {0}
+AllHaveHeld files [] (s ∷ opened) = ⊥
+AllHaveHeld files (a ∷ asked) [] = ⊥
+AllHaveHeld files (a ∷ asked) (s ∷ opened) = HasHeld files a s × AllHaveHeld files asked opened
+
+-- segments with what the work files hold were merged: the meta counts their documents; and where the output directory
+-- tells its files, these are an index with this meta, whose segment has what they join to
+pub record IsMergeOf (m : MergeInput) (work : NamedFiles) (told : Type 0) (output : NamedFiles)
+    (meta : Meta) : Type 0 where
+  pub opened : List OpenSegment
+  pub held : AllHaveHeld work (live_asked m.segments m.filters) opened
+  pub counted : meta ≡ output_meta_of m (kept_count opened)
+  pub index_of : told → index.index_of segment_forms output ≡ Some meta
+  pub joins : told → Holds output m.id (first_schema m.segments) (joined (first_schema m.segments) opened)
+
+-- what is told of a merge that went well
+pub record IsMergedAs (m : MergeInput) (before after : Directories) (meta : Meta) : Type 0 where
+  pub counted : (documents : ℕ) × (meta ≡ output_meta_of m documents)
+  pub merged : IsTrue before.work.tells
+      → IsMergeOf m after.work.files (IsTrue before.output.tells) after.output.files meta
+  pub index_of : IsTrue before.output.tells → index.index_of segment_forms after.output.files ≡ Some meta

@@ -1,0 +1,297 @@
+-- What the clauses on a run of `merge` or `show` follow from.
+use Rattle.std.proofs.Common.{◌≡◌, ◌≢◌, ◌≤◌, ◌∙◌, ℕ, List, [], ◌∷◌, ◌++◌, map, Option, None, Some, Result, Ok, Err, IsTrue, refl, sym, ap, subst, inl, inr, codes, arith}
+use Rattle.std.specs.Prelude.{◌⊎◌, Bool, replicate, true}
+use Rattle.std.specs.Io.KnownBytes.{Appends}
+use Rattle.std.proofs.lemmas.List.{append-nil}
+use Rattle.std.proofs.lemmas.Option.{same_Some}
+use Rattle.seg_common.specs.Causes.{Rose}
+use Rattle.seg_common.specs.Streams.{AppendsPart}
+use Rattle.seg_values.specs.declared.error.TantivyError.{TantivyError}
+use Rattle.seg_values.specs.declared.error.TantivyError.TheVariants.{SchemaError, InvalidArgument, IndexAlreadyExists, OpenReadError, OpenWriteError, IoError, DataCorruption, SystemError, FieldNotFound, OutOfMemory}
+use Rattle.seg_directory.specs.Files.{NamedFiles}
+use Rattle.seg_directory.specs.State.{DirectoryState}
+use Rattle.seg_meta.specs.IndexOfFiles as index
+use Rattle.seg_meta.specs.IndexOfFiles.{ListedSegment, Meta}
+use Rattle.seg_meta.specs.MetaSteps.{LoadsMetas}
+use Rattle.seg_meta.specs.Metas.{SegmentParts, segment_of}
+use Rattle.seg_meta.specs.View.{meta_of}
+use Rattle.seg_meta.specs.declared.index_meta.IndexMeta.{IndexMeta}
+use Rattle.seg_model.specs.Contents.{Contents, reading_part}
+use Rattle.seg_model.specs.Fields.{Schema}
+use Rattle.seg_segment.specs.Forms.{segment_forms}
+use Rattle.seg_segment.specs.Holds.{Holds}
+use Rattle.seg_segment.specs.Laws.{HoldsOneContents}
+use Rattle.seg_segment.specs.SegmentRead.{IsNoDamage, IsReadError}
+use Rattle.seg_segment.proofs.Exports.{Unchanged}
+use Rattle.seg_open.specs.OpenSegment.{OpenSegment, contents_of, kept_count}
+use Rattle.seg_merge.specs.IndexFiles.{undeleted}
+use Rattle.seg_merge.specs.MergeAnswers.{AllHaveHeld, IsMergeOf}
+use Rattle.seg_merge.specs.SegmentsMerged.{IsRefusal, MergeInput, MergesLive, MergesSegments, first_schema, joined, live_asked, output_meta_of}
+use Rattle.seg_merge.specs.Turns.{Directories, Passes, Then, goes_on, stops}
+use Rattle.seg_text.specs.SegmentText.{segment_text}
+use Rattle.seg_tool.specs.DirectoryCalls.{JobDoes}
+use Rattle.seg_tool.specs.Indexes.{AreReadOf, HasWholeIndex, IsJoined, IsMergedText, IsPrinted, IsShownText, joined_text}
+use Rattle.seg_tool.specs.Jobs.{Merges, MergesText, MergesWork, ShowsText, WithStatus, last_id, merge_of}
+use Rattle.seg_tool.specs.Printing.{read_segment_text, read_texts}
+use Rattle.seg_tool.specs.ReadingBack.{PrintsIndex, listed_in}
+use Rattle.seg_tool.specs.Run.{Gains, GainsPart}
+use Rattle.seg_tool.specs.Runs.{EndsJob, SinkState, World, WritesText, failed, has_text, no_text, written}
+use Rattle.seg_tool.specs.Statuses.{status_of}
+use Rattle.seg_tool.specs.declared.status.Status.{Status}
+use Rattle.seg_tool.specs.declared.status.Status.TheVariants.{Done, Words, Script, Stream, Memory}
+use Rattle.seg_tool.specs.declared.words.Detail.TheVariants.{Brief, Full}
+use Rattle.seg_tool.proofs.IndexLaws.{load_index, load_stays, prints_rose, prints_so, prints_stay, prints_told, prints_undamaged, tells_on}
+use Rattle.seg_tool.proofs.StatusLaws.{IsErrorOf, IsOfError, answer_of, error_of, is_error, job_as, of_error}
+use Rattle.seg_tool.proofs.Steady.{Steady, merges_steady}
+
+-- ---- how a job ends
+
+data JobExits {K : Type 0} (does : Result (List ℕ) TantivyError → Directories → Directories → Type 0) (status : Status) (sink sink_after : K)
+    (a b : World) : Type 0 where
+  j_error : (e : TantivyError) → status ≡ status_of e → does (Err e) a.directories b.directories → sink_after ≡ sink → b.sink ≡ a.sink
+      → JobExits does status sink sink_after a b
+  j_failed : (text : List ℕ) → status ≡ Stream → does (Ok text) a.directories b.directories → AppendsPart a.sink.written b.sink.written text
+      → Rose a.sink.faults b.sink.faults → a.sink.faults ≤ b.sink.faults → JobExits does status sink sink_after a b
+  j_done : (text : List ℕ) → status ≡ Done → does (Ok text) a.directories b.directories → Appends a.sink.written b.sink.written text
+      → a.sink.faults ≤ b.sink.faults → JobExits does status sink sink_after a b
+
+module _ {K : Type 0} (does : Result (List ℕ) TantivyError → Directories → Directories → Type 0) (status : Status) (sink sink_after : K) (a b : World) where
+  by_text : (text : List ℕ) → does (Ok text) a.directories b.directories → WritesText text status a.sink b.sink → JobExits does status sink sink_after a b
+  by_text text h (written is appends later) = j_done text is h appends later
+  by_text text h (failed is part rose later) = j_failed text is h part rose later
+
+  job_exits : EndsJob (WithStatus does) status sink sink_after a b → JobExits does status sink sink_after a b
+  job_exits (has_text text w writes) =
+      by_text text (subst (λ (r : Result (List ℕ) TantivyError). does r a.directories b.directories) (answer_of text w.answer w.is) w.does_so) writes
+  job_exits (no_text w same_sink none) = by (error_of status w.answer w.is)
+    where
+      by : IsErrorOf status w.answer → JobExits does status sink sink_after a b
+      by (is_error e is told) = j_error e told (subst (λ (r : Result (List ℕ) TantivyError). does r a.directories b.directories) is w.does_so) same_sink none
+
+  same_count : b.sink ≡ a.sink → a.sink.faults ≤ b.sink.faults
+  same_count none = omega (arith, ap (λ (s : SinkState). s.faults) none)
+
+module _ {K : Type 0} {does : Result (List ℕ) TantivyError → Directories → Directories → Type 0} {status : Status} {sink sink_after : K} {a b : World}
+    (r : EndsJob (WithStatus does) status sink sink_after a b) where
+  exits : JobExits does status sink sink_after a b
+  exits = job_exits does status sink sink_after a b r
+
+  pub job_no_words : status ≡ Words → ⊥
+  job_no_words at = by exits
+    where
+      by : JobExits does status sink sink_after a b → ⊥
+      by (j_error e is h same_sink none) = subst IsOfError (sym is ∙ at) (of_error e)
+      by (j_failed text is h part rose later) = cc (sym is ∙ at)
+      by (j_done text is h appends later) = cc (sym is ∙ at)
+
+  pub job_no_script : status ≡ Script → ⊥
+  job_no_script at = by exits
+    where
+      by : JobExits does status sink sink_after a b → ⊥
+      by (j_error e is h same_sink none) = subst IsOfError (sym is ∙ at) (of_error e)
+      by (j_failed text is h part rose later) = cc (sym is ∙ at)
+      by (j_done text is h appends later) = cc (sym is ∙ at)
+
+  pub job_same_sink : status ≢ Done → status ≢ Stream → sink_after ≡ sink
+  job_same_sink not_done not_stream = by exits
+    where
+      by : JobExits does status sink sink_after a b → sink_after ≡ sink
+      by (j_error e is h same_sink none) = same_sink
+      by (j_failed text is h part rose later) = absurd (not_stream is)
+      by (j_done text is h appends later) = absurd (not_done is)
+
+  pub job_sink_later : a.sink.faults ≤ b.sink.faults
+  job_sink_later = by exits
+    where
+      by : JobExits does status sink sink_after a b → a.sink.faults ≤ b.sink.faults
+      by (j_error e is h same_sink none) = same_count does status sink sink_after a b none
+      by (j_failed text is h part rose later) = later
+      by (j_done text is h appends later) = later
+
+  pub job_does : JobDoes does status a.directories b.directories
+  job_does = by exits
+    where
+      by : JobExits does status sink sink_after a b → JobDoes does status a.directories b.directories
+      by (j_error e is h same_sink none) = subst (λ (s : Status). JobDoes does s a.directories b.directories) (sym is) (job_as does e a.directories b.directories h)
+      by (j_failed text is h part rose later) = subst (λ (s : Status). JobDoes does s a.directories b.directories) (sym is) (text, h)
+      by (j_done text is h appends later) = subst (λ (s : Status). JobDoes does s a.directories b.directories) (sym is) (text, h)
+
+  -- a text of some kind is gained
+  module _ (IsText : List ℕ → Type 0) (of : (text : List ℕ) → does (Ok text) a.directories b.directories → IsText text) where
+    pub job_gains : status ≡ Done → Gains IsText a.sink.written b.sink.written
+    job_gains at = by exits
+      where
+        by : JobExits does status sink sink_after a b → Gains IsText a.sink.written b.sink.written
+        by (j_error e is h same_sink none) = absurd (subst IsOfError (sym is ∙ at) (of_error e))
+        by (j_failed text is h part rose later) = absurd (cc (sym is ∙ at))
+        by (j_done text is h appends later) = record { text = text; is_text = of text h; appended = appends }
+
+    pub job_stream : status ≡ Stream → Rose a.sink.faults b.sink.faults × GainsPart IsText a.sink.written b.sink.written
+    job_stream at = by exits
+      where
+        by : JobExits does status sink sink_after a b → Rose a.sink.faults b.sink.faults × GainsPart IsText a.sink.written b.sink.written
+        by (j_error e is h same_sink none) = absurd (subst IsOfError (sym is ∙ at) (of_error e))
+        by (j_failed text is h part rose later) = (rose, record { text = text; is_text = of text h; appended = part })
+        by (j_done text is h appends later) = absurd (cc (sym is ∙ at))
+
+  -- what holds of each result
+  pub job_each : (P : Type 0) → ((q : Result (List ℕ) TantivyError) → does q a.directories b.directories → P) → P
+  job_each P of = by exits
+    where
+      by : JobExits does status sink sink_after a b → P
+      by (j_error e is h same_sink none) = of (Err e) h
+      by (j_failed text is h part rose later) = of (Ok text) h
+      by (j_done text is h appends later) = of (Ok text) h
+
+  -- it ends well where the sink doesn't fail, and each error is want of memory
+  pub job_completes : (Rose a.sink.faults b.sink.faults → ⊥) → ((e : TantivyError) → does (Err e) a.directories b.directories → status_of e ≡ Memory)
+      → (status ≡ Done) ⊎ (status ≡ Memory)
+  job_completes sound of = by exits
+    where
+      by : JobExits does status sink sink_after a b → (status ≡ Done) ⊎ (status ≡ Memory)
+      by (j_error e is h same_sink none) = inr (is ∙ of e h)
+      by (j_failed text is h part rose later) = absurd (sound rose)
+      by (j_done text is h appends later) = inl is
+
+-- ---- show
+
+module _ (a b : Directories) where
+  pub is_shown : (text : List ℕ) → ShowsText (Ok text) a b → IsShownText a b text
+  is_shown text h = record { shows = h; told = λ told. prints_told [] (codes "segment") Full a.work b.work text told h.0 }
+
+  pub shows_stay : (r : Result (List ℕ) TantivyError) → ShowsText r a b → (b.work.files ≡ a.work.files) × (b.output ≡ a.output)
+  shows_stay r h = ((prints_stay [] (codes "segment") Full a.work b.work r h.0).files, h.1)
+
+  memory_left : (e : TantivyError) → IsReadError e → IsNoDamage e → e ≢ OpenReadError → status_of e ≡ Memory
+  memory_left OutOfMemory h k not = refl
+  memory_left OpenReadError h k not = absurd (not refl)
+  memory_left (DataCorruption name) h k not = absurd k
+  memory_left (SchemaError cause) h k not = absurd h
+  memory_left (InvalidArgument cause) h k not = absurd h
+  memory_left IndexAlreadyExists h k not = absurd h
+  memory_left OpenWriteError h k not = absurd h
+  memory_left IoError h k not = absurd h
+  memory_left SystemError h k not = absurd h
+  memory_left FieldNotFound h k not = absurd h
+
+  pub show_starves : HasWholeIndex a.work b.work → (e : TantivyError) → ShowsText (Err e) a b → status_of e ≡ Memory
+  show_starves whole e h =
+      memory_left e
+      (prints_so [] (codes "segment") Full a.work b.work whole.meta whole.tells whole.is_index e whole.built h.0)
+      (prints_undamaged [] (codes "segment") Full a.work b.work whole.meta whole.tells whole.is_index e whole.whole h.0)
+      (λ is. whole.sound (prints_rose [] (codes "segment") Full a.work b.work (subst (λ (x : TantivyError). PrintsIndex [] (codes "segment") Full (Err x) a.work b.work) is h.0)))
+
+-- ---- merge
+
+-- segments that nothing refuses: there is one
+some_merged : (m : MergeInput) (segments : List SegmentParts) (refusal : Option TantivyError) → refusal ≡ None → IsRefusal m segments refusal → segments ≢ []
+some_merged m [] refusal none is empty = cc (sym is ∙ none)
+some_merged m (s ∷ segments) refusal none is empty = absurd (cc empty)
+
+merges_some : (metas merged : IndexMeta) (a b : Directories) → MergesSegments (merge_of metas) (Ok merged) a b → metas.segments ≢ []
+merges_some metas merged a b h empty = by h.merges
+  where
+    none_there : h.refusal ≡ None → ⊥
+    none_there none = some_merged (merge_of metas) (listed_in metas) h.refusal none h.is (ap (λ (l : List ListedSegment). map (segment_of metas.schema) l) empty)
+
+    by : Then {X = Unit {0}} (Passes h.refusal) (λ _. MergesLive (merge_of metas)) (Ok merged) a b → ⊥
+    by (stops e is k) = cc is
+    by (goes_on u n k l) = none_there k.0
+
+first_of : (metas : IndexMeta) → metas.segments ≢ [] → first_schema (listed_in metas) ≡ metas.schema
+first_of metas some = by metas.segments some
+  where
+    by : (listed : List ListedSegment) → listed ≢ [] → first_schema (map (segment_of metas.schema) listed) ≡ metas.schema
+    by [] some = absurd (some refl)
+    by (l ∷ listed) some = refl
+
+-- the text of what segments join to
+module _ (law : HoldsOneContents) (files : NamedFiles) (schema : Schema) (opened : List OpenSegment) (holds : Holds files last_id schema (joined schema opened)) where
+  one_text : (s : OpenSegment) → s.schema ≡ schema → s.id ≡ last_id → s.alive ≡ replicate (kept_count opened) true → Holds files last_id schema (contents_of s)
+      → read_segment_text (codes "output") Brief s ≡ joined_text schema opened
+  one_text s same of_id marks held =
+      ap (λ (c : Schema). segment_text c (record { label = codes "output"; id = s.id; alive = s.alive; reading = reading_part (contents_of s) })) same
+      ∙ ap (λ i. segment_text schema (record { label = codes "output"; id = i; alive = s.alive; reading = reading_part (contents_of s) })) of_id
+      ∙ ap (λ (m : List Bool). segment_text schema (record { label = codes "output"; id = last_id; alive = m; reading = reading_part (contents_of s) })) marks
+      ∙ ap (λ (c : Contents). segment_text schema (record { label = codes "output"; id = last_id; alive = replicate (kept_count opened) true; reading = reading_part c }))
+      (law files last_id schema (contents_of s) (joined schema opened) held holds)
+
+  all_text : (read : List OpenSegment) → AreReadOf files schema (undeleted last_id (kept_count opened) ∷ []) read
+      → read_texts (codes "output") Brief read ≡ joined_text schema opened
+  all_text [] are = absurd are
+  all_text (s ∷ t ∷ read) are = absurd are.1
+  all_text (s ∷ []) are =
+      append-nil (read_segment_text (codes "output") Brief s)
+      ∙ one_text s are.0.of_schema are.0.of_id are.0.alive are.0.holds
+
+-- all went well
+record IsDone (text : List ℕ) (a b : Directories) : Type 0 where
+  pub metas : IndexMeta
+  pub merged : IndexMeta
+  pub loaded_at : Directories
+  pub merged_at : Directories
+  pub loads : LoadsMetas (Ok metas) a.work loaded_at.work
+  pub same_output : loaded_at.output ≡ a.output
+  pub merges : Merges (merge_of metas) (Ok merged) loaded_at merged_at
+  pub prints : PrintsIndex [] (codes "output") Brief (Ok text) merged_at.output b.output
+  pub same_work : b.work ≡ merged_at.work
+
+module _ (a b : Directories) where
+  is_done : (text : List ℕ) → MergesText (Ok text) a b → IsDone text a b
+  is_done text (stops e is h) = absurd (cc is)
+  is_done text (goes_on merged n (stops e is l) p) = absurd (cc is)
+  is_done text (goes_on merged n (goes_on metas m l k) p) = record {
+    metas = metas;
+    merged = merged;
+    loaded_at = m;
+    merged_at = n;
+    loads = l.0;
+    same_output = l.1;
+    merges = k;
+    prints = p.0;
+    same_work = p.1;
+  }
+
+  -- what `merge` leaves and prints
+  pub is_joined : HoldsOneContents → (text : List ℕ) → MergesText (Ok text) a b → IsTrue a.work.tells → IsTrue a.output.tells
+      → IsJoined a.work.files b.output.files text
+  is_joined law text h told told_out =
+      let d = is_done text h in
+      let same = load_stays a.work d.loaded_at.work (Ok d.metas) d.loads in
+      let told_loaded = tells_on a.work d.loaded_at.work same told in
+      let told_begun = subst (λ (s : DirectoryState). IsTrue s.tells) (sym d.same_output) told_out in
+      let told_merged = subst (λ t. IsTrue t) (sym (merges_steady (merge_of d.metas) (Ok d.merged) d.loaded_at d.merged_at d.merges.does).output.tells) told_begun in
+      let some = merges_some d.metas d.merged d.loaded_at d.merged_at d.merges.does in
+      let one = first_of d.metas some in
+      let j = d.merges.index told_loaded in
+      let p = prints_told [] (codes "output") Brief d.merged_at.output b.output text told_merged d.prints in
+      let output_same = (prints_stay [] (codes "output") Brief d.merged_at.output b.output (Ok text) d.prints).files in
+      let is_output = j.index_of told_begun ∙ ap (λ (x : Meta). Some x) j.counted in
+      let held = subst (λ (schema : Schema). Holds d.merged_at.output.files last_id schema (joined schema j.opened)) one (j.joins told_begun) in
+      let meta_is = same_Some (meta_of p.metas) (output_meta_of (merge_of d.metas) (kept_count j.opened)) (sym p.is_index ∙ is_output) in
+      let read =
+      subst (λ (schema : Schema). AreReadOf d.merged_at.output.files schema (undeleted last_id (kept_count j.opened) ∷ []) p.opened) one
+      (subst (λ (x : Meta). AreReadOf d.merged_at.output.files x.schema x.segments p.opened) meta_is p.are_read) in
+      record {
+        metas = d.metas;
+        is_index = load_index a.work d.loaded_at.work d.metas told d.loads;
+        some = some;
+        opened = j.opened;
+        held =
+            subst (λ (files : NamedFiles). AllHaveHeld files (live_asked (merge_of d.metas).segments (merge_of d.metas).filters) j.opened) same.files j.held;
+        is_output = subst (λ (files : NamedFiles). index.index_of segment_forms files ≡ Some (output_meta_of (merge_of d.metas) (kept_count j.opened))) (sym output_same) is_output;
+        holds = subst (λ (files : NamedFiles). Holds files last_id d.metas.schema (joined d.metas.schema j.opened)) (sym output_same) held;
+        printed = p.printed ∙ all_text law d.merged_at.output.files d.metas.schema j.opened held p.opened read;
+      }
+
+  pub is_merged : HoldsOneContents → (text : List ℕ) → MergesText (Ok text) a b → IsMergedText a b text
+  is_merged law text h = record { merges = h; told = is_joined law text h }
+
+  -- no file of the work directory changes
+  work_same : (r : Result IndexMeta TantivyError) → MergesWork r a b → b.work.files ≡ a.work.files
+  work_same r (stops e is l) = (load_stays a.work b.work (Err e) l.0).files
+  work_same r (goes_on metas m l k) = k.work_stays ∙ (load_stays a.work m.work (Ok metas) l.0).files
+
+pub merges_stay : (a b : Directories) (r : Result (List ℕ) TantivyError) → MergesText r a b → b.work.files ≡ a.work.files
+merges_stay a b r (stops e is w) = work_same a b (Err e) w
+merges_stay a b r (goes_on merged n w p) = ap (λ (s : DirectoryState). s.files) p.1 ∙ work_same a n (Ok merged) w

@@ -1,0 +1,195 @@
+-- The statuses of errors.
+use Rattle.std.proofs.Common.{◌≡◌, ◌≢◌, ◌∙◌, ℕ, List, Option, None, Some, Result, Ok, Err, inl, inr, refl, sym, ap, subst}
+use Rattle.std.specs.Prelude.{◌⊎◌, IfSome}
+use Rattle.seg_common.specs.declared.name.FileName.{FileName}
+use Rattle.seg_values.specs.declared.error.TantivyError.{TantivyError}
+use Rattle.seg_values.specs.declared.error.TantivyError.TheVariants.{SchemaError, InvalidArgument, IndexAlreadyExists, OpenReadError, OpenWriteError, IoError, DataCorruption, SystemError, FieldNotFound, OutOfMemory}
+use Rattle.seg_model.specs.Fields.{Analyzer}
+use Rattle.seg_model.specs.Input.{Input}
+use Rattle.seg_model.specs.Refused.{IfRefusal, IsRefusal}
+use Rattle.seg_model.specs.Valid.{Known}
+use Rattle.seg_open.specs.SegmentOpened.{IsNoDamage}
+use Rattle.seg_refusals.proofs.Exports.{first_is_refusal}
+use Rattle.seg_refusals.specs.Refusals.{first_error}
+use Rattle.seg_merge.specs.Turns.{Directories}
+use Rattle.seg_tool.specs.DirectoryCalls.{IsDamage, IsFault, JobDoes}
+use Rattle.seg_tool.specs.Jobs.{with_status}
+use Rattle.seg_tool.specs.Statuses.{IfRefused, IfWritten, status_of}
+use Rattle.seg_tool.specs.declared.status.Status.{Status}
+use Rattle.seg_tool.specs.declared.status.Status.TheVariants.{Done, Words, Script, Refused, Exists, Directory, Damaged, Stream, Memory}
+
+-- ---- kinds of statuses
+
+-- one without a text, of a command
+abbrev pub IsEarly : Status → Type 0
+IsEarly Done = ⊥
+IsEarly Words = ⊥
+IsEarly Stream = ⊥
+IsEarly _ = Unit {0}
+
+-- and one of an error
+abbrev pub IsOfError : Status → Type 0
+IsOfError Done = ⊥
+IsOfError Words = ⊥
+IsOfError Script = ⊥
+IsOfError Stream = ⊥
+IsOfError _ = Unit {0}
+
+pub of_error : (e : TantivyError) → IsOfError (status_of e)
+of_error (SchemaError cause) = tt
+of_error (InvalidArgument cause) = tt
+of_error IndexAlreadyExists = tt
+of_error OpenReadError = tt
+of_error OpenWriteError = tt
+of_error IoError = tt
+of_error (DataCorruption name) = tt
+of_error SystemError = tt
+of_error FieldNotFound = tt
+of_error OutOfMemory = tt
+
+pub early_error : (s : Status) → IsOfError s → IsEarly s
+early_error Done h = h
+early_error Words h = h
+early_error Script h = tt
+early_error Stream h = h
+early_error (Refused e) h = tt
+early_error (Exists e) h = tt
+early_error (Directory e) h = tt
+early_error (Damaged e) h = tt
+early_error Memory h = tt
+
+pub if_refused : (s : Status) (P : Type 0) → P → IfRefused s (λ _. P)
+if_refused (Refused e) P p = p
+if_refused Done P p = tt
+if_refused Words P p = tt
+if_refused Script P p = tt
+if_refused (Exists e) P p = tt
+if_refused (Directory e) P p = tt
+if_refused (Damaged e) P p = tt
+if_refused Stream P p = tt
+if_refused Memory P p = tt
+
+pub when_written : (s : Status) (P : Type 0) → P → IfWritten s (λ _. P)
+when_written (Exists e) P p = p
+when_written (Directory e) P p = p
+when_written (Damaged e) P p = p
+when_written Done P p = tt
+when_written Words P p = tt
+when_written Script P p = tt
+when_written (Refused e) P p = tt
+when_written Stream P p = tt
+when_written Memory P p = tt
+
+pub refused_then : (P Q : TantivyError → Type 0) (s : Status) → ((e : TantivyError) → P e → Q e) → IfRefused s P → IfRefused s Q
+refused_then P Q (Refused e) f p = f e p
+refused_then P Q Done f p = tt
+refused_then P Q Words f p = tt
+refused_then P Q Script f p = tt
+refused_then P Q (Exists e) f p = tt
+refused_then P Q (Directory e) f p = tt
+refused_then P Q (Damaged e) f p = tt
+refused_then P Q Stream f p = tt
+refused_then P Q Memory f p = tt
+
+pub written_then : (P Q : TantivyError → Type 0) (s : Status) → ((e : TantivyError) → P e → Q e) → IfWritten s P → IfWritten s Q
+written_then P Q (Exists e) f p = f e p
+written_then P Q (Directory e) f p = f e p
+written_then P Q (Damaged e) f p = f e p
+written_then P Q Done f p = tt
+written_then P Q Words f p = tt
+written_then P Q Script f p = tt
+written_then P Q (Refused e) f p = tt
+written_then P Q Stream f p = tt
+written_then P Q Memory f p = tt
+
+-- ---- of errors
+
+-- only files that are there are told as such
+pub exists_only : (e x : TantivyError) → status_of e ≡ Exists x → (e ≡ IndexAlreadyExists → ⊥) → ⊥
+exists_only IndexAlreadyExists x is not = not refl
+exists_only (SchemaError cause) x is not = cc is
+exists_only (InvalidArgument cause) x is not = cc is
+exists_only OpenReadError x is not = cc is
+exists_only OpenWriteError x is not = cc is
+exists_only IoError x is not = cc is
+exists_only (DataCorruption name) x is not = cc is
+exists_only SystemError x is not = cc is
+exists_only FieldNotFound x is not = cc is
+exists_only OutOfMemory x is not = cc is
+
+-- no damage is told where there is none
+pub undamaged_as : (e x : TantivyError) → status_of e ≡ Damaged x → IsNoDamage e → ⊥
+undamaged_as (DataCorruption other) x is h = h
+undamaged_as (SchemaError cause) x is h = cc is
+undamaged_as (InvalidArgument cause) x is h = cc is
+undamaged_as IndexAlreadyExists x is h = cc is
+undamaged_as OpenReadError x is h = cc is
+undamaged_as OpenWriteError x is h = cc is
+undamaged_as IoError x is h = cc is
+undamaged_as SystemError x is h = cc is
+undamaged_as FieldNotFound x is h = cc is
+undamaged_as OutOfMemory x is h = cc is
+
+pub refused_as : (P : TantivyError → Type 0) (e : TantivyError) → IfRefusal P e → IfRefused (status_of e) P
+refused_as P (SchemaError cause) h = h
+refused_as P (InvalidArgument cause) h = h
+refused_as P IndexAlreadyExists h = tt
+refused_as P OpenReadError h = tt
+refused_as P OpenWriteError h = tt
+refused_as P IoError h = tt
+refused_as P (DataCorruption name) h = tt
+refused_as P SystemError h = tt
+refused_as P FieldNotFound h = tt
+refused_as P OutOfMemory h = tt
+
+-- each first error is a refusal's
+status_is : (e : TantivyError) → IsRefusal e → status_of e ≡ Refused e
+status_is (SchemaError cause) h = refl
+status_is (InvalidArgument cause) h = refl
+status_is IndexAlreadyExists h = absurd h
+status_is OpenReadError h = absurd h
+status_is OpenWriteError h = absurd h
+status_is IoError h = absurd h
+status_is (DataCorruption name) h = absurd h
+status_is SystemError h = absurd h
+status_is FieldNotFound h = absurd h
+status_is OutOfMemory h = absurd h
+
+pub first_statuses : (known : Known) (analyzer : Analyzer) (input : Input) → IfSome (first_error known analyzer input) (λ x. status_of x ≡ Refused x)
+first_statuses known analyzer input = by (first_error known analyzer input) refl
+  where
+    by : (o : Option TantivyError) → first_error known analyzer input ≡ o → IfSome o (λ x. status_of x ≡ Refused x)
+    by None is = tt
+    by (Some x) is = status_is x (first_is_refusal known analyzer input x is)
+
+-- what a job does, by the status of its error
+pub job_as : (does : Result (List ℕ) TantivyError → Directories → Directories → Type 0) (e : TantivyError) (a b : Directories)
+    → does (Err e) a b → JobDoes does (status_of e) a b
+job_as does (SchemaError cause) a b h = h
+job_as does (InvalidArgument cause) a b h = h
+job_as does IndexAlreadyExists a b h = h
+job_as does OpenReadError a b h = (inl refl, h)
+job_as does OpenWriteError a b h = (inr (inl refl), h)
+job_as does IoError a b h = (inr (inr refl), h)
+job_as does (DataCorruption name) a b h = (tt, h)
+job_as does SystemError a b h = (SystemError, h)
+job_as does FieldNotFound a b h = (FieldNotFound, h)
+job_as does OutOfMemory a b h = (OutOfMemory, h)
+
+-- ---- results with statuses
+
+failing : (T : Type 0) → Status → Result T Status
+failing T s = Err s
+
+-- an answer is one of a job
+pub answer_of : {T : Type 0} (x : T) (r : Result T TantivyError) → Ok x ≡ with_status r → r ≡ Ok x
+answer_of x (Ok y) is = sym (cc is)
+answer_of x (Err e) is = absurd (cc is)
+
+-- and a status that of an error
+pub data IsErrorOf {T : Type 0} (s : Status) (r : Result T TantivyError) : Type 0 where
+  is_error : (e : TantivyError) → r ≡ Err e → s ≡ status_of e → IsErrorOf s r
+
+pub error_of : {T : Type 0} (s : Status) (r : Result T TantivyError) → Err s ≡ with_status r → IsErrorOf s r
+error_of s (Ok x) is = absurd (cc is)
+error_of s (Err e) is = is_error e refl (cc is)

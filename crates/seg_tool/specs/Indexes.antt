@@ -1,0 +1,93 @@
+-- What `merge` and `show` leave and print, where the directories tell their files.
+use Rattle.std.specs.Prelude.{ℕ, ◌≡◌, ◌≢◌, List, [], ◌∷◌, ◌++◌, replicate, true, Some, Ok, IsTrue, codes}
+use Rattle.seg_common.specs.Causes.{Rose}
+use Rattle.seg_directory.specs.Files.{NamedFiles}
+use Rattle.seg_directory.specs.State.{DirectoryState}
+use Rattle.seg_meta.specs.IndexOfFiles as index
+use Rattle.seg_meta.specs.IndexOfFiles.{ListedSegment, Meta}
+use Rattle.seg_meta.specs.View.{meta_of}
+use Rattle.seg_meta.specs.declared.index_meta.IndexMeta.{IndexMeta}
+use Rattle.seg_model.specs.Contents.{reading_part}
+use Rattle.seg_model.specs.Fields.{Schema}
+use Rattle.seg_segment.specs.Built.{is_built_schema}
+use Rattle.seg_segment.specs.Forms.{segment_forms}
+use Rattle.seg_segment.specs.Holds.{Holds}
+use Rattle.seg_open.specs.OpenSegment.{OpenSegment, contents_of, kept_count}
+use Rattle.seg_merge.specs.MergeAnswers.{AllHaveHeld, HoldsMarks}
+use Rattle.seg_merge.specs.SegmentsMerged.{joined, live_asked, output_meta_of}
+use Rattle.seg_merge.specs.Turns.{Directories}
+use Rattle.seg_text.specs.SegmentText.{segment_text}
+use Rattle.seg_tool.specs.Jobs.{MergesText, ShowsText, last_id, merge_of}
+use Rattle.seg_tool.specs.Printing.{read_texts}
+use Rattle.seg_tool.specs.declared.words.Detail.{Detail}
+use Rattle.seg_tool.specs.declared.words.Detail.TheVariants.{Full}
+
+-- ---- segments that are read
+
+-- an open segment has what the files hold of a listed segment
+pub record IsReadOf (files : NamedFiles) (schema : Schema) (listed : ListedSegment) (s : OpenSegment) : Type 0 where
+  pub of_id : s.id ≡ listed.id
+  pub of_schema : s.schema ≡ schema
+  pub holds : Holds files listed.id schema (contents_of s)
+  pub alive : HoldsMarks files listed.id listed.documents listed.deletes s.alive
+
+-- and each
+abbrev pub AreReadOf : NamedFiles → Schema → List ListedSegment → List OpenSegment → Type 0
+AreReadOf files schema [] [] = Unit {0}
+AreReadOf files schema [] (s ∷ opened) = ⊥
+AreReadOf files schema (l ∷ listed) [] = ⊥
+AreReadOf files schema (l ∷ listed) (s ∷ opened) = IsReadOf files schema l s × AreReadOf files schema listed opened
+
+-- the files have an index, of which these segments were opened, one after another; this is their text, after what was printed before
+pub record IsPrinted (front label : List ℕ) (detail : Detail) (files : NamedFiles) (text : List ℕ) : Type 0 where
+  pub metas : IndexMeta
+  pub is_index : index.index_of segment_forms files ≡ Some (meta_of metas)
+  pub opened : List OpenSegment
+  pub are_read : AreReadOf files metas.schema metas.segments opened
+  pub printed : text ≡ front ++ read_texts label detail opened
+
+-- ---- show
+
+-- it is the text that `show` makes, and where the work directory tells its files, that of the index that they have
+pub record IsShownText (before after : Directories) (text : List ℕ) : Type 0 where
+  pub shows : ShowsText (Ok text) before after
+  pub told : IsTrue before.work.tells → IsPrinted [] (codes "segment") Full before.work.files text
+
+-- ---- merge
+
+-- what open segments join to is printed under the last id, with all its documents alive
+abbrev pub joined_text : Schema → List OpenSegment → List ℕ
+joined_text schema opened = segment_text schema (record {
+  label = codes "output";
+  id = last_id;
+  alive = replicate (kept_count opened) true;
+  reading = reading_part (joined schema opened);
+})
+
+-- the work files have an index that lists segments; those that have a live document were opened, and what they join to is held
+-- by the one segment of the index that the output files have; this is its text
+pub record IsJoined (work output : NamedFiles) (text : List ℕ) : Type 0 where
+  pub metas : IndexMeta
+  pub is_index : index.index_of segment_forms work ≡ Some (meta_of metas)
+  pub some : metas.segments ≢ []
+  pub opened : List OpenSegment
+  pub held : AllHaveHeld work (live_asked (merge_of metas).segments (merge_of metas).filters) opened
+  pub is_output : index.index_of segment_forms output ≡ Some (output_meta_of (merge_of metas) (kept_count opened))
+  pub holds : Holds output last_id metas.schema (joined metas.schema opened)
+  pub printed : text ≡ joined_text metas.schema opened
+
+-- it is the text that `merge` makes, and where both directories tell their files, that of what the work segments join to
+pub record IsMergedText (before after : Directories) (text : List ℕ) : Type 0 where
+  pub merges : MergesText (Ok text) before after
+  pub told : IsTrue before.work.tells → IsTrue before.output.tells → IsJoined before.work.files after.output.files text
+
+-- ---- what ends well
+
+-- a directory that tells its files, which have an index of whole segments, of a schema that is built, and does not fail
+pub record HasWholeIndex (before after : DirectoryState) : Type 0 where
+  pub tells : IsTrue before.tells
+  pub meta : Meta
+  pub is_index : index.index_of segment_forms before.files ≡ Some meta
+  pub built : is_built_schema meta.schema ≡ true
+  pub whole : index.AreWhole segment_forms before.files meta
+  pub sound : ¬ (Rose before.faults after.faults)
