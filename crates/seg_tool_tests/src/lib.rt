@@ -7,5 +7,3 @@ mod failures;
 mod reporting;
 #[cfg(test)]
 mod streams;
-#[cfg(test)]
-mod words;

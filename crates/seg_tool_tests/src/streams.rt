@@ -85,7 +85,7 @@ pub(crate) fn run_over(alloc: Global, streams: &mut Streams) -> Result<u8, Alloc
 }
 
 /// The number of a run of words over the streams.
-pub(crate) fn run_words(
+fn run_words(
     alloc: Global,
     streams: &mut Streams,
     words: &[String],
