@@ -85,11 +85,7 @@ pub(crate) fn run_over(alloc: Global, streams: &mut Streams) -> Result<u8, Alloc
 }
 
 /// The number of a run of words over the streams.
-fn run_words(
-    alloc: Global,
-    streams: &mut Streams,
-    words: &[String],
-) -> Result<u8, AllocError> {
+fn run_words(alloc: Global, streams: &mut Streams, words: &[String]) -> Result<u8, AllocError> {
     let mut analyzers = TokenizerManager::new(alloc);
     analyzers.register("default", Box::new(alloc, DefaultTokenizer)?)?;
     let status = run(
