@@ -1,12 +1,12 @@
 #!/usr/bin/env python3
 """Writes a script for `build` to standard output.
 
-usage: gen_corpus.py DOCUMENTS [SEED] [SHAPE]    DOCUMENTS may be `max`: as many as fit into a script
+usage: gen_corpus.py DOCUMENTS [SEED] [SHAPE] [BATCHES]    DOCUMENTS may be `max`: as many as fit into a script
 
 Each document has an id (stored, `basic`) and a body of 50 words (stored, `positions`, with lengths). Words are drawn
 from 200,000 by Zipf's law (weight 1 / rank); there are some upper case letters, commas and full stops. After each 20th
 document there is a delete by id: three in four name a document before it, one in four an id that comes later or never.
-There are 8 cuts, so 9 batches of about as many operations.
+There are 9 batches, if no number of them is given, of about as many operations.
 
 The shape says what differs:
   textids    the id is a text without lengths (the default)
@@ -103,10 +103,11 @@ def main():
     parser.add_argument('documents')
     parser.add_argument('seed', type=int, nargs='?', default=7)
     parser.add_argument('shape', choices=SHAPES, nargs='?', default=SHAPES[0])
+    parser.add_argument('batches', type=int, nargs='?', default=BATCHES)
     words = parser.parse_args()
     want = None if words.documents == 'max' else int(words.documents)
     operations = list(operations_of(random.Random(words.seed), words.shape, want))
-    batches = 1 if words.shape == 'texts' else BATCHES
+    batches = 1 if words.shape == 'texts' else words.batches
     cuts = [len(operations) * batch // batches for batch in range(1, batches)]
     sys.stdout.write(f'{{"schema":{json_text(schema_of(words.shape))},"cuts":{json_text(cuts)},"operations":[')
     sys.stdout.write(','.join(operations))

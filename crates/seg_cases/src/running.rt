@@ -3,7 +3,7 @@
 use crate::step::{Start, Step};
 use anyhow::Result;
 use seg_common::{FileName, MemorySink, MemorySource};
-use seg_directory::MemoryDirectory;
+use seg_directory::{FailingCall, MemoryDirectory};
 use seg_tool::{Status, run};
 use seg_words::{DefaultTokenizer, RawTokenizer, TokenizerManager, WhitespaceTokenizer};
 use std::alloc::{AllocError, Global};
@@ -11,30 +11,49 @@ use std::alloc::{AllocError, Global};
 /// The most bytes that a step prints.
 const ROOM: usize = 1 << 20;
 
+/// A call that fails, of the output directory or of the other one.
+#[derive(Clone, Copy)]
+pub(crate) struct Failing {
+    pub is_output: bool,
+    pub call: FailingCall,
+}
+
 /// The directories that the steps of a case share.
 #[derive(Drop)]
 pub(crate) struct Directories {
     work: MemoryDirectory,
     output: MemoryDirectory,
+    failing: Option<Failing>,
 }
 
 impl Directories {
-    pub(crate) fn new(alloc: Global) -> Result<Directories, AllocError> {
+    /// Directories without files, of which a call may fail. Its number counts from the start, and of an output directory
+    /// that a step empties from there.
+    pub(crate) fn new(alloc: Global, failing: Option<Failing>) -> Result<Directories, AllocError> {
         Ok(Directories {
-            work: directory(alloc)?,
-            output: directory(alloc)?,
+            work: directory(alloc, call_in(failing, false))?,
+            output: directory(alloc, call_in(failing, true))?,
+            failing,
         })
     }
 
     /// Does what is to be done before a step.
     fn prepare(&mut self, alloc: Global, start: &Start) -> Result<(), AllocError> {
         if start.is_output_emptied {
-            self.output = directory(alloc)?;
+            self.output = directory(alloc, call_in(self.failing, true))?;
         }
         match &start.meta {
             Some(meta) => put_meta(&mut self.work, meta.as_str()),
             None => Ok(()),
         }
+    }
+}
+
+/// The call that fails in the output directory, or in the other one.
+fn call_in(failing: Option<Failing>, is_output: bool) -> Option<FailingCall> {
+    match failing {
+        Some(failing) if failing.is_output == is_output => Some(failing.call),
+        _ => None,
     }
 }
 
@@ -45,8 +64,13 @@ fn put_meta(directory: &mut MemoryDirectory, meta: &str) -> Result<(), AllocErro
     }
 }
 
-fn directory(alloc: Global) -> Result<MemoryDirectory, AllocError> {
-    match MemoryDirectory::new(alloc, Vec::new(alloc)) {
+/// A directory without files, of which a call may fail.
+fn directory(alloc: Global, failing: Option<FailingCall>) -> Result<MemoryDirectory, AllocError> {
+    let mut fails = Vec::new(alloc);
+    if let Some(call) = failing {
+        fails.push(call)?;
+    }
+    match MemoryDirectory::new(alloc, fails) {
         Ok(directory) => Ok(directory),
         Err(_) => Err(AllocError),
     }

@@ -1,5 +1,6 @@
 //! A step of a case, as its files say it.
 
+use crate::failing::{Calls, read_calls};
 use anyhow::{Result, bail};
 use std::alloc::{AllocError, Global};
 use std::io::ErrorKind;
@@ -13,6 +14,8 @@ pub(crate) struct Step {
     pub words: Vec<String>,
     pub script: Vec<u8>,
     pub expected: String,
+    /// Calls of which each is to fail once.
+    pub failing: Vec<Calls>,
 }
 
 /// What is done with the directories before it.
@@ -41,6 +44,7 @@ pub(crate) fn read_step<R: Files + AllocGlobal>(
         words: words(rt, path.as_str())?,
         script: fs::read(rt, script.as_str())?,
         expected: expected(rt, folder, path.as_str())?,
+        failing: failing(rt, path.as_str())?,
     }))
 }
 
@@ -94,6 +98,20 @@ fn expected<R: Files + AllocGlobal>(rt: &R, folder: &str, path: &str) -> Result<
         Some(status) => Ok(status),
         None => bail!("{path}: no file says what is to come of it"),
     }
+}
+
+/// The calls of a step that are to fail.
+fn failing<R: Files + AllocGlobal>(rt: &R, path: &str) -> Result<Vec<Calls>> {
+    let alloc = rt.alloc();
+    let mut all = Vec::new(alloc);
+    if let Some(text) = text_if_there(rt, format!(in alloc; "{path}.fails")?)? {
+        for line in text.lines() {
+            if let Some(calls) = read_calls(line)? {
+                all.push(calls)?;
+            }
+        }
+    }
+    Ok(all)
 }
 
 /// The text of a file; nothing where there is no such file.

@@ -1,3 +1,4 @@
+pub mod DocIdMapping
 pub mod JoinedNorms
 pub mod JoinedStore
 pub mod JoinedTerms

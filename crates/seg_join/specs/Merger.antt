@@ -1,7 +1,6 @@
 -- What a merger of segments does.
 use Rattle.std.specs.Prelude.{ℕ, ◌≡◌, ◌+◌, ◌^◌, List, [], ◌∷◌, ◌++◌, map, length, nat_eq, nat_lt, Bool, ◌&&◌, true, false, Option, Some, None, Result, Ok, Err, IfOk}
 use Rattle.std.specs.FinMap.{empty}
-use Rattle.std.specs.List.{range_with_len}
 use Rattle.std.specs.Option.{option_or}
 use Rattle.seg_values.specs.declared.error.ArgumentCause.TheVariants.{Documents, Filters}
 use Rattle.seg_values.specs.declared.error.TantivyError.{TantivyError}
@@ -13,7 +12,6 @@ use Rattle.seg_model.specs.Checked.{unless}
 use Rattle.seg_model.specs.Fields.{Schema}
 use Rattle.seg_model.specs.Input.{Filter}
 use Rattle.seg_model.specs.Join.{joined_with}
-use Rattle.seg_model.specs.Operations.{kept}
 use Rattle.seg_model.specs.Telling.{Tells}
 use Rattle.seg_segment.specs.SegmentFiles.{write_steps}
 use Rattle.seg_segment.specs.Spelling.{Spell}
@@ -84,14 +82,3 @@ pub data WritesJoined {T : Type 0} (segment : SegmentParts) (block_size : ℕ) (
   runs_out : result ≡ Err OutOfMemory → after ≡ before → WritesJoined segment block_size readers result before after
   makes : (files : SegmentFiles) → AreJoinedFiles segment.schema block_size readers files
       → Works (write_steps segment.meta.id files) result before after → WritesJoined segment block_size readers result before after
-
--- ---- where documents come from
-
--- the documents of a segment that are alive
-abbrev pub alive_ids : OpenSegment → List ℕ
-alive_ids s = kept s.alive (range_with_len 0 (length s.alive))
-
--- the place of each document that is alive: the number of its segment, and its id there
-abbrev pub live_places : ℕ → List OpenSegment → List (ℕ × ℕ)
-live_places number [] = []
-live_places number (s ∷ readers) = map (λ id. (number, id)) (alive_ids s) ++ live_places (number + 1) readers

@@ -1,14 +1,16 @@
 //! The merger of segments.
-ghost use Rattle.std.specs.Prelude.{◌≡◌, ◌≢◌, ◌<◌, ◌^◌, ℕ, map, None, IfOk, IfErr, OnOk};
+ghost use Rattle.std.specs.Prelude.{◌≡◌, ◌≢◌, ◌<◌, ◌^◌, ℕ, length, map, None, IfOk, IfErr, OnOk};
 ghost use Rattle.std.specs.List.{AllByRecursion};
 ghost use Rattle.std.specs.Option.{option_or};
 ghost use Rattle.seg_model.specs.Telling.{Tells};
 ghost use Rattle.seg_segment.specs.Serializing.{unfilled};
 ghost use Rattle.seg_open.specs.OpenSegment.{kept_count};
 ghost use Rattle.seg_open.specs.SegmentOpened.{later};
+ghost use Rattle.seg_join.specs.DocIdMapping.{mapping_of};
 ghost use Rattle.seg_join.specs.Merger.{IsMergerOf, OpensMerger, WritesJoined, too_many};
 
 use crate::counting::num_joined_docs;
+use crate::doc_id_mapping::SegmentDocIdMapping;
 use crate::filters::{filters_fit, no_filters};
 use crate::segment_joining::join_into;
 use seg_bits::AliveBitSet;
@@ -134,6 +136,18 @@ impl IndexMerger {
         ensures few { result < 2 ^ 31 }
     {
         self.max_doc
+    }
+
+    /// For each document of the merged segment, in order, where it comes from.
+    pub fn get_doc_id_from_concatenated_data(&self, alloc: Global) -> TResult<SegmentDocIdMapping>
+        requires few { length self.now.readers < 2 ^ 32 }
+        ensures ok { IfOk result (λ mapping. mapping ≡ mapping_of self.now.readers) }
+        ensures err { IfErr result (λ e. e ≡ TantivyError.OutOfMemory) }
+    {
+        match SegmentDocIdMapping::of_readers(alloc, &self.readers) {
+            Ok(mapping) => Ok(mapping),
+            Err(_) => Err(TantivyError::OutOfMemory),
+        }
     }
 
     /// Makes the six files of a segment of the merger's schema, whose serializer has nothing yet, in a directory, and

@@ -4,12 +4,13 @@
 //! documents are copied as they are; the terms of a field are merged key by key, with one term of each segment in memory.
 //!
 //! To be read in this order: `counting`, `store_joining`, `norms_joining`; `new_ids`, `live_tokens`, `numbered_part`
-//! (the ids that documents get), `term_source`, `term_merging`, `terms_joining`; `segment_joining`; `filters` and
-//! `index_merger` (`IndexMerger`, which opens segments and writes the one that they are merged into); `laws` (what
-//! segments of a built schema join to).
+//! (the ids that documents get), `term_source`, `term_merging`, `terms_joining`; `segment_joining`; `doc_id_mapping`
+//! (where documents come from); `filters` and `index_merger` (`IndexMerger`, which opens segments and writes the one that
+//! they are merged into); `laws` (what segments of a built schema join to).
 #![tactic(auto)]
 
 mod counting;
+mod doc_id_mapping;
 mod filters;
 mod index_merger;
 mod laws;
@@ -23,6 +24,7 @@ mod term_merging;
 mod term_source;
 mod terms_joining;
 
+pub use doc_id_mapping::{MappingType, SegmentDocIdMapping};
 pub use filters::filters_fit;
 pub use index_merger::IndexMerger;
 pub use laws::built_parts_join;

@@ -1,5 +1,5 @@
 -- What the building of an index from an input comes to.
-use Rattle.std.specs.Prelude.{ℕ, ◌≡◌, ◌≢◌, ◌⊎◌, Some, None, IfSome, IsTrue}
+use Rattle.std.specs.Prelude.{ℕ, ◌≡◌, ◌≢◌, ◌⊎◌, Some, None, Result, Ok, Err, IfSome, IsTrue}
 use Rattle.std.specs.FinMap.{len}
 use Rattle.seg_values.specs.declared.error.ArgumentCause.TheVariants.{Documents}
 use Rattle.seg_values.specs.declared.error.TantivyError.{TantivyError}
@@ -68,3 +68,8 @@ pub record StopsBuilding (known : Known) (analyzer : Analyzer) (input : Input) (
   pub untold : IfRefusal (IsWhyUntold known analyzer input) e
   pub fresh : AreEmpty before → e ≢ IndexAlreadyExists
   pub whole : IsTrue before.work.tells → IsNoDamage e
+
+-- either of them
+abbrev pub EndsBuilding : Known → Analyzer → Input → Result Meta TantivyError → Directories → Directories → Type 0
+EndsBuilding known analyzer input (Ok meta) before after = Builds known analyzer input meta before after
+EndsBuilding known analyzer input (Err e) before after = StopsBuilding known analyzer input e before after

@@ -4,12 +4,13 @@ ghost use Rattle.std.specs.FinMap.{len};
 ghost use Rattle.seg_meta.specs.View.{meta_of, settings_of};
 ghost use Rattle.seg_meta.specs.IndexOfFiles as index;
 ghost use Rattle.seg_segment.specs.Forms.{segment_forms};
+ghost use Rattle.seg_open.specs.Answers.{seen_as};
 ghost use Rattle.seg_open.specs.SegmentOpened.{IsNoDamage};
 ghost use Rattle.seg_refusals.specs.Admitted.{IsValidIf};
 ghost use Rattle.seg_refusals.specs.Inputs.{input_of};
 ghost use Rattle.seg_refusals.specs.Refusals.{first_error, refusal_error};
 ghost use Rattle.seg_model.specs.Refused.{IfRefusal};
-ghost use Rattle.seg_merge.specs.Builds.{Builds, StopsBuilding};
+ghost use Rattle.seg_merge.specs.Builds.{EndsBuilding};
 ghost use Rattle.seg_merge.specs.DirectoryCalls.{BuildsIndexes};
 ghost use Rattle.seg_merge.specs.IndexFiles.{IsOutputIndexOf, IsWorkIndexOf, merged_meta, output_id, output_meta, work_ids};
 ghost use Rattle.seg_merge.specs.Turns.{both};
@@ -109,10 +110,9 @@ fn build_input<Z: Analyzers, W: Directory, O: Directory>(
     work: &mut W,
     output: &mut O,
 ) -> TResult<Index>
-    ensures builds { IfOk result (λ built. Builds (Z.knows analyzers.now) (Z.tokens_of analyzers.now) input.now (meta_of built)
-        (both (W.state work.old) (O.state output.old)) (both (W.state work.new) (O.state output.new))) }
-    ensures stops { IfErr result (λ e. StopsBuilding (Z.knows analyzers.now) (Z.tokens_of analyzers.now) input.now e
-        (both (W.state work.old) (O.state output.old)) (both (W.state work.new) (O.state output.new))) }
+    ensures ends { EndsBuilding (Z.knows analyzers.now) (Z.tokens_of analyzers.now) input.now
+        (seen_as (λ built. meta_of built) result)
+        (both (W.state work.old) (O.state output.old)) (both (W.state work.new) (O.state output.new)) }
     ensures calls { BuildsIndexes (Z.knows analyzers.now) (Z.tokens_of analyzers.now) input.now result
         (both (W.state work.old) (O.state output.old)) (both (W.state work.new) (O.state output.new)) }
 {

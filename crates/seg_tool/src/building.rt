@@ -38,22 +38,22 @@ pub(crate) fn build<Z: Analyzers, W: Directory, O: Directory>(
         Err(ScriptError::Later) => return Err(Status::Refused(LATER)),
         Err(ScriptError::OutOfMemory) => return Err(Status::Memory),
     };
-    match build_and_print(alloc, analyzers, &input, detail, work, output) {
+    match build_and_print(alloc, analyzers, input, detail, work, output) {
         Ok(text) => Ok(text),
         Err(e) => Err(status_of(e)),
     }
 }
 
-/// Writes the indexes of an input, and answers what is then printed of them.
+/// Writes the indexes of an input, and answers what is then printed of them. The input is let go of before.
 fn build_and_print<Z: Analyzers, W: Directory, O: Directory>(
     alloc: Global,
     analyzers: &Z,
-    input: &BuildInput,
+    input: BuildInput,
     detail: Detail,
     work: &mut W,
     output: &mut O,
 ) -> TResult<Vec<u8>>
-    ensures { BuildsText (Z.knows analyzers.now) (Z.tokens_of analyzers.now) input.now detail (seen_as (λ t. t.items) result)
+    ensures { BuildsText (Z.knows analyzers.now) (Z.tokens_of analyzers.now) input detail (seen_as (λ t. t.items) result)
         (both (W.state work.old) (O.state output.old)) (both (W.state work.new) (O.state output.new)) }
 {
     let _index = match build_both(alloc, analyzers, input, work, output) {
@@ -71,11 +71,11 @@ fn build_and_print<Z: Analyzers, W: Directory, O: Directory>(
 fn build_both<Z: Analyzers, W: Directory, O: Directory>(
     alloc: Global,
     analyzers: &Z,
-    input: &BuildInput,
+    input: BuildInput,
     work: &mut W,
     output: &mut O,
 ) -> TResult<Index>
-    ensures { BuildsBoth (Z.knows analyzers.now) (Z.tokens_of analyzers.now) input.now result
+    ensures { BuildsBoth (Z.knows analyzers.now) (Z.tokens_of analyzers.now) input result
         (both (W.state work.old) (O.state output.old)) (both (W.state work.new) (O.state output.new)) }
 {
     let BuildInputRef {

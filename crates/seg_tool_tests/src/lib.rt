@@ -4,6 +4,8 @@
 #[cfg(test)]
 mod failures;
 #[cfg(test)]
+mod reading_back;
+#[cfg(test)]
 mod reporting;
 #[cfg(test)]
 mod streams;

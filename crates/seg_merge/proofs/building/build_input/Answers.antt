@@ -9,14 +9,14 @@ use Rattle.seg_merge.proofs.WholeRefused.{settings_suit}
 use Rattle.seg_merge.proofs.Written.{builds_both}
 use Rattle.seg_merge.proofs.building.build_input.Goals as goal
 
-pub returns-in-Err-clause-stops : goal.returns-in-Err-clause-stops
-returns-in-Err-clause-stops g c = not_begun _ _ _ c.in-Err.e _ c.in-Err.ensures.told
+pub returns-in-Err-clause-ends : goal.returns-in-Err-clause-ends
+returns-in-Err-clause-ends g c = not_begun _ _ _ c.in-Err.e _ c.in-Err.ensures.told
 
 pub returns-in-Err-clause-calls : goal.returns-in-Err-clause-calls
 returns-in-Err-clause-calls g c = stops c.in-Err.e refl (c.in-Err.ensures.told, refl)
 
-pub returns-in-Ok-write_indexes-clause-builds : goal.returns-in-Ok-write_indexes-clause-builds
-returns-in-Ok-write_indexes-clause-builds g c =
+pub returns-in-Ok-write_indexes-clause-ends : goal.returns-in-Ok-write_indexes-clause-ends
+returns-in-Ok-write_indexes-clause-ends g c =
     builds_both c.in-Ok-write_indexes.index (g.Z.Analyzers.knows c.args.analyzers.now) (g.Z.Analyzers.tokens_of c.args.analyzers.now) c.args.input.now
     c.in-Ok.ensures.fits c.in-Ok.ensures.told (meta_of c.in-Ok-write_indexes.index)
     (both (g.W.Directory.state c.args.work.now) (g.O.Directory.state c.args.output.now))
@@ -30,8 +30,8 @@ returns-in-Ok-write_indexes-clause-calls g c =
     goes_on tt (both (g.W.Directory.state c.args.work.now) (g.O.Directory.state c.args.output.now))
     (c.in-Ok.ensures.told, refl) c.in-Ok-write_indexes.ensures.does
 
-pub returns-in-Err-write_indexes-clause-stops : goal.returns-in-Err-write_indexes-clause-stops
-returns-in-Err-write_indexes-clause-stops g c =
+pub returns-in-Err-write_indexes-clause-ends : goal.returns-in-Err-write_indexes-clause-ends
+returns-in-Err-write_indexes-clause-ends g c =
     let knows = g.Z.Analyzers.knows c.args.analyzers.now in
     let F = g.Z.Analyzers.tokens_of c.args.analyzers.now in
     let i = c.args.input.now in
