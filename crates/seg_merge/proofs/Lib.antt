@@ -19,6 +19,12 @@ mod Reached
 mod SameOptions
 mod Steps
 mod Stopped
+mod TakenAnswers
+mod TakenLists
+mod TakenOnce
+mod TakenParts
+mod TakenReads
+mod TakenWrites
 mod WholeExits
 mod WholeIds
 mod WholeJoined

@@ -4,6 +4,7 @@ pub mod EntryOptions
 pub mod IndexFiles
 pub mod MergeAnswers
 pub mod SegmentsMerged
+pub mod Taken
 pub mod Turns
 pub mod WorkIndexWriting
 pub mod WritingSteps

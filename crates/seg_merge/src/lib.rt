@@ -6,16 +6,18 @@
 //!
 //! To be read in this order: `payload` and `metas` (what an index says of itself), `index_files` (an index is begun, and
 //! its meta saved), `filtered_merging` (segments, merged), `work_index` (the segments of the batches), `indexes` (both
-//! indexes in turn), `building`.
+//! indexes in turn), `building`, `laws`.
 #![tactic(auto)]
 
 mod building;
 mod filtered_merging;
 mod index_files;
 mod indexes;
+mod laws;
 mod metas;
 mod payload;
 mod work_index;
 
 pub use building::build_index;
 pub use filtered_merging::merge_filtered_segments;
+pub use laws::answers_determine_parts;

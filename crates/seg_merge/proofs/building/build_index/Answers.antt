@@ -1,5 +1,8 @@
 use Rattle.std.proofs.lemmas.Option.{MatchOption-from_none}
+use Rattle.seg_refusals.specs.Inputs.{input_of}
+use Rattle.seg_merge.specs.Turns.{both}
 use Rattle.seg_merge.proofs.Built.{first_answer, first_same}
+use Rattle.seg_merge.proofs.TakenParts.{holds_taken}
 use Rattle.seg_merge.proofs.building.build_index.Goals as goal
 
 pub returns-in-Ok-clause-first : goal.returns-in-Ok-clause-first
@@ -31,6 +34,14 @@ returns-in-Ok-clause-output_meta g c told = (c.in-Ok.ensures.ends.in_output told
 
 pub returns-in-Ok-clause-output_was_empty : goal.returns-in-Ok-clause-output_was_empty
 returns-in-Ok-clause-output_was_empty g c told = (c.in-Ok.ensures.ends.in_output told).was_empty
+
+pub returns-in-Ok-clause-reads : goal.returns-in-Ok-clause-reads
+returns-in-Ok-clause-reads g c told =
+    holds_taken c.in-Ok.index (g.Z.Analyzers.knows c.args.analyzers.now) (g.Z.Analyzers.tokens_of c.args.analyzers.now)
+    (input_of c.args.schema.now c.args.settings.now c.args.operations.now c.args.cuts.now c.args.filters.now c.args.ids.now)
+    (both (g.W.Directory.state c.args.work.now) (g.O.Directory.state c.args.output.now))
+    (both (g.W.Directory.state c.build_input.new.work) (g.O.Directory.state c.build_input.new.output))
+    c.in-Ok.ensures.calls told
 
 pub returns-in-Ok-clause-calls : goal.returns-in-Ok-clause-calls
 returns-in-Ok-clause-calls g c = c.in-Ok.ensures.calls
