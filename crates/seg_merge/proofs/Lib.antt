@@ -19,6 +19,7 @@ mod Reached
 mod SameOptions
 mod Steps
 mod Stopped
+mod TotalsRead
 mod WholeExits
 mod WholeIds
 mod WholeJoined
