@@ -18,9 +18,12 @@ use Rattle.seg_model.specs.Refused.{operation_refusal, batch_error}
 use Rattle.seg_removal.specs.Stamps.{addition_stamps}
 use Rattle.seg_segment.specs.Standing.{StandFor}
 use Rattle.seg_build.specs.declared.memory_segment.MemorySegment.{MemorySegment}
+use Rattle.seg_build.specs.FieldTerms.{FieldTerms, fields_of}
 use Rattle.seg_build.specs.Kept.{Kept}
 use Rattle.seg_build.specs.SegmentWriting.{SegmentWriting, AddsNone, IsKeptOf, IsFull, Tells, Writes}
+use Rattle.seg_build.specs.Totals.{TotalsAreCounts}
 use Rattle.seg_batches.specs.Indexing.{AreOfBatch, HasAdditions, IsNotTaken, IsTaken, IsUnused}
+use Rattle.seg_batches.proofs.CountsTold.{counts_told}
 use Rattle.seg_batches.proofs.Refused.{refused_from, refused_at}
 use Rattle.seg_batches.proofs.SegmentTurns.{additions-append}
 
@@ -157,13 +160,27 @@ module _ (schema : Schema) (analyzer : Analyzer) (first : ℕ) (operations : Lis
   pub of_batch : (given : Analyzer) (segment : MemorySegment) → given ≡ analyzer
       → length (additions operations) < 2 ^ 31
       → ((ds : List Document) (stamps : List ℕ) → Writes given ds stamps writer → StandFor writer.schema given ds segment.files)
+      → ((ds : List Document) (stamps : List ℕ) → Writes given ds stamps writer → segment.fields ≡ fields_of writer.schema given ds)
+      → TotalsAreCounts segment.files.postings segment.fields
       → ((ds : List Document) (stamps : List ℕ) → Writes given ds stamps writer → segment.stamps.items ≡ stamps)
       → AreOfBatch schema analyzer first operations segment.files segment.stamps.items
-  of_batch given segment is few stand stamps = record {
-    stand = subst (λ s. StandFor s analyzer (additions operations) segment.files) same (subst (λ a. StandFor writer.schema a (additions operations) segment.files) is (stand (additions operations) (addition_stamps first operations) writes));
+  of_batch given segment is few stand fields counts stamps = record {
+    stand = stands;
+    totals =
+        counts_told schema analyzer (additions operations) segment.files stands
+        (subst (λ (fs : List FieldTerms). TotalsAreCounts segment.files.postings fs) gathered counts);
     stamped = stamps (additions operations) (addition_stamps first operations) writes;
     few = few;
   }
     where
       writes : Writes given (additions operations) (addition_stamps first operations) writer
       writes = subst (λ a. Writes a (additions operations) (addition_stamps first operations) writer) (sym is) has
+
+      stands : StandFor schema analyzer (additions operations) segment.files
+      stands = subst (λ s. StandFor s analyzer (additions operations) segment.files) same (subst (λ a. StandFor writer.schema a (additions operations) segment.files) is (stand (additions operations) (addition_stamps first operations) writes))
+
+      gathered : segment.fields ≡ fields_of schema analyzer (additions operations)
+      gathered =
+          fields (additions operations) (addition_stamps first operations) writes
+          ∙ ap (λ a. fields_of writer.schema a (additions operations)) is
+          ∙ ap (λ s. fields_of s analyzer (additions operations)) same

@@ -63,7 +63,7 @@ module _ (schema : Schema) (analyzer : Analyzer) where
       let now = all_files_after (write_steps id f) old in
       let rest = batches_steps ids causes files in (
         stands_on id batch.documents now (all_files_after rest now) (λ c. after_keeps rest now (Part id c) (batches_apart ids causes files id c (others_are id ids distinct)))
-            (stands_there schema analyzer batch.documents f now id stand.0 (six_there id f old)),
+            (stands_there schema analyzer batch.documents f now id stand.0.stand (six_there id f old)),
         steps_stand ids causes files batches now (omega (arith, many)) (omega (arith, as_many)) (rest_distinct id ids distinct) stand.1,
       )
 

@@ -13,12 +13,11 @@ use Rattle.seg_model.specs.Operations.{Operation, Batch}
 use Rattle.seg_model.specs.Valid.{Known}
 use Rattle.seg_meta.specs.declared.index_settings.IndexSettings.{IndexSettings}
 use Rattle.seg_segment.specs.SegmentFiles.{write_steps}
-use Rattle.seg_segment.specs.Standing.{StandFor}
 use Rattle.seg_segment.specs.declared.segment_files.SegmentFiles.{SegmentFiles}
 use Rattle.seg_build.specs.WriterStart.{start_refusal}
 use Rattle.seg_model.specs.Refused.{IsRefusal, batch_error}
 use Rattle.seg_model.specs.Telling.{Tells}
-use Rattle.seg_batches.specs.Writing.{MakesBatch, batch_cause}
+use Rattle.seg_batches.specs.Writing.{MakesBatch, StandAndTell, batch_cause}
 use Rattle.seg_batches.proofs.BatchesSoFar.{no_files}
 
 -- ---- causes that are told
@@ -88,7 +87,7 @@ module _ (cause : Option TantivyError) (schema : Schema) (analyzer : Analyzer) (
 
   -- its files are written
   pub begun : {T : Type 0} (files : SegmentFiles) (r : Result T TantivyError) (a b : DirectoryState) → cause ≡ None
-      → StandFor schema analyzer batch.documents files → Works (write_steps id files) r a b
+      → StandAndTell schema analyzer batch.documents files → Works (write_steps id files) r a b
       → MakesBatch cause schema analyzer id batch r a b
   begun files r a b none stand works = record {
     files = files;
@@ -96,6 +95,6 @@ module _ (cause : Option TantivyError) (schema : Schema) (analyzer : Analyzer) (
     works = record { on = inl (a, (none, refl), works.on) };
   }
     where
-      on_ok : {T : Type 0} (x : Result T TantivyError) → OnOk x (StandFor schema analyzer batch.documents files)
+      on_ok : {T : Type 0} (x : Result T TantivyError) → OnOk x (StandAndTell schema analyzer batch.documents files)
       on_ok (Ok y) = stand
       on_ok (Err e) = tt

@@ -13,6 +13,7 @@ mod BatchesTold
 mod CallErrors
 mod Causes
 mod Counted
+mod CountsTold
 mod Dropped
 mod Found
 mod Leaving
@@ -26,4 +27,5 @@ mod Refused
 mod SegmentTurns
 mod Started
 mod Staying
+mod TotalsKept
 mod Turns

@@ -7,8 +7,10 @@ use Rattle.seg_model.specs.Operations.{Operation, add, delete, delete_all, addit
 use Rattle.seg_removal.specs.Stamps.{addition_stamps}
 use Rattle.seg_build.specs.SegmentWriting.{SegmentWriting, Adds, AddsNone, IsOfSame, Writes}
 use Rattle.seg_segment.specs.Standing.{StandFor}
+use Rattle.seg_segment.specs.Totals.{TellTotals}
 use Rattle.seg_segment.specs.declared.segment_files.SegmentFiles.{SegmentFiles}
 use Rattle.seg_model.specs.Refused.{batch_error}
+use Rattle.seg_batches.specs.BatchTotals.{documents_total}
 
 -- an operation that adds a document
 abbrev pub is_addition : Operation → Bool
@@ -54,9 +56,10 @@ pub record AddsAll {T Z : Type 0} (tokens_of : Z → Analyzer) (first : ℕ) (op
   pub schema : new.1.schema ≡ old.1.schema
   pub err : IfErr result (λ e. (batch_error old.1.schema (tokens_of old.0) first operations ≡ Some e) ⊎ (e ≡ OutOfMemory))
 
--- six files and stamps are those of a batch, whose first operation has the place `first`: the files stand for the documents that it adds
+-- six files and stamps are those of a batch, whose first operation has the place `first`: the files stand for the documents that it adds, and tell their totals
 pub record AreOfBatch (schema : Schema) (analyzer : Analyzer) (first : ℕ) (operations : List Operation)
     (files : SegmentFiles) (stamps : List ℕ) : Type 0 where
   pub stand : StandFor schema analyzer (additions operations) files
+  pub totals : TellTotals schema (documents_total schema analyzer (additions operations)) files.postings
   pub stamped : stamps ≡ addition_stamps first operations
   pub few : length (additions operations) < 2 ^ 31

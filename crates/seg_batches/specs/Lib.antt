@@ -1,5 +1,6 @@
 pub mod AliveWriting
 pub mod Applying
+pub mod BatchTotals
 pub mod Indexing
 pub mod Laws
 pub mod Making

@@ -9,9 +9,11 @@ use Rattle.seg_deletes.specs.Queues.{Queue}
 use Rattle.seg_deletes.specs.declared.operation.DeleteOperation.{DeleteOperation}
 use Rattle.seg_segment.specs.Spelling.{Spell}
 use Rattle.seg_segment.specs.Standing.{StandFor}
+use Rattle.seg_segment.specs.Totals.{TellTotals}
 use Rattle.seg_segment.specs.declared.segment_files.SegmentFiles.{SegmentFiles}
 use Rattle.seg_model.specs.Telling.{Tells}
 use Rattle.seg_batches.specs.Applying.{IsTold}
+use Rattle.seg_batches.specs.BatchTotals.{documents_total}
 use Rattle.seg_batches.specs.Laws.{as_operations}
 use Rattle.seg_batches.specs.Waiting.{PassesEarlier}
 use Rattle.seg_batches.specs.declared.term_target.TermTarget.{TermTarget}
@@ -38,12 +40,13 @@ pub record FindsLeft {E : Type 0} (schema : Schema) (files : SegmentFiles) (firs
   pub left : IfOk result (IsLeft schema files first stamps old.operations)
   pub earlier : PassesEarlier first old new cursor
 
--- the segment of a batch: its six files, how many documents it has, and what is told of those that deletes leave; its first
+-- the segment of a batch: its six files with their totals, how many documents it has, and what is told of those that deletes leave; its first
 -- operation has the place `first`
 pub record IsSegmentOf (schema : Schema) (analyzer : Analyzer) (first : ℕ) (operations : List Operation)
     (waiting : List (DeleteOperation TermTarget)) (files : SegmentFiles) (documents : ℕ) (told : Option (List Bool))
     : Type 0 where
   pub stand : StandFor schema analyzer (additions operations) files
+  pub totals : TellTotals schema (documents_total schema analyzer (additions operations)) files.postings
   pub number : documents ≡ length (additions operations)
   pub few : documents < 2 ^ 31
   pub left : (before after : List Operation) → length before ≡ first

@@ -3,6 +3,7 @@ use Rattle.std.specs.Prelude.{ℕ, ◌≡◌, ◌++◌, List, [], ◌∷◌, map
 use Rattle.std.specs.List.{enumerate_from}
 use Rattle.std.specs.Option.{option_or}
 use Rattle.seg_values.specs.declared.error.TantivyError.{TantivyError}
+use Rattle.seg_values.specs.Tree.{Document}
 use Rattle.seg_model.specs.Fields.{Schema, Analyzer}
 use Rattle.seg_model.specs.Operations.{Operation, Batch, additions, alive_after}
 use Rattle.seg_model.specs.Refused.{batch_refusal, cut_from}
@@ -11,7 +12,9 @@ use Rattle.seg_directory.specs.Works.{Step, Works, passes}
 use Rattle.seg_deletes.specs.Queues.{Queue}
 use Rattle.seg_segment.specs.SegmentFiles.{write_steps}
 use Rattle.seg_segment.specs.Standing.{StandFor}
+use Rattle.seg_segment.specs.Totals.{TellTotals}
 use Rattle.seg_segment.specs.declared.segment_files.SegmentFiles.{SegmentFiles}
+use Rattle.seg_batches.specs.BatchTotals.{documents_total}
 use Rattle.seg_batches.specs.Segments.{WrittenSegment, segment_of}
 use Rattle.seg_batches.specs.Waiting.{PassesEarlier}
 use Rattle.seg_batches.specs.declared.term_target.TermTarget.{TermTarget}
@@ -47,11 +50,17 @@ batches_steps (id ∷ ids) [] files = []
 batches_steps (id ∷ ids) (cause ∷ causes) [] = []
 batches_steps (id ∷ ids) (cause ∷ causes) (f ∷ files) = batch_steps id cause f ++ batches_steps ids causes files
 
+-- six files stand for documents, and tell how often their terms occur
+pub record StandAndTell (schema : Schema) (analyzer : Analyzer) (documents : List Document) (files : SegmentFiles)
+    : Type 0 where
+  pub stand : StandFor schema analyzer documents files
+  pub totals : TellTotals schema (documents_total schema analyzer documents) files.postings
+
 -- the segment of a batch is written: six files that stand for its documents
 pub record MakesBatch {T : Type 0} (cause : Option TantivyError) (schema : Schema) (analyzer : Analyzer) (id : ℕ)
     (batch : Batch) (result : Result T TantivyError) (before after : DirectoryState) : Type 0 where
   pub files : SegmentFiles
-  pub stand : OnOk result (StandFor schema analyzer batch.documents files)
+  pub stand : OnOk result (StandAndTell schema analyzer batch.documents files)
   pub works : Works (batch_steps id cause files) result before after
 
 -- and its segment is answered, while the deletes that wait are passed by; its first operation has the place `first`
@@ -62,12 +71,12 @@ pub record WritesBatch (cause : Option TantivyError) (schema : Schema) (analyzer
   pub segment : IfOk result (λ s. s ≡ segment_of id batch)
   pub earlier : PassesEarlier first old new cursor
 
--- each of these files stand for the documents of a batch
+-- each of these files stand for the documents of a batch, and tell their totals
 abbrev pub AllStandFor : Schema → Analyzer → List SegmentFiles → List Batch → Type 0
 AllStandFor schema analyzer [] batches = Unit {0}
 AllStandFor schema analyzer (f ∷ files) [] = ⊥
 AllStandFor schema analyzer (f ∷ files) (batch ∷ batches) =
-    StandFor schema analyzer batch.documents f × AllStandFor schema analyzer files batches
+    StandAndTell schema analyzer batch.documents f × AllStandFor schema analyzer files batches
 
 -- the segments of batches are written, each under its id: six files for each
 pub record MakesBatches {T : Type 0} (causes : List (Option TantivyError)) (schema : Schema) (analyzer : Analyzer)

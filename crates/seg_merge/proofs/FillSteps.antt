@@ -20,8 +20,10 @@ use Rattle.seg_model.specs.Refused.{cut_from}
 use Rattle.seg_model.specs.Valid.{are_distinct}
 use Rattle.seg_segment.specs.Holds.{Holds}
 use Rattle.seg_segment.specs.SegmentFiles.{AreAbsent, KeepsAllBut}
+use Rattle.seg_batches.specs.BatchTotals.{AllHaveTotals, documents_total}
 use Rattle.seg_batches.specs.Segments.{AllStand, AllTellAlive, TellsAlive, WrittenSegment, alive_file, alive_files, all_listed, deletes_of, listed, segments_of, six_files}
 use Rattle.seg_segment.proofs.Exports.{held_on}
+use Rattle.seg_batches.proofs.Exports.{totals_on}
 use Rattle.seg_merge.specs.IndexFiles.{listed_of, segments_files, written_of}
 
 -- ---- ids
@@ -158,6 +160,15 @@ module _ (segments : List ListedSegment) (old new : NamedFiles) (kept : KeepsAll
       held = holds_kept id schema h.0.contents h.0.held;
     },
     stand_kept schema analyzer ids batches h.1,
+  )
+
+  pub totals_kept : (schema : Schema) (analyzer : Analyzer) (ids : List ℕ) (batches : List Batch)
+      → AllHaveTotals schema analyzer old ids batches → AllHaveTotals schema analyzer new ids batches
+  totals_kept schema analyzer [] batches h = tt
+  totals_kept schema analyzer (id ∷ ids) [] h = tt
+  totals_kept schema analyzer (id ∷ ids) (batch ∷ batches) h = (
+    totals_on id schema (documents_total schema analyzer batch.documents) old new (part_kept id component.Postings) h.0,
+    totals_kept schema analyzer ids batches h.1,
   )
 
 -- the alive files stay after the meta

@@ -2,6 +2,7 @@
 use Rattle.std.proofs.Common.{◌≡◌, ◌≢◌, ◌∙◌, ℕ, ◌+◌, ◌<◌, ◌^◌, true, List, [], ◌∷◌, ◌++◌, IsTrue, length, map, Option, None, Some, Result, Ok, Err, refl, sym, ap, subst, inl, inr, arith}
 use Rattle.std.specs.Prelude.{◌⊎◌}
 use Rattle.std.specs.List.{AllByRecursion, enumerate_from, list_all}
+use Rattle.seg_common.specs.declared.name.FileName.TheVariants.{Meta}
 use Rattle.seg_values.specs.declared.error.TantivyError.{TantivyError}
 use Rattle.seg_values.specs.declared.error.TantivyError.TheVariants.{IndexAlreadyExists}
 use Rattle.seg_directory.proofs.Exports.{Parts, all_went, answers, in_first, in_next, parts_on, quiet_steps, split_does, stops, then_does}
@@ -23,13 +24,14 @@ use Rattle.seg_segment.specs.SegmentFiles.{AreAbsent, KeepsAllBut, segment_names
 use Rattle.seg_segment.specs.declared.segment_files.SegmentFiles.{SegmentFiles}
 use Rattle.seg_segment.proofs.Exports.{all_touched, keeps_untouched}
 use Rattle.seg_batches.specs.AliveWriting.{WritesAlive, alive_step, alive_steps}
+use Rattle.seg_batches.specs.BatchTotals.{AllHaveTotals}
 use Rattle.seg_batches.specs.Segments.{AllStand, AllTellAlive, WrittenSegment, alive_file, alive_files, all_listed, deletes_of, six_files}
 use Rattle.seg_batches.specs.Writing.{MakesBatches, batch_cause, batch_causes, batches_steps}
-use Rattle.seg_batches.proofs.Exports.{IsFew, IsFirst, TellsRefusal, alive_fresh, all_few, all_stand, all_taken, all_tell, batches_fresh, batches_none, batches_told, causes_tell, first_cause, refusal_weaker}
+use Rattle.seg_batches.proofs.Exports.{IsFew, IsFirst, TellsRefusal, alive_fresh, all_few, all_stand, all_taken, all_tell, all_totals, batches_fresh, batches_none, batches_told, causes_tell, first_cause, refusal_weaker}
 use Rattle.seg_merge.specs.IndexFiles.{listed_of, segments_files, written_of}
 use Rattle.seg_merge.specs.WorkIndexWriting.{FillsIndex, FinishesIndex, finish_steps, listing_meta}
 use Rattle.seg_merge.specs.WritingSteps.{publish_steps}
-use Rattle.seg_merge.proofs.FillSteps.{alive_absent, as_many, as_many_cut, ids_are, listed_are, meta_list, no_alive_file, six_absent, stand_kept, tell_kept}
+use Rattle.seg_merge.proofs.FillSteps.{alive_absent, as_many, as_many_cut, ids_are, listed_are, meta_list, no_alive_file, six_absent, stand_kept, tell_kept, totals_kept}
 use Rattle.seg_merge.proofs.FinishSteps.{FinishParts, in_alive, in_meta, finish_parts}
 use Rattle.seg_merge.proofs.IndexSteps.{tells-still}
 use Rattle.seg_merge.proofs.Steps.{published, publishing_keeps}
@@ -241,14 +243,21 @@ module _ (settings : Settings) (schema : Schema) (analyzer : Analyzer) (ids cuts
             (touched_alive (length operations) parts.writes.files written parts.writes.whole)
             (keeps_untouched parts.writes.works)
 
+        batches_kept : KeepsAllBut (Meta ∷ alive_files listed) parts.batches_at.files c.files
+        batches_kept other untouched =
+            publishing_keeps meta parts.publishes other (untouched.0, tt) ∙ alive_kept other untouched.1
+
         -- those of each batch stand for its documents
         pub filled_stand : AllStand schema analyzer c.files ids all
         filled_stand =
-            stand_kept listed parts.batches_at.files c.files
-            (λ other untouched. publishing_keeps meta parts.publishes other (untouched.0, tt) ∙ alive_kept other
-            untouched.1)
-            schema analyzer ids all
+            stand_kept listed parts.batches_at.files c.files batches_kept schema analyzer ids all
             (all_stand schema analyzer causes ids all (Ok x) a parts.batches_at each distinct parts.makes told)
+
+        -- and tell its totals
+        pub filled_totals : AllHaveTotals schema analyzer c.files ids all
+        filled_totals =
+            totals_kept listed parts.batches_at.files c.files batches_kept schema analyzer ids all
+            (all_totals schema analyzer causes ids all (Ok x) a parts.batches_at each distinct parts.makes told)
 
         -- and alive files tell what is left of it
         pub filled_alive : AllTellAlive c.files (length operations) written

@@ -25,6 +25,7 @@ mod TakenOnce
 mod TakenParts
 mod TakenReads
 mod TakenWrites
+mod TotalsRead
 mod WholeExits
 mod WholeIds
 mod WholeJoined

@@ -88,6 +88,7 @@ module _ (analyzer : Analyzer) (i : Input) (fits : Fits analyzer i) (a n : Direc
           counted = merge.counted;
           index_of = λ told_output. merge.index_of (output_told analyzer i fits a n.work n.output filled told_output);
           joins = λ told_output. merge.joins (output_told analyzer i fits a n.work n.output filled told_output);
+          totals = λ told_output. merge.totals (output_told analyzer i fits a n.work n.output filled told_output);
         };
     index_of = λ told_output. h.index_of (output_told analyzer i fits a n.work n.output filled told_output);
   }

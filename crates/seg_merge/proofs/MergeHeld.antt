@@ -1,5 +1,6 @@
 -- What is known where segments are merged.
 use Rattle.std.proofs.Common.{◌≡◌, ◌∙◌, ℕ, Bool, List, [], ◌∷◌, IsTrue, Option, None, Some, Ok, Err, sym, ap, subst}
+use Rattle.std.specs.Prelude.{IsSomeAnd}
 use Rattle.seg_values.specs.declared.error.TantivyError.{TantivyError}
 use Rattle.seg_directory.proofs.Exports.{all_went}
 use Rattle.seg_directory.specs.Files.{NamedFiles}
@@ -8,9 +9,12 @@ use Rattle.seg_meta.specs.IndexOfFiles as index
 use Rattle.seg_meta.specs.IndexOfFiles.{Deletes, Meta}
 use Rattle.seg_segment.specs.Forms.{segment_forms}
 use Rattle.seg_segment.specs.Holds.{Holds}
+use Rattle.seg_segment.specs.Totals.{TellTotals}
 use Rattle.seg_open.specs.OpenSegment.{OpenSegment, kept_count}
-use Rattle.seg_open.specs.SegmentOpened.{Asked}
-use Rattle.seg_open.proofs.Exports.{EachRead, HoldsMarks as HoldsRead, IsHeld, segments_held, segments_stay}
+use Rattle.seg_open.specs.SegmentOpened.{Asked, HaveTotals}
+use Rattle.seg_open.proofs.Exports.{AreTold, EachRead, HoldsMarks as HoldsRead, IsHeld, segments_held, segments_stay, segments_totals}
+use Rattle.seg_join.specs.JoinedTotals.{joined_total}
+use Rattle.seg_batches.specs.BatchTotals.{HasTotals}
 use Rattle.seg_merge.specs.MergeAnswers.{AllHaveHeld, HasHeld, HoldsMarks, IsMergeOf}
 use Rattle.seg_merge.specs.SegmentsMerged.{IsReadBack, MergeInput, first_schema, joined, live_asked, output_meta_of}
 use Rattle.seg_merge.specs.Turns.{Directories}
@@ -25,20 +29,24 @@ marks_as : (files : NamedFiles) (id documents : ℕ) (deletes : Option Deletes) 
 marks_as files id documents None marks h = h
 marks_as files id documents (Some d) marks h = h
 
-one_held : (files : NamedFiles) (a : Asked) (s : OpenSegment) → IsHeld files a s → HasHeld files a s
-one_held files a s h = record {
+one_held : (files : NamedFiles) (a : Asked) (s : OpenSegment) → IsHeld files a s → AreTold files a s → HasHeld files a s
+one_held files a s h told = record {
   contents = h.contents;
   marks = h.marks;
   alive = marks_as files a.segment.meta.id a.segment.meta.documents a.segment.meta.deletes h.marks h.alive;
   cut = h.cut;
+  totals =
+      subst (λ (file : Option (List ℕ)). IsSomeAnd file (HaveTotals s.fields)) (sym h.contents.there.1.1.0)
+      (told h.contents.files.postings h.contents.there.1.1.0);
 }
 
 each_held : (files : NamedFiles) (asked : List Asked) (opened : List OpenSegment)
-    → EachRead (IsHeld files) asked opened → AllHaveHeld files asked opened
-each_held files [] [] h = tt
-each_held files [] (s ∷ opened) h = absurd h
-each_held files (a ∷ asked) [] h = absurd h
-each_held files (a ∷ asked) (s ∷ opened) h = (one_held files a s h.0, each_held files asked opened h.1)
+    → EachRead (IsHeld files) asked opened → EachRead (AreTold files) asked opened → AllHaveHeld files asked opened
+each_held files [] [] h told = tt
+each_held files [] (s ∷ opened) h told = absurd h
+each_held files (a ∷ asked) [] h told = absurd h
+each_held files (a ∷ asked) (s ∷ opened) h told =
+    (one_held files a s h.0 told.0, each_held files asked opened h.1 told.1)
 
 module _ (m : MergeInput) where
   -- it is what the work directory holds
@@ -47,6 +55,7 @@ module _ (m : MergeInput) where
   opened_held opened a b told h =
       each_held a.files (live_asked m.segments m.filters) opened
       (segments_held (live_asked m.segments m.filters) a b opened told h)
+      (segments_totals (live_asked m.segments m.filters) a b opened told h)
 
   -- ---- the work directory stays
 
@@ -78,6 +87,14 @@ module _ (m : MergeInput) where
       spelled = w.made.joins.spell;
     }
 
+    pub merged_totals : HasTotals b.output.files m.id (first_schema m.segments) (joined_total opened)
+    merged_totals =
+        subst
+        (λ (file : Option (List ℕ)). IsSomeAnd file (TellTotals (first_schema m.segments) (joined_total opened)))
+        (sym
+        (one_files (output_meta_of m (kept_count opened)) m.id w.made.files (Ok tt) w.made.works told_begun).1.1.0)
+        w.made.joins.totals
+
   -- ---- what is answered
 
   module _ (meta : Meta) (a b : Directories) (answer : Answered m meta a b) where
@@ -97,6 +114,7 @@ module _ (m : MergeInput) where
       counted = answer.counted;
       index_of = answer_index;
       joins = merged_holds answer.opened a b answer.merged;
+      totals = merged_totals answer.opened a b answer.merged;
     }
 
     pub answer_stays : b.work.files ≡ a.work.files

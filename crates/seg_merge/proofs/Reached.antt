@@ -16,11 +16,12 @@ use Rattle.seg_batches.specs.Segments.{AllStand, AllTellAlive}
 use Rattle.seg_refusals.specs.Admitted.{Fits}
 use Rattle.seg_merge.specs.DirectoryCalls.{merge_of}
 use Rattle.seg_merge.specs.IndexFiles.{segments_files, work_ids, work_listed, work_segments}
+use Rattle.seg_merge.specs.IndexTotals.{HasWorkTotals}
 use Rattle.seg_merge.specs.MergeAnswers.{AllHaveHeld, LiveAreWhole}
 use Rattle.seg_merge.specs.SegmentsMerged.{live_asked}
 use Rattle.seg_merge.specs.Turns.{Directories}
 use Rattle.seg_merge.proofs.Exits.{Begun, Filled}
-use Rattle.seg_merge.proofs.FilledIndex.{filled_alive, filled_small, filled_stand, filled_taken, filled_tells}
+use Rattle.seg_merge.proofs.FilledIndex.{filled_alive, filled_small, filled_stand, filled_taken, filled_tells, filled_totals}
 use Rattle.seg_merge.proofs.FillSteps.{length-batches}
 use Rattle.seg_merge.proofs.IndexSteps.{tells-still}
 use Rattle.seg_merge.proofs.WholeIds.{work_distinct, work_many}
@@ -101,6 +102,11 @@ module _ (analyzer : Analyzer) (input : Input) where
         pub work_tells_alive : AllTellAlive w.files (length input.operations) (work_segments analyzer input)
         work_tells_alive =
             filled_alive input.settings input.schema analyzer (work_ids input.ids) input.cuts input.operations many
+            distinct tt filled.begun_at w filled.fills told_begun
+
+        pub work_totals : HasWorkTotals analyzer input w.files
+        work_totals =
+            filled_totals input.settings input.schema analyzer (work_ids input.ids) input.cuts input.operations many
             distinct tt filled.begun_at w filled.fills told_begun
 
         -- its segments are whole

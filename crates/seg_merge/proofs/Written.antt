@@ -1,33 +1,40 @@
 -- What is known where both indexes are written.
-use Rattle.std.proofs.Common.{◌≡◌, ◌<◌, ◌^◌, ◌∙◌, ℕ, IsTrue, length, map, None, Some, Ok, sym, ap, subst}
+use Rattle.std.proofs.Common.{◌≡◌, ◌<◌, ◌^◌, ◌∙◌, ℕ, List, IsTrue, length, map, None, Some, Ok, sym, ap, subst}
 use Rattle.seg_directory.specs.Files.{NamedFiles}
 use Rattle.seg_directory.specs.State.{DirectoryState}
 use Rattle.seg_model.specs.Contents.{full_reading}
+use Rattle.seg_model.specs.Estimate.{joined_estimate}
 use Rattle.seg_model.specs.Fields.{Schema, Analyzer}
 use Rattle.seg_meta.specs.IndexOfFiles as index
 use Rattle.seg_model.specs.Input.{Input, input_batches, input_survivors}
+use Rattle.seg_model.specs.Operations.{Batch}
 use Rattle.seg_model.specs.Laws.{AreReadingsOf, JoiningIsInvisible}
 use Rattle.seg_model.specs.Valid.{Known}
 use Rattle.seg_segment.specs.Holds.{Holds}
 use Rattle.seg_segment.specs.Laws.{HoldsOneContents}
 use Rattle.seg_build.specs.Laws.{BuiltHaveNoColumns}
+use Rattle.seg_batches.specs.BatchTotals.{HasTotals}
 use Rattle.seg_open.specs.OpenSegment.{kept_count, part_of}
+use Rattle.seg_join.specs.JoinedTotals.{joined_total}
 use Rattle.seg_join.specs.Laws.{BuiltPartsJoin}
 use Rattle.seg_refusals.specs.Admitted.{Fits}
 use Rattle.seg_refusals.specs.Refusals.{first_error}
 use Rattle.seg_merge.specs.Builds.{Builds, IsBuilt}
 use Rattle.seg_merge.specs.DirectoryCalls.{WritesIndexes, merge_of}
 use Rattle.seg_merge.specs.IndexFiles.{IsOutputIndexOf, IsWorkIndexOf, merged_meta, output_id, output_meta, work_ids}
+use Rattle.seg_merge.specs.IndexTotals.{HasOutputTotals, HasWorkTotals, merged_batches, with_totals}
 use Rattle.seg_merge.specs.MergeAnswers.{AllHaveHeld, IsMergeOf}
 use Rattle.seg_merge.specs.SegmentsMerged.{joined, live_asked}
 use Rattle.seg_merge.specs.Turns.{Directories}
 use Rattle.seg_merge.proofs.Exits.{Wrote, wrote}
 use Rattle.seg_merge.proofs.FilledIndex.{filled_index}
+use Rattle.seg_merge.proofs.FillSteps.{length-batches}
 use Rattle.seg_merge.proofs.MergeErrors.{few_passed}
 use Rattle.seg_merge.proofs.MergeHeld.{opened_held, opened_stays}
-use Rattle.seg_merge.proofs.Reached.{are_readings, distinct, is_written, many, output_empty, told_begun, told_filled, work_empty, work_stands, work_tells_alive}
+use Rattle.seg_merge.proofs.Reached.{are_readings, distinct, is_written, many, output_empty, told_begun, told_filled, work_empty, work_stands, work_tells_alive, work_totals}
+use Rattle.seg_merge.proofs.TotalsRead.{are_live, joined_told}
 use Rattle.seg_merge.proofs.WholeJoined.{kept_survivors, survivors_joined}
-use Rattle.seg_merge.proofs.WholeRead.{live_batches}
+use Rattle.seg_merge.proofs.WholeRead.{batches_counted, live_batches}
 use Rattle.seg_merge.proofs.WholeRefused.{is_valid_if}
 use Rattle.seg_merge.proofs.WholeWork.{work_merged_meta, work_schema}
 
@@ -58,6 +65,10 @@ module _ {T : Type 0} (x : T) (known : Known) (analyzer : Analyzer) (input : Inp
       stand = work_stands analyzer input fits a work_at output_at w.filled told;
       alive = work_tells_alive analyzer input fits a work_at output_at w.filled told;
     })
+
+    totals : HasWorkTotals analyzer input b.work.files
+    totals =
+        subst (HasWorkTotals analyzer input) (sym same_files) (work_totals analyzer input fits a work_at output_at w.filled told)
 
     -- the survivors are no more than a segment can hold
     few : HoldsOneContents → length (input_survivors analyzer input) < 2 ^ 31
@@ -104,6 +115,30 @@ module _ {T : Type 0} (x : T) (known : Known) (analyzer : Analyzer) (input : Inp
         };
       }
 
+      abbrev OfBatches : List Batch → Type 0
+      OfBatches batches =
+          AreReadingsOf input.schema analyzer batches (map part_of merge.opened)
+          × HasTotals b.output.files (output_id input.ids) input.schema
+          (λ f. joined_estimate f (with_totals input.schema analyzer f batches (map part_of merge.opened)))
+
+      output_totals : IsTrue a.output.tells → HasOutputTotals analyzer input b.output.files
+      output_totals told_output =
+          let all = input_batches analyzer input in
+          let stamp = length input.operations in
+          let joined_so : HasTotals b.output.files (output_id input.ids) input.schema (joined_total merge.opened) =
+          subst (λ (s : Schema). HasTotals b.output.files (output_id input.ids) s (joined_total merge.opened))
+          (work_schema analyzer input fits) (merge.totals told_output) in
+          let told_so =
+          joined_told input.schema analyzer b.work.files b.output.files stamp (output_id input.ids) input.filters
+          (work_ids input.ids) all
+          (many analyzer input fits ∙ sym (length-batches input.schema analyzer 0 input.cuts input.operations))
+          totals merge.opened merge.held readings_of joined_so in
+          let of : OfBatches (merged_batches input.filters all) =
+          subst OfBatches
+          (are_live stamp input.filters all (batches_counted input.schema analyzer 0 input.cuts input.operations))
+          (readings_of, told_so) in
+          record { parts = map part_of merge.opened; read = of.0; tells = of.1 }
+
   -- ---- both
 
   pub builds_both : JoiningIsInvisible → BuiltPartsJoin → BuiltHaveNoColumns → HoldsOneContents
@@ -121,7 +156,9 @@ module _ {T : Type 0} (x : T) (known : Known) (analyzer : Analyzer) (input : Inp
       was_empty = work_empty analyzer input a w.filled.begun_at output_at w.filled.begun told;
       index = work_index told;
       meta_is = meta_is told one;
+      totals = totals told;
       output_index = output_index told one law join_law;
+      output_totals = output_totals told one;
     };
     in_output = λ told. record {
       was_empty = output_empty analyzer input a w.filled.begun_at output_at w.filled.begun told;

@@ -16,6 +16,7 @@ use Rattle.seg_refusals.specs.Refusals.{first_error, refusal_error}
 use Rattle.seg_model.specs.Refused.{IfRefusal}
 use Rattle.seg_merge.specs.DirectoryCalls.{merge_of}
 use Rattle.seg_merge.specs.IndexFiles.{IsOutputIndexOf, IsWorkIndexOf, merged_meta, output_id, output_meta, work_ids, work_meta}
+use Rattle.seg_merge.specs.IndexTotals.{HasOutputTotals, HasWorkTotals}
 use Rattle.seg_merge.specs.MergeAnswers.{IsMergedAs}
 use Rattle.seg_merge.specs.SegmentsMerged.{IsReadBack}
 use Rattle.seg_merge.specs.Turns.{Directories}
@@ -25,12 +26,14 @@ pub record IsBuilt (analyzer : Analyzer) (input : Input) (before after : Directo
   pub work_read : IsReadBack (work_meta analyzer input)
   pub merged : IsMergedAs (merge_of analyzer input) before after meta
 
--- a work directory that tells its files has the index of the batches, and the other the index of the survivors
+-- a work directory that tells its files has the index of the batches, and the other the index of the survivors; each with its totals
 pub record IsRead (analyzer : Analyzer) (input : Input) (meta : Meta) (before after : Directories) : Type 0 where
   pub was_empty : len before.work.files ≡ 0
   pub index : IsWorkIndexOf analyzer input after.work.files
   pub meta_is : meta ≡ output_meta analyzer input
+  pub totals : HasWorkTotals analyzer input after.work.files
   pub output_index : IsTrue before.output.tells → IsOutputIndexOf analyzer input after.output.files
+  pub output_totals : IsTrue before.output.tells → HasOutputTotals analyzer input after.output.files
 
 -- an output directory that tells its files has an index with this meta
 pub record IsMerged (meta : Meta) (before after : Directories) : Type 0 where

@@ -2,6 +2,7 @@ pub mod Builds
 pub mod DirectoryCalls
 pub mod EntryOptions
 pub mod IndexFiles
+pub mod IndexTotals
 pub mod MergeAnswers
 pub mod SegmentsMerged
 pub mod Taken

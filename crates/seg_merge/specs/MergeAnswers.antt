@@ -1,7 +1,10 @@
 -- What is known of the merge of segments, by what it answers.
-use Rattle.std.specs.Prelude.{ℕ, ◌≡◌, ◌⊎◌, List, [], ◌∷◌, replicate, true, Bool, Option, Some, None, IsTrue}
+use Rattle.std.specs.Prelude.{ℕ, ◌≡◌, ◌⊎◌, List, [], ◌∷◌, replicate, true, Bool, Option, Some, None, IsSomeAnd, IsTrue}
+use Rattle.std.specs.FinMap.{get}
 use Rattle.std.specs.List.{AllByRecursion}
 use Rattle.seg_common.specs.Causes.{Rose}
+use Rattle.seg_common.specs.declared.name.FileName.TheVariants.{Part}
+use Rattle.seg_common.specs.declared.name.SegmentComponent.TheVariants.{Postings}
 use Rattle.seg_values.specs.declared.error.ArgumentCause.TheVariants.{Documents}
 use Rattle.seg_values.specs.declared.error.TantivyError.{TantivyError}
 use Rattle.seg_values.specs.declared.error.TantivyError.TheVariants.{DataCorruption, IndexAlreadyExists, InvalidArgument, IoError, OpenReadError, OpenWriteError, OutOfMemory}
@@ -14,7 +17,9 @@ use Rattle.seg_segment.specs.Forms.{segment_forms}
 use Rattle.seg_segment.specs.Holds.{Holds}
 use Rattle.seg_segment.specs.HoldsAlive.{HoldsAlive}
 use Rattle.seg_open.specs.OpenSegment.{OpenSegment, contents_of, kept_count}
-use Rattle.seg_open.specs.SegmentOpened.{Asked}
+use Rattle.seg_open.specs.SegmentOpened.{Asked, HaveTotals}
+use Rattle.seg_join.specs.JoinedTotals.{joined_total}
+use Rattle.seg_batches.specs.BatchTotals.{HasTotals}
 use Rattle.seg_merge.specs.SegmentsMerged.{IsRefusal, MergeInput, first_schema, is_live, joined, live_asked, output_meta_of}
 use Rattle.seg_merge.specs.Turns.{Directories}
 
@@ -46,13 +51,14 @@ abbrev pub HoldsMarks : NamedFiles → ℕ → ℕ → Option Deletes → List B
 HoldsMarks files id documents None alive = alive ≡ replicate documents true
 HoldsMarks files id documents (Some d) alive = HoldsAlive files id d.stamp documents alive
 
--- an open segment has what files hold of one that is asked for: its contents, and of the documents that are alive there
--- those that its filter keeps
+-- an open segment has what files hold of one that is asked for: its contents, of the documents that are alive there those
+-- that its filter keeps, and the totals of its open fields
 pub record HasHeld (files : NamedFiles) (a : Asked) (s : OpenSegment) : Type 0 where
   pub contents : Holds files a.segment.meta.id a.segment.schema (contents_of s)
   pub marks : List Bool
   pub alive : HoldsMarks files a.segment.meta.id a.segment.meta.documents a.segment.meta.deletes marks
   pub cut : s.alive ≡ filtered_by a.custom marks
+  pub totals : IsSomeAnd (get files (Part a.segment.meta.id Postings)) (HaveTotals s.fields)
 
 -- and so each
 abbrev pub AllHaveHeld : NamedFiles → List Asked → List OpenSegment → Type 0
@@ -62,7 +68,7 @@ AllHaveHeld files (a ∷ asked) [] = ⊥
 AllHaveHeld files (a ∷ asked) (s ∷ opened) = HasHeld files a s × AllHaveHeld files asked opened
 
 -- segments with what the work files hold were merged: the meta counts their documents; and where the output directory
--- tells its files, these are an index with this meta, whose segment has what they join to
+-- tells its files, these are an index with this meta, whose segment has what they join to, with the estimated totals
 pub record IsMergeOf (m : MergeInput) (work : NamedFiles) (told : Type 0) (output : NamedFiles)
     (meta : Meta) : Type 0 where
   pub opened : List OpenSegment
@@ -70,6 +76,7 @@ pub record IsMergeOf (m : MergeInput) (work : NamedFiles) (told : Type 0) (outpu
   pub counted : meta ≡ output_meta_of m (kept_count opened)
   pub index_of : told → index.index_of segment_forms output ≡ Some meta
   pub joins : told → Holds output m.id (first_schema m.segments) (joined (first_schema m.segments) opened)
+  pub totals : told → HasTotals output m.id (first_schema m.segments) (joined_total opened)
 
 -- what is told of a merge that went well
 pub record IsMergedAs (m : MergeInput) (before after : Directories) (meta : Meta) : Type 0 where

@@ -14,6 +14,7 @@ ghost use Rattle.seg_merge.specs.Builds.{EndsBuilding};
 ghost use Rattle.seg_merge.specs.DirectoryCalls.{BuildsIndexes};
 ghost use Rattle.seg_merge.specs.IndexFiles.{IsOutputIndexOf, IsWorkIndexOf, merged_meta, output_id, output_meta, work_ids};
 ghost use Rattle.seg_merge.specs.Taken.{HoldsTaken, gained};
+ghost use Rattle.seg_merge.specs.IndexTotals.{HasOutputTotals, HasWorkTotals};
 ghost use Rattle.seg_merge.specs.Turns.{both};
 
 use crate::indexes::write_indexes;
@@ -79,6 +80,8 @@ pub fn build_index<Z: Analyzers, W: Directory, O: Directory>(
     ensures work_index { IsTrue (W.state work.old).tells → OnOk result (IsWorkIndexOf (Z.tokens_of analyzers.now) (input_of schema.now settings.now operations.now cuts.now filters.now ids.now) (W.state work.new).files) }
     ensures work_was_empty { IsTrue (W.state work.old).tells → OnOk result (len (W.state work.old).files ≡ 0) }
     ensures output_index { IsTrue (W.state work.old).tells → IsTrue (O.state output.old).tells → OnOk result (IsOutputIndexOf (Z.tokens_of analyzers.now) (input_of schema.now settings.now operations.now cuts.now filters.now ids.now) (O.state output.new).files) }
+    ensures work_totals { IsTrue (W.state work.old).tells → OnOk result (HasWorkTotals (Z.tokens_of analyzers.now) (input_of schema.now settings.now operations.now cuts.now filters.now ids.now) (W.state work.new).files) }
+    ensures output_totals { IsTrue (W.state work.old).tells → IsTrue (O.state output.old).tells → OnOk result (HasOutputTotals (Z.tokens_of analyzers.now) (input_of schema.now settings.now operations.now cuts.now filters.now ids.now) (O.state output.new).files) }
     ensures output_meta { IsTrue (O.state output.old).tells → IfOk result (λ built. index.index_of segment_forms (O.state output.new).files ≡ Some (meta_of built)) }
     ensures output_was_empty { IsTrue (O.state output.old).tells → OnOk result (len (O.state output.old).files ≡ 0) }
     ensures reads { IsTrue (O.state output.old).tells → OnOk result (HoldsTaken (Z.tokens_of analyzers.now)

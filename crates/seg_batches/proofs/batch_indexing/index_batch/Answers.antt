@@ -21,7 +21,7 @@ returns-in-Ok-into_segment-clause-segment g c =
     let writer = c.add_operations.new.writer in
     let few : length (additions operations) < 2 ^ 31 = omega (arith, c.if-count_additions-gt-MAX_DOCUMENTS.false, c.count_additions.ensures) in
     of_batch c.args.writer.1.schema (F c.args.writer.0) c.args.first operations writer.1 c.in-Ok.ensures.schema c.in-Ok.ensures.added
-    (F writer.0) made.segment (ap F c.in-Ok.ensures.analyzers) few made.ensures.stands made.ensures.stamps
+    (F writer.0) made.segment (ap F c.in-Ok.ensures.analyzers) few made.ensures.stands made.ensures.fields made.ensures.totals made.ensures.stamps
 
 pub returns-in-Ok-into_segment-clause-tells : goal.returns-in-Ok-into_segment-clause-tells
 returns-in-Ok-into_segment-clause-tells g c =

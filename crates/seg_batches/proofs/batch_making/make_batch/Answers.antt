@@ -52,6 +52,7 @@ returns-clause-segment g c =
     (ap (λ s. s.schema) c.new-segment.ensures ∙ c.share.ensures) c.in-Ok.ensures.left in
     record {
       stand = made.stand;
+      totals = made.totals;
       number = omega (arith, counted, c.len-max_doc.ensures);
       few = omega (arith, counted, c.len-max_doc.ensures, made.few);
       left = λ before after place all.

@@ -5,9 +5,8 @@ use Rattle.std.proofs.lemmas.Result.{IfOk-weaker}
 use Rattle.seg_model.specs.Operations.{Operation, additions}
 use Rattle.seg_input.specs.View.{operation_of}
 use Rattle.seg_build.specs.WriterStart.{start_refusal}
-use Rattle.seg_segment.specs.Standing.{StandFor}
 use Rattle.seg_model.specs.Telling.{Tells}
-use Rattle.seg_batches.specs.Writing.{batch_between, batch_cause}
+use Rattle.seg_batches.specs.Writing.{StandAndTell, batch_between, batch_cause}
 use Rattle.seg_batches.proofs.BatchSteps.{range_mapped, segment_here, set_here}
 use Rattle.seg_batches.proofs.Causes.{begun, not_begun}
 use Rattle.seg_batches.proofs.batches_writing.write_batch.Goals as goal
@@ -45,7 +44,7 @@ returns g c =
       does =
           begun (batch_cause start schema F (enumerate_from first (slice_range operations first c.args.end))) schema F c.args.id (batch_between schema F first c.args.end operations) c.in-Ok.made.files c.write_made.result _ _
           (subst (λ (os : List Operation). batch_cause start schema F (enumerate_from first os) ≡ None) same made.makes.tells)
-          (subst (λ (os : List Operation). StandFor schema F (additions os) c.in-Ok.made.files) same made.segment.stand)
+          (subst (λ (os : List Operation). StandAndTell schema F (additions os) c.in-Ok.made.files) same (record { stand = made.segment.stand; totals = made.segment.totals }))
           c.write_made.ensures.works;
       segment = IfOk-weaker c.write_made.result _ _ (λ s is.
           segment_here c.args.operations.now first c.args.end c.requires.rises c.requires.within schema F c.args.queue.now.operations c.requires.waits
