@@ -1,5 +1,5 @@
 -- What is known where segments are merged.
-use Rattle.std.proofs.Common.{◌≡◌, ◌∙◌, ℕ, Bool, List, [], ◌∷◌, IsTrue, Option, None, Some, Ok, Err, sym, ap, subst}
+use Rattle.std.proofs.Common.{◌≡◌, ◌∙◌, ℕ, Bool, true, List, [], ◌∷◌, IsTrue, Option, None, Some, Ok, Err, sym, ap, subst}
 use Rattle.seg_values.specs.declared.error.TantivyError.{TantivyError}
 use Rattle.seg_directory.proofs.Exports.{all_went}
 use Rattle.seg_directory.specs.Files.{NamedFiles}
@@ -10,11 +10,13 @@ use Rattle.seg_segment.specs.Forms.{segment_forms}
 use Rattle.seg_segment.specs.Holds.{Holds}
 use Rattle.seg_open.specs.OpenSegment.{OpenSegment, kept_count}
 use Rattle.seg_open.specs.SegmentOpened.{Asked}
+use Rattle.seg_join.specs.Merger.{all_fit}
 use Rattle.seg_open.proofs.Exports.{EachRead, HoldsMarks as HoldsRead, IsHeld, segments_held, segments_stay}
-use Rattle.seg_merge.specs.MergeAnswers.{AllHaveHeld, HasHeld, HoldsMarks, IsMergeOf}
+use Rattle.seg_merge.specs.MergeAnswers.{AllHaveHeld, HasHeld, HoldsMarks, IsMergeOf, IsWholeIndex}
 use Rattle.seg_merge.specs.SegmentsMerged.{IsReadBack, MergeInput, first_schema, joined, live_asked, output_meta_of}
 use Rattle.seg_merge.specs.Turns.{Directories}
 use Rattle.seg_merge.proofs.IndexSteps.{tells-still}
+use Rattle.seg_merge.proofs.MergeCounts.{opened_number}
 use Rattle.seg_merge.proofs.MergeTurns.{Answered, MergeExits, Merged, Opens, at_beginning, at_counting, at_filling, at_opening}
 use Rattle.seg_merge.proofs.OutputSteps.{one_files, one_index}
 
@@ -97,6 +99,26 @@ module _ (m : MergeInput) where
       counted = answer.counted;
       index_of = answer_index;
       joins = merged_holds answer.opened a b answer.merged;
+    }
+
+    answer_segments : all_fit m.filters m.segments ≡ true → IsTrue a.output.tells
+        → index.AreWhole segment_forms b.output.files (output_meta_of m (kept_count answer.opened))
+    answer_segments fit told = (
+      record {
+        contents = joined (first_schema m.segments) answer.opened;
+        held = merged_holds answer.opened a b answer.merged told;
+        number = opened_number m answer.opened a.work b.work answer.merged.was.opens fit;
+        deletes_agree = tt;
+      },
+      tt,
+    )
+
+    -- the output is whole
+    pub answer_whole : all_fit m.filters m.segments ≡ true → IsTrue a.output.tells → IsWholeIndex b.output.files meta
+    answer_whole fit told = record {
+      is_index = answer_index told;
+      whole =
+          subst (λ (x : Meta). index.AreWhole segment_forms b.output.files x) (sym answer.counted) (answer_segments fit told);
     }
 
     pub answer_stays : b.work.files ≡ a.work.files
