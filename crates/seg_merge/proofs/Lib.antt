@@ -8,6 +8,7 @@ mod InTurn
 mod IndexSteps
 mod JoinedIds
 mod MergeCalled
+mod MergeCounts
 mod MergeErrors
 mod MergeFills
 mod MergeHeld

@@ -16,10 +16,11 @@ use Rattle.seg_open.specs.OpenSegment.{OpenSegment, kept_count}
 use Rattle.seg_open.specs.SegmentOpened.{IsNoDamage, OpensSegments}
 use Rattle.seg_open.proofs.Exports.{segments_rose, segments_so, segments_undamaged}
 use Rattle.seg_join.specs.Merger.{too_many}
-use Rattle.seg_merge.specs.MergeAnswers.{IsMergeError, LiveAreWhole}
+use Rattle.seg_merge.specs.MergeAnswers.{CanBeMerged, IsMergeError, LiveAreWhole}
 use Rattle.seg_merge.specs.SegmentsMerged.{AreMerged, FillsOutput, MergeInput, fills, live_asked, output_meta_of, starves}
 use Rattle.seg_merge.specs.Turns.{Directories}
 use Rattle.seg_merge.proofs.IndexSteps.{tells-still}
+use Rattle.seg_merge.proofs.MergeCounts.{opened_few}
 use Rattle.seg_merge.proofs.MergeLists.{live_built, live_whole}
 use Rattle.seg_merge.proofs.MergeTurns.{MergeExits, Opened, at_beginning, at_counting, at_filling, at_opening}
 use Rattle.seg_merge.proofs.OutputSteps.{absent-parts, one_fresh}
@@ -164,3 +165,26 @@ module _ (m : MergeInput) (merged : AreMerged m) (e : TantivyError) (a b : Direc
         subst IsRefusal is (count_refuses e (too_many_told (kept_count opened) e told).1)
     merge_fresh (at_counting opened was (inr starved)) is = absurd (cc (sym starved ∙ is))
     merge_fresh (at_filling opened o was h) is = filling_fresh opened o was h is
+
+  -- only memory is left, where it can be merged
+  memory_left : (d : TantivyError) → IsMergeError m a b d → IsNoDamage d → d ≢ IndexAlreadyExists → IfRefusal (λ _. ⊥) d
+      → (Rose a.work.faults b.work.faults → ⊥) → (Rose a.output.faults b.output.faults → ⊥) → d ≡ OutOfMemory
+  memory_left OutOfMemory so undamaged fresh unrefused work output = refl
+  memory_left OpenReadError (inl rose) undamaged fresh unrefused work output = absurd (work rose)
+  memory_left OpenReadError (inr rose) undamaged fresh unrefused work output = absurd (output rose)
+  memory_left OpenWriteError so undamaged fresh unrefused work output = absurd (output so)
+  memory_left IoError so undamaged fresh unrefused work output = absurd (output so)
+  memory_left SystemError so undamaged fresh unrefused work output = absurd so
+  memory_left FieldNotFound so undamaged fresh unrefused work output = absurd so
+  memory_left (SchemaError cause) so undamaged fresh unrefused work output = absurd so
+  memory_left (InvalidArgument cause) so undamaged fresh unrefused work output = absurd unrefused
+  memory_left IndexAlreadyExists so undamaged fresh unrefused work output = absurd (fresh refl)
+  memory_left (DataCorruption name) so undamaged fresh unrefused work output = absurd undamaged
+
+  pub merge_starved : CanBeMerged m a b → MergeExits m e a b → e ≡ OutOfMemory
+  merge_starved can exit =
+      memory_left e (merge_error exit) (merge_undamaged can.work_tells can.whole exit)
+      (merge_fresh can.output_tells can.output_empty exit)
+      (merge_refused (λ _. ⊥)
+      (λ opened was many. let few = opened_few m opened a.work b.work was.opens in absurd (omega (arith, few, many, can.few))) exit)
+      can.work_sound can.output_sound

@@ -1,5 +1,5 @@
 -- What is known where segments are merged.
-use Rattle.std.proofs.Common.{◌≡◌, ◌∙◌, ℕ, Bool, List, [], ◌∷◌, IsTrue, Option, None, Some, Ok, Err, sym, ap, subst}
+use Rattle.std.proofs.Common.{◌≡◌, ◌∙◌, ℕ, Bool, List, [], ◌∷◌, IsTrue, Option, None, Some, Ok, Err, sym, ap, subst, true}
 use Rattle.std.specs.Prelude.{IsSomeAnd}
 use Rattle.seg_values.specs.declared.error.TantivyError.{TantivyError}
 use Rattle.seg_directory.proofs.Exports.{all_went}
@@ -15,10 +15,12 @@ use Rattle.seg_open.specs.SegmentOpened.{Asked, HaveTotals}
 use Rattle.seg_open.proofs.Exports.{AreTold, EachRead, HoldsMarks as HoldsRead, IsHeld, segments_held, segments_stay, segments_totals}
 use Rattle.seg_join.specs.JoinedTotals.{joined_total}
 use Rattle.seg_batches.specs.BatchTotals.{HasTotals}
-use Rattle.seg_merge.specs.MergeAnswers.{AllHaveHeld, HasHeld, HoldsMarks, IsMergeOf}
+use Rattle.seg_merge.specs.MergeAnswers.{AllHaveHeld, HasHeld, HoldsMarks, IsMergeOf, IsWholeIndex}
+use Rattle.seg_join.specs.Merger.{all_fit}
 use Rattle.seg_merge.specs.SegmentsMerged.{IsReadBack, MergeInput, first_schema, joined, live_asked, output_meta_of}
 use Rattle.seg_merge.specs.Turns.{Directories}
 use Rattle.seg_merge.proofs.IndexSteps.{tells-still}
+use Rattle.seg_merge.proofs.MergeCounts.{opened_number}
 use Rattle.seg_merge.proofs.MergeTurns.{Answered, MergeExits, Merged, Opens, at_beginning, at_counting, at_filling, at_opening}
 use Rattle.seg_merge.proofs.OutputSteps.{one_files, one_index}
 
@@ -115,6 +117,26 @@ module _ (m : MergeInput) where
       index_of = answer_index;
       joins = merged_holds answer.opened a b answer.merged;
       totals = merged_totals answer.opened a b answer.merged;
+    }
+
+    answer_segments : all_fit m.filters m.segments ≡ true → IsTrue a.output.tells
+        → index.AreWhole segment_forms b.output.files (output_meta_of m (kept_count answer.opened))
+    answer_segments fit told = (
+      record {
+        contents = joined (first_schema m.segments) answer.opened;
+        held = merged_holds answer.opened a b answer.merged told;
+        number = opened_number m answer.opened a.work b.work answer.merged.was.opens fit;
+        deletes_agree = tt;
+      },
+      tt,
+    )
+
+    -- the output is whole
+    pub answer_whole : all_fit m.filters m.segments ≡ true → IsTrue a.output.tells → IsWholeIndex b.output.files meta
+    answer_whole fit told = record {
+      is_index = answer_index told;
+      whole =
+          subst (λ (x : Meta). index.AreWhole segment_forms b.output.files x) (sym answer.counted) (answer_segments fit told);
     }
 
     pub answer_stays : b.work.files ≡ a.work.files

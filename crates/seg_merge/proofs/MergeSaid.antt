@@ -1,11 +1,12 @@
 -- What is said of the merge of segments, from its turns.
-use Rattle.std.proofs.Common.{◌≡◌, ◌∙◌, ℕ, Bool, true, false, List, [], ◌∷◌, IsTrue, Option, Some, None, Result, Ok, Err, refl, sym, ap, subst, inl, inr}
+use Rattle.std.proofs.Common.{◌≡◌, ◌≢◌, ◌∙◌, ℕ, Bool, true, false, List, [], ◌∷◌, IsTrue, Option, Some, None, Result, Ok, Err, refl, sym, ap, subst, inl, inr}
 use Rattle.std.specs.Prelude.{◌⊎◌, IfErr, IfOk}
+use Rattle.std.specs.FinMap.{len}
 use Rattle.std.specs.Option.{option_or}
 use Rattle.seg_values.specs.declared.error.ArgumentCause.{ArgumentCause}
 use Rattle.seg_values.specs.declared.error.ArgumentCause.TheVariants.{DifferentSchemas, Filters, Later, NoSegments, Settings}
 use Rattle.seg_values.specs.declared.error.TantivyError.{TantivyError}
-use Rattle.seg_values.specs.declared.error.TantivyError.TheVariants.{InvalidArgument}
+use Rattle.seg_values.specs.declared.error.TantivyError.TheVariants.{IndexAlreadyExists, InvalidArgument, OutOfMemory}
 use Rattle.seg_meta.specs.IndexOfFiles as index
 use Rattle.seg_meta.specs.IndexOfFiles.{Meta}
 use Rattle.seg_meta.specs.Metas.{SegmentParts}
@@ -16,11 +17,11 @@ use Rattle.seg_segment.specs.Forms.{segment_forms}
 use Rattle.seg_open.specs.Answers.{seen_as}
 use Rattle.seg_open.specs.SegmentOpened.{IsNoDamage}
 use Rattle.seg_join.specs.Merger.{all_fit}
-use Rattle.seg_merge.specs.MergeAnswers.{IsMergeError, IsMergeOf, LiveAreWhole}
+use Rattle.seg_merge.specs.MergeAnswers.{CanBeMerged, IsMergeError, IsMergeOf, IsWholeIndex, LiveAreWhole}
 use Rattle.seg_merge.specs.SegmentsMerged.{AreMerged, AreOfOne, IsRefusal, MergeInput, MergesSegments, MergesTo, first_schema, one_refusal, output_meta_of}
 use Rattle.seg_merge.specs.Turns.{Directories, goes_on, stops}
-use Rattle.seg_merge.proofs.MergeErrors.{merge_error, merge_undamaged}
-use Rattle.seg_merge.proofs.MergeHeld.{answer_index, answer_merge, answer_stays, exit_stays}
+use Rattle.seg_merge.proofs.MergeErrors.{merge_error, merge_fresh, merge_starved, merge_undamaged}
+use Rattle.seg_merge.proofs.MergeHeld.{answer_index, answer_merge, answer_stays, answer_whole, exit_stays}
 use Rattle.seg_merge.proofs.MergeTurns.{answered, merge_exits, unanswered}
 
 abbrev failing : (T : Type 0) → TantivyError → Result T TantivyError
@@ -103,6 +104,12 @@ module _ (m : MergeInput) (e : TantivyError) (is : IsRefusal m m.segments (Some 
   pub refused_undamaged : IsNoDamage e
   refused_undamaged = subst IsNoDamage (sym argument.1) tt
 
+  pub refused_fresh : (T : Type 0) → failing T e ≢ Err IndexAlreadyExists
+  refused_fresh T at = cc (ap (failing T) (sym argument.1) ∙ at)
+
+  pub refused_complete : (a b : Directories) → CanBeMerged m a b → e ≡ OutOfMemory
+  refused_complete a b can = absurd (cc (one_only m m.segments (Some e) None is (merged_refusal m can.merged)))
+
 -- ---- and those that are merged
 
 module _ {T : Type 0} (m : MergeInput) (merged : AreMerged m) (f : T → Meta) where
@@ -145,3 +152,20 @@ module _ {T : Type 0} (m : MergeInput) (merged : AreMerged m) (f : T → Meta) w
   merged_undamaged (Ok x) a b h told whole = tt
   merged_undamaged (Err e) a b h told whole =
       merge_undamaged m merged e a b told whole (merge_exits m T e a b (unanswered m f (failing T e) a b h))
+
+  pub merged_whole : (r : Result T TantivyError) (a b : Directories) → MergesTo m (seen_as f r) a b → IsTrue a.output.tells
+      → IfOk r (λ x. IsWholeIndex b.output.files (f x))
+  merged_whole (Ok x) a b h told = answer_whole m (f x) a b (answered m (f x) a b h) merged.fit told
+  merged_whole (Err e) a b h told = tt
+
+  pub merged_fresh : (r : Result T TantivyError) (a b : Directories) → MergesTo m (seen_as f r) a b → IsTrue a.output.tells
+      → len a.output.files ≡ 0 → r ≢ Err IndexAlreadyExists
+  merged_fresh (Ok x) a b h told none at = cc at
+  merged_fresh (Err e) a b h told none at =
+      merge_fresh m merged e a b told none (merge_exits m T e a b (unanswered m f (failing T e) a b h)) (cc at)
+
+  pub merged_complete : (r : Result T TantivyError) (a b : Directories) → MergesTo m (seen_as f r) a b → CanBeMerged m a b
+      → IfErr r (λ e. e ≡ OutOfMemory)
+  merged_complete (Ok x) a b h can = tt
+  merged_complete (Err e) a b h can =
+      merge_starved m merged e a b can (merge_exits m T e a b (unanswered m f (failing T e) a b h))

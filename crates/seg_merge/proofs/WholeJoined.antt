@@ -127,7 +127,7 @@ counts_survivors analyzer input contents h =
 
 -- ---- how many are kept
 
-kept_counted : {X : Type 0} (marks : List Bool) (xs : List X) → length marks ≡ length xs
+pub kept_counted : {X : Type 0} (marks : List Bool) (xs : List X) → length marks ≡ length xs
     → member_count marks ≡ length (kept marks xs)
 kept_counted [] [] h = refl
 kept_counted [] (x ∷ xs) h = absurd (omega (arith, h))

@@ -1,6 +1,6 @@
 -- What is known of the merge of segments, by what it answers.
-use Rattle.std.specs.Prelude.{ℕ, ◌≡◌, ◌⊎◌, List, [], ◌∷◌, replicate, true, Bool, Option, Some, None, IsSomeAnd, IsTrue}
-use Rattle.std.specs.FinMap.{get}
+use Rattle.std.specs.Prelude.{ℕ, ◌≡◌, ◌⊎◌, List, [], ◌∷◌, replicate, true, Bool, Option, Some, None, IsSomeAnd, IsTrue, ◌<◌, ◌^◌, map}
+use Rattle.std.specs.FinMap.{get, len}
 use Rattle.std.specs.List.{AllByRecursion}
 use Rattle.seg_common.specs.Causes.{Rose}
 use Rattle.seg_common.specs.declared.name.FileName.TheVariants.{Part}
@@ -20,7 +20,7 @@ use Rattle.seg_open.specs.OpenSegment.{OpenSegment, contents_of, kept_count}
 use Rattle.seg_open.specs.SegmentOpened.{Asked, HaveTotals}
 use Rattle.seg_join.specs.JoinedTotals.{joined_total}
 use Rattle.seg_batches.specs.BatchTotals.{HasTotals}
-use Rattle.seg_merge.specs.SegmentsMerged.{IsRefusal, MergeInput, first_schema, is_live, joined, live_asked, output_meta_of}
+use Rattle.seg_merge.specs.SegmentsMerged.{IsRefusal, MergeInput, first_schema, is_live, joined, live_asked, output_meta_of, AreMerged, live_documents}
 use Rattle.seg_merge.specs.Turns.{Directories}
 
 -- ---- errors
@@ -78,9 +78,28 @@ pub record IsMergeOf (m : MergeInput) (work : NamedFiles) (told : Type 0) (outpu
   pub joins : told → Holds output m.id (first_schema m.segments) (joined (first_schema m.segments) opened)
   pub totals : told → HasTotals output m.id (first_schema m.segments) (joined_total opened)
 
+-- files are a whole index: they say this meta, and each segment that it lists is whole
+pub record IsWholeIndex (files : NamedFiles) (meta : Meta) : Type 0 where
+  pub is_index : index.index_of segment_forms files ≡ Some meta
+  pub whole : index.AreWhole segment_forms files meta
+
 -- what is told of a merge that went well
 pub record IsMergedAs (m : MergeInput) (before after : Directories) (meta : Meta) : Type 0 where
   pub counted : (documents : ℕ) × (meta ≡ output_meta_of m documents)
   pub merged : IsTrue before.work.tells
       → IsMergeOf m after.work.files (IsTrue before.output.tells) after.output.files meta
   pub index_of : IsTrue before.output.tells → index.index_of segment_forms after.output.files ≡ Some meta
+
+-- ---- what ends well
+
+-- nothing refuses these segments, of which each with a live document is whole, in a directory that tells its files; they have
+-- fewer than 2^31 live documents by their metas; the output directory tells that it has no file; and neither directory fails
+pub record CanBeMerged (m : MergeInput) (before after : Directories) : Type 0 where
+  pub merged : AreMerged m
+  pub whole : LiveAreWhole before.work.files m.segments
+  pub few : live_documents (map (λ s. s.meta) m.segments) < 2 ^ 31
+  pub work_tells : IsTrue before.work.tells
+  pub work_sound : ¬ (Rose before.work.faults after.work.faults)
+  pub output_tells : IsTrue before.output.tells
+  pub output_empty : len before.output.files ≡ 0
+  pub output_sound : ¬ (Rose before.output.faults after.output.faults)

@@ -1,5 +1,5 @@
 -- What the merge of segments into an index does to the two directories.
-use Rattle.std.specs.Prelude.{ℕ, ◌≡◌, ◌⊎◌, List, [], ◌∷◌, map, nat_lt, cond, true, Bool, Option, Some, Result, Ok, Err, IfOk}
+use Rattle.std.specs.Prelude.{ℕ, ◌≡◌, ◌⊎◌, ◌+◌, ◌-◌, List, [], ◌∷◌, map, nat_lt, cond, true, Bool, Option, Some, Result, Ok, Err, IfOk}
 use Rattle.std.specs.FinMap.{empty}
 use Rattle.std.specs.List.{AllByRecursion, filter}
 use Rattle.std.specs.Option.{option_or}
@@ -73,6 +73,11 @@ IsRefusal m (s ∷ segments) refusal =
 -- whether the meta counts a document of a segment that isn't deleted
 abbrev pub is_live : ListedSegment → Bool
 is_live s = nat_lt (deleted s.deletes) s.documents
+
+-- how many there are in segments
+abbrev pub live_documents : List ListedSegment → ℕ
+live_documents [] = 0
+live_documents (s ∷ segments) = (s.documents - deleted s.deletes) + live_documents segments
 
 -- the segments with such a document, each under its filter
 abbrev pub live_asked : List SegmentParts → List (Option Filter) → List Asked

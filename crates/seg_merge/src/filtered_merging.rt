@@ -1,5 +1,6 @@
 //! The merge of segments into an index of one segment.
-ghost use Rattle.std.specs.Prelude.{◌≡◌, ◌⊎◌, ℕ, List, [], Some, None, Err, true, map, length, Option, IfOk, IfErr, IsTrue, MatchBool, OnOk};
+ghost use Rattle.std.specs.Prelude.{◌≡◌, ◌≢◌, ◌⊎◌, ℕ, List, [], Some, None, Err, true, map, length, Option, IfOk, IfErr, IsTrue, MatchBool, OnOk};
+ghost use Rattle.std.specs.FinMap.{len};
 ghost use Rattle.std.specs.List.{AllByRecursion, filter};
 ghost use Rattle.seg_meta.specs.IndexOfFiles as index;
 ghost use Rattle.seg_meta.specs.View.{meta_of, settings_of};
@@ -11,7 +12,7 @@ ghost use Rattle.seg_join.specs.Merger.{all_fit};
 ghost use Rattle.seg_segment.specs.Built.{is_built_schema};
 ghost use Rattle.seg_segment.specs.Forms.{segment_forms};
 ghost use Rattle.seg_merge.specs.IndexFiles.{merged_meta};
-ghost use Rattle.seg_merge.specs.MergeAnswers.{IsMergeError, IsMergeOf, LiveAreWhole};
+ghost use Rattle.seg_merge.specs.MergeAnswers.{CanBeMerged, IsMergeError, IsMergeOf, IsWholeIndex, LiveAreWhole};
 ghost use Rattle.seg_merge.specs.EntryOptions.{options_of};
 ghost use Rattle.seg_merge.specs.SegmentsMerged.{AreMerged, FillsTo, IsRefusal, MergesSegments, MergesTo, OpensLive, first_schema, is_live, kept_filters, live_asked, merge_input};
 ghost use Rattle.seg_merge.specs.Turns.{both};
@@ -63,9 +64,16 @@ pub fn merge_filtered_segments<W: Directory, O: Directory>(
         (IsTrue (O.state output.old).tells) (O.state output.new).files (meta_of merged)) }
     ensures output_meta { IsTrue (O.state output.old).tells
         → IfOk result (λ merged. index.index_of segment_forms (O.state output.new).files ≡ Some (meta_of merged)) }
+    ensures output_whole { IsTrue (O.state output.old).tells
+        → IfOk result (λ merged. IsWholeIndex (O.state output.new).files (meta_of merged)) }
     ensures work_stays { (W.state work.new).files ≡ (W.state work.old).files }
     ensures undamaged { IsTrue (W.state work.old).tells → LiveAreWhole (W.state work.old).files segments.now
         → IfErr result IsNoDamage }
+    ensures fresh { IsTrue (O.state output.old).tells → len (O.state output.old).files ≡ 0
+        → result ≢ Err TantivyError.IndexAlreadyExists }
+    ensures complete { CanBeMerged (merge_input segments.now target_settings filters.items id)
+        (both (W.state work.old) (O.state output.old)) (both (W.state work.new) (O.state output.new))
+        → IfErr result (λ e. e ≡ TantivyError.OutOfMemory) }
 {
     match check_segments(segments, &target_settings, &filters) {
         Ok(()) => merge_checked(

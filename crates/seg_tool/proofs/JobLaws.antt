@@ -143,6 +143,16 @@ module _ {K : Type 0} {does : Result (List ℕ) TantivyError → Directories →
       by (j_failed text is h part rose later) = of (Ok text) h
       by (j_done text is h appends later) = of (Ok text) h
 
+  -- what holds of each status
+  pub job_so : (P : Status → Type 0) → P Done → P Stream
+      → ((e : TantivyError) → does (Err e) a.directories b.directories → P (status_of e)) → P status
+  job_so P done stream of = by exits
+    where
+      by : JobExits does status sink sink_after a b → P status
+      by (j_error e is h same_sink none) = subst P (sym is) (of e h)
+      by (j_failed text is h part rose later) = subst P (sym is) stream
+      by (j_done text is h appends later) = subst P (sym is) done
+
   -- it ends well where the sink doesn't fail, and each error is want of memory
   pub job_completes : (Rose a.sink.faults b.sink.faults → ⊥) → ((e : TantivyError) → does (Err e) a.directories b.directories → status_of e ≡ Memory)
       → (status ≡ Done) ⊎ (status ≡ Memory)
@@ -162,7 +172,7 @@ module _ (a b : Directories) where
   pub shows_stay : (r : Result (List ℕ) TantivyError) → ShowsText r a b → (b.work.files ≡ a.work.files) × (b.output ≡ a.output)
   shows_stay r h = ((prints_stay [] (codes "segment") Full a.work b.work r h.0).files, h.1)
 
-  memory_left : (e : TantivyError) → IsReadError e → IsNoDamage e → e ≢ OpenReadError → status_of e ≡ Memory
+  pub memory_left : (e : TantivyError) → IsReadError e → IsNoDamage e → e ≢ OpenReadError → status_of e ≡ Memory
   memory_left OutOfMemory h k not = refl
   memory_left OpenReadError h k not = absurd (not refl)
   memory_left (DataCorruption name) h k not = absurd k

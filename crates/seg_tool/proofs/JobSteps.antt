@@ -116,6 +116,9 @@ module _ (metas : IndexMeta) where
         index = λ told. tt;
         work_stays = refl;
         undamaged = λ told whole. tt;
+        output_whole = λ told. tt;
+        fresh = λ told none is. cc is;
+        complete = λ can. refl;
       }
 
   -- what is handed to the merge

@@ -7,6 +7,7 @@ mod Faults
 mod IndexLaws
 mod JobLaws
 mod JobSteps
+mod MergeLaws
 mod Parts
 mod Printed
 mod Ran

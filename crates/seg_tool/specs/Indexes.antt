@@ -1,5 +1,6 @@
 -- What `merge` and `show` leave and print, where the directories tell their files.
-use Rattle.std.specs.Prelude.{ℕ, ◌≡◌, ◌≢◌, List, [], ◌∷◌, ◌++◌, replicate, true, Some, Ok, IsTrue, codes}
+use Rattle.std.specs.Prelude.{ℕ, ◌≡◌, ◌≢◌, ◌<◌, ◌^◌, List, [], ◌∷◌, ◌++◌, replicate, true, Some, Ok, IsTrue, codes}
+use Rattle.std.specs.List.{AllByRecursion}
 use Rattle.seg_common.specs.Causes.{Rose}
 use Rattle.seg_directory.specs.Files.{NamedFiles}
 use Rattle.seg_directory.specs.State.{DirectoryState}
@@ -9,12 +10,13 @@ use Rattle.seg_meta.specs.View.{meta_of}
 use Rattle.seg_meta.specs.declared.index_meta.IndexMeta.{IndexMeta}
 use Rattle.seg_model.specs.Contents.{reading_part}
 use Rattle.seg_model.specs.Fields.{Schema}
+use Rattle.seg_model.specs.Valid.{settings_fit}
 use Rattle.seg_segment.specs.Built.{is_built_schema}
 use Rattle.seg_segment.specs.Forms.{segment_forms}
 use Rattle.seg_segment.specs.Holds.{Holds}
 use Rattle.seg_open.specs.OpenSegment.{OpenSegment, contents_of, kept_count}
 use Rattle.seg_merge.specs.MergeAnswers.{AllHaveHeld, HoldsMarks}
-use Rattle.seg_merge.specs.SegmentsMerged.{joined, live_asked, output_meta_of}
+use Rattle.seg_merge.specs.SegmentsMerged.{is_live, joined, live_asked, live_documents, output_meta_of}
 use Rattle.seg_merge.specs.Turns.{Directories}
 use Rattle.seg_text.specs.SegmentText.{segment_text}
 use Rattle.seg_tool.specs.Jobs.{MergesText, ShowsText, last_id, merge_of}
@@ -90,4 +92,21 @@ pub record HasWholeIndex (before after : DirectoryState) : Type 0 where
   pub is_index : index.index_of segment_forms before.files ≡ Some meta
   pub built : is_built_schema meta.schema ≡ true
   pub whole : index.AreWhole segment_forms before.files meta
+  pub sound : ¬ (Rose before.faults after.faults)
+
+-- files that have an index, of which each segment with a live document by its meta is whole
+pub record HasWholeLiveSegments (files : NamedFiles) : Type 0 where
+  pub meta : Meta
+  pub is_index : index.index_of segment_forms files ≡ Some meta
+  pub whole : AllByRecursion (λ s. is_live s ≡ true → index.IsWhole segment_forms files meta.schema s) meta.segments
+
+-- a directory that tells its files, which have such an index, of a schema that is built and with settings that fit; it lists a
+-- segment, and fewer than 2^31 live documents; and the directory does not fail
+pub record HasMergeableIndex (before after : DirectoryState) : Type 0 where
+  pub tells : IsTrue before.tells
+  pub has : HasWholeLiveSegments before.files
+  pub built : is_built_schema has.meta.schema ≡ true
+  pub fit : settings_fit has.meta.settings ≡ true
+  pub some : has.meta.segments ≢ []
+  pub few : live_documents has.meta.segments < 2 ^ 31
   pub sound : ¬ (Rose before.faults after.faults)

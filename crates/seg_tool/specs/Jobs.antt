@@ -16,7 +16,7 @@ use Rattle.seg_refusals.specs.Admitted.{IsValidIf}
 use Rattle.seg_refusals.specs.Refusals.{first_error, refusal_error}
 use Rattle.seg_merge.specs.DirectoryCalls.{BuildsIndexes}
 use Rattle.seg_merge.specs.IndexFiles.{IsMergedIndexOf, IsOutputIndexOf, IsWorkIndexOf}
-use Rattle.seg_merge.specs.MergeAnswers.{IsMergeError, IsMergeOf, LiveAreWhole}
+use Rattle.seg_merge.specs.MergeAnswers.{CanBeMerged, IsMergeError, IsMergeOf, IsWholeIndex, LiveAreWhole}
 use Rattle.seg_merge.specs.SegmentsMerged.{MergeInput, MergesSegments, merge_input}
 use Rattle.seg_merge.specs.Turns.{Directories, InOutput, InWork, Then}
 use Rattle.seg_script.specs.Script.{json_of, script}
@@ -94,6 +94,9 @@ pub record Merges (m : MergeInput) (result : Result IndexMeta TantivyError) (bef
       (λ merged. IsMergeOf m before.work.files (IsTrue before.output.tells) after.output.files (meta_of merged))
   pub work_stays : after.work.files ≡ before.work.files
   pub undamaged : IsTrue before.work.tells → LiveAreWhole before.work.files m.segments → IfErr result IsNoDamage
+  pub output_whole : IsTrue before.output.tells → IfOk result (λ merged. IsWholeIndex after.output.files (meta_of merged))
+  pub fresh : IsTrue before.output.tells → len before.output.files ≡ 0 → result ≢ Err IndexAlreadyExists
+  pub complete : CanBeMerged m before after → IfErr result (λ e. e ≡ OutOfMemory)
 
 -- the meta of the work index is read, and the segments that it lists are merged
 abbrev pub MergesWork : Result IndexMeta TantivyError → Directories → Directories → Type 0

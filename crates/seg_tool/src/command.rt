@@ -11,7 +11,7 @@ ghost use Rattle.seg_open.specs.Answers.{seen_as};
 ghost use Rattle.seg_script.specs.Script.{json_of, script};
 ghost use Rattle.seg_segment.specs.Built.{is_built_schema};
 ghost use Rattle.seg_tool.specs.DirectoryCalls.{BuildDoes, IsReady, JobDoes};
-ghost use Rattle.seg_tool.specs.Indexes.{HasWholeIndex, IsMergedText, IsShownText};
+ghost use Rattle.seg_tool.specs.Indexes.{HasMergeableIndex, HasWholeIndex, HasWholeLiveSegments, IsMergedText, IsShownText};
 ghost use Rattle.seg_tool.specs.Jobs.{BuildsScript, MergesText, ShowsText, WithStatus};
 ghost use Rattle.seg_tool.specs.Run.{max_script, first_of, HasMergedIndex, HasOutputIndex, HasWorkIndex, IsAdmitted, IsJson, IsNoScript, IsTextOf, IsValidScript, IsWhyRefused, IsWhyRefusedUntold, Gains, GainsPart};
 ghost use Rattle.seg_tool.specs.Runs.{EndsJob, Runs, RunsBuild, SourceState, WritesText, sink_state, source_state, world};
@@ -124,6 +124,10 @@ pub fn run<S: Source, K: Sink, F: Sink, Z: Analyzers, W: Directory, O: Directory
         → (e : TantivyError) → result ≢ Status.Exists e) }
     ensures whole { IfBuild (command_of words.now) (λ _. IsTrue (W.state work.old).tells → IsTrue (O.state output.old).tells
         → (e : TantivyError) → result ≢ Status.Damaged e) }
+    ensures fresh_merge { IfMerge (command_of words.now) (IsTrue (O.state output.old).tells
+        → len (O.state output.old).files ≡ 0 → (e : TantivyError) → result ≢ Status.Exists e) }
+    ensures whole_merge { IfMerge (command_of words.now) (IsTrue (W.state work.old).tells → IsTrue (O.state output.old).tells
+        → HasWholeLiveSegments (W.state work.old).files → (e : TantivyError) → result ≢ Status.Damaged e) }
     ensures calls { IfBuild (command_of words.now) (λ detail. BuildDoes (Z.knows analyzers.now) (Z.tokens_of analyzers.now) detail result
         (both (W.state work.old) (O.state output.old)) (both (W.state work.new) (O.state output.new))) }
     ensures merge_calls { IfMerge (command_of words.now) (JobDoes MergesText result
@@ -164,6 +168,11 @@ pub fn run<S: Source, K: Sink, F: Sink, Z: Analyzers, W: Directory, O: Directory
         → (result ≡ Status.Done) ⊎ (result ≡ Status.Memory)) }
     // An index of whole segments, of a schema that is built, where nothing fails, is shown.
     ensures complete_show { IfShow (command_of words.now) (HasWholeIndex (W.state work.old) (W.state work.new)
+        → ¬ (Rose (K.faults sink.old) (K.faults sink.new))
+        → (result ≡ Status.Done) ⊎ (result ≡ Status.Memory)) }
+    // An index that can be merged is, into an empty directory that tells, where nothing fails.
+    ensures complete_merge { IfMerge (command_of words.now) (HasMergeableIndex (W.state work.old) (W.state work.new)
+        → IsReady (O.state output.old) (O.state output.new)
         → ¬ (Rose (K.faults sink.old) (K.faults sink.new))
         → (result ≡ Status.Done) ⊎ (result ≡ Status.Memory)) }
 

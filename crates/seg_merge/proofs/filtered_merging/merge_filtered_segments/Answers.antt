@@ -4,7 +4,7 @@ use Rattle.seg_model.specs.Input.{Filter}
 use Rattle.seg_open.specs.Answers.{seen_as}
 use Rattle.seg_merge.specs.SegmentsMerged.{AreMerged, IsRefusal, MergesTo, merge_input}
 use Rattle.seg_merge.specs.Turns.{both}
-use Rattle.seg_merge.proofs.MergeSaid.{merged_does, merged_error, merged_index, merged_meta, merged_output, merged_refused, merged_stays, merged_undamaged, refused_does, refused_error, refused_so, refused_undamaged}
+use Rattle.seg_merge.proofs.MergeSaid.{merged_complete, merged_does, merged_error, merged_fresh, merged_index, merged_meta, merged_output, merged_refused, merged_stays, merged_undamaged, merged_whole, refused_complete, refused_does, refused_error, refused_fresh, refused_so, refused_undamaged}
 use Rattle.seg_merge.proofs.filtered_merging.merge_filtered_segments.Goals as goal
 
 pub merge_checked-requires : goal.merge_checked-requires
@@ -134,6 +134,51 @@ returns-in-Ok-clause-undamaged g c told whole =
     (seen_as meta_of r) a b) c.deref-in-Ok.ensures.value c.merge_checked.ensures in
     merged_undamaged m merged meta_of r a b to told whole
 
+pub returns-in-Ok-clause-output_whole : goal.returns-in-Ok-clause-output_whole
+returns-in-Ok-clause-output_whole g c told =
+    let m = merge_input c.args.segments.now c.args.target_settings c.args.filters.items c.args.id in
+    let a = both (g.W.Directory.state c.args.work.now) (g.O.Directory.state c.args.output.now) in
+    let b = both (g.W.Directory.state c.merge_checked.new.work) (g.O.Directory.state c.merge_checked.new.output) in
+    let r = c.merge_checked.result in
+    let merged =
+    subst (λ (fs : List (Option Filter)). AreMerged (merge_input c.args.segments.now c.args.target_settings fs c.args.id))
+    c.deref.ensures.value (c.in-Ok.ensures.ok c.args.id) in
+    let to =
+    subst
+    (λ (fs : List (Option Filter)). MergesTo (merge_input c.args.segments.now c.args.target_settings fs c.args.id)
+    (seen_as meta_of r) a b) c.deref-in-Ok.ensures.value c.merge_checked.ensures in
+    merged_whole m merged meta_of r a b to told
+
+pub returns-in-Ok-clause-fresh : goal.returns-in-Ok-clause-fresh
+returns-in-Ok-clause-fresh g c told none =
+    let m = merge_input c.args.segments.now c.args.target_settings c.args.filters.items c.args.id in
+    let a = both (g.W.Directory.state c.args.work.now) (g.O.Directory.state c.args.output.now) in
+    let b = both (g.W.Directory.state c.merge_checked.new.work) (g.O.Directory.state c.merge_checked.new.output) in
+    let r = c.merge_checked.result in
+    let merged =
+    subst (λ (fs : List (Option Filter)). AreMerged (merge_input c.args.segments.now c.args.target_settings fs c.args.id))
+    c.deref.ensures.value (c.in-Ok.ensures.ok c.args.id) in
+    let to =
+    subst
+    (λ (fs : List (Option Filter)). MergesTo (merge_input c.args.segments.now c.args.target_settings fs c.args.id)
+    (seen_as meta_of r) a b) c.deref-in-Ok.ensures.value c.merge_checked.ensures in
+    merged_fresh m merged meta_of r a b to told none
+
+pub returns-in-Ok-clause-complete : goal.returns-in-Ok-clause-complete
+returns-in-Ok-clause-complete g c can =
+    let m = merge_input c.args.segments.now c.args.target_settings c.args.filters.items c.args.id in
+    let a = both (g.W.Directory.state c.args.work.now) (g.O.Directory.state c.args.output.now) in
+    let b = both (g.W.Directory.state c.merge_checked.new.work) (g.O.Directory.state c.merge_checked.new.output) in
+    let r = c.merge_checked.result in
+    let merged =
+    subst (λ (fs : List (Option Filter)). AreMerged (merge_input c.args.segments.now c.args.target_settings fs c.args.id))
+    c.deref.ensures.value (c.in-Ok.ensures.ok c.args.id) in
+    let to =
+    subst
+    (λ (fs : List (Option Filter)). MergesTo (merge_input c.args.segments.now c.args.target_settings fs c.args.id)
+    (seen_as meta_of r) a b) c.deref-in-Ok.ensures.value c.merge_checked.ensures in
+    merged_complete m merged meta_of r a b to can
+
 pub returns-clause-does : goal.returns-clause-does
 returns-clause-does g c =
     let m = merge_input c.args.segments.now c.args.target_settings c.args.filters.items c.args.id in
@@ -170,3 +215,21 @@ returns-clause-undamaged g c told whole =
     (λ (fs : List (Option Filter)). IsRefusal (merge_input c.args.segments.now c.args.target_settings fs c.args.id) c.args.segments.now
     (Some c.in-Err.e)) c.deref.ensures.value (c.in-Err.ensures.err c.args.id) in
     refused_undamaged m c.in-Err.e is
+
+pub returns-clause-fresh : goal.returns-clause-fresh
+returns-clause-fresh g c told none =
+    let m = merge_input c.args.segments.now c.args.target_settings c.args.filters.items c.args.id in
+    let is =
+    subst
+    (λ (fs : List (Option Filter)). IsRefusal (merge_input c.args.segments.now c.args.target_settings fs c.args.id) c.args.segments.now
+    (Some c.in-Err.e)) c.deref.ensures.value (c.in-Err.ensures.err c.args.id) in
+    refused_fresh m c.in-Err.e is _
+
+pub returns-clause-complete : goal.returns-clause-complete
+returns-clause-complete g c can =
+    let m = merge_input c.args.segments.now c.args.target_settings c.args.filters.items c.args.id in
+    let is =
+    subst
+    (λ (fs : List (Option Filter)). IsRefusal (merge_input c.args.segments.now c.args.target_settings fs c.args.id) c.args.segments.now
+    (Some c.in-Err.e)) c.deref.ensures.value (c.in-Err.ensures.err c.args.id) in
+    refused_complete m c.in-Err.e is _ _ can

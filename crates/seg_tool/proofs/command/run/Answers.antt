@@ -3,6 +3,7 @@ use Rattle.seg_merge.specs.Turns.{both}
 use Rattle.seg_tool.proofs.Commands.{first_in_both, of_build, of_merge, of_show, run_later, run_no_script, run_no_words, run_same_sink, run_script, run_sink_later, run_taken, run_turns, run_unread, run_words}
 use Rattle.seg_tool.proofs.Endings.{completes, no-stream}
 use Rattle.seg_tool.proofs.JobLaws.{is_merged, is_shown, job_completes, job_does, job_each, job_gains, job_stream, merges_stay, show_starves, shows_stay}
+use Rattle.seg_tool.proofs.MergeLaws.{ended_fresh, ended_whole, merges_starve}
 use Rattle.seg_tool.proofs.Ran.{ran_does, ran_done, ran_end, ran_end_refused, ran_end_written, ran_fault, ran_first, ran_fresh, ran_json, ran_no_words, ran_output_index, ran_output_meta, ran_output_was_empty, ran_refused, ran_script, ran_stream, ran_untold, ran_valid, ran_whole, ran_work_index, ran_work_was_empty, ran_written}
 use Rattle.seg_tool.proofs.command.run.Goals as goal
 
@@ -138,3 +139,13 @@ returns-clause-complete g c =
 
 pub returns-clause-complete_show : goal.returns-clause-complete_show
 returns-clause-complete_show g c = of_show c.execute-status.ensures _ (λ r whole sound. job_completes r.ends sound (λ e h. show_starves _ _ whole e h))
+
+pub returns-clause-fresh_merge : goal.returns-clause-fresh_merge
+returns-clause-fresh_merge g c = of_merge c.execute-status.ensures _ (λ r. ended_fresh r.ends)
+
+pub returns-clause-whole_merge : goal.returns-clause-whole_merge
+returns-clause-whole_merge g c = of_merge c.execute-status.ensures _ (λ r. ended_whole r.ends)
+
+pub returns-clause-complete_merge : goal.returns-clause-complete_merge
+returns-clause-complete_merge g c =
+    of_merge c.execute-status.ensures _ (λ r can ready sound. job_completes r.ends sound (λ e h. merges_starve _ _ can ready e h))

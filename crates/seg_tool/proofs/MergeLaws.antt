@@ -1,0 +1,269 @@
+-- What the merge of an index never ends with, and where it ends well.
+use Rattle.std.proofs.Common.{◌≡◌, ◌≢◌, ◌≤◌, ◌<◌, ◌^◌, ◌∙◌, ℕ, true, List, [], ◌∷◌, map, None, Result, Ok, Err, IsTrue, refl, sym, ap, subst, inl, codes, arith}
+use Rattle.std.specs.FinMap.{len}
+use Rattle.std.specs.List.{AllByRecursion}
+use Rattle.std.proofs.lemmas.Option.{same_Some}
+use Rattle.seg_common.specs.Causes.{Rose}
+use Rattle.seg_values.specs.declared.error.TantivyError.{TantivyError}
+use Rattle.seg_values.specs.declared.error.TantivyError.TheVariants.{IndexAlreadyExists}
+use Rattle.seg_directory.specs.Files.{NamedFiles}
+use Rattle.seg_directory.specs.State.{DirectoryState}
+use Rattle.seg_meta.specs.IndexOfFiles as index
+use Rattle.seg_meta.specs.IndexOfFiles.{ListedSegment, Meta}
+use Rattle.seg_meta.specs.MetaSteps.{LoadsMetas}
+use Rattle.seg_meta.specs.Metas.{SegmentParts, segment_of}
+use Rattle.seg_meta.specs.View.{meta_of, settings_of}
+use Rattle.seg_meta.specs.declared.index_meta.IndexMeta.{IndexMeta}
+use Rattle.seg_model.specs.Fields.{Schema}
+use Rattle.seg_model.specs.Valid.{settings_fit}
+use Rattle.seg_segment.specs.Built.{is_built_schema}
+use Rattle.seg_segment.specs.Forms.{segment_forms}
+use Rattle.seg_segment.specs.SegmentRead.{IsNoDamage}
+use Rattle.seg_segment.proofs.Exports.{Unchanged}
+use Rattle.seg_join.specs.Merger.{all_fit}
+use Rattle.seg_merge.specs.MergeAnswers.{CanBeMerged, LiveAreWhole}
+use Rattle.seg_merge.specs.SegmentsMerged.{AreMerged, AreOfOne, first_schema, is_live, live_documents}
+use Rattle.seg_merge.specs.Turns.{Directories, goes_on, stops}
+use Rattle.seg_tool.specs.DirectoryCalls.{IsReady}
+use Rattle.seg_tool.specs.Indexes.{HasMergeableIndex, HasWholeLiveSegments}
+use Rattle.seg_tool.specs.Jobs.{Merges, MergesText, MergesWork, WithStatus, merge_of}
+use Rattle.seg_tool.specs.ReadingBack.{PrintsIndex, listed_in}
+use Rattle.seg_tool.specs.Runs.{EndsJob, World}
+use Rattle.seg_tool.specs.Statuses.{status_of}
+use Rattle.seg_tool.specs.declared.status.Status.{Status}
+use Rattle.seg_tool.specs.declared.status.Status.TheVariants.{Damaged, Exists, Memory}
+use Rattle.seg_tool.specs.declared.words.Detail.TheVariants.{Brief}
+use Rattle.seg_tool.proofs.BuildLaws.{end_exists}
+use Rattle.seg_tool.proofs.IndexLaws.{load_index, load_rose, load_so, load_stays, load_undamaged, prints_end, prints_rose, prints_so, prints_undamaged, tells_on}
+use Rattle.seg_tool.proofs.JobLaws.{job_so, memory_left}
+use Rattle.seg_tool.proofs.StatusLaws.{exists_only, undamaged_as}
+use Rattle.seg_tool.proofs.Steady.{BothSteady, merges_steady}
+
+abbrev failing : (T : Type 0) → TantivyError → Result T TantivyError
+failing T e = Err e
+
+-- an error that is handed on
+same_error : (T : Type 0) (e d : TantivyError) → failing T e ≡ failing T d → e ≡ d
+same_error T e d is = cc is
+
+-- ---- what is asked for
+
+module _ (schema : Schema) where
+  abbrev parts : List ListedSegment → List SegmentParts
+  parts listed = map (segment_of schema) listed
+
+  each_of : (listed : List ListedSegment) → AllByRecursion (λ (s : SegmentParts). s.schema ≡ schema) (parts listed)
+  each_of [] = tt
+  each_of (l ∷ listed) = (refl, each_of listed)
+
+  are_of_one : (listed : List ListedSegment) → AreOfOne (parts listed)
+  are_of_one [] = tt
+  are_of_one (l ∷ listed) = (refl, each_of listed)
+
+  some_parts : (listed : List ListedSegment) → listed ≢ [] → parts listed ≡ [] → ⊥
+  some_parts [] some none = some refl
+  some_parts (l ∷ listed) some none = cc none
+
+  first_built : (listed : List ListedSegment) → listed ≢ [] → is_built_schema schema ≡ true
+      → is_built_schema (first_schema (parts listed)) ≡ true
+  first_built [] some built = absurd (some refl)
+  first_built (l ∷ listed) some built = built
+
+  metas_back : (listed : List ListedSegment) → map (λ (s : SegmentParts). s.meta) (parts listed) ≡ listed
+  metas_back [] = refl
+  metas_back (l ∷ listed) = ap (λ (ls : List ListedSegment). l ∷ ls) (metas_back listed)
+
+  live_whole : (files : NamedFiles) (listed : List ListedSegment)
+      → AllByRecursion (λ (s : ListedSegment). is_live s ≡ true → index.IsWhole segment_forms files schema s) listed
+      → LiveAreWhole files (parts listed)
+  live_whole files [] whole = tt
+  live_whole files (l ∷ listed) whole = (whole.0, live_whole files listed whole.1)
+
+none_fit : (segments : List SegmentParts) → all_fit (map (λ _. None) segments) segments ≡ true
+none_fit [] = refl
+none_fit (s ∷ segments) = none_fit segments
+
+-- nothing refuses the segments of an index
+are_merged : (metas : IndexMeta) → metas.segments ≢ [] → is_built_schema metas.schema ≡ true
+    → settings_fit (settings_of metas.index_settings) ≡ true → AreMerged (merge_of metas)
+are_merged metas some built settings = record {
+  some = some_parts metas.schema metas.segments some;
+  of_one = are_of_one metas.schema metas.segments;
+  built = first_built metas.schema metas.segments some built;
+  fit = none_fit (listed_in metas);
+  settings = settings;
+}
+
+-- ---- where it stops
+
+-- the index isn't read, or not merged, or what was made is not printed
+data Exits (e : TantivyError) (a b : Directories) : Type 0 where
+  at_loading : LoadsMetas (Err e) a.work b.work → Exits e a b
+  at_merging : (metas : IndexMeta) (m : Directories) → LoadsMetas (Ok metas) a.work m.work → m.output ≡ a.output
+      → Merges (merge_of metas) (Err e) m b → Exits e a b
+  at_printing : (metas merged : IndexMeta) (m n : Directories) → LoadsMetas (Ok metas) a.work m.work → m.output ≡ a.output
+      → Merges (merge_of metas) (Ok merged) m n → PrintsIndex [] (codes "output") Brief (Err e) n.output b.output → Exits e a b
+
+module _ (e : TantivyError) (a b : Directories) where
+  exit_as : (T : Type 0) (d : TantivyError) → failing T e ≡ failing T d → Exits d a b → Exits e a b
+  exit_as T d is exit = subst (λ (x : TantivyError). Exits x a b) (sym (same_error T e d is)) exit
+
+  in_work : (d : TantivyError) → MergesWork (Err d) a b → Exits d a b
+  in_work d (stops c is l) =
+      subst (λ (x : TantivyError). Exits x a b) (sym (same_error IndexMeta d c is)) (at_loading l.0)
+  in_work d (goes_on metas m l k) = at_merging metas m l.0 l.1 k
+
+  in_output : (merged : IndexMeta) (n : Directories) → MergesWork (Ok merged) a n
+      → PrintsIndex [] (codes "output") Brief (Err e) n.output b.output → Exits e a b
+  in_output merged n (stops c is l) prints = absurd (cc is)
+  in_output merged n (goes_on metas m l k) prints = at_printing metas merged m n l.0 l.1 k prints
+
+  exit_of : MergesText (Err e) a b → Exits e a b
+  exit_of (stops d is w) = exit_as (List ℕ) d is (in_work d w)
+  exit_of (goes_on merged n w p) = in_output merged n w p.0
+
+-- ---- what is known on the way
+
+module _ (a m : Directories) (same_output : m.output ≡ a.output) where
+  told_still : IsTrue a.output.tells → IsTrue m.output.tells
+  told_still told = subst (λ (s : DirectoryState). IsTrue s.tells) (sym same_output) told
+
+  empty_still : len a.output.files ≡ 0 → len m.output.files ≡ 0
+  empty_still none = subst (λ (s : DirectoryState). len s.files ≡ 0) (sym same_output) none
+
+  module _ (metas merged : IndexMeta) (n : Directories) (k : Merges (merge_of metas) (Ok merged) m n) where
+    steady : BothSteady m n
+    steady = merges_steady (merge_of metas) (Ok merged) m n k.does
+
+    told_merged : IsTrue a.output.tells → IsTrue n.output.tells
+    told_merged told = subst (λ t. IsTrue t) (sym steady.output.tells) (told_still told)
+
+    faults_grow : a.output.faults ≤ n.output.faults
+    faults_grow =
+        let same : m.output.faults ≡ a.output.faults = ap (λ (s : DirectoryState). s.faults) same_output in
+        let later = steady.output.later in
+        omega (arith, same, later)
+
+-- what is read is the index that is there
+module _ (a m : DirectoryState) (told : IsTrue a.tells) (has : HasWholeLiveSegments a.files) (metas : IndexMeta)
+    (loads : LoadsMetas (Ok metas) a m) where
+  same_files : Unchanged a m
+  same_files = load_stays a m (Ok metas) loads
+
+  told_loaded : IsTrue m.tells
+  told_loaded = tells_on a m same_files told
+
+  meta_is : has.meta ≡ meta_of metas
+  meta_is = same_Some has.meta (meta_of metas) (sym has.is_index ∙ load_index a m metas told loads)
+
+  loaded_whole : LiveAreWhole m.files (listed_in metas)
+  loaded_whole =
+      subst (λ (files : NamedFiles). LiveAreWhole files (listed_in metas)) (sym same_files.files)
+      (live_whole metas.schema a.files metas.segments
+      (subst (λ (x : Meta). AllByRecursion (λ (s : ListedSegment). is_live s ≡ true → index.IsWhole segment_forms a.files x.schema s) x.segments) meta_is has.whole))
+
+rose_before : (a b c : ℕ) → a ≤ b → Rose b c → Rose a c
+rose_before a b c before rose = omega (arith, before, rose)
+
+-- ---- no file is found in an empty output directory
+
+module _ (a b : Directories) (told : IsTrue a.output.tells) (none : len a.output.files ≡ 0) where
+  exit_fresh : (e : TantivyError) → Exits e a b → e ≢ IndexAlreadyExists
+  exit_fresh e (at_loading l) at = end_exists e (inl (load_so a.work b.work e l)) at
+  exit_fresh e (at_merging metas m l same k) at =
+      k.fresh (told_still a m same told) (empty_still a m same none) (ap (failing IndexMeta) at)
+  exit_fresh e (at_printing metas merged m n l same k prints) at =
+      end_exists e (prints_end [] (codes "output") Brief n.output b.output e prints) at
+
+pub ended_fresh : {K : Type 0} {status : Status} {sink sink_after : K} {a b : World}
+    → EndsJob (WithStatus MergesText) status sink sink_after a b → IsTrue a.directories.output.tells
+    → len a.directories.output.files ≡ 0 → (x : TantivyError) → status ≢ Exists x
+ended_fresh {a = a} {b = b} ends told none =
+    job_so ends (λ (s : Status). (x : TantivyError) → s ≢ Exists x) (λ x at. cc at) (λ x at. cc at)
+    (λ e h x at. exists_only e x at
+    (exit_fresh a.directories b.directories told none e (exit_of e a.directories b.directories h)))
+
+-- ---- no file is found damaged, where segments with a live document are whole
+
+module _ (a b : Directories) (told : IsTrue a.work.tells) (told_out : IsTrue a.output.tells) (has : HasWholeLiveSegments a.work.files) where
+  exit_undamaged : (e : TantivyError) → Exits e a b → IsNoDamage e
+  exit_undamaged e (at_loading l) = load_undamaged a.work b.work e has.meta told has.is_index l
+  exit_undamaged e (at_merging metas m l same k) =
+      k.undamaged (told_loaded a.work m.work told has metas l) (loaded_whole a.work m.work told has metas l)
+  exit_undamaged e (at_printing metas merged m n l same k prints) =
+      let is = k.output_whole (told_still a m same told_out) in
+      prints_undamaged [] (codes "output") Brief n.output b.output (meta_of merged) (told_merged a m same metas merged n k told_out)
+      is.is_index e is.whole prints
+
+pub ended_whole : {K : Type 0} {status : Status} {sink sink_after : K} {a b : World}
+    → EndsJob (WithStatus MergesText) status sink sink_after a b → IsTrue a.directories.work.tells
+    → IsTrue a.directories.output.tells → HasWholeLiveSegments a.directories.work.files → (x : TantivyError) → status ≢ Damaged x
+ended_whole {a = a} {b = b} ends told told_out has =
+    job_so ends (λ (s : Status). (x : TantivyError) → s ≢ Damaged x) (λ x at. cc at) (λ x at. cc at)
+    (λ e h x at. undamaged_as e x at
+    (exit_undamaged a.directories b.directories told told_out has e (exit_of e a.directories b.directories h)))
+
+-- ---- it ends well
+
+module _ (a b : Directories) (can : HasMergeableIndex a.work b.work) (ready : IsReady a.output b.output) where
+  loaded_merged : (metas : IndexMeta) (m : DirectoryState) → LoadsMetas (Ok metas) a.work m → AreMerged (merge_of metas)
+  loaded_merged metas m loads =
+      let is = meta_is a.work m can.tells can.has metas loads in
+      are_merged metas (subst (λ (x : Meta). x.segments ≢ []) is can.some)
+      (subst (λ (x : Meta). is_built_schema x.schema ≡ true) is can.built)
+      (subst (λ (x : Meta). settings_fit x.settings ≡ true) is can.fit)
+
+  loaded_few : (metas : IndexMeta) (m : DirectoryState) → LoadsMetas (Ok metas) a.work m
+      → live_documents (map (λ (s : SegmentParts). s.meta) (listed_in metas)) < 2 ^ 31
+  loaded_few metas m loads =
+      subst (λ (l : List ListedSegment). live_documents l < 2 ^ 31) (sym (metas_back metas.schema metas.segments))
+      (subst (λ (x : Meta). live_documents x.segments < 2 ^ 31) (meta_is a.work m can.tells can.has metas loads) can.few)
+
+  can_be : (metas : IndexMeta) (m : Directories) → LoadsMetas (Ok metas) a.work m.work → m.output ≡ a.output
+      → CanBeMerged (merge_of metas) m b
+  can_be metas m loads same = record {
+    merged = loaded_merged metas m.work loads;
+    whole = loaded_whole a.work m.work can.tells can.has metas loads;
+    few = loaded_few metas m.work loads;
+    work_tells = told_loaded a.work m.work can.tells can.has metas loads;
+    work_sound = λ rose.
+        can.sound
+        (rose_before a.work.faults m.work.faults b.work.faults (same_files a.work m.work can.tells can.has metas loads).later rose);
+    output_tells = told_still a m same ready.tells;
+    output_empty = empty_still a m same ready.empty;
+    output_sound = λ rose. ready.sound (subst (λ (s : DirectoryState). Rose s.faults b.output.faults) same rose);
+  }
+
+  load_starves : (e : TantivyError) → LoadsMetas (Err e) a.work b.work → status_of e ≡ Memory
+  load_starves e loads =
+      memory_left a b e (load_so a.work b.work e loads)
+      (load_undamaged a.work b.work e can.has.meta can.tells can.has.is_index loads)
+      (λ is. can.sound (load_rose a.work b.work (subst (λ (x : TantivyError). LoadsMetas (Err x) a.work b.work) is loads)))
+
+  module _ (metas merged : IndexMeta) (m n : Directories) (loads : LoadsMetas (Ok metas) a.work m.work) (same : m.output ≡ a.output)
+      (k : Merges (merge_of metas) (Ok merged) m n) where
+    merged_built : is_built_schema (meta_of merged).schema ≡ true
+    merged_built =
+        ap (λ (x : Meta). is_built_schema x.schema) (k.index (told_loaded a.work m.work can.tells can.has metas loads)).counted
+        ∙ (loaded_merged metas m.work loads).built
+
+    print_starves : (e : TantivyError) → PrintsIndex [] (codes "output") Brief (Err e) n.output b.output → status_of e ≡ Memory
+    print_starves e prints =
+        let is = k.output_whole (told_still a m same ready.tells) in
+        let told = told_merged a m same metas merged n k ready.tells in
+        memory_left a b e
+        (prints_so [] (codes "output") Brief n.output b.output (meta_of merged) told is.is_index e merged_built prints)
+        (prints_undamaged [] (codes "output") Brief n.output b.output (meta_of merged) told is.is_index e is.whole prints)
+        (λ at.
+        ready.sound
+        (rose_before a.output.faults n.output.faults b.output.faults (faults_grow a m same metas merged n k)
+        (prints_rose [] (codes "output") Brief n.output b.output
+        (subst (λ (x : TantivyError). PrintsIndex [] (codes "output") Brief (Err x) n.output b.output) at prints))))
+
+  exit_starves : (e : TantivyError) → Exits e a b → status_of e ≡ Memory
+  exit_starves e (at_loading l) = load_starves e l
+  exit_starves e (at_merging metas m l same k) = ap status_of (k.complete (can_be metas m l same))
+  exit_starves e (at_printing metas merged m n l same k prints) = print_starves metas merged m n l same k e prints
+
+  pub merges_starve : (e : TantivyError) → MergesText (Err e) a b → status_of e ≡ Memory
+  merges_starve e h = exit_starves e (exit_of e a b h)
