@@ -30,10 +30,10 @@ pub returns-in-Ok-clause-output_index : goal.returns-in-Ok-clause-output_index
 returns-in-Ok-clause-output_index g c told told_output = (c.in-Ok.ensures.ends.in_work told).output_index told_output
 
 pub returns-in-Ok-clause-work_totals : goal.returns-in-Ok-clause-work_totals
-returns-in-Ok-clause-work_totals g c told = (c.in-Ok.ensures.builds.in_work told).totals
+returns-in-Ok-clause-work_totals g c told = (c.in-Ok.ensures.ends.in_work told).totals
 
 pub returns-in-Ok-clause-output_totals : goal.returns-in-Ok-clause-output_totals
-returns-in-Ok-clause-output_totals g c told told_output = (c.in-Ok.ensures.builds.in_work told).output_totals told_output
+returns-in-Ok-clause-output_totals g c told told_output = (c.in-Ok.ensures.ends.in_work told).output_totals told_output
 
 pub returns-in-Ok-clause-output_meta : goal.returns-in-Ok-clause-output_meta
 returns-in-Ok-clause-output_meta g c told = (c.in-Ok.ensures.ends.in_output told).index_of
