@@ -25,20 +25,25 @@ def bytes_of(name, extension):
 
 # ---- what reads the files of a case: each raises Malformed with the extension of the file that is told
 
-def read_postings(parts, index, max_doc):
-    """The parts of a text field: the postings of a term are read once its positions are there."""
+def read_postings(terms, data, index, max_doc):
+    """The postings of a text field fill their part, and each term is read without its positions."""
+    check(len(data) == 8 + terms[-1].postings_end, 'postings of another length')
+    for term in terms:
+        term.kind = formats.term_kind({'kind': 'text', 'index': index}, term.key)
+    formats.read_postings(terms, data, max_doc)
+
+
+def read_positions(terms, data):
+    """The positions of these terms fill their part."""
+    check(len(data) == terms[-1].positions_end, 'positions of another length')
+    for term, piece in zip(terms, formats.cut(data, [term.positions_end for term in terms])):
+        formats.read_positions(term, piece)
+
+
+def read_field(parts, index, max_doc):
     terms = formats.dictionary(parts['term'])
-    last = terms[-1]
-    check(len(parts['idx']) == 8 + last.postings_end, 'idx')
-    check(len(parts['pos']) == last.positions_end, 'pos')
-    try:
-        for term in terms:
-            term.kind = formats.term_kind({'kind': 'text', 'index': index}, term.key)
-        formats.read_postings(terms, parts['idx'], max_doc)
-        for term, piece in zip(terms, formats.cut(parts['pos'], [term.positions_end for term in terms])):
-            formats.read_positions(term, piece)
-    except Malformed:
-        raise Malformed('pos') from None
+    read_postings(terms, parts['idx'], index, max_doc)
+    read_positions(terms, parts['pos'])
 
 
 def read_store(data):
@@ -76,23 +81,24 @@ class Run:
         self.alive = {name: formats.alive_set(data) for name, data in files.items() if name.endswith('.del')}
 
     def read(self, files):
-        """Raises Malformed with the extension of the file that is told, in the order in which files are read."""
-        parts = {}
+        """Raises Malformed with the extension of the file that is told: the first that is wrong by itself or with those before it."""
+        terms = {}
         for extension in 'term', 'store', 'idx', 'pos', 'fast', 'fieldnorm', *self.alive:
             try:
-                self.read_file(files, extension, parts)
+                self.read_file(files, extension, terms)
             except Malformed:
                 raise Malformed(extension) from None
-            if extension == 'pos':
-                for at in self.indexed:
-                    read_postings({name: parts[name][at] for name in parts}, self.schema[at]['index'], self.max_doc)
 
-    def read_file(self, files, extension, parts):
+    def read_file(self, files, extension, terms):
         data = files[extension]
-        if extension in ('term', 'idx', 'pos'):
-            parts[extension] = composite_of(data, self.indexed)
-        for part in parts['term'].values() if extension == 'term' else []:
-            formats.dictionary(part)
+        parts = composite_of(data, self.indexed) if extension in ('term', 'idx', 'pos') else {}
+        for at, part in parts.items():
+            if extension == 'term':
+                terms[at] = formats.dictionary(part)
+            elif extension == 'idx':
+                read_postings(terms[at], part, self.schema[at]['index'], self.max_doc)
+            else:
+                read_positions(terms[at], part)
         if extension == 'store':
             check(read_store(data) == self.max_doc, 'another number of documents')
         if extension == 'fast':
@@ -115,7 +121,7 @@ def reader_of(reader, files):
     if reader == 'run':
         return Run(files).read
     if reader in INDEXES:
-        return lambda files: read_postings(files, INDEXES[reader], MAX_DOC)
+        return lambda files: read_field(files, INDEXES[reader], MAX_DOC)
     return lambda files: FORMATS[reader](*files.values())
 
 

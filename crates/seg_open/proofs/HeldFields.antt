@@ -1,4 +1,4 @@
--- The parts of a field that hold terms are a field by the rules of its entry; and why parts hold none.
+-- The parts of a field that hold terms are a field by the rules of its entry.
 use Rattle.std.proofs.Common.{◌≡◌, ℕ, ◌+◌, ◌<◌, cond, T, List, [], ◌∷◌, map, Some, None, refl, sym, ap, ◌∙◌, subst}
 use Rattle.std.specs.FinMap.Entries.{below_all}
 use Rattle.std.specs.FinMap.{entries, find, is_sorted, entries_sorted, get-entries}
@@ -8,13 +8,13 @@ use Rattle.std.specs.Cmp.{tied_itself}
 use Rattle.std.specs.Cmp.Lexicographic.{slice_cmp, nat_list_cmp_total}
 use Rattle.std.specs.declared.cmp.Ordering.{Ordering}
 use Rattle.std.specs.declared.cmp.Ordering.TheVariants.{Less, Equal, Greater}
-use Rattle.std.proofs.lemmas.Option.{none-some, same_Some}
+use Rattle.std.proofs.lemmas.Option.{none-some}
 use Rattle.seg_common.proofs.Bools.{first_holds, second_holds}
 use Rattle.seg_values.specs.declared.schema.FieldEntry.{FieldEntry}
 use Rattle.seg_values.specs.declared.schema.IndexOption.{IndexOption}
 use Rattle.seg_model.specs.Reading.{Posting, term_option}
 use Rattle.seg_model.specs.Shape.{ArePostings, IsTermWith}
-use Rattle.seg_directory.specs.Composite.{Part, field_of}
+use Rattle.seg_directory.specs.Composite.{Part}
 use Rattle.seg_postings.specs.FieldWriting.{TermWritten}
 use Rattle.seg_postings.specs.FieldReading.{IsFieldBy, rules_of}
 use Rattle.seg_open.specs.FieldOpening.{MayHold}
@@ -60,7 +60,7 @@ each_low entry documents [] all = tt
 each_low entry documents (t ∷ ts) all = (all_low (term_option entry t.bytes) 0 documents t.postings all.0.postings_ascend, each_low entry documents ts all.1)
 
 module _ (entry : FieldEntry) (field documents : ℕ) (terms : List Part) where
-  by_rules : (postings positions : List Part) (m : MayHold entry field documents terms postings positions) → IsFieldBy (rules_of entry documents) m.holds.dictionary m.holds.postings_part m.holds.positions_part m.holds.total m.holds.written
+  pub by_rules : (postings positions : List Part) (m : MayHold entry field documents terms postings positions) → IsFieldBy (rules_of entry documents) m.holds.dictionary m.holds.postings_part m.holds.positions_part m.holds.total m.holds.written
   by_rules postings positions m =
       let shaped = of_each (IsTermWith entry documents) (entries m.held) (entries_sorted m.held) (λ k y at. m.shape k y (get-entries m.held k ∙ at)) in
       record {
@@ -68,20 +68,3 @@ module _ (entry : FieldEntry) (field documents : ℕ) (terms : List Part) where
         kinds = m.holds.kinds;
         low = each_low entry documents m.holds.written (subst (AllByRecursion (λ (e : List ℕ × List Posting). IsTermWith entry documents e.0 e.1)) (sym m.holds.are) shaped);
       }
-
-  -- ---- why not
-
-  module _ (dictionary : List ℕ) (in_terms : Some dictionary ≡ field_of terms field) (postings : List Part) (part : List ℕ) (in_postings : Some part ≡ field_of postings field) where
-    both : (qs : List Part) (m : MayHold entry field documents terms postings qs) → IsFieldBy (rules_of entry documents) dictionary part m.holds.positions_part m.holds.total m.holds.written
-    both qs m =
-        let d : dictionary ≡ m.holds.dictionary = same_Some dictionary m.holds.dictionary (in_terms ∙ m.holds.in_terms) in
-        let p : part ≡ m.holds.postings_part = same_Some part m.holds.postings_part (in_postings ∙ m.holds.in_postings) in
-        subst (λ (x : List ℕ). IsFieldBy (rules_of entry documents) x part m.holds.positions_part m.holds.total m.holds.written) (sym d)
-        (subst (λ (x : List ℕ). IsFieldBy (rules_of entry documents) m.holds.dictionary x m.holds.positions_part m.holds.total m.holds.written) (sym p) (by_rules postings qs m))
-
-    pub other_postings : ((positions : List ℕ) (total : ℕ) (ts : List TermWritten) → IsFieldBy (rules_of entry documents) dictionary part positions total ts → ⊥) → (qs : List Part) → MayHold entry field documents terms postings qs → ⊥
-    other_postings other qs m = other m.holds.positions_part m.holds.total m.holds.written (both qs m)
-
-    pub other_positions : (positions : List Part) (bytes : List ℕ) → Some bytes ≡ field_of positions field → ((total : ℕ) (ts : List TermWritten) → IsFieldBy (rules_of entry documents) dictionary part bytes total ts → ⊥) → MayHold entry field documents terms postings positions → ⊥
-    other_positions positions bytes in_positions other m =
-        other m.holds.total m.holds.written (subst (λ (x : List ℕ). IsFieldBy (rules_of entry documents) dictionary part x m.holds.total m.holds.written) (sym (same_Some bytes m.holds.positions_part (in_positions ∙ m.holds.in_positions))) (both positions m))

@@ -11,3 +11,5 @@ mod Opened
 mod OpenedLaws
 mod OpeningSteps
 mod PlacesOpened
+mod Stages
+mod Unopened

@@ -1,5 +1,5 @@
 -- The files of a segment that is open spell the contents of its reader.
-use Rattle.std.proofs.Common.{◌≡◌, ℕ, zero, suc, arith, true, false, List, [], ◌∷◌, map, length, Option, Some, None, refl, sym, ap, ◌∙◌, subst, slice_get}
+use Rattle.std.proofs.Common.{◌≡◌, ℕ, true, false, List, map, Option, Some, None, refl, sym, ap, ◌∙◌, subst, slice_get}
 use Rattle.std.specs.Prelude.{is_some, unwrap_or}
 use Rattle.std.specs.FinMap.{get, empty, get-empty}
 use Rattle.std.specs.List.{slice_index_or}
@@ -24,6 +24,7 @@ use Rattle.seg_open.specs.OpenSegment.{OpenSegment, terms_in, contents_of}
 use Rattle.seg_open.specs.SegmentOpening.{TermsAreOpen, IsOpen, AreTexts}
 use Rattle.seg_open.specs.FieldsOpening.{IsPlaceOpened}
 use Rattle.seg_open.specs.SegmentOpened.{HaveTotals}
+use Rattle.seg_open.proofs.Stages.{there}
 use Rattle.seg_segment.specs.Spelling.{Spell}
 use Rattle.seg_segment.specs.declared.segment_files.SegmentFiles.{SegmentFiles}
 
@@ -34,17 +35,6 @@ terms_at_place fields i o at =
 
 none_there : {X : Type 0} (x : X) → (let o : Option X = None in o) ≡ Some x → ⊥
 none_there x e = cc e
-
-record IsThere {X : Type 0} (xs : List X) (i : ℕ) : Type 0 where
-  value : X
-  at : slice_get xs i ≡ Some value
-
--- a list as long as another has each of its places
-there : {X Y : Type 0} (xs : List X) (ys : List Y) (i : ℕ) (y : Y) → length xs ≡ length ys → slice_get ys i ≡ Some y → IsThere xs i
-there xs [] i y same at = absurd (none_there y at)
-there [] (z ∷ ys) i y same at = absurd (omega (arith, same))
-there (x ∷ xs) (z ∷ ys) zero y same at = record { value = x; at = refl }
-there (x ∷ xs) (z ∷ ys) (suc i) y same at = let rest = there xs ys i y (omega (arith, same)) at in record { value = rest.value; at = rest.at }
 
 -- the field at a place is open
 record IsOpenAt (entry : FieldEntry) (field documents : ℕ) (terms postings positions : List Part) (fields : List (Option OpenField)) : Type 0 where

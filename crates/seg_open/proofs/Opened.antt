@@ -16,7 +16,7 @@ use Rattle.seg_segment.specs.Built.{is_built_schema}
 use Rattle.seg_segment.specs.SegmentRead.{read_steps}
 use Rattle.seg_segment.specs.Spelling.{Spell}
 use Rattle.seg_segment.specs.declared.segment_files.SegmentFiles.{SegmentFiles}
-use Rattle.seg_open.specs.Disagreement.{Disagree, IsWhyNotOpen}
+use Rattle.seg_open.specs.Disagreement.{IsFirstWrong, IsWhyNotOpen}
 use Rattle.seg_open.specs.FileSizes.{sizes_of}
 use Rattle.seg_open.specs.OpenSegment.{OpenSegment, contents_of}
 use Rattle.seg_open.specs.SegmentOpening.{AreTexts, IsOpen}
@@ -41,7 +41,7 @@ module _ (segment : SegmentParts) {a b : DirectoryState} where
       files = files;
       refusal = Some (DataCorruption (Part segment.meta.id c));
       works = then_does first.does (broke (refl, refl));
-      damaged = record { component = c; told = refl; disagree = why };
+      damaged = record { component = c; told = refl; disagree = why.disagree; first = why.first };
       is = tt;
     }
     unopened OutOfMemory why = record { files = files; refusal = None; works = then_does first.does (does_nothing _); damaged = tt; is = tt }
@@ -74,10 +74,10 @@ as_listed own schema number documents files schema_is number_is r h =
     (subst (λ (n : ℕ). IfErr r (IsWhyNotOpen own n files)) number_is h)
 
 pub told_of_listed : (own schema : Schema) (number documents : ℕ) (files : SegmentFiles) (component : SegmentComponent) → own ≡ schema → number ≡ documents
-    → Disagree own number files component → Disagree schema documents files component
+    → IsFirstWrong own number files component → IsFirstWrong schema documents files component
 told_of_listed own schema number documents files component schema_is number_is h =
-    subst (λ (s : Schema). Disagree s documents files component) schema_is
-    (subst (λ (n : ℕ). Disagree own n files component) number_is h)
+    subst (λ (s : Schema). IsFirstWrong s documents files component) schema_is
+    (subst (λ (n : ℕ). IsFirstWrong own n files component) number_is h)
 
 -- what the code calls its id
 module _ (segment : SegmentParts) (own_id : ℕ) (id_is : own_id ≡ segment.meta.id) {a b : DirectoryState} where

@@ -1,16 +1,12 @@
 -- A field whose parts are opened.
-use Rattle.std.specs.Prelude.{◌≡◌, ℕ, List, Some, ⊤}
+use Rattle.std.specs.Prelude.{◌≡◌, ℕ, List, Some}
 use Rattle.std.specs.FinMap.{get}
-use Rattle.seg_common.specs.declared.name.SegmentComponent.{SegmentComponent}
-use Rattle.seg_common.specs.declared.name.SegmentComponent.TheVariants.{Terms, Postings, Positions}
 use Rattle.seg_values.specs.declared.schema.FieldEntry.{FieldEntry}
 use Rattle.seg_model.specs.Reading as reading
 use Rattle.seg_model.specs.Shape.{IsTermWith}
 use Rattle.seg_directory.specs.Composite.{Part, field_of}
 use Rattle.seg_postings.specs.FieldReading.{OpenField, IsFieldBy, rules_of, written_terms}
 use Rattle.seg_segment.specs.HoldTerms.{HoldsField}
-use Rattle.seg_open.specs.declared.open_error.OpenError.{OpenError}
-use Rattle.seg_open.specs.declared.open_error.OpenError.TheVariants.{Damaged, OutOfMemory}
 
 -- the parts of a field in three composite files are these terms
 pub record IsOpened (entry : FieldEntry) (field documents : ℕ) (terms postings positions : List Part) (opened : OpenField) : Type 0 where
@@ -27,15 +23,3 @@ pub record MayHold (entry : FieldEntry) (field documents : ℕ) (terms postings 
   pub held : reading.Terms
   pub holds : HoldsField entry field terms postings positions held
   pub shape : (term : List ℕ) (ps : List reading.Posting) → get held term ≡ Some ps → IsTermWith entry documents term ps
-
--- they don't, and the first of the files that tells is that of a component, whatever those after it are
-abbrev pub CantHold : FieldEntry → ℕ → ℕ → List Part → List Part → List Part → SegmentComponent → Type 0
-CantHold entry field documents terms postings positions Terms = (ps qs : List Part) → MayHold entry field documents terms ps qs → ⊥
-CantHold entry field documents terms postings positions Postings = (qs : List Part) → MayHold entry field documents terms postings qs → ⊥
-CantHold entry field documents terms postings positions Positions = MayHold entry field documents terms postings positions → ⊥
-CantHold entry field documents terms postings positions _ = ⊥
-
--- why a field can't be opened
-abbrev pub IsWhyNot : FieldEntry → ℕ → ℕ → List Part → List Part → List Part → OpenError → Type 0
-IsWhyNot entry field documents terms postings positions (Damaged component) = CantHold entry field documents terms postings positions component
-IsWhyNot entry field documents terms postings positions OutOfMemory = ⊤

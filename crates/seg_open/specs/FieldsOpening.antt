@@ -1,14 +1,11 @@
 -- The fields of a schema whose parts are opened.
-use Rattle.std.specs.Prelude.{◌≡◌, ℕ, List, length, true, false, Option, Some, None, ⊤}
+use Rattle.std.specs.Prelude.{◌≡◌, ℕ, List, length, true, false, Option, Some, None}
 use Rattle.std.specs.List.{slice_get}
-use Rattle.seg_common.specs.declared.name.SegmentComponent.{SegmentComponent}
 use Rattle.seg_values.specs.declared.schema.FieldEntry.{FieldEntry}
 use Rattle.seg_model.specs.Fields.{Schema, is_indexed}
 use Rattle.seg_directory.specs.Composite.{Part}
 use Rattle.seg_postings.specs.FieldReading.{OpenField}
-use Rattle.seg_open.specs.FieldOpening.{IsOpened, CantHold}
-use Rattle.seg_open.specs.declared.open_error.OpenError.{OpenError}
-use Rattle.seg_open.specs.declared.open_error.OpenError.TheVariants.{Damaged, OutOfMemory}
+use Rattle.seg_open.specs.FieldOpening.{IsOpened}
 
 -- a field is opened where it is indexed, and none stands for it elsewhere
 abbrev pub IsPlaceOpened : FieldEntry → ℕ → ℕ → List Part → List Part → List Part → Option OpenField → Type 0
@@ -24,21 +21,3 @@ EachIsOpened schema documents terms postings positions fields =
 pub record AreOpened (schema : Schema) (documents : ℕ) (terms postings positions : List Part) (fields : List (Option OpenField)) : Type 0 where
   pub per_field : length fields ≡ length schema
   pub each : EachIsOpened schema documents terms postings positions fields
-
--- why an indexed field can't be opened
-abbrev pub IsWhyNotAt : FieldEntry → ℕ → ℕ → List Part → List Part → List Part → OpenError → Type 0
-IsWhyNotAt entry field documents terms postings positions (Damaged component) = (is_indexed entry ≡ true) × CantHold entry field documents terms postings positions component
-IsWhyNotAt entry field documents terms postings positions OutOfMemory = ⊤
-
--- a field of a schema that is indexed can't hold terms, as the file of a component tells
-pub record OneCantHold (schema : Schema) (documents : ℕ) (terms postings positions : List Part) (component : SegmentComponent) : Type 0 where
-  pub field : ℕ
-  pub entry : FieldEntry
-  pub in_schema : slice_get schema field ≡ Some entry
-  pub indexed : is_indexed entry ≡ true
-  pub cant : CantHold entry field documents terms postings positions component
-
--- why the fields of a schema can't be opened
-abbrev pub IsWhyNone : Schema → ℕ → List Part → List Part → List Part → OpenError → Type 0
-IsWhyNone schema documents terms postings positions (Damaged component) = OneCantHold schema documents terms postings positions component
-IsWhyNone schema documents terms postings positions OutOfMemory = ⊤

@@ -4,8 +4,10 @@ pub mod Disagreement
 pub mod FieldOpening
 pub mod FieldsOpening
 pub mod FileSizes
+pub mod FilesOpening
 pub mod IndexedParts
 pub mod OpenSegment
 pub mod ReaderParts
 pub mod SegmentOpened
 pub mod SegmentOpening
+pub mod Soundness

@@ -1,6 +1,6 @@
 -- What the opening of segments does, which changes no file.
 use Rattle.std.specs.Prelude.{ℕ, ◌≡◌, List, [], ◌∷◌, ◌++◌, length, Bool, true, not, ◌&&◌, ◌==◌, is_some, if◌then◌else◌, replicate, Option, Some, None, Result, Ok, Err, IfOk, IfSome}
-use Rattle.std.specs.List.{count_by, slice_get}
+use Rattle.std.specs.List.{AllByRecursion, count_by, slice_get}
 use Rattle.std.specs.Option.{option_map}
 use Rattle.seg_common.specs.declared.name.FileName.TheVariants.{Alive, Part}
 use Rattle.seg_common.specs.declared.name.SegmentComponent.{SegmentComponent}
@@ -23,9 +23,10 @@ use Rattle.seg_segment.specs.SegmentRead.{read_steps}
 use Rattle.seg_segment.specs.Spelling.{Spell}
 use Rattle.seg_segment.specs.Totals.{token_total}
 use Rattle.seg_segment.specs.declared.segment_files.SegmentFiles.{SegmentFiles}
-use Rattle.seg_open.specs.Disagreement.{Disagree}
+use Rattle.seg_open.specs.Disagreement.{Disagree, read_before}
 use Rattle.seg_open.specs.FileSizes.{sizes_of}
 use Rattle.seg_open.specs.OpenSegment.{OpenSegment, alive_of, contents_of}
+use Rattle.seg_open.specs.Soundness.{IsSound}
 use Rattle.seg_open.specs.declared.open_error.OpenError.{OpenError}
 use Rattle.seg_open.specs.declared.open_error.OpenError.TheVariants as open_error
 pub use Rattle.seg_segment.specs.SegmentRead.{IsNoDamage, IsReadError}
@@ -37,11 +38,12 @@ abbrev pub error_of : ℕ → OpenError → TantivyError
 error_of id (open_error.Damaged component) = DataCorruption (Part id component)
 error_of id open_error.OutOfMemory = OutOfMemory
 
--- an error tells that the file of a component is damaged: whatever those after it are, the files spell no contents of this many documents
+-- an error tells that the file of a component is damaged: whatever those after it are, the files spell no contents of this many documents; and each before it is sound
 pub record IsDamageOf (id : ℕ) (schema : Schema) (documents : ℕ) (files : SegmentFiles) (e : TantivyError) : Type 0 where
   pub component : SegmentComponent
   pub told : e ≡ DataCorruption (Part id component)
   pub disagree : Disagree schema documents files component
+  pub first : AllByRecursion (IsSound schema documents files) (read_before component)
 
 -- a schema that is not built yet is refused
 abbrev pub later : Schema → Option TantivyError

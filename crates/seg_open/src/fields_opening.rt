@@ -1,72 +1,96 @@
-//! The terms of all fields of a segment.
-ghost use Rattle.std.specs.Prelude.{◌≡◌, ◌<◌, ◌-◌, ◌^◌, ◌++◌, ◌∷◌, [], length, Some, IfOk, IfErr, OnOk};
-ghost use Rattle.seg_open.specs.FieldsOpening.{AreOpened, IsPlaceOpened, IsWhyNotAt, IsWhyNone};
+//! The file of positions, with which the terms of all fields are open.
+ghost use Rattle.std.specs.Prelude.{◌≡◌, ◌<◌, ◌-◌, ◌^◌, ◌++◌, ◌∷◌, [], length, Some, IfOk, IfErr, IsSomeAnd, OnOk};
+ghost use Rattle.seg_open.specs.FilesOpening.{AddsPositions, AllGoOn, GoesOn, IsTold, LacksPositions, OneStops, PositionsOpened, PositionsUnopened};
 
-use crate::field_opening::open_field;
 use crate::open_error::OpenError;
-use crate::term_files::TermFiles;
-use seg_common::Shared;
-use seg_postings::InvertedIndexReader;
-use seg_values::{Field, FieldEntry, Schema};
+use crate::term_files::open_parts;
+use seg_common::{OwnedBytes, SegmentComponent, Shared};
+use seg_directory::CompositeFile;
+use seg_postings::{FieldPostings, InvertedIndexReader};
+use seg_values::{Field, PostingsError, Schema};
 use std::alloc::{AllocError, Global};
 
-/// Opens the fields that are indexed, in the order of the schema, each with one place in the list.
+/// Goes on with the positions of each field that has postings.
 pub(crate) fn open_fields(
     alloc: Global,
+    positions: OwnedBytes,
     schema: &Schema,
-    max_doc: u32,
-    files: &TermFiles,
+    fields: Vec<Option<FieldPostings>>,
 ) -> Result<Vec<Option<Shared<InvertedIndexReader>>>, OpenError>
-    ensures ok { IfOk result (λ fields. AreOpened schema.now max_doc files.now.terms files.now.postings files.now.positions fields.items) }
-    ensures err { IfErr result (IsWhyNone schema.now max_doc files.now.terms files.now.postings files.now.positions) }
+    requires few { length fields.items < 2 ^ 32 - 1 }
+    ensures ok { IfOk result (λ opened. PositionsOpened schema.now positions fields.items opened.items) }
+    ensures err { IfErr result (IsTold SegmentComponent.Positions (PositionsUnopened schema.now positions fields.items)) }
 {
-    schema.fields_are_valid();
-    open_entries(alloc, schema.fields(), max_doc, files)
+    let Some(parts) = open_parts(positions, schema) else {
+        return Err(OpenError::Damaged(SegmentComponent::Positions));
+    };
+    add_positions(alloc, &parts, fields.as_slice())
 }
 
-fn open_entries(
+fn add_positions(
     alloc: Global,
-    entries: &[FieldEntry],
-    max_doc: u32,
-    files: &TermFiles,
+    parts: &CompositeFile,
+    fields: &[Option<FieldPostings>],
 ) -> Result<Vec<Option<Shared<InvertedIndexReader>>>, OpenError>
-    requires few { length entries.now < 2 ^ 32 - 1 }
-    ensures ok { IfOk result (λ fields. AreOpened entries.now max_doc files.now.terms files.now.postings files.now.positions fields.items) }
-    ensures err { IfErr result (IsWhyNone entries.now max_doc files.now.terms files.now.postings files.now.positions) }
+    requires few { length fields.now < 2 ^ 32 - 1 }
+    ensures ok { IfOk result (λ opened. AllGoOn (AddsPositions parts.now) fields.now opened.items) }
+    ensures err { IfErr result (IsTold SegmentComponent.Positions (OneStops (LacksPositions parts.now) fields.now)) }
 {
-    let mut fields = Vec::new(alloc);
-    for (place, entry) in entries.iter().enumerate() {
-        match open_place(alloc, entry, place, max_doc, files) {
+    let mut opened = Vec::new(alloc);
+    for (place, field) in fields.iter().enumerate() {
+        match field_at(alloc, parts, place, field) {
             Err(e) => return Err(e),
             Ok(field) => {
-                let Ok(()) = push_field(&mut fields, field) else {
+                let Ok(()) = push_field(&mut opened, field) else {
                     return Err(OpenError::OutOfMemory);
                 };
             }
         }
     }
-    Ok(fields)
+    Ok(opened)
 }
 
-/// Opens the field at a place, where it is indexed.
-fn open_place(
+/// The field at a place, where it has postings.
+fn field_at(
     alloc: Global,
-    entry: &FieldEntry,
+    parts: &CompositeFile,
     place: usize,
-    max_doc: u32,
-    files: &TermFiles,
+    field: &Option<FieldPostings>,
 ) -> Result<Option<Shared<InvertedIndexReader>>, OpenError>
     requires few { place < 2 ^ 32 - 1 }
-    ensures ok { IfOk result (IsPlaceOpened entry.now place max_doc files.now.terms files.now.postings files.now.positions) }
-    ensures err { IfErr result (IsWhyNotAt entry.now place max_doc files.now.terms files.now.postings files.now.positions) }
+    ensures ok { IfOk result (GoesOn (AddsPositions parts.now place) field.now) }
+    ensures err { IfErr result (IsTold SegmentComponent.Positions (IsSomeAnd field.now (LacksPositions parts.now place))) }
 {
-    if !entry.is_indexed() {
-        return Ok(None);
+    match field {
+        None => Ok(None),
+        Some(postings) => {
+            let field = Field::from_field_id(place as u32);
+            match open_field(parts, field, postings) {
+                Ok(field) => shared(alloc, field),
+                Err(e) => Err(e),
+            }
+        }
     }
-    let field = Field::from_field_id(place as u32);
-    match open_field(alloc, entry, field, max_doc, files) {
-        Ok(field) => shared(alloc, field),
-        Err(e) => Err(e),
+}
+
+fn open_field(
+    parts: &CompositeFile,
+    field: Field,
+    postings: &FieldPostings,
+) -> Result<InvertedIndexReader, OpenError>
+    ensures ok { IfOk result (AddsPositions parts.now field postings.now) }
+    ensures err { IfErr result (IsTold SegmentComponent.Positions (LacksPositions parts.now field postings.now)) }
+{
+    let Some(part) = parts.open_read(field) else {
+        return Err(OpenError::Damaged(SegmentComponent::Positions));
+    };
+    let Ok(postings) = postings.clone() else {
+        return Err(OpenError::OutOfMemory);
+    };
+    match postings.with_positions(part) {
+        Ok(reader) => Ok(reader),
+        Err(PostingsError::OutOfMemory) => Err(OpenError::OutOfMemory),
+        Err(PostingsError::Malformed) => Err(OpenError::Damaged(SegmentComponent::Positions)),
     }
 }
 

@@ -10,11 +10,12 @@ ghost use Rattle.seg_open.specs.OpenSegment.{LacksSome, alive_of, contents_of};
 ghost use Rattle.seg_open.specs.SegmentOpened.{HasFilesOf, IsNoDamage, Opens, OpensFiles};
 
 use crate::alive_reading::{cut_by, read_deletes};
+use crate::dictionaries_opening::open_dictionaries;
 use crate::fields_opening::open_fields;
 use crate::file_sizes::FileSizes;
 use crate::open_error::OpenError;
 use crate::parts_opening::{are_columns, open_norms, open_store};
-use crate::term_files::open_term_files;
+use crate::postings_opening::open_postings;
 use seg_bits::AliveBitSet;
 use seg_common::{SegmentComponent, SegmentId, Shared};
 use seg_directory::Directory;
@@ -71,11 +72,11 @@ impl Model for SegmentReader {
 }
 
 impl SegmentReader {
-    /// Opens a segment of a directory: reads its six files and, where it has deletes, its alive file, each once, and
-    /// checks each whole and against those before it, in the order terms, store, postings, positions, fast fields,
-    /// field norms, alive. `DataCorruption` names the first that is missing or does not agree. `Later`, before a file
-    /// is read: the schema has a fast field, or an indexed one of another kind than text. `OpenReadError`: a file can't
-    /// be read.
+    /// Opens a segment of a directory: reads its six files and then, where it has deletes, its alive file, each once, in
+    /// the order terms, store, postings, positions, fast fields, field norms, alive. Once the six are read, each is
+    /// checked whole and against those before it. `DataCorruption` names the first that is missing, or else the first
+    /// that is wrong by itself or with those before it. `Later`, before a file is read: the schema has a fast field, or
+    /// an indexed one of another kind than text. `OpenReadError`: a file can't be read.
     pub fn open<W: Directory>(
         alloc: Global,
         segment: &Segment,
@@ -149,8 +150,8 @@ impl SegmentReader {
         }
     }
 
-    /// Opens the files of a segment, each checked whole and against those that are read before it: for files that were
-    /// just made, too. All documents count as alive.
+    /// Opens the files of a segment, one after another, each checked whole and against those before it: for files that
+    /// were just made, too. All documents count as alive.
     pub fn open_files(
         alloc: Global,
         segment: &Segment,
@@ -172,11 +173,12 @@ impl SegmentReader {
             fast_fields,
             field_norms,
         } = files;
-        let term_files = open_term_files(terms, postings, positions, &schema)?;
-        let fields = open_fields(alloc, &schema, max_doc, &term_files)?;
+        let dictionaries = open_dictionaries(alloc, terms, &schema, max_doc)?;
         let Some(store) = open_store(store, max_doc) else {
             return Err(OpenError::Damaged(SegmentComponent::Store));
         };
+        let both = open_postings(alloc, postings, &schema, dictionaries)?;
+        let fields = open_fields(alloc, positions, &schema, both)?;
         if !are_columns(fast_fields, max_doc) {
             return Err(OpenError::Damaged(SegmentComponent::FastFields));
         }

@@ -1,51 +1,14 @@
-//! The three files that have a part for each field that is indexed.
-ghost use Rattle.std.specs.Prelude.{◌≡◌, ◌≢◌, slice_get, Some, IfOk, IfErr, MatchBool, MatchOption};
+//! A file that has a part for each field that is indexed.
+ghost use Rattle.std.specs.Prelude.{◌≡◌, ◌≢◌, slice_get, Some, MatchBool, MatchOption};
 ghost use Rattle.seg_segment.specs.HoldTerms.{indexed_fields};
-ghost use Rattle.seg_open.specs.IndexedParts.{part_fields, HaveIndexedParts, LackIndexedParts, LacksParts};
+ghost use Rattle.seg_open.specs.IndexedParts.{part_fields, HaveIndexedParts, LackIndexedParts};
 
-use crate::open_error::OpenError;
-use seg_common::{OwnedBytes, SegmentComponent};
+use seg_common::OwnedBytes;
 use seg_directory::CompositeFile;
 use seg_values::{FieldEntry, Schema};
 
-/// The parts of each indexed field: its dictionary, its postings and its positions.
-#[derive(Drop)]
-pub(crate) struct TermFiles {
-    pub terms: CompositeFile,
-    pub postings: CompositeFile,
-    pub positions: CompositeFile,
-}
-
-/// Opens the tables of the three files, in this order.
-pub(crate) fn open_term_files(
-    terms: OwnedBytes,
-    postings: OwnedBytes,
-    positions: OwnedBytes,
-    schema: &Schema,
-) -> Result<TermFiles, OpenError>
-    ensures terms { IfOk result (λ files. HaveIndexedParts schema.now terms files.terms) }
-    ensures postings { IfOk result (λ files. HaveIndexedParts schema.now postings files.postings) }
-    ensures positions { IfOk result (λ files. HaveIndexedParts schema.now positions files.positions) }
-    ensures err { IfErr result (LacksParts schema.now terms postings positions) }
-{
-    let Some(terms) = open_parts(terms, schema) else {
-        return Err(OpenError::Damaged(SegmentComponent::Terms));
-    };
-    let Some(postings) = open_parts(postings, schema) else {
-        return Err(OpenError::Damaged(SegmentComponent::Postings));
-    };
-    let Some(positions) = open_parts(positions, schema) else {
-        return Err(OpenError::Damaged(SegmentComponent::Positions));
-    };
-    Ok(TermFiles {
-        terms,
-        postings,
-        positions,
-    })
-}
-
 /// A file that has a part for each field that is indexed, and no other.
-fn open_parts(bytes: OwnedBytes, schema: &Schema) -> Option<CompositeFile>
+pub(crate) fn open_parts(bytes: OwnedBytes, schema: &Schema) -> Option<CompositeFile>
     ensures { MatchOption result (LackIndexedParts schema.now bytes) (λ parts. HaveIndexedParts schema.now bytes parts) }
 {
     let Ok(file) = CompositeFile::open(bytes) else {

@@ -1,4 +1,6 @@
 mod AliveLeft
+mod Completed
+mod CountedSteps
 mod DictionaryRanges
 mod FewLeft
 mod FieldGoals

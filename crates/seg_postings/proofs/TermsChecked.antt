@@ -8,6 +8,7 @@ use Rattle.seg_common.specs.declared.term_info.TermInfo.{TermInfo}
 use Rattle.seg_termdict.specs.Dictionary.{Term}
 use Rattle.seg_postings.specs.declared.record_kind.RecordKind.{RecordKind}
 use Rattle.seg_postings.specs.Postings.{term_postings}
+use Rattle.seg_postings.specs.PostingsAlone.{is_counted, is_counted_info}
 use Rattle.seg_postings.specs.PostingsLeft.{is_term_of}
 use Rattle.seg_postings.specs.FieldParts.{LiesWithin}
 use Rattle.seg_postings.specs.FieldReading.{FieldRules, kind_by, is_read}
@@ -25,10 +26,10 @@ info_within m n terms i info all lt has =
     let is : (get_or terms i d).1 ≡ info = subst (λ (o : Option Term). IsSomeAnd o (λ t. t.1 ≡ info)) (slice_get-get_or terms i d lt) has in
     subst (λ (x : TermInfo). LiesWithin m n ([], x)) is (at_place (LiesWithin m n) terms i d all lt)
 
-module _ (rules : FieldRules) (postings positions : List ℕ) where
-  -- whether an info is as the kind asks
-  abbrev pub is_info_of : RecordKind → TermInfo → Bool
-  is_info_of kind info = nat_lt 0 info.doc_freq && is_term_of kind rules.max_doc (term_postings info.doc_freq (slice_range postings info.postings_start info.postings_end) (slice_range positions info.positions_start info.positions_end))
+-- each term is as some test says of its kind and its info
+module _ (rules : FieldRules) (good : RecordKind → TermInfo → Bool) where
+  abbrev passes : Term → Bool
+  passes t = good (kind_by rules t.0) t.1
 
   module _ (terms : List Term) (i : ℕ) (kind : RecordKind) (info : TermInfo) (lt : i < length terms) (asked : IsSomeAnd (slice_get terms i) (λ t. kind ≡ kind_by rules t.0)) (has : IsSomeAnd (slice_get terms i) (λ t. t.1 ≡ info)) where
     abbrev here : Term
@@ -37,20 +38,43 @@ module _ (rules : FieldRules) (postings positions : List ℕ) where
     is_here : slice_get terms i ≡ Some here
     is_here = slice_get-get_or terms i ([], info) lt
 
-    one : is_read rules postings positions here ≡ is_info_of kind info
+    one : passes here ≡ good kind info
     one =
         let k : kind ≡ kind_by rules here.0 = subst (λ (o : Option Term). IsSomeAnd o (λ t. kind ≡ kind_by rules t.0)) is_here asked in
         let v : here.1 ≡ info = subst (λ (o : Option Term). IsSomeAnd o (λ t. t.1 ≡ info)) is_here has in
-        ap (λ x. is_info_of x here.1) (sym k) ∙ ap (is_info_of kind) v
+        ap (λ x. good x here.1) (sym k) ∙ ap (good kind) v
 
-    more : list_all (is_read rules postings positions) (drop i terms) ≡ (is_info_of kind info && list_all (is_read rules postings positions) (drop (i + 1) terms))
-    more = at_drop_more (list_all (is_read rules postings positions)) terms i ([], info) lt ∙ ap (λ b. b && list_all (is_read rules postings positions) (drop (i + 1) terms)) one
+    more : list_all passes (drop i terms) ≡ (good kind info && list_all passes (drop (i + 1) terms))
+    more = at_drop_more (list_all passes) terms i ([], info) lt ∙ ap (λ b. b && list_all passes (drop (i + 1) terms)) one
 
+    passes_turn : good kind info ≡ true → list_all passes (drop (i + 1) terms) ≡ list_all passes (drop i terms)
+    passes_turn is = sym (more ∙ ap (λ b. b && list_all passes (drop (i + 1) terms)) is)
+
+    passes_stops : good kind info ≡ false → list_all passes (drop i terms) ≡ false
+    passes_stops is = more ∙ ap (λ b. b && list_all passes (drop (i + 1) terms)) is
+
+module _ (rules : FieldRules) (postings positions : List ℕ) where
+  -- whether an info is as the kind asks
+  abbrev pub is_info_of : RecordKind → TermInfo → Bool
+  is_info_of kind info = nat_lt 0 info.doc_freq && is_term_of kind rules.max_doc (term_postings info.doc_freq (slice_range postings info.postings_start info.postings_end) (slice_range positions info.positions_start info.positions_end))
+
+  module _ (terms : List Term) (i : ℕ) (kind : RecordKind) (info : TermInfo) (lt : i < length terms) (asked : IsSomeAnd (slice_get terms i) (λ t. kind ≡ kind_by rules t.0)) (has : IsSomeAnd (slice_get terms i) (λ t. t.1 ≡ info)) where
     pub turn : is_info_of kind info ≡ true → list_all (is_read rules postings positions) (drop (i + 1) terms) ≡ list_all (is_read rules postings positions) (drop i terms)
-    turn good = sym (more ∙ ap (λ b. b && list_all (is_read rules postings positions) (drop (i + 1) terms)) good)
+    turn good = passes_turn rules is_info_of terms i kind info lt asked has good
 
     pub stops : is_info_of kind info ≡ false → list_all (is_read rules postings positions) (drop i terms) ≡ false
-    stops bad = more ∙ ap (λ b. b && list_all (is_read rules postings positions) (drop (i + 1) terms)) bad
+    stops bad = passes_stops rules is_info_of terms i kind info lt asked has bad
 
   pub all_checked : (terms : List Term) (i : ℕ) → length terms ≤ i → list_all (is_read rules postings positions) (drop i terms) ≡ true
   all_checked terms i past = at_drop_all (list_all (is_read rules postings positions)) terms i past
+
+module _ (rules : FieldRules) (postings : List ℕ) where
+  module _ (terms : List Term) (i : ℕ) (kind : RecordKind) (info : TermInfo) (lt : i < length terms) (asked : IsSomeAnd (slice_get terms i) (λ t. kind ≡ kind_by rules t.0)) (has : IsSomeAnd (slice_get terms i) (λ t. t.1 ≡ info)) where
+    pub counted_turn : is_counted_info rules.max_doc postings kind info ≡ true → list_all (is_counted rules postings) (drop (i + 1) terms) ≡ list_all (is_counted rules postings) (drop i terms)
+    counted_turn good = passes_turn rules (is_counted_info rules.max_doc postings) terms i kind info lt asked has good
+
+    pub counted_stops : is_counted_info rules.max_doc postings kind info ≡ false → list_all (is_counted rules postings) (drop i terms) ≡ false
+    counted_stops bad = passes_stops rules (is_counted_info rules.max_doc postings) terms i kind info lt asked has bad
+
+  pub all_counted : (terms : List Term) (i : ℕ) → length terms ≤ i → list_all (is_counted rules postings) (drop i terms) ≡ true
+  all_counted terms i past = at_drop_all (list_all (is_counted rules postings)) terms i past

@@ -1,3 +1,4 @@
+pub mod Completing
 pub mod Field
 pub mod FieldParts
 pub mod FieldReading
@@ -7,6 +8,7 @@ pub mod HeldTerms
 pub mod Kinds
 pub mod Passing
 pub mod Postings
+pub mod PostingsAlone
 pub mod PostingsForm
 pub mod PostingsLeft
 pub mod PostingsReading

@@ -1,14 +1,17 @@
 //! The dictionary and the postings of a field, which wait for its positions.
-ghost use Rattle.std.specs.Prelude.{◌≡◌, ◌⊎◌, ℕ, List, IfOk, IfErr};
+ghost use Rattle.std.specs.Prelude.{◌≡◌, ◌⊎◌, ℕ, List, IfOk, IfErr, MatchBool};
 ghost use Rattle.seg_termdict.specs.Dictionary.{terms_of};
+ghost use Rattle.seg_postings.specs.Completing.{ArePostingsBy, NoneComplete};
 ghost use Rattle.seg_postings.specs.FieldWriting.{TermWritten};
 ghost use Rattle.seg_postings.specs.FieldReading.{IsFieldBy, dictionary_terms, written_terms};
 
 use crate::field_terms::FieldTerms;
 use crate::inverted_index_reader::InvertedIndexReader;
 use crate::last_term::{last_positions_end, last_postings_end};
+use crate::range::bytes_in;
 use seg_common::{OwnedBytes, u64_at};
 use seg_values::PostingsError;
+use std::alloc::AllocError;
 use std::marker::Model;
 
 /// The bytes of the total, with which the postings of a field begin.
@@ -41,12 +44,10 @@ impl FieldPostings {
         postings: OwnedBytes,
     ) -> Result<FieldPostings, PostingsError>
         ensures ok { IfOk result (λ parts. parts ≡ record { dictionary = field.dictionary; postings = postings; rules = field.rules }) }
-        ensures err { IfErr result (λ e. (e ≡ PostingsError.Malformed) × ((positions : List ℕ) (total : ℕ) (terms : List TermWritten) → IsFieldBy field.rules field.dictionary postings positions total terms → ⊥)) }
+        ensures complete { IfOk result (λ parts. ArePostingsBy field.rules field.dictionary postings) }
+        ensures err { IfErr result (λ e. (e ≡ PostingsError.OutOfMemory) ⊎ ((e ≡ PostingsError.Malformed) × NoneComplete field.rules field.dictionary postings)) }
     {
-        if postings.len() < TOTAL_BYTES {
-            return Err(PostingsError::Malformed);
-        }
-        if last_postings_end(field.terms()) != (postings.len() - TOTAL_BYTES) as u64 {
+        if !are_postings(&field, postings.as_slice())? {
             return Err(PostingsError::Malformed);
         }
         Ok(FieldPostings { field, postings })
@@ -69,4 +70,33 @@ impl FieldPostings {
         }
         Ok(InvertedIndexReader::new(field.into_terms(), total, postings, positions))
     }
+}
+
+/// Shares the bytes, and never fails.
+impl Clone for FieldPostings {
+    ghost is_clone = { λ field copy. copy ≡ field };
+
+    ghost is_infallible = { λ _. Unit {0} };
+
+    fn clone(&self) -> Result<FieldPostings, AllocError> {
+        Ok(FieldPostings {
+            field: self.field.clone()?,
+            postings: self.postings.share(),
+        })
+    }
+}
+
+/// Whether bytes are the total of a field's tokens, and after it the postings of its terms, whatever its positions are.
+fn are_postings(field: &FieldTerms, postings: &[u8]) -> Result<bool, PostingsError>
+    ensures ok { IfOk result (λ are. MatchBool are (ArePostingsBy field.now.rules field.now.dictionary postings.now) (NoneComplete field.now.rules field.now.dictionary postings.now)) }
+    ensures err { IfErr result (λ e. e ≡ PostingsError.OutOfMemory) }
+{
+    if postings.len() < TOTAL_BYTES {
+        return Ok(false);
+    }
+    let body = bytes_in(postings, TOTAL_BYTES as u64, postings.len() as u64);
+    if last_postings_end(field.terms()) != body.len() as u64 {
+        return Ok(false);
+    }
+    field.are_counted(body)
 }

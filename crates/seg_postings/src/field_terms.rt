@@ -1,18 +1,20 @@
 //! The dictionary of a field, which is opened first.
-ghost use Rattle.std.specs.Prelude.{◌≡◌, ℕ, List, length, IfOk, IfErr};
+ghost use Rattle.std.specs.Prelude.{◌≡◌, ◌⊎◌, None, length, IfOk, IfErr};
 ghost use Rattle.std.specs.List.{list_all, AllByRecursion};
 ghost use Rattle.seg_termdict.specs.Dictionary.{IsDictionary, terms_of};
+ghost use Rattle.seg_termdict.specs.Building.{last_term, positions_end};
+ghost use Rattle.seg_postings.specs.Completing.{ArePostingsBy, NoneComplete};
 ghost use Rattle.seg_postings.specs.FieldParts.{LiesWithin};
-ghost use Rattle.seg_postings.specs.FieldWriting.{TermWritten};
-ghost use Rattle.seg_postings.specs.FieldReading.{rules_of, IsFieldBy, is_read};
+ghost use Rattle.seg_postings.specs.FieldReading.{rules_of, is_read};
+ghost use Rattle.seg_postings.specs.PostingsAlone.{is_counted};
 
 use crate::asked_kind::AskedKind;
 use crate::field_postings::FieldPostings;
-use crate::terms_check::are_terms;
+use crate::terms_check::{are_counted, are_terms};
 use seg_common::OwnedBytes;
 use seg_termdict::TermDictionary;
 use seg_values::{FieldEntry, PostingsError};
-use std::alloc::Global;
+use std::alloc::{AllocError, Global};
 use std::marker::Model;
 
 /// A field of which the dictionary is open. It is seen as the bytes of the dictionary, and the rules by which the entry
@@ -67,10 +69,12 @@ impl FieldTerms {
         })
     }
 
-    /// Goes on with the postings. `Malformed`: no positions complete these parts to a field.
+    /// Goes on with the postings, each term of which is read without its positions. `Malformed`: no positions complete
+    /// these parts to a field.
     pub fn with_postings(self, postings: OwnedBytes) -> Result<FieldPostings, PostingsError>
         ensures ok { IfOk result (λ field. field ≡ record { dictionary = self.dictionary; postings = postings; rules = self.rules }) }
-        ensures err { IfErr result (λ e. (e ≡ PostingsError.Malformed) × ((positions : List ℕ) (total : ℕ) (terms : List TermWritten) → IsFieldBy self.rules self.dictionary postings positions total terms → ⊥)) }
+        ensures complete { IfOk result (λ field. ArePostingsBy self.rules self.dictionary postings) }
+        ensures err { IfErr result (λ e. (e ≡ PostingsError.OutOfMemory) ⊎ ((e ≡ PostingsError.Malformed) × NoneComplete self.rules self.dictionary postings)) }
     {
         FieldPostings::new(self, postings)
     }
@@ -98,9 +102,35 @@ impl FieldTerms {
         )
     }
 
+    /// Whether each term can be read as the rules ask, once it has some positions.
+    pub(crate) fn are_counted(&self, postings: &[u8]) -> Result<bool, PostingsError>
+        requires within { AllByRecursion (LiesWithin (length postings.now) (positions_end (last_term None (terms_of self.now.dictionary)))) (terms_of self.now.dictionary) }
+        ensures ok { IfOk result (λ all. all ≡ list_all (is_counted self.now.rules postings.now) (terms_of self.now.dictionary)) }
+        ensures err { IfErr result (λ e. e ≡ PostingsError.OutOfMemory) }
+    {
+        are_counted(self.alloc, &self.terms, self.asked, self.max_doc, postings)
+    }
+
     pub(crate) fn into_terms(self) -> TermDictionary
         ensures { result ≡ terms_of self.dictionary }
     {
         self.terms
+    }
+}
+
+/// Shares the bytes, and never fails.
+impl Clone for FieldTerms {
+    ghost is_clone = { λ field copy. copy ≡ field };
+
+    ghost is_infallible = { λ _. Unit {0} };
+
+    fn clone(&self) -> Result<FieldTerms, AllocError> {
+        Ok(FieldTerms {
+            alloc: self.alloc,
+            bytes: self.bytes.share(),
+            terms: self.terms.clone()?,
+            asked: self.asked,
+            max_doc: self.max_doc,
+        })
     }
 }

@@ -1,6 +1,8 @@
-//! Whether bytes are the postings and the positions of a term. Nothing is made of them, so no memory is asked for.
+//! Whether bytes are the postings and the positions of a term, and whether they are its postings, whatever its positions
+//! are. Nothing is made of them, so no memory is asked for.
 ghost use Rattle.std.specs.Prelude.{◌≡◌};
-ghost use Rattle.seg_postings.specs.Postings.{term_postings};
+ghost use Rattle.seg_postings.specs.Postings.{counts_at, term_postings};
+ghost use Rattle.seg_postings.specs.PostingsAlone.{are_counted, is_counted_term};
 ghost use Rattle.seg_postings.specs.PostingsLeft.{postings_at, are_low, is_term_of};
 
 use crate::documents::{pass_recorded, take_document};
@@ -53,4 +55,38 @@ pub(crate) fn is_term(
         return false;
     }
     are_postings(kind, count, documents, positions, max_doc)
+}
+
+/// Whether all of the bytes are this many documents of the kind with their counts, each document below `max_doc`.
+fn are_documents(kind: RecordKind, count: u32, postings: &[u8], max_doc: u32) -> bool
+    ensures { result ≡ are_counted max_doc (counts_at kind count 0 0 postings.now) }
+{
+    let mut left = postings;
+    let mut before = 0;
+    let mut least = 0;
+    for _ in 0..count {
+        let Some(next) = take_document(&mut left, kind, before, least) else {
+            return false;
+        };
+        if next.document >= max_doc {
+            return false;
+        }
+        before = next.document;
+        least = 1;
+    }
+    left.is_empty()
+}
+
+/// Whether all of the bytes are postings of a term of this many documents and of the kind, each document below `max_doc`.
+/// Its positions are not looked at.
+pub(crate) fn has_documents(kind: RecordKind, count: u32, postings: &[u8], max_doc: u32) -> bool
+    ensures { result ≡ is_counted_term kind max_doc count postings.now }
+{
+    let Some((first, documents)) = postings.split_first() else {
+        return false;
+    };
+    if *first != kind.byte() {
+        return false;
+    }
+    are_documents(kind, count, documents, max_doc)
 }
