@@ -25,7 +25,7 @@ use Rattle.seg_open.specs.OpenSegment.{OpenSegment, contents_of, terms_in}
 use Rattle.seg_segment.specs.SegmentFiles.{bytes_of}
 use Rattle.seg_segment.specs.Laws.{FilesSpellOneContents}
 use Rattle.seg_segment.specs.Spelling.{Spell}
-use Rattle.seg_open.specs.Disagreement.{Disagree, IsWhyNotOpen, up_to}
+use Rattle.seg_open.specs.Disagreement.{Disagree, IsFirstWrong, IsWhyNotOpen, up_to}
 use Rattle.seg_open.specs.declared.open_error.OpenError.{OpenError}
 use Rattle.seg_open.specs.declared.open_error.OpenError.TheVariants.{Damaged}
 use Rattle.seg_segment.specs.declared.segment_files.SegmentFiles.{SegmentFiles}
@@ -95,7 +95,8 @@ module _ (given schema : Schema) (shared files : SegmentFiles) (n : ℕ) (same :
     where
       disagree : Disagree schema n files component
       disagree =
-          subst (λ s. Disagree s n files component) same (subst (λ fs. Disagree given n fs component) share (subst (IsWhyNotOpen given n shared) is damaged))
+          let wrong : IsFirstWrong given n shared component = subst (IsWhyNotOpen given n shared) is damaged in
+          subst (λ s. Disagree s n files component) same (subst (λ fs. Disagree given n fs component) share wrong.disagree)
 
       all : (cs : List SegmentComponent) → AllByRecursion (λ c. bytes_of files c ≡ bytes_of files c) cs
       all [] = tt
