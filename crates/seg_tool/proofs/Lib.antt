@@ -15,3 +15,4 @@ mod ReadingSteps
 mod RunSteps
 mod StatusLaws
 mod Steady
+mod Taken
