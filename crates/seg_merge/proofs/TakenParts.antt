@@ -55,18 +55,18 @@ use Rattle.seg_merge.proofs.WholeWork.{work_schema}
 
 -- ---- what is gained in four turns
 
-all_gained : (p q r s t one two three four : List Answer) → q ≡ p ++ one → r ≡ q ++ two → s ≡ r ++ three → t ≡ s ++ four
-    → gained p t ≡ (one ++ (two ++ three)) ++ four
-all_gained p q r s t one two three four first second third last =
-    ap (drop (length p)) in_all ∙ drop_at p ((one ++ (two ++ three)) ++ four) (length p) refl
+all_seen : (p q r s t one two three four : List Answer) → q ≡ p ++ one → r ≡ q ++ two → s ≡ r ++ three → t ≡ s ++ four
+    → t ≡ p ++ ((one ++ (two ++ three)) ++ four)
+all_seen p q r s t one two three four first second third last =
+    last ∙ ap (λ l. l ++ four) in_three ∙ append_assoc p (one ++ (two ++ three)) four
   where
     in_three : s ≡ p ++ (one ++ (two ++ three))
     in_three =
         third ∙ ap (λ l. l ++ three) (second ∙ ap (λ l. l ++ two) first) ∙ append_assoc (p ++ one) two three
         ∙ append_assoc p one (two ++ three)
 
-    in_all : t ≡ p ++ ((one ++ (two ++ three)) ++ four)
-    in_all = last ∙ ap (λ l. l ++ four) in_three ∙ append_assoc p (one ++ (two ++ three)) four
+pub gained_as : (p t more : List Answer) → t ≡ p ++ more → gained p t ≡ more
+gained_as p t more is = ap (drop (length p)) is ∙ drop_at p more (length p) refl
 
 -- ---- which batches are taken
 
@@ -248,12 +248,18 @@ module _ (analyzer : Analyzer) (input : Input) (fits : Fits analyzer input) (a b
   abbrev reading_of : List Answer
   reading_of = opening_told live found_of
 
-  gained_is : gained a.work.seen b.work.seen ≡ writing_of ++ reading_of
-  gained_is =
-      all_gained a.work.seen w.filled.begun.listed_at.seen w.filled.begun_at.seen w.between.work.seen b.work.seen
+  seen_as : b.work.seen ≡ a.work.seen ++ (writing_of ++ reading_of)
+  seen_as =
+      all_seen a.work.seen w.filled.begun.listed_at.seen w.filled.begun_at.seen w.between.work.seen b.work.seen
       (all_told lists_none) (all_told (begin_steps input.settings input.schema)) (all_told filling) reading_of
       (all_went w.filled.begun.lists).seen (all_went w.filled.begun.begins).seen (all_went w.filled.fills.works).seen
       (all_went w.merged.was.opens.works).seen
+
+  gained_is : gained a.work.seen b.work.seen ≡ writing_of ++ reading_of
+  gained_is = gained_as a.work.seen b.work.seen (writing_of ++ reading_of) seen_as
+
+  pub seen_on : b.work.seen ≡ a.work.seen ++ gained a.work.seen b.work.seen
+  seen_on = seen_as ∙ ap (λ l. a.work.seen ++ l) (sym gained_is)
 
   -- ---- what is written
 
@@ -392,11 +398,18 @@ fits_of known analyzer input none =
       ids = unless_true _ (InvalidArgument argument.SegmentIds) filters.1;
     }
 
--- where an output directory tells its files, it holds what was taken
-pub holds_taken : {T : Type 0} (x : T) (known : Known) (analyzer : Analyzer) (input : Input) (a b : Directories)
-    → BuildsIndexes known analyzer input (Ok x) a b → IsTrue a.output.tells
-    → HoldsTaken analyzer input (gained a.work.seen b.work.seen) b.output.files
-holds_taken x known analyzer input a b (stops e is h) told = absurd (cc is)
-holds_taken x known analyzer input a b (goes_on u n h writes) told =
-    output_holds analyzer input (fits_of known analyzer input h.0) a b
-    (wrote analyzer input x a b (subst (λ (d : Directories). WritesIndexes analyzer input (Ok x) d b) h.1 writes)) told
+module _ {T : Type 0} (x : T) (known : Known) (analyzer : Analyzer) (input : Input) (a b : Directories) where
+  -- where an output directory tells its files, it holds what was taken
+  pub holds_taken : BuildsIndexes known analyzer input (Ok x) a b → IsTrue a.output.tells
+      → HoldsTaken analyzer input (gained a.work.seen b.work.seen) b.output.files
+  holds_taken (stops e is h) told = absurd (cc is)
+  holds_taken (goes_on u n h writes) told =
+      output_holds analyzer input (fits_of known analyzer input h.0) a b
+      (wrote analyzer input x a b (subst (λ (d : Directories). WritesIndexes analyzer input (Ok x) d b) h.1 writes)) told
+
+  -- the work directory keeps what it answered before
+  pub builds_seen : BuildsIndexes known analyzer input (Ok x) a b → b.work.seen ≡ a.work.seen ++ gained a.work.seen b.work.seen
+  builds_seen (stops e is h) = absurd (cc is)
+  builds_seen (goes_on u n h writes) =
+      seen_on analyzer input (fits_of known analyzer input h.0) a b
+      (wrote analyzer input x a b (subst (λ (d : Directories). WritesIndexes analyzer input (Ok x) d b) h.1 writes))

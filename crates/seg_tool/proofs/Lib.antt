@@ -16,3 +16,4 @@ mod ReadingSteps
 mod RunSteps
 mod StatusLaws
 mod Steady
+mod Taken

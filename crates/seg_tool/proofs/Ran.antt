@@ -9,6 +9,7 @@ use Rattle.seg_values.specs.declared.error.TantivyError.{TantivyError}
 use Rattle.seg_model.specs.Fields.{Analyzer}
 use Rattle.seg_model.specs.Valid.{Known}
 use Rattle.seg_segment.specs.Laws.{HoldsOneContents}
+use Rattle.seg_merge.specs.Taken.{gained}
 use Rattle.seg_merge.specs.Turns.{Directories}
 use Rattle.seg_merge.proofs.Exports.{RoseIn}
 use Rattle.seg_script.specs.Script.{json_of, script}
@@ -17,12 +18,14 @@ use Rattle.seg_tool.specs.Jobs.{AreEmpty, BuildsScript}
 use Rattle.seg_tool.specs.Run.{Gains, GainsPart, HasMergedIndex, HasOutputIndex, HasWorkIndex, IsAdmitted, IsJson, IsNoScript, IsTextOf, IsValidScript, IsWhyRefused, IsWhyRefusedUntold, first_of, max_script}
 use Rattle.seg_tool.specs.Runs.{EndsJob, RunsBuild, SinkState, Takes, TakesAll, World, WritesText, failed, has_text, is_read, no_text, not_read, starved, too_long, written}
 use Rattle.seg_tool.specs.Statuses.{IfRefused, IfWritten, RefusedFor}
+use Rattle.seg_tool.specs.Taken.{HasTaken, before_meta}
 use Rattle.seg_tool.specs.declared.status.Status.{Status}
 use Rattle.seg_tool.specs.declared.status.Status.TheVariants.{Done, Words, Script, Refused, Exists, Directory, Damaged, Stream, Memory}
 use Rattle.seg_tool.specs.declared.words.Detail.{Detail}
 use Rattle.seg_tool.proofs.BuildLaws.{Printed, admitted_built, printed, printed_meta, printed_output, printed_text, printed_work}
 use Rattle.seg_tool.proofs.Ended.{Ends, Prints, ended_does, ended_early, ended_fault, ended_first, ended_fresh, ended_json, ended_refused, ended_script, ended_untold, ended_unwritten, ended_whole, ended_written, if_some, script_ends, script_prints}
 use Rattle.seg_tool.proofs.StatusLaws.{IsEarly, refused_then, written_then}
+use Rattle.seg_tool.proofs.Taken.{printed_taken}
 
 -- ---- the text of a script
 
@@ -55,6 +58,9 @@ module _ {known : Known} {analyzer : Analyzer} {detail : Detail} {bytes text : L
   has_merged told =
       let meta = printed_meta known analyzer prints.meant detail text a b what told in
       record { meant = prints.meant; is_script = prints.is_script; documents = meta.0; is_index = meta.1 }
+
+  has_taken : IsTrue a.output.tells → HasTaken analyzer bytes (before_meta (gained a.work.seen b.work.seen)) b.output.files
+  has_taken told = record { meant = prints.meant; is_script = prints.is_script; taken = printed_taken known analyzer prints.meant detail text a b what told }
 
   admits : first_of known analyzer (script bytes) ≡ None
   admits = ap (first_of known analyzer) prints.is_script ∙ what.built.admitted
@@ -335,6 +341,13 @@ module _ {K : Type 0} {known : Known} {analyzer : Analyzer} {detail : Detail} {s
 
   pub ran_output_index : status ≡ Done → IsTrue a.directories.work.tells → IsTrue a.directories.output.tells → IfSome a.source.left (λ bytes. HasOutputIndex analyzer bytes b.directories.output.files)
   ran_output_index at told told_out = let d = is_done at in of_all a.source.left d.bytes (λ bytes. HasOutputIndex analyzer bytes b.directories.output.files) d.takes.all (has_output d.prints told told_out)
+
+  pub ran_reads : status ≡ Done → IsTrue a.directories.output.tells
+      → IfSome a.source.left (λ bytes. HasTaken analyzer bytes (before_meta (gained a.directories.work.seen b.directories.work.seen)) b.directories.output.files)
+  ran_reads at told =
+      let d = is_done at in
+      of_all a.source.left d.bytes (λ bytes. HasTaken analyzer bytes (before_meta (gained a.directories.work.seen b.directories.work.seen)) b.directories.output.files)
+      d.takes.all (has_taken d.prints told)
 
   pub ran_output_meta : status ≡ Done → IsTrue a.directories.output.tells → IfSome a.source.left (λ bytes. HasMergedIndex bytes b.directories.output.files)
   ran_output_meta at told = let d = is_done at in of_all a.source.left d.bytes (λ bytes. HasMergedIndex bytes b.directories.output.files) d.takes.all (has_merged d.prints told)

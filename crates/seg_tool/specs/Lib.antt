@@ -6,4 +6,5 @@ pub mod ReadingBack
 pub mod Run
 pub mod Runs
 pub mod Statuses
+pub mod Taken
 pub mod Words

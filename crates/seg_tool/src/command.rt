@@ -6,6 +6,7 @@ ghost use Rattle.seg_common.specs.Causes.{Rose};
 ghost use Rattle.seg_common.specs.Idle.{OnlyLastIsIdle};
 ghost use Rattle.seg_common.specs.Streams.{AppendsPart, TakesAtMost};
 ghost use Rattle.seg_directory.specs.State.{DirectoryState};
+ghost use Rattle.seg_merge.specs.Taken.{gained};
 ghost use Rattle.seg_merge.specs.Turns.{both};
 ghost use Rattle.seg_open.specs.Answers.{seen_as};
 ghost use Rattle.seg_script.specs.Script.{json_of, script};
@@ -16,6 +17,7 @@ ghost use Rattle.seg_tool.specs.Jobs.{BuildsScript, MergesText, ShowsText, WithS
 ghost use Rattle.seg_tool.specs.Run.{max_script, first_of, HasMergedIndex, HasOutputIndex, HasWorkIndex, IsAdmitted, IsJson, IsNoScript, IsTextOf, IsValidScript, IsWhyRefused, IsWhyRefusedUntold, Gains, GainsPart};
 ghost use Rattle.seg_tool.specs.Runs.{EndsJob, Runs, RunsBuild, SourceState, WritesText, sink_state, source_state, world};
 ghost use Rattle.seg_tool.specs.Statuses.{IfRefused, IfWritten, RefusedFor, status_line};
+ghost use Rattle.seg_tool.specs.Taken.{HasTaken, before_meta};
 ghost use Rattle.seg_tool.specs.Words.{IfBuild, IfMerge, IfShow, UnlessBuild, command_of};
 
 use crate::building::{build, status_of};
@@ -119,6 +121,9 @@ pub fn run<S: Source, K: Sink, F: Sink, Z: Analyzers, W: Directory, O: Directory
         → IfSome (S.left source.old) (λ bytes. HasMergedIndex bytes (O.state output.new).files)) }
     ensures output_was_empty { IfBuild (command_of words.now) (λ _. result ≡ Status.Done
         → IsTrue (O.state output.old).tells → len (O.state output.old).files ≡ 0) }
+    ensures reads { IfBuild (command_of words.now) (λ _. result ≡ Status.Done → IsTrue (O.state output.old).tells
+        → IfSome (S.left source.old) (λ bytes. HasTaken (Z.tokens_of analyzers.now) bytes
+        (before_meta (gained (W.state work.old).seen (W.state work.new).seen)) (O.state output.new).files)) }
     ensures fresh { IfBuild (command_of words.now) (λ _. IsTrue (W.state work.old).tells → len (W.state work.old).files ≡ 0
         → IsTrue (O.state output.old).tells → len (O.state output.old).files ≡ 0
         → (e : TantivyError) → result ≢ Status.Exists e) }

@@ -4,7 +4,7 @@ use Rattle.seg_tool.proofs.Commands.{first_in_both, of_build, of_merge, of_show,
 use Rattle.seg_tool.proofs.Endings.{completes, no-stream}
 use Rattle.seg_tool.proofs.JobLaws.{is_merged, is_shown, job_completes, job_does, job_each, job_gains, job_stream, merges_stay, show_starves, shows_stay}
 use Rattle.seg_tool.proofs.MergeLaws.{ended_fresh, ended_whole, merges_starve}
-use Rattle.seg_tool.proofs.Ran.{ran_does, ran_done, ran_end, ran_end_refused, ran_end_written, ran_fault, ran_first, ran_fresh, ran_json, ran_no_words, ran_output_index, ran_output_meta, ran_output_was_empty, ran_refused, ran_script, ran_stream, ran_untold, ran_valid, ran_whole, ran_work_index, ran_work_was_empty, ran_written}
+use Rattle.seg_tool.proofs.Ran.{ran_does, ran_done, ran_end, ran_end_refused, ran_end_written, ran_fault, ran_first, ran_fresh, ran_json, ran_no_words, ran_output_index, ran_output_meta, ran_output_was_empty, ran_refused, ran_script, ran_stream, ran_untold, ran_valid, ran_whole, ran_work_index, ran_work_was_empty, ran_written, ran_reads}
 use Rattle.seg_tool.proofs.command.run.Goals as goal
 
 pub returns-clause-words : goal.returns-clause-words
@@ -66,6 +66,9 @@ returns-clause-output_meta g c = of_build c.execute-status.ensures _ (λ detail 
 
 pub returns-clause-output_was_empty : goal.returns-clause-output_was_empty
 returns-clause-output_was_empty g c = of_build c.execute-status.ensures _ (λ detail r. ran_output_was_empty r)
+
+pub returns-clause-reads : goal.returns-clause-reads
+returns-clause-reads g c = of_build c.execute-status.ensures _ (λ detail r. ran_reads r)
 
 pub returns-clause-fresh : goal.returns-clause-fresh
 returns-clause-fresh g c =
