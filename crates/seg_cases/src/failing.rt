@@ -87,7 +87,8 @@ fn outcome_failing(alloc: Global, steps: &[Step], calls: &Calls, number: u64) ->
             number,
         },
     };
-    let mut directories = Directories::new(alloc, Some(failing))?;
+    let is_emptied = steps.iter().any(|step| step.start.is_output_emptied);
+    let mut directories = Directories::new(alloc, Some(failing), is_emptied)?;
     let mut text = String::new(alloc);
     for step in steps {
         text = outcome(alloc, step, &mut directories)?;

@@ -43,7 +43,7 @@ fn main(rt: HostRuntime) -> Result<()> {
 /// What is said of a case: that each step went as expected, or what differs first.
 fn verdict<R: Files + AllocGlobal>(rt: &R, folder: &str, case: &str) -> Result<String> {
     let alloc = rt.alloc();
-    let mut directories = Directories::new(alloc, None)?;
+    let mut directories = Directories::new(alloc, None, false)?;
     let mut steps = Vec::new(alloc);
     for number in 1..u32::MAX {
         let Some(step) = read_step(rt, folder, case, number)? else {

@@ -27,12 +27,21 @@ pub(crate) struct Directories {
 }
 
 impl Directories {
-    /// Directories without files, of which a call may fail. Its number counts from the start, and of an output directory
-    /// that a step empties from there.
-    pub(crate) fn new(alloc: Global, failing: Option<Failing>) -> Result<Directories, AllocError> {
+    /// Directories without files, of which a call may fail. Its number counts from here, but in an output directory that
+    /// is emptied from there.
+    pub(crate) fn new(
+        alloc: Global,
+        failing: Option<Failing>,
+        is_output_emptied: bool,
+    ) -> Result<Directories, AllocError> {
+        let of_output = if is_output_emptied {
+            None
+        } else {
+            call_in(failing, true)
+        };
         Ok(Directories {
             work: directory(alloc, call_in(failing, false))?,
-            output: directory(alloc, call_in(failing, true))?,
+            output: directory(alloc, of_output)?,
             failing,
         })
     }
