@@ -15,6 +15,6 @@ pub returns-in-Ok-build_and_print : goal.returns-in-Ok-build_and_print
 returns-in-Ok-build_and_print g c =
     of_input c.in-Ok.input c.in-Ok.ensures.ok (record { answer = Ok c.in-Ok-build_and_print.text.items; is = refl; does_so = c.in-Ok-build_and_print.ensures })
 
-pub returns : goal.returns
-returns g c =
+pub returns-in-Err : goal.returns-in-Err
+returns-in-Err g c =
     of_input c.in-Ok.input c.in-Ok.ensures.ok (record { answer = Err c.in-Err.e; is = ap Err c.status_of.ensures; does_so = c.in-Err.ensures })
