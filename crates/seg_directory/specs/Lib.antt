@@ -1,3 +1,4 @@
+pub mod Call
 pub mod CallAnswers
 pub mod CallCounts
 pub mod CallRecord
@@ -9,9 +10,13 @@ pub mod CompositeEntry
 pub mod CompositeSpelling
 pub mod CompositeWriting
 pub mod Disk
+pub mod DiskCalls
+pub mod DiskChanges
+pub mod DiskRuns
 pub mod Does
 pub mod Errors
 pub mod Faults
+pub mod FileDisks
 pub mod Files
 pub mod Images
 pub mod Log

@@ -3,6 +3,7 @@ ghost use Rattle.std.specs.Prelude.{◌≡◌, ◌≢◌, ◌++◌, ◌<◌, ◌
 ghost use Rattle.std.specs.FinMap.{empty};
 ghost use Rattle.seg_common.specs.Causes.{Rose};
 ghost use Rattle.seg_directory.specs.Log.{noted_failure};
+ghost use Rattle.seg_directory.specs.State.{untold};
 
 use crate::answer_log::AnswerLog;
 use crate::folder::{count_files, make_file, path_in, replace_file, sync_folder};
@@ -44,7 +45,7 @@ impl<R: Files + AllocGlobal + Clone + Drop> FileDirectory<R> {
 }
 
 impl<R: Files + AllocGlobal + Clone + Drop> Directory for FileDirectory<R> {
-    ghost state = { λ d. record { tells = false; files = empty; seen = d.answers; faults = d.faults } };
+    ghost state = { λ d. record { tells = false; files = empty; seen = d.answers; faults = d.faults; disk = untold } };
 
     fn list(&mut self, _alloc: Global) -> Result<u64, DirectoryError> {
         self.log.make_room()?;

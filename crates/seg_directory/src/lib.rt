@@ -6,7 +6,7 @@
 //! the first that breaks off (`Works`). A composite file is seen as its parts, each a field and bytes.
 //!
 //! To be read in this order: `error`, `answer`, `directory`; `answer_log`; `failing_call`, `call_counts`, `call_record`,
-//! `stored_files`, `memory_directory`; `folder`, `file_directory`; `call_error`, `calls`, by which all crates above call a
+//! `stored_files`, `disk_call`, `disk_record`, `memory_directory`; `folder`, `file_directory`; `call_error`, `calls`, by which all crates above call a
 //! directory; `composite_file`, `composite_law`, `written_parts`, `composite_writer`;
 //! `laws`, of what a crash may leave.
 #![tactic(auto)]
@@ -21,6 +21,8 @@ mod composite_file;
 mod composite_law;
 mod composite_writer;
 mod directory;
+mod disk_call;
+mod disk_record;
 mod error;
 mod failing_call;
 mod file_directory;
@@ -36,6 +38,7 @@ pub use composite_file::CompositeFile;
 pub use composite_law::composite_files_are_spelled;
 pub use composite_writer::CompositeWriter;
 pub use directory::Directory;
+pub use disk_call::{DiskCall, Pick};
 pub use error::DirectoryError;
 pub use failing_call::FailingCall;
 pub use file_directory::FileDirectory;

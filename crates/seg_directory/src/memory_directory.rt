@@ -1,36 +1,34 @@
 //! A directory in memory.
-ghost use Rattle.std.specs.Prelude.{◌≡◌, [], IfOk, IfErr, OnOk};
-ghost use Rattle.std.specs.FinMap.{insert};
+ghost use Rattle.std.specs.Prelude.{◌≡◌, ◌≤◌, [], IfOk, IfErr, OnOk};
+ghost use Rattle.seg_directory.specs.Disk.{IsImage};
 ghost use Rattle.seg_directory.specs.Calls.{listed, read, made, replaced, synced};
 ghost use Rattle.seg_directory.specs.CallResults.{Lists, Reads, Makes, Replaces, Syncs};
+ghost use Rattle.seg_directory.specs.DiskCalls.{calls_of, disk_after, disk_at, latest_files, no_files, picked, with_put};
+ghost use Rattle.seg_directory.specs.FileDisks.{settled};
 ghost use Rattle.seg_directory.specs.Memory.{new_memory, memory_state, FailsAsListed, memory_after};
 
 use crate::call_record::CallRecord;
-use crate::stored_files::StoredFiles;
-use crate::{Answer, CallKind, Directory, DirectoryError, FailingCall};
+use crate::disk_record::DiskRecord;
+use crate::{Answer, CallKind, Directory, DirectoryError, FailingCall, Pick};
 use seg_common::{FileName, OwnedBytes};
 use std::alloc::Global;
 use std::marker::Model;
 
-/// A directory that tells all, and fails at chosen calls. A call that finds no memory changes nothing, and isn't
-/// counted as a call.
+/// A directory that tells all, keeps a record of its calls, and fails at chosen ones. A call that finds no memory changes
+/// nothing, and is neither counted nor in the record.
 #[derive(Drop)]
 pub struct MemoryDirectory {
     alloc: Global,
-    files: StoredFiles,
+    disk: DiskRecord,
     calls: CallRecord,
 }
 
 impl Model for MemoryDirectory {
-    ghost use Rattle.std.specs.Coded.{codes};
-    ghost use Rattle.seg_directory.specs.Files.{files_code};
     ghost use Rattle.seg_directory.specs.Memory.{MemoryState};
 
     ghost Value = { MemoryState };
 
-    ghost coded = { Prim.hlevel (codes, files_code) };
-
-    ghost view = { λ d. record { files = d.files; calls = d.calls.calls } };
+    ghost view = { λ d. record { disk = d.disk.kept; calls = d.calls.calls } };
 }
 
 impl MemoryDirectory {
@@ -41,19 +39,49 @@ impl MemoryDirectory {
     {
         Ok(MemoryDirectory {
             alloc,
-            files: StoredFiles::none(alloc),
+            disk: DiskRecord::new(alloc),
             calls: CallRecord::new(alloc, fails),
         })
     }
 
-    /// Sets a file, for tests.
+    /// Sets a file, for tests: it is safe, and the record of calls begins anew.
     pub fn put(&mut self, name: FileName, bytes: &[u8]) -> Result<(), DirectoryError>
         ensures ok { OnOk result
-            (self.new ≡ record self.old { files = insert self.old.files name bytes.now }) }
+            (self.new ≡ record self.old { disk = with_put self.old.disk name bytes.now }) }
         ensures err { IfErr result
             (λ e. (e ≡ DirectoryError.OutOfMemory) × (self.new ≡ self.old)) }
     {
-        Ok(self.files.set(self.alloc, name, bytes)?)
+        self.disk.make_room()?;
+        Ok(self.disk.put(self.alloc, &name, bytes)?)
+    }
+
+    /// How many calls there are in the record.
+    pub fn calls(&self) -> u64
+        ensures { result ≡ calls_of self.now.disk }
+    {
+        self.disk.count()
+    }
+
+    /// What a crash after so many calls of the record may leave: each name in its stable state, or each in its latest one.
+    /// It is a directory of its own, of which no call fails.
+    pub fn image(
+        &self,
+        alloc: Global,
+        calls: u64,
+        pick: Pick,
+    ) -> Result<MemoryDirectory, DirectoryError>
+        requires { calls ≤ calls_of self.now.disk }
+        ensures picked { IfOk result (λ d. latest_files d.disk.calls ≡ picked pick (disk_at self.now.disk calls)) }
+        ensures is_image { IfOk result (λ d. IsImage (disk_at self.now.disk calls) (latest_files d.disk.calls)) }
+        ensures stable { IfOk result (λ d. disk_after no_files d.disk.calls ≡ settled (latest_files d.disk.calls)) }
+        ensures err { IfErr result (λ e. e ≡ DirectoryError.OutOfMemory) }
+    {
+        let disk = self.disk.image(alloc, calls, pick)?;
+        Ok(MemoryDirectory {
+            alloc,
+            disk,
+            calls: CallRecord::new(alloc, Vec::new(alloc)),
+        })
     }
 }
 
@@ -65,10 +93,13 @@ impl Directory for MemoryDirectory {
         ensures fails { FailsAsListed self.old CallKind.List result }
         ensures after { self.new ≡ memory_after listed (listed 0) result self.old }
     {
+        self.disk.make_room()?;
         if self.calls.begin(CallKind::List)? {
+            self.disk.keep_unchanged();
             return Err(DirectoryError::Fault);
         }
-        let number = self.files.len();
+        let number = self.disk.len();
+        self.disk.keep_unchanged();
         self.calls.end(CallKind::List, Answer::Listed(number));
         Ok(number)
     }
@@ -78,17 +109,21 @@ impl Directory for MemoryDirectory {
         ensures fails { FailsAsListed self.old CallKind.OpenRead result }
         ensures after { self.new ≡ memory_after (read name.now) (read name.now []) result self.old }
     {
+        self.disk.make_room()?;
         if self.calls.begin(CallKind::OpenRead)? {
+            self.disk.keep_unchanged();
             return Err(DirectoryError::Fault);
         }
-        match self.files.get(name) {
+        match self.disk.get(name) {
             Some(bytes) => {
                 let bytes = bytes.share();
                 let answer = Answer::Read(*name, bytes.share());
+                self.disk.keep_unchanged();
                 self.calls.end(CallKind::OpenRead, answer);
                 Ok(bytes)
             }
             None => {
+                self.disk.keep_unchanged();
                 self.calls.end(CallKind::OpenRead, Answer::Missing(*name));
                 Err(DirectoryError::Missing)
             }
@@ -106,14 +141,17 @@ impl Directory for MemoryDirectory {
         ensures fails { FailsAsListed self.old CallKind.WriteNew result }
         ensures after { self.new ≡ memory_after (λ _. made name.now bytes.now) (made name.now bytes.now) result self.old }
     {
+        self.disk.make_room()?;
         if self.calls.begin(CallKind::WriteNew)? {
+            self.disk.keep_unchanged();
             return Err(DirectoryError::Fault);
         }
-        if self.files.contains(name) {
+        if self.disk.contains(name) {
+            self.disk.keep_unchanged();
             self.calls.end(CallKind::WriteNew, Answer::There(*name));
             return Err(DirectoryError::Exists);
         }
-        self.files.set(alloc, *name, bytes)?;
+        self.disk.create(alloc, name, bytes)?;
         self.calls.end(CallKind::WriteNew, Answer::Wrote(*name));
         Ok(())
     }
@@ -129,10 +167,12 @@ impl Directory for MemoryDirectory {
         ensures fails { FailsAsListed self.old CallKind.AtomicWrite result }
         ensures after { self.new ≡ memory_after (λ _. replaced name.now bytes.now) (replaced name.now bytes.now) result self.old }
     {
+        self.disk.make_room()?;
         if self.calls.begin(CallKind::AtomicWrite)? {
+            self.disk.keep_unchanged();
             return Err(DirectoryError::Fault);
         }
-        self.files.set(alloc, *name, bytes)?;
+        self.disk.replace(alloc, name, bytes)?;
         self.calls.end(CallKind::AtomicWrite, Answer::Wrote(*name));
         Ok(())
     }
@@ -142,9 +182,12 @@ impl Directory for MemoryDirectory {
         ensures fails { FailsAsListed self.old CallKind.SyncDirectory result }
         ensures after { self.new ≡ memory_after (λ _. synced) synced result self.old }
     {
+        self.disk.make_room()?;
         if self.calls.begin(CallKind::SyncDirectory)? {
+            self.disk.keep_unchanged();
             return Err(DirectoryError::Fault);
         }
+        self.disk.keep_synced();
         self.calls.end_unkept(CallKind::SyncDirectory);
         Ok(())
     }

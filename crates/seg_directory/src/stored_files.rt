@@ -54,19 +54,11 @@ impl StoredFiles {
         self.by_name.get(name)
     }
 
-    /// Gives a file a copy of these bytes, whether it is there or not.
-    pub(crate) fn set(
-        &mut self,
-        alloc: Global,
-        name: FileName,
-        bytes: &[u8],
-    ) -> Result<(), AllocError>
-        ensures set { OnOk result (self.new ≡ insert self.old name bytes.now) }
+    /// Gives a file these bytes, whether it is there or not.
+    pub(crate) fn put(&mut self, name: FileName, bytes: OwnedBytes) -> Result<(), AllocError>
+        ensures set { OnOk result (self.new ≡ insert self.old name bytes) }
         ensures same { OnErr result (self.new ≡ self.old) }
     {
-        let Ok(bytes) = OwnedBytes::new(alloc, bytes) else {
-            return Err(AllocError);
-        };
         self.by_name.insert(name, bytes)?;
         Ok(())
     }

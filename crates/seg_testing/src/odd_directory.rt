@@ -2,6 +2,7 @@
 
 ghost use Rattle.std.specs.Prelude.{false};
 ghost use Rattle.std.specs.FinMap.{empty};
+ghost use Rattle.seg_directory.specs.State.{untold};
 
 use seg_common::{FileName, OwnedBytes};
 use seg_directory::{Directory, DirectoryError, MemoryDirectory};
@@ -16,7 +17,7 @@ pub struct OddDirectory {
 }
 
 impl Directory for OddDirectory {
-    ghost state = { λ d. record { tells = false; files = empty; seen = d.inner.calls.answers; faults = d.inner.calls.faults } };
+    ghost state = { λ d. record { tells = false; files = empty; seen = d.inner.calls.answers; faults = d.inner.calls.faults; disk = untold } };
 
     fn list(&mut self, alloc: Global) -> Result<u64, DirectoryError> {
         self.inner.list(alloc)

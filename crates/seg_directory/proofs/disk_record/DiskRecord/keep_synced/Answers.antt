@@ -1,0 +1,12 @@
+use Rattle.std.proofs.Common.{◌≡◌, [], ◌∷◌, ◌++◌, ap, sym, ◌∙◌, subst, length, ◌≤◌, rules}
+use Rattle.seg_directory.specs.DiskCalls.{latest_files}
+use Rattle.seg_directory.specs.declared.disk_call.DiskCall.TheVariants.{Synced}
+use Rattle.seg_directory.proofs.Steps.{files_synced, longer}
+use Rattle.seg_directory.proofs.disk_record.DiskRecord.keep_synced.Goals as goal
+
+pub invariant_of-self : goal.invariant_of-self
+invariant_of-self c =
+    let items : c.push.new.self.items ≡ c.self.inside.calls.items ++ Synced ∷ [] = search rules in (
+      c.self.invariant.0 ∙ sym (files_synced c.self.inside.calls.items) ∙ ap latest_files (sym items),
+      subst (λ cs. c.self.inside.before ≤ length cs) (sym items) (longer c.self.inside.before c.self.inside.calls.items Synced c.self.invariant.1),
+    )
