@@ -44,7 +44,7 @@ IsUtf8-decimal n h = decimal_by_steps (λ n ds. IsUtf8 ds) (λ n l. IsUtf8-ascii
 digit_small : (d : ℕ) → d < 16 → digit_char d < 128
 digit_small d h = grind (arith, nat_tests)
 
-IsUtf8-hex : (k n : ℕ) → IsUtf8 (hex_text k n)
+pub IsUtf8-hex : (k n : ℕ) → IsUtf8 (hex_text k n)
 unfolding hex_text
 IsUtf8-hex zero n = IsUtf8-nil
 IsUtf8-hex (suc k) n = IsUtf8-append (hex_text k (n / 16)) (digit_char (n % 16) ∷ []) (IsUtf8-hex k (n / 16)) (IsUtf8-ascii (digit_char (n % 16)) (digit_small (n % 16) (omega arith)))

@@ -1,9 +1,14 @@
 -- Metas whose numbers and texts are such as their types hold.
-use Rattle.std.specs.Prelude.{ℕ, ◌<◌, ◌^◌, List, Option, IfSome, IsUtf8}
+use Rattle.std.specs.Prelude.{ℕ, ◌≡◌, ◌<◌, ◌^◌, List, Option, Some, IfSome, IsUtf8}
 use Rattle.std.specs.List.{AllByRecursion}
 use Rattle.seg_values.specs.declared.schema.FieldEntry.{FieldEntry}
+use Rattle.seg_model.specs.Fields.{Schema}
+use Rattle.seg_model.specs.Input.{Settings}
 use Rattle.seg_meta.specs.IndexOfFiles.{Deletes, ListedSegment, Meta}
+use Rattle.seg_meta.specs.MetaRead.{meta_read}
+use Rattle.seg_meta.specs.MetaText.{meta_text}
 use Rattle.seg_meta.specs.Metas.{IsListed}
+use Rattle.seg_meta.specs.Saving.{IsMetaList}
 
 -- a text, where there is one, is UTF-8
 abbrev pub IsText : Option (List ℕ) → Type 0
@@ -28,3 +33,11 @@ pub record MetaFits (m : Meta) : Type 0 where
   pub payload : IsText m.payload
   pub fields : AllByRecursion HasTexts m.schema
   pub segments : AllByRecursion SegmentFits m.segments
+
+-- what is saved with these settings and this schema is read as it was saved
+abbrev pub AreReadBack : Settings → Schema → Type 0
+AreReadBack settings schema =
+    (stamp : ℕ) (payload : Option (List ℕ)) (segments : List ListedSegment) → stamp < 2 ^ 64 → IsText payload
+    → AllByRecursion SegmentFits segments → IsMetaList segments
+    → meta_read (meta_text (record { settings = settings; schema = schema; stamp = stamp; payload = payload; segments = segments }))
+    ≡ Some (record { settings = settings; schema = schema; stamp = stamp; payload = payload; segments = segments })

@@ -96,6 +96,6 @@ module _ {Name : Type 0} {order : Name → Name → Ordering} (forms : Forms ord
     pub opens : OpensWith settings schema (record { id = id; documents = contents.documents; deletes = None } ∷ [])
     pub held : forms.Holds files id schema contents
 
-  -- what the files of an output may be found as, after a crash at any moment
-  abbrev pub OpensAs : Settings → Schema → Contents → Type 0
-  OpensAs settings schema contents = OpensAsNoIndex ⊎ (OpensAsEmpty settings schema ⊎ OpensAsWhole settings schema contents)
+  -- what the files of an output may be found as after a crash at any moment: no index, the empty one, or the whole
+  abbrev pub OpensAs : Settings → Schema → Type 0 → Type 0
+  OpensAs settings schema IsWhole = OpensAsNoIndex ⊎ (OpensAsEmpty settings schema ⊎ IsWhole)

@@ -1,5 +1,11 @@
 //! An index.
-ghost use Rattle.std.specs.Prelude.{◌≡◌, map, IfOk};
+ghost use Rattle.std.specs.Prelude.{◌≡◌, map, IfOk, IsTrue, OnOk};
+ghost use Rattle.std.specs.FinMap.{insert};
+ghost use Rattle.seg_common.specs.declared.name.FileName.TheVariants.{Meta};
+ghost use Rattle.seg_directory.specs.Disk.{exactly, with_change};
+ghost use Rattle.seg_directory.specs.DiskChanges.{KeepsDisk};
+ghost use Rattle.seg_directory.specs.DiskRuns.{SavesOnDisk};
+ghost use Rattle.seg_directory.specs.FileDisks.{settled};
 ghost use Rattle.seg_directory.specs.Works.{Works};
 ghost use Rattle.seg_meta.specs.MetaSteps.{LoadsMetas, create_steps};
 ghost use Rattle.seg_meta.specs.MetaText.{meta_text};
@@ -32,7 +38,8 @@ impl Model for Index {
 }
 
 impl Index {
-    /// Begins an index in a directory without files: saves a meta without segments there.
+    /// Begins an index in a directory without files: saves a meta without segments there. A crash leaves what
+    /// `save_metas` says.
     pub fn create<O: Directory>(
         alloc: Global,
         schema: Schema,
@@ -42,6 +49,12 @@ impl Index {
         ensures ok { IfOk result (λ index. meta_of index ≡ empty_meta (settings_of settings) schema) }
         ensures does { Works (create_steps (meta_text (empty_meta (settings_of settings) schema)))
             result (O.state directory.old) (O.state directory.new) }
+        ensures disk { IsTrue (O.state directory.old).disk.told
+            → SavesOnDisk (insert (O.state directory.old).files Meta (meta_text (empty_meta (settings_of settings) schema)))
+            (O.state directory.old).disk (O.state directory.new).disk }
+        ensures safe { IsTrue (O.state directory.old).disk.told → OnOk result ((O.state directory.new).disk.now
+            ≡ with_change (settled (O.state directory.old).files) Meta
+            (exactly (meta_text (empty_meta (settings_of settings) schema)))) }
     {
         if let Err(e) = expect_no_files(alloc, directory) {
             return Err(e);
@@ -62,6 +75,8 @@ impl Index {
     /// Opens the index that a directory has.
     pub fn open<W: Directory>(alloc: Global, directory: &mut W) -> TResult<Index>
         ensures does { LoadsMetas result (W.state directory.old) (W.state directory.new) }
+        ensures disk { IsTrue (W.state directory.old).disk.told
+            → KeepsDisk (W.state directory.old).disk (W.state directory.new).disk }
     {
         match load_metas(alloc, directory) {
             Ok(metas) => Ok(Index { metas }),

@@ -41,7 +41,7 @@ pub use index::Index;
 pub use index_meta::IndexMeta;
 pub use index_settings::IndexSettings;
 pub use load::load_metas;
-pub use meta_law::{meta_texts_read_back, metas_read_back};
+pub use meta_law::{id_fits, ids_fit, meta_texts_read_back, metas_read_back, schema_reads_back};
 pub use meta_read::read_meta;
 pub use read_error::ReadError;
 pub use save::save_metas;

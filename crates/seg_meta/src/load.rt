@@ -1,5 +1,6 @@
 //! Loading the meta of an index.
-ghost use Rattle.std.specs.Prelude.{IfOk};
+ghost use Rattle.std.specs.Prelude.{IfOk, IsTrue};
+ghost use Rattle.seg_directory.specs.DiskChanges.{KeepsDisk};
 ghost use Rattle.seg_meta.specs.MetaSteps.{LoadsMetas};
 ghost use Rattle.seg_meta.specs.Saving.{IsMetaList};
 
@@ -12,6 +13,8 @@ use std::alloc::Global;
 /// Loads the meta that the directory has, in one reading. Where it is missing or can't be read, the index is damaged.
 pub fn load_metas<W: Directory>(alloc: Global, directory: &mut W) -> TResult<IndexMeta>
     ensures does { LoadsMetas result (W.state directory.old) (W.state directory.new) }
+    ensures disk { IsTrue (W.state directory.old).disk.told
+        → KeepsDisk (W.state directory.old).disk (W.state directory.new).disk }
     ensures list { IfOk result (λ m. IsMetaList m.segments) }
 {
     let bytes = match read_file(alloc, directory, FileName::Meta) {

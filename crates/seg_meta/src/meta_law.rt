@@ -1,17 +1,18 @@
 //! A meta reads back from its own text.
-ghost use Rattle.std.specs.Prelude.{◌≡◌, Some, true};
+ghost use Rattle.std.specs.Prelude.{◌≡◌, ◌<◌, ◌^◌, Some, true};
 ghost use Rattle.std.specs.List.{AllByRecursion};
 ghost use Rattle.seg_values.specs.SchemaRules.{is_schema};
 ghost use Rattle.seg_meta.specs.IndexOfFiles.{Meta};
-ghost use Rattle.seg_meta.specs.Fits.{IsText, HasTexts, SegmentFits, MetaFits};
+ghost use Rattle.seg_meta.specs.Fits.{AreReadBack, IsText, HasTexts, SegmentFits, MetaFits};
 ghost use Rattle.seg_meta.specs.MetaRead.{meta_read};
 ghost use Rattle.seg_meta.specs.MetaText.{meta_text};
 ghost use Rattle.seg_meta.specs.Saving.{IsMetaList};
-ghost use Rattle.seg_meta.specs.View.{meta_of};
+ghost use Rattle.seg_meta.specs.View.{meta_of, settings_of};
 
 use crate::ranges::{has_32_bits, has_64_bits};
-use crate::{IndexMeta, SegmentMeta};
-use seg_values::FieldEntry;
+use crate::{IndexMeta, IndexSettings, SegmentMeta};
+use seg_common::SegmentId;
+use seg_values::{FieldEntry, Schema};
 use seg_words::Text;
 
 /// The text of a meta reads as it, where its numbers and texts are such as their types hold, its segments such as can be
@@ -28,6 +29,32 @@ pub fn metas_read_back(metas: &IndexMeta)
 {
     meta_fits(metas);
     metas.schema.fields_are_valid();
+}
+
+/// The same of all metas with these settings and this schema.
+pub fn schema_reads_back(schema: &Schema, settings: &IndexSettings)
+    ensures { AreReadBack (settings_of settings.now) schema.now }
+{
+    has_32_bits(settings.docstore_blocksize);
+    have_texts(schema.fields());
+    schema.fields_are_valid();
+    meta_texts_read_back();
+}
+
+/// Ids have 128 bits.
+pub fn ids_fit(ids: &[SegmentId])
+    ensures { AllByRecursion (λ id. id < 2 ^ 128) ids.now }
+{
+    for id in ids {
+        id_fits(id);
+    }
+}
+
+/// And so has each.
+pub fn id_fits(id: &SegmentId)
+    ensures { id.now < 2 ^ 128 }
+{
+    let _number = id.as_u128();
 }
 
 fn meta_fits(metas: &IndexMeta)

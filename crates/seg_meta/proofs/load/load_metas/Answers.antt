@@ -1,5 +1,5 @@
 use Rattle.std.proofs.Common.{sym, ◌∙◌, ap, Err}
-use Rattle.seg_meta.proofs.Loads.{loads, can_not_read, says_none, no_memory}
+use Rattle.seg_meta.proofs.Loads.{loading_keeps, loads, can_not_read, says_none, no_memory}
 use Rattle.seg_meta.specs.MetaRead.{meta_read}
 use Rattle.seg_meta.proofs.load.load_metas.Goals as goal
 
@@ -14,3 +14,15 @@ returns-in-Err-NoMeta-clause-does g c = says_none c.in-Ok.bytes c.in-Ok.ensures.
 
 pub returns-clause-does : goal.returns-clause-does
 returns-clause-does g c = no_memory c.in-Ok.bytes c.in-Ok.ensures.does
+
+pub returns-in-Err-clause-disk : goal.returns-in-Err-clause-disk
+returns-in-Err-clause-disk g c told = loading_keeps told (returns-in-Err-clause-does g c)
+
+pub returns-in-Ok-read_meta-clause-disk : goal.returns-in-Ok-read_meta-clause-disk
+returns-in-Ok-read_meta-clause-disk g c told = loading_keeps told (returns-in-Ok-read_meta-clause-does g c)
+
+pub returns-in-Err-NoMeta-clause-disk : goal.returns-in-Err-NoMeta-clause-disk
+returns-in-Err-NoMeta-clause-disk g c told = loading_keeps told (returns-in-Err-NoMeta-clause-does g c)
+
+pub returns-clause-disk : goal.returns-clause-disk
+returns-clause-disk g c told = loading_keeps told (returns-clause-does g c)
