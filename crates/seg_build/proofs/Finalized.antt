@@ -9,11 +9,12 @@ use Rattle.seg_values.specs.Tree.{Document}
 use Rattle.seg_values.specs.declared.error.TantivyError.{TantivyError}
 use Rattle.seg_model.specs.Fields.{Schema, Analyzer}
 use Rattle.seg_meta.specs.IndexOfFiles as index
+use Rattle.seg_directory.specs.DiskRuns.{KeepsOnDisk}
 use Rattle.seg_directory.specs.State.{DirectoryState}
 use Rattle.seg_directory.specs.Works.{Works}
 use Rattle.seg_segment.specs.Forms.{segment_forms}
-use Rattle.seg_segment.specs.SegmentFiles.{HasFiles, write_steps}
-use Rattle.seg_segment.proofs.Exports.{are_made, one, stands_there}
+use Rattle.seg_segment.specs.SegmentFiles.{HasFiles, IsOtherName, write_steps}
+use Rattle.seg_segment.proofs.Exports.{are_made, none_on_disk, one, others_on_disk, stands_there}
 use Rattle.seg_build.specs.FieldTerms.{fields_of}
 use Rattle.seg_build.specs.Finishing.{AreOfKept, Finishes, FinishesKept, IsMadeOfKept, starves, makes}
 use Rattle.seg_build.specs.Kept.{Kept}
@@ -60,3 +61,10 @@ module _ {T : Type 0} (schema : Schema) (id : ℕ) (r : Result T TantivyError) (
       → OnOk r ((analyzer : Analyzer) (size : ℕ) (documents : List Document) (stamps : List ℕ) → IsSomeAnd kept (IsKeptOf schema analyzer size documents stamps) → MadeOf analyzer size documents)
   are_finished None (is, same) = subst (λ (x : Result T TantivyError). OnOk x ((analyzer : Analyzer) (size : ℕ) (documents : List Document) (stamps : List ℕ) → ⊥ → MadeOf analyzer size documents)) (sym is) tt
   are_finished (Some kept) finishes = kept_made kept finishes
+
+-- of the other names a crash leaves what it might have left before
+pub finishing_on_disk : {T : Type 0} (schema : Schema) (id : ℕ) (kept : Option Kept) (r : Result T TantivyError) (a b : DirectoryState) → IsTrue a.disk.told
+    → FinishesKept schema id kept r a b → KeepsOnDisk (IsOtherName id) a.disk b.disk
+finishing_on_disk schema id None r a b told done = none_on_disk id done.1
+finishing_on_disk schema id (Some kept) r a b told (starves is same) = none_on_disk id same
+finishing_on_disk schema id (Some kept) r a b told (makes files of works) = others_on_disk id files r told works

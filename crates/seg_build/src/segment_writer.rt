@@ -1,12 +1,14 @@
 //! The writer of a segment.
 ghost use Rattle.std.specs.Prelude.{◌≡◌, ◌⊎◌, [], List, ℕ, Some, None, Err, IsTrue, IfOk, IfErr, IfSome, OnOk};
 ghost use Rattle.std.specs.FinMap.{get};
+ghost use Rattle.seg_directory.specs.DiskRuns.{KeepsOnDisk};
 ghost use Rattle.seg_values.specs.Tree.{Document};
 ghost use Rattle.seg_meta.specs.IndexOfFiles as index;
 ghost use Rattle.seg_build.specs.FieldTerms.{fields_of};
 ghost use Rattle.seg_build.specs.Finishing.{Finalizes};
 ghost use Rattle.seg_segment.specs.Forms.{segment_forms};
 ghost use Rattle.seg_build.specs.MemoryUsage.{memory_usage, saturated};
+ghost use Rattle.seg_segment.specs.SegmentFiles.{IsOtherName};
 ghost use Rattle.seg_segment.specs.Standing.{StandFor};
 ghost use Rattle.seg_build.specs.StoredBlocks.{HasBlocks};
 ghost use Rattle.seg_build.specs.Totals.{TotalsAreCounts};
@@ -191,6 +193,7 @@ impl<'a, Z: Analyzers> SegmentWriter<'a, Z> {
     }
 
     /// Makes the six files of the segment, which then stands for the documents that were added, and answers their stamps.
+    /// Of any other name a crash leaves what it might have left before.
     pub fn finalize<W: Directory>(self, directory: &mut W) -> TResult<Vec<Opstamp>>
         ensures stands { IsTrue (W.state directory.old).tells → OnOk result ((documents : List Document) (stamps : List ℕ)
             → Writes (Z.tokens_of self.entry.0) documents stamps self.entry.1
@@ -205,6 +208,8 @@ impl<'a, Z: Analyzers> SegmentWriter<'a, Z> {
             → HasBlocks self.entry.1.schema self.entry.1.block_size documents store) }
         ensures stamps { IfOk result (λ answer. (documents : List Document) (stamps : List ℕ) → Writes (Z.tokens_of self.entry.0) documents stamps self.entry.1 → answer.items ≡ stamps) }
         ensures does { Finalizes self.entry.1 result (W.state directory.old) (W.state directory.new) }
+        ensures disk { IsTrue (W.state directory.old).disk.told → KeepsOnDisk (IsOtherName self.entry.1.id)
+            (W.state directory.old).disk (W.state directory.new).disk }
     {
         let SegmentWriter {
             alloc,

@@ -9,6 +9,7 @@ mod OpenLaws
 mod OpenSpells
 mod Opened
 mod OpenedLaws
+mod OpeningOnDisk
 mod OpeningSteps
 mod PlacesOpened
 mod Stages

@@ -1,5 +1,6 @@
 //! A segment that is open.
 ghost use Rattle.std.specs.Prelude.{◌≡◌, true, length, map, is_some, None, replicate, IfOk, IfErr, IfSome, IsTrue};
+ghost use Rattle.seg_directory.specs.DiskChanges.{KeepsDisk};
 ghost use Rattle.seg_meta.specs.IndexOfFiles as index;
 ghost use Rattle.seg_model.specs.Fields.{is_indexed};
 ghost use Rattle.seg_segment.specs.Built.{is_built_schema};
@@ -76,7 +77,8 @@ impl SegmentReader {
     /// the order terms, store, postings, positions, fast fields, field norms, alive. Once the six are read, each is
     /// checked whole and against those before it. `DataCorruption` names the first that is missing, or else the first
     /// that is wrong by itself or with those before it. `Later`, before a file is read: the schema has a fast field, or
-    /// an indexed one of another kind than text. `OpenReadError`: a file can't be read.
+    /// an indexed one of another kind than text. `OpenReadError`: a file can't be read. What a crash may leave of the
+    /// directory stays.
     pub fn open<W: Directory>(
         alloc: Global,
         segment: &Segment,
@@ -89,6 +91,8 @@ impl SegmentReader {
         ensures whole { IsTrue (W.state directory.old).tells
             → index.IsWhole segment_forms (W.state directory.old).files segment.now.schema segment.now.meta
             → IfErr result IsNoDamage }
+        ensures disk { IsTrue (W.state directory.old).disk.told
+            → KeepsDisk (W.state directory.old).disk (W.state directory.new).disk }
     {
         SegmentReader::open_with_custom_alive_set(alloc, segment, None, directory)
     }
@@ -109,6 +113,8 @@ impl SegmentReader {
         ensures whole { IsTrue (W.state directory.old).tells
             → index.IsWhole segment_forms (W.state directory.old).files segment.now.schema segment.now.meta
             → IfErr result IsNoDamage }
+        ensures disk { IsTrue (W.state directory.old).disk.told
+            → KeepsDisk (W.state directory.old).disk (W.state directory.new).disk }
     {
         if !is_built_schema(segment.schema().fields()) {
             return Err(TantivyError::InvalidArgument(ArgumentCause::Later));

@@ -2,6 +2,7 @@
 pub use Rattle.seg_segment.proofs.BuiltEntries.{IsTextEntry, both_true, not_fast, text_entry_at}
 pub use Rattle.seg_segment.proofs.FieldsInTurn.{AreParts, AreTermsOf, hold_terms, is_whole}
 pub use Rattle.seg_segment.proofs.FilesMade.{absent_suit, are_made, newest, others_stay, six_there}
+pub use Rattle.seg_segment.proofs.FilesOnDisk.{none_on_disk, others_on_disk}
 pub use Rattle.seg_segment.proofs.GivenPostings.{AreGiven, all_given, given_more, has_whole_term, may_begin, may_end, may_take, no_terms, none_given, none_taken}
 pub use Rattle.seg_segment.proofs.KeptFiles.{after_keeps, all_touched, keeps_untouched}
 pub use Rattle.seg_segment.proofs.OneContents.{one, selected}

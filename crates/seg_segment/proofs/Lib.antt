@@ -2,6 +2,7 @@ pub mod Exports
 mod BuiltEntries
 mod FieldsInTurn
 mod FilesMade
+mod FilesOnDisk
 mod GivenPostings
 mod KeptFiles
 mod LaidOut
@@ -9,6 +10,7 @@ mod LengthsInTurn
 mod OneContents
 mod OnlyReads
 mod ReadLaws
+mod SixRead
 mod SpelledFiles
 mod ToldTotals
 mod Turns

@@ -57,3 +57,7 @@ KeepsAllBut names old new = (other : FileName) → AllByRecursion (λ name. othe
 -- each name was written
 abbrev pub wrote : List FileName → List Answer
 wrote names = map answer.Wrote names
+
+-- a name that isn't one of the six of an id
+abbrev pub IsOtherName : ℕ → FileName → Type 0
+IsOtherName id name = (component : SegmentComponent) → name ≢ Part id component

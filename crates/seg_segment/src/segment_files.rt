@@ -4,7 +4,7 @@ ghost use Rattle.seg_common.specs.declared.name.FileName.{FileName};
 ghost use Rattle.seg_directory.specs.Works.{Works, WorksFor};
 ghost use Rattle.seg_segment.specs.MadeFiles.{AreOfParts};
 ghost use Rattle.seg_segment.specs.SegmentFiles.{bytes_of, write_steps};
-ghost use Rattle.seg_segment.specs.SegmentRead.{read_steps};
+ghost use Rattle.seg_segment.specs.SegmentRead.{first_of, first_steps, read_steps, rest_steps};
 
 use crate::component_files::write_components;
 use seg_common::{FileName, OwnedBytes, SegmentComponent, SegmentId};
@@ -24,15 +24,17 @@ pub struct SegmentFiles {
     pub field_norms: OwnedBytes,
 }
 
-impl SegmentFiles {
-    /// Reads the files of an id, each once, in the order terms, store, postings, positions, fast fields, field norms. The
-    /// first that is missing ends it.
-    pub fn read<W: Directory>(
-        alloc: Global,
-        id: SegmentId,
-        directory: &mut W,
-    ) -> TResult<SegmentFiles>
-        ensures { WorksFor (read_steps id) result (W.state directory.old) (W.state directory.new) }
+/// The three files that are read first.
+#[derive(Drop)]
+struct FirstFiles {
+    terms: OwnedBytes,
+    store: OwnedBytes,
+    postings: OwnedBytes,
+}
+
+impl FirstFiles {
+    fn read<W: Directory>(alloc: Global, id: SegmentId, directory: &mut W) -> TResult<FirstFiles>
+        ensures { WorksFor (first_steps id) result (W.state directory.old) (W.state directory.new) }
     {
         let terms = read_file(
             alloc,
@@ -49,6 +51,23 @@ impl SegmentFiles {
             directory,
             FileName::Part(id, SegmentComponent::Postings),
         )?;
+        Ok(FirstFiles {
+            terms,
+            store,
+            postings,
+        })
+    }
+
+    /// Reads the three others.
+    fn with_rest<W: Directory>(
+        self,
+        alloc: Global,
+        id: SegmentId,
+        directory: &mut W,
+    ) -> TResult<SegmentFiles>
+        ensures does { WorksFor (rest_steps id) result (W.state directory.old) (W.state directory.new) }
+        ensures first { IfOk result (λ files. first_of files ≡ self) }
+    {
         let positions = read_file(
             alloc,
             directory,
@@ -65,13 +84,31 @@ impl SegmentFiles {
             FileName::Part(id, SegmentComponent::FieldNorms),
         )?;
         Ok(SegmentFiles {
-            terms,
-            store,
-            postings,
+            terms: self.terms,
+            store: self.store,
+            postings: self.postings,
             positions,
             fast_fields,
             field_norms,
         })
+    }
+}
+
+impl SegmentFiles {
+    /// Reads the files of an id, each once, in the order terms, store, postings, positions, fast fields, field norms. The
+    /// first that is missing ends it.
+    pub fn read<W: Directory>(
+        alloc: Global,
+        id: SegmentId,
+        directory: &mut W,
+    ) -> TResult<SegmentFiles>
+        ensures { WorksFor (read_steps id) result (W.state directory.old) (W.state directory.new) }
+    {
+        let first = match FirstFiles::read(alloc, id, directory) {
+            Ok(first) => first,
+            Err(e) => return Err(e),
+        };
+        first.with_rest(alloc, id, directory)
     }
 
     /// The files of a segment that was just made, whose bytes aren't copied.

@@ -1,5 +1,7 @@
 //! The serializer of a segment.
-ghost use Rattle.std.specs.Prelude.{◌≡◌, ◌≢◌, ◌⊎◌, ◌↔◌, true, Err, option_map, IfOk, IfErr};
+ghost use Rattle.std.specs.Prelude.{◌≡◌, ◌≢◌, ◌⊎◌, ◌↔◌, true, Err, option_map, IfOk, IfErr, IsTrue};
+ghost use Rattle.seg_directory.specs.DiskRuns.{KeepsOnDisk};
+ghost use Rattle.seg_segment.specs.SegmentFiles.{IsOtherName};
 ghost use Rattle.seg_segment.specs.Serializing.{IsNormsFile};
 
 use crate::segment_files::SegmentFiles;
@@ -108,9 +110,11 @@ impl SegmentSerializer {
     }
 
     /// Writes the six files, in the order field norms, fast fields, terms, postings, positions, store. Lengths that were
-    /// not put are a composite without parts.
+    /// not put are a composite without parts. Of any other name a crash leaves what it might have left before.
     pub fn close<W: Directory>(self, directory: &mut W) -> TResult<()>
-        ensures { Closes self result (W.state directory.old) (W.state directory.new) }
+        ensures does { Closes self result (W.state directory.old) (W.state directory.new) }
+        ensures disk { IsTrue (W.state directory.old).disk.told → KeepsOnDisk (IsOtherName self.segment.meta.id)
+            (W.state directory.old).disk (W.state directory.new).disk }
     {
         let alloc = self.alloc;
         let id = self.segment.id();

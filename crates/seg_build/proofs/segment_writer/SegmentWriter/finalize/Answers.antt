@@ -3,7 +3,7 @@ use Rattle.std.proofs.lemmas.Result.{on_ok_weaker}
 use Rattle.std.specs.Option.{option_map}
 use Rattle.seg_build.specs.Finishing.{Finalizes, FinishesKept}
 use Rattle.seg_build.specs.SegmentWriting.{kept_of}
-use Rattle.seg_build.proofs.Finalized.{are_finished}
+use Rattle.seg_build.proofs.Finalized.{are_finished, finishing_on_disk}
 use Rattle.seg_build.proofs.segment_writer.SegmentWriter.finalize.Goals as goal
 
 pub returns-in-Some-clause-does : goal.returns-in-Some-clause-does
@@ -31,3 +31,8 @@ returns-in-Some-clause-blocks g c told =
     let writer = c.args.self.1 in
     on_ok_weaker c.finish.result (λ all documents stamps w. (all (g.Z.Analyzers.tokens_of c.args.self.0) writer.block_size documents stamps w).2)
     (are_finished writer.schema writer.id c.finish.result _ _ told writer.kept (returns-in-Some-clause-does g c))
+
+pub returns-in-Some-clause-disk : goal.returns-in-Some-clause-disk
+returns-in-Some-clause-disk g c told =
+    let writer = c.args.self.1 in
+    finishing_on_disk writer.schema writer.id writer.kept c.finish.result _ _ told (returns-in-Some-clause-does g c)

@@ -26,7 +26,7 @@ returns-clause-does g c block_size fresh =
     subst (λ (rs : List OpenSegment). IsJoined segment block_size rs c.in-Ok.filled) (c.deref.ensures.value ∙ has) (c.in-Ok.ensures block_size fresh) in
     elim c.match-close.branch [
       | in-Ok-close w ↦ subst (λ (r : Result ℕ TantivyError). WritesJoined {T = ℕ} segment block_size readers r a b) (sym w.result-is)
-          (writes_ok c.joins_have_full_shape.ensures segment block_size readers built are marked c.in-Ok.filled joined a b w.in-Ok-close.field-0 c.self.inside.max_doc w.in-Ok-close.ensures)
+          (writes_ok c.joins_have_full_shape.ensures segment block_size readers built are marked c.in-Ok.filled joined a b w.in-Ok-close.field-0 c.self.inside.max_doc w.in-Ok-close.ensures.does)
       | in-Err w ↦ subst (λ (r : Result ℕ TantivyError). WritesJoined {T = ℕ} segment block_size readers r a b) (sym w.result-is)
-          (writes_err c.joins_have_full_shape.ensures segment block_size readers built are marked c.in-Ok.filled joined a b {U = Unit {0}} w.in-Err.e w.in-Err.ensures)
+          (writes_err c.joins_have_full_shape.ensures segment block_size readers built are marked c.in-Ok.filled joined a b {U = Unit {0}} w.in-Err.e w.in-Err.ensures.does)
     ]

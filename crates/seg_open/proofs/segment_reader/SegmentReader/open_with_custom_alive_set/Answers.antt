@@ -8,6 +8,7 @@ use Rattle.seg_open.specs.SegmentOpened.{Asked, HasFilesOf}
 use Rattle.seg_open.proofs.AliveRead.{as_many_read}
 use Rattle.seg_open.proofs.Marks.{long_set}
 use Rattle.seg_open.proofs.OpenedLaws.{opens_holds, opens_undamaged}
+use Rattle.seg_open.proofs.OpeningOnDisk.{opening_on_disk}
 use Rattle.seg_open.proofs.OpeningSteps.{opens, refuses, stops_after_alive, stops_in_alive, stops_in_files, with_marks}
 use Rattle.seg_open.proofs.segment_reader.SegmentReader.open_with_custom_alive_set.Goals as goal
 
@@ -87,3 +88,28 @@ returns-in-Err-cut_by-clause-does g c =
     let deletes_are : option_map deletes_of c.deletes-deletes.result ≡ c.args.segment.now.meta.deletes = search rules in
     stops_after_alive x built c.id-id.result c.max_doc-max_doc.result (option_map deletes_of c.deletes-deletes.result) id_is count_is deletes_are c.in-Ok.reader _ _ _ c.in-Ok.ensures
     (alive_of c.max_doc-max_doc.result c.in-Ok-read_deletes.alive) c.in-Ok-read_deletes.ensures
+
+pub returns-then-not-is_built_schema-clause-disk : goal.returns-then-not-is_built_schema-clause-disk
+returns-then-not-is_built_schema-clause-disk g c told =
+    let x : Asked = record { segment = c.args.segment.now; custom = c.args.custom } in
+    opening_on_disk x _ told (returns-then-not-is_built_schema-clause-does g c)
+
+pub returns-in-Err-clause-disk : goal.returns-in-Err-clause-disk
+returns-in-Err-clause-disk g c told =
+    let x : Asked = record { segment = c.args.segment.now; custom = c.args.custom } in
+    opening_on_disk x _ told (returns-in-Err-clause-does g c)
+
+pub returns-in-Err-read_deletes-clause-disk : goal.returns-in-Err-read_deletes-clause-disk
+returns-in-Err-read_deletes-clause-disk g c told =
+    let x : Asked = record { segment = c.args.segment.now; custom = c.args.custom } in
+    opening_on_disk x _ told (returns-in-Err-read_deletes-clause-does g c)
+
+pub returns-in-Ok-cut_by-clause-disk : goal.returns-in-Ok-cut_by-clause-disk
+returns-in-Ok-cut_by-clause-disk g c told =
+    let x : Asked = record { segment = c.args.segment.now; custom = c.args.custom } in
+    opening_on_disk x _ told (returns-in-Ok-cut_by-clause-does g c)
+
+pub returns-in-Err-cut_by-clause-disk : goal.returns-in-Err-cut_by-clause-disk
+returns-in-Err-cut_by-clause-disk g c told =
+    let x : Asked = record { segment = c.args.segment.now; custom = c.args.custom } in
+    opening_on_disk x _ told (returns-in-Err-cut_by-clause-does g c)
