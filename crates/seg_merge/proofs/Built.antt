@@ -14,6 +14,7 @@ use Rattle.seg_refusals.proofs.Exports.{first_is_refusal}
 use Rattle.seg_batches.proofs.Exports.{refusal_weaker}
 use Rattle.seg_merge.specs.Builds.{StopsBuilding}
 use Rattle.seg_merge.specs.Turns.{Directories}
+use Rattle.seg_merge.proofs.BuildOnDisk.{not_begun_leaves}
 use Rattle.seg_merge.proofs.WholeRefused.{caused_refusal, refusal_undamaged}
 
 -- ---- before a directory is called
@@ -51,6 +52,7 @@ not_begun known analyzer input e state cause =
           (caused_refusal known analyzer input e cause);
       fresh = λ empty. not_there e kind;
       whole = λ told. undamaged e kind;
+      any_moment = not_begun_leaves analyzer input state;
     }
 
 -- ---- what is said of the answer

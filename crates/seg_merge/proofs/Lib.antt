@@ -1,4 +1,5 @@
 pub mod Exports
+mod BuildOnDisk
 mod Built
 mod Exits
 mod FillSteps
@@ -14,7 +15,9 @@ mod MergeFills
 mod MergeHeld
 mod MergeLists
 mod MergeSaid
+mod MergeOnDisk
 mod MergeTurns
+mod MetasBack
 mod OutputSteps
 mod Reached
 mod SameOptions

@@ -5,6 +5,7 @@ use Rattle.seg_directory.specs.State.{DirectoryState}
 use Rattle.seg_model.specs.Contents.{full_reading}
 use Rattle.seg_model.specs.Estimate.{joined_estimate}
 use Rattle.seg_model.specs.Fields.{Schema, Analyzer}
+use Rattle.seg_meta.specs.Fits.{AreReadBack}
 use Rattle.seg_meta.specs.IndexOfFiles as index
 use Rattle.seg_model.specs.Input.{Input, input_batches, input_survivors}
 use Rattle.seg_model.specs.Operations.{Batch}
@@ -26,6 +27,7 @@ use Rattle.seg_merge.specs.IndexTotals.{HasOutputTotals, HasWorkTotals, merged_b
 use Rattle.seg_merge.specs.MergeAnswers.{AllHaveHeld, IsMergeOf}
 use Rattle.seg_merge.specs.SegmentsMerged.{joined, live_asked}
 use Rattle.seg_merge.specs.Turns.{Directories}
+use Rattle.seg_merge.proofs.BuildOnDisk.{build_leaves, build_rests}
 use Rattle.seg_merge.proofs.Exits.{Wrote, wrote}
 use Rattle.seg_merge.proofs.FilledIndex.{filled_index}
 use Rattle.seg_merge.proofs.FillSteps.{length-batches}
@@ -142,8 +144,8 @@ module _ {T : Type 0} (x : T) (known : Known) (analyzer : Analyzer) (input : Inp
   -- ---- both
 
   pub builds_both : JoiningIsInvisible → BuiltPartsJoin → BuiltHaveNoColumns → HoldsOneContents
-      → Builds known analyzer input meta a b
-  builds_both law join_law columns one = record {
+      → AreReadBack input.settings input.schema → output_id input.ids < 2 ^ 128 → Builds known analyzer input meta a b
+  builds_both law join_law columns one reads id_fits = record {
     admitted = none;
     valid =
         is_valid_if known analyzer input (IsTrue a.work.tells) columns
@@ -164,4 +166,6 @@ module _ {T : Type 0} (x : T) (known : Known) (analyzer : Analyzer) (input : Inp
       was_empty = output_empty analyzer input a w.filled.begun_at output_at w.filled.begun told;
       index_of = built.merged.index_of told;
     };
+    any_moment = λ told clean. build_leaves analyzer input fits reads id_fits one law join_law a told clean (Ok x) b writes;
+    at_rest = λ told clean. build_rests analyzer input fits reads id_fits one law join_law a told clean x b writes;
   }

@@ -4,6 +4,7 @@ use Rattle.std.specs.FinMap.{len}
 use Rattle.seg_values.specs.declared.error.ArgumentCause.TheVariants.{Documents}
 use Rattle.seg_values.specs.declared.error.TantivyError.{TantivyError}
 use Rattle.seg_values.specs.declared.error.TantivyError.TheVariants.{IndexAlreadyExists, InvalidArgument, OutOfMemory}
+use Rattle.seg_directory.specs.State.{HasOnly, IsEmptyDisk, LeavesOnly}
 use Rattle.seg_meta.specs.IndexOfFiles as index
 use Rattle.seg_meta.specs.IndexOfFiles.{Meta}
 use Rattle.seg_model.specs.Fields.{Analyzer}
@@ -14,6 +15,7 @@ use Rattle.seg_open.specs.SegmentOpened.{IsNoDamage}
 use Rattle.seg_refusals.specs.Admitted.{IsValidIf}
 use Rattle.seg_refusals.specs.Refusals.{first_error, refusal_error}
 use Rattle.seg_model.specs.Refused.{IfRefusal}
+use Rattle.seg_merge.specs.AfterCrash.{MayBeBuilt}
 use Rattle.seg_merge.specs.DirectoryCalls.{merge_of}
 use Rattle.seg_merge.specs.IndexFiles.{IsOutputIndexOf, IsWorkIndexOf, merged_meta, output_id, output_meta, work_ids, work_meta}
 use Rattle.seg_merge.specs.IndexTotals.{HasOutputTotals, HasWorkTotals}
@@ -40,6 +42,12 @@ pub record IsMerged (meta : Meta) (before after : Directories) : Type 0 where
   pub was_empty : len before.output.files ≡ 0
   pub index_of : index.index_of segment_forms after.output.files ≡ Some meta
 
+-- a crash at any moment leaves the output, where nothing was on its disk, as no index, as the empty one, or whole
+abbrev pub LeavesBuilt : Analyzer → Input → Directories → Directories → Type 0
+LeavesBuilt analyzer input before after =
+    IsTrue before.work.tells → IsEmptyDisk before.output.disk
+    → LeavesOnly (MayBeBuilt analyzer input) before.output.disk after.output.disk
+
 -- both indexes are written
 pub record Builds (known : Known) (analyzer : Analyzer) (input : Input) (meta : Meta)
     (before after : Directories) : Type 0 where
@@ -49,6 +57,9 @@ pub record Builds (known : Known) (analyzer : Analyzer) (input : Input) (meta : 
       × (meta ≡ merged_meta input.settings input.schema (work_ids input.ids) (output_id input.ids) documents)
   pub in_work : IsTrue before.work.tells → IsRead analyzer input meta before after
   pub in_output : IsTrue before.output.tells → IsMerged meta before after
+  pub any_moment : LeavesBuilt analyzer input before after
+  pub at_rest : IsTrue before.work.tells → IsEmptyDisk before.output.disk
+      → HasOnly (IsOutputIndexOf analyzer input) after.output.disk.now
 
 -- why the input is refused, or too many documents were read back
 abbrev pub IsWhyUntold : Known → Analyzer → Input → TantivyError → Type 0
@@ -71,6 +82,7 @@ pub record StopsBuilding (known : Known) (analyzer : Analyzer) (input : Input) (
   pub untold : IfRefusal (IsWhyUntold known analyzer input) e
   pub fresh : AreEmpty before → e ≢ IndexAlreadyExists
   pub whole : IsTrue before.work.tells → IsNoDamage e
+  pub any_moment : LeavesBuilt analyzer input before after
 
 -- either of them
 abbrev pub EndsBuilding : Known → Analyzer → Input → Result Meta TantivyError → Directories → Directories → Type 0

@@ -1,3 +1,4 @@
+pub mod AfterCrash
 pub mod Builds
 pub mod DirectoryCalls
 pub mod EntryOptions

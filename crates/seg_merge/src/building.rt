@@ -1,6 +1,7 @@
 //! The building of an index.
 ghost use Rattle.std.specs.Prelude.{◌≡◌, ◌≢◌, ◌⊎◌, ℕ, Some, Err, IfOk, IfErr, IfSome, IsTrue, OnOk};
 ghost use Rattle.std.specs.FinMap.{len};
+ghost use Rattle.seg_directory.specs.State.{HasOnly, IsEmptyDisk, LeavesOnly};
 ghost use Rattle.seg_meta.specs.View.{meta_of, settings_of};
 ghost use Rattle.seg_meta.specs.IndexOfFiles as index;
 ghost use Rattle.seg_segment.specs.Forms.{segment_forms};
@@ -10,6 +11,7 @@ ghost use Rattle.seg_refusals.specs.Admitted.{IsValidIf};
 ghost use Rattle.seg_refusals.specs.Inputs.{input_of};
 ghost use Rattle.seg_refusals.specs.Refusals.{first_error, refusal_error};
 ghost use Rattle.seg_model.specs.Refused.{IfRefusal};
+ghost use Rattle.seg_merge.specs.AfterCrash.{MayBeBuilt};
 ghost use Rattle.seg_merge.specs.Builds.{EndsBuilding};
 ghost use Rattle.seg_merge.specs.DirectoryCalls.{BuildsIndexes};
 ghost use Rattle.seg_merge.specs.IndexFiles.{IsOutputIndexOf, IsWorkIndexOf, merged_meta, output_id, output_meta, work_ids};
@@ -24,7 +26,7 @@ use seg_common::SegmentId;
 use seg_directory::Directory;
 use seg_input::{BuildInputRef, UserOperation};
 use seg_join::built_parts_join;
-use seg_meta::{Index, IndexSettings};
+use seg_meta::{Index, IndexSettings, ids_fit, schema_reads_back};
 use seg_model::joining_is_invisible;
 use seg_refusals::check_input;
 use seg_segment::files_hold_one_contents;
@@ -41,6 +43,9 @@ use std::alloc::Global;
 /// output index by `merge_filtered_segments`, as the work directory answers them: each file of a segment with a live
 /// document is read once; a file that is missing there, or doesn't agree with those read before it, is told as
 /// `DataCorruption`.
+///
+/// The output is saved so that a crash at any moment leaves it as no index, as the empty one, or whole; once the call
+/// answers Ok, as the whole.
 ///
 /// Refusals come in this order: what is not built yet (fields with columns, indexed fields of other kinds than texts),
 /// `Cuts`, `Batches`, `Filters`, `SegmentIds`, `FieldName`, `Settings`, `Tokenizer`, `DeleteField`; then each directory
@@ -91,6 +96,12 @@ pub fn build_index<Z: Analyzers, W: Directory, O: Directory>(
         → IsTrue (O.state output.old).tells → len (O.state output.old).files ≡ 0
         → result ≢ Err TantivyError.IndexAlreadyExists }
     ensures whole { IsTrue (W.state work.old).tells → IfErr result IsNoDamage }
+    ensures any_moment { IsTrue (W.state work.old).tells → IsEmptyDisk (O.state output.old).disk → LeavesOnly
+        (MayBeBuilt (Z.tokens_of analyzers.now) (input_of schema.now settings.now operations.now cuts.now filters.now ids.now))
+        (O.state output.old).disk (O.state output.new).disk }
+    ensures at_rest { IsTrue (W.state work.old).tells → IsEmptyDisk (O.state output.old).disk → OnOk result (HasOnly
+        (IsOutputIndexOf (Z.tokens_of analyzers.now) (input_of schema.now settings.now operations.now cuts.now filters.now ids.now))
+        (O.state output.new).disk.now) }
     ensures calls { BuildsIndexes (Z.knows analyzers.now) (Z.tokens_of analyzers.now)
         (input_of schema.now settings.now operations.now cuts.now filters.now ids.now) result
         (both (W.state work.old) (O.state output.old)) (both (W.state work.new) (O.state output.new)) }
@@ -127,6 +138,8 @@ fn build_input<Z: Analyzers, W: Directory, O: Directory>(
     built_parts_join();
     built_schemas_have_no_columns();
     files_hold_one_contents();
+    schema_reads_back(input.schema, input.settings);
+    ids_fit(input.ids);
     match check_input(alloc, analyzers, input) {
         Ok(()) => {}
         Err(e) => return Err(e),

@@ -2,6 +2,8 @@
 ghost use Rattle.std.specs.Prelude.{◌≡◌, ◌≢◌, ◌⊎◌, ℕ, List, [], Some, None, Err, true, map, length, Option, IfOk, IfErr, IsTrue, MatchBool, OnOk};
 ghost use Rattle.std.specs.FinMap.{len};
 ghost use Rattle.std.specs.List.{AllByRecursion, filter};
+ghost use Rattle.seg_directory.specs.State.{HasOnly, IsEmptyDisk, LeavesOnly};
+ghost use Rattle.seg_meta.specs.Fits.{AreReadBack};
 ghost use Rattle.seg_meta.specs.IndexOfFiles as index;
 ghost use Rattle.seg_meta.specs.View.{meta_of, settings_of};
 ghost use Rattle.seg_model.specs.Input.{Filter};
@@ -11,6 +13,7 @@ ghost use Rattle.seg_open.specs.SegmentOpened.{IsNoDamage};
 ghost use Rattle.seg_join.specs.Merger.{all_fit};
 ghost use Rattle.seg_segment.specs.Built.{is_built_schema};
 ghost use Rattle.seg_segment.specs.Forms.{segment_forms};
+ghost use Rattle.seg_merge.specs.AfterCrash.{AreMergeOf, MayBeMerged};
 ghost use Rattle.seg_merge.specs.IndexFiles.{merged_meta};
 ghost use Rattle.seg_merge.specs.MergeAnswers.{CanBeMerged, IsMergeError, IsMergeOf, IsWholeIndex, LiveAreWhole};
 ghost use Rattle.seg_merge.specs.EntryOptions.{options_of};
@@ -25,7 +28,10 @@ use seg_build::settings_fit;
 use seg_common::SegmentId;
 use seg_directory::Directory;
 use seg_join::{IndexMerger, filters_fit};
-use seg_meta::{Index, IndexMeta, IndexSettings, Segment, SegmentMeta, metas_read_back};
+use seg_meta::{
+    Index, IndexMeta, IndexSettings, Segment, SegmentMeta, id_fits, metas_read_back,
+    schema_reads_back,
+};
 use seg_segment::{SegmentSerializer, is_built_schema};
 use seg_values::{ArgumentCause, FieldEntry, Schema, TResult, TantivyError};
 use seg_words::Text;
@@ -35,6 +41,9 @@ use std::alloc::{AllocError, Global};
 /// no file yet: of each segment the documents that are alive and that its filter keeps, one segment after another.
 /// Segments are read from `work`; one of which the meta counts no live document is not read. (tantivy's call of this
 /// name, in `indexer/merge_index.rs`.)
+///
+/// The output is saved so that a crash at any moment leaves it as no index, as the empty one, or whole; once the call
+/// answers Ok, as the whole.
 ///
 /// Refusals come in this order: `NoSegments`; `DifferentSchemas`; `Later`, for a schema that is not built yet; `Filters`,
 /// where there is not one for each segment, of as many documents; `Settings`. Then the output index is begun, which must
@@ -69,12 +78,19 @@ pub fn merge_filtered_segments<W: Directory, O: Directory>(
     ensures work_stays { (W.state work.new).files ≡ (W.state work.old).files }
     ensures undamaged { IsTrue (W.state work.old).tells → LiveAreWhole (W.state work.old).files segments.now
         → IfErr result IsNoDamage }
+    ensures any_moment { IsTrue (W.state work.old).tells → IsEmptyDisk (O.state output.old).disk → LeavesOnly
+        (MayBeMerged (merge_input segments.now target_settings filters.items id) (W.state work.old).files)
+        (O.state output.old).disk (O.state output.new).disk }
+    ensures at_rest { IsTrue (W.state work.old).tells → IsEmptyDisk (O.state output.old).disk → OnOk result (HasOnly
+        (AreMergeOf (merge_input segments.now target_settings filters.items id) (W.state work.old).files)
+        (O.state output.new).disk.now) }
     ensures fresh { IsTrue (O.state output.old).tells → len (O.state output.old).files ≡ 0
         → result ≢ Err TantivyError.IndexAlreadyExists }
     ensures complete { CanBeMerged (merge_input segments.now target_settings filters.items id)
         (both (W.state work.old) (O.state output.old)) (both (W.state work.new) (O.state output.new))
         → IfErr result (λ e. e ≡ TantivyError.OutOfMemory) }
 {
+    id_fits(&id);
     match check_segments(segments, &target_settings, &filters) {
         Ok(()) => merge_checked(
             alloc,
@@ -98,6 +114,7 @@ fn check_segments(
     ensures ok { OnOk result ((id : ℕ) → AreMerged (merge_input segments.now settings.now filters.now id)) }
     ensures err { IfErr result (λ e. (id : ℕ)
         → IsRefusal (merge_input segments.now settings.now filters.now id) segments.now (Some e)) }
+    ensures reads { OnOk result (AreReadBack (settings_of settings.now) (first_schema segments.now)) }
 {
     let Some(first) = segments.first() else {
         return Err(TantivyError::InvalidArgument(ArgumentCause::NoSegments));
@@ -114,6 +131,7 @@ fn check_segments(
     if !settings_fit(settings) {
         return Err(TantivyError::InvalidArgument(ArgumentCause::Settings));
     }
+    schema_reads_back(first.schema(), settings);
     Ok(())
 }
 

@@ -69,3 +69,12 @@ returns-in-Err-clause-whole g c told = c.in-Err.ensures.ends.whole told
 
 pub returns-in-Err-clause-calls : goal.returns-in-Err-clause-calls
 returns-in-Err-clause-calls g c = c.in-Err.ensures.calls
+
+pub returns-in-Ok-clause-any_moment : goal.returns-in-Ok-clause-any_moment
+returns-in-Ok-clause-any_moment g c told clean = c.in-Ok.ensures.ends.any_moment told clean
+
+pub returns-in-Ok-clause-at_rest : goal.returns-in-Ok-clause-at_rest
+returns-in-Ok-clause-at_rest g c told clean = c.in-Ok.ensures.ends.at_rest told clean
+
+pub returns-in-Err-clause-any_moment : goal.returns-in-Err-clause-any_moment
+returns-in-Err-clause-any_moment g c told clean = c.in-Err.ensures.ends.any_moment told clean

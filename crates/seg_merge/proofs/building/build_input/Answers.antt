@@ -1,9 +1,14 @@
-use Rattle.std.proofs.Common.{refl}
+use Rattle.std.proofs.Common.{◌<◌, ◌^◌, refl, subst}
 use Rattle.std.proofs.lemmas.Option.{MatchOption-from_none}
+use Rattle.seg_meta.specs.Fits.{AreReadBack}
 use Rattle.seg_meta.specs.View.{meta_of}
+use Rattle.seg_model.specs.Input.{Input}
+use Rattle.seg_merge.specs.IndexFiles.{output_id}
 use Rattle.seg_merge.specs.Turns.{both, goes_on, stops}
+use Rattle.seg_merge.proofs.BuildOnDisk.{build_leaves}
 use Rattle.seg_merge.proofs.Built.{not_begun}
 use Rattle.seg_merge.proofs.Exits.{exits}
+use Rattle.seg_merge.proofs.MetasBack.{output_fits}
 use Rattle.seg_merge.proofs.Stopped.{stopped_fresh, stopped_refused, stopped_untold, stopped_whole}
 use Rattle.seg_merge.proofs.WholeRefused.{settings_suit}
 use Rattle.seg_merge.proofs.Written.{builds_both}
@@ -24,6 +29,8 @@ returns-in-Ok-write_indexes-clause-ends g c =
     c.in-Ok-write_indexes.ensures.built c.in-Ok-write_indexes.ensures.does
     c.joining_is_invisible.ensures c.built_parts_join.ensures c.built_schemas_have_no_columns.ensures
     c.files_hold_one_contents.ensures
+    (subst (λ (x : Input). AreReadBack x.settings x.schema) c.input.view_is c.schema_reads_back.ensures)
+    (subst (λ (x : Input). output_id x.ids < 2 ^ 128) c.input.view_is (output_fits _ c.ids_fit.ensures))
 
 pub returns-in-Ok-write_indexes-clause-calls : goal.returns-in-Ok-write_indexes-clause-calls
 returns-in-Ok-write_indexes-clause-calls g c =
@@ -50,6 +57,11 @@ returns-in-Err-write_indexes-clause-ends g c =
       untold = stopped_untold knows F i fits settings admitted e before after exit;
       fresh = stopped_fresh knows F i fits settings admitted e before after exit;
       whole = stopped_whole knows F i fits settings admitted e before after exit;
+      any_moment = λ told clean.
+          build_leaves F i fits (subst (λ (x : Input). AreReadBack x.settings x.schema) c.input.view_is c.schema_reads_back.ensures)
+          (subst (λ (x : Input). output_id x.ids < 2 ^ 128) c.input.view_is (output_fits _ c.ids_fit.ensures))
+          c.files_hold_one_contents.ensures c.joining_is_invisible.ensures c.built_parts_join.ensures before told clean _ after
+          c.in-Err-write_indexes.ensures.does;
     }
 
 pub returns-in-Err-write_indexes-clause-calls : goal.returns-in-Err-write_indexes-clause-calls

@@ -4,6 +4,8 @@ use Rattle.seg_model.specs.Input.{Filter}
 use Rattle.seg_open.specs.Answers.{seen_as}
 use Rattle.seg_merge.specs.SegmentsMerged.{AreMerged, IsRefusal, MergesTo, merge_input}
 use Rattle.seg_merge.specs.Turns.{both}
+use Rattle.seg_merge.proofs.MergeOnDisk.{merge_leaves, merge_rests_so, refused_leaves}
+use Rattle.seg_merge.proofs.MergeTurns.{unanswered}
 use Rattle.seg_merge.proofs.MergeSaid.{merged_complete, merged_does, merged_error, merged_fresh, merged_index, merged_meta, merged_output, merged_refused, merged_stays, merged_undamaged, merged_whole, refused_complete, refused_does, refused_error, refused_fresh, refused_so, refused_undamaged}
 use Rattle.seg_merge.proofs.filtered_merging.merge_filtered_segments.Goals as goal
 
@@ -178,6 +180,36 @@ returns-in-Ok-clause-complete g c can =
     (λ (fs : List (Option Filter)). MergesTo (merge_input c.args.segments.now c.args.target_settings fs c.args.id)
     (seen_as meta_of r) a b) c.deref-in-Ok.ensures.value c.merge_checked.ensures in
     merged_complete m merged meta_of r a b to can
+
+pub returns-in-Ok-clause-any_moment : goal.returns-in-Ok-clause-any_moment
+returns-in-Ok-clause-any_moment g c told clean =
+    let m = merge_input c.args.segments.now c.args.target_settings c.args.filters.items c.args.id in
+    let a = both (g.W.Directory.state c.args.work.now) (g.O.Directory.state c.args.output.now) in
+    let b = both (g.W.Directory.state c.merge_checked.new.work) (g.O.Directory.state c.merge_checked.new.output) in
+    let r = c.merge_checked.result in
+    let to =
+    subst
+    (λ (fs : List (Option Filter)). MergesTo (merge_input c.args.segments.now c.args.target_settings fs c.args.id)
+    (seen_as meta_of r) a b) c.deref-in-Ok.ensures.value c.merge_checked.ensures in
+    merge_leaves m c.in-Ok.ensures.reads c.id_fits.ensures a told clean r b (unanswered m meta_of r a b to)
+
+pub returns-in-Ok-clause-at_rest : goal.returns-in-Ok-clause-at_rest
+returns-in-Ok-clause-at_rest g c told clean =
+    let m = merge_input c.args.segments.now c.args.target_settings c.args.filters.items c.args.id in
+    let a = both (g.W.Directory.state c.args.work.now) (g.O.Directory.state c.args.output.now) in
+    let b = both (g.W.Directory.state c.merge_checked.new.work) (g.O.Directory.state c.merge_checked.new.output) in
+    let r = c.merge_checked.result in
+    let to =
+    subst
+    (λ (fs : List (Option Filter)). MergesTo (merge_input c.args.segments.now c.args.target_settings fs c.args.id)
+    (seen_as meta_of r) a b) c.deref-in-Ok.ensures.value c.merge_checked.ensures in
+    merge_rests_so m c.in-Ok.ensures.reads c.id_fits.ensures a told clean r b (unanswered m meta_of r a b to)
+
+pub returns-clause-any_moment : goal.returns-clause-any_moment
+returns-clause-any_moment g c told clean =
+    let m = merge_input c.args.segments.now c.args.target_settings c.args.filters.items c.args.id in
+    let a = both (g.W.Directory.state c.args.work.now) (g.O.Directory.state c.args.output.now) in
+    refused_leaves m a clean
 
 pub returns-clause-does : goal.returns-clause-does
 returns-clause-does g c =

@@ -5,7 +5,7 @@ use Rattle.seg_directory.specs.Works.{calls}
 use Rattle.seg_merge.proofs.index_files.save_index.Goals as goal
 
 pub returns-in-Ok : goal.returns-in-Ok
-returns-in-Ok g c = then_does c.in-Ok.ensures c.sync_files.ensures.does
+returns-in-Ok g c = then_does c.in-Ok.ensures.does c.sync_files.ensures.does
 
 pub returns-in-Err : goal.returns-in-Err
-returns-in-Err g c = stops (calls synced ∷ []) c.in-Err.ensures
+returns-in-Err g c = stops (calls synced ∷ []) c.in-Err.ensures.does

@@ -1,0 +1,24 @@
+-- What the files of an output index may be found as, after a crash at any moment.
+use Rattle.seg_directory.specs.Files.{NamedFiles}
+use Rattle.seg_meta.specs.IndexOfFiles as index
+use Rattle.seg_meta.specs.IndexOfFiles.{Meta}
+use Rattle.seg_model.specs.Fields.{Analyzer}
+use Rattle.seg_model.specs.Input.{Input}
+use Rattle.seg_segment.specs.Forms.{segment_forms}
+use Rattle.seg_merge.specs.IndexFiles.{IsOutputIndexOf}
+use Rattle.seg_merge.specs.MergeAnswers.{IsMergeOf}
+use Rattle.seg_merge.specs.SegmentsMerged.{MergeInput, first_schema}
+
+-- the files are the merge of segments, by what the work files hold
+abbrev pub AreMergeOf : MergeInput → NamedFiles → NamedFiles → Type 0
+AreMergeOf m work files = (meta : Meta) × IsMergeOf m work (Unit {0}) files meta
+
+-- no index, the empty one, or the merge of segments
+abbrev pub MayBeMerged : MergeInput → NamedFiles → NamedFiles → Type 0
+MayBeMerged m work files =
+    index.OpensAs segment_forms files m.settings (first_schema m.segments) (AreMergeOf m work files)
+
+-- no index, the empty one, or the output index of an input
+abbrev pub MayBeBuilt : Analyzer → Input → NamedFiles → Type 0
+MayBeBuilt analyzer input files =
+    index.OpensAs segment_forms files input.settings input.schema (IsOutputIndexOf analyzer input files)
