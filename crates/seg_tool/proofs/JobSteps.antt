@@ -6,7 +6,7 @@ use Rattle.std.specs.List.{AllByRecursion}
 use Rattle.seg_values.specs.declared.error.ArgumentCause.TheVariants.{Documents, NoSegments}
 use Rattle.seg_values.specs.declared.error.TantivyError.{TantivyError}
 use Rattle.seg_values.specs.declared.error.TantivyError.TheVariants.{IndexAlreadyExists, InvalidArgument, OutOfMemory}
-use Rattle.seg_directory.specs.State.{DirectoryState}
+use Rattle.seg_directory.specs.State.{DirectoryState, HasOnly, IsEmptyDisk, LeavesOnly}
 use Rattle.seg_meta.specs.IndexOfFiles as index
 use Rattle.seg_meta.specs.IndexOfFiles.{ListedSegment}
 use Rattle.seg_meta.specs.Metas.{SegmentParts, segment_of}
@@ -21,12 +21,14 @@ use Rattle.seg_segment.specs.Forms.{segment_forms}
 use Rattle.seg_open.specs.SegmentOpened.{IsNoDamage}
 use Rattle.seg_refusals.specs.Admitted.{IsValidIf}
 use Rattle.seg_refusals.specs.Refusals.{first_error, refusal_error}
+use Rattle.seg_merge.specs.AfterCrash.{MayBeBuilt, MayBeMerged}
 use Rattle.seg_merge.specs.DirectoryCalls.{BuildsIndexes}
 use Rattle.seg_merge.specs.IndexFiles.{IsOutputIndexOf, IsWorkIndexOf, merged_meta, output_id, work_ids}
 use Rattle.seg_merge.specs.SegmentsMerged.{AreOfOne, IsRefusal, MergeInput, MergesSegments, merge_input, one_refusal}
 use Rattle.seg_merge.specs.Turns.{Directories, both, stops}
 use Rattle.seg_tool.specs.Jobs.{AreEmpty, Built, BuildsBoth, Merges, NotBuilt, last_id, merge_of}
 use Rattle.seg_tool.specs.ReadingBack.{listed_in}
+use Rattle.seg_tool.proofs.OutputOnDisk.{empty_still}
 
 -- ---- both indexes are built
 
@@ -66,9 +68,11 @@ module _ (known : Known) (analyzer : Analyzer) (input : Input) (w q v p : Direct
       → (IsTrue q.tells → OnOk r (len q.files ≡ 0))
       → (IsTrue w.tells → len w.files ≡ 0 → IsTrue q.tells → len q.files ≡ 0 → r ≢ Err IndexAlreadyExists)
       → (IsTrue w.tells → IfErr r IsNoDamage)
+      → (IsTrue w.tells → IsEmptyDisk q.disk → LeavesOnly (MayBeBuilt analyzer input) q.disk p.disk)
+      → (IsTrue w.tells → IsEmptyDisk q.disk → OnOk r (HasOnly (IsOutputIndexOf analyzer input) p.disk.now))
       → BuildsIndexes known analyzer input r a b
       → BuildsBoth known analyzer input r a b
-  built_so (Ok metas) first untouched refused untold valid meta work_index work_was_empty output_index output_meta output_was_empty fresh whole calls = record {
+  built_so (Ok metas) first untouched refused untold valid meta work_index work_was_empty output_index output_meta output_was_empty fresh whole any_moment at_rest calls = record {
     admitted = none_of (first_error known analyzer input) metas first;
     valid = valid;
     work_was_empty = work_was_empty;
@@ -76,14 +80,17 @@ module _ (known : Known) (analyzer : Analyzer) (input : Input) (w q v p : Direct
     output_was_empty = output_was_empty;
     output_meta = λ told. (meta.0, output_meta told ∙ ap Some meta.1);
     output_index = output_index;
+    any_moment = any_moment;
+    at_rest = at_rest;
     calls = calls;
   }
-  built_so (Err e) first untouched refused untold valid meta work_index work_was_empty output_index output_meta output_was_empty fresh whole calls = record {
+  built_so (Err e) first untouched refused untold valid meta work_index work_was_empty output_index output_meta output_was_empty fresh whole any_moment at_rest calls = record {
     first = first_as (first_error known analyzer input) e first untouched;
     refused = refused;
     untold = untold;
     fresh = λ empty is. fresh empty.work_tells empty.work empty.output_tells empty.output (ap failing is);
     whole = whole;
+    any_moment = any_moment;
     calls = calls;
   }
 
@@ -119,6 +126,8 @@ module _ (metas : IndexMeta) where
         output_whole = λ told. tt;
         fresh = λ told none is. cc is;
         complete = λ can. refl;
+        any_moment = λ told clean. empty_still (MayBeMerged (merge_of metas) a.work.files) (λ files none. inl none) a.output.disk clean;
+        at_rest = λ told clean. tt;
       }
 
   -- what is handed to the merge

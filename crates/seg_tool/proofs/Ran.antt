@@ -66,7 +66,7 @@ module _ {known : Known} {analyzer : Analyzer} {detail : Detail} {bytes text : L
   admits = ap (first_of known analyzer) prints.is_script ∙ what.built.admitted
 
 -- a fact of all bytes that were left
-of_all : (left : Option (List ℕ)) (bytes : List ℕ) (P : List ℕ → Type 0) → IsAllOf left bytes → P bytes → IfSome left P
+pub of_all : (left : Option (List ℕ)) (bytes : List ℕ) (P : List ℕ → Type 0) → IsAllOf left bytes → P bytes → IfSome left P
 of_all None bytes P all p = tt
 of_all (Some xs) bytes P all p = subst P all p
 
@@ -95,7 +95,7 @@ written_idle P = record { at_done = tt; at_script = tt; at_stream = tt; at_memor
 -- ---- the run, by how it ends
 
 -- the source fails, has too many bytes, or memory runs out; the script ends it, or its text is written, or not
-data Exits {K : Type 0} (known : Known) (analyzer : Analyzer) (detail : Detail) (status : Status) (sink sink_after : K) (a b : World) : Type 0 where
+pub data Exits {K : Type 0} (known : Known) (analyzer : Analyzer) (detail : Detail) (status : Status) (sink sink_after : K) (a b : World) : Type 0 where
   x_read : status ≡ Stream → Rose a.source.faults b.source.faults → Takes a.source b.source → sink_after ≡ sink → b.sink ≡ a.sink → b.directories ≡ a.directories
       → Exits known analyzer detail status sink sink_after a b
   x_long : status ≡ Script → IfSome a.source.left (λ all. max_script < length all) → Takes a.source b.source → sink_after ≡ sink → b.sink ≡ a.sink → b.directories ≡ a.directories
@@ -128,7 +128,7 @@ module _ {K : Type 0} {known : Known} {analyzer : Analyzer} {detail : Detail} {s
   by_job bytes takes (no_text does same_sink none) = x_ended bytes takes (script_ends does) same_sink none
   by_job bytes takes (has_text text does writes) = by_text bytes text takes (script_prints does) writes
 
-  exits : RunsBuild known analyzer detail status sink sink_after a b → Exits known analyzer detail status sink sink_after a b
+  pub exits : RunsBuild known analyzer detail status sink sink_after a b → Exits known analyzer detail status sink sink_after a b
   exits (not_read is rose takes same_sink none same) = x_read is rose takes same_sink none same
   exits (too_long is long takes same_sink none same) = x_long is long takes same_sink none same
   exits (starved is takes same_sink none same) = x_starved is takes same_sink none same

@@ -1,9 +1,10 @@
 -- What the jobs of the program do with the two directories, in turn, and what text they make.
-use Rattle.std.specs.Prelude.{ℕ, ◌≡◌, ◌≢◌, ◌⊎◌, ◌-◌, ◌^◌, List, [], map, codes, Some, None, Result, Ok, Err, IfErr, IfOk, IfSome, IsSome, IsTrue}
+use Rattle.std.specs.Prelude.{ℕ, ◌≡◌, ◌≢◌, ◌⊎◌, ◌-◌, ◌^◌, List, [], map, codes, Some, None, Result, Ok, Err, IfErr, IfOk, IfSome, IsSome, IsTrue, OnOk}
 use Rattle.std.specs.FinMap.{len}
 use Rattle.seg_values.specs.declared.error.ArgumentCause.TheVariants.{Documents, Later}
 use Rattle.seg_values.specs.declared.error.TantivyError.{TantivyError}
 use Rattle.seg_values.specs.declared.error.TantivyError.TheVariants.{IndexAlreadyExists, InvalidArgument, OutOfMemory}
+use Rattle.seg_directory.specs.State.{HasOnly, IsEmptyDisk, LeavesOnly}
 use Rattle.seg_meta.specs.MetaSteps.{LoadsMetas}
 use Rattle.seg_meta.specs.View.{meta_of}
 use Rattle.seg_meta.specs.declared.index_meta.IndexMeta.{IndexMeta}
@@ -14,6 +15,8 @@ use Rattle.seg_model.specs.Valid.{Known}
 use Rattle.seg_open.specs.SegmentOpened.{IsNoDamage}
 use Rattle.seg_refusals.specs.Admitted.{IsValidIf}
 use Rattle.seg_refusals.specs.Refusals.{first_error, refusal_error}
+use Rattle.seg_merge.specs.AfterCrash.{AreMergeOf, MayBeMerged}
+use Rattle.seg_merge.specs.Builds.{LeavesBuilt}
 use Rattle.seg_merge.specs.DirectoryCalls.{BuildsIndexes}
 use Rattle.seg_merge.specs.IndexFiles.{IsMergedIndexOf, IsOutputIndexOf, IsWorkIndexOf}
 use Rattle.seg_merge.specs.MergeAnswers.{CanBeMerged, IsMergeError, IsMergeOf, IsWholeIndex, LiveAreWhole}
@@ -45,6 +48,9 @@ pub record Built (known : Known) (analyzer : Analyzer) (input : Input) (metas : 
   pub output_was_empty : IsTrue before.output.tells → len before.output.files ≡ 0
   pub output_meta : IsTrue before.output.tells → (documents : ℕ) × IsMergedIndexOf input documents after.output.files
   pub output_index : IsTrue before.work.tells → IsTrue before.output.tells → IsOutputIndexOf analyzer input after.output.files
+  pub any_moment : LeavesBuilt analyzer input before after
+  pub at_rest : IsTrue before.work.tells → IsEmptyDisk before.output.disk
+      → HasOnly (IsOutputIndexOf analyzer input) after.output.disk.now
   pub calls : BuildsIndexes known analyzer input (Ok metas) before after
 
 -- why an input is refused, or too many documents were read back
@@ -60,6 +66,7 @@ pub record NotBuilt (known : Known) (analyzer : Analyzer) (input : Input) (e : T
   pub untold : IfRefusal (IsWhyUntold known analyzer input) e
   pub fresh : AreEmpty before → e ≢ IndexAlreadyExists
   pub whole : IsTrue before.work.tells → IsNoDamage e
+  pub any_moment : LeavesBuilt analyzer input before after
   pub calls : BuildsIndexes {T = IndexMeta} known analyzer input (Err e) before after
 
 -- either of them
@@ -97,6 +104,10 @@ pub record Merges (m : MergeInput) (result : Result IndexMeta TantivyError) (bef
   pub output_whole : IsTrue before.output.tells → IfOk result (λ merged. IsWholeIndex after.output.files (meta_of merged))
   pub fresh : IsTrue before.output.tells → len before.output.files ≡ 0 → result ≢ Err IndexAlreadyExists
   pub complete : CanBeMerged m before after → IfErr result (λ e. e ≡ OutOfMemory)
+  pub any_moment : IsTrue before.work.tells → IsEmptyDisk before.output.disk
+      → LeavesOnly (MayBeMerged m before.work.files) before.output.disk after.output.disk
+  pub at_rest : IsTrue before.work.tells → IsEmptyDisk before.output.disk
+      → OnOk result (HasOnly (AreMergeOf m before.work.files) after.output.disk.now)
 
 -- the meta of the work index is read, and the segments that it lists are merged
 abbrev pub MergesWork : Result IndexMeta TantivyError → Directories → Directories → Type 0

@@ -1,3 +1,4 @@
+pub mod AfterCrash
 pub mod DirectoryCalls
 pub mod Indexes
 pub mod Jobs

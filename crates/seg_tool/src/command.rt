@@ -5,12 +5,14 @@ ghost use Rattle.std.specs.Io.KnownBytes.{Appends, IsAtEnd};
 ghost use Rattle.seg_common.specs.Causes.{Rose};
 ghost use Rattle.seg_common.specs.Idle.{OnlyLastIsIdle};
 ghost use Rattle.seg_common.specs.Streams.{AppendsPart, TakesAtMost};
-ghost use Rattle.seg_directory.specs.State.{DirectoryState};
+ghost use Rattle.seg_directory.specs.DiskChanges.{KeepsDisk};
+ghost use Rattle.seg_directory.specs.State.{DirectoryState, IsEmptyDisk};
 ghost use Rattle.seg_merge.specs.Taken.{gained};
 ghost use Rattle.seg_merge.specs.Turns.{both};
 ghost use Rattle.seg_open.specs.Answers.{seen_as};
 ghost use Rattle.seg_script.specs.Script.{json_of, script};
 ghost use Rattle.seg_segment.specs.Built.{is_built_schema};
+ghost use Rattle.seg_tool.specs.AfterCrash.{CrashLeaves};
 ghost use Rattle.seg_tool.specs.DirectoryCalls.{BuildDoes, IsReady, JobDoes};
 ghost use Rattle.seg_tool.specs.Indexes.{HasMergeableIndex, HasWholeIndex, HasWholeLiveSegments, IsMergedText, IsShownText};
 ghost use Rattle.seg_tool.specs.Jobs.{BuildsScript, MergesText, ShowsText, WithStatus};
@@ -49,6 +51,9 @@ const MAX_SCRIPT: usize = 67_108_864;
 /// An index is printed out of its directory: its meta is read, and then each segment that it lists is opened and printed
 /// before the next. The text goes to the sink once it is whole. On any status but `Done` one line is written to `faults`; a
 /// failing write there changes nothing. What is written to a directory before it fails stays there.
+///
+/// Of an output that has nothing on its disk, a crash at any moment of the run leaves no index, the empty one, or the whole
+/// one; and on `Done` the whole one. `merge` and `show` change nothing that a crash may leave of the work directory.
 pub fn run<S: Source, K: Sink, F: Sink, Z: Analyzers, W: Directory, O: Directory>(
     alloc: Global,
     words: &[String],
@@ -146,6 +151,13 @@ pub fn run<S: Source, K: Sink, F: Sink, Z: Analyzers, W: Directory, O: Directory
     ensures unwritten_words { result ≡ Status.Words → W.state work.new ≡ W.state work.old }
     ensures output_unwritten_script { result ≡ Status.Script → O.state output.new ≡ O.state output.old }
     ensures output_unwritten_words { result ≡ Status.Words → O.state output.new ≡ O.state output.old }
+
+    // What a crash leaves of an output that had nothing, at any moment and once the run is done.
+    ensures any_moment { IsTrue (W.state work.old).tells → IsEmptyDisk (O.state output.old).disk
+        → CrashLeaves (Z.tokens_of analyzers.now) (command_of words.now) (S.left source.old) result
+        (both (W.state work.old) (O.state output.old)) (both (W.state work.new) (O.state output.new)) }
+    ensures work_disk { UnlessBuild (command_of words.now) (IsTrue (W.state work.old).disk.told
+        → KeepsDisk (W.state work.old).disk (W.state work.new).disk) }
 
     // What is taken of the source.
     ensures end { IfBuild (command_of words.now) (λ _. result ≡ Status.Done → IsAtEnd (S.left source.new)) }

@@ -5,6 +5,7 @@ use Rattle.seg_tool.proofs.Endings.{completes, no-stream}
 use Rattle.seg_tool.proofs.JobLaws.{is_merged, is_shown, job_completes, job_does, job_each, job_gains, job_stream, merges_stay, show_starves, shows_stay}
 use Rattle.seg_tool.proofs.MergeLaws.{ended_fresh, ended_whole, merges_starve}
 use Rattle.seg_tool.proofs.Ran.{ran_does, ran_done, ran_end, ran_end_refused, ran_end_written, ran_fault, ran_first, ran_fresh, ran_json, ran_no_words, ran_output_index, ran_output_meta, ran_output_was_empty, ran_refused, ran_script, ran_stream, ran_untold, ran_valid, ran_whole, ran_work_index, ran_work_was_empty, ran_written, ran_reads}
+use Rattle.seg_tool.proofs.RunOnDisk.{run_keeps, run_leaves}
 use Rattle.seg_tool.proofs.command.run.Goals as goal
 
 pub returns-clause-words : goal.returns-clause-words
@@ -104,6 +105,12 @@ returns-clause-output_unwritten_script g c is = ap (λ s. s.output) (run_no_scri
 
 pub returns-clause-output_unwritten_words : goal.returns-clause-output_unwritten_words
 returns-clause-output_unwritten_words g c is = ap (λ s. s.output) (run_no_words c.execute-status.ensures is)
+
+pub returns-clause-any_moment : goal.returns-clause-any_moment
+returns-clause-any_moment g c told clean = run_leaves c.execute-status.ensures told clean
+
+pub returns-clause-work_disk : goal.returns-clause-work_disk
+returns-clause-work_disk g c = run_keeps c.execute-status.ensures
 
 pub returns-clause-end : goal.returns-clause-end
 returns-clause-end g c = of_build c.execute-status.ensures _ (λ detail r. ran_end r)
