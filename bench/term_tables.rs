@@ -3,6 +3,7 @@
 //   rustc --edition 2024 -C opt-level=3 -o /tmp/term_tables bench/term_tables.rs && /tmp/term_tables SCRIPT [ROUNDS]
 //
 // tokens   a text of its own for each token, and then as own (as the program does)
+// short    the same, with texts of up to 15 bytes in the token itself
 // own      a list of occurrences for each term, in the table (as seg_build has it)
 // numbered terms have numbers; all occurrences are one list, sorted by number at the end (as plain.rs has it)
 // inline   as own, with keys of up to 15 bytes in the table itself
@@ -88,16 +89,17 @@ fn own(words: &[(u32, &[u8])]) -> usize {
     terms.iter().map(|(_, hits)| hits.iter().filter(|hit| hit.0 % 2 == 0).count()).sum()
 }
 
-fn tokens(words: &[(u32, &[u8])]) -> usize {
+// tokens of a document with their texts, each made by `text` and read by `bytes`, before they go into the table
+fn by_tokens<T>(words: &[(u32, &[u8])], text: fn(&[u8]) -> T, bytes: fn(&T) -> &[u8]) -> usize {
     let mut table: Table<Vec<u8>, Vec<(u32, u32)>> = Table::default();
     let mut at = 0;
     for document in words.chunk_by(|word, next| word.0 == next.0) {
-        let tokens: Vec<(Vec<u8>, usize)> = document.iter().map(|word| (word.1.to_vec(), word.1.len())).collect();
-        for (word, _) in &tokens {
-            match table.get_mut(word.as_slice()) {
+        let tokens: Vec<(T, usize)> = document.iter().map(|word| (text(word.1), word.1.len())).collect();
+        for (token, _) in &tokens {
+            match table.get_mut(bytes(token)) {
                 Some(hits) => hits.push((document[0].0, at)),
                 None => {
-                    table.insert(word.clone(), vec![(document[0].0, at)]);
+                    table.insert(bytes(token).to_vec(), vec![(document[0].0, at)]);
                 }
             }
             at += 1;
@@ -106,6 +108,14 @@ fn tokens(words: &[(u32, &[u8])]) -> usize {
     let mut terms: Vec<_> = table.into_iter().collect();
     terms.sort_unstable_by(|a, b| a.0.cmp(&b.0));
     terms.iter().map(|(_, hits)| hits.iter().filter(|hit| hit.0 % 2 == 0).count()).sum()
+}
+
+fn tokens(words: &[(u32, &[u8])]) -> usize {
+    by_tokens(words, |word| word.to_vec(), |text| text.as_slice())
+}
+
+fn short(words: &[(u32, &[u8])]) -> usize {
+    by_tokens(words, Key::of, Key::bytes)
 }
 
 fn inline(words: &[(u32, &[u8])]) -> usize {
@@ -170,8 +180,8 @@ fn main() {
     let rounds = given.next().map_or(3, |word| word.parse().expect("a number"));
     let words = words(&script);
     println!("{} words", words.len());
-    let forms: [(&str, fn(&[(u32, &[u8])]) -> usize); 5] =
-        [("tokens", tokens), ("own", own), ("numbered", numbered), ("inline", inline), ("both", both)];
+    let forms: [(&str, fn(&[(u32, &[u8])]) -> usize); 6] =
+        [("tokens", tokens), ("short", short), ("own", own), ("numbered", numbered), ("inline", inline), ("both", both)];
     for (name, form) in forms {
         let mut least = f64::MAX;
         let mut said = 0;
