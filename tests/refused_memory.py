@@ -47,8 +47,7 @@ def delete(text):
 
 
 SCRIPTS = {
-    'one batch with deletes': {
-        'schema': FIELD, 'operations': [add('Red mug'), add('blue mug, red rim'), delete('blue'), add('Tea tin'), delete('none')]},
+    'add, delete, add': {'schema': FIELD, 'operations': [add('a'), delete('a'), add('a')]},
     'filters': {
         'schema': FIELD, 'operations': [add('a b'), add('b c'), add('c d'), add('d e'), delete('e')], 'cuts': [2],
         'filters': [{'size': 2, 'drop': [1]}, {'size': 2, 'drop': [0]}]},
