@@ -3,7 +3,7 @@
 
 usage: refused_memory.py PROGRAM [--every K]
 
-The runs are `build` of three tiny scripts (a batch with deletes, one with filters, one with four batches), and `merge` and `show` over
+The runs are `build` of three tiny scripts (two documents and a delete between them, one with filters, one with four batches), and `merge` and `show` over
 the work index of the last one. Each is run in a fresh folder with its first request refused, then with its second one, and so on, up
 to the first number that it doesn't come to; with --every K only each K-th number is tried. A run is right if it ends
 
