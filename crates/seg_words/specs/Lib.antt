@@ -3,6 +3,7 @@ pub mod Grows
 pub mod InWords
 pub mod Registered
 pub mod Same
+pub mod Texts
 pub mod Tokenizers
 pub mod Utf8
 pub mod Words

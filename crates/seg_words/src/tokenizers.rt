@@ -114,24 +114,27 @@ fn push_words<C: Cut>(alloc: Global, text: &str, out: &mut Tokens) -> Result<(),
     ensures ok { OnOk result (out.new ≡ out.old ++ tokens_cut C.separates C.kept text.now) }
     ensures err { OnErr result (Keeps out.old out.new) }
 {
+    let mut kept = String::new(alloc);
     let mut from = 0;
     let mut count = 0;
     for (at, byte) in text.as_bytes().iter().enumerate() {
         if C::separates(*byte) {
-            count = push_word::<C>(alloc, &text[from..at], from, count, out)?;
+            count = push_word::<C>(alloc, &text[from..at], from, count, &mut kept, out)?;
             from = at + 1;
         }
     }
-    let _ = push_word::<C>(alloc, &text[from..], from, count, out)?;
+    let _ = push_word::<C>(alloc, &text[from..], from, count, &mut kept, out)?;
     Ok(())
 }
 
-/// Appends the token of a word unless it is empty, and gives the index of the next word.
+/// Appends the token of a word unless it is empty, and gives the index of the next word. `kept` lends its room to what
+/// is kept of a word.
 fn push_word<C: Cut>(
     alloc: Global,
     word: &str,
     from: usize,
     index: usize,
+    kept: &mut String,
     out: &mut Tokens,
 ) -> Result<usize, AllocError>
     requires range { from + length word.now < 2 ^ 64 }
@@ -143,14 +146,15 @@ fn push_word<C: Cut>(
     if word.is_empty() {
         return Ok(index);
     }
-    let mut text = String::from_str(alloc, word)?;
-    C::keep(&mut text);
+    kept.clear();
+    kept.push_str(word)?;
+    C::keep(kept);
     out.push(Token {
         offset_from: from,
         offset_to: from + word.len(),
         position: u32::try_from(index).unwrap_or(u32::MAX),
         position_length: 1,
-        text: Text::from_string(text),
+        text: Text::copy_of(alloc, kept.as_str())?,
     })?;
     Ok(index + 1)
 }

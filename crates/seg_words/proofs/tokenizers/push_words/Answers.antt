@@ -1,4 +1,5 @@
-use Rattle.std.proofs.Common.{◌≡◌, ◌<◌, ◌+◌, ◌∷◌, ◌++◌, [], true, length, sym, ◌∙◌, ap, get_or, arith, subst}
+use Rattle.std.proofs.Common.{rules, ◌≡◌, ◌<◌, ◌+◌, ◌∷◌, ◌++◌, [], true, length, sym, ◌∙◌, ap, get_or, arith, subst}
+use Rattle.seg_words.specs.Grows.{Keeps}
 use Rattle.seg_words.specs.Words.{words, numbered}
 use Rattle.seg_words.proofs.Cutting.{IsCut, IsCut-start, IsCut-skipped, IsCut-cut, IsCut-end}
 use Rattle.seg_words.proofs.tokenizers.push_words.Goals as goal
@@ -32,3 +33,13 @@ returns-clause-ok g c =
     IsCut-end g.C.Cut.separates g.C.Cut.kept c.args.text.now c.args.out.now c.loop-at.from c.loop-at.count c.loop-at.out c.push_word-2.new.out
     (subst (λ at. IsCut g.C.Cut.separates g.C.Cut.kept c.args.text.now c.args.out.now c.loop-at.from at c.loop-at.count c.loop-at.out) all c.loop-at.invariant)
     (c.in_ok-push_word.ensures.ok ∙ ap (λ word. c.loop-at.out ++ numbered g.C.Cut.kept c.loop-at.count (words ((c.loop-at.from, word) ∷ []))) c.range_from.ensures.value)
+
+pub returns-in_err-count-clause-err : goal.returns-in_err-count-clause-err
+returns-in_err-count-clause-err g c =
+    let keeps : Keeps c.args.out.now c.push_word.new.out = subst (Keeps c.args.out.now) (sym c.in_err-count.ensures.err) c.loop-at.invariant.keeps in
+    search rules
+
+pub returns-in_err-push_word-clause-err : goal.returns-in_err-push_word-clause-err
+returns-in_err-push_word-clause-err g c =
+    let keeps : Keeps c.args.out.now c.push_word-2.new.out = subst (Keeps c.args.out.now) (sym c.in_err-push_word.ensures.err) c.loop-at.invariant.keeps in
+    search rules
