@@ -11,30 +11,15 @@ use Rattle.std.specs.declared.cmp.Ordering.TheVariants.{Less, Equal, Greater}
 use Rattle.std.specs.FinMap.{get, insert, get-insert, same_map}
 use Rattle.std.proofs.lemmas.Slice.Eq.{bytes_eq-Decides}
 use Rattle.seg_directory.specs.Disk.{PendingChange, Written, exactly, may_leave, may_hold, with_change}
-use Rattle.seg_directory.specs.FileDisks.{NamedFiles, FileDisk, settled, StableFilesAreAnImage, SettledFilesAreTheOnlyImage, ChangesLeaveTheirName, SavedFilesAreOneOfTwo}
+pub use Rattle.seg_directory.specs.LatestFiles.{same_state, own_state, either, left_true, right_true}
+use Rattle.seg_directory.specs.FileDisks.{NamedFiles, FileDisk, settled, SettledFilesAreTheOnlyImage, SavedFilesAreOneOfTwo}
+use Rattle.seg_directory.specs.Images.{StableFilesAreAnImage, ChangesLeaveTheirName}
 use Rattle.seg_common.specs.Names.{name_cmp, name_cmp_total, name_cmp_exact}
 use Rattle.seg_common.specs.declared.name.FileName.{FileName}
-
-pub same_state : (a b : Option (List ℕ)) → option_eq bytes_eq a b ≡ true → b ≡ a
-same_state None None e = refl
-same_state None (Some y) e = absurd (true≢false (sym e))
-same_state (Some x) None e = absurd (true≢false (sym e))
-same_state (Some x) (Some y) e = ap Some (sym ((bytes_eq-Decides x y).0 e))
-
-pub own_state : (a : Option (List ℕ)) → option_eq bytes_eq a a ≡ true
-own_state None = refl
-own_state (Some x) = (bytes_eq-Decides x x).1 refl
 
 or_right_false : (a : Bool) → (a || false) ≡ true → a ≡ true
 or_right_false true e = refl
 or_right_false false e = absurd (true≢false (sym e))
-
-pub left_true : (a b : Bool) → a ≡ true → (a || b) ≡ true
-left_true a b e = ap (λ x. x || b) e
-
-pub right_true : (a b : Bool) → b ≡ true → (a || b) ≡ true
-right_true true b e = refl
-right_true false b e = e
 
 or_assoc : (a b c : Bool) → (a || (b || c)) ≡ ((a || b) || c)
 or_assoc true b c = refl
@@ -44,10 +29,6 @@ or_false : (a : Bool) → (a || false) ≡ a
 or_false true = refl
 or_false false = refl
 
-pub either : (a b : Bool) → (a || b) ≡ true → (a ≡ true) ⊎ (b ≡ true)
-either true b e = inl refl
-either false b e = inr e
-
 pub and_second : (a b : Bool) → (a && b) ≡ true → b ≡ true
 and_second true b e = e
 and_second false b e = absurd (true≢false (sym e))
@@ -56,7 +37,7 @@ pub and_first : (a b : Bool) → (a && b) ≡ true → a ≡ true
 and_first true b e = refl
 and_first false b e = e
 
-pub stable_files_are_an_image : StableFilesAreAnImage
+pub stable_files_are_an_image : StableFilesAreAnImage name_cmp
 stable_files_are_an_image disk name = left_true _ _ (own_state (get disk.stable name))
 
 pub settled_files_are_the_only_image : SettledFilesAreTheOnlyImage
@@ -71,7 +52,7 @@ any-append name state changed written (c ∷ cs) =
     ap (λ b. (eq_by_cmp name_cmp c.name name && may_leave c.written state) || b) (any-append name state changed written cs)
     ∙ or_assoc (eq_by_cmp name_cmp c.name name && may_leave c.written state) _ _
 
-pub changes_leave_their_name : ChangesLeaveTheirName
+pub changes_leave_their_name : ChangesLeaveTheirName name_cmp
 changes_leave_their_name disk changed written name state =
     ap (λ b. option_eq bytes_eq (get disk.stable name) state || b) (any-append name state changed written disk.pending)
     ∙ or_assoc (option_eq bytes_eq (get disk.stable name) state) _ _

@@ -15,7 +15,7 @@ use Rattle.seg_directory.specs.Calls.{Call, listed, made, read, replaced, synced
 use Rattle.seg_directory.specs.Disk.{IsImage, PendingChange, Written, exactly, may_hold, may_leave, torn, with_change}
 use Rattle.seg_directory.specs.DiskChanges.{DiskFails, DiskGoes, Turns}
 use Rattle.seg_directory.specs.DiskRuns.{IsSameAt, KeepsOnDisk}
-use Rattle.seg_directory.specs.FileDisks.{FileDisk, IsWithin, MayReplace, MayTear, NamedFiles, settled}
+use Rattle.seg_directory.specs.FileDisks.{FileDisk, IsWithin, MayReplace, MayTear, NamedFiles}
 use Rattle.seg_directory.specs.State.{DirectoryState, DiskState, HasOnly}
 use Rattle.seg_directory.specs.Works.{Step, Works}
 use Rattle.seg_directory.specs.declared.error.DirectoryError.{DirectoryError}

@@ -5,14 +5,14 @@ use Rattle.std.specs.FinMap.{insert}
 use Rattle.seg_common.specs.declared.name.FileName.{FileName}
 use Rattle.seg_values.specs.declared.error.TantivyError.{TantivyError}
 use Rattle.seg_values.specs.declared.error.TantivyError.TheVariants.{OutOfMemory}
-use Rattle.seg_directory.specs.Calls.{Call, Goes, listed, replaced, synced}
+use Rattle.seg_directory.specs.Calls.{Call, listed, replaced, synced}
 use Rattle.seg_directory.specs.Disk.{IsImage, exactly, with_change}
 use Rattle.seg_directory.specs.DiskChanges.{DiskFails, DiskGoes, Turns}
 use Rattle.seg_directory.specs.DiskRuns.{SavesOnDisk}
 use Rattle.seg_directory.specs.Does.{GoesOn}
 use Rattle.seg_directory.specs.FileDisks.{FileDisk, IsWithin, IsWithinOr, MayReplace, NamedFiles, settled}
 use Rattle.seg_directory.specs.State.{DirectoryState, DiskState, HasOnly}
-use Rattle.seg_directory.specs.Works.{CallBreaks, Step, StepBreaks, StepGoes, Works, calls, failed, has_files}
+use Rattle.seg_directory.specs.Works.{Step, StepBreaks, StepGoes, Works, calls, failed, has_files}
 use Rattle.seg_directory.specs.declared.error.DirectoryError.{DirectoryError}
 use Rattle.seg_directory.proofs.DiskImages.{saved_files_are_one_of_two, stable_files_are_an_image}
 use Rattle.seg_directory.proofs.DiskWorks.{on_works, reads_only, turns_none, turns_on}

@@ -1,6 +1,5 @@
 -- What steps with a directory leave on its disk.
-use Rattle.std.proofs.Common.{◌≡◌, ℕ, List, [], ◌∷◌, Result, Ok, Err, inl, inr, IsTrue, refl, sym, subst, ◌∙◌}
-use Rattle.seg_common.specs.declared.name.FileName.{FileName}
+use Rattle.std.proofs.Common.{◌≡◌, List, [], ◌∷◌, Result, Ok, Err, inl, inr, IsTrue, refl, sym, subst}
 use Rattle.seg_values.specs.declared.error.TantivyError.{TantivyError}
 use Rattle.seg_values.specs.declared.error.TantivyError.TheVariants.{OutOfMemory}
 use Rattle.seg_directory.specs.Calls.{Call, listed, made, read, replaced, synced}

@@ -1,15 +1,14 @@
 -- What a call of a directory in memory makes of its disk.
 use Rattle.std.proofs.Common.{◌≡◌, inl, inr, ℕ, List, [], ◌∷◌, ◌++◌, refl, sym, ap, subst, ◌∙◌}
 use Rattle.seg_directory.specs.Disk.{IsImage, exactly, torn, with_change}
-use Rattle.seg_directory.specs.DiskCalls.{DiskCalls, disk_after, latest, latest_files, no_files, past_of, with_disk_call}
+use Rattle.seg_directory.specs.DiskCalls.{DiskCalls, disk_after, latest, latest_files, no_files, with_disk_call}
 use Rattle.seg_directory.specs.DiskChanges.{KeepsDisk, Turns}
 use Rattle.seg_directory.specs.FileDisks.{FileDisk, IsWithin, MayReplace, MayTear, NamedFiles, settled}
 use Rattle.seg_directory.specs.Memory.{told_disk}
-use Rattle.seg_directory.specs.declared.disk_call.DiskCall.{DiskCall}
 use Rattle.seg_directory.specs.declared.disk_call.DiskCall.TheVariants.{Unchanged, Created, Replaced, Synced}
 use Rattle.seg_common.specs.declared.name.FileName.{FileName}
 use Rattle.seg_directory.proofs.DiskImages.{settled_files_are_the_only_image}
-use Rattle.seg_directory.proofs.LatestFiles.{latest_is_an_image}
+use Rattle.seg_directory.specs.LatestFiles.{latest_is_an_image}
 use Rattle.seg_directory.proofs.Steps.{disk_step, files_synced, past_step}
 
 module _ (old : DiskCalls) where

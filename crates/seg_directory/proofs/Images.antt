@@ -1,5 +1,5 @@
 -- A name of which no change is pending is in each image as it is safe.
-use Rattle.std.proofs.Common.{◌≡◌, ℕ, Bool, true, false, ◌&&◌, ◌||◌, List, [], ◌∷◌, Some, None, Option, sym, refl, ap, ◌∙◌}
+use Rattle.std.proofs.Common.{◌≡◌, ℕ, Bool, true, false, ◌&&◌, ◌||◌, List, [], ◌∷◌, Option, sym, refl, ap, ◌∙◌}
 use mathlib.Core.Bool.{true≢false}
 use Rattle.std.specs.List.{list_any}
 use Rattle.std.specs.Option.{option_eq}
@@ -7,16 +7,10 @@ use Rattle.std.specs.Ordering.{eq_by_cmp}
 use Rattle.std.specs.Str.{bytes_eq}
 use Rattle.std.specs.declared.cmp.Ordering.{Ordering}
 use Rattle.std.specs.FinMap.{get}
-use Rattle.std.proofs.lemmas.Slice.Eq.{bytes_eq-Decides}
 use Rattle.seg_directory.specs.Disk.{PendingChange, may_leave}
 use Rattle.seg_directory.specs.Images.{UntouchedNamesStay}
+use Rattle.seg_directory.specs.LatestFiles.{same_state}
 use Rattle.seg_common.proofs.Tables.{first_false, second_false}
-
-same_state : (a b : Option (List ℕ)) → option_eq bytes_eq a b ≡ true → b ≡ a
-same_state None None e = refl
-same_state None (Some y) e = absurd (true≢false (sym e))
-same_state (Some x) None e = absurd (true≢false (sym e))
-same_state (Some x) (Some y) e = ap Some (sym ((bytes_eq-Decides x y).0 e))
 
 or_right_false : (a b : Bool) → b ≡ false → (a || b) ≡ true → a ≡ true
 or_right_false true b h e = refl

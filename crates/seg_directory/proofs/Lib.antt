@@ -11,7 +11,6 @@ mod Doing
 mod Entries
 mod Exits
 mod Images
-mod LatestFiles
 mod Listing
 mod MemoryCalls
 mod Moments

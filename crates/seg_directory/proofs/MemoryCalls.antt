@@ -1,5 +1,5 @@
 -- What a call of a directory in memory comes to.
-use Rattle.std.proofs.Common.{◌≡◌, ◌≤◌, inl, ℕ, List, [], ◌∷◌, ◌++◌, IsTrue, Result, Err, IsErrAnd, refl, sym, ap, subst, ◌∙◌, arith}
+use Rattle.std.proofs.Common.{◌≡◌, ◌≤◌, inl, ℕ, [], ◌++◌, Result, Err, IsErrAnd, refl, sym, ap, subst, ◌∙◌, arith}
 use Rattle.std.proofs.lemmas.List.{append-nil}
 use Rattle.std.proofs.lemmas.Result.{err_from_is_err_and}
 use Rattle.std.specs.FinMap.{get}
@@ -8,23 +8,19 @@ use Rattle.seg_common.specs.declared.name.FileName.{FileName}
 use Rattle.seg_directory.specs.CallRecord.{Calls}
 use Rattle.seg_directory.specs.Calls.{Call, CanFail, Fails, Goes, Keeps, Leaves, Refuses, Suits, listed, made, read, replaced, synced, told_failing}
 use Rattle.seg_directory.specs.Disk.{IsImage}
-use Rattle.seg_directory.specs.DiskCalls.{DiskCalls, disk_after, latest_files, no_files, with_disk_call}
-use Rattle.seg_directory.specs.DiskChanges.{DiskFails, KeepsDisk, ReadsAnImage, Turns}
+use Rattle.seg_directory.specs.DiskCalls.{DiskCalls, latest_files, with_disk_call}
+use Rattle.seg_directory.specs.DiskChanges.{DiskFails, KeepsDisk, Turns}
 use Rattle.seg_directory.specs.FileDisks.{FileDisk, IsWithin, MayTear, NamedFiles}
 use Rattle.seg_directory.specs.Memory.{MemoryState, files_of, memory_state, memory_went, told_disk}
+use Rattle.seg_directory.specs.LatestFiles.{reads_an_image}
 use Rattle.seg_directory.specs.State.{DiskState}
 use Rattle.seg_directory.specs.declared.disk_call.DiskCall.TheVariants.{Unchanged}
 use Rattle.seg_directory.specs.declared.error.DirectoryError.{DirectoryError}
 use Rattle.seg_directory.specs.declared.error.DirectoryError.TheVariants.{Missing, Exists, Fault, OutOfMemory}
 use Rattle.seg_directory.proofs.Exits as exits
-use Rattle.seg_directory.proofs.LatestFiles.{latest_is_an_image}
 use Rattle.seg_directory.proofs.Moments.{passes_weaker, started}
 use Rattle.seg_directory.proofs.OtherFiles.{keeps_others}
 use Rattle.seg_directory.proofs.Steps.{files_created, files_replaced, files_synced, files_unchanged}
-
--- what is read of it is one of its images
-pub reads_an_image : (s : MemoryState) → IsTrue (memory_state s).disk.told → ReadsAnImage (memory_state s)
-reads_an_image s told = record { tells = told; image = latest_is_an_image (disk_after no_files s.disk.calls) }
 
 -- an answer that is out of memory
 pub starved_answer : {T : Type 0} (r : Result T DirectoryError) → IsErrAnd r (λ e. e ≡ OutOfMemory) → r ≡ Err OutOfMemory

@@ -9,7 +9,7 @@ use Rattle.seg_common.specs.declared.name.FileName.{FileName}
 use Rattle.seg_directory.proofs.DiskImages.{same_name, stable_files_are_an_image}
 use Rattle.std.specs.declared.alloc.AllocError.{AllocError}
 use Rattle.seg_directory.specs.DiskCalls.{DiskRecordState, bytes_left, latest, latest_over, without, after_call, disk_after, no_files, latest_files, picked}
-use Rattle.seg_directory.proofs.LatestFiles.{latest_is_an_image}
+use Rattle.seg_directory.specs.LatestFiles.{latest_is_an_image}
 use Rattle.seg_directory.specs.declared.disk_call.DiskCall.{DiskCall}
 use Rattle.seg_directory.specs.declared.disk_call.DiskCall.TheVariants.{Put, Created, Synced}
 use Rattle.seg_directory.specs.declared.disk_call.Pick.{Pick}

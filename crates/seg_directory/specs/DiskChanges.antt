@@ -1,12 +1,12 @@
 -- What a call makes of the disk, during the call and after it.
-use Rattle.std.specs.Prelude.{ℕ, ◌≡◌, List, IsTrue}
+use Rattle.std.specs.Prelude.{◌≡◌, IsTrue}
 use Rattle.seg_directory.specs.Call.{Call, listed, read, made, replaced, synced}
 use Rattle.seg_directory.specs.Disk.{IsImage, exactly, with_change}
 use Rattle.seg_directory.specs.FileDisks.{FileDisk, IsWithin, MayReplace, MayTear, settled}
 use Rattle.seg_directory.specs.Files.{NamedFiles}
 use Rattle.seg_directory.specs.State.{DirectoryState, DiskState, Passes}
 use Rattle.seg_directory.specs.declared.error.DirectoryError.{DirectoryError}
-use Rattle.seg_directory.specs.declared.error.DirectoryError.TheVariants.{Missing, Exists, Fault, OutOfMemory}
+use Rattle.seg_directory.specs.declared.error.DirectoryError.TheVariants.{Exists}
 
 -- each disk on the way is so, and the last one, where the disk is told, so
 pub record Turns (OnTheWay AtTheEnd : FileDisk → Type 0) (old new : DiskState) : Type 0 where

@@ -1,10 +1,9 @@
 -- The disk of an index, and what its images are.
-use Rattle.std.specs.Prelude.{◌≡◌, ◌⊎◌, ◌&&◌, ◌||◌, ℕ, List, [], Option}
+use Rattle.std.specs.Prelude.{◌≡◌, ◌⊎◌, ℕ, List, []}
 use Rattle.std.specs.FinMap.{insert}
-use Rattle.std.specs.Ordering.{eq_by_cmp}
 use Rattle.seg_common.specs.Names.{name_cmp}
 use Rattle.seg_common.specs.declared.name.FileName.{FileName}
-use Rattle.seg_directory.specs.Disk.{Disk, IsImage, Written, exactly, torn, may_hold, may_leave, with_change}
+use Rattle.seg_directory.specs.Disk.{Disk, IsImage, exactly, torn, with_change}
 pub use Rattle.seg_directory.specs.Files.{NamedFiles}
 
 -- a disk of files by the names of an index
@@ -31,20 +30,9 @@ MayTear name old new = (new ≡ old) ⊎ (new ≡ with_change old name torn)
 abbrev pub MayReplace : FileName → List ℕ → FileDisk → FileDisk → Type 0
 MayReplace name bytes old new = (new ≡ old) ⊎ (new ≡ with_change old name (exactly bytes))
 
--- the files that are safe are an image
-abbrev pub StableFilesAreAnImage : Type 0
-StableFilesAreAnImage = (disk : FileDisk) → IsImage disk disk.stable
-
--- where nothing is pending there is no other
+-- where nothing is pending there is no other image
 abbrev pub SettledFilesAreTheOnlyImage : Type 0
 SettledFilesAreTheOnlyImage = (safe files : NamedFiles) → IsImage (settled safe) files → files ≡ safe
-
--- one more change lets its own name, and no other, be as the change leaves it
-abbrev pub ChangesLeaveTheirName : Type 0
-ChangesLeaveTheirName =
-    (disk : FileDisk) (changed : FileName) (written : Written) (name : FileName) (state : Option (List ℕ))
-    → may_hold (with_change disk changed written) name state
-    ≡ (may_hold disk name state || (eq_by_cmp name_cmp changed name && may_leave written state))
 
 -- one change of files that are safe leaves them, or the changed ones
 abbrev pub SavedFilesAreOneOfTwo : Type 0

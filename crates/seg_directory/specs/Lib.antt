@@ -19,6 +19,7 @@ pub mod Faults
 pub mod FileDisks
 pub mod Files
 pub mod Images
+pub mod LatestFiles
 pub mod Log
 pub mod Memory
 pub mod State

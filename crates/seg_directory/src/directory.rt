@@ -1,5 +1,7 @@
 //! A directory of files.
+ghost use Rattle.std.specs.Prelude.{IsTrue};
 ghost use Rattle.seg_directory.specs.CallResults.{Lists, Reads, Makes, Replaces, Syncs};
+ghost use Rattle.seg_directory.specs.DiskChanges.{ReadsAnImage};
 ghost use Rattle.seg_directory.specs.State.{DirectoryState};
 
 use crate::DirectoryError;
@@ -40,4 +42,7 @@ pub trait Directory {
     /// Has the names of all files reach the disk, so that no crash undoes what was written before.
     fn sync_directory(&mut self, alloc: Global) -> Result<(), DirectoryError>
         ensures { Syncs result (state self.old) (state self.new) };
+
+    /// A directory whose disk is told reads as one of its images.
+    ghost reads: { (d : Self) → IsTrue (state d).disk.told → ReadsAnImage (state d) };
 }

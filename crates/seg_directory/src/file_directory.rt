@@ -1,6 +1,8 @@
 //! A directory over a folder of the system.
 ghost use Rattle.std.specs.Prelude.{◌≡◌, ◌≢◌, ◌++◌, ◌<◌, ◌≤◌, [], false, IfOk};
 ghost use Rattle.std.specs.FinMap.{empty};
+ghost use Rattle.std.proofs.Common.{sym};
+ghost use mathlib.Core.Bool.{true≢false};
 ghost use Rattle.seg_common.specs.Causes.{Rose};
 ghost use Rattle.seg_directory.specs.Log.{noted_failure};
 ghost use Rattle.seg_directory.specs.State.{untold};
@@ -46,6 +48,8 @@ impl<R: Files + AllocGlobal + Clone + Drop> FileDirectory<R> {
 
 impl<R: Files + AllocGlobal + Clone + Drop> Directory for FileDirectory<R> {
     ghost state = { λ d. record { tells = false; files = empty; seen = d.answers; faults = d.faults; disk = untold } };
+
+    ghost reads = { λ _ told. absurd (true≢false (sym told)) };
 
     fn list(&mut self, _alloc: Global) -> Result<u64, DirectoryError> {
         self.log.make_room()?;

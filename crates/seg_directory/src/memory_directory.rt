@@ -5,6 +5,7 @@ ghost use Rattle.seg_directory.specs.Calls.{listed, read, made, replaced, synced
 ghost use Rattle.seg_directory.specs.CallResults.{Lists, Reads, Makes, Replaces, Syncs};
 ghost use Rattle.seg_directory.specs.DiskCalls.{calls_of, disk_after, disk_at, latest_files, no_files, picked, with_put};
 ghost use Rattle.seg_directory.specs.FileDisks.{settled};
+ghost use Rattle.seg_directory.specs.LatestFiles.{reads_an_image};
 ghost use Rattle.seg_directory.specs.Memory.{new_memory, memory_state, FailsAsListed, memory_after};
 
 use crate::call_record::CallRecord;
@@ -87,6 +88,8 @@ impl MemoryDirectory {
 
 impl Directory for MemoryDirectory {
     ghost state = { λ d. memory_state d };
+
+    ghost reads = { reads_an_image };
 
     fn list(&mut self, _alloc: Global) -> Result<u64, DirectoryError>
         ensures does { Lists result (memory_state self.old) (memory_state self.new) }

@@ -2,6 +2,8 @@
 
 ghost use Rattle.std.specs.Prelude.{false};
 ghost use Rattle.std.specs.FinMap.{empty};
+ghost use Rattle.std.proofs.Common.{sym};
+ghost use mathlib.Core.Bool.{true≢false};
 ghost use Rattle.seg_directory.specs.State.{untold};
 
 use seg_common::{FileName, OwnedBytes};
@@ -18,6 +20,8 @@ pub struct OddDirectory {
 
 impl Directory for OddDirectory {
     ghost state = { λ d. record { tells = false; files = empty; seen = d.inner.calls.answers; faults = d.inner.calls.faults; disk = untold } };
+
+    ghost reads = { λ _ told. absurd (true≢false (sym told)) };
 
     fn list(&mut self, alloc: Global) -> Result<u64, DirectoryError> {
         self.inner.list(alloc)

@@ -1,4 +1,4 @@
-use Rattle.std.proofs.Common.{◌≡◌, [], Err, refl, rules, subst, sym}
+use Rattle.std.proofs.Common.{◌≡◌, Err, refl, rules, subst, sym}
 use Rattle.seg_directory.specs.CallRecord.{Calls}
 use Rattle.seg_directory.specs.CallResults.{Makes}
 use Rattle.seg_directory.specs.Calls.{Fails, Goes, made}

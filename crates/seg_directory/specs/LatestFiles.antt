@@ -1,18 +1,42 @@
 -- The latest state of each name is an image.
-use Rattle.std.specs.Prelude.{ℕ, ◌≡◌, ◌&&◌, ◌||◌, List, [], ◌∷◌, Option, Some, Bool, true, false}
-use Rattle.std.proofs.Common.{inl, inr, cond, refl, ap, ◌∙◌}
+use Rattle.std.specs.Prelude.{ℕ, ◌≡◌, ◌⊎◌, ◌&&◌, ◌||◌, List, [], ◌∷◌, Option, Some, None, Bool, true, false, IsTrue}
+use Rattle.std.proofs.Common.{inl, inr, cond, refl, sym, ap, ◌∙◌}
+use mathlib.Core.Bool.{true≢false}
 use Rattle.std.specs.List.{list_any}
 use Rattle.std.specs.Option.{option_eq}
 use Rattle.std.specs.Ordering.{eq_by_cmp}
 use Rattle.std.specs.Cmp.{eq_by_cmp_equiv}
 use Rattle.std.specs.Str.{bytes_eq}
 use Rattle.std.specs.FinMap.{get, insert, get-insert}
+use Rattle.std.proofs.lemmas.Slice.Eq.{bytes_eq-Decides}
 use Rattle.seg_directory.specs.Disk.{Written, exactly, torn, PendingChange, IsImage, may_leave, may_hold}
 use Rattle.seg_directory.specs.FileDisks.{NamedFiles, FileDisk}
 use Rattle.seg_common.specs.Names.{name_cmp, name_cmp_total}
 use Rattle.seg_common.specs.declared.name.FileName.{FileName}
-use Rattle.seg_directory.proofs.DiskImages.{same_state, own_state, either, left_true, right_true}
-use Rattle.seg_directory.specs.DiskCalls.{latest, latest_over, bytes_left}
+use Rattle.seg_directory.specs.DiskCalls.{disk_after, latest, latest_over, bytes_left, no_files}
+use Rattle.seg_directory.specs.DiskChanges.{ReadsAnImage}
+use Rattle.seg_directory.specs.Memory.{MemoryState, memory_state}
+
+pub same_state : (a b : Option (List ℕ)) → option_eq bytes_eq a b ≡ true → b ≡ a
+same_state None None e = refl
+same_state None (Some y) e = absurd (true≢false (sym e))
+same_state (Some x) None e = absurd (true≢false (sym e))
+same_state (Some x) (Some y) e = ap Some (sym ((bytes_eq-Decides x y).0 e))
+
+pub own_state : (a : Option (List ℕ)) → option_eq bytes_eq a a ≡ true
+own_state None = refl
+own_state (Some x) = (bytes_eq-Decides x x).1 refl
+
+pub left_true : (a b : Bool) → a ≡ true → (a || b) ≡ true
+left_true a b e = ap (λ x. x || b) e
+
+pub right_true : (a b : Bool) → b ≡ true → (a || b) ≡ true
+right_true true b e = refl
+right_true false b e = e
+
+pub either : (a b : Bool) → (a || b) ≡ true → (a ≡ true) ⊎ (b ≡ true)
+either true b e = inl refl
+either false b e = inr e
 
 leaves_latest : (written : Written) → may_leave written (Some (bytes_left written)) ≡ true
 leaves_latest (exactly bytes) = own_state (Some bytes)
@@ -44,3 +68,7 @@ holds_latest stable (c ∷ cs) name =
 
 pub latest_is_an_image : (disk : FileDisk) → IsImage disk (latest disk)
 latest_is_an_image disk name = holds_latest disk.stable disk.pending name
+
+-- what is read of a directory in memory is one of its images
+pub reads_an_image : (s : MemoryState) → IsTrue (memory_state s).disk.told → ReadsAnImage (memory_state s)
+reads_an_image s told = record { tells = told; image = latest_is_an_image (disk_after no_files s.disk.calls) }
