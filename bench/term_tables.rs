@@ -2,8 +2,8 @@
 //
 //   rustc --edition 2024 -C opt-level=3 -o /tmp/term_tables bench/term_tables.rs && /tmp/term_tables SCRIPT [ROUNDS]
 //
-// tokens   a text of its own for each token, and then as own (as the program does)
-// short    the same, with texts of up to 15 bytes in the token itself
+// tokens   a text of its own for each token, and then as own
+// short    the same, with texts of up to 15 bytes in the token itself (as the program does, with up to 16)
 // own      a list of occurrences for each term, in the table (as seg_build has it)
 // numbered terms have numbers; all occurrences are one list, sorted by number at the end (as plain.rs has it)
 // inline   as own, with keys of up to 15 bytes in the table itself
