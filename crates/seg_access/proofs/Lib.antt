@@ -1,0 +1,4 @@
+mod Documents
+mod Heads
+mod JsonCopies
+mod Spelling

@@ -1,0 +1,54 @@
+use Rattle.std.proofs.Common.{◌≡◌, [], ◌∷◌, ◌∙◌, ap, length, map, refl, inr, rules, arith}
+use Rattle.std.proofs.lemmas.Result.{err_from_is_err_and}
+use Rattle.seg_access.specs.Json.{tree_of_json}
+use Rattle.seg_access.specs.declared.pieces.Piece.{Piece}
+use Rattle.seg_access.specs.Pieces.{mark_of, json_mark, values, members}
+use Rattle.seg_access.proofs.Heads.{json_no_key, none_at_json_misplaced}
+use Rattle.seg_access.proofs.Spelling.{none_at_end, none_at_values, none_at_members, none_more, no_key_more, no_value_more, read_more, read_member_more, json_no_longer_after, refused}
+use Rattle.seg_access.proofs.json_pieces.+reading.Goals as goal
+
+pub read_value-returns-in_default-clause-err : goal.read_value-returns-in_default-clause-err
+read_value-returns-in_default-clause-err t c =
+    let end : c.args.pieces.now ≡ [] = search rules in
+    inr (refl, none_at_end (map json_mark c.args.pieces.now) (ap (map json_mark) end))
+
+pub read_value-returns-in_err-read_values-in-Array-clause-err : goal.read_value-returns-in_err-read_values-in-Array-clause-err
+read_value-returns-in_err-read_values-in-Array-clause-err t c =
+    let head : c.args.pieces.now ≡ values c.in-Array.count ∷ c.take_next.new.self = c.in-Some.ensures ∙ ap (λ (p : Piece). mark_of p ∷ c.take_next.new.self) c.in-Array.is in
+    let p = err_from_is_err_and c.from_residual.result c.from_residual.ensures.1 in
+    rw (p.1, p.2) (refused c.in_err-read_values-in-Array.field-0.0 (none_at_values (map json_mark c.args.pieces.now) (map json_mark c.take_next.new.self) c.in-Array.count (ap (map json_mark) head)) c.in_err-read_values-in-Array.ensures.err)
+
+pub read_value-returns-in_err-read_members-in-Object-clause-err : goal.read_value-returns-in_err-read_members-in-Object-clause-err
+read_value-returns-in_err-read_members-in-Object-clause-err t c =
+    let head : c.args.pieces.now ≡ members c.in-Object.count ∷ c.take_next.new.self = c.in-Some.ensures ∙ ap (λ (p : Piece). mark_of p ∷ c.take_next.new.self) c.in-Object.is in
+    let p = err_from_is_err_and c.from_residual-in_err-read_members-in-Object.result c.from_residual-in_err-read_members-in-Object.ensures.1 in
+    rw (p.1, p.2) (refused c.in_err-read_members-in-Object.field-0.0 (none_at_members (map json_mark c.args.pieces.now) (map json_mark c.take_next.new.self) c.in-Object.count (ap (map json_mark) head)) c.in_err-read_members-in-Object.ensures.err)
+
+pub read_value-returns-clause-err : goal.read_value-returns-clause-err
+read_value-returns-clause-err t c = inr (refl, none_at_json_misplaced c.in-Some.piece c.args.pieces.now c.take_next.new.self c.in-Some.ensures c.in-PreTokStr.is)
+
+pub read_values-loop-preserved : goal.read_values-loop-preserved
+read_values-loop-preserved t c = record {
+  read = read_more (map json_mark c.args.pieces.now) (map json_mark c.loop.pieces) (map json_mark c.read_value.new.pieces) c.loop.values c.push.new.self c.loop.counter (tree_of_json c.in_ok-read_value.field-0) c.loop.invariant.read c.in_ok-read_value.ensures.ok c.in_ok-push.ensures.ok;
+  no_longer = omega (arith, json_no_longer_after (tree_of_json c.in_ok-read_value.field-0) c.loop.pieces c.read_value.new.pieces c.in_ok-read_value.ensures.ok);
+}
+
+pub read_values-returns-in_err-read_value-clause-err : goal.read_values-returns-in_err-read_value-clause-err
+read_values-returns-in_err-read_value-clause-err t c =
+    let p = err_from_is_err_and c.from_residual.result c.from_residual.ensures.1 in
+    rw (p.1, p.2) (refused c.in_err-read_value.field-0.0 (none_more (map json_mark c.args.pieces.now) (map json_mark c.loop.pieces) c.loop.values c.loop.counter c.args.count c.loop.invariant.read c.loop-test.true) c.in_err-read_value.ensures.err)
+
+pub read_members-loop-preserved : goal.read_members-loop-preserved
+read_members-loop-preserved t c = record {
+  read = read_member_more (map json_mark c.args.pieces.now) (map json_mark c.loop.pieces) (map json_mark c.take_key.new.self) (map json_mark c.read_value.new.pieces) c.loop.members c.push.new.self c.loop.counter c.in-Some.key (tree_of_json c.in_ok-read_value.field-0) c.loop.invariant.read (ap (map json_mark) c.in-Some.ensures) c.in_ok-read_value.ensures.ok c.in_ok-push.ensures.ok;
+  no_longer = omega (arith, ap length c.in-Some.ensures, json_no_longer_after (tree_of_json c.in_ok-read_value.field-0) c.take_key.new.self c.read_value.new.pieces c.in_ok-read_value.ensures.ok);
+}
+
+pub read_members-returns-in_default-clause-err : goal.read_members-returns-in_default-clause-err
+read_members-returns-in_default-clause-err t c =
+    inr (refl, no_key_more (map json_mark c.args.pieces.now) (map json_mark c.loop.pieces) c.loop.members c.loop.counter c.args.count c.loop.invariant.read c.loop-test.true (json_no_key c.loop.pieces c.in_default.ensures))
+
+pub read_members-returns-in_err-read_value-clause-err : goal.read_members-returns-in_err-read_value-clause-err
+read_members-returns-in_err-read_value-clause-err t c =
+    let p = err_from_is_err_and c.from_residual.result c.from_residual.ensures.1 in
+    rw (p.1, p.2) (refused c.in_err-read_value.field-0.0 (no_value_more (map json_mark c.args.pieces.now) (map json_mark c.loop.pieces) (map json_mark c.take_key.new.self) c.loop.members c.loop.counter c.args.count c.in-Some.key c.loop.invariant.read c.loop-test.true (ap (map json_mark) c.in-Some.ensures)) c.in_err-read_value.ensures.err)

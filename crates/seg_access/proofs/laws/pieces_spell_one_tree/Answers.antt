@@ -1,0 +1,5 @@
+use Rattle.seg_access.proofs.Spelling.{spelling_once}
+use Rattle.seg_access.proofs.laws.pieces_spell_one_tree.Goals as goal
+
+pub returns : goal.returns
+returns c = spelling_once
