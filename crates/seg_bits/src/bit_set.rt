@@ -55,6 +55,7 @@ impl BitSet {
     }
 
     /// Puts a number in.
+    #[inline]
     pub fn insert(&mut self, value: u32)
         requires { value < length self.old }
         ensures { self.new ≡ set self.old value true }
@@ -79,6 +80,7 @@ impl BitSet {
     }
 
     /// Whether a number is in; none from the size on is.
+    #[inline]
     pub fn contains(&self, value: u32) -> bool
         ensures { result ≡ get_or self.now value false }
     {

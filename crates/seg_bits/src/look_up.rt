@@ -6,6 +6,7 @@ ghost use Rattle.seg_bits.specs.BitSets.{is_bit_set, set_in, member_count, numbe
 use crate::words::{num_words, word_at};
 
 /// Whether a number is in.
+#[inline]
 pub(crate) fn is_member(bytes: &[u8], max_value: u32, value: u32) -> bool
     requires size { max_value ≡ little_endian.u32_at bytes.now 0 }
     requires set { is_bit_set bytes.now ≡ true }

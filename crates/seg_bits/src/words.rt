@@ -19,6 +19,7 @@ pub(crate) fn num_words(max_value: u32) -> usize
 }
 
 /// The word that has this many before it.
+#[inline]
 pub(crate) fn word_at(bytes: &[u8], at: usize) -> u64
     requires length { length bytes.now ≡ 4 + 8 * spec.words_for (little_endian.u32_at bytes.now 0) }
     requires within { at < spec.words_for (little_endian.u32_at bytes.now 0) }

@@ -35,12 +35,14 @@ impl Hits {
         }
     }
 
+    #[inline]
     pub fn as_slice(&self) -> &[Hit]
         ensures { result.now ≡ self.now }
     {
         &self.hits
     }
 
+    #[inline]
     pub fn push(&mut self, hit: Hit) -> Result<(), AllocError>
         ensures ok { OnOk result (self.new ≡ self.old ++ hit ∷ []) }
         ensures err { OnErr result (self.new ≡ self.old) }

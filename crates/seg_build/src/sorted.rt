@@ -55,6 +55,7 @@ impl SortedTerms {
     }
 
     /// The bytes of the term at a place.
+    #[inline]
     pub fn bytes_at(&self, index: usize) -> &[u8]
         requires { index < length self.now.terms }
         ensures { slice_get (keys_of self.now.terms) index ≡ Some result.now }
@@ -64,6 +65,7 @@ impl SortedTerms {
     }
 
     /// Where that term occurs: document by document, and in a document as its tokens come.
+    #[inline]
     pub fn hits_at(&self, index: usize) -> &[Hit]
         requires { index < length self.now.terms }
         ensures { slice_get (values_of self.now.terms) index ≡ Some (postings_as self.now.kind (grouped result.now)) }

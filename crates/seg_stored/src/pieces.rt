@@ -9,6 +9,7 @@ ghost use Rattle.seg_stored.specs.StoredTree as trees;
 use seg_common::{VInt, u64_at};
 
 /// Takes this many bytes.
+#[inline]
 pub(crate) fn take_front<'a>(bytes: &mut &'a [u8], count: u64) -> Option<&'a [u8]>
     ensures { MatchOption result (read.front count bytes.old.now ≡ None) (λ x. read.front count bytes.old.now ≡ Some (x.now, bytes.new.now)) }
 {
@@ -21,6 +22,7 @@ pub(crate) fn take_front<'a>(bytes: &mut &'a [u8], count: u64) -> Option<&'a [u8
 }
 
 /// Takes a varint.
+#[inline]
 pub(crate) fn take_varint(bytes: &mut &[u8]) -> Option<u64>
     ensures { MatchOption result (varint_at bytes.old.now ≡ None) (λ n. varint_at bytes.old.now ≡ Some (n, bytes.new.now)) }
 {
@@ -31,6 +33,7 @@ pub(crate) fn take_varint(bytes: &mut &[u8]) -> Option<u64>
 }
 
 /// Takes a varint that is a u32.
+#[inline]
 pub(crate) fn take_small(bytes: &mut &[u8]) -> Option<u32>
     ensures { MatchOption result (read.small_at bytes.old.now ≡ None) (λ n. read.small_at bytes.old.now ≡ Some (n, bytes.new.now)) }
 {
@@ -39,6 +42,7 @@ pub(crate) fn take_small(bytes: &mut &[u8]) -> Option<u32>
 }
 
 /// Takes the bytes after their number.
+#[inline]
 pub(crate) fn take_sized<'a>(bytes: &mut &'a [u8]) -> Option<&'a [u8]>
     ensures { MatchOption result (read.sized_at bytes.old.now ≡ None) (λ x. read.sized_at bytes.old.now ≡ Some (x.now, bytes.new.now)) }
 {
@@ -47,6 +51,7 @@ pub(crate) fn take_sized<'a>(bytes: &mut &'a [u8]) -> Option<&'a [u8]>
 }
 
 /// Takes a text after the number of its bytes.
+#[inline]
 pub(crate) fn take_text<'a>(bytes: &mut &'a [u8]) -> Option<&'a str>
     ensures { MatchOption result (read.text_at bytes.old.now ≡ None) (λ x. read.text_at bytes.old.now ≡ Some (x.now, bytes.new.now)) }
 {
@@ -78,6 +83,7 @@ pub(crate) fn take_bit(bytes: &mut &[u8]) -> Option<bool>
 }
 
 /// Takes a byte.
+#[inline]
 pub(crate) fn take_byte(bytes: &mut &[u8]) -> Option<u8>
     ensures { MatchOption result (bytes.old.now ≡ []) (λ b. bytes.old.now ≡ b ∷ bytes.new.now) }
 {

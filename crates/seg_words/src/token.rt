@@ -48,12 +48,14 @@ impl Tokens {
         self.tokens.len()
     }
 
+    #[inline]
     pub fn as_slice(&self) -> &[Token]
         ensures { result.now ≡ self.now }
     {
         &self.tokens
     }
 
+    #[inline]
     pub fn push(&mut self, token: Token) -> Result<(), AllocError>
         ensures ok { OnOk result (self.new ≡ self.old ++ token ∷ []) }
         ensures err { OnErr result (self.new ≡ self.old) }
