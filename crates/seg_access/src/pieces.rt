@@ -1,7 +1,7 @@
 //! Pieces that spell a value.
 ghost use Rattle.std.specs.Prelude.{◌≡◌, [], ◌∷◌, map, MatchOption};
 
-use seg_common::DateTime;
+use seg_dates::DateTime;
 use seg_values::{Facet, Field};
 use seg_words::{Bytes, PreTokenizedString, Text};
 use std::marker::Model;

@@ -6,7 +6,7 @@ ghost use Rattle.std.specs.Iterator.{IsFinite, YieldsFirstBy};
 ghost use Rattle.seg_access.specs.Reading.{tree_read};
 ghost use Rattle.seg_values.specs.Tree.{Tree};
 
-use seg_common::DateTime;
+use seg_dates::DateTime;
 use seg_words::PreTokenizedString;
 use std::net::Ipv6Addr;
 

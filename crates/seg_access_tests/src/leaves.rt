@@ -1,7 +1,7 @@
 //! Copies of references to leaves.
 
 use seg_access::{Value, to_owned_value};
-use seg_common::DateTime;
+use seg_dates::DateTime;
 use seg_values::{Facet, OwnedValue, ValueError};
 use seg_words::{Bytes, PreTokenizedString, Text, Token, Tokens};
 use std::alloc::{AllocError, Global};

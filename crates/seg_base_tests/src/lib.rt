@@ -5,6 +5,8 @@
 #[cfg(test)]
 mod bytes;
 #[cfg(test)]
+mod dates;
+#[cfg(test)]
 mod deletes;
 #[cfg(test)]
 mod documents;

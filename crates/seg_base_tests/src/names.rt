@@ -1,7 +1,8 @@
 //! Moments, ids of segments and names of files.
 
-use seg_common::DateTimePrecision::{Microseconds, Milliseconds, Nanoseconds, Seconds};
-use seg_common::{CommonError, DateTime, FileName, SegmentComponent, SegmentId};
+use seg_common::{CommonError, FileName, SegmentComponent, SegmentId};
+use seg_dates::DateTime;
+use seg_dates::DateTimePrecision::{Microseconds, Milliseconds, Nanoseconds, Seconds};
 use std::alloc::Global;
 use std::test::Fail;
 

@@ -1,6 +1,6 @@
 //! Facets, terms and names with paths: the calls on values that no program runs.
 
-use seg_common::DateTime;
+use seg_dates::DateTime;
 use seg_testing::schema;
 use seg_values::{
     Facet, Field, FieldKind, FieldType, IndexOption, Schema, TResult, TantivyError, Term,

@@ -2,7 +2,8 @@
 
 use crate::drawing::Draw;
 use anyhow::Result;
-use seg_common::{DateTimePrecision, OwnedBytes};
+use seg_common::OwnedBytes;
+use seg_dates::DateTimePrecision;
 use seg_postings::FieldTerms;
 use seg_termdict::TermDictionary;
 use seg_values::{FieldEntry, FieldKind, IndexOption};

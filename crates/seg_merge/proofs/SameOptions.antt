@@ -1,6 +1,6 @@
 -- Fields with the same options.
 use Rattle.std.proofs.Common.{◌≡◌, ◌∙◌, Bool, ap}
-use Rattle.seg_common.specs.declared.date.DateTimePrecision.{DateTimePrecision}
+use Rattle.seg_dates.specs.declared.precision.DateTimePrecision.{DateTimePrecision}
 use Rattle.seg_values.specs.declared.schema.FieldEntry.{FieldEntry}
 use Rattle.seg_values.specs.declared.schema.FieldKind.{FieldKind}
 use Rattle.seg_values.specs.declared.schema.IndexOption.{IndexOption}

@@ -1,6 +1,6 @@
 -- The options of a field, but for its texts.
 use Rattle.std.specs.Prelude.{Bool}
-use Rattle.seg_common.specs.declared.date.DateTimePrecision.{DateTimePrecision}
+use Rattle.seg_dates.specs.declared.precision.DateTimePrecision.{DateTimePrecision}
 use Rattle.seg_values.specs.declared.schema.FieldEntry.{FieldEntry}
 use Rattle.seg_values.specs.declared.schema.FieldKind.{FieldKind}
 use Rattle.seg_values.specs.declared.schema.IndexOption.{IndexOption}

@@ -3,7 +3,7 @@ ghost use Rattle.std.specs.Prelude.{◌≡◌};
 ghost use Rattle.seg_meta.specs.View.{compression_of};
 ghost use Rattle.seg_meta.specs.Words.{compression_word, kind_word, index_word, precision_word};
 
-use seg_common::DateTimePrecision;
+use seg_dates::DateTimePrecision;
 use seg_values::{Compressor, FieldKind, IndexOption};
 
 pub(crate) fn compression_word(compressor: Compressor) -> &'static str

@@ -8,7 +8,7 @@ use Rattle.seg_words.specs.declared.token.Token.{Token}
 use Rattle.seg_values.specs.declared.schema.FieldEntry.{FieldEntry}
 use Rattle.seg_values.specs.declared.schema.FieldKind.TheVariants.{Text, U64, Date, Facet, Bytes, Json}
 use Rattle.seg_values.specs.declared.schema.IndexOption.TheVariants.{No, Basic, Positions}
-use Rattle.seg_common.specs.declared.date.DateTimePrecision.TheVariants.{Seconds}
+use Rattle.seg_dates.specs.declared.precision.DateTimePrecision.TheVariants.{Seconds}
 use Rattle.seg_common.specs.declared.column_type.ColumnType.{ColumnType}
 use Rattle.seg_common.specs.declared.column_type.ColumnType.TheVariants as types
 use Rattle.seg_values.specs.Tree.{text, unsigned, signed, date, facet, byte_string, leaf, object, no_members, member, Document}

@@ -9,7 +9,7 @@ use Rattle.std.proofs.lemmas.Str.{IsUtf8-append, IsUtf8-nil, IsUtf8-encode, enco
 use Rattle.std.proofs.lemmas.Bool.Decides.{nat_tests}
 use Rattle.std.proofs.lemmas.List.{map-append}
 use Rattle.std.proofs.lemmas.Bool.{and_parts}
-use Rattle.seg_values.proofs.Exports.{AreHigh, encode_high}
+use Rattle.seg_common.proofs.Replacing.{AreHigh, encode_high}
 use Rattle.seg_model.specs.Leaves.{dot_expanded, joined_path}
 use Rattle.seg_model.specs.Occurrences.{prefixes_from, facet_prefixes}
 use Rattle.seg_model.specs.Reading.{type_code}

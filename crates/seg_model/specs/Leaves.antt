@@ -1,6 +1,7 @@
 -- The leaves of a tree, from left to right, each with the keys above it.
-use Rattle.std.specs.Prelude.{ℕ, zero, suc, Bool, List, [], ◌∷◌, ◌++◌, map, ◌==◌, if◌then◌else◌}
-use Rattle.std.specs.List.{join_with_byte, flat_map}
+use Rattle.std.specs.Prelude.{ℕ, zero, suc, List, [], ◌∷◌, ◌++◌}
+use Rattle.std.specs.List.{flat_map}
+pub use Rattle.seg_common.specs.JsonPaths.{dot_expanded, joined_path}
 use Rattle.seg_values.specs.Tree.{Leaf, Tree, leaf, array, object, Trees, no_trees, tree, Members, no_members, member}
 
 -- a leaf, the keys from the root to it, and its level below the first object: 0 where there is none
@@ -36,11 +37,3 @@ leaves t = leaves_at [] 0 t
 -- the leaves of the values of a field, in order
 abbrev pub leaves_of : List Tree → List PlacedLeaf
 leaves_of values = flat_map leaves values
-
--- a dot becomes a byte 1
-abbrev pub dot_expanded : ℕ → ℕ
-dot_expanded byte = if byte == 46 then 1 else byte
-
--- the keys from the root with a byte 1 between each two, and for each dot too where dots are expanded
-abbrev pub joined_path : Bool → List (List ℕ) → List ℕ
-joined_path expand_dots keys = if expand_dots then map dot_expanded (join_with_byte 1 keys) else join_with_byte 1 keys

@@ -1,14 +1,14 @@
 -- Where the terms of a field occur in a document.
-use Rattle.std.specs.Prelude.{ℕ, zero, suc, ◌+◌, ◌^◌, List, [], ◌∷◌, ◌++◌, map, filter, length, max, nat_le, nat_lt, Bool, pos, if◌then◌else◌, Option, Some, None}
+use Rattle.std.specs.Prelude.{ℕ, zero, suc, ◌+◌, List, [], ◌∷◌, ◌++◌, map, filter, length, max, nat_le, Bool, if◌then◌else◌, Option, Some, None}
 use Rattle.std.specs.List.{flat_map, list_any, slice_get}
-use Rattle.std.specs.Int.{w64, to_be_bytes}
 use Rattle.std.specs.Str.{bytes_eq}
 use Rattle.seg_words.specs.declared.token.Token.{Token}
 use Rattle.seg_values.specs.declared.schema.FieldEntry.{FieldEntry}
 use Rattle.seg_values.specs.declared.schema.FieldKind.TheVariants.{Text, Json}
 use Rattle.seg_values.specs.declared.schema.FieldKind.{FieldKind}
-use Rattle.seg_values.specs.Tree.{Leaf, text, pre_tokenized, unsigned, signed, boolean, date, facet, Tree, leaf, array, object, Document}
-use Rattle.seg_values.specs.ValueBytes.{raised, value_bytes}
+use Rattle.seg_values.specs.Tree.{Leaf, text, pre_tokenized, facet, Tree, leaf, array, object, Document}
+pub use Rattle.seg_values.specs.JsonTerms.{coded_value}
+use Rattle.seg_values.specs.ValueBytes.{value_bytes}
 use Rattle.seg_model.specs.Fields.{Schema, Analyzer, is_indexed, indexing_tokenizer, values_of}
 use Rattle.seg_model.specs.Leaves.{PlacedLeaf, leaves_of, joined_path}
 
@@ -91,14 +91,6 @@ leaf_text _ = []
 abbrev pub texts_at : Bool → (List ℕ → List Token) → List ℕ → List PlacedLeaf → List (List Token)
 texts_at expand_dots analyze path found =
     flat_map (λ p. if bytes_eq path (joined_path expand_dots p.keys) then map analyze (leaf_text p.leaf) else []) found
-
--- the type code and value bytes of a leaf that is no text: `i`, `u`, `o` or `d`; a u64 that fits i64 is coded `i`
-abbrev pub coded_value : Leaf → List (List ℕ)
-coded_value (unsigned n) = (if nat_lt n (2 ^ 63) then 105 ∷ to_be_bytes w64 (raised (pos n)) else 117 ∷ to_be_bytes w64 n) ∷ []
-coded_value (signed z) = (105 ∷ value_bytes (signed z)) ∷ []
-coded_value (boolean b) = (111 ∷ value_bytes (boolean b)) ∷ []
-coded_value (date nanos) = (100 ∷ value_bytes (date nanos)) ∷ []
-coded_value _ = []
 
 -- the occurrences of a leaf of a JSON field, whose texts begin at `start`: path, byte 0, type code, value bytes
 abbrev pub leaf_occurrences : (List ℕ → List Token) → List ℕ → ℕ → Leaf → List Occurrence

@@ -1,6 +1,6 @@
 -- What the cases are about: an analyzer, fields and their values.
 use Rattle.std.specs.Prelude.{ℕ, zero, suc, List, [], ◌∷◌, codes, true, false, None}
-use Rattle.seg_common.specs.declared.date.DateTimePrecision.TheVariants.{Seconds}
+use Rattle.seg_dates.specs.declared.precision.DateTimePrecision.TheVariants.{Seconds}
 use Rattle.seg_words.specs.declared.token.Token.{Token}
 use Rattle.seg_values.specs.declared.schema.FieldEntry.{FieldEntry}
 use Rattle.seg_values.specs.declared.schema.FieldKind.{FieldKind}

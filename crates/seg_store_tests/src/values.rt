@@ -5,7 +5,8 @@ ghost use Rattle.seg_values.specs.View.{tree_of};
 ghost use Rattle.seg_stored.specs.StoredLaw.{AreShallow};
 ghost use Rattle.seg_store.specs.Writing.{all_blocks};
 
-use seg_common::{DateTime, OwnedBytes};
+use seg_common::OwnedBytes;
+use seg_dates::DateTime;
 use seg_store::{StoreError, StoreReader, StoreWriter};
 use seg_testing::schema;
 use seg_values::{
@@ -92,6 +93,18 @@ fn nested(alloc: Global, kind: u32) -> Result<OwnedValue, AllocError>
     Ok(OwnedValue::Array(values))
 }
 
+/// The object `{"a": [1, null]}`.
+fn object_of_a_list(alloc: Global) -> Result<OwnedValue, AllocError>
+    ensures { IfOk result (λ v. levels (tree_of v) ≤ 3) }
+{
+    let mut values = Values::new(alloc);
+    values.push(OwnedValue::I64(1))?;
+    values.push(OwnedValue::Null)?;
+    let mut members = Members::new(alloc);
+    members.push(Text::copy_of(alloc, "a")?, OwnedValue::Array(values))?;
+    Ok(OwnedValue::Object(members))
+}
+
 fn document_of(alloc: Global, value: OwnedValue) -> Result<TantivyDocument, AllocError>
     requires { levels (tree_of value) ≤ 3 }
     ensures { IfOk result AreShallow }
@@ -131,6 +144,15 @@ fn values_byte_for_byte(rt: HostRuntime) -> Result<(), Fail> {
         let document = document_of(alloc, nested(alloc, kind)?)?;
         assert!(rt; is_stored_as(alloc, &document, FRONT, leaf)?, "{kind}");
     }
+    Ok(())
+}
+
+#[test]
+fn an_object_of_a_list(rt: HostRuntime) -> Result<(), Fail> {
+    let alloc = rt.alloc();
+    let document = document_of(alloc, object_of_a_list(alloc)?)?;
+    let items = [4, 1, 0, 0, 0, 0, 0, 0, 0, 0];
+    assert!(rt; is_stored_as(alloc, &document, &[1, 0, 11, 1, 1, b'a', 10, 2], &items)?);
     Ok(())
 }
 

@@ -12,7 +12,7 @@ ghost use Rattle.seg_stored.specs.StoredTree as trees;
 use crate::pieces::{
     take_bit, take_front, take_number, take_sized, take_small, take_text, take_varint,
 };
-use seg_common::DateTime;
+use seg_dates::DateTime;
 use seg_values::{Facet, OwnedValue};
 use seg_words::{Bytes, PreTokenizedString, Text, Token, Tokens};
 use std::alloc::{AllocError, Global};

@@ -2,7 +2,7 @@
 ghost use Rattle.std.specs.Prelude.{◌≡◌, ◌≤◌, ◌<◌, ◌+◌, length, IfOk};
 ghost use Rattle.seg_values.specs.Names.{is_allowed};
 
-use seg_common::DateTimePrecision;
+use seg_dates::DateTimePrecision;
 use seg_values::{FieldEntry, FieldKind, IndexOption, Schema, SchemaBuilder};
 use seg_words::Text;
 use std::alloc::{AllocError, Global};

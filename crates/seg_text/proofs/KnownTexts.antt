@@ -1,5 +1,5 @@
 -- The texts of some values that are known from elsewhere.
-use Rattle.std.proofs.Common.{◌≡◌, pos, negsuc, refl, codes, [], ◌∷◌, ◌++◌, List, ℕ, true, replicate}
+use Rattle.std.proofs.Common.{◌≡◌, negsuc, refl, codes, [], ◌∷◌, ◌++◌, List, ℕ, true, replicate}
 use Rattle.std.specs.Fmt.{digits}
 use Rattle.std.specs.Net.Text.{hex, hex_groups_text}
 use Rattle.base64.specs.Rfc4648.{encode_symbols}
@@ -7,26 +7,7 @@ use Rattle.json.specs.Print.{escape_byte}
 use Rattle.serde_json.specs.Written.{compact_text}
 use Rattle.seg_values.specs.Tree.{null, unsigned, signed, boolean, facet, byte_string, pre_tokenized, leaf, array, object, no_trees, tree, no_members, member, Tree}
 use Rattle.seg_text.specs.AddressText.{address_text}
-use Rattle.seg_text.specs.DateText.{date_text}
 use Rattle.seg_text.specs.Json.{value_json}
-
-epoch : date_text (pos 0) ≡ codes "1970-01-01T00:00:00Z"
-epoch = refl
-
-just_before : date_text (negsuc 0) ≡ codes "1969-12-31T23:59:59.999999999Z"
-just_before = refl
-
-leap_day : date_text (pos 951782400500000000) ≡ codes "2000-02-29T00:00:00.5Z"
-leap_day = refl
-
-no_leap_day : date_text (pos 4107542400000000000) ≡ codes "2100-03-01T00:00:00Z"
-no_leap_day = refl
-
-first_moment : date_text (negsuc 9223372036854775807) ≡ codes "1677-09-21T00:12:43.145224192Z"
-first_moment = refl
-
-last_moment : date_text (pos 9223372036854775807) ≡ codes "2262-04-11T23:47:16.854775807Z"
-last_moment = refl
 
 zero_address : address_text (replicate 16 0) ≡ codes "::"
 unfolding hex hex_groups_text

@@ -1,5 +1,4 @@
 pub mod AddressText
-pub mod DateText
 pub mod DocumentText
 pub mod FieldText
 pub mod HeaderText

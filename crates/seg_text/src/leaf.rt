@@ -6,11 +6,13 @@ ghost use Rattle.base64.specs.GeneralPurpose.{encode_of};
 ghost use Rattle.json.specs.Print.{quoted};
 ghost use Rattle.serde_json.specs.Data as json;
 ghost use Rattle.serde_json.specs.Written.{compact_text};
+ghost use Rattle.seg_dates.specs.DateText.{date_text};
 ghost use Rattle.seg_text.specs.AddressText.{address_text};
 ghost use Rattle.seg_text.specs.Json.{path_text};
 
 use crate::quoted::push_quoted;
 use base64::engine::general_purpose::STANDARD;
+use seg_dates::{DateTime, push_rfc3339};
 use seg_values::Facet;
 use std::alloc::{AllocError, Global};
 use std::net::Ipv6Addr;
@@ -37,6 +39,15 @@ pub(crate) fn push_base64(out: &mut Vec<u8>, alloc: Global, bytes: &[u8]) -> Res
 {
     let text = STANDARD.encode(alloc, bytes)?;
     push_quoted(out, alloc, text.as_str())
+}
+
+pub(crate) fn push_date(out: &mut Vec<u8>, date: DateTime) -> Result<(), AllocError>
+    ensures { OnOk result (out.new.items ≡ out.old.items ++ quoted (date_text date)) }
+{
+    out.push(b'"')?;
+    push_rfc3339(out, date)?;
+    out.push(b'"')?;
+    Ok(())
 }
 
 pub(crate) fn push_address(

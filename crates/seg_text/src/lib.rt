@@ -2,11 +2,10 @@
 //!
 //! Its model: `segment_text` gives the bytes that stand for what a segment holds under a schema, and `full_segment_text` those with its length ids.
 //!
-//! In reading order: `decimal`, `hexadecimal`, `quoted` and `comma` are what lines are made of, `header` are the first lines, `term`, `posting` and `field` are the index, `norms` are the last lines. `date`, `leaf`, `pre_tokenized` and `value` are values as JSON, `pair` is a field with one, and `document` the line of a document of any values.
+//! In reading order: `decimal`, `hexadecimal`, `quoted` and `comma` are what lines are made of, `header` are the first lines, `term`, `posting` and `field` are the index, `norms` are the last lines. `leaf`, `pre_tokenized` and `value` are values as JSON, `pair` is a field with one, and `document` the line of a document of any values.
 #![tactic(auto)]
 
 mod comma;
-mod date;
 mod decimal;
 mod document;
 mod field;

@@ -9,9 +9,8 @@ ghost use Rattle.seg_text.specs.Json.{value_json, members_json};
 ghost use Rattle.seg_text.specs.PlacedMembers.{placed_members, ArePlaces};
 
 use crate::comma::push_comma_if;
-use crate::date::push_date;
 use crate::decimal::{push_decimal, push_signed};
-use crate::leaf::{push_address, push_base64, push_bool, push_facet};
+use crate::leaf::{push_address, push_base64, push_bool, push_date, push_facet};
 use crate::pre_tokenized::push_pre_tokenized;
 use crate::quoted::push_quoted;
 use seg_values::{Members, OwnedValue, Values};

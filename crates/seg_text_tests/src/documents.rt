@@ -1,6 +1,6 @@
 //! Documents of every kind of value, against lines written by hand.
 
-use seg_common::DateTime;
+use seg_dates::DateTime;
 use seg_testing::{document, schema};
 use seg_text::push_document;
 use seg_values::{

@@ -1,7 +1,6 @@
 -- What crates above may cite: all other modules are inner.
 pub use Rattle.seg_values.proofs.Distinct.{all_distinct-again, all_distinct-push}
 pub use Rattle.seg_values.proofs.Levels.{levels-at, member_levels-at}
-pub use Rattle.seg_values.proofs.Replacing.{AreHigh, encode_high}
 pub use Rattle.seg_values.proofs.Rising.{is_sorted-rising}
 pub use Rattle.seg_values.proofs.SameNames.{named, same_name-sym, unnamed}
 pub use Rattle.seg_values.proofs.StoredCounts.{count_members, count_trees}

@@ -5,7 +5,8 @@ use Rattle.std.specs.List.{All, AllByRecursion, list_any, list_all, slice_split,
 use Rattle.std.proofs.lemmas.Bool.{false≢true}
 use Rattle.std.proofs.lemmas.Bool.Decides.{nat_tests}
 use Rattle.std.proofs.lemmas.List.Elements.{All-from_recursion, recursion_from_All}
-use Rattle.seg_values.specs.Facets.{replacement, steps, Tells}
+use Rattle.seg_common.specs.Replacing.{replacement}
+use Rattle.seg_values.specs.Facets.{steps, Tells}
 
 -- ---- bytes put in the place of others
 

@@ -1,10 +1,7 @@
 -- Facets: the encoded text of the steps, and the path that tells it.
-use Rattle.std.specs.Prelude.{ℕ, ◌≡◌, ◌≢◌, ◌<◌, ◌==◌, List, [], ◌∷◌, map, length, if◌then◌else◌}
+use Rattle.std.specs.Prelude.{ℕ, ◌≡◌, ◌≢◌, ◌<◌, ◌==◌, List, [], ◌∷◌, map, length}
 use Rattle.std.specs.List.{All, slice_split}
-
--- what stands for a byte where one byte takes the place of another
-abbrev pub replacement : ℕ → ℕ → ℕ → ℕ
-replacement replaced by byte = if byte == replaced then by else byte
+use Rattle.seg_common.specs.Replacing.{replacement}
 
 -- the path of an encoded text: a slash, and the text with a slash for each byte 0
 abbrev pub path_of : List ℕ → List ℕ

@@ -4,12 +4,17 @@ pub mod Facets
 pub mod Falls
 pub mod FieldTypes
 pub mod Indexed
+pub mod JsonPathTexts
+pub mod JsonTerms
+pub mod JsonTrees
+pub mod LentPairs
 pub mod NameSearch
 pub mod Names
 pub mod SchemaRules
 pub mod Schemas
 pub mod Stored
 pub mod StoredForm
+pub mod Tags
 pub mod Tree
 pub mod Utf8
 pub mod ValueBytes

@@ -1,22 +1,14 @@
 -- Terms, and the bytes of values.
-use Rattle.std.specs.Prelude.{ℕ, suc, ◌+◌, ◌-◌, ◌^◌, List, [], Bool, true, false, ℤ, pos, negsuc}
+use Rattle.std.specs.Prelude.{ℕ, List, []}
 use Rattle.std.specs.Int.{w64, to_be_bytes}
-use Rattle.seg_common.specs.Dates.{cut_to, nanos_in_second}
+use Rattle.seg_dates.specs.Dates.{cut_to, nanos_in_second}
+pub use Rattle.seg_common.specs.Mappable.{raised, bit}
 use Rattle.seg_values.specs.Tree.{Leaf, text, unsigned, signed, boolean, date, facet, byte_string, ip}
 
 -- a term: a field, and value bytes
 pub record TermKey : Type 0 where
   pub field : ℕ
   pub bytes : List ℕ
-
--- a value plus 2^63
-abbrev pub raised : ℤ → ℕ
-raised (pos n) = 2 ^ 63 + n
-raised (negsuc n) = 2 ^ 63 - suc n
-
-abbrev pub bit : Bool → ℕ
-bit true = 1
-bit false = 0
 
 -- the value bytes of a leaf that makes one term; a text is its token, and a facet one of its prefixes
 abbrev pub value_bytes : Leaf → List ℕ

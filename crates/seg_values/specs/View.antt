@@ -1,5 +1,6 @@
 -- The tree that a value stands for.
-use Rattle.std.specs.Prelude.{ℕ, List}
+use Rattle.std.specs.Prelude.{ℕ, List, String, string_bytes}
+use Rattle.std.specs.declared.alloc.Global.{Global}
 use Rattle.std.specs.Net.Addr.{ipv6_octets}
 use Rattle.seg_values.specs.declared.value.Member.{Member}
 use Rattle.seg_values.specs.declared.value.OwnedValue.{OwnedValue}
@@ -28,3 +29,11 @@ member_of m = (m.key, tree_of m.value)
 -- a field, and the tree of its value
 abbrev pub pair_of : FieldValue → ℕ × Tree
 pair_of p = (p.field, tree_of p.value)
+
+-- an entry of a map by fields, with the tree of its value
+abbrev pub entry_pair : ℕ × OwnedValue → ℕ × Tree
+entry_pair e = (e.0, tree_of e.1)
+
+-- an entry of a map by texts, with the tree of its value
+abbrev pub named_tree : String Global × OwnedValue → List ℕ × Tree
+named_tree e = (string_bytes e.0, tree_of e.1)

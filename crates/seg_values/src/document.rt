@@ -1,13 +1,16 @@
 //! A document: fields with values, in order.
-ghost use Rattle.std.specs.Prelude.{◌≡◌, ℕ, ◌<◌, [], ◌∷◌, ◌++◌, length, slice_get, Some, OnOk, OnErr, IsOkUnless};
+ghost use Rattle.std.specs.Prelude.{◌≡◌, ℕ, ◌<◌, [], ◌∷◌, ◌++◌, length, nat_eq, slice_get, Some, option_map, OnOk, OnErr, IsOkUnless};
+ghost use Rattle.std.specs.Map.{lookup};
 ghost use Rattle.seg_values.specs.Tree as trees;
 ghost use Rattle.seg_values.specs.View.{tree_of};
 
+use crate::document_trait::{Document, push_pair};
 use crate::schema::Field;
 use crate::value::OwnedValue;
 use crate::value_error::ValueError;
 use seg_words::Text;
 use std::alloc::{AllocError, Global};
+use std::fmt::{self, Debug, Formatter, Write};
 use std::marker::Model;
 
 /// A field with a value.
@@ -80,12 +83,60 @@ impl TantivyDocument {
         Ok(())
     }
 
+    /// The first value of a field.
+    pub fn get_first(&self, field: Field) -> Option<&OwnedValue>
+        ensures { option_map (λ v. tree_of v.now) result ≡ lookup (nat_eq field) self.now }
+    {
+        for pair in &self.pairs {
+            if field == pair.field {
+                return Some(&pair.value);
+            }
+        }
+        None
+    }
+
     pub fn pair(&self, at: usize) -> (Field, &OwnedValue)
         requires { at < length self.now }
         ensures { slice_get self.now at ≡ Some (result.0, tree_of result.1.now) }
     {
         let pair = &self.pairs[at];
         (pair.field, &pair.value)
+    }
+}
+
+impl Document for TantivyDocument {
+    ghost pairs_of = { λ d. d };
+
+    fn len(&self) -> usize {
+        self.len()
+    }
+
+    fn pair(&self, at: usize) -> (Field, &OwnedValue) {
+        self.pair(at)
+    }
+
+    fn pairs(&self, alloc: Global) -> Result<Vec<(Field, &OwnedValue)>, AllocError> {
+        let mut pairs = Vec::with_capacity(alloc, self.pairs.len())?;
+        for pair in &self.pairs {
+            push_pair(&mut pairs, pair.field, &pair.value)?;
+        }
+        Ok(pairs)
+    }
+}
+
+impl Debug for FieldValue {
+    fn fmt<W: Write>(&self, f: &mut Formatter<W>) -> fmt::Result {
+        f.debug_tuple("")
+            .field(&self.field)
+            .field(&self.value)
+            .finish()
+    }
+}
+
+/// A list of pairs.
+impl Debug for TantivyDocument {
+    fn fmt<W: Write>(&self, f: &mut Formatter<W>) -> fmt::Result {
+        self.pairs.fmt(f)
     }
 }
 

@@ -6,7 +6,8 @@ ghost use Rattle.seg_values.specs.SchemaRules.{is_schema};
 
 use crate::error::{SchemaCause, TResult, TantivyError};
 use crate::schema_fields::SchemaFields;
-use seg_common::{DateTimePrecision, Room, Shared};
+use seg_common::{Room, Shared};
+use seg_dates::DateTimePrecision;
 use seg_words::Text;
 use std::alloc::Global;
 use std::fmt::{self, Debug, Formatter, Write};
@@ -69,7 +70,7 @@ impl FieldEntry {
 }
 
 /// A place in a schema.
-#[derive(Clone, Copy, Debug, PartialEq, Eq, PartialOrd, Ord)]
+#[derive(Clone, Copy, Debug, PartialEq, Eq, PartialOrd, Ord, Hash)]
 pub struct Field {
     id: u32,
 }

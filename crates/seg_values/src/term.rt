@@ -1,15 +1,21 @@
 //! Terms.
-ghost use Rattle.std.specs.Prelude.{◌≡◌, ℕ, IfOk, IfErr, IsOkUnless};
+ghost use Rattle.std.specs.Prelude.{◌≡◌, ℕ, List, [], ◌∷◌, ◌++◌, IfOk, IfErr, OnOk, OnErr, IsOkUnless};
 ghost use Rattle.std.specs.Net.Addr.{ipv6_octets};
+ghost use Rattle.seg_common.specs.JsonPaths.{joined_path};
+ghost use Rattle.seg_values.specs.JsonPathTexts.{path_keys};
+ghost use Rattle.seg_values.specs.JsonTerms.{coded_token, coded_value};
 ghost use Rattle.seg_values.specs.Tree.{text, unsigned, signed, boolean, date, facet, byte_string, ip};
-ghost use Rattle.seg_values.specs.ValueBytes.{raised, value_bytes};
+ghost use Rattle.seg_values.specs.ValueBytes.{value_bytes};
 
 use crate::error::{TResult, TantivyError};
 use crate::facet::Facet;
+use crate::fast_value::{FastValue, coded_number};
+use crate::json_path::path_bytes;
 use crate::schema::Field;
 use crate::value_error::ValueError;
-use seg_common::{DateTime, DateTimePrecision};
-use std::alloc::Global;
+use seg_common::MonotonicallyMappableToU64;
+use seg_dates::{DateTime, DateTimePrecision};
+use std::alloc::{AllocError, Global};
 use std::marker::Model;
 use std::net::Ipv6Addr;
 
@@ -70,7 +76,7 @@ impl Term {
             (λ t. t ≡ record { field = field; bytes = value_bytes (signed value) }) }
         ensures memory { IsOkUnless result ValueError.OutOfMemory }
     {
-        Self::from_field_u64(alloc, field, raised_value(value))
+        Self::from_field_u64(alloc, field, value.to_u64())
     }
 
     pub fn from_field_bool(alloc: Global, field: Field, value: bool) -> Result<Term, ValueError>
@@ -78,7 +84,7 @@ impl Term {
             (λ t. t ≡ record { field = field; bytes = value_bytes (boolean value) }) }
         ensures memory { IsOkUnless result ValueError.OutOfMemory }
     {
-        Self::from_field_u64(alloc, field, u64::from(value))
+        Self::from_field_u64(alloc, field, value.to_u64())
     }
 
     /// The moment is cut to whole seconds.
@@ -88,7 +94,7 @@ impl Term {
         ensures memory { IsOkUnless result ValueError.OutOfMemory }
     {
         let cut = value.truncate(DateTimePrecision::Seconds);
-        Self::from_field_i64(alloc, field, cut.into_timestamp_nanos())
+        Self::from_field_u64(alloc, field, cut.to_u64())
     }
 
     pub fn from_field_ip_addr(
@@ -101,6 +107,47 @@ impl Term {
         ensures memory { IsOkUnless result ValueError.OutOfMemory }
     {
         Self::from_field_bytes(alloc, field, &value.octets())
+    }
+
+    /// The front of the terms of a path in a JSON field, which an append completes. The path is a text in which each
+    /// dot stands between two keys, but where a backslash precedes it: `\.` is a dot of a key.
+    pub fn from_field_json_path(
+        alloc: Global,
+        field: Field,
+        path: &str,
+        expand_dots: bool,
+    ) -> Result<Term, ValueError>
+        ensures ok { IfOk result
+            (λ t. t ≡ record { field = field; bytes = joined_path expand_dots (path_keys path.now) ++ 0 ∷ [] }) }
+        ensures memory { IsOkUnless result ValueError.OutOfMemory }
+    {
+        Ok(Term {
+            field,
+            bytes: path_bytes(alloc, path, expand_dots)?,
+        })
+    }
+
+    /// Appends the type code of texts, and a token.
+    pub fn append_type_and_str(&mut self, value: &str) -> Result<(), ValueError>
+        ensures ok { OnOk result (self.new ≡ record self.old { bytes = self.old.bytes ++ coded_token value.now }) }
+        ensures err { OnErr result (self.new ≡ self.old) }
+        ensures memory { IsOkUnless result ValueError.OutOfMemory }
+    {
+        push_coded(&mut self.bytes, b's', value.as_bytes())?;
+        Ok(())
+    }
+
+    /// Appends the type code of a value, and its bytes. A `u64` that fits an `i64` is coded as one, and a moment is cut
+    /// to whole seconds.
+    pub fn append_type_and_fast_value<T: FastValue>(&mut self, value: T) -> Result<(), ValueError>
+        ensures ok { OnOk result ((coded : List ℕ) × (coded_value (T.leaf value) ≡ coded ∷ [])
+            × (self.new ≡ record self.old { bytes = self.old.bytes ++ coded })) }
+        ensures err { OnErr result (self.new ≡ self.old) }
+        ensures memory { IsOkUnless result ValueError.OutOfMemory }
+    {
+        let (code, number) = coded_number(T::to_type(), value.to_u64());
+        push_coded(&mut self.bytes, code, &number.to_be_bytes())?;
+        Ok(())
     }
 
     /// A copy of the field and the bytes.
@@ -130,9 +177,17 @@ impl Term {
     }
 }
 
-/// The number whose place among the u64 is that of the value among the i64.
-fn raised_value(value: i64) -> u64
-    ensures { result ≡ raised value }
+/// Appends a type code and bytes after it, both or none.
+fn push_coded(out: &mut Vec<u8>, code: u8, value: &[u8]) -> Result<(), AllocError>
+    ensures ok { OnOk result (out.new.items ≡ out.old.items ++ code ∷ value.now) }
+    ensures err { OnErr result (out.new.items ≡ out.old.items) }
 {
-    value.abs_diff(i64::MIN)
+    out.push(code)?;
+    match out.extend_from_slice(value) {
+        Ok(()) => Ok(()),
+        Err(AllocError) => {
+            out.pop();
+            Err(AllocError)
+        }
+    }
 }

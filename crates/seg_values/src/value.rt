@@ -2,14 +2,14 @@
 ghost use Rattle.std.specs.Prelude.{◌≡◌, ◌<◌, slice_get, Some, List, ℕ, [], ◌∷◌, ◌++◌, length, OnOk, OnErr};
 
 use crate::facet::Facet;
-use seg_common::DateTime;
+use seg_dates::DateTime;
 use seg_words::{Bytes, PreTokenizedString, Text};
 use std::alloc::{AllocError, Global};
 use std::marker::Model;
 use std::net::Ipv6Addr;
 
 #[cycle(value)]
-#[derive(Drop)]
+#[derive(Debug, Drop)]
 pub enum OwnedValue {
     Null,
     Str(Text),
@@ -27,14 +27,14 @@ pub enum OwnedValue {
 
 /// Values, in order.
 #[cycle(value)]
-#[derive(Drop)]
+#[derive(Debug, Drop)]
 pub struct Values {
     pub(crate) values: Vec<OwnedValue>,
 }
 
 /// A key with its value.
 #[cycle(value)]
-#[derive(Drop)]
+#[derive(Debug, Drop)]
 pub struct Member {
     pub key: Text,
     pub value: OwnedValue,
@@ -42,7 +42,7 @@ pub struct Member {
 
 /// Keys with values, in order.
 #[cycle(value)]
-#[derive(Drop)]
+#[derive(Debug, Drop)]
 pub struct Members {
     pub(crate) members: Vec<Member>,
 }

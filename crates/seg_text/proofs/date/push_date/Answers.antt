@@ -1,5 +1,0 @@
-use Rattle.seg_text.proofs.PlainDates.{quoted_date}
-use Rattle.seg_text.proofs.date.push_date.Goals as goal
-
-pub returns : goal.returns
-returns c = quoted_date c.args.out.now.items c.push.new.self.items c.push_moment.new.out.items c.push-2.new.self.items c.args.date c.in_ok-push.ensures.items c.in_ok-push_moment.ensures c.in_ok-push-2.ensures.items
