@@ -1,17 +1,19 @@
 -- What is read of a list's items, one after another.
 use Rattle.std.proofs.Common.{◌≡◌, ◌≢◌, List, [], ◌∷◌, length, String, Global, None, refl}
-use Rattle.serde_json.specs.Data.{array, object}
+use Rattle.serde_json.specs.Data.{object}
 use Rattle.serde_json.specs.View.{items_view, members_view}
 use Rattle.serde_json.specs.declared.value.Value.{Value}
 use Rattle.seg_values.specs.declared.schema.FieldEntry.{FieldEntry}
-use Rattle.seg_script.specs.Documents.{named_text_from, operation_from}
+use Rattle.seg_script.specs.Operations.{operation_from}
+use Rattle.seg_script.specs.Pairs.{two_or_three}
 
--- a list of other than two values is no text with a name
-pub not_two : (vs : List Value) → length vs ≢ 2 → named_text_from (array (items_view vs)) ≡ None
-not_two [] h = refl
-not_two (v ∷ []) h = refl
-not_two (v ∷ w ∷ []) h = absurd (h refl)
-not_two (v ∷ w ∷ x ∷ vs) h = refl
+-- a list of other than two or three values
+pub not_two_or_three : (vs : List Value) → length vs ≢ 2 → length vs ≢ 3 → two_or_three (items_view vs) ≡ None
+not_two_or_three [] h k = refl
+not_two_or_three (v ∷ []) h k = refl
+not_two_or_three (v ∷ w ∷ []) h k = absurd (h refl)
+not_two_or_three (v ∷ w ∷ x ∷ []) h k = absurd (k refl)
+not_two_or_three (v ∷ w ∷ x ∷ y ∷ vs) h k = refl
 
 -- an object of other than one member is no operation
 pub not_one : (schema : List FieldEntry) (ms : List (String Global × Value)) → length ms ≢ 1 → operation_from schema (object (members_view ms)) ≡ None

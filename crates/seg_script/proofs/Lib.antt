@@ -1,9 +1,10 @@
 mod Ascending
 mod Chains
 mod Each
+mod Items
 mod Json
 mod Kept
-mod Items
 mod Limits
+mod PairParts
 mod Schema
-mod TextFields
+mod WellFormed

@@ -4,26 +4,17 @@ use Rattle.std.specs.List.{list_any}
 use Rattle.std.specs.Str.{bytes_eq}
 use Rattle.serde_json.specs.Data.{Data}
 use Rattle.serde_json.specs.Find.{as_bool, as_str}
-use Rattle.seg_common.specs.declared.date.DateTimePrecision.TheVariants.{Seconds}
-use Rattle.seg_values.specs.Names.{field_named}
+use Rattle.seg_dates.specs.declared.precision.DateTimePrecision.TheVariants.{Seconds}
+use Rattle.seg_values.specs.Names.{field_named, is_allowed, kept_entry}
 use Rattle.seg_values.specs.declared.schema.FieldEntry.{FieldEntry}
-use Rattle.seg_values.specs.declared.schema.FieldKind.{FieldKind}
-use Rattle.seg_values.specs.declared.schema.FieldKind.TheVariants as kind
 use Rattle.seg_values.specs.declared.schema.IndexOption.TheVariants as index
 use Rattle.seg_model.specs.Fields.{is_text, is_on}
-use Rattle.seg_meta.specs.PartsRead.{index_options}
+use Rattle.seg_meta.specs.PartsRead.{kinds, index_options, precisions, entry_members}
 use Rattle.seg_meta.specs.Reads.{given, provided, required, nullable, word_of, list_of, has_only}
-use Rattle.seg_script.specs.Reads.{optional}
+use Rattle.seg_script_values.specs.Reads.{optional}
 
--- the kinds of a field, by their words
-abbrev pub kinds : List (List ℕ × FieldKind)
-kinds = (codes "text", kind.Text) ∷ []
-
--- the members of an entry
-abbrev pub entry_members : List (List ℕ)
-entry_members = codes "name" ∷ codes "kind" ∷ codes "stored" ∷ codes "index" ∷ codes "tokenizer" ∷ codes "norms" ∷ []
-
--- an entry without columns; an indexed text field has lengths where it doesn't say otherwise
+-- an entry, of which the name and the kind must be there; an indexed text field has lengths where it doesn't say otherwise,
+-- and a facet is kept as all facets are
 abbrev pub entry_from : Data → Option FieldEntry
 entry_from d =
     provided (has_only entry_members d)
@@ -33,7 +24,12 @@ entry_from d =
     given (optional index.No (word_of index_options) (codes "index") d) (λ index.
     given (optional None (nullable as_str) (codes "tokenizer") d) (λ tokenizer.
     given (optional (is_text kind && is_on index) as_bool (codes "norms") d) (λ norms.
-    Some (record { name = name; kind = kind; stored = stored; index = index; tokenizer = tokenizer; norms = norms; fast = false; fast_tokenizer = None; precision = Seconds; expand_dots = false }))))))))
+    given (optional false as_bool (codes "fast") d) (λ fast.
+    given (optional None (nullable as_str) (codes "fast_tokenizer") d) (λ fast_tokenizer.
+    given (optional Seconds (word_of precisions) (codes "precision") d) (λ precision.
+    given (optional false as_bool (codes "expand_dots") d) (λ expand_dots.
+    provided (is_allowed kind index)
+    (Some (kept_entry (record { name = name; kind = kind; stored = stored; index = index; tokenizer = tokenizer; norms = norms; fast = fast; fast_tokenizer = fast_tokenizer; precision = precision; expand_dots = expand_dots }))))))))))))))
 
 -- an entry has this name
 abbrev pub has_name : List ℕ → List FieldEntry → Bool

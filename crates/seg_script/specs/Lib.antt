@@ -1,7 +1,8 @@
-pub mod Documents
+pub mod Deletes
 pub mod Fields
 pub mod Filters
 pub mod Laws
-pub mod Reads
+pub mod Operations
+pub mod Pairs
 pub mod Script
 pub mod Settings

@@ -8,11 +8,11 @@ use Rattle.serde_json.specs.Read.{read}
 use Rattle.seg_model.specs.Input.{Input}
 use Rattle.seg_meta.specs.PartsRead.{id_from}
 use Rattle.seg_meta.specs.Reads.{given, provided, required, natural, nullable, list_of, has_only}
-use Rattle.seg_script.specs.Reads.{optional}
+use Rattle.seg_script_values.specs.Reads.{optional}
 use Rattle.seg_script.specs.Fields.{schema_from}
 use Rattle.seg_script.specs.Settings.{default_settings, settings_from}
 use Rattle.seg_script.specs.Filters.{filter_from}
-use Rattle.seg_script.specs.Documents.{operation_from}
+use Rattle.seg_script.specs.Operations.{operation_from}
 
 -- the members of a script
 abbrev pub script_members : List (List ℕ)

@@ -5,7 +5,7 @@ use Rattle.serde_json.specs.Find.{as_bool}
 use Rattle.seg_model.specs.Input.{uncompressed, Settings}
 use Rattle.seg_meta.specs.PartsRead.{settings_members, compressions}
 use Rattle.seg_meta.specs.Reads.{given, provided, below, word_of, has_only}
-use Rattle.seg_script.specs.Reads.{optional}
+use Rattle.seg_script_values.specs.Reads.{optional}
 
 -- the settings of a script that says nothing of them
 abbrev pub default_settings : Settings

@@ -5,10 +5,8 @@ use std::alloc::AllocError;
 /// Why there is no script.
 #[derive(Clone, Copy, Debug, PartialEq, Eq)]
 pub enum ScriptError {
-    /// The bytes are no JSON text.
-    NotJson,
-    /// The JSON value says something that is not built yet, or is no script at all.
-    Later,
+    /// The bytes are no JSON text, or their JSON value says no script.
+    NotScript,
     OutOfMemory,
 }
 

@@ -1,18 +1,19 @@
 //! Reads the schema of a script.
-ghost use Rattle.std.specs.Prelude.{◌≡◌, ◌≢◌, ◌+◌, ◌-◌, ◌<◌, ◌^◌, [], ◌∷◌, ◌++◌, ◌&&◌, length, codes, Some, None, Err, IfOk, OnOk, IsSome};
+ghost use Rattle.std.specs.Prelude.{◌≡◌, ◌+◌, ◌-◌, ◌<◌, ◌^◌, [], ◌∷◌, ◌++◌, ◌&&◌, length, codes, true, Some, None, Err, IfOk, OnOk, IsSome};
 ghost use Rattle.serde_json.specs.Find.{as_str};
 ghost use Rattle.serde_json.specs.View.{view};
-ghost use Rattle.seg_values.specs.Names.{field_named};
+ghost use Rattle.seg_dates.specs.declared.precision.DateTimePrecision.TheVariants.{Seconds};
+ghost use Rattle.seg_values.specs.Names.{field_named, is_allowed, kept_entry};
 ghost use Rattle.seg_values.specs.declared.schema.IndexOption.TheVariants.{No};
 ghost use Rattle.seg_model.specs.Fields.{is_text, is_on};
-ghost use Rattle.seg_meta.specs.PartsRead.{index_options};
+ghost use Rattle.seg_meta.specs.PartsRead.{kinds, index_options, precisions};
 ghost use Rattle.seg_meta.specs.Reads.{required, nullable, word_of};
-ghost use Rattle.seg_script.specs.Reads.{optional};
-ghost use Rattle.seg_script.specs.Fields.{kinds, entry_from, schema_from, field_or_past};
+ghost use Rattle.seg_script_values.specs.Reads.{optional};
+ghost use Rattle.seg_script.specs.Fields.{entry_from, schema_from, field_or_past};
 
 use crate::error::ScriptError;
-use crate::members::{flag_or, has_only, text_at};
-use seg_common::DateTimePrecision;
+use seg_dates::DateTimePrecision;
+use seg_script_values::{flag_or, has_only, kind_from, text_at};
 use seg_values::{
     Field, FieldEntry, FieldKind, IndexOption, Schema, SchemaBuilder, SchemaCause, TantivyError,
 };
@@ -20,17 +21,30 @@ use seg_words::Text;
 use serde_json::Value;
 use std::alloc::Global;
 
+/// The members of an entry.
+const MEMBERS: [&str; 10] = [
+    "expand_dots",
+    "fast",
+    "fast_tokenizer",
+    "index",
+    "kind",
+    "name",
+    "norms",
+    "precision",
+    "stored",
+    "tokenizer",
+];
+
 /// The schema that a list of entries is.
 pub(crate) fn schema_from(alloc: Global, json: &Value) -> Result<Schema, ScriptError>
     ensures ok { IfOk result (λ s. schema_from (view json.now) ≡ Some s) }
-    ensures later { result ≡ Err ScriptError.Later → schema_from (view json.now) ≡ None }
-    ensures never { result ≢ Err ScriptError.NotJson }
+    ensures none { result ≡ Err ScriptError.NotScript → schema_from (view json.now) ≡ None }
 {
     let Some(items) = json.as_array() else {
-        return Err(ScriptError::Later);
+        return Err(ScriptError::NotScript);
     };
     if items.len() >= u32::MAX as usize {
-        return Err(ScriptError::Later);
+        return Err(ScriptError::NotScript);
     }
     let mut builder = SchemaBuilder::new(alloc);
     for item in items {
@@ -54,38 +68,40 @@ pub(crate) fn field_or_past(schema: &Schema, name: &str) -> Field
 /// Adds an entry, unless one with its name is there.
 fn add_entry(builder: &mut SchemaBuilder, entry: FieldEntry) -> Result<(), ScriptError>
     requires few { length builder.old + 1 < 2 ^ 32 - 1 }
-    requires text { entry.kind ≡ FieldKind.Text }
-    ensures ok { OnOk result (builder.new ≡ builder.old ++ entry ∷ []) }
+    requires allowed { is_allowed entry.kind entry.index ≡ true }
+    ensures ok { OnOk result (builder.new ≡ builder.old ++ kept_entry entry ∷ []) }
     ensures distinct { OnOk result (field_named builder.old entry.name ≡ None) }
-    ensures later { result ≡ Err ScriptError.Later → IsSome (field_named builder.old entry.name) }
-    ensures never { result ≢ Err ScriptError.NotJson }
+    ensures none { result ≡ Err ScriptError.NotScript → IsSome (field_named builder.old entry.name) }
 {
     match builder.add_field(entry) {
         Ok(_) => Ok(()),
-        Err(TantivyError::SchemaError(SchemaCause::DuplicateName)) => Err(ScriptError::Later),
+        Err(TantivyError::SchemaError(SchemaCause::DuplicateName)) => Err(ScriptError::NotScript),
         Err(_) => Err(ScriptError::OutOfMemory),
     }
 }
 
-/// A field of the schema.
+/// A field of the schema, as it was said.
 fn entry_from(alloc: Global, json: &Value) -> Result<FieldEntry, ScriptError>
-    ensures ok { IfOk result (λ e. entry_from (view json.now) ≡ Some e) }
-    ensures text { IfOk result (λ e. e.kind ≡ FieldKind.Text) }
-    ensures later { result ≡ Err ScriptError.Later → entry_from (view json.now) ≡ None }
-    ensures never { result ≢ Err ScriptError.NotJson }
+    ensures ok { IfOk result (λ e. entry_from (view json.now) ≡ Some (kept_entry e)) }
+    ensures allowed { IfOk result (λ e. is_allowed e.kind e.index ≡ true) }
+    ensures none { result ≡ Err ScriptError.NotScript → entry_from (view json.now) ≡ None }
 {
-    if !has_only(
-        json,
-        &["name", "kind", "stored", "index", "tokenizer", "norms"],
-    ) {
-        return Err(ScriptError::Later);
+    if !has_only(json, &MEMBERS) {
+        return Err(ScriptError::NotScript);
     }
-    let name = text_at(json, "name").ok_or(ScriptError::Later)?;
-    let kind = kind_at(json).ok_or(ScriptError::Later)?;
-    let stored = flag_or(false, json, "stored").ok_or(ScriptError::Later)?;
-    let index = index_at(json).ok_or(ScriptError::Later)?;
-    let tokenizer = tokenizer_at(alloc, json)?;
-    let norms = flag_or(has_lengths(kind, index), json, "norms").ok_or(ScriptError::Later)?;
+    let name = text_at(json, "name").ok_or(ScriptError::NotScript)?;
+    let kind = kind_at(json).ok_or(ScriptError::NotScript)?;
+    let stored = flag_or(false, json, "stored").ok_or(ScriptError::NotScript)?;
+    let index = index_at(json).ok_or(ScriptError::NotScript)?;
+    let tokenizer = text_or_null_at(alloc, json, "tokenizer")?;
+    let norms = flag_or(has_lengths(kind, index), json, "norms").ok_or(ScriptError::NotScript)?;
+    let fast = flag_or(false, json, "fast").ok_or(ScriptError::NotScript)?;
+    let fast_tokenizer = text_or_null_at(alloc, json, "fast_tokenizer")?;
+    let precision = precision_at(json).ok_or(ScriptError::NotScript)?;
+    let expand_dots = flag_or(false, json, "expand_dots").ok_or(ScriptError::NotScript)?;
+    if !is_allowed(kind, index) {
+        return Err(ScriptError::NotScript);
+    }
     Ok(FieldEntry {
         name: Text::copy_of(alloc, name)?,
         kind,
@@ -93,20 +109,17 @@ fn entry_from(alloc: Global, json: &Value) -> Result<FieldEntry, ScriptError>
         index,
         tokenizer,
         norms,
-        fast: false,
-        fast_tokenizer: None,
-        precision: DateTimePrecision::Seconds,
-        expand_dots: false,
+        fast,
+        fast_tokenizer,
+        precision,
+        expand_dots,
     })
 }
 
 fn kind_at(json: &Value) -> Option<FieldKind>
     ensures { result ≡ required (word_of kinds) (codes "kind") (view json.now) }
 {
-    match text_at(json, "kind")? {
-        "text" => Some(FieldKind::Text),
-        _ => None,
-    }
+    kind_from(text_at(json, "kind")?)
 }
 
 fn index_at(json: &Value) -> Option<IndexOption>
@@ -124,6 +137,21 @@ fn index_at(json: &Value) -> Option<IndexOption>
     }
 }
 
+fn precision_at(json: &Value) -> Option<DateTimePrecision>
+    ensures { result ≡ optional Seconds (word_of precisions) (codes "precision") (view json.now) }
+{
+    let Some(word) = json.get("precision") else {
+        return Some(DateTimePrecision::Seconds);
+    };
+    match word.as_str()? {
+        "seconds" => Some(DateTimePrecision::Seconds),
+        "milliseconds" => Some(DateTimePrecision::Milliseconds),
+        "microseconds" => Some(DateTimePrecision::Microseconds),
+        "nanoseconds" => Some(DateTimePrecision::Nanoseconds),
+        _ => None,
+    }
+}
+
 /// Whether a field has lengths where its entry doesn't say.
 fn has_lengths(kind: FieldKind, index: IndexOption) -> bool
     ensures { result ≡ (is_text kind && is_on index) }
@@ -131,15 +159,24 @@ fn has_lengths(kind: FieldKind, index: IndexOption) -> bool
     kind == FieldKind::Text && index != IndexOption::No
 }
 
-fn tokenizer_at(alloc: Global, json: &Value) -> Result<Option<Text>, ScriptError>
-    ensures ok { IfOk result (λ t. optional None (nullable as_str) (codes "tokenizer") (view json.now) ≡ Some t) }
-    ensures later { result ≡ Err ScriptError.Later
-        → optional None (nullable as_str) (codes "tokenizer") (view json.now) ≡ None }
-    ensures never { result ≢ Err ScriptError.NotJson }
+/// Whether terms of a field of this kind may record so much.
+fn is_allowed(kind: FieldKind, index: IndexOption) -> bool
+    ensures { result ≡ is_allowed kind index }
 {
-    match json.get("tokenizer") {
+    match kind {
+        FieldKind::Text | FieldKind::Json => true,
+        _ => matches!(index, IndexOption::No | IndexOption::Basic),
+    }
+}
+
+/// The text that a member is; none where it is null or absent.
+fn text_or_null_at(alloc: Global, json: &Value, name: &str) -> Result<Option<Text>, ScriptError>
+    ensures ok { IfOk result (λ t. optional None (nullable as_str) name.now (view json.now) ≡ Some t) }
+    ensures none { result ≡ Err ScriptError.NotScript → optional None (nullable as_str) name.now (view json.now) ≡ None }
+{
+    match json.get(name) {
         None | Some(Value::Null) => Ok(None),
-        Some(Value::String(name)) => Ok(Some(Text::copy_of(alloc, name.as_str())?)),
-        _ => Err(ScriptError::Later),
+        Some(Value::String(text)) => Ok(Some(Text::copy_of(alloc, text.as_str())?)),
+        _ => Err(ScriptError::NotScript),
     }
 }

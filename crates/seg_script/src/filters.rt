@@ -1,15 +1,15 @@
 //! Reads the filters of a script.
-ghost use Rattle.std.specs.Prelude.{◌≡◌, ◌≢◌, ◌+◌, ◌<◌, ◌^◌, length, replicate, codes, Some, None, Err, IfOk};
+ghost use Rattle.std.specs.Prelude.{◌≡◌, ◌+◌, ◌<◌, length, replicate, codes, Some, None, Err, IfOk};
 ghost use Rattle.serde_json.specs.View.{view};
 ghost use Rattle.seg_meta.specs.Reads.{below, nullable, list_of};
-ghost use Rattle.seg_script.specs.Reads.{optional};
+ghost use Rattle.seg_script_values.specs.Reads.{optional};
 ghost use Rattle.seg_script.specs.Filters.{filter_from};
 
 use crate::error::ScriptError;
 use crate::kept_documents::{alive_set, ascends};
-use crate::members::{has_only, small_at};
 use crate::pushing::push;
 use seg_bits::AliveBitSet;
+use seg_script_values::{has_only, small_at};
 use serde_json::Value;
 use std::alloc::{AllocError, Global};
 
@@ -20,9 +20,8 @@ pub(crate) fn filters_at(
     cuts: &[usize],
 ) -> Result<Vec<Option<AliveBitSet>>, ScriptError>
     ensures ok { IfOk result (λ f. optional (replicate (length cuts.now + 1) None) (list_of (nullable filter_from)) (codes "filters") (view json.now) ≡ Some f.items) }
-    ensures later { result ≡ Err ScriptError.Later
+    ensures none { result ≡ Err ScriptError.NotScript
         → optional (replicate (length cuts.now + 1) None) (list_of (nullable filter_from)) (codes "filters") (view json.now) ≡ None }
-    ensures never { result ≢ Err ScriptError.NotJson }
 {
     match json.get("filters") {
         None => Ok(no_filters(alloc, cuts)?),
@@ -45,11 +44,10 @@ fn no_filters(alloc: Global, cuts: &[usize]) -> Result<Vec<Option<AliveBitSet>>,
 /// The filters that a list is.
 fn filters_from(alloc: Global, json: &Value) -> Result<Vec<Option<AliveBitSet>>, ScriptError>
     ensures ok { IfOk result (λ f. list_of (nullable filter_from) (view json.now) ≡ Some f.items) }
-    ensures later { result ≡ Err ScriptError.Later → list_of (nullable filter_from) (view json.now) ≡ None }
-    ensures never { result ≢ Err ScriptError.NotJson }
+    ensures none { result ≡ Err ScriptError.NotScript → list_of (nullable filter_from) (view json.now) ≡ None }
 {
     let Some(items) = json.as_array() else {
-        return Err(ScriptError::Later);
+        return Err(ScriptError::NotScript);
     };
     let mut filters = Vec::new(alloc);
     for item in items {
@@ -62,8 +60,7 @@ fn filters_from(alloc: Global, json: &Value) -> Result<Vec<Option<AliveBitSet>>,
 /// A filter, or none.
 fn filter_or_null(alloc: Global, json: &Value) -> Result<Option<AliveBitSet>, ScriptError>
     ensures ok { IfOk result (λ f. nullable filter_from (view json.now) ≡ Some f) }
-    ensures later { result ≡ Err ScriptError.Later → nullable filter_from (view json.now) ≡ None }
-    ensures never { result ≢ Err ScriptError.NotJson }
+    ensures none { result ≡ Err ScriptError.NotScript → nullable filter_from (view json.now) ≡ None }
 {
     match json {
         Value::Null => Ok(None),
@@ -74,16 +71,15 @@ fn filter_or_null(alloc: Global, json: &Value) -> Result<Option<AliveBitSet>, Sc
 /// `{"size": number, "drop": [documents]}`
 fn filter_from(alloc: Global, json: &Value) -> Result<AliveBitSet, ScriptError>
     ensures ok { IfOk result (λ f. filter_from (view json.now) ≡ Some f) }
-    ensures later { result ≡ Err ScriptError.Later → filter_from (view json.now) ≡ None }
-    ensures never { result ≢ Err ScriptError.NotJson }
+    ensures none { result ≡ Err ScriptError.NotScript → filter_from (view json.now) ≡ None }
 {
     if !has_only(json, &["size", "drop"]) {
-        return Err(ScriptError::Later);
+        return Err(ScriptError::NotScript);
     }
-    let size = small_at(json, "size").ok_or(ScriptError::Later)?;
-    let dropped = dropped_from(alloc, size, json.get("drop").ok_or(ScriptError::Later)?)?;
+    let size = small_at(json, "size").ok_or(ScriptError::NotScript)?;
+    let dropped = dropped_from(alloc, size, json.get("drop").ok_or(ScriptError::NotScript)?)?;
     if !ascends(&dropped) {
-        return Err(ScriptError::Later);
+        return Err(ScriptError::NotScript);
     }
     Ok(alive_set(alloc, size, &dropped)?)
 }
@@ -91,16 +87,15 @@ fn filter_from(alloc: Global, json: &Value) -> Result<AliveBitSet, ScriptError>
 /// The dropped documents, each below the number of all.
 fn dropped_from(alloc: Global, size: u32, json: &Value) -> Result<Vec<u32>, ScriptError>
     ensures ok { IfOk result (λ d. list_of (below size) (view json.now) ≡ Some d.items) }
-    ensures later { result ≡ Err ScriptError.Later → list_of (below size) (view json.now) ≡ None }
-    ensures never { result ≢ Err ScriptError.NotJson }
+    ensures none { result ≡ Err ScriptError.NotScript → list_of (below size) (view json.now) ≡ None }
 {
     let Some(items) = json.as_array() else {
-        return Err(ScriptError::Later);
+        return Err(ScriptError::NotScript);
     };
     let mut dropped = Vec::new(alloc);
     for item in items {
         let Some(document) = document_below(size, item) else {
-            return Err(ScriptError::Later);
+            return Err(ScriptError::NotScript);
         };
         push(&mut dropped, document)?;
     }

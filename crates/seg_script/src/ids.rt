@@ -1,10 +1,10 @@
 //! Reads the ids of a script.
-ghost use Rattle.std.specs.Prelude.{◌≡◌, ◌≢◌, ◌+◌, length, codes, Some, None, Err, IfOk};
+ghost use Rattle.std.specs.Prelude.{◌≡◌, ◌+◌, length, codes, Some, None, Err, IfOk};
 ghost use Rattle.std.specs.List.{range_with_len};
 ghost use Rattle.serde_json.specs.View.{view};
 ghost use Rattle.seg_meta.specs.PartsRead.{id_from};
 ghost use Rattle.seg_meta.specs.Reads.{list_of};
-ghost use Rattle.seg_script.specs.Reads.{optional};
+ghost use Rattle.seg_script_values.specs.Reads.{optional};
 ghost use Rattle.seg_script.specs.Script.{id_of};
 
 use crate::error::ScriptError;
@@ -20,9 +20,8 @@ pub(crate) fn ids_at(
     cuts: &[usize],
 ) -> Result<Vec<SegmentId>, ScriptError>
     ensures ok { IfOk result (λ i. optional (range_with_len 1 (length cuts.now + 2)) (list_of id_of) (codes "ids") (view json.now) ≡ Some i.items) }
-    ensures later { result ≡ Err ScriptError.Later
+    ensures none { result ≡ Err ScriptError.NotScript
         → optional (range_with_len 1 (length cuts.now + 2)) (list_of id_of) (codes "ids") (view json.now) ≡ None }
-    ensures never { result ≢ Err ScriptError.NotJson }
 {
     match json.get("ids") {
         None => Ok(numbered_ids(alloc, cuts)?),
@@ -45,16 +44,15 @@ fn numbered_ids(alloc: Global, cuts: &[usize]) -> Result<Vec<SegmentId>, AllocEr
 /// The ids that a list is.
 fn ids_from(alloc: Global, json: &Value) -> Result<Vec<SegmentId>, ScriptError>
     ensures ok { IfOk result (λ i. list_of id_of (view json.now) ≡ Some i.items) }
-    ensures later { result ≡ Err ScriptError.Later → list_of id_of (view json.now) ≡ None }
-    ensures never { result ≢ Err ScriptError.NotJson }
+    ensures none { result ≡ Err ScriptError.NotScript → list_of id_of (view json.now) ≡ None }
 {
     let Some(items) = json.as_array() else {
-        return Err(ScriptError::Later);
+        return Err(ScriptError::NotScript);
     };
     let mut ids = Vec::new(alloc);
     for item in items {
         let Some(id) = id_of(item) else {
-            return Err(ScriptError::Later);
+            return Err(ScriptError::NotScript);
         };
         push(&mut ids, id)?;
     }

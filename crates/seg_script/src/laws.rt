@@ -1,7 +1,7 @@
 //! What every script holds.
-ghost use Rattle.seg_script.specs.Laws.{ScriptsHoldTextFields};
+ghost use Rattle.seg_script.specs.Laws.{ScriptsAreWellFormed};
 
-/// A script holds text fields without columns, and operations on their texts.
-pub fn scripts_hold_text_fields()
-    ensures { ScriptsHoldTextFields }
+/// A script has fields whose options go with their kinds, under distinct names, and operations on these fields.
+pub fn scripts_are_well_formed()
+    ensures { ScriptsAreWellFormed }
 {}

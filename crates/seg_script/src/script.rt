@@ -1,25 +1,24 @@
 //! A script, whole.
-ghost use Rattle.std.specs.Prelude.{◌≡◌, ◌≢◌, Some, None, Err, IfOk, IsSome};
+ghost use Rattle.std.specs.Prelude.{◌≡◌, Some, None, Err, IfOk};
 ghost use Rattle.serde_json.specs.View.{view};
-ghost use Rattle.seg_script.specs.Script.{script_from, json_of, script};
+ghost use Rattle.seg_script.specs.Script.{script_from, script};
 
 use crate::cuts::cuts_at;
-use crate::documents::operations_from;
 use crate::error::ScriptError;
 use crate::fields::schema_from;
 use crate::filters::filters_at;
 use crate::ids::ids_at;
-use crate::members::{has_only, take_member};
+use crate::operations::operations_from;
 use crate::settings::settings_at;
 use seg_input::BuildInput;
+use seg_script_values::{has_only, take_member};
 use serde_json::Value;
 use std::alloc::Global;
 
-/// The input that the bytes say. They are let go as soon as their JSON value is there.
+/// The input that the bytes say. They are let go as soon as their JSON value is there, and texts are moved out of it.
 pub fn read_script(alloc: Global, bytes: Vec<u8>) -> Result<BuildInput, ScriptError>
     ensures ok { IfOk result (λ s. script bytes.items ≡ Some s) }
-    ensures not_json { result ≡ Err ScriptError.NotJson → json_of bytes.items ≡ None }
-    ensures later { result ≡ Err ScriptError.Later → IsSome (json_of bytes.items) × (script bytes.items ≡ None) }
+    ensures not_script { result ≡ Err ScriptError.NotScript → script bytes.items ≡ None }
 {
     let read = Value::from_slice(alloc, &bytes);
     drop(bytes);
@@ -29,7 +28,7 @@ pub fn read_script(alloc: Global, bytes: Vec<u8>) -> Result<BuildInput, ScriptEr
             if e.is_memory() {
                 Err(ScriptError::OutOfMemory)
             } else {
-                Err(ScriptError::NotJson)
+                Err(ScriptError::NotScript)
             }
         }
     }
@@ -38,21 +37,20 @@ pub fn read_script(alloc: Global, bytes: Vec<u8>) -> Result<BuildInput, ScriptEr
 /// The input that a JSON value says.
 fn script_from(alloc: Global, json: Value) -> Result<BuildInput, ScriptError>
     ensures ok { IfOk result (λ s. script_from (view json) ≡ Some s) }
-    ensures later { result ≡ Err ScriptError.Later → script_from (view json) ≡ None }
-    ensures never { result ≢ Err ScriptError.NotJson }
+    ensures none { result ≡ Err ScriptError.NotScript → script_from (view json) ≡ None }
 {
     if !has_only(
         &json,
         &["schema", "settings", "operations", "cuts", "filters", "ids"],
     ) {
-        return Err(ScriptError::Later);
+        return Err(ScriptError::NotScript);
     }
-    let schema = schema_from(alloc, json.get("schema").ok_or(ScriptError::Later)?)?;
-    let settings = settings_at(&json).ok_or(ScriptError::Later)?;
+    let schema = schema_from(alloc, json.get("schema").ok_or(ScriptError::NotScript)?)?;
+    let settings = settings_at(&json).ok_or(ScriptError::NotScript)?;
     let cuts = cuts_at(alloc, &json)?;
     let filters = filters_at(alloc, &json, &cuts)?;
     let ids = ids_at(alloc, &json, &cuts)?;
-    let operations = take_member(json, "operations").ok_or(ScriptError::Later)?;
+    let operations = take_member(json, "operations").ok_or(ScriptError::NotScript)?;
     let operations = operations_from(alloc, &schema, operations)?;
     Ok(BuildInput {
         schema,

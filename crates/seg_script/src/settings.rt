@@ -5,11 +5,11 @@ ghost use Rattle.seg_model.specs.Input.{uncompressed};
 ghost use Rattle.seg_meta.specs.PartsRead.{compressions};
 ghost use Rattle.seg_meta.specs.Reads.{word_of};
 ghost use Rattle.seg_meta.specs.View.{settings_of, compression_of};
-ghost use Rattle.seg_script.specs.Reads.{optional};
+ghost use Rattle.seg_script_values.specs.Reads.{optional};
 ghost use Rattle.seg_script.specs.Settings.{default_settings, settings_from};
 
-use crate::members::{flag_or, has_only, small_or};
 use seg_meta::IndexSettings;
+use seg_script_values::{flag_or, has_only, small_or};
 use seg_values::Compressor;
 use serde_json::Value;
 

@@ -1,11 +1,10 @@
 -- What it says that the job of a script ended with a status and no text, or with a text.
 use Rattle.std.proofs.Common.{◌≡◌, ◌≢◌, ◌∙◌, ℕ, List, Option, None, Some, Result, Ok, Err, IsTrue, refl, sym, ap, subst, inl, inr}
-use Rattle.std.specs.Prelude.{◌⊎◌, IfSome, IsSome}
+use Rattle.std.specs.Prelude.{◌⊎◌, IfSome, IsSome, is_some}
 use Rattle.std.proofs.lemmas.Option.{MatchOption-from_none}
 use Rattle.seg_values.specs.declared.error.ArgumentCause.TheVariants.{Documents, Later}
 use Rattle.seg_values.specs.declared.error.TantivyError.{TantivyError}
 use Rattle.seg_values.specs.declared.error.TantivyError.TheVariants.{SchemaError, InvalidArgument, IndexAlreadyExists, OpenReadError, OpenWriteError, IoError, DataCorruption, SystemError, FieldNotFound, OutOfMemory}
-use Rattle.seg_meta.specs.Reads.{given}
 use Rattle.seg_model.specs.Fields.{Analyzer}
 use Rattle.seg_model.specs.Input.{Input}
 use Rattle.seg_model.specs.Refused.{IfRefusal}
@@ -13,9 +12,9 @@ use Rattle.seg_model.specs.Valid.{Known}
 use Rattle.seg_refusals.specs.Refusals.{first_error}
 use Rattle.seg_merge.specs.Turns.{Directories}
 use Rattle.seg_merge.proofs.Exports.{IsBuildError, RoseIn}
-use Rattle.seg_script.specs.Script.{json_of, script, script_from}
+use Rattle.seg_script.specs.Script.{script}
 use Rattle.seg_tool.specs.DirectoryCalls.{BuildDoes, Stopped}
-use Rattle.seg_tool.specs.Jobs.{AreEmpty, BuildsScript, BuildsText, NotBuilt, WithStatus, no_json, no_memory, no_script, of_input}
+use Rattle.seg_tool.specs.Jobs.{AreEmpty, BuildsScript, BuildsText, NotBuilt, WithStatus, no_memory, no_script, of_input}
 use Rattle.seg_tool.specs.Run.{first_of, refusal_of, IsWhyRefused, IsWhyRefusedUntold}
 use Rattle.seg_tool.specs.Statuses.{IfRefused, IfWritten, RefusedFor, status_of}
 use Rattle.seg_tool.specs.declared.status.Status.{Status}
@@ -23,16 +22,6 @@ use Rattle.seg_tool.specs.declared.status.Status.TheVariants.{Done, Words, Scrip
 use Rattle.seg_tool.specs.declared.words.Detail.{Detail}
 use Rattle.seg_tool.proofs.BuildLaws.{NotPrinted, not_admitted, not_damaged, not_error, not_first, not_fresh, not_printed, not_refused, not_untold}
 use Rattle.seg_tool.proofs.StatusLaws.{IsEarly, IsErrorOf, IsOfError, answer_of, early_error, error_of, exists_only, first_statuses, if_refused, is_error, of_error, refused_as, undamaged_as, when_written}
-
--- ---- scripts
-
--- what is a script is JSON text
-some_given : {X Y : Type 0} (o : Option X) (f : X → Option Y) (y : Y) → given o f ≡ Some y → IsSome o
-some_given None f y is = absurd (cc is)
-some_given (Some x) f y is = refl
-
-json_some : (bytes : List ℕ) (meant : Input) → script bytes ≡ Some meant → IsSome (json_of bytes)
-json_some bytes meant is = some_given (json_of bytes) script_from meant is
 
 -- ---- the first refusal
 
@@ -53,10 +42,9 @@ module _ (status : Status) (a b : Directories) (e : TantivyError) (is : status �
 
 -- ---- how it ended
 
--- with a status: the bytes are no JSON text, or no script of what is built so far; memory ran out; or it is that of an error
+-- with a status: the bytes are no script; memory ran out; or it is that of an error
 pub data Ends (known : Known) (analyzer : Analyzer) (detail : Detail) (bytes : List ℕ) (status : Status) (a b : Directories) : Type 0 where
-  e_json : status ≡ Script → json_of bytes ≡ None → b ≡ a → Ends known analyzer detail bytes status a b
-  e_script : status ≡ Refused (InvalidArgument Later) → IsSome (json_of bytes) → script bytes ≡ None → b ≡ a → Ends known analyzer detail bytes status a b
+  e_script : status ≡ Script → script bytes ≡ None → b ≡ a → Ends known analyzer detail bytes status a b
   e_memory : status ≡ Memory → b ≡ a → Ends known analyzer detail bytes status a b
   e_input : (meant : Input) (e : TantivyError) → script bytes ≡ Some meant → status ≡ status_of e
       → BuildsText known analyzer meant detail (Err e) a b → NotPrinted known analyzer meant detail e a b → Ends known analyzer detail bytes status a b
@@ -69,8 +57,7 @@ pub record Prints (known : Known) (analyzer : Analyzer) (detail : Detail) (bytes
 
 module _ {known : Known} {analyzer : Analyzer} {detail : Detail} {bytes : List ℕ} {a b : Directories} where
   pub script_ends : {status : Status} → BuildsScript known analyzer detail bytes (Err status) a b → Ends known analyzer detail bytes status a b
-  script_ends (no_json is none same) = e_json (cc is) none same
-  script_ends (no_script is json none same) = e_script (cc is) json none same
+  script_ends (no_script is none same) = e_script (cc is) none same
   script_ends (no_memory is same) = e_memory (cc is) same
   script_ends {status = status} (of_input meant says w) = by (error_of status w.answer w.is)
     where
@@ -80,8 +67,7 @@ module _ {known : Known} {analyzer : Analyzer} {detail : Detail} {bytes : List �
           e_input meant e says told stops (not_printed known analyzer meant detail e a b stops)
 
   pub script_prints : {text : List ℕ} → BuildsScript known analyzer detail bytes (Ok text) a b → Prints known analyzer detail bytes text a b
-  script_prints (no_json is none same) = absurd (cc is)
-  script_prints (no_script is json none same) = absurd (cc is)
+  script_prints (no_script is none same) = absurd (cc is)
   script_prints (no_memory is same) = absurd (cc is)
   script_prints {text = text} (of_input meant says w) = record {
     meant = meant;
@@ -97,40 +83,35 @@ module _ {known : Known} {analyzer : Analyzer} {detail : Detail} {a b : Director
   ends_as meant OpenWriteError s h = (inr (inl refl), record { meant = meant; stops = s })
   ends_as meant IoError s h = (inr (inr refl), record { meant = meant; stops = s })
   ends_as meant OutOfMemory s h = inr (record { meant = meant; stops = s })
-  ends_as meant (SchemaError cause) s h = inr (record { meant = meant; stops = s })
-  ends_as meant (InvalidArgument cause) s h = inr (record { meant = meant; stops = s })
+  ends_as meant (SchemaError cause) s h = record { meant = meant; stops = s }
+  ends_as meant (InvalidArgument cause) s h = record { meant = meant; stops = s }
   ends_as meant (DataCorruption name) s h = (tt, record { meant = meant; stops = s })
   ends_as meant SystemError s h = absurd h
   ends_as meant FieldNotFound s h = absurd h
 
 module _ {known : Known} {analyzer : Analyzer} {detail : Detail} {bytes : List ℕ} {status : Status} {a b : Directories} where
   pub ended_early : Ends known analyzer detail bytes status a b → IsEarly status
-  ended_early (e_json is none same) = subst IsEarly (sym is) tt
-  ended_early (e_script is json none same) = subst IsEarly (sym is) tt
+  ended_early (e_script is none same) = subst IsEarly (sym is) tt
   ended_early (e_memory is same) = subst IsEarly (sym is) tt
   ended_early (e_input meant e says is stops h) = subst IsEarly (sym is) (early_error (status_of e) (of_error e))
 
-  pub ended_script : Ends known analyzer detail bytes status a b → status ≡ Script → json_of bytes ≡ None
-  ended_script (e_json is none same) at = none
-  ended_script (e_script is json none same) at = absurd (cc (sym is ∙ at))
+  pub ended_script : Ends known analyzer detail bytes status a b → status ≡ Script → script bytes ≡ None
+  ended_script (e_script is none same) at = none
   ended_script (e_memory is same) at = absurd (cc (sym is ∙ at))
   ended_script (e_input meant e says is stops h) at = absurd (subst IsOfError (sym is ∙ at) (of_error e))
 
   pub ended_unwritten : Ends known analyzer detail bytes status a b → status ≡ Script → b ≡ a
-  ended_unwritten (e_json is none same) at = same
-  ended_unwritten (e_script is json none same) at = absurd (cc (sym is ∙ at))
+  ended_unwritten (e_script is none same) at = same
   ended_unwritten (e_memory is same) at = absurd (cc (sym is ∙ at))
   ended_unwritten (e_input meant e says is stops h) at = absurd (subst IsOfError (sym is ∙ at) (of_error e))
 
-  pub ended_json : Ends known analyzer detail bytes status a b → IfRefused status (λ _. IsSome (json_of bytes))
-  ended_json (e_json is none same) = subst (λ (s : Status). IfRefused s (λ _. IsSome (json_of bytes))) (sym is) tt
-  ended_json (e_script is json none same) = if_refused status _ json
-  ended_json (e_memory is same) = subst (λ (s : Status). IfRefused s (λ _. IsSome (json_of bytes))) (sym is) tt
-  ended_json (e_input meant e says is stops h) = if_refused status _ (json_some bytes meant says)
+  pub ended_read : Ends known analyzer detail bytes status a b → IfRefused status (λ _. IsSome (script bytes))
+  ended_read (e_script is none same) = subst (λ (s : Status). IfRefused s (λ _. IsSome (script bytes))) (sym is) tt
+  ended_read (e_memory is same) = subst (λ (s : Status). IfRefused s (λ _. IsSome (script bytes))) (sym is) tt
+  ended_read (e_input meant e says is stops h) = if_refused status _ (ap is_some says)
 
   pub ended_refused : IsTrue a.work.tells → IsTrue a.output.tells → Ends known analyzer detail bytes status a b → IfRefused status (IsWhyRefused known analyzer bytes)
-  ended_refused told told_out (e_json is none same) = subst (λ (s : Status). IfRefused s (IsWhyRefused known analyzer bytes)) (sym is) tt
-  ended_refused told told_out (e_script is json none same) = subst (λ (s : Status). IfRefused s (IsWhyRefused known analyzer bytes)) (sym is) (ap (refusal_of known analyzer) none)
+  ended_refused told told_out (e_script is none same) = subst (λ (s : Status). IfRefused s (IsWhyRefused known analyzer bytes)) (sym is) tt
   ended_refused told told_out (e_memory is same) = subst (λ (s : Status). IfRefused s (IsWhyRefused known analyzer bytes)) (sym is) tt
   ended_refused told told_out (e_input meant e says is stops h) =
       subst (λ (s : Status). IfRefused s (IsWhyRefused known analyzer bytes)) (sym is)
@@ -138,53 +119,46 @@ module _ {known : Known} {analyzer : Analyzer} {detail : Detail} {bytes : List �
       (subst (λ (o : Option Input). IfRefusal (λ x. refusal_of known analyzer o ≡ Some x) e) (sym says) (not_refused known analyzer meant detail e a b told told_out h)))
 
   pub ended_untold : Ends known analyzer detail bytes status a b → IfRefused status (IsWhyRefusedUntold known analyzer bytes)
-  ended_untold (e_json is none same) = subst (λ (s : Status). IfRefused s (IsWhyRefusedUntold known analyzer bytes)) (sym is) tt
-  ended_untold (e_script is json none same) = subst (λ (s : Status). IfRefused s (IsWhyRefusedUntold known analyzer bytes)) (sym is) (inl (ap (refusal_of known analyzer) none))
+  ended_untold (e_script is none same) = subst (λ (s : Status). IfRefused s (IsWhyRefusedUntold known analyzer bytes)) (sym is) tt
   ended_untold (e_memory is same) = subst (λ (s : Status). IfRefused s (IsWhyRefusedUntold known analyzer bytes)) (sym is) tt
   ended_untold (e_input meant e says is stops h) =
       subst (λ (s : Status). IfRefused s (IsWhyRefusedUntold known analyzer bytes)) (sym is)
       (refused_as (IsWhyRefusedUntold known analyzer bytes) e
       (subst (λ (o : Option Input). IfRefusal (λ x. (refusal_of known analyzer o ≡ Some x) ⊎ ((x ≡ InvalidArgument Documents) ⊎ (x ≡ InvalidArgument Later))) e) (sym says) (not_untold known analyzer meant detail e a b h)))
 
-  pub ended_first : Ends known analyzer detail bytes status a b → IsSome (json_of bytes) → IfSome (first_of known analyzer (script bytes)) (λ e. RefusedFor e status × (b ≡ a))
-  ended_first (e_json is none same) json = absurd (cc (subst IsSome none json))
-  ended_first (e_script is _ none same) json = subst (λ (o : Option Input). IfSome (first_of known analyzer o) (λ e. RefusedFor e status × (b ≡ a))) (sym none) (inl is, same)
-  ended_first (e_memory is same) json = if_some (first_of known analyzer (script bytes)) _ (λ e. (inr (inl is), same))
-  ended_first (e_input meant e says is stops h) json =
+  pub ended_first : Ends known analyzer detail bytes status a b → IfSome (first_of known analyzer (script bytes)) (λ e. RefusedFor e status × (b ≡ a))
+  ended_first (e_script is none same) = subst (λ (o : Option Input). IfSome (first_of known analyzer o) (λ e. RefusedFor e status × (b ≡ a))) (sym none) tt
+  ended_first (e_memory is same) = if_some (first_of known analyzer (script bytes)) _ (λ e. (inr (inl is), same))
+  ended_first (e_input meant e says is stops h) =
       subst (λ (o : Option Input). IfSome (first_of known analyzer o) (λ e. RefusedFor e status × (b ≡ a))) (sym says)
       (stopped_first status a b e is (first_error known analyzer meant) (first_statuses known analyzer meant) (not_first known analyzer meant detail e a b h))
 
-  pub ended_written : Ends known analyzer detail bytes status a b → IfWritten status (λ _. first_of known analyzer (script bytes) ≡ None)
-  ended_written (e_json is none same) = subst (λ (s : Status). IfWritten s (λ _. first_of known analyzer (script bytes) ≡ None)) (sym is) tt
-  ended_written (e_script is json none same) = subst (λ (s : Status). IfWritten s (λ _. first_of known analyzer (script bytes) ≡ None)) (sym is) tt
-  ended_written (e_memory is same) = subst (λ (s : Status). IfWritten s (λ _. first_of known analyzer (script bytes) ≡ None)) (sym is) tt
+  pub ended_written : Ends known analyzer detail bytes status a b → IfWritten status (λ _. IsSome (script bytes) × (first_of known analyzer (script bytes) ≡ None))
+  ended_written (e_script is none same) = subst (λ (s : Status). IfWritten s (λ _. IsSome (script bytes) × (first_of known analyzer (script bytes) ≡ None))) (sym is) tt
+  ended_written (e_memory is same) = subst (λ (s : Status). IfWritten s (λ _. IsSome (script bytes) × (first_of known analyzer (script bytes) ≡ None))) (sym is) tt
   ended_written (e_input meant e says is stops h) =
-      stopped_written status a b e is _ (first_error known analyzer meant) (λ none. ap (first_of known analyzer) says ∙ none) (first_statuses known analyzer meant)
+      stopped_written status a b e is _ (first_error known analyzer meant) (λ none. (ap is_some says, ap (first_of known analyzer) says ∙ none)) (first_statuses known analyzer meant)
       (not_first known analyzer meant detail e a b h)
 
   pub ended_fresh : AreEmpty a → Ends known analyzer detail bytes status a b → (x : TantivyError) → status ≢ Exists x
-  ended_fresh empty (e_json is none same) x at = cc (sym is ∙ at)
-  ended_fresh empty (e_script is json none same) x at = cc (sym is ∙ at)
+  ended_fresh empty (e_script is none same) x at = cc (sym is ∙ at)
   ended_fresh empty (e_memory is same) x at = cc (sym is ∙ at)
   ended_fresh empty (e_input meant e says is stops h) x at = exists_only e x (sym is ∙ at) (not_fresh known analyzer meant detail e a b empty h)
 
   pub ended_whole : IsTrue a.work.tells → IsTrue a.output.tells → Ends known analyzer detail bytes status a b → (x : TantivyError) → status ≢ Damaged x
-  ended_whole told told_out (e_json is none same) x at = cc (sym is ∙ at)
-  ended_whole told told_out (e_script is json none same) x at = cc (sym is ∙ at)
+  ended_whole told told_out (e_script is none same) x at = cc (sym is ∙ at)
   ended_whole told told_out (e_memory is same) x at = cc (sym is ∙ at)
   ended_whole told told_out (e_input meant e says is stops h) x at = undamaged_as e x (sym is ∙ at) (not_damaged known analyzer meant detail e a b told told_out h)
 
   pub ended_does : Ends known analyzer detail bytes status a b → BuildDoes known analyzer detail status a b
-  ended_does (e_json is none same) = subst (λ (s : Status). BuildDoes known analyzer detail s a b) (sym is) same
-  ended_does (e_script is json none same) = subst (λ (s : Status). BuildDoes known analyzer detail s a b) (sym is) (inl same)
+  ended_does (e_script is none same) = subst (λ (s : Status). BuildDoes known analyzer detail s a b) (sym is) same
   ended_does (e_memory is same) = subst (λ (s : Status). BuildDoes known analyzer detail s a b) (sym is) (inl same)
   ended_does (e_input meant e says is stops h) =
       subst (λ (s : Status). BuildDoes known analyzer detail s a b) (sym is) (ends_as meant e stops (not_error known analyzer meant detail e a b h))
 
   -- the error of a directory was counted
   pub ended_fault : Ends known analyzer detail bytes status a b → (x : TantivyError) → status ≡ Directory x → RoseIn a b
-  ended_fault (e_json is none same) x at = absurd (cc (sym is ∙ at))
-  ended_fault (e_script is json none same) x at = absurd (cc (sym is ∙ at))
+  ended_fault (e_script is none same) x at = absurd (cc (sym is ∙ at))
   ended_fault (e_memory is same) x at = absurd (cc (sym is ∙ at))
   ended_fault (e_input meant e says is stops h) x at = fault_rose e (sym is ∙ at) (not_error known analyzer meant detail e a b h)
     where

@@ -7,7 +7,6 @@ use Rattle.seg_common.specs.Causes.{Rose}
 use Rattle.seg_values.specs.declared.error.ArgumentCause.TheVariants.{Later}
 use Rattle.seg_values.specs.declared.error.TantivyError.{TantivyError}
 use Rattle.seg_values.specs.declared.error.TantivyError.TheVariants.{InvalidArgument}
-use Rattle.seg_meta.specs.Reads.{given}
 use Rattle.seg_model.specs.Checked.{unless}
 use Rattle.seg_model.specs.Fields.{Analyzer}
 use Rattle.seg_model.specs.Laws.{ValidInputsAreNotRefused}
@@ -17,15 +16,11 @@ use Rattle.seg_model.specs.Valid.{Known, IsValid}
 use Rattle.seg_merge.specs.Turns.{Directories}
 use Rattle.seg_merge.proofs.Exports.{RoseIn}
 use Rattle.seg_refusals.specs.Admitted.{IsValidIf}
-use Rattle.seg_script.specs.Script.{json_of, script, script_from}
+use Rattle.seg_script.specs.Script.{script}
 use Rattle.seg_tool.specs.Run.{max_script, refusal_of, IsNoScript, IsValidScript, IsWhyRefused}
 use Rattle.seg_tool.specs.Statuses.{IfRefused}
 use Rattle.seg_tool.specs.declared.status.Status.{Status}
 use Rattle.seg_tool.specs.declared.status.Status.TheVariants.{Done, Words, Script, Refused, Exists, Directory, Damaged, Stream, Memory}
-
--- no JSON text is a script
-no-script : (bytes : List ℕ) → json_of bytes ≡ None → script bytes ≡ None
-no-script bytes none = ap (λ o. given o script_from) none
 
 -- what is asked of the survivors is told
 valid_told : (known : Known) (analyzer : Analyzer) (input : Input) → IsValidIf (Unit {0}) known analyzer input → IsValid known analyzer input
@@ -41,7 +36,7 @@ not-refused known analyzer bytes e law v why =
     true≢false (ap is_some (sym why ∙ none))
 
 not-script : (known : Known) (analyzer : Analyzer) (bytes : List ℕ) → length bytes ≤ max_script → IsValidScript (Unit {0}) known analyzer bytes → IsNoScript bytes → ⊥
-not-script known analyzer bytes short v (inl none) = true≢false (ap is_some (sym v.is_script ∙ no-script bytes none))
+not-script known analyzer bytes short v (inl none) = true≢false (ap is_some (sym v.is_script ∙ none))
 not-script known analyzer bytes short v (inr long) = omega (arith, short, long)
 
 -- directories that do not fail give no error of their faults

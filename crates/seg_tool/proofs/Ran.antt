@@ -12,10 +12,10 @@ use Rattle.seg_segment.specs.Laws.{HoldsOneContents}
 use Rattle.seg_merge.specs.Taken.{gained}
 use Rattle.seg_merge.specs.Turns.{Directories}
 use Rattle.seg_merge.proofs.Exports.{RoseIn}
-use Rattle.seg_script.specs.Script.{json_of, script}
+use Rattle.seg_script.specs.Script.{script}
 use Rattle.seg_tool.specs.DirectoryCalls.{BuildDoes}
 use Rattle.seg_tool.specs.Jobs.{AreEmpty, BuildsScript}
-use Rattle.seg_tool.specs.Run.{Gains, GainsPart, HasMergedIndex, HasOutputIndex, HasWorkIndex, IsAdmitted, IsJson, IsNoScript, IsTextOf, IsValidScript, IsWhyRefused, IsWhyRefusedUntold, first_of, max_script}
+use Rattle.seg_tool.specs.Run.{Gains, GainsPart, HasMergedIndex, HasOutputIndex, HasWorkIndex, IsAdmitted, IsNoScript, IsScript, IsTextOf, IsValidScript, IsWhyRefused, IsWhyRefusedUntold, first_of, max_script}
 use Rattle.seg_tool.specs.Runs.{EndsJob, RunsBuild, SinkState, Takes, TakesAll, World, WritesText, failed, has_text, is_read, no_text, not_read, starved, too_long, written}
 use Rattle.seg_tool.specs.Statuses.{IfRefused, IfWritten, RefusedFor}
 use Rattle.seg_tool.specs.Taken.{HasTaken, before_meta}
@@ -23,7 +23,7 @@ use Rattle.seg_tool.specs.declared.status.Status.{Status}
 use Rattle.seg_tool.specs.declared.status.Status.TheVariants.{Done, Words, Script, Refused, Exists, Directory, Damaged, Stream, Memory}
 use Rattle.seg_tool.specs.declared.words.Detail.{Detail}
 use Rattle.seg_tool.proofs.BuildLaws.{Printed, admitted_built, printed, printed_meta, printed_output, printed_text, printed_work}
-use Rattle.seg_tool.proofs.Ended.{Ends, Prints, ended_does, ended_early, ended_fault, ended_first, ended_fresh, ended_json, ended_refused, ended_script, ended_untold, ended_unwritten, ended_whole, ended_written, if_some, script_ends, script_prints}
+use Rattle.seg_tool.proofs.Ended.{Ends, Prints, ended_does, ended_early, ended_fault, ended_first, ended_fresh, ended_read, ended_refused, ended_script, ended_untold, ended_unwritten, ended_whole, ended_written, if_some, script_ends, script_prints}
 use Rattle.seg_tool.proofs.StatusLaws.{IsEarly, refused_then, written_then}
 use Rattle.seg_tool.proofs.Taken.{printed_taken}
 
@@ -154,15 +154,15 @@ module _ {K : Type 0} {known : Known} {analyzer : Analyzer} {detail : Detail} {s
   pub ran_untold : IfRefused status (λ e. IfSome a.source.left (λ bytes. IsWhyRefusedUntold known analyzer bytes e))
   ran_untold = of_ended _ (refused_idle _) (λ bytes takes ends. refused_then _ _ status (λ e why. of_all a.source.left bytes _ takes.all why) (ended_untold ends))
 
-  pub ran_json : IfRefused status (λ _. IfSome a.source.left IsJson)
-  ran_json = of_ended _ (refused_idle _) (λ bytes takes ends. refused_then _ _ status (λ e json. of_all a.source.left bytes IsJson takes.all (json, takes.short)) (ended_json ends))
+  pub ran_read : IfRefused status (λ _. IfSome a.source.left IsScript)
+  ran_read = of_ended _ (refused_idle _) (λ bytes takes ends. refused_then _ _ status (λ e read. of_all a.source.left bytes IsScript takes.all (read, takes.short)) (ended_read ends))
 
   pub ran_end_refused : IfRefused status (λ _. IsAtEnd b.source.left)
-  ran_end_refused = of_ended _ (refused_idle _) (λ bytes takes ends. refused_then _ _ status (λ e json. takes.end) (ended_json ends))
+  ran_end_refused = of_ended _ (refused_idle _) (λ bytes takes ends. refused_then _ _ status (λ e read. takes.end) (ended_read ends))
 
   pub ran_written : IfWritten status (λ _. IfSome a.source.left (IsAdmitted known analyzer))
   ran_written = of_ended _ (written_idle _) (λ bytes takes ends. written_then _ _ status
-      (λ e none. of_all a.source.left bytes (IsAdmitted known analyzer) takes.all (record { short = takes.short; admitted = none })) (ended_written ends))
+      (λ e none. of_all a.source.left bytes (IsAdmitted known analyzer) takes.all (record { is_script = (none.0, takes.short); admitted = none.1 })) (ended_written ends))
 
   pub ran_end_written : IfWritten status (λ _. IsAtEnd b.source.left)
   ran_end_written = of_ended _ (written_idle _) (λ bytes takes ends. written_then _ _ status (λ e none. takes.end) (ended_written ends))
@@ -216,9 +216,9 @@ module _ {K : Type 0} {known : Known} {analyzer : Analyzer} {detail : Detail} {s
       by (x_failed bytes text is takes prints part rose later) = absurd (cc (sym is ∙ at))
       by (x_done bytes text is takes prints appends later) = absurd (cc (sym is ∙ at))
 
-  pub ran_first : (bytes : List ℕ) → a.source.left ≡ Some bytes → length bytes ≤ max_script → IsSome (json_of bytes)
+  pub ran_first : (bytes : List ℕ) → a.source.left ≡ Some bytes → length bytes ≤ max_script
       → IfSome (first_of known analyzer (script bytes)) (λ e. RefusedFor e status × (b.directories ≡ a.directories))
-  ran_first bytes left short json = by (exits r)
+  ran_first bytes left short = by (exits r)
     where
       any : (o : Option TantivyError) → (status ≡ Memory) ⊎ (status ≡ Stream) → b.directories ≡ a.directories → IfSome o (λ e. RefusedFor e status × (b.directories ≡ a.directories))
       any None is same = tt
@@ -236,7 +236,7 @@ module _ {K : Type 0} {known : Known} {analyzer : Analyzer} {detail : Detail} {s
       by (x_starved is takes same_sink none same) = any (first_of known analyzer (script bytes)) (inl is) same
       by (x_ended other takes ends same_sink none) =
           let is = all_is a.source.left other bytes takes.all left in
-          subst (λ (xs : List ℕ). IfSome (first_of known analyzer (script xs)) (λ e. RefusedFor e status × (b.directories ≡ a.directories))) is (ended_first ends (subst (λ (xs : List ℕ). IsSome (json_of xs)) (sym is) json))
+          subst (λ (xs : List ℕ). IfSome (first_of known analyzer (script xs)) (λ e. RefusedFor e status × (b.directories ≡ a.directories))) is (ended_first ends)
       by (x_failed other text is takes prints part rose later) = admitted other text takes prints
       by (x_done other text is takes prints appends later) = admitted other text takes prints
 

@@ -21,7 +21,7 @@ use Rattle.seg_tool.specs.declared.words.Command.{Command}
 use Rattle.seg_tool.specs.declared.words.Command.TheVariants.{Build, Merge, Show}
 use Rattle.seg_tool.specs.declared.words.Detail.{Detail}
 use Rattle.seg_tool.specs.declared.words.Detail.TheVariants.{Full}
-use Rattle.seg_tool.proofs.Ended.{Ends, Prints, e_input, e_json, e_memory, e_script, ended_early}
+use Rattle.seg_tool.proofs.Ended.{Ends, Prints, e_input, e_memory, e_script, ended_early}
 use Rattle.seg_tool.proofs.JobLaws.{job_each, job_gains, shows_stay}
 use Rattle.seg_tool.proofs.JobsOnDisk.{builds_leave, builds_rest, merges_leave, merges_rest}
 use Rattle.seg_tool.proofs.OutputOnDisk.{still_empty}
@@ -73,8 +73,7 @@ module _ (analyzer : Analyzer) (detail : Detail) (status : Status) (a b : World)
     }
 
     of_ends : (status ≡ Done → ⊥) → Ends known analyzer detail bytes status a.directories b.directories → Left
-    of_ends not_done (e_json is none same) = not_begun not_done same
-    of_ends not_done (e_script is json none same) = not_begun not_done same
+    of_ends not_done (e_script is none same) = not_begun not_done same
     of_ends not_done (e_memory is same) = not_begun not_done same
     of_ends not_done (e_input meant e says is builds h) = of_meant meant (Err e) says builds (λ at. absurd (not_done at))
 

@@ -37,7 +37,7 @@ IsDamage _ = ⊥
 -- what becomes of the directories, by the status: nothing where they are not come to
 abbrev pub BuildDoes : Known → Analyzer → Detail → Status → Directories → Directories → Type 0
 BuildDoes known analyzer detail Done before after = Printed known analyzer detail before after
-BuildDoes known analyzer detail (Refused e) before after = (after ≡ before) ⊎ Stopped known analyzer detail e before after
+BuildDoes known analyzer detail (Refused e) before after = Stopped known analyzer detail e before after
 BuildDoes known analyzer detail (Exists e) before after = (e ≡ IndexAlreadyExists) × Stopped known analyzer detail e before after
 BuildDoes known analyzer detail (Directory e) before after = IsFault e × Stopped known analyzer detail e before after
 BuildDoes known analyzer detail (Damaged e) before after = IsDamage e × Stopped known analyzer detail e before after

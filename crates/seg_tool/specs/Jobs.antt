@@ -1,7 +1,7 @@
 -- What the jobs of the program do with the two directories, in turn, and what text they make.
-use Rattle.std.specs.Prelude.{ℕ, ◌≡◌, ◌≢◌, ◌⊎◌, ◌-◌, ◌^◌, List, [], map, codes, Some, None, Result, Ok, Err, IfErr, IfOk, IfSome, IsSome, IsTrue, OnOk}
+use Rattle.std.specs.Prelude.{ℕ, ◌≡◌, ◌≢◌, ◌⊎◌, ◌-◌, ◌^◌, List, [], map, codes, Some, None, Result, Ok, Err, IfErr, IfOk, IfSome, IsTrue, OnOk}
 use Rattle.std.specs.FinMap.{len}
-use Rattle.seg_values.specs.declared.error.ArgumentCause.TheVariants.{Documents, Later}
+use Rattle.seg_values.specs.declared.error.ArgumentCause.TheVariants.{Documents}
 use Rattle.seg_values.specs.declared.error.TantivyError.{TantivyError}
 use Rattle.seg_values.specs.declared.error.TantivyError.TheVariants.{IndexAlreadyExists, InvalidArgument, OutOfMemory}
 use Rattle.seg_directory.specs.State.{HasOnly, IsEmptyDisk, LeavesOnly}
@@ -22,11 +22,11 @@ use Rattle.seg_merge.specs.IndexFiles.{IsMergedIndexOf, IsOutputIndexOf, IsWorkI
 use Rattle.seg_merge.specs.MergeAnswers.{CanBeMerged, IsMergeError, IsMergeOf, IsWholeIndex, LiveAreWhole}
 use Rattle.seg_merge.specs.SegmentsMerged.{MergeInput, MergesSegments, merge_input}
 use Rattle.seg_merge.specs.Turns.{Directories, InOutput, InWork, Then}
-use Rattle.seg_script.specs.Script.{json_of, script}
+use Rattle.seg_script.specs.Script.{script}
 use Rattle.seg_tool.specs.ReadingBack.{PrintsIndex, listed_in}
 use Rattle.seg_tool.specs.Statuses.{status_of}
 use Rattle.seg_tool.specs.declared.status.Status.{Status}
-use Rattle.seg_tool.specs.declared.status.Status.TheVariants.{Memory, Refused, Script}
+use Rattle.seg_tool.specs.declared.status.Status.TheVariants.{Memory, Script}
 use Rattle.seg_tool.specs.declared.words.Detail.{Detail}
 use Rattle.seg_tool.specs.declared.words.Detail.TheVariants.{Brief, Full}
 
@@ -135,12 +135,10 @@ pub record WithStatus (does : Result (List ℕ) TantivyError → Directories →
   pub is : result ≡ with_status answer
   pub does_so : does answer before after
 
--- bytes are no JSON text, or no script of what is built so far; memory ran out; or the text of their input is made
+-- bytes are no script; memory ran out; or the text of their input is made
 pub data BuildsScript (known : Known) (analyzer : Analyzer) (detail : Detail) (bytes : List ℕ)
     (result : Result (List ℕ) Status) (before after : Directories) : Type 0 where
-  no_json : result ≡ Err Script → json_of bytes ≡ None → after ≡ before
-      → BuildsScript known analyzer detail bytes result before after
-  no_script : result ≡ Err (Refused (InvalidArgument Later)) → IsSome (json_of bytes) → script bytes ≡ None → after ≡ before
+  no_script : result ≡ Err Script → script bytes ≡ None → after ≡ before
       → BuildsScript known analyzer detail bytes result before after
   no_memory : result ≡ Err Memory → after ≡ before → BuildsScript known analyzer detail bytes result before after
   of_input : (meant : Input) → script bytes ≡ Some meant → WithStatus (BuildsText known analyzer meant detail) result before after

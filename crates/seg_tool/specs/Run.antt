@@ -18,7 +18,7 @@ use Rattle.seg_refusals.specs.Inputs.{is_built_input}
 use Rattle.seg_refusals.specs.Refusals.{first_error, refusal_error}
 use Rattle.seg_merge.specs.IndexFiles.{IsMergedIndexOf, IsOutputIndexOf, IsWorkIndexOf, output_id, work_ids}
 use Rattle.seg_merge.specs.Turns.{Directories}
-use Rattle.seg_script.specs.Script.{json_of, script}
+use Rattle.seg_script.specs.Script.{script}
 use Rattle.seg_text.specs.SegmentText.{PrintedSegment}
 use Rattle.seg_tool.specs.Jobs.{BuildsText}
 use Rattle.seg_tool.specs.Printing.{printed_text}
@@ -59,13 +59,13 @@ build_text detail analyzer input =
 abbrev pub max_script : ℕ
 max_script = 67108864
 
--- the bytes are a JSON text, and not too many
-abbrev pub IsJson : List ℕ → Type 0
-IsJson bytes = IsSome (json_of bytes) × (length bytes ≤ max_script)
+-- the bytes are a script, and not too many
+abbrev pub IsScript : List ℕ → Type 0
+IsScript bytes = IsSome (script bytes) × (length bytes ≤ max_script)
 
--- the bytes are no JSON text, or too many
+-- the bytes are no script, or too many
 abbrev pub IsNoScript : List ℕ → Type 0
-IsNoScript bytes = (json_of bytes ≡ None) ⊎ (max_script < length bytes)
+IsNoScript bytes = (script bytes ≡ None) ⊎ (max_script < length bytes)
 
 -- the bytes are a script of what is built so far, and valid, with what is asked of the survivors where it is told what they are
 pub record IsValidScript (told : Type 0) (known : Known) (analyzer : Analyzer) (bytes : List ℕ) : Type 0 where
@@ -106,9 +106,9 @@ pub record HasMergedIndex (bytes : List ℕ) (files : NamedFiles) : Type 0 where
 
 -- ---- refusals
 
--- a JSON text that is no script is not built yet; a script is refused as its input is
+-- a script is refused as its input is
 abbrev pub refusal_of : Known → Analyzer → Option Input → Option TantivyError
-refusal_of known analyzer None = Some (InvalidArgument Later)
+refusal_of known analyzer None = None
 refusal_of known analyzer (Some input) = refusal_error known analyzer input
 
 -- an error tells why these bytes are refused
@@ -122,12 +122,12 @@ IsWhyRefusedUntold known analyzer bytes e =
 
 -- the first of them, before a directory is called
 abbrev pub first_of : Known → Analyzer → Option Input → Option TantivyError
-first_of known analyzer None = Some (InvalidArgument Later)
+first_of known analyzer None = None
 first_of known analyzer (Some input) = first_error known analyzer input
 
 -- the bytes are a script, and nothing refuses it before a directory is called
 pub record IsAdmitted (known : Known) (analyzer : Analyzer) (bytes : List ℕ) : Type 0 where
-  pub short : length bytes ≤ max_script
+  pub is_script : IsScript bytes
   pub admitted : first_of known analyzer (script bytes) ≡ None
 
 -- ---- what is gained

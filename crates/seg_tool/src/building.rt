@@ -13,12 +13,9 @@ use seg_input::{BuildInput, BuildInputRef};
 use seg_merge::build_index;
 use seg_meta::Index;
 use seg_script::{ScriptError, read_script};
-use seg_values::{ArgumentCause, TResult, TantivyError};
+use seg_values::{TResult, TantivyError};
 use seg_words::Analyzers;
 use std::alloc::Global;
-
-/// What is asked for is not built yet.
-const LATER: TantivyError = TantivyError::InvalidArgument(ArgumentCause::Later);
 
 /// Writes the indexes of a script, and answers what is then printed of them.
 pub(crate) fn build<Z: Analyzers, W: Directory, O: Directory>(
@@ -34,8 +31,7 @@ pub(crate) fn build<Z: Analyzers, W: Directory, O: Directory>(
 {
     let input = match read_script(alloc, bytes) {
         Ok(input) => input,
-        Err(ScriptError::NotJson) => return Err(Status::Script),
-        Err(ScriptError::Later) => return Err(Status::Refused(LATER)),
+        Err(ScriptError::NotScript) => return Err(Status::Script),
         Err(ScriptError::OutOfMemory) => return Err(Status::Memory),
     };
     match build_and_print(alloc, analyzers, input, detail, work, output) {

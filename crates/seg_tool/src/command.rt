@@ -10,13 +10,13 @@ ghost use Rattle.seg_directory.specs.State.{DirectoryState, IsEmptyDisk};
 ghost use Rattle.seg_merge.specs.Taken.{gained};
 ghost use Rattle.seg_merge.specs.Turns.{both};
 ghost use Rattle.seg_open.specs.Answers.{seen_as};
-ghost use Rattle.seg_script.specs.Script.{json_of, script};
+ghost use Rattle.seg_script.specs.Script.{script};
 ghost use Rattle.seg_segment.specs.Built.{is_built_schema};
 ghost use Rattle.seg_tool.specs.AfterCrash.{CrashLeaves};
 ghost use Rattle.seg_tool.specs.DirectoryCalls.{BuildDoes, IsReady, JobDoes};
 ghost use Rattle.seg_tool.specs.Indexes.{HasMergeableIndex, HasWholeIndex, HasWholeLiveSegments, IsMergedText, IsShownText};
 ghost use Rattle.seg_tool.specs.Jobs.{BuildsScript, MergesText, ShowsText, WithStatus};
-ghost use Rattle.seg_tool.specs.Run.{max_script, first_of, HasMergedIndex, HasOutputIndex, HasWorkIndex, IsAdmitted, IsJson, IsNoScript, IsTextOf, IsValidScript, IsWhyRefused, IsWhyRefusedUntold, Gains, GainsPart};
+ghost use Rattle.seg_tool.specs.Run.{max_script, first_of, HasMergedIndex, HasOutputIndex, HasWorkIndex, IsAdmitted, IsNoScript, IsScript, IsTextOf, IsValidScript, IsWhyRefused, IsWhyRefusedUntold, Gains, GainsPart};
 ghost use Rattle.seg_tool.specs.Runs.{EndsJob, Runs, RunsBuild, SourceState, WritesText, sink_state, source_state, world};
 ghost use Rattle.seg_tool.specs.Statuses.{IfRefused, IfWritten, RefusedFor, status_line};
 ghost use Rattle.seg_tool.specs.Taken.{HasTaken, before_meta};
@@ -73,9 +73,9 @@ pub fn run<S: Source, K: Sink, F: Sink, Z: Analyzers, W: Directory, O: Directory
         (λ bytes. IsWhyRefused (Z.knows analyzers.now) (Z.tokens_of analyzers.now) bytes e))) }
     ensures refused_untold { IfBuild (command_of words.now) (λ _. IfRefused result (λ e. IfSome (S.left source.old)
         (λ bytes. IsWhyRefusedUntold (Z.knows analyzers.now) (Z.tokens_of analyzers.now) bytes e))) }
-    ensures json { IfBuild (command_of words.now) (λ _. IfRefused result (λ _. IfSome (S.left source.old) IsJson)) }
+    ensures of_script { IfBuild (command_of words.now) (λ _. IfRefused result (λ _. IfSome (S.left source.old) IsScript)) }
     ensures first { IfBuild (command_of words.now) (λ _. (bytes : List ℕ) → S.left source.old ≡ Some bytes
-        → length bytes ≤ max_script → IsSome (json_of bytes)
+        → length bytes ≤ max_script
         → IfSome (first_of (Z.knows analyzers.now) (Z.tokens_of analyzers.now) (script bytes))
         (λ e. RefusedFor e result × (W.state work.new ≡ W.state work.old) × (O.state output.new ≡ O.state output.old))) }
 

@@ -4,8 +4,8 @@ use Rattle.seg_meta.specs.Reads.{natural}
 use Rattle.seg_script.proofs.Items.{AtItem, unread, one_more}
 use Rattle.seg_script.proofs.cuts.cuts_from.Goals as goal
 
-pub returns-in_default-as_u64-clause-later : goal.returns-in_default-as_u64-clause-later
-returns-in_default-as_u64-clause-later c _ =
+pub returns-in_default-as_u64-clause-none : goal.returns-in_default-as_u64-clause-none
+returns-in_default-as_u64-clause-none c _ =
     let at : AtItem (natural) (view c.args.json.now) c.deref-item-items.result.now c.loop-item.item-index c.item-item.result c.loop-item.cuts.items = record { inside = c.loop-item-test.true; is = c.item-item.is; so_far = c.loop-item.invariant } in
     unread (natural) _ _ _ _ _ at (sym c.as_u64.ensures ∙ c.in_default-as_u64.is)
 

@@ -4,8 +4,8 @@ use Rattle.seg_meta.specs.Reads.{below}
 use Rattle.seg_script.proofs.Items.{AtItem, unread, one_more}
 use Rattle.seg_script.proofs.filters.dropped_from.Goals as goal
 
-pub returns-in_default-document_below-clause-later : goal.returns-in_default-document_below-clause-later
-returns-in_default-document_below-clause-later c _ =
+pub returns-in_default-document_below-clause-none : goal.returns-in_default-document_below-clause-none
+returns-in_default-document_below-clause-none c _ =
     let at : AtItem (below c.args.size) (view c.args.json.now) c.deref-item-items.result.now c.loop-item.item-index c.item-item.result c.loop-item.dropped.items = record { inside = c.loop-item-test.true; is = c.item-item.is; so_far = c.loop-item.invariant } in
     unread (below c.args.size) _ _ _ _ _ at (sym c.document_below.ensures ∙ c.in_default-document_below.is)
 

@@ -1,12 +1,9 @@
 use Rattle.std.proofs.Common.{Err, Ok, ap, refl}
-use Rattle.seg_tool.specs.Jobs.{no_json, no_memory, no_script, of_input}
+use Rattle.seg_tool.specs.Jobs.{no_memory, no_script, of_input}
 use Rattle.seg_tool.proofs.building.build.Goals as goal
 
-pub returns-in-Err-NotJson : goal.returns-in-Err-NotJson
-returns-in-Err-NotJson g c = no_json refl (c.in-Err-NotJson.ensures.not_json (ap Err c.in-Err-NotJson.field-0-is)) refl
-
-pub returns-in-Err-Later : goal.returns-in-Err-Later
-returns-in-Err-Later g c = let none = c.in-Err-Later.ensures.later (ap Err c.in-Err-Later.field-0-is) in no_script refl none.0 none.1 refl
+pub returns-in-Err-NotScript : goal.returns-in-Err-NotScript
+returns-in-Err-NotScript g c = no_script refl (c.in-Err-NotScript.ensures.not_script (ap Err c.in-Err-NotScript.field-0-is)) refl
 
 pub returns-in-Err-OutOfMemory : goal.returns-in-Err-OutOfMemory
 returns-in-Err-OutOfMemory g c = no_memory refl refl

@@ -4,7 +4,7 @@ use Rattle.seg_tool.proofs.Commands.{first_in_both, of_build, of_merge, of_show,
 use Rattle.seg_tool.proofs.Endings.{completes, no-stream}
 use Rattle.seg_tool.proofs.JobLaws.{is_merged, is_shown, job_completes, job_does, job_each, job_gains, job_stream, merges_stay, show_starves, shows_stay}
 use Rattle.seg_tool.proofs.MergeLaws.{ended_fresh, ended_whole, merges_starve}
-use Rattle.seg_tool.proofs.Ran.{ran_does, ran_done, ran_end, ran_end_refused, ran_end_written, ran_fault, ran_first, ran_fresh, ran_json, ran_no_words, ran_output_index, ran_output_meta, ran_output_was_empty, ran_refused, ran_script, ran_stream, ran_untold, ran_valid, ran_whole, ran_work_index, ran_work_was_empty, ran_written, ran_reads}
+use Rattle.seg_tool.proofs.Ran.{ran_does, ran_done, ran_end, ran_end_refused, ran_end_written, ran_fault, ran_first, ran_fresh, ran_no_words, ran_output_index, ran_output_meta, ran_output_was_empty, ran_read, ran_refused, ran_script, ran_stream, ran_untold, ran_valid, ran_whole, ran_work_index, ran_work_was_empty, ran_written, ran_reads}
 use Rattle.seg_tool.proofs.RunOnDisk.{run_keeps, run_leaves}
 use Rattle.seg_tool.proofs.command.run.Goals as goal
 
@@ -20,11 +20,11 @@ returns-clause-refused g c told told_out = of_build c.execute-status.ensures _ (
 pub returns-clause-refused_untold : goal.returns-clause-refused_untold
 returns-clause-refused_untold g c = of_build c.execute-status.ensures _ (λ detail r. ran_untold r)
 
-pub returns-clause-json : goal.returns-clause-json
-returns-clause-json g c = of_build c.execute-status.ensures _ (λ detail r. ran_json r)
+pub returns-clause-of_script : goal.returns-clause-of_script
+returns-clause-of_script g c = of_build c.execute-status.ensures _ (λ detail r. ran_read r)
 
 pub returns-clause-first : goal.returns-clause-first
-returns-clause-first g c = of_build c.execute-status.ensures _ (λ detail r bytes left short json. first_in_both _ _ _ _ (ran_first r bytes left short json))
+returns-clause-first g c = of_build c.execute-status.ensures _ (λ detail r bytes left short. first_in_both _ _ _ _ (ran_first r bytes left short))
 
 pub returns-clause-written : goal.returns-clause-written
 returns-clause-written g c = of_build c.execute-status.ensures _ (λ detail r. ran_written r)

@@ -1,0 +1,4 @@
+mod DecodedTexts
+mod FacetTexts
+mod TwoMembers
+mod WrittenAddresses

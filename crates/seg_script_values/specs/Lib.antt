@@ -1,0 +1,9 @@
+pub mod Addresses
+pub mod ByteTexts
+pub mod Deletes
+pub mod FacetTexts
+pub mod Laws
+pub mod Leaves
+pub mod Reads
+pub mod Tokenized
+pub mod Trees
