@@ -14,6 +14,7 @@ The shape says what differs:
   texts      no id, so no deletes, and one batch
   undeleted  as textids, without deletes
   deleted    as textids, with as many deletes as documents, all after them, each of a document at random
+  stored     no id and no body: one JSON object, which is only stored, with a date, a list and an object in it
 """
 import argparse
 import bisect
@@ -27,9 +28,10 @@ VOCABULARY = 200_000
 WORDS = 50
 BATCHES = 9
 LETTERS = 'etaoinshrdlucmfwygpbvkxqjz'
-SHAPES = 'textids', 'full', 'texts', 'undeleted', 'deleted'
+SHAPES = 'textids', 'full', 'texts', 'undeleted', 'deleted', 'stored'
 TEXT_ID = {'name': 'id', 'kind': 'text', 'stored': True, 'index': 'basic', 'tokenizer': 'default', 'norms': False}
 NUMBER_ID = {'name': 'id', 'kind': 'u64', 'stored': True, 'index': 'basic'}
+STORED = {'name': 'record', 'kind': 'json', 'stored': True}
 BODY = {'name': 'body', 'kind': 'text', 'stored': True, 'index': 'positions', 'tokenizer': 'default', 'norms': True}
 
 
@@ -40,6 +42,8 @@ def json_text(value):
 def schema_of(shape):
     if shape == 'texts':
         return [BODY]
+    if shape == 'stored':
+        return [STORED]
     return [NUMBER_ID if shape == 'full' else TEXT_ID, BODY]
 
 
@@ -68,7 +72,18 @@ def body(rng, words, weights):
     return ' '.join(chosen)
 
 
+def record(number, text):
+    words = text.split(' ')
+    day = f'{2000 + number % 25}-{1 + number % 12:02}-{1 + number % 28:02}'
+    return json_text({
+        'number': number, 'balance': -number, 'live': number % 3 == 0, 'parent': None,
+        'made': f'{day}T{number % 24:02}:{number % 60:02}:00.{number % 1000:03}+01:00', 'tags': words[:4],
+        'author': {'name': ' '.join(words[4:6]), 'age': 20 + number % 60}, 'text': ' '.join(words[6:40])})
+
+
 def addition(shape, number, text):
+    if shape == 'stored':
+        return f'{{"add":[["record",{record(number, text)}]]}}'
     given_id = '' if shape == 'texts' else f'["id",{id_text(shape, number)}],'
     return f'{{"add":[{given_id}["body","{text}"]]}}'
 

@@ -11,6 +11,7 @@ import sys
 from dataclasses import dataclass
 
 from formats import length_id
+from script_values import Tokenized, pairs, stored
 
 MERGED_ID = 32 * 'f'
 
@@ -28,21 +29,24 @@ def tokens(text, tokenizer):
     return [lowered(piece) for piece in pieces] if tokenizer == 'default' else pieces
 
 
-def tokens_of(entry, text):
-    """The tokens that give terms."""
-    found = tokens(text, entry.get('tokenizer') or 'default')
-    return [token for token in found if len(token.encode()) <= 65530]
+def tokens_of(entry, value):
+    """The tokens that give terms, each with its position and its length in positions."""
+    if isinstance(value, Tokenized):
+        found = [(token['text'], token['position'], token['position_length']) for token in value.tokens]
+    else:
+        found = [(text, place, 1) for place, text in enumerate(tokens(value, entry.get('tokenizer') or 'default'))]
+    return [token for token in found if len(token[0].encode()) <= 65530]
 
 
 def positions(entry, document):
     """The positions of each term of a field in a document; between two texts there is a gap of one."""
     found, start = {}, 0
-    for name, text in document:
+    for name, value in document:
         if name == entry['name']:
-            cut = tokens_of(entry, text)
-            for place, token in enumerate(cut):
-                found.setdefault(token.encode(), []).append(start + place)
-            start += len(cut) + 1
+            cut = tokens_of(entry, value)
+            for text, place, _ in cut:
+                found.setdefault(text.encode(), []).append(start + place)
+            start = 1 + max([start] + [start + place + length for _, place, length in cut])
     return found
 
 
@@ -73,7 +77,7 @@ def is_indexed(entry):
 
 def norms_line(entry, documents):
     """The length ids of a field: a length is the number of tokens of all its texts."""
-    lengths = [sum(len(tokens_of(entry, text)) for name, text in document if name == entry['name']) for document in documents]
+    lengths = [sum(len(tokens_of(entry, value)) for name, value in document if name == entry['name']) for document in documents]
     return ' '.join([f'norms {json_text(entry["name"])}', *(str(length_id(length)) for length in lengths)])
 
 
@@ -84,9 +88,9 @@ def segment_lines(schema, label, segment_id, documents, alive, is_full):
         lines.append('dead ' + ' '.join(map(str, dead)))
     for entry in filter(is_indexed, schema):
         lines += field_lines(entry, documents)
-    stored = {entry['name'] for entry in schema if entry.get('stored')}
+    names = {entry['name'] for entry in schema if entry.get('stored')}
     for number, document in enumerate(documents):
-        lines.append(f'doc {number} ' + json_text([pair for pair in document if pair[0] in stored]))
+        lines.append(f'doc {number} ' + json_text([(name, stored(value)) for name, value in document if name in names]))
     if is_full:
         lines += [norms_line(entry, documents) for entry in schema if is_indexed(entry) and entry.get('norms', True)]
     return lines
@@ -94,7 +98,7 @@ def segment_lines(schema, label, segment_id, documents, alive, is_full):
 
 def has_term(schema, document, name, text):
     entry = next(entry for entry in schema if entry['name'] == name)
-    return any(name == field and text in tokens_of(entry, value) for field, value in document)
+    return any(name == field and text.encode() in positions(entry, document) for field, _ in document)
 
 
 def is_removed(schema, document, later):
@@ -116,7 +120,7 @@ def batches(script):
     bounds = [0, *cuts, len(operations)]
     for segment_id, start, end, dropped in zip(segment_ids(script), bounds, bounds[1:], filters):
         places = [place for place in range(start, end) if 'add' in operations[place]]
-        documents = [operations[place]['add'] for place in places]
+        documents = [pairs(script['schema'], operations[place]['add']) for place in places]
         alive = [not is_removed(script['schema'], document, operations[place + 1:]) for place, document in zip(places, documents)]
         yield Batch(segment_id, documents, alive, [dropped is not None and number in dropped['drop'] for number in range(len(documents))])
 
