@@ -35,7 +35,7 @@ def main():
             text = script.with_suffix('.txt')
             Path(folder, f'{name}.stdout').write_bytes(text.read_bytes() if text.exists() else b'')
         tried = subprocess.run(['rt', 'try', '--steps', '2000000000', '--seconds', '600', '--cases', folder, '--', 'build'],
-                               cwd=TOP / 'crates/segments', capture_output=True, text=True)
+                               cwd=TOP / 'crates/segments', stdout=subprocess.PIPE, stderr=subprocess.STDOUT, text=True)
     statuses = dict(re.findall(r'^case=(\S+) .*status=(\d+)', tried.stdout, re.M))
     wrong = [name for name, script in cases.items() if int(statuses.get(name, -1)) != wanted_status(script)]
     for name in wrong:
