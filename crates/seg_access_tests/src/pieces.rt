@@ -5,6 +5,7 @@ use seg_access::{DocumentDeserialize, JsonValue, Piece, Pieces, ValueDeserialize
 use seg_values::{Field, OwnedValue, TantivyDocument, ValueError};
 use seg_words::Text;
 use std::alloc::{AllocError, Global};
+use std::collections::{BTreeMap, HashMap};
 use std::test::Fail;
 
 fn one_null_pieces(alloc: Global) -> Result<Pieces, AllocError> {
@@ -66,5 +67,46 @@ fn documents_are_read(rt: HostRuntime) -> Result<(), Fail> {
     let mut expected = TantivyDocument::new(alloc);
     expected.add_field_value(field, OwnedValue::U64(7))?;
     assert!(rt; document == expected);
+    Ok(())
+}
+
+/// Field 3 with 1, field 1 with null, and field 3 with 2.
+fn repeated_pieces(alloc: Global) -> Result<Pieces, AllocError> {
+    let (first, third) = (Field::from_field_id(1), Field::from_field_id(3));
+    let mut pieces = Vec::new(alloc);
+    pieces.push(Piece::FieldOf(third))?;
+    pieces.push(Piece::U64(1))?;
+    pieces.push(Piece::FieldOf(first))?;
+    pieces.push(Piece::Null)?;
+    pieces.push(Piece::FieldOf(third))?;
+    pieces.push(Piece::U64(2))?;
+    Ok(Pieces::new(pieces))
+}
+
+#[test]
+fn ordered_maps_keep_last_values(rt: HostRuntime) -> Result<(), Fail> {
+    let alloc = rt.alloc();
+    let map = BTreeMap::<Field, OwnedValue>::from_pieces(alloc, &mut repeated_pieces(alloc)?)?;
+    assert!(rt; map.len() == 2);
+    let last = map.get(&Field::from_field_id(3));
+    assert!(rt; last.is_some_and(|value| *value == OwnedValue::U64(2)));
+    Ok(())
+}
+
+#[test]
+fn hash_maps_keep_last_values(rt: HostRuntime) -> Result<(), Fail> {
+    let alloc = rt.alloc();
+    let map = HashMap::<Field, OwnedValue>::from_pieces(alloc, &mut repeated_pieces(alloc)?)?;
+    assert!(rt; map.len() == 2);
+    let last = map.get(&Field::from_field_id(3));
+    assert!(rt; last.is_some_and(|value| *value == OwnedValue::U64(2)));
+    Ok(())
+}
+
+#[test]
+fn pieces_of_no_document(rt: HostRuntime) -> Result<(), Fail> {
+    let alloc = rt.alloc();
+    let read = BTreeMap::<Field, OwnedValue>::from_pieces(alloc, &mut one_null_pieces(alloc)?);
+    assert!(rt; read.err() == Some(ValueError::Malformed));
     Ok(())
 }

@@ -1,12 +1,17 @@
+pub mod AddressText
 pub mod Code
 pub mod Distinct
+pub mod DocumentJson
 pub mod Facets
 pub mod Falls
+pub mod FieldOrder
 pub mod FieldTypes
 pub mod Indexed
 pub mod JsonPathTexts
 pub mod JsonTerms
 pub mod JsonTrees
+pub mod LastValues
+pub mod Laws
 pub mod LentPairs
 pub mod NameSearch
 pub mod Names
@@ -15,7 +20,9 @@ pub mod Schemas
 pub mod Stored
 pub mod StoredForm
 pub mod Tags
+pub mod ToldByJson
 pub mod Tree
 pub mod Utf8
 pub mod ValueBytes
+pub mod ValueJson
 pub mod View

@@ -4,7 +4,7 @@ ghost use Rattle.std.specs.Map.{lookup};
 ghost use Rattle.seg_values.specs.Tree as trees;
 ghost use Rattle.seg_values.specs.View.{tree_of};
 
-use crate::document_trait::{Document, push_pair};
+use crate::document_trait::Document;
 use crate::schema::Field;
 use crate::value::OwnedValue;
 use crate::value_error::ValueError;
@@ -16,14 +16,14 @@ use std::marker::Model;
 /// A field with a value.
 #[derive(Drop)]
 pub struct FieldValue {
-    field: Field,
-    value: OwnedValue,
+    pub(crate) field: Field,
+    pub(crate) value: OwnedValue,
 }
 
 /// Fields with values, in the order of addition.
 #[derive(Drop)]
 pub struct TantivyDocument {
-    pairs: Vec<FieldValue>,
+    pub(crate) pairs: Vec<FieldValue>,
 }
 
 impl Model for TantivyDocument {
@@ -113,14 +113,6 @@ impl Document for TantivyDocument {
 
     fn pair(&self, at: usize) -> (Field, &OwnedValue) {
         self.pair(at)
-    }
-
-    fn pairs(&self, alloc: Global) -> Result<Vec<(Field, &OwnedValue)>, AllocError> {
-        let mut pairs = Vec::with_capacity(alloc, self.pairs.len())?;
-        for pair in &self.pairs {
-            push_pair(&mut pairs, pair.field, &pair.value)?;
-        }
-        Ok(pairs)
     }
 }
 

@@ -1,9 +1,9 @@
 //! What a document is for those that read it.
-ghost use Rattle.std.specs.Prelude.{◌≡◌, ℕ, ◌<◌, List, [], ◌∷◌, ◌++◌, length, map, slice_get, Some, IfOk, OnOk};
-ghost use Rattle.seg_values.specs.LentPairs.{lent_pair};
+ghost use Rattle.std.specs.Prelude.{◌≡◌, ℕ, ◌<◌, List, length, slice_get, Some, IfOk};
 ghost use Rattle.seg_values.specs.Tree.{Tree};
 ghost use Rattle.seg_values.specs.View.{tree_of};
 
+use crate::pairs::Pairs;
 use crate::schema::Field;
 use crate::value::OwnedValue;
 use std::alloc::{AllocError, Global};
@@ -21,20 +21,14 @@ pub trait Document {
         ensures { slice_get (pairs_of self.now) at ≡ Some (result.0, tree_of result.1.now) };
 
     /// The pairs, in order.
-    fn pairs(&self, alloc: Global) -> Result<Vec<(Field, &OwnedValue)>, AllocError>
-        ensures { IfOk result (λ pairs. map lent_pair pairs.items ≡ pairs_of self.now) };
-}
-
-/// Adds a pair at the end.
-pub(crate) fn push_pair<'a>(
-    pairs: &mut Vec<(Field, &'a OwnedValue)>,
-    field: Field,
-    value: &'a OwnedValue,
-) -> Result<(), AllocError>
-    ensures { OnOk result (pairs.new.items ≡ pairs.old.items ++ (field, value.entry) ∷ []) }
-{
-    match pairs.push((field, value)) {
-        Ok(()) => Ok(()),
-        Err(_) => Err(AllocError),
+    fn pairs(&self, alloc: Global) -> Result<Pairs<'_>, AllocError>
+        ensures { IfOk result (λ pairs. pairs ≡ pairs_of self.now) }
+    {
+        let mut pairs = Pairs::with_capacity(alloc, self.len())?;
+        for at in 0..self.len() {
+            let (field, value) = self.pair(at);
+            pairs.push(field, value)?;
+        }
+        Ok(pairs)
     }
 }

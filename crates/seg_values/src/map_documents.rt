@@ -2,7 +2,8 @@
 ghost use Rattle.std.specs.Prelude.{map};
 ghost use Rattle.seg_values.specs.View.{entry_pair};
 
-use crate::document_trait::{Document, push_pair};
+use crate::document_trait::Document;
+use crate::pairs::Pairs;
 use crate::schema::Field;
 use crate::value::OwnedValue;
 use std::alloc::{AllocError, Global};
@@ -22,10 +23,10 @@ impl Document for BTreeMap<Field, OwnedValue> {
         }
     }
 
-    fn pairs(&self, alloc: Global) -> Result<Vec<(Field, &OwnedValue)>, AllocError> {
-        let mut pairs = Vec::new(alloc);
+    fn pairs(&self, alloc: Global) -> Result<Pairs<'_>, AllocError> {
+        let mut pairs = Pairs::with_capacity(alloc, self.len())?;
         for (field, value) in self {
-            push_pair(&mut pairs, *field, value)?;
+            pairs.push(*field, value)?;
         }
         Ok(pairs)
     }

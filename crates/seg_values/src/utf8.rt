@@ -4,8 +4,8 @@ ghost use Rattle.seg_values.specs.Tree.{trees_from, members_from};
 ghost use Rattle.seg_values.specs.Utf8.{IsUtf8Tree, AreUtf8Trees, AreUtf8Members, IsUtf8Document};
 ghost use Rattle.seg_values.specs.View.{tree_of};
 
-use crate::document::TantivyDocument;
 use crate::facet::Facet;
+use crate::pairs::Pairs;
 use crate::value::{Members, OwnedValue, Values};
 
 impl Facet {
@@ -61,7 +61,7 @@ impl Members {
     }
 }
 
-impl TantivyDocument {
+impl Pairs<'_> {
     pub fn texts_are_utf8(&self)
         ensures { IsUtf8Document self.now }
     {

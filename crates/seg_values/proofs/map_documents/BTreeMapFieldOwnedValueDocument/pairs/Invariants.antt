@@ -1,7 +1,6 @@
 use Rattle.std.proofs.Common.{◌≡◌, ◌++◌, map}
-use Rattle.seg_values.specs.LentPairs.{lent_pair}
 use Rattle.seg_values.specs.View.{entry_pair}
 use Rattle.seg_values.proofs.map_documents.BTreeMapFieldOwnedValueDocument.pairs.Given as goal
 
 abbrev pub invariant-loop-field : goal.invariant-loop-field
-invariant-loop-field l = map lent_pair l.pairs.items ++ map entry_pair l.field-iterator ≡ map entry_pair l.self.entries
+invariant-loop-field l = l.pairs ++ map entry_pair l.field-iterator ≡ map entry_pair l.self.entries

@@ -1,6 +1,6 @@
 use Rattle.std.proofs.Common.{◌≡◌, ◌++◌, length}
 use Rattle.seg_access.specs.Pieces.{document_spelling}
-use Rattle.seg_access.proofs.document_deserialize.TantivyDocumentDocumentDeserialize.from_pieces.Given as goal
+use Rattle.seg_access.proofs.document_deserialize.document_from.Given as goal
 
 -- what was read, with what is left, is all
 abbrev pub invariant-loop-piece : goal.invariant-loop-piece

@@ -1,0 +1,5 @@
+use Rattle.seg_values.proofs.JsonReadBack.{tree_back}
+use Rattle.seg_values.proofs.laws.json_reads_back.Goals as goal
+
+pub returns : goal.returns
+returns c = tree_back
