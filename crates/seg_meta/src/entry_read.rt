@@ -7,6 +7,7 @@ ghost use Rattle.seg_meta.specs.Reads.{required, word_of};
 
 use crate::ReadError;
 use crate::members::{flag_at, has_only, optional_text_at, text_at};
+use crate::words::{index_from, kind_from, precision_from};
 use seg_dates::DateTimePrecision;
 use seg_values::{FieldEntry, FieldKind, IndexOption};
 use seg_words::Text;
@@ -79,40 +80,17 @@ fn is_entry(entry: &FieldEntry) -> bool
 fn kind_at(json: &Value) -> Option<FieldKind>
     ensures { result ≡ required (word_of kinds) (codes "kind") (view json.now) }
 {
-    match text_at(json, "kind")? {
-        "text" => Some(FieldKind::Text),
-        "u64" => Some(FieldKind::U64),
-        "i64" => Some(FieldKind::I64),
-        "bool" => Some(FieldKind::Bool),
-        "date" => Some(FieldKind::Date),
-        "facet" => Some(FieldKind::Facet),
-        "bytes" => Some(FieldKind::Bytes),
-        "ip" => Some(FieldKind::IpAddr),
-        "json" => Some(FieldKind::Json),
-        _ => None,
-    }
+    kind_from(text_at(json, "kind")?)
 }
 
 fn index_at(json: &Value) -> Option<IndexOption>
     ensures { result ≡ required (word_of index_options) (codes "index") (view json.now) }
 {
-    match text_at(json, "index")? {
-        "no" => Some(IndexOption::No),
-        "basic" => Some(IndexOption::Basic),
-        "freqs" => Some(IndexOption::Freqs),
-        "positions" => Some(IndexOption::Positions),
-        _ => None,
-    }
+    index_from(text_at(json, "index")?)
 }
 
 fn precision_at(json: &Value) -> Option<DateTimePrecision>
     ensures { result ≡ required (word_of precisions) (codes "precision") (view json.now) }
 {
-    match text_at(json, "precision")? {
-        "seconds" => Some(DateTimePrecision::Seconds),
-        "milliseconds" => Some(DateTimePrecision::Milliseconds),
-        "microseconds" => Some(DateTimePrecision::Microseconds),
-        "nanoseconds" => Some(DateTimePrecision::Nanoseconds),
-        _ => None,
-    }
+    precision_from(text_at(json, "precision")?)
 }

@@ -12,7 +12,7 @@ use serde_json::Value;
 use std::alloc::Global;
 
 /// Whether a value is an object with no member but these.
-pub(crate) fn has_only(json: &Value, names: &[&str]) -> bool
+pub fn has_only(json: &Value, names: &[&str]) -> bool
     ensures { result ≡ has_only (map (λ n. n.now) names.now) (view json.now) }
 {
     let Some(members) = json.as_object() else {
@@ -27,7 +27,7 @@ pub(crate) fn has_only(json: &Value, names: &[&str]) -> bool
 }
 
 /// The text that a member is.
-pub(crate) fn text_at<'a>(json: &'a Value, name: &str) -> Option<&'a str>
+pub fn text_at<'a>(json: &'a Value, name: &str) -> Option<&'a str>
     ensures { option_map (λ s. s.now) result ≡ required as_str name.now (view json.now) }
 {
     json.get(name)?.as_str()
@@ -57,7 +57,7 @@ pub(crate) fn flag_at(json: &Value, name: &str) -> Option<bool>
 }
 
 /// The natural number that a member is.
-pub(crate) fn number_at(json: &Value, name: &str) -> Option<u64>
+pub fn number_at(json: &Value, name: &str) -> Option<u64>
     ensures { result ≡ required natural name.now (view json.now) }
 {
     json.get(name)?.as_u64()

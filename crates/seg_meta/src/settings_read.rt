@@ -7,6 +7,7 @@ ghost use Rattle.seg_meta.specs.View.{settings_of, compression_of};
 
 use crate::IndexSettings;
 use crate::members::{below_at, flag_at, has_only, text_at};
+use crate::words::compressor_from;
 use seg_values::Compressor;
 use serde_json::Value;
 
@@ -38,10 +39,5 @@ fn compressor_at(json: &Value) -> Option<Compressor>
     ensures { option_map compression_of result
         ≡ required (word_of compressions) (codes "docstore_compression") (view json.now) }
 {
-    match text_at(json, "docstore_compression")? {
-        "none" => Some(Compressor::None),
-        "lz4" => Some(Compressor::Lz4),
-        "zstd" => Some(Compressor::Zstd),
-        _ => None,
-    }
+    compressor_from(text_at(json, "docstore_compression")?)
 }

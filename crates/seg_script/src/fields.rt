@@ -13,7 +13,8 @@ ghost use Rattle.seg_script.specs.Fields.{entry_from, schema_from, field_or_past
 
 use crate::error::ScriptError;
 use seg_dates::DateTimePrecision;
-use seg_script_values::{flag_or, has_only, kind_from, text_at};
+use seg_meta::{has_only, index_from, kind_from, precision_from, text_at};
+use seg_script_values::flag_or;
 use seg_values::{
     Field, FieldEntry, FieldKind, IndexOption, Schema, SchemaBuilder, SchemaCause, TantivyError,
 };
@@ -125,30 +126,18 @@ fn kind_at(json: &Value) -> Option<FieldKind>
 fn index_at(json: &Value) -> Option<IndexOption>
     ensures { result ≡ optional No (word_of index_options) (codes "index") (view json.now) }
 {
-    let Some(word) = json.get("index") else {
-        return Some(IndexOption::No);
-    };
-    match word.as_str()? {
-        "no" => Some(IndexOption::No),
-        "basic" => Some(IndexOption::Basic),
-        "freqs" => Some(IndexOption::Freqs),
-        "positions" => Some(IndexOption::Positions),
-        _ => None,
+    match json.get("index") {
+        None => Some(IndexOption::No),
+        Some(word) => index_from(word.as_str()?),
     }
 }
 
 fn precision_at(json: &Value) -> Option<DateTimePrecision>
     ensures { result ≡ optional Seconds (word_of precisions) (codes "precision") (view json.now) }
 {
-    let Some(word) = json.get("precision") else {
-        return Some(DateTimePrecision::Seconds);
-    };
-    match word.as_str()? {
-        "seconds" => Some(DateTimePrecision::Seconds),
-        "milliseconds" => Some(DateTimePrecision::Milliseconds),
-        "microseconds" => Some(DateTimePrecision::Microseconds),
-        "nanoseconds" => Some(DateTimePrecision::Nanoseconds),
-        _ => None,
+    match json.get("precision") {
+        None => Some(DateTimePrecision::Seconds),
+        Some(word) => precision_from(word.as_str()?),
     }
 }
 

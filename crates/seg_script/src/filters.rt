@@ -9,7 +9,8 @@ use crate::error::ScriptError;
 use crate::kept_documents::{alive_set, ascends};
 use crate::pushing::push;
 use seg_bits::AliveBitSet;
-use seg_script_values::{has_only, small_at};
+use seg_meta::has_only;
+use seg_script_values::small_at;
 use serde_json::Value;
 use std::alloc::{AllocError, Global};
 

@@ -3,7 +3,7 @@ ghost use Rattle.std.specs.Prelude.{◌≡◌, Some, option_map};
 ghost use Rattle.serde_json.specs.View.{view};
 ghost use Rattle.seg_script.specs.Pairs.{reading_in, reading_named, reading_of};
 
-use seg_script_values::kind_from;
+use seg_meta::kind_from;
 use seg_values::FieldKind;
 use serde_json::Value;
 

@@ -11,7 +11,8 @@ use crate::ids::ids_at;
 use crate::operations::operations_from;
 use crate::settings::settings_at;
 use seg_input::BuildInput;
-use seg_script_values::{has_only, take_member};
+use seg_meta::has_only;
+use seg_script_values::take_member;
 use serde_json::Value;
 use std::alloc::Global;
 

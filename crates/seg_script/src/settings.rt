@@ -8,8 +8,8 @@ ghost use Rattle.seg_meta.specs.View.{settings_of, compression_of};
 ghost use Rattle.seg_script_values.specs.Reads.{optional};
 ghost use Rattle.seg_script.specs.Settings.{default_settings, settings_from};
 
-use seg_meta::IndexSettings;
-use seg_script_values::{flag_or, has_only, small_or};
+use seg_meta::{IndexSettings, compressor_from, has_only};
+use seg_script_values::{flag_or, small_or};
 use seg_values::Compressor;
 use serde_json::Value;
 
@@ -58,13 +58,8 @@ fn compressor_at(json: &Value) -> Option<Compressor>
     ensures { option_map compression_of result
         ≡ optional uncompressed (word_of compressions) (codes "docstore_compression") (view json.now) }
 {
-    let Some(word) = json.get("docstore_compression") else {
-        return Some(Compressor::None);
-    };
-    match word.as_str()? {
-        "none" => Some(Compressor::None),
-        "lz4" => Some(Compressor::Lz4),
-        "zstd" => Some(Compressor::Zstd),
-        _ => None,
+    match json.get("docstore_compression") {
+        None => Some(Compressor::None),
+        Some(word) => compressor_from(word.as_str()?),
     }
 }

@@ -1,35 +1,11 @@
 //! The members of a JSON object.
-ghost use Rattle.std.specs.Prelude.{◌≡◌, ◌^◌, map, option_map};
-ghost use Rattle.std.specs.List.{list_any};
-ghost use Rattle.std.specs.Str.{bytes_eq};
-ghost use Rattle.serde_json.specs.Find.{as_bool, as_str, get};
+ghost use Rattle.std.specs.Prelude.{◌≡◌, ◌^◌, option_map};
+ghost use Rattle.serde_json.specs.Find.{as_bool, get};
 ghost use Rattle.serde_json.specs.View.{view};
-ghost use Rattle.seg_meta.specs.Reads.{required, natural, below, has_only};
+ghost use Rattle.seg_meta.specs.Reads.{required, below};
 ghost use Rattle.seg_script_values.specs.Reads.{optional};
 
 use serde_json::Value;
-
-/// Whether a value is an object with no member but these.
-pub fn has_only(json: &Value, names: &[&str]) -> bool
-    ensures { result ≡ has_only (map (λ n. n.now) names.now) (view json.now) }
-{
-    let Some(members) = json.as_object() else {
-        return false;
-    };
-    for (name, _) in members.iter() {
-        if !is_among(name.as_str(), names) {
-            return false;
-        }
-    }
-    true
-}
-
-/// The text that a member is.
-pub fn text_at<'a>(json: &'a Value, name: &str) -> Option<&'a str>
-    ensures { option_map (λ s. s.now) result ≡ required as_str name.now (view json.now) }
-{
-    json.get(name)?.as_str()
-}
 
 /// The truth value that a member is, or the default.
 pub fn flag_or(default: bool, json: &Value, name: &str) -> Option<bool>
@@ -39,13 +15,6 @@ pub fn flag_or(default: bool, json: &Value, name: &str) -> Option<bool>
         None => Some(default),
         Some(value) => value.as_bool(),
     }
-}
-
-/// The natural number that a member is.
-pub fn number_at(json: &Value, name: &str) -> Option<u64>
-    ensures { result ≡ required natural name.now (view json.now) }
-{
-    json.get(name)?.as_u64()
 }
 
 /// The number of 32 bits that a member is.
@@ -85,10 +54,4 @@ pub fn take_member(json: Value, name: &str) -> Option<Value>
         Value::Object(mut members) => members.remove(name),
         _ => None,
     }
-}
-
-fn is_among(name: &str, names: &[&str]) -> bool
-    ensures { result ≡ list_any (λ n. bytes_eq name.now n.now) names.now }
-{
-    names.iter().any(|other| name == *other)
 }

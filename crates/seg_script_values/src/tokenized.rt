@@ -4,8 +4,9 @@ ghost use Rattle.serde_json.specs.View.{view, members_view};
 ghost use Rattle.seg_meta.specs.Reads.{list_of};
 ghost use Rattle.seg_script_values.specs.Tokenized.{token_from, text_and_tokens, tokenized_from};
 
-use crate::members::{has_only, number_at, small_at, take_member};
+use crate::members::{small_at, take_member};
 use crate::parts::{text_of, two_members};
+use seg_meta::{has_only, number_at};
 use seg_words::{PreTokenizedString, Text, Token, Tokens};
 use serde_json::{Map, Value};
 use std::alloc::{AllocError, Global};
