@@ -14,7 +14,7 @@ use Rattle.seg_model.specs.Fields.{is_text, is_json}
 use Rattle.seg_model.specs.Occurrences.{Occurrence}
 use Rattle.seg_model.specs.Reading.{Recorded, positions, Posting, Terms, type_code, term_option, positions_of, if_occurs, recorded_in, listed, postings_from, postings_of, if_any, terms_of}
 use Rattle.seg_model.proofs.Exports.{get-terms_of, no_other_terms, postings_grow, unwrap_if_any}
-use Rattle.seg_build.specs.Adding.{with_position, with_occurrence, with_occurrences}
+use Rattle.seg_terms.specs.Adding.{with_position, with_occurrence, with_occurrences}
 
 -- a document with these positions of a term: it is listed where there is one
 abbrev told : ℕ → List ℕ → List Posting

@@ -19,7 +19,7 @@ use Rattle.seg_store.specs.Writing.{Taken, all_blocks}
 use Rattle.seg_norms.specs.FieldNorms.{filled}
 use Rattle.seg_build.specs.Batch.{kept_norms}
 use Rattle.seg_segment.specs.Built.{is_built_schema, are_built}
-use Rattle.seg_build.specs.Entries.{TermEntries}
+use Rattle.seg_terms.specs.Entries.{TermEntries}
 use Rattle.seg_build.specs.FieldTerms.{FieldTerms, positional_terms, recorded_fields, fields_of}
 use Rattle.seg_build.specs.Kept.{Kept}
 use Rattle.seg_build.specs.Lengths.{HaveLengths}

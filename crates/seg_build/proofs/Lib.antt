@@ -1,12 +1,9 @@
 pub mod Exports
-mod Added
 mod Filled
 mod Finalized
 mod Fitting
 mod FittingTexts
-mod Grouping
 mod Growing
-mod Hashed
 mod IndexedParts
 mod Keeping
 mod KeptBatch
@@ -21,8 +18,6 @@ mod RecordedTerms
 mod Recording
 mod Refused
 mod Refusing
-mod Running
-mod Sorting
 mod Sound
 mod Standing
 mod StoringDocuments

@@ -11,7 +11,7 @@ use Rattle.seg_values.specs.Tree.{Tree, Document}
 use Rattle.seg_model.specs.Fields.{Schema, Analyzer, indexing_tokenizer, values_of}
 use Rattle.seg_model.specs.Checked.{count_of}
 use Rattle.seg_model.specs.Occurrences.{Occurrence, counted, reach, start_after, start_after_all, value_tokens, placed_from, text_occurrences}
-use Rattle.seg_build.specs.Adding.{with_occurrences}
+use Rattle.seg_terms.specs.Adding.{with_occurrences}
 use Rattle.seg_build.specs.Field.{start_in, count_in, added}
 use Rattle.seg_check.specs.Texts.{tokens_at}
 use Rattle.seg_build.specs.Steps.{added_at, with_pair, with_pairs}

@@ -19,7 +19,7 @@ use Rattle.seg_common.specs.Tables.{entry_of}
 use Rattle.seg_postings.specs.Kinds.{kind_of}
 use Rattle.seg_postings.specs.declared.record_kind.RecordKind.{RecordKind}
 use Rattle.seg_segment.specs.Built.{is_built_entry}
-use Rattle.seg_build.specs.Entries.{TermEntries}
+use Rattle.seg_terms.specs.Entries.{TermEntries}
 use Rattle.seg_build.specs.FieldTerms.{FieldTerms, positional, positional_terms, kept_as, postings_as, entries_as, recorded_fields, fields_of}
 use Rattle.seg_build.specs.Filling.{AreFieldsOf}
 use Rattle.seg_segment.proofs.Exports.{text_entry_at}

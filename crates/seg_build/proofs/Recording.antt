@@ -1,7 +1,6 @@
 -- Terms as their fields record them: their bytes, their postings, and that they can be written.
 use Rattle.std.proofs.Common.{◌≡◌, ℕ, zero, suc, ◌<◌, List, [], ◌∷◌, length, Some, sym, refl, ap, ◌∙◌, subst, IsTrue, arith}
-use Rattle.std.specs.Prelude.{◌&&◌, Vec, get_or, is_some}
-use Rattle.std.specs.declared.alloc.Global.{Global}
+use Rattle.std.specs.Prelude.{◌&&◌, is_some}
 use Rattle.std.specs.FinMap.{is_sorted}
 use Rattle.std.specs.FinMap.Entries.{below_all}
 use Rattle.std.specs.List.{slice_get, AllByRecursion}
@@ -17,13 +16,9 @@ use Rattle.seg_postings.specs.Kinds.{kind_of}
 use Rattle.seg_postings.specs.Written.{IsOfKind, AreWritable}
 use Rattle.seg_postings.specs.declared.record_kind.RecordKind.{RecordKind}
 use Rattle.seg_postings.specs.declared.record_kind.RecordKind.TheVariants.{Documents, Counts, Positions}
-use Rattle.seg_build.specs.ByBytes.{seen}
-use Rattle.seg_build.specs.Entries.{TermEntries}
+use Rattle.seg_terms.specs.Entries.{TermEntries}
 use Rattle.seg_build.specs.FieldTerms.{FieldTerms, kept_as, postings_as, entries_as, recorded_fields}
-use Rattle.seg_build.specs.Grouped.{grouped}
 use Rattle.seg_build.specs.Writable.{CanBeWritten, PositionsCanBeWritten}
-use Rattle.seg_build.specs.declared.hits.Hit.{Hit}
-use Rattle.seg_build.proofs.Sorting.{key_at, value_at}
 
 -- ---- order and places
 
@@ -45,28 +40,25 @@ value_as kind [] i ps at = absurd (false≢true (ap is_some at))
 value_as kind (e ∷ es) zero ps at = ap (λ x. Some (postings_as kind x)) (same_Some e.1 ps at)
 value_as kind (e ∷ es) (suc i) ps at = value_as kind es i ps at
 
-abbrev pub listed_as : RecordKind → List (Vec ℕ Global × List Hit) → FieldTerms
-listed_as kind items = record { kind = kind; terms = entries_as kind (seen grouped items) }
+-- the terms of a field, as a kind keeps them
+module _ (kind : RecordKind) (terms : TermEntries) (now : FieldTerms)
+    (same : record { kind = kind; terms = entries_as kind terms } ≡ now) where
+  pub as_many : length terms ≡ length now.terms
+  as_many = sym (length-map terms (λ e. (e.0, postings_as kind e.1))) ∙ ap (λ (f : FieldTerms). length f.terms) same
 
--- the term at a place
-module _ (kind : RecordKind) (items : List (Vec ℕ Global × List Hit)) (now : FieldTerms) (same : listed_as kind items ≡ now) (i : ℕ) (x : Vec ℕ Global × List Hit) (lt : i < length now.terms) (is : x ≡ get_or items i x) where
-  within : i < length (seen grouped items)
-  within =
-      let many : length (entries_as kind (seen grouped items)) ≡ length (seen grouped items) = length-map (seen grouped items) _ in
-      let as_now : length (entries_as kind (seen grouped items)) ≡ length now.terms = ap (λ (f : FieldTerms). length f.terms) same in
-      omega (arith, lt, many, as_now)
-
-  pub bytes_of_place : slice_get (keys_of now.terms) i ≡ Some x.0.items
-  bytes_of_place =
+  pub bytes_of_place : (i : ℕ) (bytes : List ℕ) → slice_get (keys_of terms) i ≡ Some bytes
+      → slice_get (keys_of now.terms) i ≡ Some bytes
+  bytes_of_place i bytes at =
       ap (λ (f : FieldTerms). slice_get (keys_of f.terms) i) (sym same)
-      ∙ ap (λ ks. slice_get ks i) (keys_as kind (seen grouped items))
-      ∙ key_at grouped items (seen grouped items) refl i x within is
+      ∙ ap (λ ks. slice_get ks i) (keys_as kind terms)
+      ∙ at
 
-  pub postings_of_place : slice_get (values_of now.terms) i ≡ Some (postings_as now.kind (grouped x.1))
-  postings_of_place =
+  pub postings_of_place : (i : ℕ) (ps : List Posting) → slice_get (values_of terms) i ≡ Some ps
+      → slice_get (values_of now.terms) i ≡ Some (postings_as now.kind ps)
+  postings_of_place i ps at =
       ap (λ (f : FieldTerms). slice_get (values_of f.terms) i) (sym same)
-      ∙ value_as kind (seen grouped items) i (grouped x.1) (value_at grouped items (seen grouped items) refl i x within is)
-      ∙ ap (λ (f : FieldTerms). Some (postings_as f.kind (grouped x.1))) same
+      ∙ value_as kind terms i ps at
+      ∙ ap (λ (f : FieldTerms). Some (postings_as f.kind ps)) same
 
 -- ---- what can be written
 

@@ -7,8 +7,8 @@ use Rattle.seg_model.specs.Reading.{Recorded, presence, frequency, positions, Po
 use Rattle.seg_postings.specs.declared.record_kind.RecordKind.{RecordKind}
 use Rattle.seg_postings.specs.declared.record_kind.RecordKind.TheVariants.{Documents, Counts, Positions}
 use Rattle.seg_build.specs.FieldTerms.{kept_as, postings_as}
-use Rattle.seg_build.specs.declared.hits.Hit.{Hit}
-use Rattle.seg_build.specs.Grouped.{from_position, joined, grouped}
+use Rattle.seg_terms.specs.declared.hit.Hit.{Hit}
+use Rattle.seg_terms.specs.Grouped.{from_position, joined, grouped}
 use Rattle.seg_build.specs.TokenTotal.{recorded_count, count_total}
 use Rattle.seg_common.proofs.Lists.{drop-slice_get}
 
@@ -85,19 +85,6 @@ documents_from a (p ∷ ps) = let rest = documents_from (a + 1) ps in omega (ari
 -- where documents alone are kept, each posting counts
 pub documents_count : (ps : List Posting) → count_total (postings_as Documents ps) ≡ length ps
 documents_count ps = documents_from 0 ps ∙ (let z : 0 + length ps ≡ length ps = omega arith in z)
-
-joined_few : (h : Hit) (ps : List Posting) → length (joined h ps) ≤ suc (length ps)
-joined_few h [] = omega arith
-joined_few h (p ∷ ps) =
-    elim (h.document == p.document) as (λ b. length (cond b (record { document = h.document; recorded = from_position h.position p.recorded } ∷ ps) (record { document = h.document; recorded = positions (h.position ∷ []) } ∷ p ∷ ps)) ≤ suc (suc (length ps))) [
-      | true ↦ omega arith
-      | false ↦ omega arith
-    ]
-
--- postings are no more than the hits
-pub grouped_few : (hs : List Hit) → length (grouped hs) ≤ length hs
-grouped_few [] = omega arith
-grouped_few (h ∷ hs) = let one = joined_few h (grouped hs) in let rest = grouped_few hs in omega (arith, one, rest)
 
 -- ---- all terms
 

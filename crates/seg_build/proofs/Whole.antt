@@ -15,7 +15,7 @@ use Rattle.seg_model.specs.Fields.{Schema, Analyzer, is_indexed, indexing_tokeni
 use Rattle.seg_model.specs.Occurrences.{Occurrence, value_tokens, text_occurrences, kind_occurrences, occurrences_at, occurrences}
 use Rattle.seg_model.specs.Reading.{Terms, postings_of, if_any, terms_of}
 use Rattle.seg_common.specs.Tables.{tabulated}
-use Rattle.seg_build.specs.Adding.{with_occurrences}
+use Rattle.seg_terms.specs.Adding.{with_occurrences}
 use Rattle.seg_segment.specs.Built.{is_built_schema}
 use Rattle.seg_build.specs.Field.{start_in, count_in}
 use Rattle.seg_build.specs.FieldTerms.{positional, positional_terms}

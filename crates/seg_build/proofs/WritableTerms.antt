@@ -26,7 +26,7 @@ use Rattle.seg_common.specs.Tables.{entry_of}
 use Rattle.seg_postings.specs.declared.record_kind.RecordKind.TheVariants.{Positions}
 use Rattle.seg_postings.specs.Written.{Rise, IsOfKind, AreWritable}
 use Rattle.seg_segment.specs.Built.{is_built_entry}
-use Rattle.seg_build.specs.Entries.{TermEntries}
+use Rattle.seg_terms.specs.Entries.{TermEntries}
 use Rattle.seg_build.specs.FieldTerms.{positional}
 use Rattle.seg_build.specs.Writable.{PositionsCanBeWritten, BuiltTermsCanBeWritten}
 use Rattle.seg_segment.proofs.Exports.{IsTextEntry, text_entry_at}

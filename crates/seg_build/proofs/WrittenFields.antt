@@ -17,7 +17,7 @@ use Rattle.seg_postings.specs.Kinds.{kind_of}
 use Rattle.seg_segment.specs.Built.{is_built_schema}
 use Rattle.seg_segment.specs.FieldsWritten.{HaveFields}
 use Rattle.seg_segment.proofs.Exports.{AreTermsOf, IsTextEntry, hold_terms, text_entry_at}
-use Rattle.seg_build.specs.Entries.{TermEntries}
+use Rattle.seg_terms.specs.Entries.{TermEntries}
 use Rattle.seg_build.specs.FieldTerms.{FieldTerms}
 use Rattle.seg_build.specs.Filling.{AreFieldsOf, HoldFields}
 use Rattle.seg_build.specs.TermsWritten.{written, all_written, written_total}

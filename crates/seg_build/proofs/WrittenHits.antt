@@ -11,10 +11,10 @@ use Rattle.seg_postings.specs.PostingsReading.{kind_kept, count_of, places_of}
 use Rattle.seg_postings.specs.Written.{Rise, IsOfKind, AreWritable}
 use Rattle.seg_segment.specs.WritingTerms.{AscendBy, AreOfTerm, MayTake, with_more}
 use Rattle.seg_segment.proofs.Exports.{AreGiven, IsRecorded, given_more, may_take}
-use Rattle.seg_build.specs.declared.hits.Hit.{Hit}
+use Rattle.seg_terms.specs.declared.hit.Hit.{Hit}
 use Rattle.seg_build.specs.FieldTerms.{postings_as}
-use Rattle.seg_build.specs.Grouped.{grouped}
-use Rattle.seg_build.specs.Runs.{IsFirstRun}
+use Rattle.seg_terms.specs.Grouped.{grouped}
+use Rattle.seg_terms.specs.Runs.{IsFirstRun}
 use Rattle.seg_build.specs.TermsWritten.{kept_hits}
 
 -- ---- what can be written

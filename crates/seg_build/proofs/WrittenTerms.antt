@@ -14,7 +14,7 @@ use Rattle.seg_model.specs.Reading.{Posting}
 use Rattle.seg_postings.specs.declared.record_kind.RecordKind.{RecordKind}
 use Rattle.seg_postings.specs.FieldWriting.{TermWritten, FieldWriting, with_open, last_written, MayOpen}
 use Rattle.seg_postings.specs.Written.{AreWritable}
-use Rattle.seg_build.specs.Entries.{TermEntries}
+use Rattle.seg_terms.specs.Entries.{TermEntries}
 use Rattle.seg_build.specs.FieldTerms.{FieldTerms}
 use Rattle.seg_segment.specs.WritingTerms.{term_with, with_terms, with_whole_term}
 use Rattle.seg_build.specs.TermsWritten.{written}

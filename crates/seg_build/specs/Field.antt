@@ -2,7 +2,7 @@
 use Rattle.std.specs.Prelude.{ℕ, ◌+◌, ◌<◌, ◌^◌, List, [], length, ◌==◌, if◌then◌else◌}
 use Rattle.seg_words.specs.declared.token.Token.{Token}
 use Rattle.seg_model.specs.Occurrences.{counted, placed_from, start_after}
-use Rattle.seg_build.specs.Adding.{with_occurrences}
+use Rattle.seg_terms.specs.Adding.{with_occurrences}
 use Rattle.seg_build.specs.declared.field.FieldPostings.{FieldPostings}
 
 -- where the next text of a document begins

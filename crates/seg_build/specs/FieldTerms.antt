@@ -11,7 +11,7 @@ use Rattle.seg_model.specs.Reading.{Recorded, presence, frequency, positions, Po
 use Rattle.seg_postings.specs.Kinds.{kind_byte, kind_of}
 use Rattle.seg_postings.specs.declared.record_kind.RecordKind.{RecordKind}
 use Rattle.seg_postings.specs.declared.record_kind.RecordKind.TheVariants.{Documents, Counts, Positions}
-use Rattle.seg_build.specs.Entries.{TermEntries, entries_code}
+use Rattle.seg_terms.specs.Entries.{TermEntries, entries_code}
 
 -- the terms of a field in byte order, and what their postings keep
 pub record FieldTerms : Type 0 where

@@ -5,7 +5,7 @@ use Rattle.seg_postings.specs.declared.record_kind.RecordKind.{RecordKind}
 use Rattle.seg_postings.specs.FieldWriting.{TermWritten}
 use Rattle.seg_build.specs.FieldTerms.{FieldTerms, kept_as}
 use Rattle.seg_build.specs.TokenTotal.{token_total}
-use Rattle.seg_build.specs.declared.hits.Hit.{Hit}
+use Rattle.seg_terms.specs.declared.hit.Hit.{Hit}
 
 -- what a kind keeps of the hits in one document
 abbrev pub kept_hits : RecordKind → List Hit → Recorded

@@ -3,7 +3,7 @@ use Rattle.std.specs.Prelude.{ℕ, List, length}
 use Rattle.std.specs.List.{sum_by}
 use Rattle.std.specs.Map.{values_of}
 use Rattle.seg_model.specs.Reading.{Recorded, presence, frequency, positions, Posting}
-use Rattle.seg_build.specs.Entries.{TermEntries}
+use Rattle.seg_terms.specs.Entries.{TermEntries}
 
 -- how often a term occurs in a document, as far as it is recorded: where only its presence is, once
 abbrev pub recorded_count : Recorded → ℕ

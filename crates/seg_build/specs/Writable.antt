@@ -9,7 +9,7 @@ use Rattle.seg_model.specs.Fields.{Schema, Analyzer}
 use Rattle.seg_postings.specs.declared.record_kind.RecordKind.TheVariants.{Positions}
 use Rattle.seg_postings.specs.Written.{AreWritable}
 use Rattle.seg_segment.specs.Built.{are_built}
-use Rattle.seg_build.specs.Entries.{TermEntries}
+use Rattle.seg_terms.specs.Entries.{TermEntries}
 use Rattle.seg_build.specs.FieldTerms.{FieldTerms, positional_terms}
 
 -- terms in byte order, each of which occurs, by ascending documents, with what the kind keeps, all of it small enough

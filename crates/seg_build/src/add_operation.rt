@@ -5,8 +5,8 @@ use seg_values::TantivyDocument;
 pub type Opstamp = u64;
 
 /// A document that is added, with its stamp.
-#[derive(PartialEq, Eq, Drop)]
-pub struct AddOperation {
+#[derive(Debug, PartialEq, Eq, Drop)]
+pub struct AddOperation<D = TantivyDocument> {
     pub opstamp: Opstamp,
-    pub document: TantivyDocument,
+    pub document: D,
 }

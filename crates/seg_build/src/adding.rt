@@ -9,7 +9,7 @@ ghost use Rattle.seg_build.specs.Steps.{AllFit, with_texts};
 
 use crate::field::FieldPostings;
 use seg_check::FieldText;
-use seg_values::TantivyDocument;
+use seg_values::Pairs;
 use std::alloc::{AllocError, Global};
 
 /// Adds texts of a document that no other one is past, and answers how many of their tokens give terms, at most
@@ -17,7 +17,7 @@ use std::alloc::{AllocError, Global};
 pub(crate) fn add_texts(
     alloc: Global,
     id: u32,
-    document: &TantivyDocument,
+    document: &Pairs<'_>,
     texts: &[FieldText],
     fields: &mut [FieldPostings],
 ) -> Result<usize, AllocError>
@@ -38,7 +38,7 @@ pub(crate) fn add_texts(
 fn add_text(
     alloc: Global,
     id: u32,
-    document: &TantivyDocument,
+    document: &Pairs<'_>,
     text: &FieldText,
     fields: &mut [FieldPostings],
 ) -> Result<usize, AllocError>

@@ -4,9 +4,9 @@ ghost use Rattle.std.specs.FinMap as fin;
 ghost use Rattle.seg_model.specs.Occurrences.{counted};
 ghost use Rattle.seg_build.specs.Field.{Fits, start_in, count_in, added};
 
-use crate::terms::TermIndex;
 use crate::tokens::{add_tokens, next_start};
 use seg_check::counted_len;
+use seg_terms::TermIndex;
 use seg_words::Token;
 use std::alloc::{AllocError, Global};
 

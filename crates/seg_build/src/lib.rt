@@ -1,15 +1,14 @@
 //! Indexes documents in memory, and writes them as the six files of a segment.
 //!
 //! A schema and documents become the terms of each field, in byte order, each with its postings; contracts see them as a
-//! list for each field. While documents come, a field is a hash table from the bytes of a term to its occurrences, each
-//! with its position; at the end it is sorted once, and what is shown and written of a term is what its field records. A
-//! `SegmentWriter` takes documents one by one. What isn't built yet, fields that are fast and indexed fields of other
-//! kinds than texts, is refused when a writer is made.
+//! list for each field. While documents come, the terms of a field are a `TermIndex`, each with all its positions; at
+//! the end they are ordered once, and what is shown and written of a term is what its field records. A `SegmentWriter`
+//! takes documents one by one. What isn't built yet, fields that are fast and indexed fields of other kinds than texts,
+//! is refused when a writer is made.
 //!
-//! To be read in this order: `hits` and `runs` (the occurrences of a term, which make its postings), `terms` (a field's
-//! hash table), `sorted` (its terms in byte order), `tokens` and `field` (what
-//! one more text adds), `lengths` (the field norms of a document), `usage` (how much memory documents take), `fields` (those
-//! of all documents); `writing` (the terms of a field, into a `TermWriter`), `terms_files` and `norms_file` (the parts
+//! To be read in this order: `sorted` (the terms of a field in byte order), `tokens` and `field` (what one more text
+//! adds), `lengths` (the field norms of a document), `usage` (how much memory documents take), `fields` (those of all
+//! documents); `writing` (the terms of a field, into a `TermWriter`), `terms_files` and `norms_file` (the parts
 //! of files), `filling` (what the components of a segment are to hold); `add_operation`, `adding` (the texts of a
 //! document that passed its check), `writer_start`, `writer_parts`, `memory_segment`, `finishing` and `segment_writer`;
 //! `laws` (terms that were indexed can be written).
@@ -21,15 +20,12 @@ mod field;
 mod fields;
 mod filling;
 mod finishing;
-mod hits;
 mod laws;
 mod lengths;
 mod memory_segment;
 mod norms_file;
-mod runs;
 mod segment_writer;
 mod sorted;
-mod terms;
 mod terms_files;
 mod tokens;
 mod usage;
@@ -39,10 +35,9 @@ mod writing;
 
 pub use add_operation::{AddOperation, Opstamp};
 pub use fields::{IndexedBatch, IndexedFields};
-pub use hits::Hit;
 pub use laws::{built_schemas_have_no_columns, built_terms_can_be_written};
 pub use memory_segment::MemorySegment;
-pub use runs::first_run;
+pub use seg_terms::{Hit, first_run};
 pub use segment_writer::SegmentWriter;
 pub use sorted::SortedTerms;
 pub use writer_start::{LEAST_BUDGET, settings_fit, start_refusal};

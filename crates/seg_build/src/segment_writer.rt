@@ -1,8 +1,9 @@
 //! The writer of a segment.
-ghost use Rattle.std.specs.Prelude.{◌≡◌, ◌⊎◌, [], List, ℕ, Some, None, Err, IsTrue, IfOk, IfErr, IfSome, OnOk};
+ghost use Rattle.std.specs.Prelude.{◌≡◌, ◌⊎◌, [], List, ℕ, Some, None, Err, IsTrue, IfOk, IfErr, IfSome, IsSomeAnd, OnOk};
 ghost use Rattle.std.specs.FinMap.{get};
 ghost use Rattle.seg_directory.specs.DiskRuns.{KeepsOnDisk};
 ghost use Rattle.seg_values.specs.Tree.{Document};
+ghost use Rattle.seg_model.specs.Fields.{Analyzer};
 ghost use Rattle.seg_meta.specs.IndexOfFiles as index;
 ghost use Rattle.seg_build.specs.FieldTerms.{fields_of};
 ghost use Rattle.seg_build.specs.Finishing.{Finalizes};
@@ -25,7 +26,7 @@ use seg_common::{FileName, SegmentComponent};
 use seg_directory::Directory;
 use seg_meta::{IndexSettings, Segment};
 use seg_store::documents_stay_in_order;
-use seg_values::{ArgumentCause, TResult, TantivyDocument, TantivyError};
+use seg_values::{ArgumentCause, Document, Pairs, TResult, TantivyError};
 use seg_words::Analyzers;
 use std::alloc::{AllocError, Global};
 use std::marker::Model;
@@ -72,7 +73,7 @@ impl<'a, Z: Analyzers> Model for SegmentWriter<'a, Z> {
 }
 
 impl<'a, Z: Analyzers> SegmentWriter<'a, Z> {
-    ghost use Rattle.seg_build.specs.SegmentWriting.{document_count, IsOfSame, Adds, AddsNone, Writes};
+    ghost use Rattle.seg_build.specs.SegmentWriting.{document_count, HasPlace, IsOfSame, Adds, AddsNone, Writes};
 
     /// A writer of no documents.
     pub fn for_segment(
@@ -146,9 +147,11 @@ impl<'a, Z: Analyzers> SegmentWriter<'a, Z> {
     }
 
     /// Adds a document after the others.
-    pub fn add_document(&mut self, operation: AddOperation) -> TResult<()>
-        ensures ok { OnOk result (Adds (Z.tokens_of self.old.0) operation.document operation.opstamp self.old.1 self.new.1) }
-        ensures err { IfErr result (AddsNone (Z.tokens_of self.old.0) operation.document operation.opstamp self.old.1 self.new.1) }
+    pub fn add_document<D: Document + Drop>(&mut self, operation: AddOperation<D>) -> TResult<()>
+        ensures ok { OnOk result
+            (Adds (Z.tokens_of self.old.0) (D.pairs_of operation.document) operation.opstamp self.old.1 self.new.1) }
+        ensures err { IfErr result
+            (AddsNone (Z.tokens_of self.old.0) (D.pairs_of operation.document) operation.opstamp self.old.1 self.new.1) }
         ensures analyzers { self.new.0 ≡ self.old.0 }
         ensures same { IsOfSame self.old.1 self.new.1 }
     {
@@ -157,19 +160,47 @@ impl<'a, Z: Analyzers> SegmentWriter<'a, Z> {
     }
 
     /// Adds a document after the others. An error tells the stamp as the place of the document.
-    pub fn add_ref(&mut self, opstamp: Opstamp, document: &TantivyDocument) -> TResult<()>
-        ensures ok { OnOk result (Adds (Z.tokens_of self.old.0) document.now opstamp self.old.1 self.new.1) }
-        ensures err { IfErr result (AddsNone (Z.tokens_of self.old.0) document.now opstamp self.old.1 self.new.1) }
+    pub fn add_ref<D: Document>(&mut self, opstamp: Opstamp, document: &D) -> TResult<()>
+        ensures ok { OnOk result
+            (Adds (Z.tokens_of self.old.0) (D.pairs_of document.now) opstamp self.old.1 self.new.1) }
+        ensures err { IfErr result
+            (AddsNone (Z.tokens_of self.old.0) (D.pairs_of document.now) opstamp self.old.1 self.new.1) }
         ensures analyzers { self.new.0 ≡ self.old.0 }
         ensures same { IsOfSame self.old.1 self.new.1 }
+    {
+        if let Some(refusal) = self.place_refusal() {
+            return Err(refusal);
+        }
+        let Ok(pairs) = document.pairs(self.alloc) else {
+            self.parts = None;
+            return Err(TantivyError::OutOfMemory);
+        };
+        self.add_pairs(opstamp, &pairs)
+    }
+
+    /// Why no further document is taken, whatever it is.
+    fn place_refusal(&self) -> Option<TantivyError>
+        ensures place { result ≡ None → IsSomeAnd self.now.1.kept HasPlace }
+        ensures refused { (analyzer : Analyzer) → (document : Document) → (stamp : ℕ)
+            → IfSome result (AddsNone analyzer document stamp self.now.1 self.now.1) }
+    {
+        match &self.parts {
+            Some(parts) if parts.stamps.len() < MAX_DOCUMENTS => None,
+            Some(_) => Some(TantivyError::InvalidArgument(ArgumentCause::Documents)),
+            None => Some(TantivyError::SystemError),
+        }
+    }
+
+    /// Adds a document after the others, by its pairs.
+    fn add_pairs(&mut self, opstamp: Opstamp, document: &Pairs<'_>) -> TResult<()>
+        requires { IsSomeAnd self.old.1.kept HasPlace }
+        ensures added { OnOk result (Adds (Z.tokens_of self.old.0) document.now opstamp self.old.1 self.new.1)
+            × IfErr result (AddsNone (Z.tokens_of self.old.0) document.now opstamp self.old.1 self.new.1) }
+        ensures same { (self.new.0 ≡ self.old.0) × IsOfSame self.old.1 self.new.1 }
     {
         let Some(parts) = self.parts.take() else {
             return Err(TantivyError::SystemError);
         };
-        if parts.stamps.len() >= MAX_DOCUMENTS {
-            self.parts = Some(parts);
-            return Err(TantivyError::InvalidArgument(ArgumentCause::Documents));
-        }
         document.texts_are_utf8();
         documents_stay_in_order();
         let alloc = self.alloc;

@@ -3,14 +3,12 @@ ghost use Rattle.std.specs.Prelude.{◌≡◌, ◌<◌, ◌-◌, ◌^◌, length
 ghost use Rattle.std.specs.FinMap.{entries};
 ghost use Rattle.std.specs.List.{slice_get};
 ghost use Rattle.std.specs.Map.{keys_of, values_of};
+ghost use Rattle.seg_terms.specs.Grouped.{grouped};
 ghost use Rattle.seg_build.specs.FieldTerms.{entries_as, postings_as};
-ghost use Rattle.seg_build.specs.Grouped.{grouped};
 ghost use Rattle.seg_build.specs.TokenTotal.{count_total, token_total};
 
-use crate::hits::{Hit, Hits};
-use crate::runs::posting_count;
-use crate::terms::TermIndex;
 use seg_postings::RecordKind;
+use seg_terms::{Hit, OrderedTerms, TermIndex, order_terms, posting_count};
 use std::alloc::{AllocError, Global};
 use std::marker::Model;
 
@@ -18,26 +16,17 @@ use std::marker::Model;
 #[derive(Drop)]
 pub struct SortedTerms {
     kind: RecordKind,
-    terms: Vec<(Vec<u8>, Hits)>,
+    terms: OrderedTerms,
 }
 
 impl Model for SortedTerms {
-    ghost use Rattle.std.specs.Prelude.{IsTrue};
-    ghost use Rattle.std.specs.Ordering.{nat_cmp};
-    ghost use Rattle.std.specs.Cmp.Lexicographic.{slice_cmp};
-    ghost use Rattle.std.specs.FinMap.{is_sorted};
     ghost use Rattle.seg_build.specs.FieldTerms.{FieldTerms, entries_as, field_terms_code};
 
     ghost Value = { FieldTerms };
 
     ghost coded = { field_terms_code };
 
-    ghost use Rattle.seg_build.specs.Grouped.{grouped};
-    ghost use Rattle.seg_build.specs.ByBytes.{seen};
-
-    ghost view = { λ a. record { kind = a.kind; terms = entries_as a.kind (seen grouped a.terms.items) } };
-
-    ghost invariant = { λ a. IsTrue (is_sorted (slice_cmp nat_cmp) (seen grouped a.terms.items)) };
+    ghost view = { λ a. record { kind = a.kind; terms = entries_as a.kind a.terms } };
 }
 
 impl SortedTerms {
@@ -60,8 +49,7 @@ impl SortedTerms {
         requires { index < length self.now.terms }
         ensures { slice_get (keys_of self.now.terms) index ≡ Some result.now }
     {
-        let pair = &self.terms[index];
-        pair.0.as_slice()
+        self.terms.bytes_at(index)
     }
 
     /// Where that term occurs: document by document, and in a document as its tokens come.
@@ -70,8 +58,7 @@ impl SortedTerms {
         requires { index < length self.now.terms }
         ensures { slice_get (values_of self.now.terms) index ≡ Some (postings_as self.now.kind (grouped result.now)) }
     {
-        let pair = &self.terms[index];
-        pair.1.as_slice()
+        self.terms.hits_at(index)
     }
 
     /// How often the terms occur in all, as far as that is recorded: where their documents alone are, once in each. A
@@ -106,7 +93,6 @@ pub(crate) fn sort_terms(
 ) -> Result<SortedTerms, AllocError>
     ensures { IfOk result (λ sorted. sorted ≡ record { kind = kind; terms = entries_as kind (entries index) }) }
 {
-    let mut terms = index.into_pairs(alloc)?;
-    terms.sort_unstable_by(|a, b| a.0.cmp(&b.0));
+    let terms = order_terms(alloc, index)?;
     Ok(SortedTerms { kind, terms })
 }

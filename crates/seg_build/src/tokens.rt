@@ -1,10 +1,10 @@
 //! The tokens of a text.
 ghost use Rattle.std.specs.Prelude.{◌≡◌, ◌<◌, ◌^◌, [], OnOk};
-ghost use Rattle.seg_build.specs.Adding.{with_occurrences};
+ghost use Rattle.seg_terms.specs.Adding.{with_occurrences};
 ghost use Rattle.seg_model.specs.Occurrences.{placed_from, start_after};
 
-use crate::terms::TermIndex;
 use seg_check::text_width;
+use seg_terms::TermIndex;
 use seg_words::{MAX_TOKEN_LEN, Token};
 use std::alloc::{AllocError, Global};
 

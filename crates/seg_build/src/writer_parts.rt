@@ -10,7 +10,7 @@ use crate::lengths::record_lengths;
 use seg_check::FieldText;
 use seg_norms::FieldNormsWriter;
 use seg_store::StoreWriter;
-use seg_values::{Compressor, Schema, TantivyDocument};
+use seg_values::{Compressor, Pairs, Schema};
 use std::alloc::{AllocError, Global};
 
 /// The terms and the lengths of documents, their store, their stamps, and how often terms occur in them, at most
@@ -52,7 +52,7 @@ impl WriterParts {
         self,
         alloc: Global,
         schema: &Schema,
-        document: &TantivyDocument,
+        document: &Pairs<'_>,
         texts: &[FieldText],
         stamp: Opstamp,
     ) -> Result<WriterParts, AllocError>
@@ -64,7 +64,7 @@ impl WriterParts {
         let occurrences = add_texts(alloc, id, document, texts, &mut parts.fields)?;
         record_lengths(id, texts, &parts.fields, &mut parts.norms)?;
         parts.occurrences = parts.occurrences.saturating_add(occurrences);
-        let Ok(()) = parts.store.store(document, schema) else {
+        let Ok(()) = parts.store.store_pairs(document, schema) else {
             return Err(AllocError);
         };
         if parts.stamps.push(stamp).is_err() {

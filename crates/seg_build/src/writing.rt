@@ -6,15 +6,14 @@ ghost use Rattle.seg_postings.specs.PostingsReading.{count_of, places_of};
 ghost use Rattle.seg_postings.specs.Written.{AreWritable, IsOfKind};
 ghost use Rattle.seg_segment.specs.WritingTerms.{IsUnwritten, MayTake, with_more, with_terms, with_whole_term};
 ghost use Rattle.seg_build.specs.FieldTerms.{postings_as};
-ghost use Rattle.seg_build.specs.Grouped.{grouped};
+ghost use Rattle.seg_terms.specs.Grouped.{grouped};
 ghost use Rattle.seg_build.specs.TermsWritten.{all_written, kept_hits};
 ghost use Rattle.seg_build.specs.Writable.{CanBeWritten};
 
-use crate::hits::Hit;
-use crate::runs::first_run;
 use crate::sorted::SortedTerms;
 use seg_postings::RecordKind;
 use seg_segment::TermWriter;
+use seg_terms::{Hit, first_run};
 use seg_values::PostingsError;
 use std::alloc::{AllocError, Global};
 

@@ -2,6 +2,8 @@
 #![tactic(auto)]
 
 #[cfg(test)]
+mod map_documents;
+#[cfg(test)]
 mod segment_writer;
 #[cfg(test)]
 mod tests;

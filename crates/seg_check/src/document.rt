@@ -10,33 +10,36 @@ use crate::fields::fields_refusal;
 use crate::json::leaves_refusal;
 use crate::limits::is_within_limits;
 use crate::positions::{CutDocument, cut_texts};
-use seg_values::{ArgumentCause, Schema, TResult, TantivyDocument, TantivyError};
+use seg_values::{ArgumentCause, Document, Pairs, Schema, TResult, TantivyError};
 use seg_words::Analyzers;
 use std::alloc::Global;
 
 /// Checks a document before it is indexed; `at` is the place that an error tells.
-pub fn check_document<Z: Analyzers>(
+pub fn check_document<D: Document, Z: Analyzers>(
     alloc: Global,
     schema: &Schema,
     analyzers: &Z,
-    document: &TantivyDocument,
+    document: &D,
     at: usize,
 ) -> TResult<()>
     requires { AllByRecursion (KnowsTexts (Z.knows analyzers.now)) schema.now }
-    ensures ok { OnOk result (checked.document_refusal schema.now (Z.tokens_of analyzers.now) document.now ≡ None) }
-    ensures err { IfErr result (λ e. (e ≡ TantivyError.OutOfMemory) ⊎ (checked.at_place at (checked.document_refusal schema.now (Z.tokens_of analyzers.now) document.now) ≡ Some e)) }
+    ensures ok { OnOk result (checked.document_refusal schema.now (Z.tokens_of analyzers.now) (D.pairs_of document.now) ≡ None) }
+    ensures err { IfErr result (λ e. (e ≡ TantivyError.OutOfMemory) ⊎ (checked.at_place at (checked.document_refusal schema.now (Z.tokens_of analyzers.now) (D.pairs_of document.now)) ≡ Some e)) }
 {
-    checked_texts(alloc, schema, analyzers, document, at)?;
+    let Ok(pairs) = document.pairs(alloc) else {
+        return Err(TantivyError::OutOfMemory);
+    };
+    checked_texts(alloc, schema, analyzers, &pairs, at)?;
     Ok(())
 }
 
-/// Checks a document before it is indexed, and answers its texts in indexed text fields, each cut once; `at` is the
-/// place that an error tells.
+/// Checks the pairs of a document before it is indexed, and answers its texts in indexed text fields, each cut once; `at`
+/// is the place that an error tells.
 pub fn checked_texts<Z: Analyzers>(
     alloc: Global,
     schema: &Schema,
     analyzers: &Z,
-    document: &TantivyDocument,
+    document: &Pairs<'_>,
     at: usize,
 ) -> TResult<Vec<FieldText>>
     requires { AllByRecursion (KnowsTexts (Z.knows analyzers.now)) schema.now }

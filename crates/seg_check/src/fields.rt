@@ -5,13 +5,13 @@ ghost use Rattle.seg_model.specs.Checked as checked;
 ghost use Rattle.seg_values.specs.View.{tree_of};
 
 use crate::kinds::takes;
-use seg_values::{Field, OwnedValue, Schema, SchemaCause, TantivyDocument, TantivyError};
+use seg_values::{Field, OwnedValue, Pairs, Schema, SchemaCause, TantivyError};
 
 /// The first pair whose field is not in the schema, or does not take the value, of a document that is added at `place`.
 #[tactic(auto, using(crate::proofs::Places::drop_at))]
 pub(crate) fn fields_refusal(
     schema: &Schema,
-    document: &TantivyDocument,
+    document: &Pairs<'_>,
     place: usize,
 ) -> Option<TantivyError>
     ensures { result ≡ checked.at_place place (checked.fields_refusal schema.now document.now) }

@@ -6,15 +6,13 @@ ghost use Rattle.seg_check.specs.Trees.{leaf_in};
 ghost use Rattle.seg_values.specs.View.{tree_of};
 
 use crate::kinds::is_json;
-use seg_values::{
-    ArgumentCause, Field, FieldEntry, OwnedValue, Schema, TantivyDocument, TantivyError,
-};
+use seg_values::{ArgumentCause, Field, FieldEntry, OwnedValue, Pairs, Schema, TantivyError};
 
 /// The first leaf or key that a JSON field which is indexed or fast may not have, in a document that is added at `place`.
 #[tactic(auto, using(crate::proofs::Places::drop_at))]
 pub(crate) fn leaves_refusal(
     schema: &Schema,
-    document: &TantivyDocument,
+    document: &Pairs<'_>,
     place: usize,
 ) -> Option<TantivyError>
     ensures { result ≡ checked.at_place place (checked.leaves_refusal schema.now document.now) }

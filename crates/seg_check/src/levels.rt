@@ -4,14 +4,14 @@ ghost use Rattle.std.specs.List.{list_all};
 ghost use Rattle.seg_values.specs.Tree.{levels};
 ghost use Rattle.seg_values.specs.View.{tree_of};
 
-use seg_values::{OwnedValue, TantivyDocument};
+use seg_values::{OwnedValue, Pairs};
 
 /// The most levels of a value.
 const MOST_LEVELS: u32 = 200;
 
 /// Whether no value has more than the most levels.
 #[tactic(auto, using(crate::proofs::Places::drop_at))]
-pub(crate) fn are_shallow(document: &TantivyDocument) -> bool
+pub(crate) fn are_shallow(document: &Pairs<'_>) -> bool
     ensures { result ≡ list_all (λ p. nat_le (levels p.1) 200) document.now }
 {
     for at in 0..document.len() {

@@ -10,14 +10,14 @@ use crate::field_totals::FieldTotals;
 use crate::levels::are_shallow;
 use crate::stored_len::stored_len;
 use crate::totals::is_u32;
-use seg_values::{FieldEntry, Schema, TantivyDocument};
+use seg_values::{FieldEntry, Pairs, Schema};
 use std::collections::HashMap;
 
 /// Whether a document is within the limits, by what it has in each field.
 pub(crate) fn is_within_limits(
     schema: &Schema,
     totals: &HashMap<u32, FieldTotals>,
-    document: &TantivyDocument,
+    document: &Pairs<'_>,
 ) -> bool
     ensures { (analyzer : fields.Analyzer) → AllStand schema.now analyzer totals.now document.now → result ≡ checked.is_within_limits schema.now analyzer document.now }
 {
@@ -30,7 +30,7 @@ pub(crate) fn is_within_limits(
 fn fields_fit(
     schema: &[FieldEntry],
     totals: &HashMap<u32, FieldTotals>,
-    document: &TantivyDocument,
+    document: &Pairs<'_>,
 ) -> bool
     ensures { (analyzer : fields.Analyzer) → AllStand schema.now analyzer totals.now document.now → result ≡ list_all (checked.field_fits analyzer document.now) (fields.fields schema.now) }
 {

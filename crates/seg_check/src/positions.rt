@@ -12,7 +12,7 @@ ghost use Rattle.seg_values.specs.View.{tree_of};
 
 use crate::field_text::{FieldText, cut_tokens};
 use crate::field_totals::FieldTotals;
-use seg_values::{Field, FieldEntry, FieldKind, OwnedValue, Schema, TantivyDocument};
+use seg_values::{Field, FieldEntry, FieldKind, OwnedValue, Pairs, Schema};
 use seg_words::Analyzers;
 use std::alloc::{AllocError, Global};
 use std::collections::HashMap;
@@ -30,7 +30,7 @@ pub(crate) fn cut_texts<Z: Analyzers>(
     alloc: Global,
     analyzers: &Z,
     schema: &Schema,
-    document: &TantivyDocument,
+    document: &Pairs<'_>,
 ) -> Result<Option<CutDocument>, AllocError>
     requires { AllByRecursion (KnowsTexts (Z.knows analyzers.now)) schema.now }
     ensures order { IfOk result (λ found. is_some found ≡ is_none (checked.order_refusal schema.now (Z.tokens_of analyzers.now) document.now)) }

@@ -10,7 +10,7 @@ ghost use Rattle.seg_store.specs.Writing.{Taken, with_document, all_blocks, take
 
 use crate::error::StoreError;
 use crate::written_blocks::WrittenBlocks;
-use seg_values::{Compressor, Schema, TantivyDocument};
+use seg_values::{Compressor, Document, Pairs, Schema};
 use std::alloc::Global;
 use std::marker::Model;
 
@@ -53,7 +53,25 @@ impl StoreWriter {
     }
 
     /// Adds a document: the pairs of its stored fields. No tree has more than 200 levels.
-    pub fn store(&mut self, document: &TantivyDocument, schema: &Schema) -> Result<(), StoreError>
+    pub fn store<D: Document>(&mut self, document: &D, schema: &Schema) -> Result<(), StoreError>
+        requires shallow { AreShallow (D.pairs_of document.now) }
+        requires limit { IfSome self.old (λ w. taken_count w < 2 ^ 31 - 1) }
+        ensures ok { OnOk result (HasGrown self.old self.new (with_document (stored_form schema.now (D.pairs_of document.now)))) }
+        ensures reads { OnOk result (stored_document_of (stored_form schema.now (D.pairs_of document.now)) ≡ Some (stored_document schema.now (D.pairs_of document.now))) }
+        ensures err { IfErr result (λ e. (e ≡ StoreError.OutOfMemory) × (self.new ≡ None)) }
+    {
+        let Some(blocks) = &self.blocks else {
+            return Err(StoreError::OutOfMemory);
+        };
+        let Ok(pairs) = document.pairs(blocks.allocator()) else {
+            self.blocks = None;
+            return Err(StoreError::OutOfMemory);
+        };
+        self.store_pairs(&pairs, schema)
+    }
+
+    /// Adds a document by its pairs, as `store` does.
+    pub fn store_pairs(&mut self, document: &Pairs<'_>, schema: &Schema) -> Result<(), StoreError>
         requires shallow { AreShallow document.now }
         requires limit { IfSome self.old (λ w. taken_count w < 2 ^ 31 - 1) }
         ensures ok { OnOk result (HasGrown self.old self.new (with_document (stored_form schema.now document.now))) }

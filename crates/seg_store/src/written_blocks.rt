@@ -13,7 +13,7 @@ ghost use Rattle.seg_store.specs.Buffers.{taken_of, IsKept, checkpoint_form};
 use crate::checkpoint::Checkpoint;
 use seg_common::{put_u32, put_u64};
 use seg_stored::put_document;
-use seg_values::{Schema, TantivyDocument};
+use seg_values::{Pairs, Schema};
 use std::alloc::{AllocError, Global};
 use std::marker::Model;
 
@@ -61,6 +61,11 @@ impl WrittenBlocks {
         }
     }
 
+    /// Where it has its memory.
+    pub(crate) fn allocator(&self) -> Global {
+        *self.bytes.allocator()
+    }
+
     /// How many bytes the documents have.
     pub(crate) fn stored(&self) -> usize
         ensures { result ≡ self.now.stored }
@@ -71,7 +76,7 @@ impl WrittenBlocks {
     /// Adds the stored form of a document.
     pub(crate) fn with_document(
         self,
-        document: &TantivyDocument,
+        document: &Pairs<'_>,
         schema: &Schema,
     ) -> Result<WrittenBlocks, AllocError>
         requires kept { IsKept self }

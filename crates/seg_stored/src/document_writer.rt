@@ -11,7 +11,7 @@ ghost use Rattle.seg_stored.specs.Storable.{IsStorable, IsStoredPair};
 ghost use Rattle.seg_stored.specs.StoredLaw.{AreShallow};
 
 use crate::tree_writer::{put_tagged_text, put_tree, put_varint};
-use seg_values::{Field, OwnedValue, Schema, TantivyDocument};
+use seg_values::{Field, OwnedValue, Pairs, Schema};
 use std::alloc::AllocError;
 
 /// Adds to `out` the bytes that a document is stored as: how many of its pairs are stored, and these, in its order.
@@ -20,7 +20,7 @@ use std::alloc::AllocError;
 /// enough; `out` may then have some of these bytes.
 pub fn put_document(
     out: &mut Vec<u8>,
-    document: &TantivyDocument,
+    document: &Pairs<'_>,
     schema: &Schema,
 ) -> Result<(), AllocError>
     requires { AreShallow document.now }
@@ -36,7 +36,7 @@ pub fn put_document(
 }
 
 /// How many pairs are stored.
-fn count_stored(document: &TantivyDocument, schema: &Schema) -> u64
+fn count_stored(document: &Pairs<'_>, schema: &Schema) -> u64
     ensures { result ≡ length (reading.stored_document schema.now document.now) }
 {
     let mut count = 0u64;

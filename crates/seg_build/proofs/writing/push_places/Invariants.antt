@@ -1,5 +1,5 @@
 use Rattle.std.proofs.Common.{◌≡◌, ◌++◌, drop, map}
-use Rattle.seg_build.specs.declared.hits.Hit.{Hit}
+use Rattle.seg_terms.specs.declared.hit.Hit.{Hit}
 use Rattle.seg_build.proofs.writing.push_places.Given as goal
 
 -- what is so far, with what is left, is all

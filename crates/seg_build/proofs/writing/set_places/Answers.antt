@@ -1,6 +1,6 @@
 use Rattle.std.proofs.Common.{◌++◌, map, ap, ◌∙◌}
 use Rattle.std.proofs.lemmas.Result.{on_ok_weaker}
-use Rattle.seg_build.specs.declared.hits.Hit.{Hit}
+use Rattle.seg_terms.specs.declared.hit.Hit.{Hit}
 use Rattle.seg_build.proofs.WrittenHits.{all_placed, none_placed}
 use Rattle.seg_build.proofs.writing.set_places.Goals as goal
 

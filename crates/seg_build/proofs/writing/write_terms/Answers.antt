@@ -1,7 +1,7 @@
 use Rattle.std.proofs.Common.{Some, sym, ap, ◌∙◌}
 use Rattle.seg_segment.proofs.Exports.{no_terms}
 use Rattle.seg_build.specs.FieldTerms.{postings_as}
-use Rattle.seg_build.specs.Grouped.{grouped}
+use Rattle.seg_terms.specs.Grouped.{grouped}
 use Rattle.seg_build.proofs.WrittenTerms.{may_open, writable_at, term_more}
 use Rattle.seg_build.proofs.writing.write_terms.Goals as goal
 

@@ -1,10 +1,15 @@
-use Rattle.std.proofs.Common.{Some, ap, sym, ◌∙◌}
-use Rattle.seg_build.specs.FieldTerms.{postings_as}
-use Rattle.seg_build.specs.Grouped.{grouped}
-use Rattle.seg_build.proofs.Recording.{postings_of_place}
+use Rattle.std.proofs.Common.{arith}
+use Rattle.seg_terms.specs.Grouped.{grouped}
+use Rattle.seg_build.proofs.Recording.{as_many, postings_of_place}
 use Rattle.seg_build.proofs.sorted.SortedTerms.hits_at.Goals as goal
+
+pub hits_at-requires : goal.hits_at-requires
+hits_at-requires c =
+    let many = as_many c.self.inside.kind c.self.inside.terms c.args.self.now c.self.view_is in
+    omega (arith, c.requires, many)
 
 pub returns : goal.returns
 returns c =
-    postings_of_place c.self.inside.kind c.self.inside.terms.items c.args.self.now c.self.view_is c.args.index c.index-pair.result.now c.requires c.index-pair.ensures
-    ∙ ap (λ hs. Some (postings_as c.args.self.now.kind (grouped hs))) (sym c.as_slice.ensures)
+    let inside = c.self.inside in
+    let postings = grouped c.hits_at.result.now in
+    postings_of_place inside.kind inside.terms c.args.self.now c.self.view_is c.args.index postings c.hits_at.ensures

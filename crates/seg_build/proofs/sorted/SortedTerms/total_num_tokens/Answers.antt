@@ -2,7 +2,7 @@ use Rattle.std.proofs.Common.{◌≡◌, ◌≤◌, length, ap, ◌∙◌, arith
 use Rattle.std.specs.Map.{values_of}
 use Rattle.std.proofs.lemmas.List.{length-map}
 use Rattle.seg_build.specs.FieldTerms.{FieldTerms, postings_as}
-use Rattle.seg_build.specs.Grouped.{grouped}
+use Rattle.seg_terms.specs.Grouped.{grouped}
 use Rattle.seg_build.specs.TokenTotal.{count_total}
 use Rattle.seg_build.proofs.Totals.{saturated_end, saturated_more}
 use Rattle.seg_build.proofs.sorted.SortedTerms.total_num_tokens.Goals as goal

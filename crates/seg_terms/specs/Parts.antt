@@ -1,0 +1,26 @@
+-- Terms whose occurrences are parts of one list.
+use Rattle.std.specs.Prelude.{ℕ, ◌≤◌, List, [], ◌∷◌, map, slice_range}
+use Rattle.seg_model.specs.Reading.{Posting}
+use Rattle.seg_terms.specs.Entries.{TermEntries}
+use Rattle.seg_terms.specs.Grouped.{grouped}
+use Rattle.seg_terms.specs.declared.hit.Hit.{Hit}
+use Rattle.seg_terms.specs.declared.term_part.TermPart.{TermPart}
+
+-- a term with the postings of its part
+abbrev pub entry_of : List Hit → TermPart → List ℕ × List Posting
+entry_of hits t = (t.key, grouped (slice_range hits t.start t.end))
+
+-- and each of them
+abbrev pub entries_of : List TermPart → List Hit → TermEntries
+entries_of terms hits = map (entry_of hits) terms
+
+-- a part lies within so many occurrences
+pub record IsWithin (count : ℕ) (t : TermPart) : Type 0 where
+  pub forward : t.start ≤ t.end
+  pub within : t.end ≤ count
+
+-- terms in this order, of which the first begins at `start`, each ends where the next begins
+abbrev pub cut_from : ℕ → List (List ℕ) → List ℕ → List TermPart
+cut_from start [] ends = []
+cut_from start (key ∷ keys) [] = []
+cut_from start (key ∷ keys) (end ∷ ends) = record { key = key; start = start; end = end } ∷ cut_from end keys ends
