@@ -6,8 +6,8 @@ use Rattle.base64.specs.Rfc4648.{encode_symbols}
 use Rattle.json.specs.Print.{escape_byte}
 use Rattle.serde_json.specs.Written.{compact_text}
 use Rattle.seg_values.specs.Tree.{null, unsigned, signed, boolean, facet, byte_string, pre_tokenized, leaf, array, object, no_trees, tree, no_members, member, Tree}
-use Rattle.seg_text.specs.AddressText.{address_text}
-use Rattle.seg_text.specs.Json.{value_json}
+use Rattle.seg_values.specs.AddressText.{address_text}
+use Rattle.seg_values.specs.ValueJson.{value_json}
 
 zero_address : address_text (replicate 16 0) ≡ codes "::"
 unfolding hex hex_groups_text

@@ -7,4 +7,4 @@ mod Placing
 mod PrintedTokens
 mod PrintedTrees
 mod QuotedDates
-mod ShownAddresses
+mod QuotedTexts

@@ -7,7 +7,7 @@ use Rattle.serde_json.specs.Data as json
 use Rattle.serde_json.specs.Data.{put}
 use Rattle.seg_common.proofs.Lists.{drop-slice_get}
 use Rattle.seg_values.specs.Tree.{Tree, members_from}
-use Rattle.seg_text.specs.Json.{value_json, members_json}
+use Rattle.seg_values.specs.ValueJson.{value_json, members_json}
 use Rattle.seg_text.specs.PlacedMembers.{value_at, placed_members, ArePlaces}
 
 module _ {K : Type 0} (text : K → List ℕ) (members : List (List ℕ × Tree)) where

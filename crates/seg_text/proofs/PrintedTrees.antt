@@ -7,7 +7,7 @@ use Rattle.seg_common.proofs.Lists.{drop-slice_get}
 use Rattle.seg_values.specs.Tree.{Tree, Document, trees_from, members_from}
 use Rattle.seg_model.specs.Fields.{Schema}
 use Rattle.seg_text.specs.DocumentText.{pair_json, pairs_items}
-use Rattle.seg_text.specs.Json.{value_json, items_json, members_json}
+use Rattle.seg_values.specs.ValueJson.{value_json, items_json, members_json}
 use Rattle.seg_text.specs.PlacedMembers.{value_at, placed_members, ArePlaces}
 
 module _ (before out mid after : List ℕ) (later : Bool) (comma : mid ≡ out ++ comma_if later) where

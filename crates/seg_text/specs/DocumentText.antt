@@ -4,7 +4,7 @@ use Rattle.serde_json.specs.Data.{Data, string, array, Items, no_items, item}
 use Rattle.serde_json.specs.Written.{compact_text}
 use Rattle.seg_values.specs.Tree.{Tree, Document}
 use Rattle.seg_model.specs.Fields.{Schema}
-use Rattle.seg_text.specs.Json.{value_json}
+use Rattle.seg_values.specs.ValueJson.{value_json}
 
 -- the name of a field, which is empty where the schema has no such field
 abbrev pub name_at : Schema → ℕ → List ℕ

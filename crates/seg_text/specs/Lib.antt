@@ -1,10 +1,9 @@
-pub mod AddressText
 pub mod DocumentText
 pub mod FieldText
 pub mod HeaderText
-pub mod Json
 pub mod NormsText
 pub mod PlacedMembers
 pub mod PostingText
+pub mod QuotedText
 pub mod SegmentText
 pub mod TermText

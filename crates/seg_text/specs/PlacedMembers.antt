@@ -3,7 +3,7 @@ use Rattle.std.specs.Prelude.{ℕ, ◌<◌, List, [], ◌∷◌, length, slice_g
 use Rattle.std.specs.List.{AllByRecursion}
 use Rattle.serde_json.specs.Data as json
 use Rattle.seg_values.specs.Tree.{Tree, leaf, null}
-use Rattle.seg_text.specs.Json.{value_json}
+use Rattle.seg_values.specs.ValueJson.{value_json}
 
 -- the value at a place
 abbrev pub value_at : List (List ℕ × Tree) → ℕ → Tree

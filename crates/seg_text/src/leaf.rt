@@ -1,5 +1,5 @@
 //! Values with no values below them, as JSON.
-ghost use Rattle.std.specs.Prelude.{◌≡◌, ◌++◌, IfOk, OnOk, string_bytes};
+ghost use Rattle.std.specs.Prelude.{◌≡◌, ◌++◌, OnOk};
 ghost use Rattle.std.specs.Net.Addr.{ipv6_octets};
 ghost use Rattle.base64.specs.Engines.{standard};
 ghost use Rattle.base64.specs.GeneralPurpose.{encode_of};
@@ -7,13 +7,13 @@ ghost use Rattle.json.specs.Print.{quoted};
 ghost use Rattle.serde_json.specs.Data as json;
 ghost use Rattle.serde_json.specs.Written.{compact_text};
 ghost use Rattle.seg_dates.specs.DateText.{date_text};
-ghost use Rattle.seg_text.specs.AddressText.{address_text};
-ghost use Rattle.seg_text.specs.Json.{path_text};
+ghost use Rattle.seg_values.specs.AddressText.{address_text};
+ghost use Rattle.seg_values.specs.Facets.{path_of};
 
 use crate::quoted::push_quoted;
 use base64::engine::general_purpose::STANDARD;
 use seg_dates::{DateTime, push_rfc3339};
-use seg_values::Facet;
+use seg_values::{Facet, shown_address};
 use std::alloc::{AllocError, Global};
 use std::net::Ipv6Addr;
 
@@ -25,7 +25,7 @@ pub(crate) fn push_bool(out: &mut Vec<u8>, bit: bool) -> Result<(), AllocError>
 
 /// The path of a facet.
 pub(crate) fn push_facet(out: &mut Vec<u8>, alloc: Global, facet: &Facet) -> Result<(), AllocError>
-    ensures { OnOk result (out.new.items ≡ out.old.items ++ quoted (path_text facet.now)) }
+    ensures { OnOk result (out.new.items ≡ out.old.items ++ quoted (path_of facet.now)) }
 {
     match facet.to_path_string(alloc) {
         Ok(path) => push_quoted(out, alloc, path.as_str()),
@@ -59,14 +59,4 @@ pub(crate) fn push_address(
 {
     let text = shown_address(alloc, address)?;
     push_quoted(out, alloc, text.as_str())
-}
-
-/// The text of an address, of which an IPv4-mapped one is shown as IPv4.
-fn shown_address(alloc: Global, address: Ipv6Addr) -> Result<String, AllocError>
-    ensures { IfOk result (λ text. string_bytes text ≡ address_text (ipv6_octets address)) }
-{
-    match address.to_ipv4_mapped() {
-        Some(address) => Ok(format!(in alloc; "{address}")?),
-        None => Ok(format!(in alloc; "{}", address.hex_groups())?),
-    }
 }

@@ -3,7 +3,7 @@ ghost use Rattle.std.specs.Prelude.{◌≡◌, ◌++◌, OnOk};
 ghost use Rattle.serde_json.specs.Data.{array};
 ghost use Rattle.serde_json.specs.Written.{compact_text};
 ghost use Rattle.seg_values.specs.Tree.{pre_tokenized};
-ghost use Rattle.seg_text.specs.Json.{leaf_json, token_json, tokens_items};
+ghost use Rattle.seg_values.specs.ValueJson.{leaf_json, token_json, tokens_items};
 
 use crate::decimal::push_decimal;
 use crate::quoted::push_quoted;

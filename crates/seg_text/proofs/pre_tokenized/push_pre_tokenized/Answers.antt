@@ -2,7 +2,7 @@ use Rattle.std.proofs.Common.{◌++◌, ap, ◌∙◌}
 use Rattle.json.specs.Print.{quoted}
 use Rattle.serde_json.specs.Data.{array}
 use Rattle.serde_json.specs.Written.{compact_text}
-use Rattle.seg_text.specs.Json.{tokens_items}
+use Rattle.seg_values.specs.ValueJson.{tokens_items}
 use Rattle.seg_text.proofs.PrintedTokens.{pre_tokenized_pieces}
 use Rattle.seg_text.proofs.pre_tokenized.push_pre_tokenized.Goals as goal
 

@@ -1,6 +1,6 @@
 use Rattle.std.proofs.Common.{◌≡◌, ◌++◌, drop, false}
 use Rattle.serde_json.specs.Written.{items_text}
-use Rattle.seg_text.specs.Json.{tokens_items}
+use Rattle.seg_values.specs.ValueJson.{tokens_items}
 use Rattle.seg_text.proofs.pre_tokenized.push_tokens.Given as goal
 
 abbrev pub invariant-loop-token : goal.invariant-loop-token

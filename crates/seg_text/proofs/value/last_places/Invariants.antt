@@ -1,7 +1,7 @@
 use Rattle.std.proofs.Common.{◌≡◌, drop, map}
 use Rattle.serde_json.specs.Data.{no_members}
 use Rattle.seg_values.specs.Tree.{members_from}
-use Rattle.seg_text.specs.Json.{members_json}
+use Rattle.seg_values.specs.ValueJson.{members_json}
 use Rattle.seg_text.specs.PlacedMembers.{placed_members, ArePlaces}
 use Rattle.seg_text.proofs.value.last_places.Given as goal
 
