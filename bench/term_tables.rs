@@ -4,10 +4,10 @@
 //
 // tokens   a text of its own for each token, and then as own
 // short    the same, with texts of up to 15 bytes in the token itself (as the program does, with up to 16)
-// own      a list of occurrences for each term, in the table (as seg_build has it)
+// own      a list of occurrences for each term, in the table
 // numbered terms have numbers; all occurrences are one list, sorted by number at the end (as plain.rs has it)
 // inline   as own, with keys of up to 15 bytes in the table itself
-// both     numbered, with such keys
+// both     numbered, with such keys (as seg_terms has it)
 use std::collections::HashMap;
 use std::hash::{BuildHasherDefault, Hash, Hasher};
 use std::time::Instant;
