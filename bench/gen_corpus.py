@@ -15,6 +15,7 @@ The shape says what differs:
   undeleted  as textids, without deletes
   deleted    as textids, with as many deletes as documents, all after them, each of a document at random
   stored     no id and no body: one JSON object, which is only stored, with a date, a list and an object in it
+  log        no id and no body: one JSON object of five keys, as a line of a log, which is stored and indexed with positions
 """
 import argparse
 import bisect
@@ -28,10 +29,12 @@ VOCABULARY = 200_000
 WORDS = 50
 BATCHES = 9
 LETTERS = 'etaoinshrdlucmfwygpbvkxqjz'
-SHAPES = 'textids', 'full', 'texts', 'undeleted', 'deleted', 'stored'
+SHAPES = 'textids', 'full', 'texts', 'undeleted', 'deleted', 'stored', 'log'
+LEVELS = 'debug', 'info', 'info', 'info', 'warn', 'error'
 TEXT_ID = {'name': 'id', 'kind': 'text', 'stored': True, 'index': 'basic', 'tokenizer': 'default', 'norms': False}
 NUMBER_ID = {'name': 'id', 'kind': 'u64', 'stored': True, 'index': 'basic'}
 STORED = {'name': 'record', 'kind': 'json', 'stored': True}
+LOG = {'name': 'record', 'kind': 'json', 'stored': True, 'index': 'positions'}
 BODY = {'name': 'body', 'kind': 'text', 'stored': True, 'index': 'positions', 'tokenizer': 'default', 'norms': True}
 
 
@@ -42,8 +45,8 @@ def json_text(value):
 def schema_of(shape):
     if shape == 'texts':
         return [BODY]
-    if shape == 'stored':
-        return [STORED]
+    if shape in ('stored', 'log'):
+        return [STORED if shape == 'stored' else LOG]
     return [NUMBER_ID if shape == 'full' else TEXT_ID, BODY]
 
 
@@ -81,7 +84,18 @@ def record(number, text):
         'author': {'name': ' '.join(words[4:6]), 'age': 20 + number % 60}, 'text': ' '.join(words[6:40])})
 
 
+def log_line(number, text):
+    words = text.split(' ')
+    hour, minute, second = number // 3600 % 24, number // 60 % 60, number % 60
+    return json_text({
+        'time': f'2024-{1 + number // 2592000 % 12:02}-{1 + number // 86400 % 28:02}T{hour:02}:{minute:02}:{second:02}.{number % 1000:03}Z',
+        'level': LEVELS[number * 7 % len(LEVELS)], 'host': f'web-{number * 31 % 40}', 'millis': number * 97 % 5000,
+        'message': ' '.join(words[:16])})
+
+
 def addition(shape, number, text):
+    if shape == 'log':
+        return f'{{"add":[["record",{log_line(number, text)}]]}}'
     if shape == 'stored':
         return f'{{"add":[["record",{record(number, text)}]]}}'
     given_id = '' if shape == 'texts' else f'["id",{id_text(shape, number)}],'

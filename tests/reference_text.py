@@ -6,48 +6,14 @@ It was written from that document and docs/FORMATS.md, and not from the code: it
 """
 import argparse
 import json
-import re
 import sys
 from dataclasses import dataclass
 
 from formats import length_id
-from script_values import Tokenized, pairs, stored
+from script_terms import deleted_term, is_of_text, length, occurrences
+from script_values import pairs, stored
 
 MERGED_ID = 32 * 'f'
-
-SPLITS = {'default': '[\x00-\x2f\x3a-\x40\x5b-\x60\x7b-\x7f]+', 'whitespace': '[ \t\r\n]+'}
-
-
-def lowered(text):
-    return ''.join(c.lower() if c.isascii() else c for c in text)
-
-
-def tokens(text, tokenizer):
-    if tokenizer == 'raw':
-        return [text] if text else []
-    pieces = [piece for piece in re.split(SPLITS[tokenizer], text) if piece]
-    return [lowered(piece) for piece in pieces] if tokenizer == 'default' else pieces
-
-
-def tokens_of(entry, value):
-    """The tokens that give terms, each with its position and its length in positions."""
-    if isinstance(value, Tokenized):
-        found = [(token['text'], token['position'], token['position_length']) for token in value.tokens]
-    else:
-        found = [(text, place, 1) for place, text in enumerate(tokens(value, entry.get('tokenizer') or 'default'))]
-    return [token for token in found if len(token[0].encode()) <= 65530]
-
-
-def positions(entry, document):
-    """The positions of each term of a field in a document; between two texts there is a gap of one."""
-    found, start = {}, 0
-    for name, value in document:
-        if name == entry['name']:
-            cut = tokens_of(entry, value)
-            for text, place, _ in cut:
-                found.setdefault(text.encode(), []).append(start + place)
-            start = 1 + max([start] + [start + place + length for _, place, length in cut])
-    return found
 
 
 def json_text(value):
@@ -63,11 +29,25 @@ def posting_text(index, document, places):
     return f' {document}{count}' + ('@' + ','.join(map(str, places)) if index == 'positions' else '')
 
 
+def values_of(entry, document):
+    return [value for name, value in document if name == entry['name']]
+
+
+def positions(entry, document):
+    """The positions of each term of a field in a document."""
+    found = {}
+    for term, place in occurrences(entry, values_of(entry, document)):
+        found.setdefault(term, []).append(place)
+    return found
+
+
 def field_lines(entry, documents):
+    """A term that is no text records its documents alone."""
     terms = {}
     for number, document in enumerate(documents):
         for term, places in positions(entry, document).items():
-            terms.setdefault(term, []).append(posting_text(entry['index'], number, places))
+            index = entry['index'] if is_of_text(entry, term) else 'basic'
+            terms.setdefault(term, []).append(posting_text(index, number, places))
     return [f'field {json_text(entry["name"])} terms {len(terms)}'] + [term_text(term) + ''.join(terms[term]) for term in sorted(terms)]
 
 
@@ -75,10 +55,13 @@ def is_indexed(entry):
     return entry.get('index', 'no') != 'no'
 
 
+def has_lengths(entry):
+    return is_indexed(entry) and entry.get('norms', entry['kind'] == 'text')
+
+
 def norms_line(entry, documents):
-    """The length ids of a field: a length is the number of tokens of all its texts."""
-    lengths = [sum(len(tokens_of(entry, value)) for name, value in document if name == entry['name']) for document in documents]
-    return ' '.join([f'norms {json_text(entry["name"])}', *(str(length_id(length)) for length in lengths)])
+    """The length ids of a field."""
+    return ' '.join([f'norms {json_text(entry["name"])}', *(str(length_id(length(entry, values_of(entry, document)))) for document in documents)])
 
 
 def segment_lines(schema, label, segment_id, documents, alive, is_full):
@@ -92,13 +75,13 @@ def segment_lines(schema, label, segment_id, documents, alive, is_full):
     for number, document in enumerate(documents):
         lines.append(f'doc {number} ' + json_text([(name, stored(value)) for name, value in document if name in names]))
     if is_full:
-        lines += [norms_line(entry, documents) for entry in schema if is_indexed(entry) and entry.get('norms', True)]
+        lines += [norms_line(entry, documents) for entry in filter(has_lengths, schema)]
     return lines
 
 
-def has_term(schema, document, name, text):
+def has_term(schema, document, name, *given):
     entry = next(entry for entry in schema if entry['name'] == name)
-    return any(name == field and text.encode() in positions(entry, document) for field, _ in document)
+    return deleted_term(entry, given) in positions(entry, document)
 
 
 def is_removed(schema, document, later):

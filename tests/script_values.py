@@ -17,6 +17,14 @@ class Tokenized:
     tokens: list
 
 
+class Moment(str):
+    """A date, as it is printed."""
+
+
+class Facet(str):
+    """A facet, as its path."""
+
+
 def moment(text):
     """The moment that a text of RFC 3339 tells, in UTC with no zeros at the end of its fraction; none of any other text."""
     found = MOMENT.fullmatch(text)
@@ -31,12 +39,19 @@ def moment(text):
         at += offset if sign == '-' else -offset
     except (ValueError, OverflowError):
         return None
-    nanoseconds = (fraction or '')[:9].ljust(9, '0')
+    digits = (fraction or '')[:9].ljust(9, '0')
     seconds = (at - EPOCH) // timedelta(seconds=1)
-    if not -2 ** 63 <= seconds * 10 ** 9 + int(nanoseconds) < 2 ** 63:
+    if not -2 ** 63 <= seconds * 10 ** 9 + int(digits) < 2 ** 63:
         return None
-    digits = nanoseconds.rstrip('0')
-    return at.strftime('%Y-%m-%dT%H:%M:%S') + (f'.{digits}' if digits else '') + 'Z'
+    digits = digits.rstrip('0')
+    return Moment(at.strftime('%Y-%m-%dT%H:%M:%S') + (f'.{digits}' if digits else '') + 'Z')
+
+
+def nanoseconds(moment):
+    """The nanoseconds from 1970 to a moment."""
+    civil, _, fraction = moment[:-1].partition('.')
+    at = datetime.strptime(civil, '%Y-%m-%dT%H:%M:%S').replace(tzinfo=timezone.utc)
+    return (at - EPOCH) // timedelta(seconds=1) * 10 ** 9 + int(fraction.ljust(9, '0'))
 
 
 def address(text):
@@ -62,7 +77,7 @@ def encoded(text):
 
 def facet(text):
     """The path itself, where it is one; none of any other text."""
-    return text if text == '/' or text.startswith('/') and all(text[1:].split('/')) and '\0' not in text else None
+    return Facet(text) if text == '/' or text.startswith('/') and all(text[1:].split('/')) and '\0' not in text else None
 
 
 def json_leaf(text):
