@@ -11,6 +11,8 @@ mod deletes;
 #[cfg(test)]
 mod documents;
 #[cfg(test)]
+mod json_terms;
+#[cfg(test)]
 mod json_values;
 #[cfg(test)]
 mod names;
