@@ -5,7 +5,7 @@ ghost use Rattle.seg_store.specs.Alive.{alive_behind};
 ghost use Rattle.seg_store.specs.Block.{is_block, documents_in};
 ghost use Rattle.seg_store.specs.Cache.{block_of};
 ghost use Rattle.seg_store.specs.Checkpoints.{checkpoints, stored_size};
-ghost use Rattle.seg_stored.specs.StoredDocument.{is_stored_document};
+ghost use Rattle.seg_stored.specs.StoredDocument.{is_stored_document, stored_document_of};
 ghost use Rattle.seg_store.specs.Store.{store_of, document_count, raw_documents, documents_of};
 
 use crate::checkpoint::{CHECKPOINT_BYTES, Checkpoint, checkpoint_at};
@@ -96,6 +96,7 @@ impl StoreReader {
         requires { doc < document_count self.now }
         ensures is { slice_get (raw_documents self.now) doc ≡ Some result }
         ensures stored { is_stored_document result ≡ true }
+        ensures reads { slice_get (documents_of self.now) doc ≡ stored_document_of result }
     {
         let (start, end) = document_place(self.bytes.as_slice(), doc);
         self.bytes.slice(start, end)

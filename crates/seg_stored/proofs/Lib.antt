@@ -1,3 +1,4 @@
+pub mod Exports
 mod Fronts
 mod Gathering
 mod MadeLeaves

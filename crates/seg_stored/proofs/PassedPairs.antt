@@ -77,17 +77,19 @@ top bytes other = top_first (stored_tree_at 199) bytes other
 abbrev paired : ℕ → Tree → Reader (ℕ × Tree)
 paired field t after = if is_top t then Some ((field, t), after) else None
 
-pub pair_passed : {B : Type 0} (old left new : List ℕ) (field : ℕ) (r : Option B) → small_at old ≡ Some (field, left) → begins_with 2 left ≡ false → Passes (stored_tree_at most_levels_read) left new r → Passes pair_at old new r
-pair_passed old left new field (Some done) s other p = record {
-  value = (field, p.value);
-  is =
-      ap (λ o. then_read o (λ f rest. then_read (stored_tree_at most_levels_read rest) (λ t after. paired f t after))) s
-      ∙ ap (λ o. then_read o (λ t after. paired field t after)) p.is
-      ∙ ap (λ b. cond {A = Option ((ℕ × Tree) × List ℕ)} b (Some ((field, p.value), new)) None) (subst (All is_top) p.is (top left other));
-}
-pair_passed old left new field None s other p =
+paired_all : (field : ℕ) (o : Option (Tree × List ℕ)) → All is_top o → then_read o (λ t after. paired field t after) ≡ made_of (λ t. (field, t)) o
+paired_all field None h = refl
+paired_all field (Some p) h = ap (λ b. cond {A = Option ((ℕ × Tree) × List ℕ)} b (Some ((field, p.0), p.1)) None) h
+
+-- a pair whose field was taken
+pub pair_front : (old left : List ℕ) (field : ℕ) → small_at old ≡ Some (field, left) → begins_with 2 left ≡ false → pair_at old ≡ made_of (λ t. (field, t)) (stored_tree_at most_levels_read left)
+pair_front old left field s other =
     ap (λ o. then_read o (λ f rest. then_read (stored_tree_at most_levels_read rest) (λ t after. paired f t after))) s
-    ∙ ap (λ o. then_read o (λ t after. paired field t after)) p
+    ∙ paired_all field (stored_tree_at most_levels_read left) (top left other)
+
+pub pair_passed : {B : Type 0} (old left new : List ℕ) (field : ℕ) (r : Option B) → pair_at old ≡ made_of (λ t. (field, t)) (stored_tree_at most_levels_read left) → Passes (stored_tree_at most_levels_read) left new r → Passes pair_at old new r
+pair_passed old left new field (Some done) is p = record { value = (field, p.value); is = is ∙ ap (made_of (λ t. (field, t))) p.is }
+pair_passed old left new field None is p = is ∙ ap (made_of (λ t. (field, t))) p
 
 -- ---- a text with its tokens by itself
 

@@ -1,14 +1,15 @@
 //! Whether bytes are a stored document.
-ghost use Rattle.std.specs.Prelude.{◌≡◌, ◌∷◌, nat_eq};
+ghost use Rattle.std.specs.Prelude.{◌≡◌, ◌∷◌, None, nat_eq, MatchOption};
 ghost use Rattle.seg_stored.specs.Passing.{Passes, begins_with};
 ghost use Rattle.seg_stored.specs.Reader as read;
 ghost use Rattle.seg_stored.specs.StoredDocument as documents;
+ghost use Rattle.seg_stored.specs.StoredTree.{stored_tree_at};
 
 use crate::pieces::{take_small, take_varint};
 use crate::tree_check::pass_tree;
 
 /// The most levels of a tree that is read.
-pub(crate) const MOST_LEVELS: u32 = 200;
+pub const MOST_LEVELS: u32 = 200;
 
 /// The tag of a text with its tokens, which is no tree of a field by itself.
 const PRE_TOKENIZED: u8 = 2;
@@ -41,11 +42,21 @@ fn pass_pairs(bytes: &mut &[u8]) -> Option<()>
 fn pass_pair(bytes: &mut &[u8]) -> Option<()>
     ensures { Passes documents.pair_at bytes.old.now bytes.new.now result }
 {
-    let _ = take_small(bytes)?;
+    let _ = take_field(bytes)?;
+    pass_tree(bytes, MOST_LEVELS)
+}
+
+/// Takes the field of a pair: its tree is what comes next, of at most `MOST_LEVELS` levels.
+///
+/// Where no pair can follow, some of the bytes may be gone.
+pub fn take_field(bytes: &mut &[u8]) -> Option<u32>
+    ensures { MatchOption result (documents.pair_at bytes.old.now ≡ None) (λ field. documents.pair_at bytes.old.now ≡ read.made_of (λ t. (field, t)) (stored_tree_at documents.most_levels_read bytes.new.now)) }
+{
+    let field = take_small(bytes)?;
     if begins_with(bytes, PRE_TOKENIZED) {
         return None;
     }
-    pass_tree(bytes, MOST_LEVELS)
+    Some(field)
 }
 
 fn begins_with(bytes: &[u8], byte: u8) -> bool

@@ -1,6 +1,5 @@
 //! Values out of stored leaves: each call makes one of what is at the front of bytes, or answers that there is none.
-ghost use Rattle.std.specs.Prelude.{◌≡◌, ◌≢◌, ℕ, List, length, IfOk, MatchOption};
-ghost use Rattle.std.specs.Net.Addr.{ipv6_octets};
+ghost use Rattle.std.specs.Prelude.{ℕ, List, IfOk};
 ghost use Rattle.std.specs.Int.{w64, cast_signed};
 ghost use Rattle.seg_words.specs.declared.token.Token.{Token};
 ghost use Rattle.seg_values.specs.Tree as tree;
@@ -10,13 +9,12 @@ ghost use Rattle.seg_stored.specs.Reader as read;
 ghost use Rattle.seg_stored.specs.StoredTree as trees;
 
 use crate::pieces::{
-    take_bit, take_front, take_number, take_sized, take_small, take_text, take_varint,
+    take_address, take_bit, take_number, take_sized, take_small, take_text, take_varint,
 };
 use seg_dates::DateTime;
 use seg_values::{Facet, OwnedValue};
 use seg_words::{Bytes, PreTokenizedString, Text, Token, Tokens};
 use std::alloc::{AllocError, Global};
-use std::net::Ipv6Addr;
 
 /// What has this tag and no trees below it.
 pub(crate) fn read_leaf(
@@ -109,22 +107,11 @@ fn read_bool(bytes: &mut &[u8]) -> Option<OwnedValue>
     Some(OwnedValue::Bool(bit))
 }
 
-/// An address of sixteen octets.
 fn read_address(bytes: &mut &[u8]) -> Option<OwnedValue>
     ensures { Makes (λ b. read.made_of tree.leaf (read.made_of tree.ip (read.front 16 b))) tree_of bytes.old.now bytes.new.now result }
 {
-    let octets = take_front(bytes, 16)?;
-    let address = address_of(octets)?;
+    let address = take_address(bytes)?;
     Some(OwnedValue::IpAddr(address))
-}
-
-fn address_of(octets: &[u8]) -> Option<Ipv6Addr>
-    ensures { MatchOption result (length octets.now ≢ 16) (λ a. ipv6_octets a ≡ octets.now) }
-{
-    match <[u8; 16]>::try_from(octets) {
-        Ok(octets) => Some(Ipv6Addr::from_octets(octets)),
-        Err(_) => None,
-    }
 }
 
 /// A text with its tokens.

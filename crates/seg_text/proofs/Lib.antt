@@ -4,6 +4,10 @@ mod DeadIds
 mod KnownTexts
 mod PlainTerms
 mod Placing
+mod PrintedCounts
+mod PrintedFronts
+mod PrintedMembers
+mod PrintedStored
 mod PrintedTokens
 mod PrintedTrees
 mod QuotedDates

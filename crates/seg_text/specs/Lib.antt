@@ -4,6 +4,7 @@ pub mod HeaderText
 pub mod NormsText
 pub mod PlacedMembers
 pub mod PostingText
+pub mod Printing
 pub mod QuotedText
 pub mod SegmentText
 pub mod TermText

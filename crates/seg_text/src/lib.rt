@@ -2,7 +2,7 @@
 //!
 //! Its model: `segment_text` gives the bytes that stand for what a segment holds under a schema, and `full_segment_text` those with its length ids.
 //!
-//! In reading order: `decimal`, `hexadecimal`, `quoted` and `comma` are what lines are made of, `header` are the first lines, `term`, `posting` and `field` are the index, `norms` are the last lines. `leaf`, `pre_tokenized` and `value` are values as JSON, `pair` is a field with one, and `document` the line of a document of any values.
+//! In reading order: `decimal`, `hexadecimal`, `quoted` and `comma` are what lines are made of, `header` are the first lines, `term`, `posting` and `field` are the index, `norms` are the last lines. `leaf`, `pre_tokenized` and `value` are values as JSON, and `pair` is a field with one; `stored_tokens`, `stored_leaf`, `stored_tree` and `stored_pairs` are the same from the bytes of a store, and `document` is the line of a document of any values.
 #![tactic(auto)]
 
 mod comma;
@@ -17,6 +17,10 @@ mod pair;
 mod posting;
 mod pre_tokenized;
 mod quoted;
+mod stored_leaf;
+mod stored_pairs;
+mod stored_tokens;
+mod stored_tree;
 mod term;
 mod value;
 

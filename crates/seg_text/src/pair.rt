@@ -29,7 +29,7 @@ pub(crate) fn push_pair(
 }
 
 /// The name of a field, which is empty where the schema has no such field.
-fn push_name(
+pub(crate) fn push_name(
     out: &mut Vec<u8>,
     alloc: Global,
     schema: &Schema,

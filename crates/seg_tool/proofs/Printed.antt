@@ -1,6 +1,6 @@
 -- The text of what is read, one term, one field or one document more, and of a segment, part by part.
 use Rattle.std.proofs.Common.{◌≡◌, ℕ, zero, suc, ◌+◌, ◌<◌, ◌≤◌, List, [], ◌∷◌, ◌++◌, map, drop, length, Option, Some, None, true, false, refl, sym, ap, ◌∙◌, append_assoc, arith, add-one, get_or}
-use Rattle.std.specs.Prelude.{Any, Bool, count_by, is_some, nat_lt, if◌then◌else◌, replicate, unwrap_or, Result, OnOk}
+use Rattle.std.specs.Prelude.{Any, Bool, IsSomeAnd, count_by, is_some, nat_lt, if◌then◌else◌, replicate, unwrap_or, Result, OnOk}
 use Rattle.std.specs.FinMap.{entries}
 use Rattle.std.specs.List.{slice_get, slice_index_or, enumerate_from, flat_map, AllByRecursion}
 use Rattle.std.proofs.lemmas.Bool.{ltb-true}
@@ -137,10 +137,13 @@ terms_done f s of done before all is =
 -- ---- documents
 
 -- one document more
-pub documents_more : (before : List ℕ) (schema : Schema) (documents : List Document) (i : ℕ) (d : Document) → slice_get documents i ≡ Some d
-    → (before ++ document_line schema i d) ++ documents_from schema (i + 1) (drop (i + 1) documents) ≡ before ++ documents_from schema i (drop i documents)
-documents_more before schema documents i d is =
-    append_assoc before (document_line schema i d) (documents_from schema (i + 1) (drop (i + 1) documents))
+pub document_more : (before after : List ℕ) (schema : Schema) (documents : List Document) (i : ℕ) (o : Option Document) → slice_get documents i ≡ o
+    → IsSomeAnd o (λ d. after ≡ before ++ document_line schema i d)
+    → after ++ documents_from schema (i + 1) (drop (i + 1) documents) ≡ before ++ documents_from schema i (drop i documents)
+document_more before after schema documents i None is line = absurd line
+document_more before after schema documents i (Some d) is line =
+    ap (λ xs. xs ++ documents_from schema (i + 1) (drop (i + 1) documents)) line
+    ∙ append_assoc before (document_line schema i d) (documents_from schema (i + 1) (drop (i + 1) documents))
     ∙ ap (λ ds. before ++ documents_from schema i ds) (sym (drop-slice_get documents i d is))
 
 -- ---- the segment

@@ -92,10 +92,8 @@ fn push_documents(
     ensures { OnOk result (out.new.items ≡ out.old.items ++ documents_text schema.now (documents_of store.now)) }
 {
     for id in 0..store.num_docs() {
-        let Ok(document) = store.get(alloc, id) else {
-            return Err(AllocError);
-        };
-        push_document(out, alloc, schema, id as usize, &document)?;
+        let stored = store.raw(id);
+        push_document(out, alloc, schema, id as usize, stored.as_slice())?;
     }
     Ok(())
 }

@@ -1,7 +1,7 @@
 use Rattle.std.proofs.Common.{◌∙◌, ap, arith}
 use Rattle.std.specs.Net.Addr.{segments_of, octets_of}
 use Rattle.seg_stored.proofs.MadeLeaves.{octets_kept}
-use Rattle.seg_stored.proofs.leaf_reader.address_of.Goals as goal
+use Rattle.seg_stored.proofs.pieces.address_of.Goals as goal
 
 pub returns-in-Ok : goal.returns-in-Ok
 returns-in-Ok c =
