@@ -2,5 +2,4 @@
 pub use Rattle.seg_check.proofs.Adding.{counts-add, start-from}
 pub use Rattle.seg_check.proofs.Causes.{EachHas, cause-has, first_each, or_each, unless_each}
 pub use Rattle.seg_check.proofs.FieldsFit.{for_one_field}
-pub use Rattle.seg_check.proofs.OnPaths.{Key, has_bytes, others_stay}
 pub use Rattle.seg_check.proofs.Rising.{rises, rises_first}

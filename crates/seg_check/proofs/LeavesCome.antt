@@ -1,10 +1,16 @@
 -- The leaves of a value come in one after another.
-use Rattle.std.proofs.Common.{◌≡◌, ℕ, List, [], ◌∷◌, ◌++◌, length, arith, map, Some, None, append_assoc, append-nil, refl, sym, ap, ◌∙◌, subst}
+use Rattle.std.proofs.Common.{◌≡◌, ℕ, suc, Bool, List, [], ◌∷◌, ◌++◌, length, get_or, drop, arith, map, Option, Some}
+use Rattle.std.proofs.Common.{None, append_assoc, append-nil, refl, sym, ap, ◌∙◌, subst}
 use Rattle.std.proofs.lemmas.Grind.{flat_map-append}
 use Rattle.seg_values.specs.Tree.{Leaf}
 use Rattle.seg_words.specs.declared.token.Token.{Token}
+use Rattle.seg_model.specs.Leaves.{PlacedLeaf, joined_path}
 use Rattle.seg_model.specs.Occurrences.{leaf_text}
-use Rattle.seg_check.specs.Paths.{texts_of, PathsStand}
+use Rattle.seg_paths.specs.NumberedLeaves.{in_table, numbered}
+use Rattle.seg_paths.specs.Paths.{number_of}
+use Rattle.seg_paths.specs.declared.leaves.NumberedLeaf.{NumberedLeaf}
+use Rattle.seg_paths.proofs.Exports.{number-read}
+use Rattle.seg_check.specs.Paths.{AreLeaves, PathsStand, at_path, texts_of}
 use Rattle.seg_check.specs.Sizes.{plus, size_of, measured, both}
 use Rattle.seg_check.specs.declared.paths.PathTotals.{PathTotals}
 use Rattle.seg_check.specs.declared.size.TextSize.{TextSize}
@@ -71,6 +77,22 @@ module _ (analyze : List ℕ → List Token) where
 
   pub all-stand : (paths : PathTotals) (left all : List (List ℕ × Leaf)) → left ≡ [] → StandWith analyze paths left all → PathsStand analyze paths all
   all-stand paths left all none so_far = subst (λ l. PathsStand analyze paths l) (all-came so_far.came left all none so_far.with_left) so_far.stands
+
+-- leaves with their numbers in a table have the joined paths there
+pub are-leaves : (e : Bool) (paths : List (List ℕ)) (found : List PlacedLeaf) (out : List NumberedLeaf)
+    → map numbered out ≡ map (in_table paths e) found → AreLeaves paths (map (at_path e) found) out
+are-leaves e paths [] [] is = record { are = refl; numbered = tt }
+are-leaves e paths (p ∷ ps) [] is = let n : 0
+    ≡ suc (length (map (in_table paths e) ps)) = ap length is in absurd (omega (arith, n))
+are-leaves e paths [] (l ∷ ls) is = let n : suc (length (map numbered ls))
+    ≡ 0 = ap length is in absurd (omega (arith, n))
+are-leaves e paths (p ∷ ps) (l ∷ ls) is =
+    let first : numbered l ≡ in_table paths e p = ap (λ (xs : List (Option ℕ × Leaf)). get_or xs 0 (numbered l)) is in
+    let rest = are-leaves e paths ps ls (ap (λ (xs : List (Option ℕ × Leaf)). drop 1 xs) is) in
+    let number = sym (ap (λ (x : Option ℕ × Leaf). x.0) first) in
+    let leaf = ap (λ (x : Option ℕ × Leaf). x.1) first in
+    let path = (number-read paths (joined_path e p.keys) l.path number).1 in
+    record { are = λ i. (path i, leaf i) ∷ rest.are i; numbered = (ap (number_of paths) path ∙ number, rest.numbered) }
 
 pub no_more : {X : Type 0} (xs : List X) (n : ℕ) → n ≡ length xs → n ≡ 0 → xs ≡ []
 no_more [] n is none = refl

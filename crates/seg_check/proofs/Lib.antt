@@ -6,11 +6,10 @@ mod FieldsCome
 mod FieldsFit
 mod FirstRefusals
 mod JsonTrees
-mod LeafWalks
+mod KeptValues
 mod LeavesCome
 mod OnPaths
 mod Places
 mod Rising
 mod StoredLens
-mod TextsCome
 mod ValuesCome

@@ -1,43 +1,29 @@
 -- One more leaf changes what came at its own path, and at no other.
-use Rattle.std.proofs.Common.{◌≡◌, ℕ, ◌+◌, ◌≤◌, Bool, true, false, cond, List, [], ◌∷◌, ◌++◌, map, length, Some, refl, sym, ap, ◌∙◌, arith, append-nil, unwrap_or, Vec}
-use Rattle.std.specs.Prelude.{◌&&◌}
+use Rattle.std.proofs.Common.{◌≡◌, ℕ, ◌+◌, ◌<◌, ◌≤◌, max, Bool, true, false, cond, List, [], ◌∷◌, ◌++◌, map, length}
+use Rattle.std.proofs.Common.{get_or, Option, Some, None, refl, sym, ap, ◌∙◌, arith, append-nil}
+use Rattle.std.specs.Prelude.{◌&&◌, ◌==◌}
 use Rattle.std.specs.List.{list_all}
 use Rattle.std.specs.Str.{bytes_eq}
-use Rattle.std.specs.HashMap as hash
-use Rattle.std.specs.Map.{lookup, KeepsOthers}
 use Rattle.std.specs.Cmp.Lexicographic.{bytes_decides, nat_list_eq_equiv}
-use Rattle.std.specs.declared.alloc.Global.{Global}
-use Rattle.std.proofs.lemmas.Bool.{and_parts, and_from}
+use Rattle.std.proofs.lemmas.Bool.{and_parts, and_from, false≢true}
+use Rattle.std.proofs.lemmas.Bool.Decides.{Decides-eqb}
 use Rattle.std.proofs.lemmas.Grind.{flat_map-append}
 use Rattle.std.proofs.lemmas.List.Elements.{filter-append}
 use Rattle.std.proofs.lemmas.List.Folds.{list_all-append}
-use Rattle.std.proofs.lemmas.List.{length-append}
+use Rattle.std.proofs.lemmas.List.{get_or_past, length-append}
 use Rattle.seg_values.specs.Tree.{Leaf}
 use Rattle.seg_words.specs.declared.token.Token.{Token}
 use Rattle.seg_model.specs.Checked.{is_u32, texts_fit, count_of}
 use Rattle.seg_model.specs.Occurrences.{leaf_text, start_after_all}
+use Rattle.seg_paths.specs.Paths.{Extends, number_of}
+use Rattle.seg_paths.proofs.Exports.{number-kept, number-past, number-read}
 use Rattle.seg_check.specs.Sizes.{size_of, saturated}
-use Rattle.seg_check.specs.Totals.{totals_of, with_more, totals_fit}
-use Rattle.seg_check.specs.Paths.{on_path, path_texts, totals_on, fits_on, paths_fit, total_at, PathsStand}
+use Rattle.seg_check.specs.Totals.{no_totals, totals_of, with_more, totals_fit}
+use Rattle.seg_check.specs.Paths.{on_path, path_texts, totals_on, fits_on, paths_fit, total_in, total_at, PathsStand}
 use Rattle.seg_check.specs.declared.size.TextSize.{TextSize}
 use Rattle.seg_check.specs.declared.totals.Totals.{Totals}
 use Rattle.seg_check.specs.declared.paths.PathTotals.{PathTotals}
 use Rattle.seg_check.proofs.Adding.{starts-add, counts-add, texts-le, saturated-one, size-add, fits-kept, fits-less}
-
-abbrev pub Key : Type 0
-Key = Vec ℕ Global
-
--- whether a key has the bytes
-abbrev pub has_bytes : List ℕ → Key → Bool
-has_bytes q k = bytes_eq q k.items
-
--- a text apart from one is apart from those like it
-pub apart : (bs cs ks : List ℕ) → bytes_eq bs cs ≡ false → bytes_eq bs ks ≡ true → bytes_eq cs ks ≡ false
-apart bs cs ks n y = nat_list_eq_equiv.symm cs ks ∙ sym (nat_list_eq_equiv.congr bs ks cs y) ∙ n
-
-pub others_stay : {X : Type 0} (bs : List ℕ) (old new : List (Key × X)) → KeepsOthers (λ x y. bytes_eq x.items y.items) (has_bytes bs) old new → (cs : List ℕ) → bytes_eq bs cs ≡ false → lookup (has_bytes cs) new ≡ lookup (has_bytes cs) old
-unfolding KeepsOthers
-others_stay bs old new h cs n = h (has_bytes cs) (λ x y. nat_list_eq_equiv.congr cs x.items y.items) (λ k. apart bs cs k.items n)
 
 module _ (analyze : List ℕ → List Token) where
   -- ---- totals within the limits
@@ -154,26 +140,110 @@ module _ (analyze : List ℕ → List Token) where
             ∙ none (list_all (λ p. fits_on analyze (found ++ (path, l) ∷ []) p.0) found) (paths_fit analyze found)
             ∙ ap (λ c. paths_fit analyze found && c) (sym e)
 
-    -- ---- the table
+    -- ---- by number
 
-    pub stands-more : (paths after : PathTotals) (w : Totals) (size : TextSize) → size ≡ size_of (map analyze (leaf_text l)) → hash.UpdatesBy (λ x y. bytes_eq x.items y.items) (has_bytes path) paths.totals after.totals (Some w) → w ≡ with_more (total_at paths.totals path) size → after.are_within ≡ (paths.are_within && totals_fit w) → PathsStand analyze paths found → PathsStand analyze after (found ++ (path, l) ∷ [])
-    stands-more paths after w size is_size updates is_w within stands = record { at = here; within = all }
+    pub stands-more : (paths after : PathTotals) (number : ℕ) (w : Totals) (size : TextSize)
+        → number_of paths.table path ≡ Some number → size ≡ size_of (map analyze (leaf_text l))
+        → w ≡ with_more (get_or paths.totals.items number no_totals) size → after.table ≡ paths.table
+        → ((k : ℕ) → get_or after.totals.items k no_totals
+        ≡ cond (k == number) w (get_or paths.totals.items k no_totals))
+        → length after.totals.items ≡ max (length paths.totals.items) (number + 1)
+        → after.are_within ≡ (paths.are_within && totals_fit w) → PathsStand analyze paths found
+        → PathsStand analyze after (found ++ (path, l) ∷ [])
+    stands-more paths after number w size here is_size is_w same_table sets many within stands = record {
+      at = each;
+      few = few;
+      within = all;
+    }
       where
         w-is : w ≡ totals_on analyze path (found ++ (path, l) ∷ [])
-        w-is = is_w ∙ ap (λ t. with_more t size) (stands.at path) ∙ ap (with_more (totals_on analyze path found)) is_size ∙ sym (same path ((bytes_decides path path).1 refl))
+        w-is = is_w
+            ∙ ap (λ o. with_more (total_in paths.totals.items o) size) (sym here)
+            ∙ ap (λ t. with_more t size) (stands.at path) ∙ ap (with_more (totals_on analyze path found)) is_size
+            ∙ sym (same path ((bytes_decides path path).1 refl))
 
-        by_case : (q : List ℕ) (b : Bool) → bytes_eq path q ≡ b → total_at after.totals q ≡ totals_on analyze q (found ++ (path, l) ∷ [])
+        set_here : get_or after.totals.items number no_totals ≡ w
+        set_here = sets number
+            ∙ ap (λ b. cond b w (get_or paths.totals.items number no_totals)) ((Decides-eqb number number).1 refl)
+
+        apart_there : (q : List ℕ) (k : ℕ) (b : Bool) → number_of paths.table q ≡ Some k → bytes_eq path q ≡ false
+            → (k == number) ≡ b → get_or after.totals.items k no_totals ≡ get_or paths.totals.items k no_totals
+        apart_there q k true is apart e =
+            let other = (number-read paths.table q k is).1 in
+            let this = (number-read paths.table path number here).1 in
+            absurd (false≢true (sym apart ∙ (bytes_decides path q).1 (sym this
+            ∙ ap (λ n. get_or paths.table n []) (sym ((Decides-eqb k number).0 e)) ∙ other)))
+        apart_there q k false is apart e = sets k ∙ ap (λ b. cond b w (get_or paths.totals.items k no_totals)) e
+
+        at_number : (q : List ℕ) (o : Option ℕ) → number_of paths.table q ≡ o → bytes_eq path q ≡ false
+            → total_in after.totals.items o ≡ total_in paths.totals.items o
+        at_number q None is apart = refl
+        at_number q (Some k) is apart = apart_there q k (k == number) is apart refl
+
+        by_case : (q : List ℕ) (b : Bool) → bytes_eq path q ≡ b
+            → total_at after q ≡ totals_on analyze q (found ++ (path, l) ∷ [])
         by_case q true e =
-            ap (total_at after.totals) (sym ((bytes_decides path q).0 e)) ∙ ap (λ o. unwrap_or o (totals_of 0 [])) updates.1 ∙ w-is
+            ap (λ t. total_in after.totals.items (number_of t q)) same_table
+            ∙ ap (λ x. total_in after.totals.items (number_of paths.table x)) (sym ((bytes_decides path q).0 e))
+            ∙ ap (total_in after.totals.items) here
+            ∙ set_here ∙ w-is
             ∙ ap (λ x. totals_on analyze x (found ++ (path, l) ∷ [])) ((bytes_decides path q).0 e)
         by_case q false e =
-            ap (λ o. unwrap_or o (totals_of 0 [])) (others_stay path paths.totals.entries after.totals.entries updates.3 q e) ∙ stands.at q ∙ sym (other q (nat_list_eq_equiv.symm q path ∙ e))
+            ap (λ t. total_in after.totals.items (number_of t q)) same_table
+            ∙ at_number q (number_of paths.table q) refl e
+            ∙ stands.at q ∙ sym (other q (nat_list_eq_equiv.symm q path ∙ e))
 
-        here : (q : List ℕ) → total_at after.totals q ≡ totals_on analyze q (found ++ (path, l) ∷ [])
-        here q = by_case q (bytes_eq path q) refl
+        each : (q : List ℕ) → total_at after q ≡ totals_on analyze q (found ++ (path, l) ∷ [])
+        each q = by_case q (bytes_eq path q) refl
+
+        few : length after.totals.items ≤ length after.table
+        few =
+            let lt : number < length paths.table = (number-read paths.table path number here).0 in
+            let table : length after.table ≡ length paths.table = ap length same_table in
+            omega (arith, lt, table, many, stands.few)
 
         all : after.are_within ≡ paths_fit analyze (found ++ (path, l) ∷ [])
         all = within ∙ ap (λ b. b && totals_fit w) stands.within
             ∙ ap (λ t. paths_fit analyze found && totals_fit t) w-is
-            ∙ ap (λ b. paths_fit analyze found && b) (kept-fit (length (on_path path (found ++ (path, l) ∷ []))) (path_texts analyze path (found ++ (path, l) ∷ [])))
+            ∙ ap (λ b. paths_fit analyze found && b) (kept-fit (length (on_path path (found ++ (
+              path,
+              l,
+            ) ∷ []))) (path_texts analyze path (found ++ (path, l) ∷ [])))
             ∙ sym paths-last
+
+  -- ---- more paths get numbers
+
+  pub stands-grown : (paths after : PathTotals) (found : List (List ℕ × Leaf)) → Extends paths.table after.table
+      → after.totals.items ≡ paths.totals.items → after.are_within ≡ paths.are_within
+      → PathsStand analyze paths found → PathsStand analyze after found
+  stands-grown paths after found more same_totals same_within stands = record {
+    at = each;
+    few = few;
+    within =
+        same_within ∙ stands.within;
+  }
+    where
+      few : length after.totals.items ≤ length after.table
+      few =
+          let many : length after.table ≡ length paths.table + length more.0 = ap length more.1
+          ∙ length-append paths.table more.0 in
+          let totals : length after.totals.items ≡ length paths.totals.items = ap length same_totals in
+          omega (arith, many, totals, stands.few)
+
+      new_number : (q : List ℕ) (o : Option ℕ) → number_of paths.table q ≡ None → number_of after.table q ≡ o
+          → total_in paths.totals.items o ≡ no_totals
+      new_number q None none is = refl
+      new_number q (Some n) none is = get_or_past paths.totals.items n no_totals (omega (
+        arith,
+        stands.few,
+        number-past paths.table after.table q n more none is,
+      ))
+
+      by_number : (q : List ℕ) (o : Option ℕ) → number_of paths.table q ≡ o
+          → total_in paths.totals.items (number_of after.table q) ≡ total_in paths.totals.items o
+      by_number q None is = new_number q (number_of after.table q) is refl
+      by_number q (Some n) is = ap (total_in paths.totals.items) (number-kept paths.table after.table q n more is)
+
+      each : (q : List ℕ) → total_at after q ≡ totals_on analyze q found
+      each q = ap (λ l. total_in l (number_of after.table q)) same_totals
+          ∙ by_number q (number_of paths.table q) refl ∙ stands.at q

@@ -1,22 +1,21 @@
 -- The values of a field come in one after another.
-use Rattle.std.proofs.Common.{◌≡◌, ℕ, suc, ◌+◌, Bool, true, false, cond, List, [], ◌∷◌, ◌++◌, map, length, Some, None, refl, sym, ap, ◌∙◌, append-nil, append_assoc}
+use Rattle.std.proofs.Common.{◌≡◌, ℕ, suc, ◌+◌, Bool, true, false, cond, List, [], ◌∷◌, ◌++◌, map, length, Some, None, refl, sym, ap, ◌∙◌, append-nil}
 use Rattle.std.specs.Prelude.{◌&&◌, is_some}
-use Rattle.std.specs.List.{flat_map, list_all, join_with_byte}
+use Rattle.std.specs.List.{flat_map, list_all}
 use Rattle.std.specs.Str.{bytes_eq}
 use Rattle.std.proofs.lemmas.Bool.{false≢true}
 use Rattle.std.proofs.lemmas.Grind.{flat_map-append}
 use Rattle.std.proofs.lemmas.List.{length-append, map-append}
 use Rattle.std.proofs.lemmas.List.Folds.{list_all-map}
 use Rattle.std.proofs.Math.Bool.{and_comm}
-use Rattle.seg_values.specs.Tree.{Leaf, Tree, leaf, array, object, Trees, no_trees, tree, Members, no_members, member}
+use Rattle.seg_values.specs.Tree.{Leaf, Tree}
 use Rattle.seg_values.specs.declared.schema.FieldEntry.{FieldEntry}
 use Rattle.seg_values.specs.declared.schema.FieldKind.{FieldKind}
 use Rattle.seg_values.specs.declared.schema.FieldKind.TheVariants.{Text, U64, I64, Bool as Boolean, Date, Facet, Bytes, IpAddr, Json}
 use Rattle.seg_words.specs.declared.token.Token.{Token}
 use Rattle.seg_model.specs.Checked.{is_u32, count_of, texts_fit, value_texts, leaves_with_path, path_fits, kind_fits}
-use Rattle.seg_model.specs.Leaves.{PlacedLeaf, leaves_at, leaves_of_trees, leaves_of_members, level_in_array, leaves, leaves_of, joined_path, dot_expanded}
+use Rattle.seg_model.specs.Leaves.{PlacedLeaf, leaves, leaves_of, joined_path}
 use Rattle.seg_model.specs.Occurrences.{leaf_text, value_tokens, texts_at}
-use Rattle.seg_check.specs.Leaves.{key_bytes, paths_from, paths_of_trees, paths_of_members}
 use Rattle.seg_check.specs.Paths.{at_path, on_path, texts_of, path_texts, fits_on, paths_fit, PathsStand}
 use Rattle.seg_check.specs.Sizes.{saturated, size_of, all_rise, measured}
 use Rattle.seg_check.specs.Standing.{found_in, Stands}
@@ -26,85 +25,25 @@ use Rattle.seg_check.specs.declared.size.TextSize.{TextSize}
 use Rattle.seg_check.proofs.Adding.{saturated-one, size-add, fits-kept}
 use Rattle.seg_check.proofs.OnPaths.{kept-fit}
 
--- ---- joined paths
-
-abbrev is_nil : List (List ℕ) → Bool
-is_nil [] = true
-is_nil (k ∷ ks) = false
+-- ---- leaves
 
 module _ (e : Bool) where
-  root-path : joined_path e [] ≡ []
-  root-path = by_case e
-    where
-      by_case : (b : Bool) → joined_path b [] ≡ []
-      by_case true = refl
-      by_case false = refl
-
-  abbrev plain : Bool → List ℕ → List ℕ
-  plain root key = cond root key (1 ∷ key)
-
-  join-last : (keys : List (List ℕ)) (key : List ℕ) → join_with_byte 1 (keys ++ key ∷ []) ≡ join_with_byte 1 keys ++ plain (is_nil keys) key
-  join-last [] key = refl
-  join-last (k ∷ []) key = refl
-  join-last (k ∷ j ∷ ks) key = ap (λ l. k ++ 1 ∷ l) (join-last (j ∷ ks) key) ∙ sym (append_assoc k (1 ∷ join_with_byte 1 (j ∷ ks)) (1 ∷ key))
-
-  path-last : (keys : List (List ℕ)) (key : List ℕ) → joined_path e (keys ++ key ∷ []) ≡ joined_path e keys ++ key_bytes e (is_nil keys) key
-  path-last keys key = by_case e
-    where
-      expand : (root : Bool) → map dot_expanded (plain root key) ≡ key_bytes true root key
-      expand true = refl
-      expand false = refl
-
-      keep : (root : Bool) → plain root key ≡ key_bytes false root key
-      keep true = refl
-      keep false = refl
-
-      by_case : (b : Bool) → joined_path b (keys ++ key ∷ []) ≡ joined_path b keys ++ key_bytes b (is_nil keys) key
-      by_case true = ap (map dot_expanded) (join-last keys key) ∙ map-append dot_expanded (join_with_byte 1 keys) (plain (is_nil keys) key) ∙ ap (λ l. map dot_expanded (join_with_byte 1 keys) ++ l) (expand (is_nil keys))
-      by_case false = join-last keys key ∙ ap (λ l. join_with_byte 1 keys ++ l) (keep (is_nil keys))
-
-  not_nil : (keys : List (List ℕ)) (key : List ℕ) → is_nil (keys ++ key ∷ []) ≡ false
-  not_nil [] key = refl
-  not_nil (k ∷ ks) key = refl
-
-  mutual
-    walked : (keys : List (List ℕ)) (level : ℕ) (t : Tree) → map (at_path e) (leaves_at keys level t) ≡ paths_from e (joined_path e keys) (is_nil keys) t
-    walked keys level (leaf l) = refl
-    walked keys level (array ts) = walked_trees keys (level_in_array level) ts
-    walked keys level (object ms) = walked_members keys (suc level) ms
-
-    walked_trees : (keys : List (List ℕ)) (level : ℕ) (ts : Trees) → map (at_path e) (leaves_of_trees keys level ts) ≡ paths_of_trees e (joined_path e keys) (is_nil keys) ts
-    walked_trees keys level no_trees = refl
-    walked_trees keys level (tree t ts) =
-        map-append (at_path e) (leaves_at keys level t) (leaves_of_trees keys level ts)
-        ∙ ap (λ l. l ++ map (at_path e) (leaves_of_trees keys level ts)) (walked keys level t)
-        ∙ ap (λ l. paths_from e (joined_path e keys) (is_nil keys) t ++ l) (walked_trees keys level ts)
-
-    walked_members : (keys : List (List ℕ)) (level : ℕ) (ms : Members) → map (at_path e) (leaves_of_members keys level ms) ≡ paths_of_members e (joined_path e keys) (is_nil keys) ms
-    walked_members keys level no_members = refl
-    walked_members keys level (member key t ms) =
-        map-append (at_path e) (leaves_at (keys ++ key ∷ []) level t) (leaves_of_members keys level ms)
-        ∙ ap (λ l. l ++ map (at_path e) (leaves_of_members keys level ms)) (walked (keys ++ key ∷ []) level t ∙ ap (λ p. paths_from e p (is_nil (keys ++ key ∷ [])) t) (path-last keys key) ∙ ap (λ r. paths_from e (joined_path e keys ++ key_bytes e (is_nil keys) key) r t) (not_nil keys key))
-        ∙ ap (λ l. paths_from e (joined_path e keys ++ key_bytes e (is_nil keys) key) false t ++ l) (walked_members keys level ms)
-
-  -- a walk from a root finds the leaves of the definition
-  pub walked-root : (t : Tree) → map (at_path e) (leaves t) ≡ paths_from e [] true t
-  walked-root t = walked [] 0 t ∙ ap (λ p. paths_from e p true t) root-path
-
-  pub found-last : (values : List Tree) (t : Tree) → found_in e (values ++ t ∷ []) ≡ found_in e values ++ paths_from e [] true t
+  pub found-last : (values : List Tree) (t : Tree)
+      → found_in e (values ++ t ∷ []) ≡ found_in e values ++ map (at_path e) (leaves t)
   found-last values t =
-      ap (map (at_path e)) (flat_map-append leaves values (t ∷ []) ∙ ap (λ l. leaves_of values ++ l) (append-nil (leaves t)))
+      ap (map (at_path e)) (flat_map-append leaves values (t ∷ [])
+      ∙ ap (λ l. leaves_of values ++ l) (append-nil (leaves t)))
       ∙ map-append (at_path e) (leaves_of values) (leaves t)
-      ∙ ap (λ l. found_in e values ++ l) (walked-root t)
 
   module _ (analyze : List ℕ → List Token) where
-    texts-of-found : (found : List PlacedLeaf) → texts_of analyze (map (at_path e) found) ≡ flat_map (λ (p : PlacedLeaf). map analyze (leaf_text p.leaf)) found
+    texts-of-found : (found : List PlacedLeaf)
+        → texts_of analyze (map (at_path e) found) ≡ flat_map (λ (p : PlacedLeaf). map analyze (leaf_text p.leaf)) found
     texts-of-found [] = refl
     texts-of-found (p ∷ found) = ap (λ l. map analyze (leaf_text p.leaf) ++ l) (texts-of-found found)
 
-    -- the texts of a JSON value are those of the leaves that a walk finds
-    pub texts-walked : (t : Tree) → texts_of analyze (paths_from e [] true t) ≡ value_texts Json analyze t
-    texts-walked t = ap (texts_of analyze) (sym (walked-root t)) ∙ texts-of-found (leaves t)
+    -- the texts of a JSON value are those of its leaves
+    pub texts-walked : (t : Tree) → texts_of analyze (map (at_path e) (leaves t)) ≡ value_texts Json analyze t
+    texts-walked t = texts-of-found (leaves t)
 
     texts-on : (path : List ℕ) (found : List PlacedLeaf) → path_texts analyze path (map (at_path e) found) ≡ texts_at e analyze path found
     texts-on path [] = refl

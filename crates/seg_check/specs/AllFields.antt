@@ -7,8 +7,8 @@ use Rattle.seg_values.specs.declared.schema.FieldEntry.{FieldEntry}
 use Rattle.seg_words.specs.declared.token.Token.{Token}
 use Rattle.seg_model.specs.Checked.{field_fits}
 use Rattle.seg_model.specs.Fields.{Schema, Analyzer, is_indexed, indexing_tokenizer, values_of}
+use Rattle.seg_check.specs.IndexedValues.{value_in, document_values}
 use Rattle.seg_check.specs.Standing.{Stands}
-use Rattle.seg_check.specs.Texts.{text_in, document_texts}
 use Rattle.seg_check.specs.declared.field_totals.FieldTotals.{FieldTotals}
 use Rattle.seg_check.specs.declared.positions.CutDocument.{CutDocument}
 
@@ -26,9 +26,9 @@ AllStand schema analyzer totals document =
 abbrev pub TellMore : {S : Type 0} → Schema → Analyzer → ℕ × Tree → HashMap ℕ FieldTotals S → HashMap ℕ FieldTotals S → Type 0
 TellMore schema analyzer p old new = (came : Document) → AllStand schema analyzer old came → AllStand schema analyzer new (came ++ p ∷ [])
 
--- these pairs of a document came: their texts were cut, and the totals tell of them
+-- these pairs of a document came: their values are kept, each text cut, and the totals tell of them
 pub record HasCut (schema : Schema) (analyzer : Analyzer) (document came : Document) (cut : CutDocument) : Type 0 where
-  pub texts : map (text_in document) cut.texts.items ≡ document_texts schema analyzer came
+  pub values : map (value_in document) cut.values.items ≡ document_values schema analyzer came
   pub totals : AllStand schema analyzer cut.totals came
 
 -- one more pair came, which is at a place of its document

@@ -1,6 +1,6 @@
 pub mod AllFields
+pub mod IndexedValues
 pub mod Known
-pub mod Leaves
 pub mod Paths
 pub mod Sizes
 pub mod Standing

@@ -1,14 +1,16 @@
 -- The leaves of a JSON field, each with its joined path.
-use Rattle.std.specs.Prelude.{◌≡◌, ℕ, List, [], map, filter, length, Bool, ◌&&◌, unwrap_or, if◌then◌else◌, Vec}
-use Rattle.std.specs.HashMap.{HashMap, get_by}
-use Rattle.std.specs.List.{flat_map, list_all}
+use Rattle.std.specs.Prelude.{◌≡◌, ◌≤◌, ℕ, List, [], map, filter, length, Bool, ◌&&◌, Option, Some, None, if◌then◌else◌}
+use Rattle.std.specs.List.{AllByRecursion, flat_map, list_all, slice_index_or}
 use Rattle.std.specs.Str.{bytes_eq}
-use Rattle.std.specs.declared.alloc.Global.{Global}
 use Rattle.seg_values.specs.Tree.{Leaf}
+use Rattle.seg_values.specs.View.{tree_of}
 use Rattle.seg_words.specs.declared.token.Token.{Token}
 use Rattle.seg_model.specs.Checked.{is_u32, texts_fit}
 use Rattle.seg_model.specs.Leaves.{PlacedLeaf, joined_path}
 use Rattle.seg_model.specs.Occurrences.{leaf_text}
+use Rattle.seg_paths.specs.NumberedLeaves.{leaf_in}
+use Rattle.seg_paths.specs.Paths.{number_of}
+use Rattle.seg_paths.specs.declared.leaves.NumberedLeaf.{NumberedLeaf}
 use Rattle.seg_check.specs.Totals.{totals_of, no_totals}
 use Rattle.seg_check.specs.declared.totals.Totals.{Totals}
 use Rattle.seg_check.specs.declared.paths.PathTotals.{PathTotals}
@@ -42,11 +44,32 @@ module _ (analyze : List ℕ → List Token) where
   abbrev pub paths_fit : List (List ℕ × Leaf) → Bool
   paths_fit found = list_all (λ p. fits_on found p.0) found
 
--- what a table has of a joined path
-abbrev pub total_at : {S : Type 0} → HashMap (Vec ℕ Global) Totals S → List ℕ → Totals
-total_at m path = unwrap_or (get_by (λ k. bytes_eq path k.items) m) no_totals
+-- ---- by the numbers of paths
+
+-- a leaf with the joined path that has its number
+abbrev pub path_leaf : List (List ℕ) → NumberedLeaf → List ℕ × Leaf
+path_leaf paths l = (slice_index_or paths l.path [], leaf_in (tree_of l.leaf.now))
+
+-- the number of a leaf is that of its joined path
+abbrev pub IsNumbered : List (List ℕ) → NumberedLeaf → Type 0
+IsNumbered paths l = number_of paths (slice_index_or paths l.path []) ≡ Some l.path
+
+-- leaves with the numbers of their joined paths
+pub record AreLeaves (paths : List (List ℕ)) (found : List (List ℕ × Leaf)) (leaves : List NumberedLeaf) : Type 0 where
+  pub are : map (path_leaf paths) leaves ≡ found
+  pub numbered : AllByRecursion (IsNumbered paths) leaves
+
+-- what totals say of a number
+abbrev pub total_in : List Totals → Option ℕ → Totals
+total_in totals None = no_totals
+total_in totals (Some number) = slice_index_or totals number no_totals
+
+-- what they say of a joined path
+abbrev pub total_at : PathTotals → List ℕ → Totals
+total_at paths path = total_in paths.totals.items (number_of paths.table path)
 
 -- the totals of paths tell of these leaves
 pub record PathsStand (analyze : List ℕ → List Token) (paths : PathTotals) (found : List (List ℕ × Leaf)) : Type 0 where
-  pub at : (path : List ℕ) → total_at paths.totals path ≡ totals_on analyze path found
+  pub at : (path : List ℕ) → total_at paths path ≡ totals_on analyze path found
+  pub few : length paths.totals.items ≤ length paths.table
   pub within : paths.are_within ≡ paths_fit analyze found

@@ -2,11 +2,11 @@
 ghost use Rattle.std.specs.Prelude.{◌≡◌, ◌⊎◌, None, Some, map, IfOk, IfErr, OnOk};
 ghost use Rattle.std.specs.List.{AllByRecursion};
 ghost use Rattle.seg_model.specs.Checked as checked;
+ghost use Rattle.seg_check.specs.IndexedValues.{value_in, document_values};
 ghost use Rattle.seg_check.specs.Known.{KnowsTexts};
-ghost use Rattle.seg_check.specs.Texts.{text_in, document_texts};
 
-use crate::field_text::FieldText;
 use crate::fields::fields_refusal;
+use crate::indexed_value::IndexedValue;
 use crate::json::leaves_refusal;
 use crate::limits::is_within_limits;
 use crate::positions::{CutDocument, cut_texts};
@@ -29,22 +29,22 @@ pub fn check_document<D: Document, Z: Analyzers>(
     let Ok(pairs) = document.pairs(alloc) else {
         return Err(TantivyError::OutOfMemory);
     };
-    checked_texts(alloc, schema, analyzers, &pairs, at)?;
+    checked_values(alloc, schema, analyzers, &pairs, at)?;
     Ok(())
 }
 
-/// Checks the pairs of a document before it is indexed, and answers its texts in indexed text fields, each cut once; `at`
-/// is the place that an error tells.
-pub fn checked_texts<Z: Analyzers>(
+/// Checks the pairs of a document before it is indexed, and answers its values in indexed fields that are no JSON fields,
+/// each text cut once; `at` is the place that an error tells.
+pub fn checked_values<Z: Analyzers>(
     alloc: Global,
     schema: &Schema,
     analyzers: &Z,
     document: &Pairs<'_>,
     at: usize,
-) -> TResult<Vec<FieldText>>
+) -> TResult<Vec<IndexedValue>>
     requires { AllByRecursion (KnowsTexts (Z.knows analyzers.now)) schema.now }
     ensures ok { OnOk result (checked.document_refusal schema.now (Z.tokens_of analyzers.now) document.now ≡ None) }
-    ensures texts { IfOk result (λ texts. map (text_in document.now) texts.items ≡ document_texts schema.now (Z.tokens_of analyzers.now) document.now) }
+    ensures values { IfOk result (λ values. map (value_in document.now) values.items ≡ document_values schema.now (Z.tokens_of analyzers.now) document.now) }
     ensures err { IfErr result (λ e. (e ≡ TantivyError.OutOfMemory) ⊎ (checked.at_place at (checked.document_refusal schema.now (Z.tokens_of analyzers.now) document.now) ≡ Some e)) }
 {
     if let Some(refusal) = fields_refusal(schema, document, at) {
@@ -56,11 +56,11 @@ pub fn checked_texts<Z: Analyzers>(
     let Ok(found) = cut_texts(alloc, analyzers, schema, document) else {
         return Err(TantivyError::OutOfMemory);
     };
-    let Some(CutDocument { texts, totals }) = found else {
+    let Some(CutDocument { values, totals }) = found else {
         return Err(TantivyError::InvalidArgument(ArgumentCause::Positions { at }));
     };
     if !is_within_limits(schema, &totals, document) {
         return Err(TantivyError::InvalidArgument(ArgumentCause::Limit { at }));
     }
-    Ok(texts)
+    Ok(values)
 }

@@ -1,8 +1,9 @@
 //! A text of a document, cut into its tokens.
-ghost use Rattle.std.specs.Prelude.{◌≡◌, true, IfOk, IsTrue};
+ghost use Rattle.std.specs.Prelude.{◌≡◌, [], true, IfOk, IsTrue};
 ghost use Rattle.seg_check.specs.Known.{KnowsTexts};
 ghost use Rattle.seg_check.specs.Texts.{cut_or_given, IsCut};
 ghost use Rattle.seg_model.specs.Fields as fields;
+ghost use Rattle.seg_model.specs.Occurrences.{value_tokens};
 ghost use Rattle.seg_values.specs.View.{tree_of};
 
 use crate::entry::indexing_tokenizer;
@@ -12,7 +13,7 @@ use std::alloc::{AllocError, Global};
 
 /// A value of a field, which is at a place of its document, as a text.
 #[derive(Drop)]
-pub struct FieldText {
+pub(crate) struct FieldText {
     pub field: u32,
     pub at: usize,
     /// The tokens that it was cut into, unless it comes with its own.
@@ -27,10 +28,17 @@ impl FieldText {
         if let Some(tokens) = &self.cut {
             return tokens.as_slice();
         }
-        match value {
-            OwnedValue::PreTokStr(given) => given.tokens.as_slice(),
-            _ => &[],
-        }
+        given_tokens(value)
+    }
+}
+
+/// The tokens that a value comes with.
+pub(crate) fn given_tokens(value: &OwnedValue) -> &[Token]
+    ensures { result.now ≡ value_tokens (λ _. []) (tree_of value.now) }
+{
+    match value {
+        OwnedValue::PreTokStr(given) => given.tokens.as_slice(),
+        _ => &[],
     }
 }
 

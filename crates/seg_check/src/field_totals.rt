@@ -1,24 +1,24 @@
 //! What a document has in a field, value by value.
 ghost use Rattle.std.specs.Prelude.{◌≡◌, List, ℕ, [], ◌∷◌, ◌++◌, ◌&&◌, true, length, map, IfOk, IsSome, IsTrue};
+ghost use Rattle.std.specs.List.{AllByRecursion};
 ghost use Rattle.seg_values.specs.Tree.{Leaf, Tree};
 ghost use Rattle.seg_words.specs.declared.token.Token.{Token};
 ghost use Rattle.seg_values.specs.View.{tree_of};
 ghost use Rattle.seg_model.specs.Checked as checked;
 ghost use Rattle.seg_model.specs.Fields as fields;
 ghost use Rattle.seg_check.specs.Known.{KnowsTexts};
-ghost use Rattle.seg_check.specs.Leaves.{path_leaf, paths_from};
-ghost use Rattle.seg_check.specs.Paths.{texts_of, PathsStand};
+ghost use Rattle.seg_check.specs.Paths.{IsNumbered, PathsStand, path_leaf, texts_of};
 ghost use Rattle.seg_check.specs.Sizes.{measured};
 ghost use Rattle.seg_check.specs.Standing.{Stands, found_in, rises as rises_in};
 ghost use Rattle.seg_check.specs.Texts.{IsCut};
 
 use crate::entry::indexing_tokenizer;
 use crate::field_text::FieldText;
-use crate::leaves::{PathLeaf, leaves_of};
 use crate::paths::PathTotals;
 use crate::size::{TextSize, text_size};
 use crate::texts::leaf_size;
 use crate::totals::{Totals, is_u32};
+use seg_paths::NumberedLeaf;
 use seg_values::{FieldEntry, FieldKind, OwnedValue};
 use seg_words::Analyzers;
 use std::alloc::{AllocError, Global};
@@ -102,7 +102,7 @@ fn texts_size<Z: Analyzers>(
         FieldKind::Text => Ok(text_size(text.tokens(value))),
         FieldKind::Json => {
             let tokenizer = indexing_tokenizer(entry);
-            let leaves = leaves_of(alloc, entry.expand_dots, value)?;
+            let leaves = paths.leaves_of(alloc, entry.expand_dots, value)?;
             add_leaves(paths, alloc, analyzers, tokenizer, leaves)
         }
         _ => Ok(Some(TextSize::none())),
@@ -115,15 +115,21 @@ fn add_leaves<Z: Analyzers>(
     alloc: Global,
     analyzers: &Z,
     tokenizer: &str,
-    leaves: Vec<PathLeaf>,
+    leaves: Vec<NumberedLeaf>,
 ) -> Result<Option<TextSize>, AllocError>
     requires { IsTrue (Z.knows analyzers.now tokenizer.now) }
-    ensures size { IfOk result (λ size. size ≡ measured (texts_of (Z.tokens_of analyzers.now tokenizer.now) (map path_leaf leaves.entry.items))) }
-    ensures stands { (found : List (List ℕ × Leaf)) → PathsStand (Z.tokens_of analyzers.now tokenizer.now) paths.old found → IfOk result (λ size. IsSome size → PathsStand (Z.tokens_of analyzers.now tokenizer.now) paths.new (found ++ map path_leaf leaves.entry.items)) }
+    ensures size { IfOk result (λ size. size
+        ≡ measured (texts_of (Z.tokens_of analyzers.now tokenizer.now)
+        (map (path_leaf paths.old.table) leaves.entry.items))) }
+    ensures stands { (found : List (List ℕ × Leaf))
+        → AllByRecursion (IsNumbered paths.old.table) leaves.entry.items
+        → PathsStand (Z.tokens_of analyzers.now tokenizer.now) paths.old found → IfOk result (λ size. IsSome size
+        → PathsStand (Z.tokens_of analyzers.now tokenizer.now) paths.new
+        (found ++ map (path_leaf paths.old.table) leaves.entry.items)) }
 {
     let mut whole = TextSize::none();
     for found in leaves {
-        let PathLeaf { path, leaf } = found;
+        let NumberedLeaf { path, leaf } = found;
         let Some(size) = leaf_size(alloc, analyzers, tokenizer, leaf)? else {
             return Ok(None);
         };

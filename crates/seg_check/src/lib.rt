@@ -4,9 +4,9 @@
 //! tokens once, in the third pass, which also tells the fourth what came in each field; numbers there stay at the
 //! end of a `u64`, so that none is past it.
 //!
-//! To be read in this order: `entry` and `field_text`; `kinds` and `fields` (the first pass); `json` (the second); `size`,
-//! `totals`, `paths`, `leaves`, `texts` and `field_totals` (what a document has in a field), and `positions` (the third
-//! pass); `levels`, `stored_len` and `limits` (the fourth); `document`.
+//! To be read in this order: `entry`, `field_text` and `indexed_value`; `kinds` and `fields` (the first pass); `json`
+//! (the second); `size`, `totals`, `paths`, `texts` and `field_totals` (what a document has in a field), and
+//! `positions` (the third pass); `levels`, `stored_len` and `limits` (the fourth); `document`.
 #![tactic(auto)]
 
 mod document;
@@ -14,9 +14,9 @@ mod entry;
 mod field_text;
 mod field_totals;
 mod fields;
+mod indexed_value;
 mod json;
 mod kinds;
-mod leaves;
 mod levels;
 mod limits;
 mod paths;
@@ -26,7 +26,7 @@ mod stored_len;
 mod texts;
 mod totals;
 
-pub use document::{check_document, checked_texts};
+pub use document::{check_document, checked_values};
 pub use entry::indexing_tokenizer;
-pub use field_text::FieldText;
+pub use indexed_value::{IndexedValue, ValueForm};
 pub use size::{counted_len, text_width};

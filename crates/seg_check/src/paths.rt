@@ -1,20 +1,26 @@
 //! The joined paths of a JSON field.
-ghost use Rattle.std.specs.Prelude.{◌≡◌, List, ℕ, [], ◌∷◌, ◌++◌, map, OnOk};
+ghost use Rattle.std.specs.Prelude.{◌≡◌, List, ℕ, [], ◌∷◌, ◌++◌, Some, map, IfOk, OnOk};
 ghost use Rattle.seg_values.specs.Tree.{Leaf};
+ghost use Rattle.seg_values.specs.View.{tree_of};
 ghost use Rattle.seg_words.specs.declared.token.Token.{Token};
+ghost use Rattle.seg_model.specs.Leaves.{leaves};
 ghost use Rattle.seg_model.specs.Occurrences.{leaf_text};
-ghost use Rattle.seg_check.specs.Paths.{total_at, PathsStand};
+ghost use Rattle.seg_paths.specs.Paths.{number_of};
+ghost use Rattle.seg_check.specs.Paths.{AreLeaves, PathsStand, at_path};
 ghost use Rattle.seg_check.specs.Sizes.{size_of};
 
 use crate::size::TextSize;
 use crate::totals::Totals;
+use seg_paths::{NumberedLeaf, PathTable, leaves_of, set_value, value_of};
+use seg_values::OwnedValue;
 use std::alloc::{AllocError, Global};
-use std::collections::HashMap;
 
-/// The leaves that came at each joined path, and whether these are within the limits at every one.
+/// The leaves that came at each joined path, by its number, and whether these are within the limits at every one. At a
+/// path whose number is past the totals none came.
 #[derive(Drop)]
 pub(crate) struct PathTotals {
-    pub totals: HashMap<Vec<u8>, Totals>,
+    pub table: PathTable,
+    pub totals: Vec<Totals>,
     pub are_within: bool,
 }
 
@@ -24,27 +30,37 @@ impl PathTotals {
         ensures { (analyze : List ℕ → List Token) → PathsStand analyze result [] }
     {
         PathTotals {
-            totals: HashMap::new(alloc),
+            table: PathTable::new(alloc),
+            totals: Vec::new(alloc),
             are_within: true,
         }
     }
 
-    /// One more leaf at a joined path, whose text has this size.
-    pub fn add(&mut self, path: Vec<u8>, size: TextSize) -> Result<(), AllocError>
-        ensures { (analyze : List ℕ → List Token) → (found : List (List ℕ × Leaf)) → (l : Leaf) → size ≡ size_of (map analyze (leaf_text l)) → PathsStand analyze self.old found → OnOk result (PathsStand analyze self.new (found ++ (path.items, l) ∷ [])) }
+    /// The leaves of a value, whose joined paths get numbers.
+    pub fn leaves_of<'a>(
+        &mut self,
+        alloc: Global,
+        expand_dots: bool,
+        value: &'a OwnedValue,
+    ) -> Result<Vec<NumberedLeaf<'a>>, AllocError>
+        ensures leaves { IfOk result (λ found. AreLeaves self.new.table
+            (map (at_path expand_dots) (leaves (tree_of value.now))) found.items) }
+        ensures stands { (analyze : List ℕ → List Token) → (found : List (List ℕ × Leaf))
+            → PathsStand analyze self.old found → PathsStand analyze self.new found }
     {
-        let totals = self.at(&path).with(size);
-        self.totals.insert(path, totals)?;
-        self.are_within &= totals.fits();
-        Ok(())
+        leaves_of(alloc, &mut self.table, expand_dots, value)
     }
 
-    fn at(&self, path: &[u8]) -> Totals
-        ensures { result ≡ total_at self.now.totals path.now }
+    /// One more leaf at the joined path with a number, whose text has this size.
+    pub fn add(&mut self, number: u32, size: TextSize) -> Result<(), AllocError>
+        ensures table { OnOk result (self.new.table ≡ self.old.table) }
+        ensures stands { (analyze : List ℕ → List Token) → (found : List (List ℕ × Leaf)) → (path : List ℕ)
+            → (l : Leaf) → number_of self.old.table path ≡ Some number → size ≡ size_of (map analyze (leaf_text l))
+            → PathsStand analyze self.old found → OnOk result (PathsStand analyze self.new (found ++ (path, l) ∷ [])) }
     {
-        match self.totals.get(path) {
-            Some(totals) => *totals,
-            None => Totals::none(),
-        }
+        let totals = value_of(&self.totals, number, Totals::none()).with(size);
+        set_value(&mut self.totals, number, Totals::none(), totals)?;
+        self.are_within &= totals.fits();
+        Ok(())
     }
 }

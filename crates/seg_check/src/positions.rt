@@ -4,6 +4,7 @@ ghost use Rattle.std.specs.List.{slice_get, AllByRecursion};
 ghost use Rattle.seg_model.specs.Checked as checked;
 ghost use Rattle.seg_model.specs.Fields as fields;
 ghost use Rattle.seg_check.specs.AllFields.{HasCut, CutsMore, TellMore};
+ghost use Rattle.seg_check.specs.IndexedValues.{form_of};
 ghost use Rattle.seg_check.specs.Known.{KnowsTexts};
 ghost use Rattle.seg_check.specs.Standing.{rises as rises_in};
 ghost use Rattle.seg_check.specs.Texts.{IsCut};
@@ -12,16 +13,17 @@ ghost use Rattle.seg_values.specs.View.{tree_of};
 
 use crate::field_text::{FieldText, cut_tokens};
 use crate::field_totals::FieldTotals;
+use crate::indexed_value::{IndexedValue, indexed_value};
 use seg_values::{Field, FieldEntry, FieldKind, OwnedValue, Pairs, Schema};
 use seg_words::Analyzers;
 use std::alloc::{AllocError, Global};
 use std::collections::HashMap;
 
-/// What a document has in indexed fields: its texts in text fields, in their order, and the totals of each such field
-/// in which it has a value.
+/// What a document has in indexed fields: its values in those that are no JSON fields, in their order, and the totals of
+/// each such field in which it has a value.
 #[derive(Drop)]
 pub(crate) struct CutDocument {
-    pub texts: Vec<FieldText>,
+    pub values: Vec<IndexedValue>,
     pub totals: HashMap<u32, FieldTotals>,
 }
 
@@ -52,7 +54,7 @@ impl CutDocument {
         ensures { (schema : fields.Schema) → (analyzer : fields.Analyzer) → (document : Document) → HasCut schema analyzer document [] result }
     {
         CutDocument {
-            texts: Vec::new(alloc),
+            values: Vec::new(alloc),
             totals: HashMap::new(alloc),
         }
     }
@@ -79,11 +81,11 @@ impl CutDocument {
             return Ok(true);
         }
         let cut = cut_tokens(alloc, analyzers, entry, value)?;
-        self.add_text(alloc, analyzers, entry, FieldText { field, at, cut }, value)
+        self.add_value(alloc, analyzers, entry, FieldText { field, at, cut }, value)
     }
 
     /// One more value of an indexed field, unless positions decrease in one of its texts.
-    fn add_text<Z: Analyzers>(
+    fn add_value<Z: Analyzers>(
         &mut self,
         alloc: Global,
         analyzers: &Z,
@@ -98,22 +100,22 @@ impl CutDocument {
         ensures cut { (schema : fields.Schema) → slice_get schema text.field ≡ Some entry.now → IfOk result (λ rises. rises ≡ true → CutsMore schema (Z.tokens_of analyzers.now) text.at (text.field, tree_of value.now) self.old self.new) }
     {
         let rises = add_value(&mut self.totals, alloc, analyzers, entry, &text, value)?;
-        keep_text(&mut self.texts, entry, text)?;
+        keep_value(&mut self.values, entry, text)?;
         Ok(rises)
     }
 }
 
-/// A text is kept, if it is of a text field.
-fn keep_text(
-    texts: &mut Vec<FieldText>,
+/// A value is kept, unless it is of a JSON field.
+fn keep_value(
+    values: &mut Vec<IndexedValue>,
     entry: &FieldEntry,
     text: FieldText,
 ) -> Result<(), AllocError>
-    ensures { OnOk result (texts.new.items ≡ (if fields.is_text entry.now.kind then texts.old.items ++ text ∷ [] else texts.old.items)) }
+    ensures { OnOk result (values.new.items ≡ (if fields.is_json entry.now.kind then values.old.items else values.old.items ++ (record { field = text.field; at = text.at; form = form_of entry.now.kind text.cut }) ∷ [])) }
 {
     match entry.kind {
-        FieldKind::Text => texts.push(text)?,
-        _ => {}
+        FieldKind::Json => {}
+        _ => values.push(indexed_value(entry, text))?,
     }
     Ok(())
 }

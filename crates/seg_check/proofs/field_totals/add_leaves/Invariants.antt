@@ -1,8 +1,8 @@
-use Rattle.std.proofs.Common.{ℕ, ◌++◌, List, map}
+use Rattle.std.proofs.Common.{◌≡◌, ℕ, ◌++◌, List, map}
+use Rattle.std.specs.List.{AllByRecursion}
 use Rattle.std.specs.Vec.Iter.{into_iter_items}
 use Rattle.seg_values.specs.Tree.{Leaf}
-use Rattle.seg_check.specs.Leaves.{path_leaf}
-use Rattle.seg_check.specs.Paths.{PathsStand}
+use Rattle.seg_check.specs.Paths.{IsNumbered, PathsStand, path_leaf}
 use Rattle.seg_check.proofs.LeavesCome.{SizedWith, StandWith}
 use Rattle.seg_check.proofs.field_totals.add_leaves.Given as goal
 
@@ -10,9 +10,15 @@ use Rattle.seg_check.proofs.field_totals.add_leaves.Given as goal
 abbrev pub invariant-loop-found : goal.invariant-loop-found
 invariant-loop-found g l =
     let analyze = g.Z.Analyzers.tokens_of l.analyzers l.tokenizer in
-    let left = map path_leaf (into_iter_items l.found-iterator) in
-    let all = map path_leaf (into_iter_items l.initial.found-iterator) in
+    let table = l.initial.paths.table in
+    let left = map (path_leaf table) (into_iter_items l.found-iterator) in
+    let all = map (path_leaf table) (into_iter_items l.initial.found-iterator) in
     record {
       sized : SizedWith analyze l.whole left all;
-      stand : (before : List (List ℕ × Leaf)) → PathsStand analyze l.initial.paths before → StandWith analyze l.paths left (before ++ all);
+      same : l.paths.table ≡ table;
+      numbered : AllByRecursion (IsNumbered table) (into_iter_items l.initial.found-iterator)
+          → AllByRecursion (IsNumbered table) (into_iter_items l.found-iterator);
+      stand : (before : List (List ℕ × Leaf))
+          → AllByRecursion (IsNumbered table) (into_iter_items l.initial.found-iterator)
+          → PathsStand analyze l.initial.paths before → StandWith analyze l.paths left (before ++ all);
     }

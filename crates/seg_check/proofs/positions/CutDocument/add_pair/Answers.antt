@@ -6,7 +6,7 @@ use Rattle.seg_values.specs.View.{tree_of}
 use Rattle.seg_model.specs.Fields.{is_indexed}
 use Rattle.seg_check.specs.AllFields.{CutsMore}
 use Rattle.seg_check.proofs.FieldsCome.{order-of, order-none, read-at, none-past}
-use Rattle.seg_check.proofs.TextsCome.{cut-passed}
+use Rattle.seg_check.proofs.KeptValues.{cut-passed}
 use Rattle.seg_check.proofs.positions.CutDocument.add_pair.Goals as goal
 
 pub returns-in_default-clause-cut : goal.returns-in_default-clause-cut
@@ -29,7 +29,7 @@ pub returns-clause-order : goal.returns-clause-order
 returns-clause-order g c =
     let here = read-at c.args.schema.now c.field_id-field.result c.args.field c.in-Some.entry.now c.in-Some.ensures.lookup.3.0 c.in-Some.ensures.lookup.1 c.field_id-field.ensures in
     let same = order-of (g.Z.Analyzers.tokens_of c.args.analyzers.now) c.args.schema.now c.args.field (tree_of c.args.value.now) c.in-Some.entry.now here (sym c.is_indexed.ensures ∙ c.if-not-is_indexed.false) in
-    IfOk-weaker c.add_text.result _ _ (λ rises is. is ∙ same) c.add_text.ensures.rises
+    IfOk-weaker c.add_value.result _ _ (λ rises is. is ∙ same) c.add_value.ensures.rises
 
 pub returns-clause-cut : goal.returns-clause-cut
 returns-clause-cut g c =
@@ -37,4 +37,4 @@ returns-clause-cut g c =
     let F = g.Z.Analyzers.tokens_of c.args.analyzers.now in
     let id = c.field_id-field.result in
     let here = read-at schema id id c.in-Some.entry.now c.in-Some.ensures.lookup.3.0 c.in-Some.ensures.lookup.1 refl in
-    subst (λ n. IfOk c.add_text.result (λ rises. rises ≡ true → CutsMore schema F c.args.at (n, tree_of c.args.value.now) c.args.self.now c.add_text.new.self)) c.field_id-field.ensures (c.add_text.ensures.cut schema here)
+    subst (λ n. IfOk c.add_value.result (λ rises. rises ≡ true → CutsMore schema F c.args.at (n, tree_of c.args.value.now) c.args.self.now c.add_value.new.self)) c.field_id-field.ensures (c.add_value.ensures.cut schema here)

@@ -3,7 +3,7 @@ use Rattle.std.specs.Prelude.{is_some}
 use Rattle.seg_model.specs.Checked.{Cause, at_place, fields_refusal, leaves_refusal}
 use Rattle.seg_model.proofs.Exports.{none_map}
 use Rattle.seg_check.proofs.FieldsCome.{falls-third}
-use Rattle.seg_check.proofs.document.checked_texts.Goals as goal
+use Rattle.seg_check.proofs.document.checked_values.Goals as goal
 
 pub returns-in_default-found-clause-err : goal.returns-in_default-found-clause-err
 returns-in_default-found-clause-err g c =

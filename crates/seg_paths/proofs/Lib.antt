@@ -1,0 +1,6 @@
+pub mod Exports
+mod Below
+mod Cutting
+mod Numbers
+mod Up
+mod Walking

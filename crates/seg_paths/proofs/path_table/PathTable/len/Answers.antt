@@ -1,0 +1,10 @@
+use Rattle.std.proofs.Common.{◌≡◌, [], length, ap, arith}
+use Rattle.seg_paths.specs.Nodes.{paths_with}
+use Rattle.seg_paths.proofs.Below.{length-paths}
+use Rattle.seg_paths.proofs.path_table.PathTable.len.Goals as goal
+
+pub returns-clause-length : goal.returns-clause-length
+returns-clause-length c =
+    let nodes = c.self.inside.nodes.keys in
+    let seen : length (paths_with [] nodes) ≡ length c.args.self.now = ap length c.self.view_is in
+    omega (arith, seen, length-paths [] nodes, c.len.ensures.len)

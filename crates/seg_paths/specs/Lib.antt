@@ -1,0 +1,4 @@
+pub mod Cuts
+pub mod Nodes
+pub mod NumberedLeaves
+pub mod Paths
