@@ -20,6 +20,7 @@ use Rattle.seg_norms.specs.FieldNorms.{norms_parts}
 use Rattle.seg_norms.specs.NormsRead.{AreNorms}
 use Rattle.seg_postings.specs.FieldReading.{FieldRules, FirstPart, FirstParts, IsFieldBy, OpenField, rules_of}
 use Rattle.seg_postings.specs.FieldWriting.{TermWritten}
+use Rattle.seg_postings.proofs.Exports.{dictionary_of_field}
 use Rattle.seg_segment.specs.Spelling.{Spell}
 use Rattle.seg_segment.specs.declared.segment_files.SegmentFiles.{SegmentFiles}
 use Rattle.seg_open.specs.Disagreement.{Disagree, IsFirstWrong, IsWhyNotOpen}
@@ -73,14 +74,6 @@ module _ (schema : Schema) (documents : ℕ) (files : SegmentFiles) where
       })
       (ap composite (sym same.1.1.1.1.1.0) ∙ spell.norm_parts)
 
-  -- a field of a schema lacks its dictionary
-  terms_disagree : TermsUnopened schema files.terms → Disagree schema documents files Terms
-  terms_disagree unopened completed contents same spell number =
-      let h = spell.hold_terms in
-      let one = unopened h.term_parts (record { file = ap composite (sym same.0) ∙ h.term_file; fields = h.term_fields }) in
-      let held = h.each one.field one.entry one.in_schema one.indexed in
-      one.lacks held.dictionary held.in_terms held.spells.is_dictionary
-
   -- the terms of a field in completed files
   may_hold : (completed : SegmentFiles) (contents : Contents) (field : ℕ) (entry : FieldEntry) → slice_get schema field ≡ Some entry → is_indexed entry ≡ true → (spell : Spell schema completed contents) → contents.documents ≡ documents → MayHold entry field documents spell.hold_terms.term_parts spell.hold_terms.posting_parts spell.hold_terms.position_parts
   may_hold completed contents field entry at on spell number = record {
@@ -88,6 +81,16 @@ module _ (schema : Schema) (documents : ℕ) (files : SegmentFiles) where
     holds = spell.hold_terms.each field entry at on;
     shape = λ term ps found. subst (λ n. IsTermWith entry n term ps) number (spell.shape.terms field entry at on term ps found);
   }
+
+  -- a field of a schema lacks its dictionary
+  terms_disagree : TermsUnopened schema files.terms → Disagree schema documents files Terms
+  terms_disagree unopened completed contents same spell number =
+      let h = spell.hold_terms in
+      let one = unopened h.term_parts (record { file = ap composite (sym same.0) ∙ h.term_file; fields = h.term_fields }) in
+      let m = may_hold completed contents one.field one.entry one.in_schema one.indexed spell number in
+      let by = by_rules one.entry one.field documents h.term_parts h.posting_parts h.position_parts m in
+      one.lacks m.holds.dictionary m.holds.in_terms
+      (dictionary_of_field (rules_of one.entry documents) m.holds.dictionary m.holds.postings_part m.holds.positions_part m.holds.total m.holds.written by)
 
   same_parts : (bytes other : List ℕ) (ps qs : List Part) → other ≡ bytes → composite bytes ≡ Some ps → composite other ≡ Some qs → qs ≡ ps
   same_parts bytes other ps qs same p q = same_Some qs ps (sym q ∙ ap composite same ∙ p)

@@ -1,5 +1,5 @@
 -- The parts of a field that hold terms are a field by the rules of its entry.
-use Rattle.std.proofs.Common.{◌≡◌, ℕ, ◌+◌, ◌<◌, cond, T, List, [], ◌∷◌, map, Some, None, refl, sym, ap, ◌∙◌, subst}
+use Rattle.std.proofs.Common.{◌≡◌, ℕ, ◌+◌, ◌<◌, cond, T, true, List, [], ◌∷◌, map, Some, None, refl, sym, ap, ◌∙◌, subst}
 use Rattle.std.specs.FinMap.Entries.{below_all}
 use Rattle.std.specs.FinMap.{entries, find, is_sorted, entries_sorted, get-entries}
 use Rattle.std.specs.List.{AllByRecursion}
@@ -17,6 +17,8 @@ use Rattle.seg_model.specs.Shape.{ArePostings, IsTermWith}
 use Rattle.seg_directory.specs.Composite.{Part}
 use Rattle.seg_postings.specs.FieldWriting.{TermWritten}
 use Rattle.seg_postings.specs.FieldReading.{IsFieldBy, rules_of}
+use Rattle.seg_postings.specs.TermForms.{has_form}
+use Rattle.seg_postings.proofs.Exports.{form_of_term}
 use Rattle.seg_open.specs.FieldOpening.{MayHold}
 
 -- ---- each entry of a map is found by its key
@@ -48,6 +50,12 @@ module _ {Y : Type 0} where
     of_each P es (second_holds _ _ s) (λ k y at. h k y (found_behind e es (first_holds _ _ s) k y at (slice_cmp nat_cmp k e.0) refl)),
   )
 
+-- ---- their form
+
+each_formed : (entry : FieldEntry) (documents : ℕ) (written : List TermWritten) → AllByRecursion (λ (e : List ℕ × List Posting). IsTermWith entry documents e.0 e.1) (map (λ (t : TermWritten). (t.bytes, t.postings)) written) → AllByRecursion (λ (t : TermWritten). has_form entry.kind t.bytes ≡ true) written
+each_formed entry documents [] all = tt
+each_formed entry documents (t ∷ ts) all = (form_of_term entry t.bytes all.0.form, each_formed entry documents ts all.1)
+
 -- ---- their documents
 
 -- postings in order lie below their end
@@ -63,8 +71,10 @@ module _ (entry : FieldEntry) (field documents : ℕ) (terms : List Part) where
   pub by_rules : (postings positions : List Part) (m : MayHold entry field documents terms postings positions) → IsFieldBy (rules_of entry documents) m.holds.dictionary m.holds.postings_part m.holds.positions_part m.holds.total m.holds.written
   by_rules postings positions m =
       let shaped = of_each (IsTermWith entry documents) (entries m.held) (entries_sorted m.held) (λ k y at. m.shape k y (get-entries m.held k ∙ at)) in
+      let all = subst (AllByRecursion (λ (e : List ℕ × List Posting). IsTermWith entry documents e.0 e.1)) (sym m.holds.are) shaped in
       record {
         spells = m.holds.spells;
+        formed = each_formed entry documents m.holds.written all;
         kinds = m.holds.kinds;
-        low = each_low entry documents m.holds.written (subst (AllByRecursion (λ (e : List ℕ × List Posting). IsTermWith entry documents e.0 e.1)) (sym m.holds.are) shaped);
+        low = each_low entry documents m.holds.written all;
       }

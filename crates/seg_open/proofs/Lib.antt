@@ -1,6 +1,6 @@
 pub mod Exports
 mod AliveRead
-mod BuiltTexts
+mod BuiltColumns
 mod Disagreeing
 mod FieldsFit
 mod HeldFields

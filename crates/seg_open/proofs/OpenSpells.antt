@@ -1,5 +1,5 @@
 -- The files of a segment that is open spell the contents of its reader.
-use Rattle.std.proofs.Common.{◌≡◌, ℕ, true, false, List, map, Option, Some, None, refl, sym, ap, ◌∙◌, subst, slice_get}
+use Rattle.std.proofs.Common.{◌≡◌, ℕ, true, false, List, [], map, Option, Some, None, refl, sym, ap, ◌∙◌, subst, slice_get}
 use Rattle.std.specs.Prelude.{is_some, unwrap_or}
 use Rattle.std.specs.FinMap.{get, empty, get-empty}
 use Rattle.std.specs.List.{slice_index_or}
@@ -11,6 +11,7 @@ use Rattle.std.proofs.lemmas.List.{length-map}
 use Rattle.std.proofs.lemmas.Option.{slice_get-map, unwrap_or-slice_get}
 use Rattle.seg_common.specs.LittleEndian.{u64_at}
 use Rattle.seg_values.specs.declared.schema.FieldEntry.{FieldEntry}
+use Rattle.seg_model.specs.Columns.{declared_columns, is_declared}
 use Rattle.seg_model.specs.Fields.{is_indexed}
 use Rattle.seg_model.specs.Reading.{Terms, Posting}
 use Rattle.seg_model.specs.Shape.{HasFullShape, IsTermWith}
@@ -21,7 +22,7 @@ use Rattle.seg_postings.specs.HeldTerms.{TermsReadHaveShape}
 use Rattle.seg_open.specs.FieldOpening.{IsOpened}
 use Rattle.seg_segment.specs.HoldTerms.{HoldsField}
 use Rattle.seg_open.specs.OpenSegment.{OpenSegment, terms_in, contents_of}
-use Rattle.seg_open.specs.SegmentOpening.{TermsAreOpen, IsOpen, AreTexts}
+use Rattle.seg_open.specs.SegmentOpening.{TermsAreOpen, IsOpen}
 use Rattle.seg_open.specs.FieldsOpening.{IsPlaceOpened}
 use Rattle.seg_open.specs.SegmentOpened.{HaveTotals}
 use Rattle.seg_open.proofs.Stages.{there}
@@ -51,7 +52,7 @@ open_totals files s t field opened at =
     ∙ ap (option_map (λ (part : List ℕ). u64_at part 0)) is.in_postings
     ∙ ap (λ (n : ℕ). Some n) is.by.spells.counted
 
-module _ (law : TermsReadHaveShape) (files : SegmentFiles) (s : OpenSegment) (are : AreTexts s.schema) (has : IsOpen files s) where
+module _ (law : TermsReadHaveShape) (files : SegmentFiles) (s : OpenSegment) (none : declared_columns s.schema ≡ []) (has : IsOpen files s) where
   t : TermsAreOpen s.schema s.documents files.terms files.postings files.positions s.fields
   t = has.terms
 
@@ -76,7 +77,7 @@ module _ (law : TermsReadHaveShape) (files : SegmentFiles) (s : OpenSegment) (ar
   holds_field : (field : ℕ) (entry : FieldEntry) → slice_get s.schema field ≡ Some entry → is_indexed entry ≡ true → HoldsField entry field t.term_parts t.posting_parts t.position_parts (slice_index_or (map terms_in s.fields) field empty)
   holds_field field entry at on =
       let o = indexed_at field entry at on in
-      let shape = law entry s.documents o.is.dictionary o.is.postings_part o.is.positions_part o.opened.total (written_terms o.opened) (are.texts field entry at on) o.is.by in
+      let shape = law entry s.documents o.is.dictionary o.is.postings_part o.is.positions_part o.opened.total (written_terms o.opened) o.is.by in
       subst (HoldsField entry field t.term_parts t.posting_parts t.position_parts) (sym (terms_at_place s.fields field (Some o.opened) o.at)) (record {
         dictionary = o.is.dictionary;
         postings_part = o.is.postings_part;
@@ -94,7 +95,7 @@ module _ (law : TermsReadHaveShape) (files : SegmentFiles) (s : OpenSegment) (ar
   has_terms : (field : ℕ) (entry : FieldEntry) → slice_get s.schema field ≡ Some entry → is_indexed entry ≡ true → (term : List ℕ) (postings : List Posting) → get (slice_index_or (map terms_in s.fields) field empty) term ≡ Some postings → IsTermWith entry s.documents term postings
   has_terms field entry at on term postings found =
       let o = indexed_at field entry at on in
-      let shape = law entry s.documents o.is.dictionary o.is.postings_part o.is.positions_part o.opened.total (written_terms o.opened) (are.texts field entry at on) o.is.by in
+      let shape = law entry s.documents o.is.dictionary o.is.postings_part o.is.positions_part o.opened.total (written_terms o.opened) o.is.by in
       shape.shape term postings (ap (λ (m : Terms). get m term) (sym (terms_at_place s.fields field (Some o.opened) o.at)) ∙ found)
 
   has_none : (field : ℕ) (entry : FieldEntry) → slice_get s.schema field ≡ Some entry → is_indexed entry ≡ false → (term : List ℕ) → get (slice_index_or (map terms_in s.fields) field empty) term ≡ None
@@ -110,7 +111,7 @@ module _ (law : TermsReadHaveShape) (files : SegmentFiles) (s : OpenSegment) (ar
     norms_per_field = has.fit.are.per_field;
     norms = has.fit.are.norms_are;
     no_norms = has.fit.are.no_norms;
-    declared = λ key h. absurd (are.undeclared key h);
+    declared = λ key h. absurd (false≢true (ap (λ cs. is_declared cs key) (sym none) ∙ h));
     free = λ key rows found off. absurd (none_there rows (sym (get-empty _ key) ∙ found));
     rows = λ key rows found. absurd (none_there rows (sym (get-empty _ key) ∙ found));
     one_number_type = λ path i u. absurd (false≢true (ap is_some (sym (get-empty _ _)) ∙ i));

@@ -9,6 +9,7 @@ use Rattle.seg_directory.proofs.Exports.{broke, does_nothing, stops, then_does, 
 use Rattle.seg_directory.specs.State.{DirectoryState}
 use Rattle.seg_directory.specs.Works.{WorksFor}
 use Rattle.seg_meta.specs.Metas.{SegmentParts}
+use Rattle.seg_model.specs.Columns.{declared_columns}
 use Rattle.seg_model.specs.Fields.{Schema}
 use Rattle.seg_model.specs.Shape.{HasFullShape}
 use Rattle.seg_postings.specs.HeldTerms.{TermsReadHaveShape}
@@ -19,11 +20,11 @@ use Rattle.seg_segment.specs.declared.segment_files.SegmentFiles.{SegmentFiles}
 use Rattle.seg_open.specs.Disagreement.{IsFirstWrong, IsWhyNotOpen}
 use Rattle.seg_open.specs.FileSizes.{sizes_of}
 use Rattle.seg_open.specs.OpenSegment.{OpenSegment, contents_of}
-use Rattle.seg_open.specs.SegmentOpening.{AreTexts, IsOpen}
+use Rattle.seg_open.specs.SegmentOpening.{IsOpen}
 use Rattle.seg_open.specs.SegmentOpened.{HasFilesOf, OpensFiles, error_of}
 use Rattle.seg_open.specs.declared.open_error.OpenError.{OpenError}
 use Rattle.seg_open.specs.declared.open_error.OpenError.TheVariants.{Damaged, OutOfMemory}
-use Rattle.seg_open.proofs.BuiltTexts.{built_are_texts}
+use Rattle.seg_open.proofs.BuiltColumns.{none_declared}
 use Rattle.seg_open.proofs.OpenSpells.{open_spells, open_totals}
 
 module _ (segment : SegmentParts) {a b : DirectoryState} where
@@ -58,13 +59,13 @@ has_files law segment files s built id schema number stamp sizes has = record {
   of_sizes = sizes;
   spell =
       subst (λ (t : Schema). Spell t files (contents_of s)) schema
-      (open_spells law files s (subst AreTexts (sym schema) (built_are_texts segment.schema built)) has);
+      (open_spells law files s (ap declared_columns schema ∙ none_declared segment.schema built) has);
   totals = open_totals files s has.terms;
 }
 
 -- and its shape
 pub has_shape : TermsReadHaveShape → (files : SegmentFiles) (s : OpenSegment) → is_built_schema s.schema ≡ true → IsOpen files s → HasFullShape s.schema (contents_of s)
-has_shape law files s built has = (open_spells law files s (built_are_texts s.schema built) has).shape
+has_shape law files s built has = (open_spells law files s (none_declared s.schema built) has).shape
 
 -- what the code calls the schema and the number of documents
 pub as_listed : (own schema : Schema) (number documents : ℕ) (files : SegmentFiles) → own ≡ schema → number ≡ documents

@@ -5,10 +5,10 @@ use Rattle.seg_common.specs.declared.name.SegmentComponent.{SegmentComponent}
 use Rattle.seg_values.specs.declared.schema.FieldEntry.{FieldEntry}
 use Rattle.seg_model.specs.Fields.{Schema, is_indexed}
 use Rattle.seg_directory.specs.Composite.{Part, field_of}
-use Rattle.seg_termdict.specs.Dictionary.{IsDictionary}
 use Rattle.seg_postings.specs.Completing.{ArePostingsBy, NoneComplete}
 use Rattle.seg_postings.specs.FieldReading.{FirstPart, FirstParts, IsFieldBy, OpenField, rules_of, written_terms}
 use Rattle.seg_postings.specs.FieldWriting.{TermWritten}
+use Rattle.seg_postings.specs.TermForms.{IsDictionaryOf}
 use Rattle.seg_open.specs.IndexedParts.{HaveIndexedParts}
 use Rattle.seg_open.specs.declared.open_error.OpenError.{OpenError}
 use Rattle.seg_open.specs.declared.open_error.OpenError.TheVariants.{Damaged, OutOfMemory}
@@ -20,10 +20,10 @@ IsTold component Reason OutOfMemory = ⊤
 
 -- ---- dictionaries
 
--- the part of a field is its dictionary, to be read by the rules of its entry
+-- the part of a field is a dictionary of its terms, to be read by the rules of its entry
 pub record IsFirst (entry : FieldEntry) (field documents : ℕ) (parts : List Part) (first : FirstPart) : Type 0 where
   pub in_terms : field_of parts field ≡ Some first.dictionary
-  pub is_dictionary : IsDictionary first.dictionary
+  pub is_dictionary : IsDictionaryOf entry.kind first.dictionary
   pub rules : first.rules ≡ rules_of entry documents
 
 -- it is where the field is indexed, and none stands for it elsewhere
@@ -41,9 +41,9 @@ pub record AreFirst (schema : Schema) (documents : ℕ) (parts : List Part) (fie
   pub per_field : length fields ≡ length schema
   pub each : EachIsFirst schema documents parts fields
 
--- the part of a field, if there is one, is no dictionary
-abbrev pub LacksDictionary : List Part → ℕ → Type 0
-LacksDictionary parts field = (bytes : List ℕ) → field_of parts field ≡ Some bytes → IsDictionary bytes → ⊥
+-- the part of a field, if there is one, is no dictionary of its terms
+abbrev pub LacksDictionary : FieldEntry → List Part → ℕ → Type 0
+LacksDictionary entry parts field = (bytes : List ℕ) → field_of parts field ≡ Some bytes → IsDictionaryOf entry.kind bytes → ⊥
 
 -- a field of a schema that is indexed lacks its dictionary
 pub record OneLacksDictionary (schema : Schema) (parts : List Part) : Type 0 where
@@ -51,7 +51,7 @@ pub record OneLacksDictionary (schema : Schema) (parts : List Part) : Type 0 whe
   pub entry : FieldEntry
   pub in_schema : slice_get schema field ≡ Some entry
   pub indexed : is_indexed entry ≡ true
-  pub lacks : LacksDictionary parts field
+  pub lacks : LacksDictionary entry parts field
 
 -- bytes are opened as the file of terms
 pub record TermsOpened (schema : Schema) (documents : ℕ) (bytes : List ℕ) (fields : List (Option FirstPart)) : Type 0 where

@@ -1,9 +1,6 @@
 -- A segment whose files are opened.
-use Rattle.std.specs.Prelude.{◌≡◌, ℕ, List, length, true, Option, Some}
-use Rattle.std.specs.List.{slice_get}
-use Rattle.seg_values.specs.declared.schema.FieldEntry.{FieldEntry}
-use Rattle.seg_model.specs.Columns.{ColumnKey, declared_columns, is_declared}
-use Rattle.seg_model.specs.Fields.{Schema, is_indexed, is_text}
+use Rattle.std.specs.Prelude.{◌≡◌, ℕ, List, length, Option, Some}
+use Rattle.seg_model.specs.Fields.{Schema}
 use Rattle.seg_directory.specs.Composite.{Part, composite}
 use Rattle.seg_columnar.specs.Columnar.{rows_of}
 use Rattle.seg_store.specs.Store.{store_of, documents_of}
@@ -32,8 +29,3 @@ pub record IsOpen (files : SegmentFiles) (s : OpenSegment) : Type 0 where
   pub rows : rows_of files.fast_fields ≡ Some s.documents
   pub norms : composite files.field_norms ≡ Some s.norms
   pub fit : HoldNorms s.schema s.documents s.norms (norms_of s.schema s.norms)
-
--- each field that is indexed is a text, and no column is declared: what is opened so far
-pub record AreTexts (schema : Schema) : Type 0 where
-  pub texts : (field : ℕ) (entry : FieldEntry) → slice_get schema field ≡ Some entry → is_indexed entry ≡ true → is_text entry.kind ≡ true
-  pub undeclared : (key : ColumnKey) → is_declared (declared_columns schema) key ≡ true → ⊥

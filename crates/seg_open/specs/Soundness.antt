@@ -9,9 +9,9 @@ use Rattle.seg_directory.specs.Composite.{Part, composite, field_of}
 use Rattle.seg_columnar.specs.Columnar.{rows_of}
 use Rattle.seg_store.specs.Block.{Block}
 use Rattle.seg_store.specs.Store.{store_of, documents_of}
-use Rattle.seg_termdict.specs.Dictionary.{IsDictionary}
 use Rattle.seg_postings.specs.Completing.{ArePostingsBy}
 use Rattle.seg_postings.specs.FieldReading.{OpenField, rules_of}
+use Rattle.seg_postings.specs.TermForms.{IsDictionaryOf}
 use Rattle.seg_norms.specs.NormsRead.{norms_of, HoldNorms}
 use Rattle.seg_segment.specs.declared.segment_files.SegmentFiles.{SegmentFiles}
 use Rattle.seg_open.specs.IndexedParts.{HaveIndexedParts}
@@ -22,17 +22,17 @@ abbrev pub EachIndexed : Schema → (FieldEntry → ℕ → Type 0) → Type 0
 EachIndexed schema Holds =
     (field : ℕ) (entry : FieldEntry) → slice_get schema field ≡ Some entry → is_indexed entry ≡ true → Holds entry field
 
--- the part of a field is a dictionary
-pub record HasDictionary (terms : List Part) (field : ℕ) : Type 0 where
+-- the part of a field is a dictionary of its terms
+pub record HasDictionary (entry : FieldEntry) (terms : List Part) (field : ℕ) : Type 0 where
   pub dictionary : List ℕ
   pub in_terms : field_of terms field ≡ Some dictionary
-  pub is_dictionary : IsDictionary dictionary
+  pub is_dictionary : IsDictionaryOf entry.kind dictionary
 
--- there is a part for each indexed field and no other, and each is a dictionary
+-- there is a part for each indexed field and no other, and each is such a dictionary
 pub record SoundTerms (schema : Schema) (terms : List ℕ) : Type 0 where
   pub parts : List Part
   pub file : HaveIndexedParts schema terms parts
-  pub each : EachIndexed schema (λ entry field. HasDictionary parts field)
+  pub each : EachIndexed schema (λ entry field. HasDictionary entry parts field)
 
 -- it is a store of this many documents
 pub record SoundStore (documents : ℕ) (store : List ℕ) : Type 0 where

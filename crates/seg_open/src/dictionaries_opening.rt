@@ -77,7 +77,7 @@ fn open_entry(
 ) -> Result<Option<FieldTerms>, OpenError>
     requires few { place < 2 ^ 32 - 1 }
     ensures ok { IfOk result (IsFirstAt entry.now place max_doc parts.now) }
-    ensures err { IfErr result (IsTold SegmentComponent.Terms ((is_indexed entry.now ≡ true) × LacksDictionary parts.now place)) }
+    ensures err { IfErr result (IsTold SegmentComponent.Terms ((is_indexed entry.now ≡ true) × LacksDictionary entry.now parts.now place)) }
 {
     if !entry.is_indexed() {
         return Ok(None);
@@ -97,7 +97,7 @@ fn open_dictionary(
     max_doc: u32,
 ) -> Result<FieldTerms, OpenError>
     ensures ok { IfOk result (IsFirst entry.now field max_doc parts.now) }
-    ensures err { IfErr result (IsTold SegmentComponent.Terms (LacksDictionary parts.now field)) }
+    ensures err { IfErr result (IsTold SegmentComponent.Terms (LacksDictionary entry.now parts.now field)) }
 {
     let Some(part) = parts.open_read(field) else {
         return Err(OpenError::Damaged(SegmentComponent::Terms));

@@ -2,11 +2,13 @@ mod AliveLeft
 mod Completed
 mod CountedSteps
 mod DictionaryRanges
+pub mod Exports
 mod FewLeft
 mod FieldGoals
 mod FieldMap
 mod FieldRead
 mod FieldSteps
+mod FormedTerms
 mod KeptTerms
 mod KindLemmas
 mod LastInfo
@@ -15,9 +17,10 @@ mod OpenedFields
 mod PassedPositions
 mod PostingsBack
 mod PostingsSteps
-mod Streams
 mod ReadRising
 mod RisingPositions
+mod StreamedTerms
+mod Streams
 mod TermReads
 mod TermsChecked
 mod TermsRead

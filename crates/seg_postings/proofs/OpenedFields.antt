@@ -8,6 +8,7 @@ use Rattle.seg_termdict.specs.Dictionary.{Term, IsDictionary, terms_of}
 use Rattle.seg_termdict.specs.Building.{last_term, postings_end, positions_end}
 use Rattle.seg_postings.specs.FieldParts.{LiesWithin}
 use Rattle.seg_postings.specs.FieldWriting.{TermWritten}
+use Rattle.seg_postings.specs.TermForms.{IsDictionaryOf, has_form, is_formed}
 use Rattle.seg_postings.specs.FieldReading.{FieldRules, IsFieldBy, is_read, IsReadable, OpenField, read_term, dictionary_terms, written_terms}
 use Rattle.seg_postings.proofs.DictionaryRanges.{terms_within}
 use Rattle.seg_postings.proofs.FieldRead.{written, reads, reads_all, passes_all}
@@ -18,13 +19,21 @@ within_parts dictionary postings positions is fill positions_fill =
     subst (λ n. AllByRecursion (LiesWithin n (length positions)) (terms_of dictionary)) fill
     (subst (λ n. AllByRecursion (LiesWithin (postings_end (last_term None (terms_of dictionary))) n) (terms_of dictionary)) positions_fill (terms_within dictionary is))
 
+-- terms that are read have the form of those of the dictionary
+all_formed : (rules : FieldRules) (postings positions : List ℕ) (terms : List Term) → list_all (is_formed rules.kind) terms ≡ true → AllByRecursion (λ (t : TermWritten). has_form rules.kind t.bytes ≡ true) (map (written rules postings positions) terms)
+all_formed rules postings positions [] e = tt
+all_formed rules postings positions (t ∷ terms) e =
+    let both = and_parts (is_formed rules.kind t) (list_all (is_formed rules.kind) terms) e in
+    (both.0, all_formed rules postings positions terms both.1)
+
 module _ (rules : FieldRules) (dictionary postings positions : List ℕ) where
-  pub is_field : IsDictionary dictionary → 8 ≤ length postings → postings_end (last_term None (terms_of dictionary)) ≡ length (drop 8 postings) → positions_end (last_term None (terms_of dictionary)) ≡ length positions → list_all (is_read rules (drop 8 postings) positions) (terms_of dictionary) ≡ true
+  pub is_field : IsDictionaryOf rules.kind dictionary → 8 ≤ length postings → postings_end (last_term None (terms_of dictionary)) ≡ length (drop 8 postings) → positions_end (last_term None (terms_of dictionary)) ≡ length positions → list_all (is_read rules (drop 8 postings) positions) (terms_of dictionary) ≡ true
       → IsFieldBy rules dictionary postings positions (u64_at postings 0) (map (written rules (drop 8 postings) positions) (terms_of dictionary))
   is_field is room fill positions_fill good =
       let r = reads_all rules (drop 8 postings) positions (terms_of dictionary) good in
       record {
-        spells = record { is_dictionary = is; room = room; counted = refl; read = r.read; occur = r.occur; postings_fill = fill; positions_fill = positions_fill };
+        spells = record { is_dictionary = is.is_dictionary; room = room; counted = refl; read = r.read; occur = r.occur; postings_fill = fill; positions_fill = positions_fill };
+        formed = all_formed rules (drop 8 postings) positions (terms_of dictionary) is.formed;
         kinds = r.kinds;
         low = r.low;
       }
@@ -56,9 +65,9 @@ pub behind_total : (postings body slice : List ℕ) (n : ℕ) → 8 ≤ length p
 behind_total postings body slice n room is_length is same =
     same ∙ is ∙ take_all (n - 8) (drop 8 postings) (let rest : length (drop 8 postings) ≡ length postings - 8 = length-drop 8 postings in omega (arith, rest, is_length))
 
-module _ (rules : FieldRules) (dictionary postings positions : List ℕ) (is : IsDictionary dictionary) (room : 8 ≤ length postings) (fill : postings_end (last_term None (terms_of dictionary)) ≡ length (drop 8 postings)) (positions_fill : positions_end (last_term None (terms_of dictionary)) ≡ length positions) (body position_bytes : List ℕ) (body_is : body ≡ drop 8 postings) (positions_are : position_bytes ≡ positions) where
+module _ (rules : FieldRules) (dictionary postings positions : List ℕ) (is : IsDictionaryOf rules.kind dictionary) (room : 8 ≤ length postings) (fill : postings_end (last_term None (terms_of dictionary)) ≡ length (drop 8 postings)) (positions_fill : positions_end (last_term None (terms_of dictionary)) ≡ length positions) (body position_bytes : List ℕ) (body_is : body ≡ drop 8 postings) (positions_are : position_bytes ≡ positions) where
   pub lie_within : AllByRecursion (LiesWithin (length body) (length position_bytes)) (terms_of dictionary)
-  lie_within = rw (body_is, positions_are) (within_parts dictionary (drop 8 postings) positions is fill positions_fill)
+  lie_within = rw (body_is, positions_are) (within_parts dictionary (drop 8 postings) positions is.is_dictionary fill positions_fill)
 
   pub no_field_by : list_all (is_read rules body position_bytes) (terms_of dictionary) ≡ false → (total : ℕ) (terms : List TermWritten) → IsFieldBy rules dictionary postings positions total terms → ⊥
   no_field_by bad = no_field rules dictionary postings positions (subst (λ b. list_all (is_read rules b positions) (terms_of dictionary) ≡ false) body_is (subst (λ p. list_all (is_read rules body p) (terms_of dictionary) ≡ false) positions_are bad))
@@ -71,7 +80,7 @@ module _ (rules : FieldRules) (dictionary postings positions : List ℕ) (is : I
     slice_same = sym slice_is ∙ body_is
 
     pub are_readable : AllByRecursion (IsReadable slice positions) terms
-    are_readable = rw (slice_same, terms_are) (readable rules (drop 8 postings) positions (terms_of dictionary) (within_parts dictionary (drop 8 postings) positions is fill positions_fill) passed)
+    are_readable = rw (slice_same, terms_are) (readable rules (drop 8 postings) positions (terms_of dictionary) (within_parts dictionary (drop 8 postings) positions is.is_dictionary fill positions_fill) passed)
 
     module _ (reader : OpenField) (total : ℕ) (reader_is : reader ≡ record { total = total; terms = map (read_term slice positions) terms }) where
       pub opened : total ≡ u64_at postings 0 → IsFieldBy rules dictionary postings positions reader.total (written_terms reader)

@@ -1,5 +1,5 @@
 -- A field as it is opened, part by part.
-use Rattle.std.specs.Prelude.{◌≡◌, ℕ, ◌<◌, ◌&&◌, ◌||◌, nat_eq, nat_lt, if◌then◌else◌, Bool, List, [], length, map, slice_range, Some, unwrap_or}
+use Rattle.std.specs.Prelude.{◌≡◌, ℕ, ◌<◌, ◌&&◌, ◌||◌, nat_eq, nat_lt, if◌then◌else◌, Bool, true, List, [], length, map, slice_range, Some, unwrap_or}
 use Rattle.std.specs.List.{AllByRecursion}
 use Rattle.seg_common.specs.declared.term_info.TermInfo.{TermInfo}
 use Rattle.seg_values.specs.declared.schema.FieldEntry.{FieldEntry}
@@ -17,6 +17,7 @@ use Rattle.seg_postings.specs.PostingsLeft.{is_term_of}
 use Rattle.seg_postings.specs.Field.{IsField}
 use Rattle.seg_postings.specs.FieldWriting.{TermWritten}
 use Rattle.seg_postings.specs.FieldParts.{LiesWithin}
+use Rattle.seg_postings.specs.TermForms.{has_form}
 
 -- by what a field is read: what it is, what its texts record, and below which number its documents lie
 pub record FieldRules : Type 0 where
@@ -39,6 +40,7 @@ kind_by rules bytes = asked_kind rules.kind rules.index bytes
 -- three parts are a field by these rules
 pub record IsFieldBy (rules : FieldRules) (dictionary postings positions : List ℕ) (total : ℕ) (terms : List TermWritten) : Type 0 where
   pub spells : IsField dictionary postings positions total terms
+  pub formed : AllByRecursion (λ t. has_form rules.kind t.bytes ≡ true) terms
   pub kinds : AllByRecursion (λ t. t.kind ≡ kind_by rules t.bytes) terms
   pub low : AllByRecursion (λ t. AllByRecursion (λ p. p.document < rules.max_doc) t.postings) terms
 

@@ -1,8 +1,7 @@
 -- The terms of a field as a map.
-use Rattle.std.specs.Prelude.{◌≡◌, ℕ, List, map, true, Some}
+use Rattle.std.specs.Prelude.{◌≡◌, ℕ, List, map, Some}
 use Rattle.std.specs.FinMap.{get, entries, from_sorted}
 use Rattle.seg_values.specs.declared.schema.FieldEntry.{FieldEntry}
-use Rattle.seg_model.specs.Fields.{is_text}
 use Rattle.seg_model.specs.Reading.{Posting, Terms}
 use Rattle.seg_model.specs.Shape.{IsTermWith}
 use Rattle.seg_postings.specs.FieldReading.{rules_of, IsFieldBy}
@@ -17,6 +16,6 @@ pub record AreHeldBy (entry : FieldEntry) (documents : ℕ) (written : List Term
   pub are : map (λ t. (t.bytes, t.postings)) written ≡ entries held
   pub shape : (term : List ℕ) (postings : List Posting) → get held term ≡ Some postings → IsTermWith entry documents term postings
 
--- whatever three parts of a text field spell
+-- whatever three parts of a field spell
 abbrev pub TermsReadHaveShape : Type 0
-TermsReadHaveShape = (entry : FieldEntry) (documents : ℕ) (dictionary postings positions : List ℕ) (total : ℕ) (written : List TermWritten) → is_text entry.kind ≡ true → IsFieldBy (rules_of entry documents) dictionary postings positions total written → AreHeldBy entry documents written (terms_held written)
+TermsReadHaveShape = (entry : FieldEntry) (documents : ℕ) (dictionary postings positions : List ℕ) (total : ℕ) (written : List TermWritten) → IsFieldBy (rules_of entry documents) dictionary postings positions total written → AreHeldBy entry documents written (terms_held written)

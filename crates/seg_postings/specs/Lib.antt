@@ -12,4 +12,5 @@ pub mod PostingsAlone
 pub mod PostingsForm
 pub mod PostingsLeft
 pub mod PostingsReading
+pub mod TermForms
 pub mod Written

@@ -7,14 +7,35 @@ use crate::record_kind::RecordKind;
 use seg_termdict::{TermDictionary, TermOrdinal};
 use seg_values::{FieldEntry, FieldKind, IndexOption, PostingsError};
 
-/// What a field is, and what its texts record.
+/// What a field is, and what its texts record: these say what the postings of each of its terms keep.
 #[derive(Clone, Copy)]
-pub(crate) struct AskedKind {
+pub struct AskedKind {
     pub kind: FieldKind,
     pub index: IndexOption,
 }
 
 impl AskedKind {
+    /// What the entry of a field asks for.
+    pub fn of_entry(entry: &FieldEntry) -> AskedKind
+        ensures { result ≡ record { kind = entry.now.kind; index = entry.now.index } }
+    {
+        AskedKind {
+            kind: entry.kind,
+            index: entry.index,
+        }
+    }
+
+    /// The kind that a term with these bytes is asked for.
+    pub fn of_bytes(self, bytes: &[u8]) -> RecordKind
+        ensures { result ≡ asked_kind self.kind self.index bytes.now }
+    {
+        match self.kind {
+            FieldKind::Text => RecordKind::of_option(self.index),
+            FieldKind::Json => json_kind(self.index, bytes),
+            _ => RecordKind::Documents,
+        }
+    }
+
     /// The kind that the term at a place is asked for. A JSON field is asked by the bytes of the term, which `key` takes.
     pub(crate) fn of_term(
         self,
@@ -51,7 +72,7 @@ fn json_kind(index: IndexOption, key: &[u8]) -> RecordKind
 }
 
 /// The byte after the first byte 0; 0 if there is none.
-fn type_code(bytes: &[u8]) -> u8
+pub(crate) fn type_code(bytes: &[u8]) -> u8
     ensures { result ≡ reading.type_code bytes.now }
 {
     for at in 0..bytes.len() {

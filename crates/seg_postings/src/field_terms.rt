@@ -1,15 +1,17 @@
 //! The dictionary of a field, which is opened first.
 ghost use Rattle.std.specs.Prelude.{◌≡◌, ◌⊎◌, None, length, IfOk, IfErr};
 ghost use Rattle.std.specs.List.{list_all, AllByRecursion};
-ghost use Rattle.seg_termdict.specs.Dictionary.{IsDictionary, terms_of};
+ghost use Rattle.seg_termdict.specs.Dictionary.{terms_of};
 ghost use Rattle.seg_termdict.specs.Building.{last_term, positions_end};
 ghost use Rattle.seg_postings.specs.Completing.{ArePostingsBy, NoneComplete};
 ghost use Rattle.seg_postings.specs.FieldParts.{LiesWithin};
 ghost use Rattle.seg_postings.specs.FieldReading.{rules_of, is_read};
 ghost use Rattle.seg_postings.specs.PostingsAlone.{is_counted};
+ghost use Rattle.seg_postings.specs.TermForms.{IsDictionaryOf};
 
 use crate::asked_kind::AskedKind;
 use crate::field_postings::FieldPostings;
+use crate::term_form::are_formed;
 use crate::terms_check::{are_counted, are_terms};
 use seg_common::OwnedBytes;
 use seg_termdict::TermDictionary;
@@ -30,32 +32,36 @@ pub struct FieldTerms {
 
 impl Model for FieldTerms {
     ghost use Rattle.std.specs.Prelude.{◌≡◌};
-    ghost use Rattle.seg_termdict.specs.Dictionary.{IsDictionary, terms_of};
+    ghost use Rattle.seg_termdict.specs.Dictionary.{terms_of};
     ghost use Rattle.seg_postings.specs.FieldReading.{FirstPart};
+    ghost use Rattle.seg_postings.specs.TermForms.{IsDictionaryOf};
 
     ghost Value = { FirstPart };
 
     ghost view = { λ f. record { dictionary = f.bytes; rules = record { kind = f.asked.kind; index = f.asked.index; max_doc = f.max_doc } } };
 
-    ghost invariant = { λ f. IsDictionary f.bytes × (f.terms ≡ terms_of f.bytes) };
+    ghost invariant = { λ f. IsDictionaryOf f.asked.kind f.bytes × (f.terms ≡ terms_of f.bytes) };
 }
 
 impl FieldTerms {
-    /// Opens the dictionary of the field with this entry, in a segment of `max_doc` documents. Memory is taken for a
-    /// JSON field alone, for one term at a time.
+    /// Opens the dictionary of the field with this entry, in a segment of `max_doc` documents. Each term has the form that
+    /// the kind of the field asks for: a JSON or a facet field is gone over once for it.
     pub fn open(
         alloc: Global,
         terms: OwnedBytes,
         entry: &FieldEntry,
         max_doc: u32,
     ) -> Result<FieldTerms, PostingsError>
-        ensures ok { IfOk result (λ field. IsDictionary terms × (field ≡ record { dictionary = terms; rules = rules_of entry.now max_doc })) }
-        ensures err { IfErr result (λ e. (e ≡ PostingsError.Malformed) × (IsDictionary terms → ⊥)) }
+        ensures ok { IfOk result (λ field. IsDictionaryOf entry.now.kind terms × (field ≡ record { dictionary = terms; rules = rules_of entry.now max_doc })) }
+        ensures err { IfErr result (λ e. (e ≡ PostingsError.Malformed) × (IsDictionaryOf entry.now.kind terms → ⊥)) }
     {
         let bytes = terms.share();
         let Ok(terms) = TermDictionary::open(terms) else {
             return Err(PostingsError::Malformed);
         };
+        if !are_formed(&terms, entry.kind) {
+            return Err(PostingsError::Malformed);
+        }
         let asked = AskedKind {
             kind: entry.kind,
             index: entry.index,
@@ -81,7 +87,7 @@ impl FieldTerms {
 
     pub(crate) fn terms(&self) -> &TermDictionary
         ensures terms { result.now ≡ terms_of self.now.dictionary }
-        ensures dictionary { IsDictionary self.now.dictionary }
+        ensures dictionary { IsDictionaryOf self.now.rules.kind self.now.dictionary }
     {
         &self.terms
     }

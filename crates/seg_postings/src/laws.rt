@@ -1,7 +1,7 @@
 //! What terms that are read are.
 ghost use Rattle.seg_postings.specs.HeldTerms.{TermsReadHaveShape};
 
-/// The terms of a text field that is read ascend, and each has the form that contents of full shape ask for.
+/// The terms of a field that is read ascend, and each has the form that contents of full shape ask for.
 pub fn terms_read_have_shape()
     ensures { TermsReadHaveShape }
 {}

@@ -8,7 +8,7 @@
 //!
 //! To be read in this order: `record_kind`, `occurrence` (the bytes of a document), `open_term`, `field_parts`,
 //! `field_serializer`, `inverted_index_serializer`; `documents` (what is at the front of bytes), `postings_check`,
-//! `asked_kind`, `range`, `terms_check`, `last_term`, `field_terms`, `field_postings`, `segment_postings`,
+//! `asked_kind`, `term_form`, `range`, `terms_check`, `last_term`, `field_terms`, `field_postings`, `segment_postings`,
 //! `inverted_index_reader`; `laws`.
 #![tactic(auto)]
 
@@ -28,8 +28,10 @@ mod postings_check;
 mod range;
 mod record_kind;
 mod segment_postings;
+mod term_form;
 mod terms_check;
 
+pub use asked_kind::AskedKind;
 pub use documents::TERMINATED;
 pub use field_postings::FieldPostings;
 pub use field_serializer::FieldSerializer;

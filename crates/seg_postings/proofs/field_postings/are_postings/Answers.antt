@@ -15,7 +15,7 @@ are_counted-requires c =
     let dictionary = c.args.field.now.dictionary in
     let body = c.bytes_in-body.result.now in
     let fill : postings_end (last_term None (terms_of dictionary)) ≡ length body = ap (λ (ts : List Term). postings_end (last_term None ts)) (sym c.terms.ensures.terms) ∙ sym c.last_postings_end.ensures ∙ c.if-last_postings_end-body.false in
-    record { within = subst (λ (n : ℕ). AllByRecursion (LiesWithin n (positions_end (last_term None (terms_of dictionary)))) (terms_of dictionary)) fill (terms_within dictionary c.terms.ensures.dictionary) }
+    record { within = subst (λ (n : ℕ). AllByRecursion (LiesWithin n (positions_end (last_term None (terms_of dictionary)))) (terms_of dictionary)) fill (terms_within dictionary c.terms.ensures.dictionary.is_dictionary) }
 
 pub returns-clause-ok : goal.returns-clause-ok
 returns-clause-ok c =
