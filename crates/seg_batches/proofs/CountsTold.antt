@@ -10,11 +10,10 @@ use Rattle.seg_values.specs.declared.schema.FieldEntry.{FieldEntry}
 use Rattle.seg_model.specs.Fields.{Schema, Analyzer, fields}
 use Rattle.seg_model.specs.Reading.{field_terms}
 use Rattle.seg_directory.specs.Composite.{Part, field_of}
-use Rattle.seg_postings.specs.Kinds.{kind_of}
 use Rattle.seg_segment.specs.Standing.{StandFor}
 use Rattle.seg_segment.specs.Totals.{TellTotals}
 use Rattle.seg_segment.specs.declared.segment_files.SegmentFiles.{SegmentFiles}
-use Rattle.seg_build.specs.FieldTerms.{FieldTerms, fields_of}
+use Rattle.seg_build.specs.FieldTerms.{FieldTerms, asked_by, fields_of}
 use Rattle.seg_build.specs.Totals.{TotalsAreCounts}
 use Rattle.seg_batches.specs.BatchTotals.{documents_total}
 
@@ -31,7 +30,7 @@ module _ (schema : Schema) (analyzer : Analyzer) (documents : List Document) whe
   -- what is gathered of a field
   abbrev gathered : ℕ × FieldEntry → FieldTerms
   gathered f =
-      record { kind = kind_of f.1.index; terms = entries (field_terms schema analyzer documents f) }
+      record { asked = asked_by f.1; terms = entries (field_terms schema analyzer documents f) }
 
   gathered_at : (field : ℕ) (entry : FieldEntry) → slice_get schema field ≡ Some entry
       → slice_get (fields_of schema analyzer documents) field ≡ Some (gathered (field, entry))

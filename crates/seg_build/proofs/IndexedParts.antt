@@ -1,22 +1,22 @@
 -- The values of a document in fields that are indexed.
 use Rattle.std.proofs.Common.{◌≡◌, ℕ, true, false, cond, [], ◌∷◌, map, Some, None, Option, sym, refl, ap, ◌∙◌, inl, inr}
-use Rattle.std.specs.Prelude.{filter, nat_eq, ◌&&◌}
+use Rattle.std.specs.Prelude.{filter, nat_eq, not, ◌&&◌}
 use Rattle.std.specs.List.{slice_get}
 use Rattle.std.proofs.lemmas.Bool.{false≢true, cases_Bool}
 use Rattle.std.proofs.lemmas.Bool.Decides.{eqb_tells}
 use Rattle.seg_values.specs.declared.schema.FieldEntry.{FieldEntry}
 use Rattle.seg_values.specs.Tree.{Tree, Document}
-use Rattle.seg_model.specs.Fields.{Schema, is_indexed, is_text, is_field, values_of}
-use Rattle.seg_check.specs.Texts.{is_text_field, text_part}
+use Rattle.seg_model.specs.Fields.{Schema, is_indexed, is_json, is_field, values_of}
+use Rattle.seg_check.specs.IndexedValues.{has_values, value_part}
 use Rattle.seg_segment.specs.Built.{is_built_schema}
 use Rattle.seg_build.specs.Steps.{indexed_part}
-use Rattle.seg_segment.proofs.Exports.{text_entry_at}
+use Rattle.seg_segment.proofs.Exports.{built_field_at, not_json}
 
 module _ (k : ℕ) where
-  values-own : (p : ℕ × Tree) (ps : Document) → nat_eq k p.0 ≡ true → values_of k (p ∷ ps) ≡ p.1 ∷ values_of k ps
+  pub values-own : (p : ℕ × Tree) (ps : Document) → nat_eq k p.0 ≡ true → values_of k (p ∷ ps) ≡ p.1 ∷ values_of k ps
   values-own p ps is = ap (λ b. map (λ (q : ℕ × Tree). q.1) (cond b (p ∷ filter (λ q. nat_eq k q.0) ps) (filter (λ q. nat_eq k q.0) ps))) is
 
-  values-other : (p : ℕ × Tree) (ps : Document) → nat_eq k p.0 ≡ false → values_of k (p ∷ ps) ≡ values_of k ps
+  pub values-other : (p : ℕ × Tree) (ps : Document) → nat_eq k p.0 ≡ false → values_of k (p ∷ ps) ≡ values_of k ps
   values-other p ps is = ap (λ b. map (λ (q : ℕ × Tree). q.1) (cond b (p ∷ filter (λ q. nat_eq k q.0) ps) (filter (λ q. nat_eq k q.0) ps))) is
 
 module _ (schema : Schema) where
@@ -65,14 +65,14 @@ module _ (schema : Schema) where
       | inr h ↦ values_past p ps h.0 ∙ values_dropped ps off
     ]
 
--- where fields are built, the pairs in indexed fields are those in indexed text fields
-pub text_part-built : (schema : Schema) → is_built_schema schema ≡ true → (ps : Document) → text_part schema ps ≡ indexed_part schema ps
-text_part-built schema built [] = refl
-text_part-built schema built (p ∷ ps) = λ i. cond (same (slice_get schema p.0) refl i) (p ∷ text_part-built schema built ps i) (text_part-built schema built ps i)
+-- where fields are built, the pairs in indexed fields are those whose values are indexed
+pub value_part-built : (schema : Schema) → is_built_schema schema ≡ true → (ps : Document) → value_part schema ps ≡ indexed_part schema ps
+value_part-built schema built [] = refl
+value_part-built schema built (p ∷ ps) = λ i. cond (same (slice_get schema p.0) refl i) (p ∷ value_part-built schema built ps i) (value_part-built schema built ps i)
   where
-    same : (o : Option FieldEntry) → slice_get schema p.0 ≡ o → is_field is_text_field o ≡ is_field is_indexed o
+    same : (o : Option FieldEntry) → slice_get schema p.0 ≡ o → is_field has_values o ≡ is_field is_indexed o
     same None at = refl
     same (Some e) at = elim (cases_Bool (is_indexed e)) [
-      | inl on ↦ ap (λ b. b && is_text e.kind) on ∙ ap is_text (text_entry_at schema p.0 e built at on).kind ∙ sym on
-      | inr off ↦ ap (λ b. b && is_text e.kind) off ∙ sym off
+      | inl on ↦ ap (λ b. b && not (is_json e.kind)) on ∙ ap not (not_json e.kind (built_field_at schema p.0 e built at on).kind) ∙ sym on
+      | inr off ↦ ap (λ b. b && not (is_json e.kind)) off ∙ sym off
     ]

@@ -1,41 +1,38 @@
 -- What a writer keeps after one more document.
 use Rattle.std.proofs.Common.{◌≡◌, ℕ, suc, ◌+◌, ◌<◌, ◌≤◌, ◌^◌, ◌-◌, Bool, true, List, [], ◌∷◌, ◌++◌, map, length, take, drop, get_or, Some, None, Option, option_map, refl, sym, ap, ◌∙◌, subst, arith, length-append}
 use Rattle.std.specs.Prelude.{IsSomeAnd, IfSome}
-use Rattle.std.specs.List.{slice_get, list_all, AllByRecursion}
+use Rattle.std.specs.List.{list_all}
 use Rattle.std.proofs.lemmas.Bool.{and_from, and_parts}
 use Rattle.std.proofs.lemmas.List.{length-map, take_at}
-use Rattle.seg_words.specs.declared.token.Token.{Token}
 use Rattle.seg_values.specs.declared.schema.FieldEntry.{FieldEntry}
 use Rattle.seg_values.specs.Tree.{Tree, Document}
 use Rattle.seg_values.specs.Utf8.{IsUtf8Document}
 use Rattle.seg_model.specs.Built.{is_taken}
 use Rattle.seg_model.specs.Fields.{Schema, Analyzer}
-use Rattle.seg_model.specs.Occurrences.{occurrences}
 use Rattle.seg_model.specs.Reading.{stored_document}
 use Rattle.seg_values.specs.StoredForm.{stored_form}
 use Rattle.seg_store.specs.BlockLaw.{AreTakenLast}
 use Rattle.seg_store.specs.Writing.{taken_count}
 use Rattle.seg_segment.specs.Built.{is_built_schema}
-use Rattle.seg_check.specs.Texts.{text_in, text_of, document_texts}
-use Rattle.seg_check.specs.declared.field_text.FieldText.{FieldText}
+use Rattle.seg_check.specs.IndexedValues.{IndexedContent, value_in, value_of, document_values}
+use Rattle.seg_check.specs.declared.indexed_value.IndexedValue.{IndexedValue}
 use Rattle.seg_build.specs.Kept.{Kept}
-use Rattle.seg_build.specs.Field.{count_in}
 use Rattle.seg_build.specs.Lengths.{HaveLengths, with_lengths}
-use Rattle.seg_build.specs.MemoryUsage.{total, occurrence_count, text_count}
+use Rattle.seg_build.specs.MemoryUsage.{occurrence_count, value_count}
 use Rattle.seg_build.specs.SegmentWriting.{kept_of, Stores, IsKeptOf, IsUnderWay, HasPlace, Adds, HasRoom, HasTaken}
-use Rattle.seg_build.specs.Steps.{AllFit, fresh, indexed_part, with_documents, with_pairs, with_texts}
+use Rattle.seg_build.specs.Steps.{AllFit, fresh, indexed_part, with_documents, with_pairs, with_values}
 use Rattle.seg_build.specs.StoredBlocks.{stored_with}
 use Rattle.seg_build.specs.declared.field.FieldPostings.{FieldPostings}
 use Rattle.seg_build.specs.declared.writer_parts.WriterParts.{WriterParts}
 use Rattle.seg_common.proofs.Lists.{all_push}
-use Rattle.seg_build.proofs.FittingTexts.{document_fits}
-use Rattle.seg_build.proofs.KeptLengths.{fields_turn, tokens_in, lengths_turn}
-use Rattle.seg_build.proofs.IndexedParts.{text_part-built}
+use Rattle.seg_build.proofs.FittingValues.{document_fits}
+use Rattle.seg_build.proofs.KeptLengths.{fields_turn, lengths_turn}
+use Rattle.seg_build.proofs.IndexedParts.{value_part-built}
 use Rattle.seg_build.proofs.StoringDocuments.{HasStored, shallow_taken, stored_turn}
 use Rattle.seg_build.proofs.Taken.{passed}
-use Rattle.seg_build.proofs.TextSteps.{texts-pairs}
-use Rattle.seg_build.proofs.MemoryTaken.{total-last, occurring, all_occurring}
-use Rattle.seg_build.proofs.TextCounts.{all_added, none_counted, texts_within}
+use Rattle.seg_build.proofs.ValueSteps.{values-pairs}
+use Rattle.seg_build.proofs.MemoryTaken.{total-last}
+use Rattle.seg_build.proofs.ValueCounts.{values_counted}
 use Rattle.seg_build.proofs.Whole.{all_more, all_fresh, length-with_documents}
 
 -- ---- lists with one more at the end
@@ -91,34 +88,34 @@ module _ (schema : Schema) (analyzer : Analyzer) (entries : is_built_schema sche
   few : many < 2 ^ 31 - 1
   few = omega (arith, count, place)
 
-  pub has_room : (found : List FieldText) → map (text_in d) found ≡ document_texts schema analyzer d → HasRoom d found old
+  pub has_room : (found : List IndexedValue) → map (value_in d) found ≡ document_values schema analyzer d → HasRoom d found old
   has_room found found_are = record {
     place = place;
     shallow = shallow_taken d (passed schema analyzer d taken).shallow;
     fit =
         let fit = document_fits schema analyzer entries d taken documents (with_documents schema analyzer 0 (map (λ _. fresh) schema) documents) (all_more schema analyzer entries [] (map (λ _. fresh) schema) documents (all_fresh schema analyzer entries)) in
-        let texts_are : map (text_in d) found ≡ map (text_of schema analyzer) (indexed_part schema d) = found_are ∙ ap (map (text_of schema analyzer)) (text_part-built schema entries d) in
-        subst (λ (n : ℕ). AllFit n old.fields (map (text_in d) found)) (sym count)
-        (subst (λ (fs : List FieldPostings). AllFit many fs (map (text_in d) found)) (sym are.fields)
-        (subst (λ (ts : List (ℕ × List Token)). AllFit many (with_documents schema analyzer 0 (map (λ _. fresh) schema) documents) ts) (sym texts_are) fit));
+        let values_are : map (value_in d) found ≡ map (value_of schema analyzer) (indexed_part schema d) = found_are ∙ ap (map (value_of schema analyzer)) (value_part-built schema entries d) in
+        subst (λ (n : ℕ). AllFit n old.fields (map (value_in d) found)) (sym count)
+        (subst (λ (fs : List FieldPostings). AllFit many fs (map (value_in d) found)) (sym are.fields)
+        (subst (λ (vs : List (ℕ × IndexedContent)). AllFit many (with_documents schema analyzer 0 (map (λ _. fresh) schema) documents) vs) (sym values_are) fit));
     store = if_some _ old.store (weaker (Stores schema size documents) (λ w. taken_count w < 2 ^ 31 - 1) old.store (λ w s. omega (arith, s.count, few)) are.store);
   }
 
-  module _ (in_order : AreTakenLast) (found : List FieldText) (found_are : map (text_in d) found ≡ document_texts schema analyzer d) (new : Kept) (took : HasTaken schema d found stamp old new) where
-    abbrev texts : List (ℕ × List Token)
-    texts = map (text_in d) found
+  module _ (in_order : AreTakenLast) (found : List IndexedValue) (found_are : map (value_in d) found ≡ document_values schema analyzer d) (new : Kept) (took : HasTaken schema d found stamp old new) where
+    abbrev values : List (ℕ × IndexedContent)
+    values = map (value_in d) found
 
-    texts_are : texts ≡ map (text_of schema analyzer) (indexed_part schema d)
-    texts_are = found_are ∙ ap (map (text_of schema analyzer)) (text_part-built schema entries d)
+    values_are : values ≡ map (value_of schema analyzer) (indexed_part schema d)
+    values_are = found_are ∙ ap (map (value_of schema analyzer)) (value_part-built schema entries d)
 
-    places : map (λ (t : FieldText). t.field) found ≡ map (λ (p : ℕ × Tree). p.0) (indexed_part schema d)
-    places = in_texts found ∙ ap (map (λ (t : ℕ × List Token). t.0)) texts_are ∙ in_pairs (indexed_part schema d)
+    places : map (λ (v : IndexedValue). v.field) found ≡ map (λ (p : ℕ × Tree). p.0) (indexed_part schema d)
+    places = in_values found ∙ ap (map (λ (v : ℕ × IndexedContent). v.0)) values_are ∙ in_pairs (indexed_part schema d)
       where
-        in_texts : (ts : List FieldText) → map (λ (t : FieldText). t.field) ts ≡ map (λ (t : ℕ × List Token). t.0) (map (text_in d) ts)
-        in_texts [] = refl
-        in_texts (t ∷ ts) = ap (λ l. t.field ∷ l) (in_texts ts)
+        in_values : (vs : List IndexedValue) → map (λ (v : IndexedValue). v.field) vs ≡ map (λ (v : ℕ × IndexedContent). v.0) (map (value_in d) vs)
+        in_values [] = refl
+        in_values (v ∷ vs) = ap (λ l. v.field ∷ l) (in_values vs)
 
-        in_pairs : (ps : Document) → map (λ (t : ℕ × List Token). t.0) (map (text_of schema analyzer) ps) ≡ map (λ (p : ℕ × Tree). p.0) ps
+        in_pairs : (ps : Document) → map (λ (v : ℕ × IndexedContent). v.0) (map (value_of schema analyzer) ps) ≡ map (λ (p : ℕ × Tree). p.0) ps
         in_pairs [] = refl
         in_pairs (p ∷ ps) = ap (λ l. p.0 ∷ l) (in_pairs ps)
 
@@ -126,7 +123,7 @@ module _ (schema : Schema) (analyzer : Analyzer) (entries : is_built_schema sche
     now = are.fields ∙ ap (with_documents schema analyzer 0 (map (λ _. fresh) schema)) (sym before)
 
     after : new.fields ≡ with_pairs schema analyzer many old.fields (indexed_part schema d)
-    after = took.fields ∙ ap (λ n. with_texts n old.fields texts) count ∙ ap (with_texts many old.fields) texts_are ∙ texts-pairs schema analyzer many old.fields (indexed_part schema d)
+    after = took.fields ∙ ap (λ n. with_values n old.fields values) count ∙ ap (with_values many old.fields) values_are ∙ values-pairs schema analyzer many old.fields (indexed_part schema d)
 
     here : drop many all ≡ d ∷ drop (many + 1) all
     here = drop-front documents d
@@ -141,26 +138,9 @@ module _ (schema : Schema) (analyzer : Analyzer) (entries : is_built_schema sche
     as_many : length new.fields ≡ length schema
     as_many = ap length fields_now ∙ length-with_documents schema analyzer 0 (map (λ (e : FieldEntry). fresh) schema) all ∙ length-map schema (λ (e : FieldEntry). fresh)
 
-    recorded : total (count_in many) new.fields ≡ occurrence_count schema analyzer d
-    recorded = all_occurring schema analyzer d many new.fields 0 schema as_many
-        (λ k e at. let has = tokens_in schema analyzer all many within entries d here (map (λ _. fresh) schema) old.fields new.fields refl now after k e at in
-        record { field = has.field; at = has.at; count = has.count ∙ occurring schema analyzer d k e entries at ∙ ap (λ m. length (occurrences schema analyzer d m)) (let z : k ≡ 0 + k = omega arith in z) })
-
-    as_many_before : length old.fields ≡ length schema
-    as_many_before = ap length are.fields ∙ length-with_documents schema analyzer 0 (map (λ (e : FieldEntry). fresh) schema) documents ∙ length-map schema (λ (e : FieldEntry). fresh)
-
-    none_before : total (count_in many) old.fields ≡ 0
-    none_before = none_counted many old.fields schema as_many_before
-        (λ k e at. let has = all_more schema analyzer entries [] (map (λ _. fresh) schema) documents (all_fresh schema analyzer entries) k e at in
-        record { field = has.field; at = ap (λ fs. slice_get fs k) are.fields ∙ has.at; count = has.new.count })
-
-    -- its texts are counted as its fields are
-    counted_as : text_count texts ≡ occurrence_count schema analyzer d
-    counted_as =
-        let put : new.fields ≡ with_texts many old.fields texts = took.fields ∙ ap (λ n. with_texts n old.fields texts) count in
-        let within_fields = subst (AllByRecursion (λ t. t.0 < length schema)) (sym texts_are) (texts_within schema analyzer d) in
-        let sum = all_added many (length schema) old.fields texts as_many_before within_fields in
-        omega (arith, ap (total (count_in many)) put, sum, none_before, recorded)
+    -- how often terms occur in its values
+    counted_as : value_count values ≡ occurrence_count schema analyzer d
+    counted_as = ap value_count values_are ∙ values_counted schema analyzer entries d
 
     pub one_more : IsKeptOf schema analyzer size (documents ++ d ∷ []) (stamps ++ stamp ∷ []) new
     one_more = record {
@@ -169,9 +149,9 @@ module _ (schema : Schema) (analyzer : Analyzer) (entries : is_built_schema sche
       utf8 = all_push IsUtf8Document documents d are.utf8 utf8;
       fields = fields_now;
       norms = subst (λ ds. IsSomeAnd new.norms (HaveLengths schema analyzer ds)) whole
-          (lengths_turn schema analyzer all many within entries d here (map (λ _. fresh) schema) old.fields new.fields refl now after as_many (map (λ (t : FieldText). t.field) found) places old.norms new.norms
+          (lengths_turn schema analyzer all many within entries d here (map (λ _. fresh) schema) old.fields new.fields refl now after as_many (map (λ (v : IndexedValue). v.field) found) places old.norms new.norms
           (subst (λ ds. IsSomeAnd old.norms (HaveLengths schema analyzer ds)) (sym before) are.norms)
-          (took.norms ∙ ap (λ n. option_map (with_lengths n new.fields (map (λ (t : FieldText). t.field) found)) old.norms) count));
+          (took.norms ∙ ap (λ n. option_map (with_lengths n new.fields (map (λ (v : IndexedValue). v.field) found)) old.norms) count));
       store = weaker (HasStored schema size all (many + 1)) (Stores schema size all) new.store (λ w s. record { read = s.read ∙ ap (map (stored_document schema)) whole; count = s.taken ∙ sym more; forms = s.forms ∙ ap (map (stored_form schema)) whole; cut = s.cut ∙ ap (λ ds. stored_with size (map (stored_form schema) ds)) whole }) stored;
       stamped = took.stamps ∙ ap (λ l. l ++ stamp ∷ []) are.stamped;
       each = omega (arith, length-append stamps (stamp ∷ []), more, are.each);
@@ -191,10 +171,10 @@ module _ (schema : Schema) (analyzer : Analyzer) (entries : is_built_schema sche
   under h = subst (λ x. IfSome x (λ p. IsUnderWay schema analyzer (kept_of p))) is h
 
   -- a writer under way can take one more document
-  pub room_of : (texts : List FieldText) → map (text_in d) texts ≡ document_texts schema analyzer d → IfSome parts (λ p. IsUnderWay schema analyzer (kept_of p)) → HasRoom d texts (kept_of p)
-  room_of texts texts_are h = let u = under h in has_room schema analyzer entries u.documents d taken utf8 u.block_size u.stamps stamp (kept_of p) u.are place texts texts_are
+  pub room_of : (values : List IndexedValue) → map (value_in d) values ≡ document_values schema analyzer d → IfSome parts (λ p. IsUnderWay schema analyzer (kept_of p)) → HasRoom d values (kept_of p)
+  room_of values values_are h = let u = under h in has_room schema analyzer entries u.documents d taken utf8 u.block_size u.stamps stamp (kept_of p) u.are place values values_are
 
-  module _ (in_order : AreTakenLast) (texts : List FieldText) (texts_are : map (text_in d) texts ≡ document_texts schema analyzer d) (new : WriterParts) (took : HasTaken schema d texts stamp (kept_of p) (kept_of new)) where
+  module _ (in_order : AreTakenLast) (values : List IndexedValue) (values_are : map (value_in d) values ≡ document_values schema analyzer d) (new : WriterParts) (took : HasTaken schema d values stamp (kept_of p) (kept_of new)) where
     -- is under way after it
     pub still_under_way : IfSome parts (λ p. IsUnderWay schema analyzer (kept_of p)) → IsUnderWay schema analyzer (kept_of new)
     still_under_way h =
@@ -203,7 +183,7 @@ module _ (schema : Schema) (analyzer : Analyzer) (entries : is_built_schema sche
           block_size = u.block_size;
           documents = u.documents ++ d ∷ [];
           stamps = u.stamps ++ stamp ∷ [];
-          are = one_more schema analyzer entries u.documents d taken utf8 u.block_size u.stamps stamp (kept_of p) u.are place in_order texts texts_are (kept_of new) took;
+          are = one_more schema analyzer entries u.documents d taken utf8 u.block_size u.stamps stamp (kept_of p) u.are place in_order values values_are (kept_of new) took;
         }
 
     -- and has added it
@@ -211,5 +191,5 @@ module _ (schema : Schema) (analyzer : Analyzer) (entries : is_built_schema sche
     adds id size = record {
       place = to_parts HasPlace parts p is place;
       taken = taken;
-      behind = λ documents stamps h. one_more schema analyzer entries documents d taken utf8 size stamps stamp (kept_of p) (of_parts (IsKeptOf schema analyzer size documents stamps) parts p is h) place in_order texts texts_are (kept_of new) took;
+      behind = λ documents stamps h. one_more schema analyzer entries documents d taken utf8 size stamps stamp (kept_of p) (of_parts (IsKeptOf schema analyzer size documents stamps) parts p is h) place in_order values values_are (kept_of new) took;
     }

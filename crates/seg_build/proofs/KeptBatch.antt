@@ -63,7 +63,7 @@ module _ (schema : Schema) (analyzer : Analyzer) (built : is_built_schema schema
   as_many_recorded fields is = ap length is ∙ length-recorded_fields schema (listed kept.fields) (length-map kept.fields (λ (f : FieldPostings). entries f.terms) ∙ as_many_fields)
 
   pub are_fields : (fields : List FieldTerms) → fields ≡ recorded_fields schema (listed kept.fields) → fields ≡ fields_of schema analyzer documents
-  are_fields fields is = is ∙ ap (recorded_fields schema) terms ∙ recorded_are_fields schema analyzer documents built
+  are_fields fields is = is ∙ ap (recorded_fields schema) terms ∙ recorded_are_fields schema analyzer documents
 
   pub few_stamps : length kept.stamps < 2 ^ 31
   few_stamps = subst (λ n. n < 2 ^ 31) (sym (ap length are.stamped ∙ are.each)) are.few

@@ -7,48 +7,39 @@ use Rattle.std.proofs.lemmas.Bool.Decides.{eqb_tells}
 use Rattle.std.proofs.lemmas.List.{length-map, length-take-le, map-append}
 use Rattle.std.proofs.lemmas.List.FromFn.{length-enumerate_from}
 use Rattle.std.proofs.lemmas.Option.{same_Some, slice_get_within}
-use Rattle.seg_words.specs.declared.token.Token.{Token}
 use Rattle.seg_values.specs.declared.schema.FieldEntry.{FieldEntry}
-use Rattle.seg_values.specs.Tree.{Tree, Document}
-use Rattle.seg_model.specs.Checked.{count_of}
+use Rattle.seg_values.specs.Tree.{Document}
 use Rattle.seg_model.specs.Fields.{Schema, Analyzer, fields, is_indexed, has_lengths, indexing_tokenizer, values_of}
-use Rattle.seg_model.specs.Norms.{token_count, kind_length, field_length, length_id, field_norms}
-use Rattle.seg_model.specs.Occurrences.{counted, value_tokens}
+use Rattle.seg_model.specs.Norms.{field_length, length_id, field_norms}
 use Rattle.seg_norms.specs.FieldNorms.{no_norms, filled, with_length}
 use Rattle.seg_build.specs.Batch.{kept_norms}
 use Rattle.seg_segment.specs.Built.{is_built_schema}
-use Rattle.seg_build.specs.Field.{count_in, added}
-use Rattle.seg_build.specs.Lengths.{AreUpTo, HaveLengths, with_counts, with_lengths}
+use Rattle.seg_build.specs.Field.{length_of}
+use Rattle.seg_build.specs.Lengths.{AreUpTo, HaveLengths, with_each_length, with_lengths}
 use Rattle.seg_build.specs.Steps.{fresh, indexed_part, with_pairs, with_documents}
 use Rattle.seg_build.specs.declared.field.FieldPostings.{FieldPostings}
-use Rattle.seg_segment.proofs.Exports.{text_entry_at}
-use Rattle.seg_build.proofs.Fitting.{element_at}
+use Rattle.seg_segment.proofs.Exports.{built_field_at, not_json}
+use Rattle.seg_check.specs.IndexedValues.{content_of}
+use Rattle.seg_build.proofs.Contents.{length_of_values, kind_lengths}
+use Rattle.seg_build.proofs.Elements.{element_at}
 use Rattle.seg_build.proofs.IndexedParts.{values_kept}
-use Rattle.seg_build.proofs.Places.{texts_of, texts_of-passed, added_all, count_in-added, field_after}
-use Rattle.seg_build.proofs.RecordedLengths.{Kept, IsNoneOf, AreRecorded, length-with_lengths, recorded_at, all_recorded, counts_filled}
+use Rattle.seg_build.proofs.Places.{contents_of, contents_of-passed, added_all, length_of-added_all, field_after}
+use Rattle.seg_build.proofs.RecordedLengths.{Kept, IsNoneOf, AreRecorded, length-with_lengths, recorded_at, all_recorded, lengths_filled}
 use Rattle.seg_build.proofs.Whole.{all_more, all_fresh}
 
--- ---- the count of a document's tokens
+-- ---- the length of a field in a document
 
-pub count_in-added_all : (id : ℕ) (field : FieldPostings) (vs : List (List Token)) → count_in id (added_all id field vs) ≡ count_in id field + count_of vs
-count_in-added_all id field [] = omega arith
-count_in-added_all id field (v ∷ vs) = omega (arith, count_in-added_all id (added id field v) vs, count_in-added id field v)
-
-count_of_texts : (analyze : List ℕ → List Token) (ts : List Tree) → count_of (map (value_tokens analyze) ts) ≡ token_count analyze ts
-count_of_texts analyze [] = refl
-count_of_texts analyze (t ∷ ts) = ap (λ n. length (counted (value_tokens analyze t)) + n) (count_of_texts analyze ts)
-
--- a field at a place counts this many tokens of a document, where it has lengths
-record HasCount (id : ℕ) (now : List FieldPostings) (k : ℕ) (e : FieldEntry) (n : ℕ) : Type 0 where
+-- a field at a place has this length in a document, where it has lengths
+record HasNorm (id : ℕ) (now : List FieldPostings) (k : ℕ) (e : FieldEntry) (n : ℕ) : Type 0 where
   field : FieldPostings
   at : slice_get now k ≡ Some field
-  count : has_lengths e ≡ true → count_in id field ≡ n
+  len : has_lengths e ≡ true → length_of id field ≡ n
 
--- a field at a place counts this many tokens of a document
-pub record HasTokens (id : ℕ) (now : List FieldPostings) (k n : ℕ) : Type 0 where
-  pub field : FieldPostings
-  pub at : slice_get now k ≡ Some field
-  pub count : count_in id field ≡ n
+-- a field at a place has this length in a document
+record HasLength (id : ℕ) (now : List FieldPostings) (k n : ℕ) : Type 0 where
+  field : FieldPostings
+  at : slice_get now k ≡ Some field
+  len : length_of id field ≡ n
 
 -- ---- one document more
 
@@ -90,28 +81,28 @@ module _ (analyzer : Analyzer) where
       first = elim (has_lengths x) as (λ b. cond {A = Option (List ℕ)} b (Some []) None ≡ cond {A = Option (List ℕ)} b (Some (cond {A = List ℕ} b [] [])) None) [ true ↦ refl | false ↦ refl ]
 
   module _ (before : List Document) (d : Document) (id : ℕ) (many : length before ≡ id) where
-    one_more : (f : ℕ × FieldEntry) (count : ℕ) → (has_lengths f.1 ≡ true → count ≡ field_length analyzer f.1 (values_of f.0 d)) → option_map (with_length id count) (kept_of before f) ≡ kept_of (before ++ d ∷ []) f
-    one_more f count is =
-        (elim (has_lengths f.1) as (λ b. (b ≡ true → count ≡ field_length analyzer f.1 (values_of f.0 d)) → option_map (with_length id count) (cond b (Some (cond b (map (id_of f) before) [])) None) ≡ cond b (Some (cond b (map (id_of f) (before ++ d ∷ [])) [])) None) [
+    one_more : (f : ℕ × FieldEntry) (len : ℕ) → (has_lengths f.1 ≡ true → len ≡ field_length analyzer f.1 (values_of f.0 d)) → option_map (with_length id len) (kept_of before f) ≡ kept_of (before ++ d ∷ []) f
+    one_more f len is =
+        (elim (has_lengths f.1) as (λ b. (b ≡ true → len ≡ field_length analyzer f.1 (values_of f.0 d)) → option_map (with_length id len) (cond b (Some (cond b (map (id_of f) before) [])) None) ≡ cond b (Some (cond b (map (id_of f) (before ++ d ∷ [])) [])) None) [
           | true ↦ λ is.
               let none : id - length (map (id_of f) before) ≡ 0 = omega (arith, many, length-map before (id_of f)) in
-              ap Some (ap (λ n. (map (id_of f) before ++ replicate n 0) ++ length_id count ∷ []) none
-              ∙ ap (λ l. l ++ length_id count ∷ []) (append-nil (map (id_of f) before))
+              ap Some (ap (λ n. (map (id_of f) before ++ replicate n 0) ++ length_id len ∷ []) none
+              ∙ ap (λ l. l ++ length_id len ∷ []) (append-nil (map (id_of f) before))
               ∙ ap (λ n. map (id_of f) before ++ length_id n ∷ []) (is refl)
               ∙ sym (map-append (id_of f) before (d ∷ [])))
           | false ↦ λ is. refl
         ]) is
 
-    all_more_ids : (now : List FieldPostings) (n : ℕ) (xs : List FieldEntry) → ((i : ℕ) (e : FieldEntry) → slice_get xs i ≡ Some e → HasCount id now i e (field_length analyzer e (values_of (n + i) d))) → with_counts id now (map (kept_of before) (enumerate_from n xs)) ≡ map (kept_of (before ++ d ∷ [])) (enumerate_from n xs)
+    all_more_ids : (now : List FieldPostings) (n : ℕ) (xs : List FieldEntry) → ((i : ℕ) (e : FieldEntry) → slice_get xs i ≡ Some e → HasNorm id now i e (field_length analyzer e (values_of (n + i) d))) → with_each_length id now (map (kept_of before) (enumerate_from n xs)) ≡ map (kept_of (before ++ d ∷ [])) (enumerate_from n xs)
     all_more_ids [] n [] h = refl
     all_more_ids (f ∷ now) n [] h = refl
     all_more_ids [] n (x ∷ xs) h = absurd (false≢true (ap is_some (h 0 x refl).at))
     all_more_ids (f ∷ now) n (x ∷ xs) h =
         let first = h 0 x refl in
-        let count : has_lengths x ≡ true → count_in id f ≡ field_length analyzer x (values_of n d) = λ on.
-        ap (count_in id) (same_Some f first.field first.at) ∙ first.count on ∙ ap (λ m. field_length analyzer x (values_of m d)) (let z : n + 0 ≡ n = omega arith in z) in
-        let here = one_more (n, x) (count_in id f) count in
-        let rest = all_more_ids now (n + 1) xs (λ i e at. let s = h (suc i) e at in record { field = s.field; at = s.at; count = λ on. s.count on ∙ ap (λ m. field_length analyzer e (values_of m d)) (let z : n + suc i ≡ n + 1 + i = omega arith in z) }) in
+        let count : has_lengths x ≡ true → length_of id f ≡ field_length analyzer x (values_of n d) = λ on.
+        ap (length_of id) (same_Some f first.field first.at) ∙ first.len on ∙ ap (λ m. field_length analyzer x (values_of m d)) (let z : n + 0 ≡ n = omega arith in z) in
+        let here = one_more (n, x) (length_of id f) count in
+        let rest = all_more_ids now (n + 1) xs (λ i e at. let s = h (suc i) e at in record { field = s.field; at = s.at; len = λ on. s.len on ∙ ap (λ m. field_length analyzer e (values_of m d)) (let z : n + suc i ≡ n + 1 + i = omega arith in z) }) in
         λ j. here j ∷ rest j
 
   up_to : (before : List Document) (n : ℕ) (xs : List FieldEntry) → AreUpTo (length before) (map (kept_of before) (enumerate_from n xs))
@@ -153,12 +144,12 @@ up_to_at n [] k o h at = absurd (false≢true (ap is_some at))
 up_to_at n (x ∷ xs) zero o h at = subst (λ y. IfSome y (λ ids. length ids ≤ n)) (same_Some x o at) h.0
 up_to_at n (x ∷ xs) (suc k) o h at = up_to_at n xs k o h.1 at
 
--- a field with no value among these has no text
-no_texts : (analyzer : Analyzer) (e : FieldEntry) (k : ℕ) (ps : Document) → IsNoneOf k (map (λ p. p.0) ps) → texts_of analyzer e k ps ≡ []
-no_texts analyzer e k [] h = refl
-no_texts analyzer e k (p ∷ ps) h = elim (eqb_tells k p.0) [
+-- a field with no value among these is given nothing
+no_contents : (analyzer : Analyzer) (e : FieldEntry) (k : ℕ) (ps : Document) → IsNoneOf k (map (λ p. p.0) ps) → contents_of analyzer e k ps ≡ []
+no_contents analyzer e k [] h = refl
+no_contents analyzer e k (p ∷ ps) h = elim (eqb_tells k p.0) [
   | inl own ↦ absurd (h.0 own.1)
-  | inr other ↦ texts_of-passed analyzer e k p ps other.0 ∙ no_texts analyzer e k ps h.1
+  | inr other ↦ contents_of-passed analyzer e k p ps other.0 ∙ no_contents analyzer e k ps h.1
 ]
 
 module _ (schema : Schema) (analyzer : Analyzer) (ds : List Document) (i : ℕ) (within : i ≤ length ds) where
@@ -172,50 +163,49 @@ module _ (schema : Schema) (analyzer : Analyzer) (ds : List Document) (i : ℕ) 
         ∙ sym (with_documents-more schema analyzer 0 initial (take i ds) d)
         ∙ ap (with_documents schema analyzer 0 initial) (sym (take-more ds i d here))
 
-    -- the tokens of each field that its texts are cut into
-    pub tokens_in : initial ≡ map (λ _. fresh) schema → now ≡ with_documents schema analyzer 0 initial (take i ds) → after ≡ with_pairs schema analyzer i now (indexed_part schema d) → (k : ℕ) (e : FieldEntry) → slice_get schema k ≡ Some e → HasTokens i after k (count_of (texts_of analyzer e k (indexed_part schema d)))
-    tokens_in first is more k e at_e =
+    -- what the values of each field add to its length
+    length_in_field : initial ≡ map (λ _. fresh) schema → now ≡ with_documents schema analyzer 0 initial (take i ds) → after ≡ with_pairs schema analyzer i now (indexed_part schema d) → (k : ℕ) (e : FieldEntry) → slice_get schema k ≡ Some e → HasLength i after k (length_of_values (contents_of analyzer e k (indexed_part schema d)))
+    length_in_field first is more k e at_e =
         let whole : now ≡ with_documents schema analyzer 0 (map (λ _. fresh) schema) (take i ds) = is ∙ ap (λ fs. with_documents schema analyzer 0 fs (take i ds)) first in
         let has = all_more schema analyzer entries [] (map (λ _. fresh) schema) (take i ds) (all_fresh schema analyzer entries) k e at_e in
         let qs = indexed_part schema d in
-        let vs = texts_of analyzer e k qs in
+        let vs = contents_of analyzer e k qs in
         let id : length (take i ds) ≡ i = length-take-le i ds within in
-        let new : count_in i has.field ≡ 0 = ap (λ n. count_in n has.field) (sym id) ∙ has.new.count in
+        let new : length_of i has.field ≡ 0 = ap (λ n. length_of n has.field) (sym id) ∙ has.new.len in
         record {
           field = added_all i has.field vs;
           at = ap (λ fs. slice_get fs k) more ∙ field_after schema analyzer i k e at_e now has.field qs (ap (λ fs. slice_get fs k) whole ∙ has.at);
-          count = omega (arith, new, count_in-added_all i has.field vs);
+          len = omega (arith, new, length_of-added_all i has.field vs);
         }
 
-    counted_at : initial ≡ map (λ _. fresh) schema → now ≡ with_documents schema analyzer 0 initial (take i ds) → after ≡ with_pairs schema analyzer i now (indexed_part schema d) → (k : ℕ) (e : FieldEntry) → slice_get schema k ≡ Some e → HasCount i after k e (field_length analyzer e (values_of k d))
-    counted_at first is more k e at_e =
-        let has = tokens_in first is more k e at_e in
+    length_at_field : initial ≡ map (λ _. fresh) schema → now ≡ with_documents schema analyzer 0 initial (take i ds) → after ≡ with_pairs schema analyzer i now (indexed_part schema d) → (k : ℕ) (e : FieldEntry) → slice_get schema k ≡ Some e → HasNorm i after k e (field_length analyzer e (values_of k d))
+    length_at_field first is more k e at_e =
+        let has = length_in_field first is more k e at_e in
         record {
           field = has.field;
           at = has.at;
-          count = λ long.
+          len = λ long.
               let on = (and_parts (is_indexed e) e.norms long).0 in
-              has.count
-              ∙ count_of_texts (analyzer (indexing_tokenizer e)) (values_of k (indexed_part schema d))
-              ∙ ap (token_count (analyzer (indexing_tokenizer e))) (values_kept schema k e at_e d on)
-              ∙ ap (λ kind. kind_length kind (analyzer (indexing_tokenizer e)) (values_of k d)) (sym (text_entry_at schema k e entries at_e on).kind);
+              has.len
+              ∙ ap (λ vs. length_of_values (map (content_of analyzer e) vs)) (values_kept schema k e at_e d on)
+              ∙ kind_lengths (analyzer (indexing_tokenizer e)) e.kind (not_json e.kind (built_field_at schema k e entries at_e on).kind) (values_of k d);
         }
 
     -- and the lengths with its own
     module _ (first : initial ≡ map (λ _. fresh) schema) (is : now ≡ with_documents schema analyzer 0 initial (take i ds)) (more : after ≡ with_pairs schema analyzer i now (indexed_part schema d)) (many : length after ≡ length schema) (places : List ℕ) (are : places ≡ map (λ p. p.0) (indexed_part schema d)) where
-      none_counted : (k : ℕ) (f : FieldPostings) → slice_get after k ≡ Some f → IsNoneOf k places → count_in i f ≡ 0
-      none_counted k f at_f none =
+      none_added : (k : ℕ) (f : FieldPostings) → slice_get after k ≡ Some f → IsNoneOf k places → length_of i f ≡ 0
+      none_added k f at_f none =
           let entry = element_at schema k (omega (arith, many, slice_get_within after k f at_f)) in
-          let has = tokens_in first is more k entry.element entry.at in
-          ap (count_in i) (same_Some f has.field (sym at_f ∙ has.at))
-          ∙ has.count
-          ∙ ap count_of (no_texts analyzer entry.element k (indexed_part schema d) (subst (IsNoneOf k) are none))
+          let has = length_in_field first is more k entry.element entry.at in
+          ap (length_of i) (same_Some f has.field (sym at_f ∙ has.at))
+          ∙ has.len
+          ∙ ap length_of_values (no_contents analyzer entry.element k (indexed_part schema d) (subst (IsNoneOf k) are none))
 
       recorded : (kept : Kept) → HaveLengths schema analyzer (take i ds) kept → AreRecorded i after kept (with_lengths i after places kept)
       recorded kept have = all_recorded i after kept (with_lengths i after places kept)
           (many ∙ sym (length-kept schema analyzer (take i ds) kept have))
           (length-with_lengths i after places kept)
-          (λ k f o at_f at_o. recorded_at i after places kept k f at_f (none_counted k f at_f) o at_o
+          (λ k f o at_f at_o. recorded_at i after places kept k f at_f (none_added k f at_f) o at_o
           (up_to_at i kept k o (subst (λ n. AreUpTo n kept) (length-take-le i ds within) have.up_to) at_o))
 
       all_lengths : (kept : Kept) → HaveLengths schema analyzer (take i ds) kept → HaveLengths schema analyzer (take (i + 1) ds) (with_lengths i after places kept)
@@ -227,10 +217,10 @@ module _ (schema : Schema) (analyzer : Analyzer) (ds : List Document) (i : ℕ) 
             up_to = subst (λ n. AreUpTo n (with_lengths i after places kept)) (sym next) r.up_to;
             filled = ap (λ n. map (option_map (filled n)) (with_lengths i after places kept)) next
                 ∙ r.filled
-                ∙ counts_filled i after kept (many ∙ sym (length-kept schema analyzer (take i ds) kept have))
-                ∙ ap (λ n. with_counts i after (map (option_map (filled n)) kept)) (sym now)
-                ∙ ap (with_counts i after) have.filled
-                ∙ all_more_ids analyzer (take i ds) d i now after 0 schema (λ k e at. let c = counted_at first is more k e at in record { field = c.field; at = c.at; count = λ on. c.count on ∙ ap (λ m. field_length analyzer e (values_of m d)) (let z : k ≡ 0 + k = omega arith in z) })
+                ∙ lengths_filled i after kept (many ∙ sym (length-kept schema analyzer (take i ds) kept have))
+                ∙ ap (λ n. with_each_length i after (map (option_map (filled n)) kept)) (sym now)
+                ∙ ap (with_each_length i after) have.filled
+                ∙ all_more_ids analyzer (take i ds) d i now after 0 schema (λ k e at. let c = length_at_field first is more k e at in record { field = c.field; at = c.at; len = λ on. c.len on ∙ ap (λ m. field_length analyzer e (values_of m d)) (let z : k ≡ 0 + k = omega arith in z) })
                 ∙ ap (kept_norms schema analyzer) (sym (take-more ds i d here));
           }
 

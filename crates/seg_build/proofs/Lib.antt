@@ -1,8 +1,10 @@
 pub mod Exports
+mod Contents
+mod Elements
+mod FacetPrefixes
 mod Filled
 mod Finalized
-mod Fitting
-mod FittingTexts
+mod FittingValues
 mod Growing
 mod IndexedParts
 mod Keeping
@@ -22,9 +24,9 @@ mod Sound
 mod Standing
 mod StoringDocuments
 mod Taken
-mod TextCounts
-mod TextSteps
 mod Totals
+mod ValueCounts
+mod ValueSteps
 mod Whole
 mod WritableTerms
 mod WrittenFields

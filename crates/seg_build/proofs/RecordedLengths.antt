@@ -9,8 +9,8 @@ use Rattle.std.proofs.lemmas.Option.{same_Some}
 use Rattle.seg_common.specs.Growing.{HasGrown}
 use Rattle.seg_model.specs.Norms.{length_id}
 use Rattle.seg_norms.specs.FieldNorms.{at_field, filled, with_length}
-use Rattle.seg_build.specs.Field.{count_in}
-use Rattle.seg_build.specs.Lengths.{AreUpTo, lacks_length, recorded_once, count_at, with_length_of, with_lengths, with_counts}
+use Rattle.seg_build.specs.Field.{length_of}
+use Rattle.seg_build.specs.Lengths.{AreUpTo, lacks_length, recorded_once, length_at, with_length_of, with_lengths, with_each_length}
 use Rattle.seg_build.specs.declared.field.FieldPostings.{FieldPostings}
 
 -- what is kept of all fields
@@ -111,7 +111,7 @@ IsNoneOf k places = AllByRecursion (λ place. k ≢ place) places
 module _ (id : ℕ) (fields : List FieldPostings) where
   pub length-with_lengths : (places : List ℕ) (kept : Kept) → length (with_lengths id fields places kept) ≡ length kept
   length-with_lengths [] kept = refl
-  length-with_lengths (p ∷ ps) kept = length-with_lengths ps (with_length_of id fields p kept) ∙ length-at_field (recorded_once id (count_at id (slice_get fields p))) kept p
+  length-with_lengths (p ∷ ps) kept = length-with_lengths ps (with_length_of id fields p kept) ∙ length-at_field (recorded_once id (length_at id (slice_get fields p))) kept p
 
   module _ (k : ℕ) where
     -- a change of some field leaves a length that is there
@@ -122,11 +122,11 @@ module _ (id : ℕ) (fields : List FieldPostings) where
         here : slice_get (with_length_of id fields p kept) k ≡ Some (Some ids)
         here = elim (eqb_tells k p) [
           | inl h ↦
-              ap (λ n. slice_get (at_field n (recorded_once id (count_at id (slice_get fields n))) kept) k) (sym h.1)
-              ∙ at_place (recorded_once id (count_at id (slice_get fields k))) kept k
-              ∙ ap (option_map (option_map (recorded_once id (count_at id (slice_get fields k))))) at
-              ∙ ap (λ l. Some (Some l)) (once_there id (count_at id (slice_get fields k)) ids there)
-          | inr h ↦ at_other (recorded_once id (count_at id (slice_get fields p))) kept p k h.1 ∙ at
+              ap (λ n. slice_get (at_field n (recorded_once id (length_at id (slice_get fields n))) kept) k) (sym h.1)
+              ∙ at_place (recorded_once id (length_at id (slice_get fields k))) kept k
+              ∙ ap (option_map (option_map (recorded_once id (length_at id (slice_get fields k))))) at
+              ∙ ap (λ l. Some (Some l)) (once_there id (length_at id (slice_get fields k)) ids there)
+          | inr h ↦ at_other (recorded_once id (length_at id (slice_get fields p))) kept p k h.1 ∙ at
         ]
 
     -- and a field without lengths
@@ -137,31 +137,31 @@ module _ (id : ℕ) (fields : List FieldPostings) where
         here : slice_get (with_length_of id fields p kept) k ≡ Some None
         here = elim (eqb_tells k p) [
           | inl h ↦
-              ap (λ n. slice_get (at_field n (recorded_once id (count_at id (slice_get fields n))) kept) k) (sym h.1)
-              ∙ at_place (recorded_once id (count_at id (slice_get fields k))) kept k
-              ∙ ap (option_map (option_map (recorded_once id (count_at id (slice_get fields k))))) at
-          | inr h ↦ at_other (recorded_once id (count_at id (slice_get fields p))) kept p k h.1 ∙ at
+              ap (λ n. slice_get (at_field n (recorded_once id (length_at id (slice_get fields n))) kept) k) (sym h.1)
+              ∙ at_place (recorded_once id (length_at id (slice_get fields k))) kept k
+              ∙ ap (option_map (option_map (recorded_once id (length_at id (slice_get fields k))))) at
+          | inr h ↦ at_other (recorded_once id (length_at id (slice_get fields p))) kept p k h.1 ∙ at
         ]
 
     -- a length that is lacking is recorded where the field is among these, and lacks where it isn't
     abbrev Comes : List ℕ → Kept → List ℕ → Type 0
     Comes places kept ids =
-        (slice_get (with_lengths id fields places kept) k ≡ Some (Some (with_length id (count_at id (slice_get fields k)) ids)))
+        (slice_get (with_lengths id fields places kept) k ≡ Some (Some (with_length id (length_at id (slice_get fields k)) ids)))
         ⊎ ((slice_get (with_lengths id fields places kept) k ≡ Some (Some ids)) × IsNoneOf k places)
 
     comes : (places : List ℕ) (kept : Kept) (ids : List ℕ) → slice_get kept k ≡ Some (Some ids) → length ids ≤ id → Comes places kept ids
     comes [] kept ids at few = inr (at, tt)
     comes (p ∷ ps) kept ids at few = elim (eqb_tells k p) [
       | inl h ↦
-          let count = count_at id (slice_get fields k) in
+          let count = length_at id (slice_get fields k) in
           let here : slice_get (with_length_of id fields p kept) k ≡ Some (Some (with_length id count ids)) =
-          ap (λ n. slice_get (at_field n (recorded_once id (count_at id (slice_get fields n))) kept) k) (sym h.1)
+          ap (λ n. slice_get (at_field n (recorded_once id (length_at id (slice_get fields n))) kept) k) (sym h.1)
           ∙ at_place (recorded_once id count) kept k
           ∙ ap (option_map (option_map (recorded_once id count))) at
           ∙ ap (λ l. Some (Some l)) (once_lacking id count ids (le-leb (length ids) id few)) in
           let there : lacks_length id (Some (with_length id count ids)) ≡ false = lt-leb (length (with_length id count ids)) id (omega (arith, length-with_length id ids few count)) in
           inl (stays ps (with_length_of id fields p kept) (with_length id count ids) here there)
-      | inr h ↦ elim (comes ps (with_length_of id fields p kept) ids (at_other (recorded_once id (count_at id (slice_get fields p))) kept p k h.1 ∙ at) few) [
+      | inr h ↦ elim (comes ps (with_length_of id fields p kept) ids (at_other (recorded_once id (length_at id (slice_get fields p))) kept p k h.1 ∙ at) few) [
         | inl there ↦ inl there
         | inr lacks ↦ inr (lacks.0, (h.1, lacks.1))
       ]
@@ -173,20 +173,20 @@ module _ (id : ℕ) (fields : List FieldPostings) where
 pub record IsRecordedAt (id k : ℕ) (field : FieldPostings) (o : Option (List ℕ)) (now : Kept) : Type 0 where
   pub new : Option (List ℕ)
   pub at : slice_get now k ≡ Some new
-  pub is : option_map (filled (id + 1)) new ≡ option_map (with_length id (count_in id field)) o
+  pub is : option_map (filled (id + 1)) new ≡ option_map (with_length id (length_of id field)) o
   pub up_to : IfSome new (λ ids. length ids ≤ id + 1)
 
-module _ (id : ℕ) (fields : List FieldPostings) (places : List ℕ) (kept : Kept) (k : ℕ) (field : FieldPostings) (at_f : slice_get fields k ≡ Some field) (none : IsNoneOf k places → count_in id field ≡ 0) where
+module _ (id : ℕ) (fields : List FieldPostings) (places : List ℕ) (kept : Kept) (k : ℕ) (field : FieldPostings) (at_f : slice_get fields k ≡ Some field) (none : IsNoneOf k places → length_of id field ≡ 0) where
   pub recorded_at : (o : Option (List ℕ)) → slice_get kept k ≡ Some o → IfSome o (λ ids. length ids ≤ id) → IsRecordedAt id k field o (with_lengths id fields places kept)
   recorded_at None at few = record { new = None; at = stays_none id fields k places kept at; is = refl; up_to = tt }
   recorded_at (Some ids) at few = elim (comes id fields k places kept ids at few) [
     | inl there ↦
-        let count : count_at id (slice_get fields k) ≡ count_in id field = ap (count_at id) at_f in
+        let count : length_at id (slice_get fields k) ≡ length_of id field = ap (length_at id) at_f in
         record {
-          new = Some (with_length id (count_at id (slice_get fields k)) ids);
+          new = Some (with_length id (length_at id (slice_get fields k)) ids);
           at = there;
-          is = ap Some (filled-recorded id ids few (count_at id (slice_get fields k)) ∙ ap (λ n. with_length id n ids) count);
-          up_to = omega (arith, length-with_length id ids few (count_at id (slice_get fields k)));
+          is = ap Some (filled-recorded id ids few (length_at id (slice_get fields k)) ∙ ap (λ n. with_length id n ids) count);
+          up_to = omega (arith, length-with_length id ids few (length_at id (slice_get fields k)));
         }
     | inr lacks ↦
         record {
@@ -200,7 +200,7 @@ module _ (id : ℕ) (fields : List FieldPostings) (places : List ℕ) (kept : Ke
 -- the ids after a document, filled up, are those before it with its lengths
 pub record AreRecorded (id : ℕ) (fields : List FieldPostings) (old new : Kept) : Type 0 where
   pub up_to : AreUpTo (id + 1) new
-  pub filled : map (option_map (filled (id + 1))) new ≡ with_counts id fields old
+  pub filled : map (option_map (filled (id + 1))) new ≡ with_each_length id fields old
 
 pub all_recorded : (id : ℕ) (fields : List FieldPostings) (old new : Kept) → length fields ≡ length old → length new ≡ length old
     → ((k : ℕ) (f : FieldPostings) (o : Option (List ℕ)) → slice_get fields k ≡ Some f → slice_get old k ≡ Some o → IsRecordedAt id k f o new)
@@ -221,9 +221,9 @@ all_recorded id (f ∷ fs) (o ∷ old) (n ∷ new) as_many same h =
     }
 
 -- lengths are recorded after ids that were filled up as after those that were not
-pub counts_filled : (id : ℕ) (fields : List FieldPostings) (kept : Kept) → length fields ≡ length kept → with_counts id fields kept ≡ with_counts id fields (map (option_map (filled id)) kept)
-counts_filled id [] [] same = refl
-counts_filled id [] (k ∷ ks) same = absurd (let z : ⊥ = omega (arith, same) in z)
-counts_filled id (f ∷ fs) [] same = refl
-counts_filled id (f ∷ fs) (None ∷ ks) same = ap (λ l. None ∷ l) (counts_filled id fs ks (omega (arith, same)))
-counts_filled id (f ∷ fs) (Some ids ∷ ks) same = λ i. Some (sym (filled-twice id (count_in id f) ids) i) ∷ counts_filled id fs ks (omega (arith, same)) i
+pub lengths_filled : (id : ℕ) (fields : List FieldPostings) (kept : Kept) → length fields ≡ length kept → with_each_length id fields kept ≡ with_each_length id fields (map (option_map (filled id)) kept)
+lengths_filled id [] [] same = refl
+lengths_filled id [] (k ∷ ks) same = absurd (let z : ⊥ = omega (arith, same) in z)
+lengths_filled id (f ∷ fs) [] same = refl
+lengths_filled id (f ∷ fs) (None ∷ ks) same = ap (λ l. None ∷ l) (lengths_filled id fs ks (omega (arith, same)))
+lengths_filled id (f ∷ fs) (Some ids ∷ ks) same = λ i. Some (sym (filled-twice id (length_of id f) ids) i) ∷ lengths_filled id fs ks (omega (arith, same)) i

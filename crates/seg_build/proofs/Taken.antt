@@ -1,19 +1,18 @@
 -- What a document that is taken has passed.
-use Rattle.std.proofs.Common.{◌≡◌, ℕ, ◌<◌, ◌^◌, true, cond, List, None, Some, Option, length, refl, sym, ap, ◌∙◌}
+use Rattle.std.proofs.Common.{◌≡◌, ℕ, true, cond, None, Some, Option, length, refl, sym, ap, ◌∙◌}
 use Rattle.std.specs.Prelude.{nat_le, is_none, ◌&&◌}
 use Rattle.std.specs.List.{list_all}
-use Rattle.std.proofs.lemmas.Bool.{false≢true, and_parts, ltb-true}
+use Rattle.std.proofs.lemmas.Bool.{false≢true, and_parts}
 use Rattle.seg_values.specs.declared.schema.FieldEntry.{FieldEntry}
-use Rattle.seg_words.specs.declared.token.Token.{Token}
 use Rattle.seg_values.specs.Tree.{levels, Document}
 use Rattle.seg_model.specs.Built.{is_taken}
-use Rattle.seg_model.specs.Checked.{Cause, past_limit, is_u32, count_of, texts_fit, kind_fits, field_fits, is_within_limits, fields_refusal, leaves_refusal, order_refusal, limit_refusal, document_refusal}
+use Rattle.seg_model.specs.Checked.{Cause, past_limit, is_u32, kind_fits, field_fits, is_within_limits, fields_refusal, leaves_refusal, order_refusal, limit_refusal, document_refusal}
 use Rattle.seg_model.specs.Fields.{Schema, Analyzer, indexing_tokenizer, values_of, fields}
-use Rattle.seg_model.specs.Occurrences.{start_after_all}
 use Rattle.seg_values.specs.StoredForm.{stored_form}
 use Rattle.seg_model.proofs.Exports.{or_first, or_second, unless_true}
-use Rattle.seg_segment.proofs.Exports.{IsTextEntry}
-use Rattle.seg_build.proofs.Places.{texts_of}
+use Rattle.seg_segment.proofs.Exports.{IsBuiltField, not_json}
+use Rattle.seg_build.proofs.Contents.{AreBounded, kind_bounded}
+use Rattle.seg_build.proofs.Places.{contents_of}
 
 none_is : (o : Option Cause) → is_none o ≡ true → o ≡ None
 none_is None h = refl
@@ -42,17 +41,11 @@ passed schema analyzer ps h =
       shallow = limits.1;
     }
 
--- where some texts end, and the number of their tokens, are u32s
-pub record AreBounded (texts : List (List Token)) : Type 0 where
-  pub end : start_after_all 0 texts < 2 ^ 32
-  pub count : count_of texts < 2 ^ 32
+-- the values of an indexed field are within the limits
+pub values_fit : (analyzer : Analyzer) (k : ℕ) (e : FieldEntry) (ps : Document) → IsBuiltField e → field_fits analyzer ps (k, e) ≡ true → (is_u32 (length (values_of k ps)) && kind_fits e.kind e.expand_dots (analyzer (indexing_tokenizer e)) (values_of k ps)) ≡ true
+values_fit analyzer k e ps own h =
+    ap (λ b. cond b (is_u32 (length (values_of k ps)) && kind_fits e.kind e.expand_dots (analyzer (indexing_tokenizer e)) (values_of k ps)) true) (sym own.indexed) ∙ h
 
-pub bounded : (analyzer : Analyzer) (k : ℕ) (e : FieldEntry) (ps : Document) → IsTextEntry e → field_fits analyzer ps (k, e) ≡ true → AreBounded (texts_of analyzer e k ps)
-bounded analyzer k e ps text h =
-    let texts = texts_of analyzer e k ps in
-    let many = is_u32 (length (values_of k ps)) in
-    let fits : (many && texts_fit texts) ≡ true = ap (λ kind. many && kind_fits kind e.expand_dots (analyzer (indexing_tokenizer e)) (values_of k ps)) (sym text.kind)
-    ∙ ap (λ b. cond b (many && kind_fits e.kind e.expand_dots (analyzer (indexing_tokenizer e)) (values_of k ps)) true) (sym text.indexed)
-    ∙ h in
-    let both = and_parts (is_u32 (start_after_all 0 texts)) (is_u32 (count_of texts)) (and_parts (is_u32 (start_after_all 0 texts) && is_u32 (count_of texts)) (is_u32 (length texts)) (and_parts many (texts_fit texts) fits).1).0 in
-    record { end = ltb-true (start_after_all 0 texts) (2 ^ 32) both.0; count = ltb-true (count_of texts) (2 ^ 32) both.1 }
+-- and what they give is bounded
+pub bounded : (analyzer : Analyzer) (k : ℕ) (e : FieldEntry) (ps : Document) → IsBuiltField e → field_fits analyzer ps (k, e) ≡ true → AreBounded (contents_of analyzer e k ps)
+bounded analyzer k e ps own h = kind_bounded (analyzer (indexing_tokenizer e)) e.kind (not_json e.kind own.kind) e.expand_dots (values_of k ps) (values_fit analyzer k e ps own h)

@@ -8,35 +8,35 @@ use Rattle.std.proofs.lemmas.Bool.Decides.{nat_tests}
 use Rattle.std.proofs.lemmas.List.{length-map, map-append}
 use Rattle.std.proofs.lemmas.Option.{same_Some, slice_get-map}
 use Rattle.std.proofs.Math.ListN.{length-set}
-use Rattle.seg_words.specs.declared.token.Token.{Token}
 use Rattle.seg_values.specs.declared.schema.FieldEntry.{FieldEntry}
 use Rattle.seg_values.specs.Tree.{Document}
 use Rattle.seg_model.specs.Fields.{Schema, Analyzer, is_indexed, indexing_tokenizer, values_of}
-use Rattle.seg_model.specs.Occurrences.{Occurrence, value_tokens, text_occurrences, kind_occurrences, occurrences_at, occurrences}
+use Rattle.seg_model.specs.Occurrences.{Occurrence, kind_occurrences, occurrences_at, occurrences}
 use Rattle.seg_model.specs.Reading.{Terms, postings_of, if_any, terms_of}
 use Rattle.seg_common.specs.Tables.{tabulated}
 use Rattle.seg_terms.specs.Adding.{with_occurrences}
 use Rattle.seg_segment.specs.Built.{is_built_schema}
-use Rattle.seg_build.specs.Field.{start_in, count_in}
+use Rattle.seg_build.specs.Field.{start_of, length_of}
 use Rattle.seg_build.specs.FieldTerms.{positional, positional_terms}
-use Rattle.seg_check.specs.Texts.{tokens_at}
+use Rattle.seg_check.specs.IndexedValues.{IndexedContent, content_of, content_at}
 use Rattle.seg_build.specs.Steps.{fresh, added_at, with_pair, with_pairs, with_documents, indexed_part}
 use Rattle.seg_build.specs.declared.field.FieldPostings.{FieldPostings}
-use Rattle.seg_segment.proofs.Exports.{IsTextEntry, text_entry_at}
+use Rattle.seg_segment.proofs.Exports.{IsBuiltField, built_field_at, not_json}
+use Rattle.seg_build.proofs.Contents.{occurrences_from, kind_occur}
 use Rattle.seg_build.proofs.Growing.{terms_of-push}
 use Rattle.seg_build.proofs.IndexedParts.{values_kept, values_dropped}
-use Rattle.seg_build.proofs.Places.{texts_of, added_all, terms-added_all, document-added_all, field_after}
+use Rattle.seg_build.proofs.Places.{contents_of, added_all, terms-added_all, document-added_all, field_after}
 
 -- ---- as many fields as before
 
-pub length-added_at : (id place : ℕ) (fields : List FieldPostings) (v : List Token) (o : Option FieldPostings) → length (added_at id place fields v o) ≡ length fields
+pub length-added_at : (id place : ℕ) (fields : List FieldPostings) (v : IndexedContent) (o : Option FieldPostings) → length (added_at id place fields v o) ≡ length fields
 length-added_at id place fields v None = refl
 length-added_at id place fields v (Some f) = simp length-set
 
 module _ (schema : Schema) (analyzer : Analyzer) where
   length-with_pairs : (id : ℕ) (fields : List FieldPostings) (ps : Document) → length (with_pairs schema analyzer id fields ps) ≡ length fields
   length-with_pairs id fields [] = refl
-  length-with_pairs id fields (p ∷ ps) = length-with_pairs id (with_pair schema analyzer id fields p) ps ∙ length-added_at id p.0 fields (tokens_at analyzer p.1 (slice_get schema p.0)) (slice_get fields p.0)
+  length-with_pairs id fields (p ∷ ps) = length-with_pairs id (with_pair schema analyzer id fields p) ps ∙ length-added_at id p.0 fields (content_at analyzer p.1 (slice_get schema p.0)) (slice_get fields p.0)
 
   pub length-with_documents : (first : ℕ) (fields : List FieldPostings) (ds : List Document) → length (with_documents schema analyzer first fields ds) ≡ length fields
   length-with_documents first fields [] = refl
@@ -46,11 +46,11 @@ module _ (schema : Schema) (analyzer : Analyzer) where
 
 -- a field at the beginning of a document
 pub record IsFresh (id : ℕ) (field : FieldPostings) : Type 0 where
-  pub start : start_in id field ≡ 0
-  pub count : count_in id field ≡ 0
+  pub start : start_of id field ≡ 0
+  pub len : length_of id field ≡ 0
 
 fresh_next : (id : ℕ) (field : FieldPostings) → field.document ≤ id → IsFresh (id + 1) field
-fresh_next id field le = record { start = grind (arith, nat_tests); count = grind (arith, nat_tests) }
+fresh_next id field le = record { start = grind (arith, nat_tests); len = grind (arith, nat_tests) }
 
 module _ (e : FieldEntry) where
   no_keys : (ds : List Document) (occurred : Document → List Occurrence) → ((d : Document) → occurred d ≡ []) → flat_map (map (λ (o : Occurrence). o.bytes)) (map occurred ds) ≡ []
@@ -65,15 +65,15 @@ module _ (schema : Schema) (analyzer : Analyzer) (k : ℕ) (e : FieldEntry) (at_
   abbrev occurred : Document → List Occurrence
   occurred d = occurrences schema analyzer d k
 
-  -- the texts of what is indexed
-  abbrev indexed_texts : Document → List (List Token)
-  indexed_texts ps = texts_of analyzer e k (indexed_part schema ps)
+  -- what is indexed
+  abbrev indexed_contents : Document → List IndexedContent
+  indexed_contents ps = contents_of analyzer e k (indexed_part schema ps)
 
-  pub occurrences-text : (ps : Document) → IsTextEntry e → occurrences schema analyzer ps k ≡ text_occurrences 0 (texts_of analyzer e k ps)
-  occurrences-text ps text =
+  pub occurrences-built : (ps : Document) → IsBuiltField e → occurrences schema analyzer ps k ≡ occurrences_from 0 (contents_of analyzer e k ps)
+  occurrences-built ps own =
       ap (occurrences_at analyzer ps k) at_e
-      ∙ ap (λ b. cond b (kind_occurrences e.kind e.expand_dots (analyzer (indexing_tokenizer e)) (values_of k ps)) []) text.indexed
-      ∙ ap (λ kind. kind_occurrences kind e.expand_dots (analyzer (indexing_tokenizer e)) (values_of k ps)) text.kind
+      ∙ ap (λ b. cond b (kind_occurrences e.kind e.expand_dots (analyzer (indexing_tokenizer e)) (values_of k ps)) []) own.indexed
+      ∙ kind_occur (analyzer (indexing_tokenizer e)) e.kind (not_json e.kind own.kind) e.expand_dots (values_of k ps)
 
   pub occurrences-unindexed : (ps : Document) → is_indexed e ≡ false → occurrences schema analyzer ps k ≡ []
   occurrences-unindexed ps off = ap (occurrences_at analyzer ps k) at_e ∙ ap (λ b. cond b (kind_occurrences e.kind e.expand_dots (analyzer (indexing_tokenizer e)) (values_of k ps)) []) off
@@ -83,17 +83,16 @@ module _ (schema : Schema) (analyzer : Analyzer) (k : ℕ) (e : FieldEntry) (at_
     before = terms_of (positional e) (map occurred ds)
 
     -- one more document
-    terms_turn : with_occurrences before (length (map occurred ds)) (text_occurrences 0 (indexed_texts ps)) ≡ terms_of (positional e) (map occurred (ds ++ ps ∷ []))
+    terms_turn : with_occurrences before (length (map occurred ds)) (occurrences_from 0 (indexed_contents ps)) ≡ terms_of (positional e) (map occurred (ds ++ ps ∷ []))
     terms_turn = elim (cases_Bool (is_indexed e)) [
       | inl on ↦
-          let text = text_entry_at schema k e entries at_e on in
-          let same : text_occurrences 0 (indexed_texts ps) ≡ occurred ps = ap (λ vs. text_occurrences 0 (map (value_tokens (analyzer (indexing_tokenizer e))) vs)) (values_kept schema k e at_e ps on) ∙ sym (occurrences-text ps text) in
+          let same : occurrences_from 0 (indexed_contents ps) ≡ occurred ps = ap (λ vs. occurrences_from 0 (map (content_of analyzer e) vs)) (values_kept schema k e at_e ps on) ∙ sym (occurrences-built ps (built_field_at schema k e entries at_e on)) in
           ap (with_occurrences before (length (map occurred ds))) same
-          ∙ terms_of-push (positional e) (record { kind = text.kind; index = refl }) (map occurred ds) (occurred ps)
+          ∙ terms_of-push (positional e) (record { kind = refl; index = refl }) (map occurred ds) (occurred ps)
           ∙ ap (terms_of (positional e)) (sym (map-append occurred ds (ps ∷ [])))
       | inr off ↦
           let nothing : (d : Document) → occurred d ≡ [] = λ d. occurrences-unindexed d off in
-          ap (λ vs. with_occurrences before (length (map occurred ds)) (text_occurrences 0 (map (value_tokens (analyzer (indexing_tokenizer e))) vs))) (values_dropped schema k e at_e ps off)
+          ap (λ vs. with_occurrences before (length (map occurred ds)) (occurrences_from 0 (map (content_of analyzer e) vs))) (values_dropped schema k e at_e ps off)
           ∙ no_terms (positional e) ds occurred nothing
           ∙ sym (no_terms (positional e) (ds ++ ps ∷ []) occurred nothing)
     ]
@@ -116,7 +115,7 @@ module _ (schema : Schema) (analyzer : Analyzer) (entries : is_built_schema sche
       let has = all k e at_e in
       let id = length before in
       let qs = indexed_part schema ps in
-      let vs = texts_of analyzer e k qs in
+      let vs = contents_of analyzer e k qs in
       let after = added_all id has.field vs in
       let occurred : Document → List Occurrence = λ d. occurrences schema analyzer d k in
       let many : length (map occurred before) ≡ id = length-map before occurred in
@@ -126,9 +125,9 @@ module _ (schema : Schema) (analyzer : Analyzer) (entries : is_built_schema sche
         field = after;
         at = field_after schema analyzer id k e at_e fields has.field qs has.at;
         terms = terms-added_all id has.field vs
-            ∙ ap (λ s. with_occurrences has.field.terms id (text_occurrences s vs)) has.new.start
-            ∙ ap (λ t. with_occurrences t id (text_occurrences 0 vs)) has.terms
-            ∙ ap (λ n. with_occurrences (terms_of (positional e) (map occurred before)) n (text_occurrences 0 vs)) (sym many)
+            ∙ ap (λ s. with_occurrences has.field.terms id (occurrences_from s vs)) has.new.start
+            ∙ ap (λ t. with_occurrences t id (occurrences_from 0 vs)) has.terms
+            ∙ ap (λ n. with_occurrences (terms_of (positional e) (map occurred before)) n (occurrences_from 0 vs)) (sym many)
             ∙ terms_turn schema analyzer k e at_e entries before ps;
         new = subst (λ n. IsFresh n after) (sym next) (fresh_next id after past);
         past = omega (arith, past, next);
@@ -148,7 +147,7 @@ module _ (schema : Schema) (analyzer : Analyzer) (entries : is_built_schema sche
     field = fresh;
     at = slice_get-map (λ (x : FieldEntry). fresh) schema k ∙ ap (option_map (λ (x : FieldEntry). fresh)) at_e;
     terms = refl;
-    new = record { start = refl; count = refl };
+    new = record { start = refl; len = refl };
     past = omega arith;
   }
 

@@ -1,5 +1,5 @@
 -- The terms of documents that are built can be written.
-use Rattle.std.proofs.Common.{◌≡◌, ℕ, suc, ◌+◌, ◌<◌, ◌≤◌, ◌^◌, Bool, true, false, cond, List, [], ◌∷◌, ◌++◌, map, length, Some, None, Option, Less, Equal, Greater, sym, refl, ap, ◌∙◌, subst, arith, inl, inr}
+use Rattle.std.proofs.Common.{◌≡◌, ℕ, suc, ◌+◌, ◌<◌, ◌≤◌, ◌^◌, Bool, true, false, cond, List, [], ◌∷◌, ◌++◌, map, length, Some, None, Option, Less, Equal, Greater, sym, refl, ap, ◌∙◌, subst, arith, inl, inr, length-append}
 use Rattle.std.specs.Prelude.{filter, nat_le, is_some, ◌&&◌}
 use Rattle.std.specs.FinMap.{entries, empty, from_entries, entries_sorted, entries-insert, len-empty, len-entries}
 use Rattle.std.specs.FinMap.Entries.{put, by_order}
@@ -7,36 +7,37 @@ use Rattle.std.specs.List.{AllByRecursion, slice_get, list_all, flat_map, enumer
 use Rattle.std.specs.Ordering.{nat_cmp}
 use Rattle.std.specs.Cmp.Lexicographic.{slice_cmp, nat_list_cmp_total}
 use Rattle.std.specs.Str.{bytes_eq}
-use Rattle.std.proofs.lemmas.Bool.{false≢true, and_parts, leb-true}
+use Rattle.std.proofs.lemmas.Bool.{false≢true, and_parts, leb-true, ltb-true}
 use Rattle.std.proofs.lemmas.Bool.Decides.{eqb_tells}
 use Rattle.std.proofs.lemmas.List.{length-map}
 use Rattle.std.proofs.lemmas.Option.{same_Some}
 use lib.Dec.{T}
 use Rattle.seg_words.specs.declared.token.Token.{Token}
 use Rattle.seg_values.specs.declared.schema.FieldEntry.{FieldEntry}
-use Rattle.seg_values.specs.declared.schema.FieldKind.TheVariants.{Text}
+use Rattle.seg_values.specs.declared.schema.FieldKind.{FieldKind}
+use Rattle.seg_values.specs.declared.schema.FieldKind.TheVariants.{Text, U64, I64, Bool as Boolean, Date, Facet, Bytes, IpAddr, Json}
 use Rattle.seg_values.specs.declared.schema.IndexOption.TheVariants as options
-use Rattle.seg_values.specs.Tree.{Document}
+use Rattle.seg_values.specs.Tree.{Leaf, null, text, pre_tokenized, unsigned, signed, boolean, date, facet, byte_string, ip, Tree, leaf, array, object, Document}
 use Rattle.seg_model.specs.Built.{is_taken}
-use Rattle.seg_model.specs.Checked.{positions_fall, unless, is_rising, count_of, positions_refusal, field_fits, order_refusal}
-use Rattle.seg_model.specs.Fields.{Schema, Analyzer, is_indexed, indexing_tokenizer}
-use Rattle.seg_model.specs.Occurrences.{Occurrence, counted, reach, start_after, start_after_all, value_tokens, text_occurrences, occurrences}
+use Rattle.seg_model.specs.Checked.{wrong_value, positions_fall, unless, value_refusal, value_texts, is_rising, is_u32, count_of, kind_fits, positions_refusal, field_fits, fields_refusal, order_refusal}
+use Rattle.seg_model.specs.Fields.{Schema, Analyzer, is_json, is_indexed, indexing_tokenizer, values_of}
+use Rattle.seg_model.specs.Occurrences.{Occurrence, at_zero, counted, reach, start_after, start_after_all, value_tokens, leaf_terms, value_terms, text_occurrences, kind_occurrences, occurrences_at, occurrences}
 use Rattle.seg_model.specs.Reading.{Recorded, Posting, Terms, positions_of, if_occurs, recorded_in, postings_from, postings_of, if_any, terms_of}
+use Rattle.seg_model.specs.Takes.{is_of_kind, is_own_leaf, is_own_array, takes}
 use Rattle.seg_common.specs.Tables.{entry_of}
 use Rattle.seg_postings.specs.declared.record_kind.RecordKind.TheVariants.{Positions}
 use Rattle.seg_postings.specs.Written.{Rise, IsOfKind, AreWritable}
-use Rattle.seg_segment.specs.Built.{is_built_entry}
+use Rattle.seg_segment.specs.Built.{is_built_kind, is_built_entry}
 use Rattle.seg_terms.specs.Entries.{TermEntries}
 use Rattle.seg_build.specs.FieldTerms.{positional}
 use Rattle.seg_build.specs.Writable.{PositionsCanBeWritten, BuiltTermsCanBeWritten}
-use Rattle.seg_segment.proofs.Exports.{IsTextEntry, text_entry_at}
+use Rattle.seg_segment.proofs.Exports.{IsBuiltField, built_field_at, not_json}
 use Rattle.seg_check.proofs.Exports.{for_one_field, rises, rises_first}
 use Rattle.seg_model.proofs.Exports.{or_both, unless_true}
-use Rattle.seg_build.proofs.Fitting.{positions_refusal-text}
-use Rattle.seg_build.proofs.Places.{length_texts, reach-ge, start_after_all-ge, texts_of, texts_of-taken, texts_of-passed}
-use Rattle.seg_build.proofs.RecordedTerms.{option_of_text, no_terms_of}
-use Rattle.seg_build.proofs.Taken.{bounded, passed}
-use Rattle.seg_build.proofs.Whole.{occurrences-text}
+use Rattle.seg_build.proofs.Contents.{length_texts, reach-ge, short_texts, start_after_all-ge}
+use Rattle.seg_build.proofs.IndexedParts.{values-own, values-other}
+use Rattle.seg_build.proofs.RecordedTerms.{no_terms_of}
+use Rattle.seg_build.proofs.Taken.{HasPassed, passed, values_fit}
 
 -- ---- positions that rise
 
@@ -98,37 +99,144 @@ record Fit (os : List Occurrence) : Type 0 where
   rising : Rise 0 (placed_at os)
   few : length os < 2 ^ 32
 
+-- ---- values that are no texts
+
+abbrev zeros : List (List ℕ) → List ℕ
+zeros terms = placed_at (map at_zero terms)
+
+rise_zeros : (terms : List (List ℕ)) → Rise 0 (zeros terms)
+rise_zeros [] = tt
+rise_zeros (t ∷ ts) = (omega arith, omega arith, rise_zeros ts)
+
+-- a leaf that is no facet gives one term
+single_leaf : (kind : FieldKind) → is_built_kind kind ≡ true → (l : Leaf) → is_of_kind kind l ≡ true → length (leaf_terms l) ≤ 1
+single_leaf kind built null own = omega arith
+single_leaf kind built (text s) own = omega arith
+single_leaf kind built (pre_tokenized p) own = omega arith
+single_leaf kind built (unsigned n) own = omega arith
+single_leaf kind built (signed z) own = omega arith
+single_leaf kind built (boolean b) own = omega arith
+single_leaf kind built (date z) own = omega arith
+single_leaf kind built (byte_string b) own = omega arith
+single_leaf kind built (ip octets) own = omega arith
+single_leaf kind built (facet encoded) own = absurd (false≢true (no_facet kind built own))
+  where
+    no_facet : (kind : FieldKind) → is_built_kind kind ≡ true → is_of_kind kind (facet encoded) ≡ true → false ≡ true
+    no_facet Text b o = o
+    no_facet U64 b o = o
+    no_facet I64 b o = o
+    no_facet Boolean b o = o
+    no_facet Date b o = o
+    no_facet Facet b o = b
+    no_facet Bytes b o = o
+    no_facet IpAddr b o = o
+    no_facet Json b o = o
+
+single_value : (kind : FieldKind) → is_built_kind kind ≡ true → (t : Tree) → is_own_leaf kind t ≡ true → length (value_terms t) ≤ 1
+single_value kind built (leaf l) own = single_leaf kind built l own
+single_value kind built (array ts) own = omega arith
+single_value kind built (object ms) own = omega arith
+
+-- values give no more terms than they are
+few_terms : (kind : FieldKind) → is_built_kind kind ≡ true → (values : List Tree) → AllByRecursion (λ t. is_own_leaf kind t ≡ true) values → length (flat_map value_terms values) ≤ length values
+few_terms kind built [] own = omega arith
+few_terms kind built (t ∷ ts) own =
+    omega (arith, single_value kind built t own.0, few_terms kind built ts own.1, length-append (value_terms t) (flat_map value_terms ts))
+
 -- ---- a document that is taken
 
-module _ (schema : Schema) (analyzer : Analyzer) (k : ℕ) (e : FieldEntry) (at_e : slice_get schema k ≡ Some e) (text : IsTextEntry e) where
-  rising_texts : (ps : Document) → order_refusal schema analyzer ps ≡ None → AllRising (texts_of analyzer e k ps)
-  rising_texts [] none = tt
-  rising_texts (p ∷ ps) none =
+module _ (schema : Schema) (analyzer : Analyzer) (k : ℕ) (e : FieldEntry) (at_e : slice_get schema k ≡ Some e) (built : IsBuiltField e) where
+  abbrev analyze : List ℕ → List Token
+  analyze = analyzer (indexing_tokenizer e)
+
+  abbrev texts_of : Document → List (List Token)
+  texts_of ps = map (value_tokens analyze) (values_of k ps)
+
+  -- the positions of a text
+  positions_refusal-text : e.kind ≡ Text → (t : Tree) → positions_refusal analyzer t (Some e) ≡ unless (is_rising (counted (value_tokens analyze t)) && true) positions_fall
+  positions_refusal-text kind_is t =
+      ap (λ b. cond b (unless (list_all (λ tokens. is_rising (counted tokens)) (value_texts e.kind analyze t)) positions_fall) None) built.indexed
+      ∙ ap (λ kind. unless (list_all (λ tokens. is_rising (counted tokens)) (value_texts kind analyze t)) positions_fall) kind_is
+
+  rising_texts : e.kind ≡ Text → (ps : Document) → order_refusal schema analyzer ps ≡ None → AllRising (texts_of ps)
+  rising_texts kind_is [] none = tt
+  rising_texts kind_is (p ∷ ps) none =
       let two = or_both (positions_refusal analyzer p.1 (slice_get schema p.0)) (order_refusal schema analyzer ps) none in
-      let v = value_tokens (analyzer (indexing_tokenizer e)) p.1 in
-      let rest = rising_texts ps two.1 in
+      let v = value_tokens analyze p.1 in
+      let rest = rising_texts kind_is ps two.1 in
       elim (eqb_tells k p.0) [
         | inl h ↦
-            let refusal : unless (is_rising (counted v) && true) positions_fall ≡ None = sym (positions_refusal-text analyzer p.1 e text) ∙ ap (positions_refusal analyzer p.1) (sym (ap (slice_get schema) (sym h.1) ∙ at_e)) ∙ two.0 in
+            let refusal : unless (is_rising (counted v) && true) positions_fall ≡ None = sym (positions_refusal-text kind_is p.1) ∙ ap (positions_refusal analyzer p.1) (sym (ap (slice_get schema) (sym h.1) ∙ at_e)) ∙ two.0 in
             let rising = (and_parts (is_rising (counted v)) true (unless_true _ positions_fall refusal)).0 in
-            subst AllRising (sym (texts_of-taken analyzer e k p ps h.0)) (rising, rest)
-        | inr h ↦ subst AllRising (sym (texts_of-passed analyzer e k p ps h.0)) rest
+            subst (λ ts. AllRising (map (value_tokens analyze) ts)) (sym (values-own k p ps h.0)) (rising, rest)
+        | inr h ↦ subst (λ ts. AllRising (map (value_tokens analyze) ts)) (sym (values-other k p ps h.0)) rest
       ]
 
-  taken_fits : (ps : Document) → is_taken schema analyzer ps ≡ true → Fit (occurrences schema analyzer ps k)
-  taken_fits ps taken =
-      let vs = texts_of analyzer e k ps in
-      let h = passed schema analyzer ps taken in
-      let bounds = bounded analyzer k e ps text (for_one_field (field_fits analyzer ps) schema h.fit k e at_e) in
-      let few : count_of vs < 2 ^ 32 = bounds.count in
-      let many : length (text_occurrences 0 vs) ≡ count_of vs = length_texts 0 vs in
-      subst Fit (sym (occurrences-text schema analyzer k e at_e ps text)) (record { rising = rise_texts 0 0 vs (rising_texts ps h.order) (omega arith) bounds.end; few = omega (arith, few, many) })
+  takes_own : (t : Tree) → takes e t ≡ is_own_leaf e.kind t
+  takes_own t =
+      ap (λ b. cond b true (cond (is_indexed e) (is_own_leaf e.kind t) (cond e.fast (is_own_array e.kind t) true))) (not_json e.kind built.kind)
+      ∙ ap (λ b. cond b (is_own_leaf e.kind t) (cond e.fast (is_own_array e.kind t) true)) built.indexed
+
+  -- its values are of its kind
+  own_values : (ps : Document) → fields_refusal schema ps ≡ None → AllByRecursion (λ t. is_own_leaf e.kind t ≡ true) (values_of k ps)
+  own_values [] none = tt
+  own_values (p ∷ ps) none =
+      let two = or_both (value_refusal p.0 p.1 (slice_get schema p.0)) (fields_refusal schema ps) none in
+      let rest = own_values ps two.1 in
+      elim (eqb_tells k p.0) [
+        | inl h ↦
+            let refusal : unless (takes e p.1) (wrong_value p.0) ≡ None = ap (value_refusal p.0 p.1) (sym (ap (slice_get schema) (sym h.1) ∙ at_e)) ∙ two.0 in
+            subst (AllByRecursion (λ t. is_own_leaf e.kind t ≡ true)) (sym (values-own k p ps h.0)) (sym (takes_own p.1) ∙ unless_true (takes e p.1) (wrong_value p.0) refusal, rest)
+        | inr h ↦ subst (AllByRecursion (λ t. is_own_leaf e.kind t ≡ true)) (sym (values-other k p ps h.0)) rest
+      ]
+
+  -- the occurrences of a document that has passed
+  module _ (ps : Document) (h : HasPassed schema analyzer ps) where
+    abbrev values : List Tree
+    values = values_of k ps
+
+    abbrev IsFit : FieldKind → Type 0
+    IsFit kind = Fit (kind_occurrences kind e.expand_dots analyze values)
+
+    fits : (is_u32 (length values) && kind_fits e.kind e.expand_dots analyze values) ≡ true
+    fits = values_fit analyzer k e ps built (for_one_field (field_fits analyzer ps) schema h.fit k e at_e)
+
+    texts_fit_in : (kind : FieldKind) → e.kind ≡ kind → kind ≡ Text → IsFit Text
+    texts_fit_in kind same kind_is =
+        let is : e.kind ≡ Text = same ∙ kind_is in
+        let short = short_texts analyze e.expand_dots values (and_parts (is_u32 (length values)) (kind_fits Text e.expand_dots analyze values) (ap (λ q. is_u32 (length values) && kind_fits q e.expand_dots analyze values) (sym is) ∙ fits)).1 in
+        let few : count_of (texts_of ps) < 2 ^ 32 = short.count in
+        let many : length (text_occurrences 0 (texts_of ps)) ≡ count_of (texts_of ps) = length_texts 0 (texts_of ps) in
+        record { rising = rise_texts 0 0 (texts_of ps) (rising_texts is ps h.order) (omega arith) short.end; few = omega (arith, few, many) }
+
+    terms_fit_in : Fit (map at_zero (flat_map value_terms values))
+    terms_fit_in =
+        let few : length values < 2 ^ 32 = ltb-true (length values) (2 ^ 32) (and_parts (is_u32 (length values)) (kind_fits e.kind e.expand_dots analyze values) fits).0 in
+        let less = few_terms e.kind built.kind values (own_values ps h.taken) in
+        record { rising = rise_zeros (flat_map value_terms values); few = omega (arith, few, less, length-map (flat_map value_terms values) at_zero) }
+
+    by_kind : (kind : FieldKind) → e.kind ≡ kind → is_json kind ≡ false → IsFit kind
+    by_kind Text same other = texts_fit_in Text same refl
+    by_kind Json same other = absurd (false≢true (sym other))
+    by_kind U64 same other = terms_fit_in
+    by_kind I64 same other = terms_fit_in
+    by_kind Boolean same other = terms_fit_in
+    by_kind Date same other = terms_fit_in
+    by_kind Facet same other = terms_fit_in
+    by_kind Bytes same other = terms_fit_in
+    by_kind IpAddr same other = terms_fit_in
+
+    occurrences_are : occurrences schema analyzer ps k ≡ kind_occurrences e.kind e.expand_dots analyze values
+    occurrences_are = ap (occurrences_at analyzer ps k) at_e ∙ ap (λ b. cond b (kind_occurrences e.kind e.expand_dots analyze values) []) built.indexed
+
+    passed_fits : Fit (occurrences schema analyzer ps k)
+    passed_fits = subst Fit (sym occurrences_are) (by_kind e.kind refl (not_json e.kind built.kind))
 
   all_fit : (ds : List Document) → list_all (is_taken schema analyzer) ds ≡ true → AllByRecursion Fit (map (λ d. occurrences schema analyzer d k) ds)
   all_fit [] h = tt
   all_fit (d ∷ ds) h =
       let two = and_parts (is_taken schema analyzer d) (list_all (is_taken schema analyzer) ds) h in
-      (taken_fits d two.0, all_fit ds two.1)
+      (passed_fits d (passed schema analyzer d two.0), all_fit ds two.1)
 
 -- ---- the postings of a term
 
@@ -145,11 +253,10 @@ kept : (ps : List ℕ) → Rise 0 ps → length ps < 2 ^ 32 → IsKept (if_occur
 kept [] rise few = tt
 kept (p ∷ ps) rise few = (p ∷ ps, omega arith, few, rise, refl)
 
-module _ (e : FieldEntry) (text : e.kind ≡ Text) where
+module _ (e : FieldEntry) where
   all_kept : (q : List ℕ) (ds : List (List Occurrence)) → AllByRecursion Fit ds → AllByRecursion IsKept (map (recorded_in (positional e) q) ds)
   all_kept q [] h = tt
-  all_kept q (os ∷ ds) h =
-      (subst (λ option. IsKept (if_occurs option (positions_of q os))) (sym (option_of_text (positional e) q text)) (kept (positions_of q os) (rise_some q 0 os h.0.rising) (let few = h.0.few in omega (arith, fewer q os, few))), all_kept q ds h.1)
+  all_kept q (os ∷ ds) h = (kept (positions_of q os) (rise_some q 0 os h.0.rising) (let few = h.0.few in omega (arith, fewer q os, few)), all_kept q ds h.1)
 
   postings_writable : (q : List ℕ) (ds : List (List Occurrence)) → AllByRecursion Fit ds → length ds < 2 ^ 31 → AreWritable Positions 0 0 (postings_of (positional e) q ds)
   postings_writable q ds h few = writable_from 0 0 0 (map (recorded_in (positional e) q) ds) (omega arith) (omega (arith, few, length-map ds (recorded_in (positional e) q))) (all_kept q ds h)
@@ -197,14 +304,14 @@ truth : (b : _) → T b → b ≡ true
 truth true h = refl
 truth false h = absurd h
 
-can_be_written : (e : FieldEntry) → e.kind ≡ Text → (ds : List (List Occurrence)) → AllByRecursion Fit ds → length ds < 2 ^ 31 → PositionsCanBeWritten (entries (terms_of (positional e) ds))
-can_be_written e text ds h few =
+can_be_written : (e : FieldEntry) (ds : List (List Occurrence)) → AllByRecursion Fit ds → length ds < 2 ^ 31 → PositionsCanBeWritten (entries (terms_of (positional e) ds))
+can_be_written e ds h few =
     let keys = flat_map (map (λ (o : Occurrence). o.bytes)) ds in
     let f : List ℕ → Option (List Posting) = λ q. if_any (postings_of (positional e) q ds) in
     record {
       ascend = truth _ (entries_sorted (terms_of (positional e) ds));
       occur = from_all (λ ps. 0 < length ps) _ (entry_all (λ ps. 0 < length ps) f keys (λ q v is. any_occurs (postings_of (positional e) q ds) v is));
-      writable = from_all (AreWritable Positions 0 0) _ (entry_all (AreWritable Positions 0 0) f keys (λ q v is. any_writable (postings_of (positional e) q ds) v (postings_writable e text q ds h few) is));
+      writable = from_all (AreWritable Positions 0 0) _ (entry_all (AreWritable Positions 0 0) f keys (λ q v is. any_writable (postings_of (positional e) q ds) v (postings_writable e q ds h few) is));
     }
 
 none_can : PositionsCanBeWritten []
@@ -221,8 +328,7 @@ module _ (schema : Schema) (analyzer : Analyzer) (ds : List Document) (built : l
   each_can : (i : ℕ) (e : FieldEntry) → slice_get schema i ≡ Some e → (b : Bool) → is_indexed e ≡ b → PositionsCanBeWritten (entries (terms_of (positional e) (map (λ d. occurrences schema analyzer d i) ds)))
   each_can i e at true on =
       let occurred : Document → List Occurrence = λ d. occurrences schema analyzer d i in
-      let text = text_entry_at schema i e built at on in
-      can_be_written e text.kind (map occurred ds) (all_fit schema analyzer i e at text ds taken) (omega (arith, few, length-map ds occurred))
+      can_be_written e (map occurred ds) (all_fit schema analyzer i e at (built_field_at schema i e built at on) ds taken) (omega (arith, few, length-map ds occurred))
   each_can i e at false off = subst PositionsCanBeWritten (sym (no_terms_of schema analyzer ds i e at off (positional e))) none_can
 
 pub built_terms_can_be_written : BuiltTermsCanBeWritten

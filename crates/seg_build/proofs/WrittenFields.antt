@@ -10,19 +10,17 @@ use Rattle.seg_values.specs.declared.schema.FieldEntry.{FieldEntry}
 use Rattle.seg_model.specs.Fields.{Schema, is_indexed}
 use Rattle.seg_model.specs.Reading.{Terms, term_option}
 use Rattle.seg_directory.specs.Composite.{composite, field_of}
-use Rattle.seg_postings.specs.declared.record_kind.RecordKind.{RecordKind}
+use Rattle.seg_postings.specs.declared.asked_kind.AskedKind.{AskedKind}
 use Rattle.seg_postings.specs.FieldWriting.{TermWritten}
 use Rattle.seg_postings.specs.Files.{FieldFiles}
 use Rattle.seg_postings.specs.Kinds.{kind_of}
-use Rattle.seg_segment.specs.Built.{is_built_schema}
 use Rattle.seg_segment.specs.FieldsWritten.{HaveFields}
-use Rattle.seg_segment.proofs.Exports.{AreTermsOf, IsTextEntry, hold_terms, text_entry_at}
+use Rattle.seg_segment.proofs.Exports.{AreTermsOf, hold_terms}
 use Rattle.seg_terms.specs.Entries.{TermEntries}
-use Rattle.seg_build.specs.FieldTerms.{FieldTerms}
+use Rattle.seg_build.specs.FieldTerms.{FieldTerms, asked_by, kind_in}
 use Rattle.seg_build.specs.Filling.{AreFieldsOf, HoldFields}
 use Rattle.seg_build.specs.TermsWritten.{written, all_written, written_total}
 use Rattle.seg_build.specs.Totals.{TotalsAreCounts}
-use Rattle.seg_build.proofs.RecordedTerms.{option_of_text}
 
 abbrev pub total_in : List FieldTerms → ℕ → ℕ
 total_in fields field = written_total (slice_get fields field)
@@ -38,42 +36,42 @@ entries_at (h ∷ hs) zero lt = refl
 entries_at (h ∷ hs) (suc i) lt = entries_at hs i (omega (arith, lt))
 
 -- the terms that stand for a field
-record StandsFor (o : Option FieldTerms) (kind : RecordKind) (terms : TermEntries) : Type 0 where
+record StandsFor (o : Option FieldTerms) (asked : AskedKind) (terms : TermEntries) : Type 0 where
   found : FieldTerms
   is : o ≡ Some found
-  keeps : found.kind ≡ kind
+  keeps : found.asked ≡ asked
   has : found.terms ≡ terms
 
-stands_for : (o : Option FieldTerms) (kind : RecordKind) (terms : TermEntries) → option_map (λ f. f.kind) o ≡ Some kind → option_map (λ f. f.terms) o ≡ Some terms → StandsFor o kind terms
-stands_for None kind terms k t = absurd (false≢true (ap is_some k))
-stands_for (Some found) kind terms k t = record { found = found; is = refl; keeps = same_Some found.kind kind k; has = same_Some found.terms terms t }
+stands_for : (o : Option FieldTerms) (asked : AskedKind) (terms : TermEntries) → option_map (λ f. f.asked) o ≡ Some asked → option_map (λ f. f.terms) o ≡ Some terms → StandsFor o asked terms
+stands_for None asked terms k t = absurd (false≢true (ap is_some k))
+stands_for (Some found) asked terms k t = record { found = found; is = refl; keeps = same_Some found.asked asked k; has = same_Some found.terms terms t }
 
-kinds_of : (e : FieldEntry) (kind : RecordKind) (terms : TermEntries) → IsTextEntry e → kind ≡ kind_of e.index → AllByRecursion (λ t. t.kind ≡ kind_of (term_option e t.bytes)) (map (written kind) terms)
-kinds_of e kind [] text is = tt
-kinds_of e kind (t ∷ ts) text is = (is ∙ ap kind_of (sym (option_of_text e t.0 text.kind)), kinds_of e kind ts text is)
+kinds_of : (e : FieldEntry) (asked : AskedKind) (terms : TermEntries) → asked ≡ asked_by e → AllByRecursion (λ t. t.kind ≡ kind_of (term_option e t.bytes)) (map (written asked) terms)
+kinds_of e asked [] is = tt
+kinds_of e asked (t ∷ ts) is = (ap (λ a. kind_in a t.0) is, kinds_of e asked ts is)
 
-written-back : (kind : RecordKind) (terms : TermEntries) → map (λ t. (t.bytes, t.postings)) (map (written kind) terms) ≡ terms
-written-back kind [] = refl
-written-back kind (t ∷ ts) = ap (λ l. t ∷ l) (written-back kind ts)
+written-back : (asked : AskedKind) (terms : TermEntries) → map (λ t. (t.bytes, t.postings)) (map (written asked) terms) ≡ terms
+written-back asked [] = refl
+written-back asked (t ∷ ts) = ap (λ l. t ∷ l) (written-back asked ts)
 
-module _ (schema : Schema) (built : is_built_schema schema ≡ true) (fields : List FieldTerms) (files : FieldFiles) (have : HaveFields (total_in fields) (AreIn fields) schema files) where
+module _ (schema : Schema) (fields : List FieldTerms) (files : FieldFiles) (have : HaveFields (total_in fields) (AreIn fields) schema files) where
   module _ (held : List Terms) (are : AreFieldsOf schema fields held) where
     many : length held ≡ length schema
-    many = sym (length-map held entries) ∙ sym (ap length are.terms) ∙ length-map fields (λ (f : FieldTerms). f.terms) ∙ sym (length-map fields (λ (f : FieldTerms). f.kind)) ∙ ap length are.kinds ∙ length-map schema (λ (e : FieldEntry). kind_of e.index)
+    many = sym (length-map held entries) ∙ sym (ap length are.terms) ∙ length-map fields (λ (f : FieldTerms). f.terms) ∙ sym (length-map fields (λ (f : FieldTerms). f.asked)) ∙ ap length are.asked ∙ length-map schema asked_by
 
-    of_field : (field : ℕ) (e : FieldEntry) → slice_get schema field ≡ Some e → StandsFor (slice_get fields field) (kind_of e.index) (entries (slice_index_or held field empty))
+    of_field : (field : ℕ) (e : FieldEntry) → slice_get schema field ≡ Some e → StandsFor (slice_get fields field) (asked_by e) (entries (slice_index_or held field empty))
     of_field field e at =
         let within = slice_get_within schema field e at in
-        stands_for (slice_get fields field) (kind_of e.index) (entries (slice_index_or held field empty))
-        (sym (slice_get-map (λ (f : FieldTerms). f.kind) fields field) ∙ ap (λ (l : List RecordKind). slice_get l field) are.kinds ∙ slice_get-map (λ (x : FieldEntry). kind_of x.index) schema field ∙ ap (option_map (λ (x : FieldEntry). kind_of x.index)) at)
+        stands_for (slice_get fields field) (asked_by e) (entries (slice_index_or held field empty))
+        (sym (slice_get-map (λ (f : FieldTerms). f.asked) fields field) ∙ ap (λ (l : List AskedKind). slice_get l field) are.asked ∙ slice_get-map asked_by schema field ∙ ap (option_map asked_by) at)
         (sym (slice_get-map (λ (f : FieldTerms). f.terms) fields field) ∙ ap (λ (l : List TermEntries). slice_get l field) are.terms ∙ entries_at held field (omega (arith, within, many)))
 
     terms_of_field : (field : ℕ) (e : FieldEntry) (terms : List TermWritten) → slice_get schema field ≡ Some e → is_indexed e ≡ true → AreIn fields field terms → AreTermsOf e terms (slice_index_or held field empty)
     terms_of_field field e terms at on is =
         let s = of_field field e at in
         subst (λ ts. AreTermsOf e ts (slice_index_or held field empty)) (sym (is ∙ ap all_written s.is)) (record {
-          kinds = kinds_of e s.found.kind s.found.terms (text_entry_at schema field e built at on) s.keeps;
-          are = written-back s.found.kind s.found.terms ∙ s.has;
+          kinds = kinds_of e s.found.asked s.found.terms s.keeps;
+          are = written-back s.found.asked s.found.terms ∙ s.has;
         })
 
   totals_are_counts : (postings : List ℕ) → composite postings ≡ Some files.postings → TotalsAreCounts postings fields
@@ -84,6 +82,6 @@ module _ (schema : Schema) (built : is_built_schema schema ≡ true) (fields : L
   all_held : HoldFields schema fields files
   all_held terms postings positions t p q = (λ held are. hold_terms (total_in fields) (AreIn fields) schema files have terms postings positions (t, p, q) held (terms_of_field held are), totals_are_counts postings p)
 
-pub fields_held : (schema : Schema) → is_built_schema schema ≡ true → (fields : List FieldTerms) (files : Option FieldFiles) → IsSomeAnd files (HaveFields (total_in fields) (AreIn fields) schema) → IsSomeAnd files (HoldFields schema fields)
-fields_held schema built fields None have = absurd have
-fields_held schema built fields (Some files) have = all_held schema built fields files have
+pub fields_held : (schema : Schema) (fields : List FieldTerms) (files : Option FieldFiles) → IsSomeAnd files (HaveFields (total_in fields) (AreIn fields) schema) → IsSomeAnd files (HoldFields schema fields)
+fields_held schema fields None have = absurd have
+fields_held schema fields (Some files) have = all_held schema fields files have

@@ -11,11 +11,12 @@ use Rattle.std.proofs.lemmas.Bool.{false≢true, and_parts}
 use Rattle.std.proofs.lemmas.Option.{same_Some}
 use Rattle.seg_common.specs.Growing.{HasGrown}
 use Rattle.seg_model.specs.Reading.{Posting}
+use Rattle.seg_postings.specs.declared.asked_kind.AskedKind.{AskedKind}
 use Rattle.seg_postings.specs.declared.record_kind.RecordKind.{RecordKind}
 use Rattle.seg_postings.specs.FieldWriting.{TermWritten, FieldWriting, with_open, last_written, MayOpen}
 use Rattle.seg_postings.specs.Written.{AreWritable}
 use Rattle.seg_terms.specs.Entries.{TermEntries}
-use Rattle.seg_build.specs.FieldTerms.{FieldTerms}
+use Rattle.seg_build.specs.FieldTerms.{FieldTerms, kind_in}
 use Rattle.seg_segment.specs.WritingTerms.{term_with, with_terms, with_whole_term}
 use Rattle.seg_build.specs.TermsWritten.{written}
 use Rattle.seg_build.specs.Writable.{CanBeWritten}
@@ -32,53 +33,53 @@ below_at k (e ∷ es) (suc i) b h at =
     below_at k es i b (and_parts (is_lt (slice_cmp nat_cmp k e.0)) (below_all (slice_cmp nat_cmp) k es) h).1 at
 
 -- the term at a place is greater than the last before it
-ascends_at : (kind : RecordKind) (before : Option TermWritten) (es : TermEntries) (i : ℕ) (b : List ℕ)
+ascends_at : (asked : AskedKind) (before : Option TermWritten) (es : TermEntries) (i : ℕ) (b : List ℕ)
     → is_sorted (slice_cmp nat_cmp) es ≡ true → slice_get (keys_of es) i ≡ Some b
     → IfSome before (λ t. slice_cmp nat_cmp t.bytes b ≡ Less)
-    → IfSome (last_written before (map (written kind) (take i es))) (λ t. slice_cmp nat_cmp t.bytes b ≡ Less)
-ascends_at kind before [] i b up at h = absurd (false≢true (ap is_some at))
-ascends_at kind before (e ∷ es) zero b up at h = h
-ascends_at kind before (e ∷ es) (suc i) b up at h =
+    → IfSome (last_written before (map (written asked) (take i es))) (λ t. slice_cmp nat_cmp t.bytes b ≡ Less)
+ascends_at asked before [] i b up at h = absurd (false≢true (ap is_some at))
+ascends_at asked before (e ∷ es) zero b up at h = h
+ascends_at asked before (e ∷ es) (suc i) b up at h =
     let two = and_parts (below_all (slice_cmp nat_cmp) e.0 es) (is_sorted (slice_cmp nat_cmp) es) up in
-    ascends_at kind (Some (written kind e)) es i b two.1 at (below_at e.0 es i b two.0 at)
+    ascends_at asked (Some (written asked e)) es i b two.1 at (below_at e.0 es i b two.0 at)
 
-at_place : (Q : List Posting → Type 0) (es : TermEntries) (i : ℕ) (ps : List Posting) → AllByRecursion (λ e. Q e.1) es
-    → slice_get (values_of es) i ≡ Some ps → Q ps
-at_place Q [] i ps all at = absurd (false≢true (ap is_some at))
-at_place Q (e ∷ es) zero ps all at = subst Q (same_Some e.1 ps at) all.0
-at_place Q (e ∷ es) (suc i) ps all at = at_place Q es i ps all.1 at
+at_place : (Q : List ℕ → List Posting → Type 0) (es : TermEntries) (i : ℕ) (b : List ℕ) (ps : List Posting) → AllByRecursion (λ e. Q e.0 e.1) es
+    → slice_get (keys_of es) i ≡ Some b → slice_get (values_of es) i ≡ Some ps → Q b ps
+at_place Q [] i b ps all at_key at_value = absurd (false≢true (ap is_some at_key))
+at_place Q (e ∷ es) zero b ps all at_key at_value = subst (λ q. Q q ps) (same_Some e.0 b at_key) (subst (Q e.0) (same_Some e.1 ps at_value) all.0)
+at_place Q (e ∷ es) (suc i) b ps all at_key at_value = at_place Q es i b ps all.1 at_key at_value
 
-one_more : (kind : RecordKind) (es : TermEntries) (i : ℕ) (b : List ℕ) (ps : List Posting)
+one_more : (asked : AskedKind) (es : TermEntries) (i : ℕ) (b : List ℕ) (ps : List Posting)
     → slice_get (keys_of es) i ≡ Some b → slice_get (values_of es) i ≡ Some ps
-    → map (written kind) (take (suc i) es) ≡ map (written kind) (take i es) ++ written kind (b, ps) ∷ []
-one_more kind [] i b ps at_key at_value = absurd (false≢true (ap is_some at_key))
-one_more kind (e ∷ es) zero b ps at_key at_value =
-    ap (λ x. written kind (x, e.1) ∷ []) (same_Some e.0 b at_key)
-    ∙ ap (λ x. written kind (b, x) ∷ []) (same_Some e.1 ps at_value)
-one_more kind (e ∷ es) (suc i) b ps at_key at_value =
-    ap (λ l. written kind e ∷ l) (one_more kind es i b ps at_key at_value)
+    → map (written asked) (take (suc i) es) ≡ map (written asked) (take i es) ++ written asked (b, ps) ∷ []
+one_more asked [] i b ps at_key at_value = absurd (false≢true (ap is_some at_key))
+one_more asked (e ∷ es) zero b ps at_key at_value =
+    ap (λ x. written asked (x, e.1) ∷ []) (same_Some e.0 b at_key)
+    ∙ ap (λ x. written asked (b, x) ∷ []) (same_Some e.1 ps at_value)
+one_more asked (e ∷ es) (suc i) b ps at_key at_value =
+    ap (λ l. written asked e ∷ l) (one_more asked es i b ps at_key at_value)
 
 -- the first terms of a field
 abbrev pub first_written : ℕ → FieldTerms → List TermWritten
-first_written n field = map (written field.kind) (take n field.terms)
+first_written n field = map (written field.asked) (take n field.terms)
 
 -- a term that occurs is whole
-whole_term : (kind : RecordKind) (bytes : List ℕ) (ps : List Posting) → 0 < length ps → AreWritable kind 0 0 ps
-    → term_with bytes ps ≡ Some (written kind (bytes, ps))
-whole_term kind bytes [] some h = absurd (omega (arith, some))
-whole_term kind bytes (p ∷ ps) some h =
-    ap (λ (k : RecordKind). Some (record { bytes = bytes; kind = k; postings = p ∷ ps })) (first_keeps kind p ps h)
+whole_term : (asked : AskedKind) (bytes : List ℕ) (ps : List Posting) → 0 < length ps → AreWritable (kind_in asked bytes) 0 0 ps
+    → term_with bytes ps ≡ Some (written asked (bytes, ps))
+whole_term asked bytes [] some h = absurd (omega (arith, some))
+whole_term asked bytes (p ∷ ps) some h =
+    ap (λ (k : RecordKind). Some (record { bytes = bytes; kind = k; postings = p ∷ ps })) (first_keeps (kind_in asked bytes) p ps h)
 
 module _ (field : FieldTerms) (can : CanBeWritten field) (before now : Option FieldWriting) (i : ℕ) (g : HasGrown before now (with_terms (first_written i field))) where
   pub may_open : (bytes : List ℕ) → slice_get (keys_of field.terms) i ≡ Some bytes
       → IsSomeAnd now (λ w. MayOpen w bytes)
   may_open bytes at =
-      subst (λ o. IsSomeAnd o (λ w. MayOpen w bytes)) (sym g.is) (record { closed = refl; ascends = ascends_at field.kind None field.terms i bytes can.ascend at tt })
+      subst (λ o. IsSomeAnd o (λ w. MayOpen w bytes)) (sym g.is) (record { closed = refl; ascends = ascends_at field.asked None field.terms i bytes can.ascend at tt })
 
   module _ (bytes : List ℕ) (postings : List Posting) (at_key : slice_get (keys_of field.terms) i ≡ Some bytes) (at_value : slice_get (values_of field.terms) i ≡ Some postings) where
-    is_term : term_with bytes postings ≡ Some (written field.kind (bytes, postings))
+    is_term : term_with bytes postings ≡ Some (written field.asked (bytes, postings))
     is_term =
-        whole_term field.kind bytes postings (at_place (λ ps. 0 < length ps) field.terms i postings can.occur at_value) (at_place (AreWritable field.kind 0 0) field.terms i postings can.writable at_value)
+        whole_term field.asked bytes postings (at_place (λ _ ps. 0 < length ps) field.terms i bytes postings can.occur at_key at_value) (at_place (λ q ps. AreWritable (kind_in field.asked q) 0 0 ps) field.terms i bytes postings can.writable at_key at_value)
 
     pub term_more : (after : Option FieldWriting) → HasGrown now after (with_whole_term bytes postings)
         → HasGrown before after (with_terms (first_written (i + 1) field))
@@ -90,11 +91,11 @@ module _ (field : FieldTerms) (can : CanBeWritten field) (before now : Option Fi
           is = k.is
               ∙ ap (λ w. Some (with_whole_term bytes postings w)) (same_Some k.kept (with_terms (first_written i field) g.kept) (sym k.was ∙ g.is))
               ∙ ap (λ o. Some (record g.kept { terms = with_open (first_written i field) o; current = None })) is_term
-              ∙ ap (λ ts. Some (record g.kept { terms = ts; current = None })) (sym (one_more field.kind field.terms i bytes postings at_key at_value) ∙ ap (λ m. first_written m field) next);
+              ∙ ap (λ ts. Some (record g.kept { terms = ts; current = None })) (sym (one_more field.asked field.terms i bytes postings at_key at_value) ∙ ap (λ m. first_written m field) next);
         }
 
-pub writable_at : (field : FieldTerms) → CanBeWritten field → (kind : RecordKind) → kind ≡ field.kind
-    → (i : ℕ) (postings : List Posting) → slice_get (values_of field.terms) i ≡ Some postings
-    → AreWritable kind 0 0 postings
-writable_at field can kind same i postings at =
-    subst (λ (k : RecordKind). AreWritable k 0 0 postings) (sym same) (at_place (AreWritable field.kind 0 0) field.terms i postings can.writable at)
+pub writable_at : (field : FieldTerms) → CanBeWritten field → (i : ℕ) (bytes : List ℕ) (postings : List Posting)
+    → slice_get (keys_of field.terms) i ≡ Some bytes → slice_get (values_of field.terms) i ≡ Some postings
+    → AreWritable (kind_in field.asked bytes) 0 0 postings
+writable_at field can i bytes postings at_key at_value =
+    at_place (λ q ps. AreWritable (kind_in field.asked q) 0 0 ps) field.terms i bytes postings can.writable at_key at_value

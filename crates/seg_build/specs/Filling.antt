@@ -9,11 +9,10 @@ use Rattle.seg_model.specs.Norms.{all_norms}
 use Rattle.seg_model.specs.Reading.{Terms}
 use Rattle.seg_norms.specs.FieldNorms.{norms_parts}
 use Rattle.seg_postings.specs.Files.{FieldFiles}
-use Rattle.seg_postings.specs.Kinds.{kind_of}
 use Rattle.seg_store.specs.Writing.{Taken}
 use Rattle.seg_values.specs.Tree.{Document}
 use Rattle.seg_build.specs.Batch.{kept_norms}
-use Rattle.seg_build.specs.FieldTerms.{FieldTerms}
+use Rattle.seg_build.specs.FieldTerms.{FieldTerms, asked_by}
 use Rattle.seg_segment.specs.HoldTerms.{HoldTerms}
 use Rattle.seg_segment.specs.Serializing.{Serializing}
 use Rattle.seg_build.specs.Totals.{TotalsAreCounts}
@@ -21,7 +20,7 @@ use Rattle.seg_build.specs.declared.fields.IndexedBatch.{IndexedBatch}
 
 -- these are the terms of fields, each recorded as its field asks
 pub record AreFieldsOf (schema : Schema) (fields : List FieldTerms) (held : List Terms) : Type 0 where
-  pub kinds : map (λ f. f.kind) fields ≡ map (λ e. kind_of e.index) schema
+  pub asked : map (λ f. f.asked) fields ≡ map asked_by schema
   pub terms : map (λ f. f.terms) fields ≡ map entries held
 
 -- files of these parts hold the terms of fields

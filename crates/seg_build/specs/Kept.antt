@@ -17,7 +17,7 @@ pub record Kept : Type 0 where
 
 -- the code by which a proof tells fields apart
 abbrev pub field_code : Coded FieldPostings
-field_code = code_by ((Terms × ℕ) × (ℕ × ℕ)) (coded× (coded× terms_code coded_ℕ) (coded× coded_ℕ coded_ℕ)) (λ f. ((f.terms, f.document), (f.start, f.count))) (λ p. record { terms = p.0.0; document = p.0.1; start = p.1.0; count = p.1.1 }) (λ _. refl)
+field_code = code_by ((Terms × ℕ) × (ℕ × ℕ)) (coded× (coded× terms_code coded_ℕ) (coded× coded_ℕ coded_ℕ)) (λ f. ((f.terms, f.document), (f.start, f.len))) (λ p. record { terms = p.0.0; document = p.0.1; start = p.1.0; len = p.1.1 }) (λ _. refl)
 
 -- and what a store took
 abbrev pub taken_code : Coded Taken

@@ -5,7 +5,7 @@ use Rattle.seg_values.specs.Tree.{Document}
 use Rattle.seg_model.specs.Fields.{Schema, Analyzer}
 use Rattle.seg_norms.specs.FieldNorms.{at_field, filled, with_length}
 use Rattle.seg_build.specs.Batch.{kept_norms}
-use Rattle.seg_build.specs.Field.{count_in}
+use Rattle.seg_build.specs.Field.{length_of}
 use Rattle.seg_build.specs.declared.field.FieldPostings.{FieldPostings}
 
 -- no field has more ids than there are documents before this one
@@ -24,24 +24,24 @@ lacks_length document (Some ids) = nat_le (length ids) document
 
 -- the ids of a field with the id of a document's length, unless it is there
 abbrev pub recorded_once : ℕ → ℕ → List ℕ → List ℕ
-recorded_once document count ids = if lacks_length document (Some ids) then with_length document count ids else ids
+recorded_once document len ids = if lacks_length document (Some ids) then with_length document len ids else ids
 
--- the count of a document's tokens in a field, if it is there
-abbrev pub count_at : ℕ → Option FieldPostings → ℕ
-count_at document None = 0
-count_at document (Some field) = count_in document field
+-- the length of a field in a document, if it is there
+abbrev pub length_at : ℕ → Option FieldPostings → ℕ
+length_at document None = 0
+length_at document (Some field) = length_of document field
 
 -- the ids of all fields with that of a document's length in one field
 abbrev pub with_length_of : ℕ → List FieldPostings → ℕ → List (Option (List ℕ)) → List (Option (List ℕ))
-with_length_of document fields place kept = at_field place (recorded_once document (count_at document (slice_get fields place))) kept
+with_length_of document fields place kept = at_field place (recorded_once document (length_at document (slice_get fields place))) kept
 
 -- and in some fields
 abbrev pub with_lengths : ℕ → List FieldPostings → List ℕ → List (Option (List ℕ)) → List (Option (List ℕ))
 with_lengths document fields [] kept = kept
 with_lengths document fields (place ∷ places) kept = with_lengths document fields places (with_length_of document fields place kept)
 
--- the ids of each field that has lengths, with the id of a document's length, which is the count of its tokens
-abbrev pub with_counts : ℕ → List FieldPostings → List (Option (List ℕ)) → List (Option (List ℕ))
-with_counts document [] kept = kept
-with_counts document (f ∷ fs) [] = []
-with_counts document (f ∷ fs) (k ∷ ks) = option_map (with_length document (count_in document f)) k ∷ with_counts document fs ks
+-- the ids of each field that has lengths, with the id of a document's length
+abbrev pub with_each_length : ℕ → List FieldPostings → List (Option (List ℕ)) → List (Option (List ℕ))
+with_each_length document [] kept = kept
+with_each_length document (f ∷ fs) [] = []
+with_each_length document (f ∷ fs) (k ∷ ks) = option_map (with_length document (length_of document f)) k ∷ with_each_length document fs ks

@@ -8,6 +8,7 @@ pub mod Laws
 pub mod MemoryUsage
 pub mod Lengths
 pub mod NormsFile
+pub mod Prefixes
 pub mod SegmentWriting
 pub mod Steps
 pub mod StoredBatch

@@ -1,11 +1,12 @@
 -- How much memory a writer says that it has taken: a formula over its documents, by which a budget is kept.
 use Rattle.std.specs.Prelude.{ℕ, ◌+◌, ◌*◌, ◌-◌, ◌^◌, min, List, [], ◌∷◌, map, filter, length}
-use Rattle.seg_words.specs.declared.token.Token.{Token}
 use Rattle.seg_values.specs.Tree.{Document}
 use Rattle.seg_model.specs.Fields.{Schema, Analyzer, fields, has_lengths}
-use Rattle.seg_model.specs.Occurrences.{counted, occurrences}
+use Rattle.seg_model.specs.Occurrences.{occurrences}
 use Rattle.seg_values.specs.StoredForm.{stored_form}
+use Rattle.seg_check.specs.IndexedValues.{IndexedContent}
 use Rattle.seg_store.specs.Writing.{byte_count}
+use Rattle.seg_build.specs.Field.{count_in}
 
 -- the sum of what each has
 abbrev pub total : {A : Type 0} → (A → ℕ) → List A → ℕ
@@ -20,9 +21,9 @@ saturated n = min n (2 ^ 64 - 1)
 abbrev pub occurrence_count : Schema → Analyzer → Document → ℕ
 occurrence_count schema analyzer document = total (λ f. length (occurrences schema analyzer document f.0)) (fields schema)
 
--- how often terms occur in texts
-abbrev pub text_count : List (ℕ × List Token) → ℕ
-text_count texts = total (λ t. length (counted t.1)) texts
+-- how often terms occur in values
+abbrev pub value_count : List (ℕ × IndexedContent) → ℕ
+value_count values = total (λ v. count_in v.1) values
 
 -- how many fields have lengths
 abbrev pub length_fields : Schema → ℕ

@@ -12,8 +12,8 @@ use Rattle.seg_model.specs.Checked.{at_place, document_refusal}
 use Rattle.seg_model.specs.Fields.{Schema, Analyzer}
 use Rattle.seg_model.specs.Reading.{stored_document}
 use Rattle.seg_values.specs.StoredForm.{stored_form}
-use Rattle.seg_check.specs.Texts.{text_in}
-use Rattle.seg_check.specs.declared.field_text.FieldText.{FieldText}
+use Rattle.seg_check.specs.IndexedValues.{value_in}
+use Rattle.seg_check.specs.declared.indexed_value.IndexedValue.{IndexedValue}
 use Rattle.seg_store.specs.BlockLaw.{all_documents}
 use Rattle.seg_store.specs.Store.{documents_of}
 use Rattle.seg_stored.specs.StoredDocument.{stored_document_of}
@@ -21,8 +21,8 @@ use Rattle.seg_stored.specs.StoredLaw.{AreShallow}
 use Rattle.seg_store.specs.Writing.{Taken, with_document, all_blocks, taken_count}
 use Rattle.seg_build.specs.Kept.{Kept}
 use Rattle.seg_build.specs.Lengths.{HaveLengths, with_lengths}
-use Rattle.seg_build.specs.MemoryUsage.{total, saturated, occurrence_count, text_count}
-use Rattle.seg_build.specs.Steps.{AllFit, fresh, with_documents, with_texts}
+use Rattle.seg_build.specs.MemoryUsage.{total, saturated, occurrence_count, value_count}
+use Rattle.seg_build.specs.Steps.{AllFit, fresh, with_documents, with_values}
 use Rattle.seg_build.specs.StoredBlocks.{stored_with}
 use Rattle.seg_build.specs.declared.writer_parts.WriterParts.{WriterParts}
 
@@ -106,18 +106,18 @@ AddsNone analyzer document stamp old new (InvalidArgument Documents) = IsSomeAnd
 AddsNone analyzer document stamp old new OutOfMemory = IsSomeAnd old.kept HasPlace × (new.kept ≡ None)
 AddsNone analyzer document stamp old new e = IsSomeAnd old.kept HasPlace × Tells old.schema analyzer document stamp e × (new ≡ old)
 
--- one more document can be taken, of which these are the texts
-pub record HasRoom (document : Document) (texts : List FieldText) (kept : Kept) : Type 0 where
+-- one more document can be taken, of which these are the indexed values
+pub record HasRoom (document : Document) (values : List IndexedValue) (kept : Kept) : Type 0 where
   pub place : HasPlace kept
   pub shallow : AreShallow document
-  pub fit : AllFit (length kept.stamps) kept.fields (map (text_in document) texts)
+  pub fit : AllFit (length kept.stamps) kept.fields (map (value_in document) values)
   pub store : IfSome kept.store (λ w. taken_count w < 2 ^ 31 - 1)
 
--- one more document was taken, of which these are the texts
-pub record HasTaken (schema : Schema) (document : Document) (texts : List FieldText) (stamp : ℕ) (old new : Kept) : Type 0 where
-  pub fields : new.fields ≡ with_texts (length old.stamps) old.fields (map (text_in document) texts)
-  pub norms : new.norms ≡ option_map (with_lengths (length old.stamps) new.fields (map (λ t. t.field) texts)) old.norms
+-- one more document was taken, of which these are the indexed values
+pub record HasTaken (schema : Schema) (document : Document) (values : List IndexedValue) (stamp : ℕ) (old new : Kept) : Type 0 where
+  pub fields : new.fields ≡ with_values (length old.stamps) old.fields (map (value_in document) values)
+  pub norms : new.norms ≡ option_map (with_lengths (length old.stamps) new.fields (map (λ v. v.field) values)) old.norms
   pub store : HasGrown old.store new.store (with_document (stored_form schema document))
   pub reads : stored_document_of (stored_form schema document) ≡ Some (stored_document schema document)
   pub stamps : new.stamps ≡ old.stamps ++ stamp ∷ []
-  pub occurrences : new.occurrences ≡ saturated (old.occurrences + saturated (text_count (map (text_in document) texts)))
+  pub occurrences : new.occurrences ≡ saturated (old.occurrences + saturated (value_count (map (value_in document) values)))

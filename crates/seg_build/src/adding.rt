@@ -1,54 +1,71 @@
-//! Adds the texts of a document to the fields.
-ghost use Rattle.std.specs.Prelude.{◌≡◌, [], ◌∷◌, map, length, IfOk, IsSomeAnd, OnOk};
+//! Adds the values of a document to the fields.
+ghost use Rattle.std.specs.Prelude.{◌≡◌, [], ◌∷◌, map, IfOk, IsSomeAnd, OnOk};
 ghost use Rattle.std.specs.List.{slice_get};
-ghost use Rattle.seg_model.specs.Occurrences.{counted};
-ghost use Rattle.seg_check.specs.Texts.{text_in};
-ghost use Rattle.seg_build.specs.Field.{Fits};
-ghost use Rattle.seg_build.specs.MemoryUsage.{saturated, text_count};
-ghost use Rattle.seg_build.specs.Steps.{AllFit, with_texts};
+ghost use Rattle.seg_check.specs.IndexedValues.{content_by, value_in};
+ghost use Rattle.seg_values.specs.View.{tree_of};
+ghost use Rattle.seg_build.specs.Field.{Fits, added, count_in};
+ghost use Rattle.seg_build.specs.MemoryUsage.{saturated, value_count};
+ghost use Rattle.seg_build.specs.Steps.{AllFit, with_values};
 
 use crate::field::FieldPostings;
-use seg_check::FieldText;
-use seg_values::Pairs;
+use seg_check::IndexedValue;
+use seg_values::{OwnedValue, Pairs};
 use std::alloc::{AllocError, Global};
 
-/// Adds texts of a document that no other one is past, and answers how many of their tokens give terms, at most
+/// Adds values of a document that no other one is past, and answers how often terms occur in them, at most
 /// `usize::MAX`.
-pub(crate) fn add_texts(
+pub(crate) fn add_values(
     alloc: Global,
     id: u32,
     document: &Pairs<'_>,
-    texts: &[FieldText],
+    values: &[IndexedValue],
     fields: &mut [FieldPostings],
 ) -> Result<usize, AllocError>
-    requires { AllFit id fields.old (map (text_in document.now) texts.now) }
-    ensures fields { OnOk result (fields.new ≡ with_texts id fields.old (map (text_in document.now) texts.now)) }
-    ensures counted { IfOk result (λ count. count ≡ saturated (text_count (map (text_in document.now) texts.now))) }
+    requires { AllFit id fields.old (map (value_in document.now) values.now) }
+    ensures fields { OnOk result (fields.new ≡ with_values id fields.old (map (value_in document.now) values.now)) }
+    ensures counted { IfOk result (λ count. count ≡ saturated (value_count (map (value_in document.now) values.now))) }
 {
     let mut count = 0usize;
-    for text in texts {
-        let more = add_text(alloc, id, document, text, fields)?;
+    for value in values {
+        let more = add_value(alloc, id, document, value, fields)?;
         count = count.saturating_add(more);
     }
     Ok(count)
 }
 
-/// Adds a text, and answers how many of its tokens give terms. Where its value is not there, that is answered as out of
-/// memory.
-fn add_text(
+/// Adds a value, and answers how often terms occur in it. Where it is not there, that is answered as out of memory.
+fn add_value(
     alloc: Global,
     id: u32,
     document: &Pairs<'_>,
-    text: &FieldText,
+    value: &IndexedValue,
     fields: &mut [FieldPostings],
 ) -> Result<usize, AllocError>
-    requires { IsSomeAnd (slice_get fields.old text.now.field) (Fits id (text_in document.now text.now).1) }
-    ensures fields { OnOk result (fields.new ≡ with_texts id fields.old (text_in document.now text.now ∷ [])) }
-    ensures counted { IfOk result (λ more. more ≡ length (counted (text_in document.now text.now).1)) }
+    requires { IsSomeAnd (slice_get fields.old value.now.field) (Fits id (value_in document.now value.now).1) }
+    ensures fields { OnOk result (fields.new ≡ with_values id fields.old (value_in document.now value.now ∷ [])) }
+    ensures counted { IfOk result (λ more. more ≡ count_in (value_in document.now value.now).1) }
 {
-    if text.at >= document.len() {
+    if value.at >= document.len() {
         return Err(AllocError);
     }
-    let (_, value) = document.pair(text.at);
-    fields[text.field as usize].add_text(alloc, id, text.tokens(value))
+    let (_, tree) = document.pair(value.at);
+    add_to_field(alloc, id, value, tree, &mut fields[value.field as usize])
+}
+
+/// Adds what a value gives to its field: its tokens, or else its terms.
+fn add_to_field(
+    alloc: Global,
+    id: u32,
+    value: &IndexedValue,
+    tree: &OwnedValue,
+    field: &mut FieldPostings,
+) -> Result<usize, AllocError>
+    requires { Fits id (content_by value.now.form (tree_of tree.now)) field.old }
+    ensures added { OnOk result (field.new ≡ added id field.old (content_by value.now.form (tree_of tree.now))) }
+    ensures counted { IfOk result (λ more. more ≡ count_in (content_by value.now.form (tree_of tree.now))) }
+{
+    match value.tokens(tree) {
+        Some(tokens) => field.add_text(alloc, id, tokens),
+        None => field.add_terms(alloc, id, tree),
+    }
 }

@@ -9,7 +9,7 @@ ghost use Rattle.seg_build.specs.Writable.{CanBeWritten, PositionsCanBeWritten};
 use crate::field::FieldPostings;
 use crate::sorted::{SortedTerms, sort_terms};
 use seg_norms::FieldNormsWriter;
-use seg_postings::RecordKind;
+use seg_postings::AskedKind;
 use seg_values::FieldEntry;
 use std::alloc::{AllocError, Global};
 use std::marker::Model;
@@ -22,12 +22,13 @@ pub struct IndexedFields {
 
 impl Model for IndexedFields {
     ghost use Rattle.std.specs.Prelude.{List};
-    ghost use Rattle.std.specs.Coded.{coded_list};
-    ghost use Rattle.seg_build.specs.FieldTerms.{FieldTerms, field_terms_code};
+    ghost use Rattle.std.specs.Coded.{codes};
+    ghost use Rattle.seg_terms.specs.Entries.{entries_code};
+    ghost use Rattle.seg_build.specs.FieldTerms.{FieldTerms};
 
     ghost Value = { List FieldTerms };
 
-    ghost coded = { coded_list field_terms_code };
+    ghost coded = { Prim.hlevel (codes, entries_code) };
 
     ghost view = { λ a. a.fields.items };
 
@@ -106,8 +107,8 @@ fn sort_fields(
 {
     let mut sorted = Vec::new(alloc);
     for field in fields {
-        let kind = RecordKind::of_option(schema[sorted.len()].index);
-        sorted.push(sort_terms(alloc, kind, field.terms)?)?;
+        let asked = AskedKind::of_entry(&schema[sorted.len()]);
+        sorted.push(sort_terms(alloc, asked, field.terms)?)?;
     }
     Ok(sorted)
 }

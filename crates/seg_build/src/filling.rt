@@ -1,6 +1,5 @@
 //! What the components of a segment are to hold, from the documents that were indexed.
-ghost use Rattle.std.specs.Prelude.{◌≡◌, true, length, IfOk};
-ghost use Rattle.seg_segment.specs.Built.{is_built_schema};
+ghost use Rattle.std.specs.Prelude.{◌≡◌, length, IfOk};
 ghost use Rattle.seg_build.specs.Filling.{IsFilled};
 
 use crate::fields::IndexedBatch;
@@ -21,8 +20,7 @@ pub(crate) fn filled(
     batch: &IndexedBatch,
     count: u32,
 ) -> Result<SegmentSerializer, AllocError>
-    requires fields { length batch.now.fields ≡ length segment.schema }
-    requires entries { is_built_schema segment.schema ≡ true }
+    requires { length batch.now.fields ≡ length segment.schema }
     ensures { IfOk result (IsFilled segment store batch.now count) }
 {
     let schema = segment.schema();

@@ -4,29 +4,28 @@ ghost use Rattle.std.specs.List.{slice_get};
 ghost use Rattle.seg_build.specs.Lengths.{lacks_length, with_length_of, with_lengths};
 
 use crate::field::FieldPostings;
-use seg_check::FieldText;
+use seg_check::IndexedValue;
 use seg_norms::FieldNormsWriter;
 use seg_values::Field;
 use std::alloc::AllocError;
 
-/// Records how many tokens a document has in each field of its texts that has lengths, once these were added to the
-/// fields.
+/// Records the length of each field of a document's values that has lengths, once these were added to the fields.
 pub(crate) fn record_lengths(
     document: u32,
-    texts: &[FieldText],
+    values: &[IndexedValue],
     fields: &[FieldPostings],
     norms: &mut FieldNormsWriter,
 ) -> Result<(), AllocError>
-    ensures { OnOk result (norms.new ≡ option_map (with_lengths document fields.now (map (λ t. t.field) texts.now)) norms.old) }
+    ensures { OnOk result (norms.new ≡ option_map (with_lengths document fields.now (map (λ v. v.field) values.now)) norms.old) }
 {
-    for text in texts {
-        record_length(document, text.field, fields, norms)?;
+    for value in values {
+        record_length(document, value.field, fields, norms)?;
     }
     Ok(())
 }
 
-/// Records how many tokens a document has in a field, if that has lengths, and this one isn't recorded yet. Where the
-/// field is not there, that is answered as out of memory.
+/// Records the length of a field in a document, if it has lengths, and this one isn't recorded yet. Where the field is
+/// not there, that is answered as out of memory.
 fn record_length(
     document: u32,
     field: u32,
@@ -39,12 +38,12 @@ fn record_length(
     if place >= fields.len() {
         return Err(AllocError);
     }
-    let count = fields[place].count_in(document);
+    let len = fields[place].length_of(document);
     let field = Field::from_field_id(field);
     if !lacks_length(document, field, norms) {
         return Ok(());
     }
-    match norms.record(document, field, count) {
+    match norms.record(document, field, len) {
         Ok(()) => Ok(()),
         Err(_) => Err(AllocError),
     }

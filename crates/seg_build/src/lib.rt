@@ -3,13 +3,13 @@
 //! A schema and documents become the terms of each field, in byte order, each with its postings; contracts see them as a
 //! list for each field. While documents come, the terms of a field are a `TermIndex`, each with all its positions; at
 //! the end they are ordered once, and what is shown and written of a term is what its field records. A `SegmentWriter`
-//! takes documents one by one. What isn't built yet, fields that are fast and indexed fields of other kinds than texts,
-//! is refused when a writer is made.
+//! takes documents one by one. What isn't built yet, fields that are fast and indexed fields of JSON or facets, is refused
+//! when a writer is made.
 //!
-//! To be read in this order: `sorted` (the terms of a field in byte order), `tokens` and `field` (what one more text
-//! adds), `lengths` (the field norms of a document), `usage` (how much memory documents take), `fields` (those of all
+//! To be read in this order: `sorted` (the terms of a field in byte order), `tokens`, `value_terms` and `field` (what one more
+//! value adds), `lengths` (the field norms of a document), `usage` (how much memory documents take), `fields` (those of all
 //! documents); `writing` (the terms of a field, into a `TermWriter`), `terms_files` and `norms_file` (the parts
-//! of files), `filling` (what the components of a segment are to hold); `add_operation`, `adding` (the texts of a
+//! of files), `filling` (what the components of a segment are to hold); `add_operation`, `adding` (the values of a
 //! document that passed its check), `writer_start`, `writer_parts`, `memory_segment`, `finishing` and `segment_writer`;
 //! `laws` (terms that were indexed can be written).
 #![tactic(auto)]
@@ -29,6 +29,7 @@ mod sorted;
 mod terms_files;
 mod tokens;
 mod usage;
+mod value_terms;
 mod writer_parts;
 mod writer_start;
 mod writing;

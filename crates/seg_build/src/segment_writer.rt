@@ -21,7 +21,7 @@ use crate::memory_segment::MemorySegment;
 use crate::usage::length_fields;
 use crate::writer_parts::WriterParts;
 use crate::writer_start::start_refusal;
-use seg_check::checked_texts;
+use seg_check::checked_values;
 use seg_common::{FileName, SegmentComponent};
 use seg_directory::Directory;
 use seg_meta::{IndexSettings, Segment};
@@ -205,8 +205,8 @@ impl<'a, Z: Analyzers> SegmentWriter<'a, Z> {
         documents_stay_in_order();
         let alloc = self.alloc;
         let schema = self.segment.schema();
-        match checked_texts(alloc, schema, self.analyzers, document, opstamp as usize) {
-            Ok(texts) => match parts.with_document(alloc, schema, document, &texts, opstamp) {
+        match checked_values(alloc, schema, self.analyzers, document, opstamp as usize) {
+            Ok(values) => match parts.with_document(alloc, schema, document, &values, opstamp) {
                 Ok(parts) => {
                     self.parts = Some(parts);
                     Ok(())

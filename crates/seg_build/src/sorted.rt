@@ -1,13 +1,13 @@
 //! Terms in byte order.
-ghost use Rattle.std.specs.Prelude.{◌≡◌, ◌<◌, ◌-◌, ◌^◌, length, min, Some, IfOk};
+ghost use Rattle.std.specs.Prelude.{◌≡◌, ◌<◌, ◌-◌, ◌^◌, length, min, Some, IfOk, IsSomeAnd};
 ghost use Rattle.std.specs.FinMap.{entries};
 ghost use Rattle.std.specs.List.{slice_get};
-ghost use Rattle.std.specs.Map.{keys_of, values_of};
+ghost use Rattle.std.specs.Map.{keys_of};
 ghost use Rattle.seg_terms.specs.Grouped.{grouped};
-ghost use Rattle.seg_build.specs.FieldTerms.{entries_as, postings_as};
+ghost use Rattle.seg_build.specs.FieldTerms.{entries_as, kind_in, postings_as};
 ghost use Rattle.seg_build.specs.TokenTotal.{count_total, token_total};
 
-use seg_postings::RecordKind;
+use seg_postings::{AskedKind, RecordKind};
 use seg_terms::{Hit, OrderedTerms, TermIndex, order_terms, posting_count};
 use std::alloc::{AllocError, Global};
 use std::marker::Model;
@@ -15,26 +15,28 @@ use std::marker::Model;
 /// The terms of a field in byte order, each with its occurrences, and what their postings keep of these.
 #[derive(Drop)]
 pub struct SortedTerms {
-    kind: RecordKind,
+    asked: AskedKind,
     terms: OrderedTerms,
 }
 
 impl Model for SortedTerms {
-    ghost use Rattle.seg_build.specs.FieldTerms.{FieldTerms, entries_as, field_terms_code};
+    ghost use Rattle.std.specs.Coded.{codes};
+    ghost use Rattle.seg_terms.specs.Entries.{entries_code};
+    ghost use Rattle.seg_build.specs.FieldTerms.{FieldTerms, entries_as};
 
     ghost Value = { FieldTerms };
 
-    ghost coded = { field_terms_code };
+    ghost coded = { Prim.hlevel (codes, entries_code) };
 
-    ghost view = { λ a. record { kind = a.kind; terms = entries_as a.kind a.terms } };
+    ghost view = { λ a. record { asked = a.asked; terms = entries_as a.asked a.terms } };
 }
 
 impl SortedTerms {
-    /// What the postings keep of each document.
-    pub fn kind(&self) -> RecordKind
-        ensures { result ≡ self.now.kind }
+    /// What the postings of a term with these bytes keep of each document.
+    pub fn kind_of(&self, bytes: &[u8]) -> RecordKind
+        ensures { result ≡ kind_in self.now.asked bytes.now }
     {
-        self.kind
+        self.asked.of_bytes(bytes)
     }
 
     pub fn len(&self) -> usize
@@ -56,7 +58,7 @@ impl SortedTerms {
     #[inline]
     pub fn hits_at(&self, index: usize) -> &[Hit]
         requires { index < length self.now.terms }
-        ensures { slice_get (values_of self.now.terms) index ≡ Some (postings_as self.now.kind (grouped result.now)) }
+        ensures { IsSomeAnd (slice_get self.now.terms index) (λ e. e.1 ≡ postings_as (kind_in self.now.asked e.0) (grouped result.now)) }
     {
         self.terms.hits_at(index)
     }
@@ -68,7 +70,8 @@ impl SortedTerms {
     {
         let mut total: u64 = 0;
         for at in 0..self.len() {
-            let count = recorded_count(self.kind, self.hits_at(at)) as u64;
+            let kind = self.kind_of(self.bytes_at(at));
+            let count = recorded_count(kind, self.hits_at(at)) as u64;
             total = total.saturating_add(count);
         }
         total
@@ -85,14 +88,14 @@ fn recorded_count(kind: RecordKind, hits: &[Hit]) -> usize
     }
 }
 
-/// Orders the terms of a field, whose postings keep what the kind says.
+/// Orders the terms of a field, whose postings keep what is asked.
 pub(crate) fn sort_terms(
     alloc: Global,
-    kind: RecordKind,
+    asked: AskedKind,
     index: TermIndex,
 ) -> Result<SortedTerms, AllocError>
-    ensures { IfOk result (λ sorted. sorted ≡ record { kind = kind; terms = entries_as kind (entries index) }) }
+    ensures { IfOk result (λ sorted. sorted ≡ record { asked = asked; terms = entries_as asked (entries index) }) }
 {
     let terms = order_terms(alloc, index)?;
-    Ok(SortedTerms { kind, terms })
+    Ok(SortedTerms { asked, terms })
 }

@@ -1,6 +1,5 @@
 //! The terms of all indexed fields, in the files.
-ghost use Rattle.std.specs.Prelude.{◌≡◌, true, length, IfOk, IsSomeAnd};
-ghost use Rattle.seg_segment.specs.Built.{is_built_schema};
+ghost use Rattle.std.specs.Prelude.{◌≡◌, length, IfOk, IsSomeAnd};
 ghost use Rattle.seg_build.specs.Filling.{HoldFields};
 
 use crate::fields::IndexedFields;
@@ -45,8 +44,7 @@ pub(crate) fn field_files(
     schema: &Schema,
     fields: &IndexedFields,
 ) -> Result<InvertedIndexSerializer, AllocError>
-    requires fields { length fields.now ≡ length schema.now }
-    requires entries { is_built_schema schema.now ≡ true }
+    requires { length fields.now ≡ length schema.now }
     ensures { IfOk result (λ files. IsSomeAnd files (HoldFields schema.now fields.now)) }
 {
     write_fields(alloc, schema, fields)

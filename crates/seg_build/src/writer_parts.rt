@@ -3,18 +3,18 @@ ghost use Rattle.std.specs.Prelude.{[], IfOk};
 ghost use Rattle.seg_model.specs.Fields.{Analyzer};
 
 use crate::add_operation::Opstamp;
-use crate::adding::add_texts;
+use crate::adding::add_values;
 use crate::field::FieldPostings;
 use crate::fields::new_fields;
 use crate::lengths::record_lengths;
-use seg_check::FieldText;
+use seg_check::IndexedValue;
 use seg_norms::FieldNormsWriter;
 use seg_store::StoreWriter;
 use seg_values::{Compressor, Pairs, Schema};
 use std::alloc::{AllocError, Global};
 
 /// The terms and the lengths of documents, their store, their stamps, and how often terms occur in them, at most
-/// `usize::MAX`. A field has lengths up to its last document with a text: those after it are 0.
+/// `usize::MAX`. A field has lengths up to its last document with a value: those after it are 0.
 #[derive(Drop)]
 pub(crate) struct WriterParts {
     pub fields: Vec<FieldPostings>,
@@ -47,22 +47,22 @@ impl WriterParts {
         })
     }
 
-    /// Adds a document, of which these are the texts.
+    /// Adds a document, of which these are the indexed values.
     pub fn with_document(
         self,
         alloc: Global,
         schema: &Schema,
         document: &Pairs<'_>,
-        texts: &[FieldText],
+        values: &[IndexedValue],
         stamp: Opstamp,
     ) -> Result<WriterParts, AllocError>
-        requires room { HasRoom document.now texts.now (kept_of self) }
-        ensures { IfOk result (λ parts. HasTaken schema.now document.now texts.now stamp (kept_of self) (kept_of parts)) }
+        requires room { HasRoom document.now values.now (kept_of self) }
+        ensures { IfOk result (λ parts. HasTaken schema.now document.now values.now stamp (kept_of self) (kept_of parts)) }
     {
         let mut parts = self;
         let id = parts.stamps.len() as u32;
-        let occurrences = add_texts(alloc, id, document, texts, &mut parts.fields)?;
-        record_lengths(id, texts, &parts.fields, &mut parts.norms)?;
+        let occurrences = add_values(alloc, id, document, values, &mut parts.fields)?;
+        record_lengths(id, values, &parts.fields, &mut parts.norms)?;
         parts.occurrences = parts.occurrences.saturating_add(occurrences);
         let Ok(()) = parts.store.store_pairs(document, schema) else {
             return Err(AllocError);

@@ -27,16 +27,11 @@ pub(crate) fn write_terms(
     requires unwritten { IsSomeAnd writer.old IsUnwritten }
     ensures { OnOk result (HasGrown writer.old writer.new (with_terms (all_written (Some terms.now)))) }
 {
-    let kind = terms.kind();
     let mut places = Vec::new(alloc);
     for at in 0..terms.len() {
-        write_term(
-            kind,
-            terms.bytes_at(at),
-            terms.hits_at(at),
-            &mut places,
-            writer,
-        )?;
+        let bytes = terms.bytes_at(at);
+        let kind = terms.kind_of(bytes);
+        write_term(kind, bytes, terms.hits_at(at), &mut places, writer)?;
     }
     Ok(())
 }

@@ -55,8 +55,8 @@ fn made(alloc: Global, documents: &[&[&str]]) -> TResult<MemorySegment> {
     writer.into_segment()
 }
 
-/// Of each field what it records, the total of its tokens, and in brackets its terms: the first letter of each, the length
-/// of its first run, and where it occurs.
+/// Of each field the total of its tokens, and in brackets its terms: what each records, its first letter, the length of
+/// its first run, and where it occurs.
 fn shown(alloc: Global, fields: &IndexedFields) -> Result<String, AllocError> {
     let mut out = String::new(alloc);
     for field in 0..fields.len() {
@@ -66,11 +66,12 @@ fn shown(alloc: Global, fields: &IndexedFields) -> Result<String, AllocError> {
 }
 
 fn show_field(out: &mut String, terms: &SortedTerms) -> Result<(), AllocError> {
-    out.push(kind_letter(terms.kind()))?;
     write!(out, "{}", terms.total_num_tokens())?;
     out.push('[')?;
     for at in 0..terms.len() {
-        show_term(out, terms.bytes_at(at), terms.hits_at(at))?;
+        let bytes = terms.bytes_at(at);
+        out.push(kind_letter(terms.kind_of(bytes)))?;
+        show_term(out, bytes, terms.hits_at(at))?;
     }
     out.push(']')
 }
@@ -103,7 +104,7 @@ fn terms_are_recorded_as_their_fields_ask(rt: HostRuntime) -> Result<(), Fail> {
     let made = made.ok().ok_or("made")?;
     assert_eq!(rt;
         shown(alloc, &made.fields)?.as_str(),
-        "D0[]D3[a2 0@0 0@1 1@3 1@4b2 1@0 1@1]C6[a2 0@0 0@1 1@3 1@4b2 1@0 1@1]P6[a2 0@0 0@1 1@3 1@4b2 1@0 1@1]"
+        "0[]3[Da2 0@0 0@1 1@3 1@4Db2 1@0 1@1]6[Ca2 0@0 0@1 1@3 1@4Cb2 1@0 1@1]6[Pa2 0@0 0@1 1@3 1@4Pb2 1@0 1@1]"
     );
     Ok(())
 }

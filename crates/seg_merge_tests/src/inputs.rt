@@ -116,9 +116,11 @@ fn numbers_and_columns(rt: HostRuntime) -> Result<(), Fail> {
     let alloc = rt.alloc();
     let unindexed = schema(alloc, FieldKind::U64, IndexOption::No, false)?;
     assert_eq!(rt; built(alloc, &unindexed), Ok(7));
-    let later = Err(TantivyError::InvalidArgument(ArgumentCause::Later));
     let indexed = schema(alloc, FieldKind::U64, IndexOption::Basic, false)?;
-    assert_eq!(rt; built(alloc, &indexed), later);
+    assert_eq!(rt; built(alloc, &indexed), Ok(7));
+    let later = Err(TantivyError::InvalidArgument(ArgumentCause::Later));
+    let of_json = schema(alloc, FieldKind::Json, IndexOption::Basic, false)?;
+    assert_eq!(rt; built(alloc, &of_json), later);
     let with_column = schema(alloc, FieldKind::Text, IndexOption::Freqs, true)?;
     assert_eq!(rt; built(alloc, &with_column), later);
     Ok(())

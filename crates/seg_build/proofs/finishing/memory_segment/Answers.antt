@@ -18,8 +18,8 @@ sorted-requires-clause-as_many c =
     let same : c.fields.result.now ≡ c.args.segment.schema = c.fields.ensures ∙ c.schema.ensures in
     as_many_fields c.args.segment.schema u.0 c.requires.entries u.1.block_size u.1.documents u.1.stamps (kept_of c.args.parts) u.1.are ∙ ap length (sym same)
 
-pub filled-requires-clause-fields : goal.filled-requires-clause-fields
-filled-requires-clause-fields c =
+pub filled-requires : goal.filled-requires
+filled-requires c =
     let u = c.requires.under_way in
     let same : c.fields.result.now ≡ c.args.segment.schema = c.fields.ensures ∙ c.schema.ensures in
     as_many_recorded c.args.segment.schema u.0 c.requires.entries u.1.block_size u.1.documents u.1.stamps (kept_of c.args.parts) u.1.are c.in-Ok.fields (c.in-Ok.ensures ∙ ap (λ (s : Schema). recorded_fields s (listed c.args.parts.fields.items)) same)

@@ -3,7 +3,7 @@ use Rattle.std.specs.List.{slice_get}
 use Rattle.std.proofs.lemmas.Option.{slice_get_read}
 use Rattle.seg_common.specs.Growing.{HasGrown}
 use Rattle.seg_norms.specs.FieldNorms.{at_field, with_length}
-use Rattle.seg_build.specs.Lengths.{lacks_length, recorded_once, count_at}
+use Rattle.seg_build.specs.Lengths.{lacks_length, recorded_once, length_at}
 use Rattle.seg_build.proofs.RecordedLengths.{ids_at, stays_recorded, comes_recorded}
 use Rattle.seg_build.proofs.lengths.record_length.Goals as goal
 
@@ -13,7 +13,7 @@ returns-then-not-lacks_length c =
     let place = c.args.field in
     let same : c.from_field_id-field.result ≡ place = omega (arith, c.from_field_id-field.ensures) in
     let there : lacks_length c.args.document (ids_at place c.args.norms.now) ≡ false = ap (λ n. lacks_length c.args.document (ids_at n c.args.norms.now)) (sym same) ∙ sym c.lacks_length.ensures ∙ c.if-not-lacks_length.true in
-    stays_recorded c.args.document (count_at c.args.document (slice_get fields place)) c.args.norms.now place there
+    stays_recorded c.args.document (length_at c.args.document (slice_get fields place)) c.args.norms.now place there
 
 pub returns-in-Ok : goal.returns-in-Ok
 returns-in-Ok c =
@@ -23,7 +23,7 @@ returns-in-Ok c =
     let same : c.from_field_id-field.result ≡ place = omega (arith, c.from_field_id-field.ensures) in
     let lacks : lacks_length id (ids_at place c.args.norms.now) ≡ true = ap (λ n. lacks_length id (ids_at n c.args.norms.now)) (sym same) ∙ sym c.lacks_length.ensures ∙ c.if-not-lacks_length.false in
     let at : slice_get fields place ≡ Some c.index-fields-place.result = slice_get_read fields (length fields) place c.index-fields-place.result refl (omega (arith, c.if-place-fields.false)) c.index-fields-place.is in
-    let count : c.count_in-count.result ≡ count_at id (slice_get fields place) = c.count_in-count.ensures ∙ sym (ap (count_at id) at) in
-    comes_recorded id c.count_in-count.result c.args.norms.now c.record.new.self place lacks
-    (subst (λ n. HasGrown c.args.norms.now c.record.new.self (at_field n (with_length id c.count_in-count.result))) same c.in-Ok.ensures.ok)
+    let count : c.length_of-len.result ≡ length_at id (slice_get fields place) = c.length_of-len.ensures ∙ sym (ap (length_at id) at) in
+    comes_recorded id c.length_of-len.result c.args.norms.now c.record.new.self place lacks
+    (subst (λ n. HasGrown c.args.norms.now c.record.new.self (at_field n (with_length id c.length_of-len.result))) same c.in-Ok.ensures.ok)
     ∙ ap (λ n. option_map (at_field place (recorded_once id n)) c.args.norms.now) count

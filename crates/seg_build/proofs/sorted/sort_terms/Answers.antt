@@ -5,4 +5,4 @@ use Rattle.seg_build.proofs.sorted.sort_terms.Goals as goal
 
 pub returns : goal.returns
 returns c =
-    ap (λ (es : TermEntries). record { kind = c.args.kind; terms = entries_as c.args.kind es }) c.in_ok-terms.ensures
+    ap (λ (es : TermEntries). record { asked = c.args.asked; terms = entries_as c.args.asked es }) c.in_ok-terms.ensures

@@ -1,7 +1,7 @@
 use Rattle.std.proofs.Common.{◌≡◌, ◌⊎◌, ◌<◌, ◌-◌, ◌^◌, true, map, Some, length, sym, ap, ◌∙◌, subst}
 use Rattle.std.specs.Prelude.{is_none, IsSomeAnd}
 use Rattle.seg_model.specs.Built.{is_taken}
-use Rattle.seg_check.specs.Texts.{text_in, document_texts}
+use Rattle.seg_check.specs.IndexedValues.{value_in, document_values}
 use Rattle.seg_values.specs.declared.error.TantivyError.TheVariants.{OutOfMemory}
 use Rattle.seg_build.specs.SegmentWriting.{kept_of, Adds, AddsNone, HasPlace, HasTaken, Tells}
 use Rattle.seg_build.proofs.Keeping.{of_parts, room_of, still_under_way, adds}
@@ -15,36 +15,36 @@ with_document-requires g c =
     let d = c.args.document.now in
     let taken : is_taken schema F d ≡ true = subst (λ s. is_taken s F d ≡ true) c.schema-schema.ensures (ap is_none c.in-Ok.ensures.ok) in
     let place : length c.in-Some.parts.stamps.items < 2 ^ 31 - 1 = of_parts HasPlace c.self.inside.parts c.in-Some.parts (sym c.take.ensures.value ∙ c.in-Some.is) (subst (λ v. IsSomeAnd v.1.kept HasPlace) (sym c.self.view_is) c.requires) in
-    let texts = c.deref.result.now in
-    let are : map (text_in d) texts ≡ document_texts schema F d = ap (map (text_in d)) c.deref.ensures.value ∙ c.in-Ok.ensures.texts ∙ ap (λ s. document_texts s F d) c.schema-schema.ensures in
-    record { room = room_of schema F c.self.invariant.0 d taken c.texts_are_utf8.ensures c.args.opstamp c.self.inside.parts c.in-Some.parts (sym c.take.ensures.value ∙ c.in-Some.is) place texts are c.self.invariant.2 }
+    let values = c.deref.result.now in
+    let are : map (value_in d) values ≡ document_values schema F d = ap (map (value_in d)) c.deref.ensures.value ∙ c.in-Ok.ensures.values ∙ ap (λ s. document_values s F d) c.schema-schema.ensures in
+    record { room = room_of schema F c.self.invariant.0 d taken c.texts_are_utf8.ensures c.args.opstamp c.self.inside.parts c.in-Some.parts (sym c.take.ensures.value ∙ c.in-Some.is) place values are c.self.invariant.2 }
 
 pub invariant_of-self-in-Ok-with_document : goal.invariant_of-self-in-Ok-with_document
 invariant_of-self-in-Ok-with_document g c =
     let F = g.Z.Analyzers.tokens_of c.self.inside.analyzers.now in
     let schema = c.self.inside.segment.schema in
     let d = c.args.document.now in
-    let texts = c.deref.result.now in
+    let values = c.deref.result.now in
     let new = c.in-Ok-with_document.parts in
     let taken : is_taken schema F d ≡ true = subst (λ s. is_taken s F d ≡ true) c.schema-schema.ensures (ap is_none c.in-Ok.ensures.ok) in
     let place : length c.in-Some.parts.stamps.items < 2 ^ 31 - 1 = of_parts HasPlace c.self.inside.parts c.in-Some.parts (sym c.take.ensures.value ∙ c.in-Some.is) (subst (λ v. IsSomeAnd v.1.kept HasPlace) (sym c.self.view_is) c.requires) in
-    let are : map (text_in d) texts ≡ document_texts schema F d = ap (map (text_in d)) c.deref.ensures.value ∙ c.in-Ok.ensures.texts ∙ ap (λ s. document_texts s F d) c.schema-schema.ensures in
-    let took : HasTaken schema d texts c.args.opstamp (kept_of c.in-Some.parts) (kept_of new) = subst (λ s. HasTaken s d texts c.args.opstamp (kept_of c.in-Some.parts) (kept_of new)) c.schema-schema.ensures c.in-Ok-with_document.ensures in
-    (c.self.invariant.0, c.self.invariant.1, still_under_way schema F c.self.invariant.0 d taken c.texts_are_utf8.ensures c.args.opstamp c.self.inside.parts c.in-Some.parts (sym c.take.ensures.value ∙ c.in-Some.is) place c.documents_stay_in_order.ensures texts are new took c.self.invariant.2)
+    let are : map (value_in d) values ≡ document_values schema F d = ap (map (value_in d)) c.deref.ensures.value ∙ c.in-Ok.ensures.values ∙ ap (λ s. document_values s F d) c.schema-schema.ensures in
+    let took : HasTaken schema d values c.args.opstamp (kept_of c.in-Some.parts) (kept_of new) = subst (λ s. HasTaken s d values c.args.opstamp (kept_of c.in-Some.parts) (kept_of new)) c.schema-schema.ensures c.in-Ok-with_document.ensures in
+    (c.self.invariant.0, c.self.invariant.1, still_under_way schema F c.self.invariant.0 d taken c.texts_are_utf8.ensures c.args.opstamp c.self.inside.parts c.in-Some.parts (sym c.take.ensures.value ∙ c.in-Some.is) place c.documents_stay_in_order.ensures values are new took c.self.invariant.2)
 
 pub returns-in-Ok-with_document-clause-added : goal.returns-in-Ok-with_document-clause-added
 returns-in-Ok-with_document-clause-added g c =
     let F = g.Z.Analyzers.tokens_of c.self.inside.analyzers.now in
     let schema = c.self.inside.segment.schema in
     let d = c.args.document.now in
-    let texts = c.deref.result.now in
+    let values = c.deref.result.now in
     let new = c.in-Ok-with_document.parts in
     let taken : is_taken schema F d ≡ true = subst (λ s. is_taken s F d ≡ true) c.schema-schema.ensures (ap is_none c.in-Ok.ensures.ok) in
     let place : length c.in-Some.parts.stamps.items < 2 ^ 31 - 1 = of_parts HasPlace c.self.inside.parts c.in-Some.parts (sym c.take.ensures.value ∙ c.in-Some.is) (subst (λ v. IsSomeAnd v.1.kept HasPlace) (sym c.self.view_is) c.requires) in
-    let are : map (text_in d) texts ≡ document_texts schema F d = ap (map (text_in d)) c.deref.ensures.value ∙ c.in-Ok.ensures.texts ∙ ap (λ s. document_texts s F d) c.schema-schema.ensures in
-    let took : HasTaken schema d texts c.args.opstamp (kept_of c.in-Some.parts) (kept_of new) = subst (λ s. HasTaken s d texts c.args.opstamp (kept_of c.in-Some.parts) (kept_of new)) c.schema-schema.ensures c.in-Ok-with_document.ensures in (
+    let are : map (value_in d) values ≡ document_values schema F d = ap (map (value_in d)) c.deref.ensures.value ∙ c.in-Ok.ensures.values ∙ ap (λ s. document_values s F d) c.schema-schema.ensures in
+    let took : HasTaken schema d values c.args.opstamp (kept_of c.in-Some.parts) (kept_of new) = subst (λ s. HasTaken s d values c.args.opstamp (kept_of c.in-Some.parts) (kept_of new)) c.schema-schema.ensures c.in-Ok-with_document.ensures in (
       subst (λ v. Adds (g.Z.Analyzers.tokens_of v.0) d c.args.opstamp v.1 (record { schema = schema; id = c.self.inside.segment.meta.id; block_size = c.self.inside.block_size; kept = Some (kept_of new) })) c.self.view_is
-          (adds schema F c.self.invariant.0 d taken c.texts_are_utf8.ensures c.args.opstamp c.self.inside.parts c.in-Some.parts (sym c.take.ensures.value ∙ c.in-Some.is) place c.documents_stay_in_order.ensures texts are new took c.self.inside.segment.meta.id c.self.inside.block_size),
+          (adds schema F c.self.invariant.0 d taken c.texts_are_utf8.ensures c.args.opstamp c.self.inside.parts c.in-Some.parts (sym c.take.ensures.value ∙ c.in-Some.is) place c.documents_stay_in_order.ensures values are new took c.self.inside.segment.meta.id c.self.inside.block_size),
       tt,
     )
 

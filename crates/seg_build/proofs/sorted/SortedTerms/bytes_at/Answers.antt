@@ -4,11 +4,11 @@ use Rattle.seg_build.proofs.sorted.SortedTerms.bytes_at.Goals as goal
 
 pub bytes_at-requires : goal.bytes_at-requires
 bytes_at-requires c =
-    let many = as_many c.self.inside.kind c.self.inside.terms c.args.self.now c.self.view_is in
+    let many = as_many c.self.inside.asked c.self.inside.terms c.args.self.now c.self.view_is in
     omega (arith, c.requires, many)
 
 pub returns : goal.returns
 returns c =
     let inside = c.self.inside in
     let bytes = c.bytes_at.result.now in
-    bytes_of_place inside.kind inside.terms c.args.self.now c.self.view_is c.args.index bytes c.bytes_at.ensures
+    bytes_of_place inside.asked inside.terms c.args.self.now c.self.view_is c.args.index bytes c.bytes_at.ensures

@@ -3,4 +3,4 @@ use Rattle.seg_build.proofs.Recording.{as_many}
 use Rattle.seg_build.proofs.sorted.SortedTerms.len.Goals as goal
 
 pub returns : goal.returns
-returns c = c.len.ensures ∙ as_many c.self.inside.kind c.self.inside.terms c.args.self.now c.self.view_is
+returns c = c.len.ensures ∙ as_many c.self.inside.asked c.self.inside.terms c.args.self.now c.self.view_is

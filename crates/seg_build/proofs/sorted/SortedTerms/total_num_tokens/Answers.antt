@@ -1,19 +1,25 @@
 use Rattle.std.proofs.Common.{◌≡◌, ◌≤◌, length, ap, ◌∙◌, arith}
 use Rattle.std.specs.Map.{values_of}
 use Rattle.std.proofs.lemmas.List.{length-map}
-use Rattle.seg_build.specs.FieldTerms.{FieldTerms, postings_as}
+use Rattle.seg_build.specs.FieldTerms.{kind_in, postings_as}
 use Rattle.seg_terms.specs.Grouped.{grouped}
 use Rattle.seg_build.specs.TokenTotal.{count_total}
+use Rattle.seg_build.proofs.Recording.{value_there}
 use Rattle.seg_build.proofs.Totals.{saturated_end, saturated_more}
 use Rattle.seg_build.proofs.sorted.SortedTerms.total_num_tokens.Goals as goal
 
 pub loop-at-preserved : goal.loop-at-preserved
 loop-at-preserved c =
     let count = c.recorded_count-count.result in
-    let postings = postings_as c.args.self.now.kind (grouped c.hits_at.result.now) in
-    let counted : count ≡ count_total postings = c.recorded_count-count.ensures ∙ ap (λ (f : FieldTerms). count_total (postings_as f.kind (grouped c.hits_at.result.now))) c.self.view_is in
+    let field = c.args.self.now in
+    let kind = c.kind_of-kind.result in
+    let bytes = c.bytes_at.result.now in
+    let hits = grouped c.hits_at.result.now in
+    let postings = postings_as (kind_in field.asked bytes) hits in
+    let at = value_there field.asked field.terms c.loop-at.at bytes hits c.bytes_at.ensures c.hits_at.ensures in
+    let counted : count ≡ count_total postings = c.recorded_count-count.ensures ∙ ap (λ k. count_total (postings_as k hits)) c.kind_of-kind.ensures in
     record {
-      sum = saturated_more c.loop-at.total count c.saturating_add-total.result (values_of c.args.self.now.terms) c.loop-at.at postings c.hits_at.ensures counted c.saturating_add-total.ensures ∙ c.loop-at.invariant.sum;
+      sum = saturated_more c.loop-at.total count c.saturating_add-total.result (values_of c.args.self.now.terms) c.loop-at.at postings at counted c.saturating_add-total.ensures ∙ c.loop-at.invariant.sum;
       few = omega (arith, c.saturating_add-total.ensures);
     }
 
