@@ -1,0 +1,7 @@
+mod EndsLemmas
+mod Marking
+mod RowSteps
+mod StoredNumbers
+mod TermLemmas
+mod TermOrder
+mod TermParts
