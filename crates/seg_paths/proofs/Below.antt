@@ -47,7 +47,7 @@ first bytes = get_or bytes 0 0
 -- no byte 1 is in a part
 no_one_in : (xs part rest : List ℕ) → IsPart part → part ≡ xs ++ 1 ∷ rest → ⊥
 no_one_in [] [] rest h e = let n : 0 ≡ length (1 ∷ rest) = ap length e in omega (arith, n)
-no_one_in [] (b ∷ bs) rest h e = h.0 (ap first e)
+no_one_in [] (b ∷ bs) rest h e = let one : b ≡ 1 = ap first e in omega (arith, h.0, one)
 no_one_in (x ∷ xs) [] rest h e = let n : 0 ≡ length (x ∷ (xs ++ 1 ∷ rest)) = ap length e in omega (arith, n)
 no_one_in (x ∷ xs) (b ∷ bs) rest h e = no_one_in xs bs rest h.1 (ap (λ (l : List ℕ). drop 1 l) e)
 

@@ -7,12 +7,14 @@ use Rattle.std.proofs.lemmas.Bool.Decides.{nat_tests}
 use Rattle.std.proofs.lemmas.List.{map-append}
 use Rattle.std.proofs.lemmas.List.Quantifiers.{position-Some}
 use Rattle.seg_common.specs.JsonPaths.{dot_expanded, written_key, joined_path}
+use Rattle.seg_model.specs.Checked.{has_no_zero}
 use Rattle.seg_paths.specs.Cuts.{is_cut}
 use Rattle.seg_paths.specs.Nodes.{IsPart}
 use Rattle.seg_paths.specs.Paths.{number_of, Extends, IsAbove, below}
 use Rattle.seg_paths.specs.NumberedLeaves.{IsPathOf}
 use Rattle.seg_paths.proofs.Below.{below-append}
 use Rattle.seg_paths.proofs.Numbers.{number-kept, number-read, position-none}
+use Rattle.seg_paths.proofs.Zeros.{no_zero-cons}
 
 -- ---- bytes
 
@@ -20,9 +22,9 @@ use Rattle.seg_paths.proofs.Numbers.{number-kept, number-read, position-none}
 abbrev written : Bool → ℕ → ℕ
 written e b = cond e (dot_expanded b) b
 
-written-plain : (e : Bool) (b : ℕ) → is_cut e b ≡ false → (written e b ≡ b) × (b ≡ 1 → ⊥)
-written-plain true b h = (grind (arith, nat_tests), grind (arith, nat_tests))
-written-plain false b h = (refl, grind (arith, nat_tests))
+written-plain : (e : Bool) (b : ℕ) → is_cut e b ≡ false → 0 < b → (written e b ≡ b) × (1 < b)
+written-plain true b h some = (grind (arith, nat_tests), grind (arith, nat_tests))
+written-plain false b h some = (refl, grind (arith, nat_tests))
 
 written-cut : (e : Bool) (b : ℕ) → is_cut e b ≡ true → written e b ≡ 1
 written-cut true b h = grind (arith, nat_tests)
@@ -39,49 +41,52 @@ written-nil false = refl
 -- ---- parts
 
 -- the first bytes are cut nowhere, and the next one is
-one_cut : (e : Bool) (key : List ℕ) (n : ℕ) → n < length key → ((k : ℕ) → k < n
+one_cut : (e : Bool) (key : List ℕ) (n : ℕ) → has_no_zero key ≡ true → n < length key → ((k : ℕ) → k < n
     → is_cut e (get_or key k 0) ≡ false) → is_cut e (get_or key n 0) ≡ true
     → IsPart (take n key) × (written_key e key ≡ take n key ++ 1 ∷ written_key e (drop (suc n) key))
-one_cut e [] n lt before at = absurd (omega (arith, lt))
-one_cut e (b ∷ bs) zero lt before at =
+one_cut e [] n plain lt before at = absurd (omega (arith, lt))
+one_cut e (b ∷ bs) zero plain lt before at =
     (tt, written-cons e b bs ∙ (λ i. written-cut e b at i ∷ written_key e bs))
-one_cut e (b ∷ bs) (suc n) lt before at =
-    let rest = one_cut e bs n (omega (arith, lt)) (λ k l. before (suc k) (omega (arith, l))) at in
-    let plain = written-plain e b (before 0 (omega arith)) in
-    ((plain.1, rest.0), written-cons e b bs ∙ (λ i. plain.0 i ∷ rest.1 i))
+one_cut e (b ∷ bs) (suc n) plain lt before at =
+    let apart = no_zero-cons b bs plain in
+    let rest = one_cut e bs n apart.1 (omega (arith, lt)) (λ k l. before (suc k) (omega (arith, l))) at in
+    let same = written-plain e b (before 0 (omega arith)) apart.0 in
+    ((same.1, rest.0), written-cons e b bs ∙ (λ i. same.0 i ∷ rest.1 i))
 
-no_cut : (e : Bool) (key : List ℕ) → ((k : ℕ) → k < length key → is_cut e (get_or key k 0) ≡ false)
-    → IsPart key × (written_key e key ≡ key)
-no_cut e [] all = (tt, written-nil e)
-no_cut e (b ∷ bs) all =
-    let rest = no_cut e bs (λ k l. all (suc k) (omega (arith, l))) in
-    let plain = written-plain e b (all 0 (omega arith)) in
-    ((plain.1, rest.0), written-cons e b bs ∙ (λ i. plain.0 i ∷ rest.1 i))
+no_cut : (e : Bool) (key : List ℕ) → has_no_zero key ≡ true
+    → ((k : ℕ) → k < length key → is_cut e (get_or key k 0) ≡ false) → IsPart key × (written_key e key ≡ key)
+no_cut e [] plain all = (tt, written-nil e)
+no_cut e (b ∷ bs) plain all =
+    let apart = no_zero-cons b bs plain in
+    let rest = no_cut e bs apart.1 (λ k l. all (suc k) (omega (arith, l))) in
+    let same = written-plain e b (all 0 (omega arith)) apart.0 in
+    ((same.1, rest.0), written-cons e b bs ∙ (λ i. same.0 i ∷ rest.1 i))
 
 -- where a key is cut
-pub cut_there : (e : Bool) (key : List ℕ) (n : ℕ) → position (is_cut e) key ≡ Some n
+pub cut_there : (e : Bool) (key : List ℕ) (n : ℕ) → has_no_zero key ≡ true → position (is_cut e) key ≡ Some n
     → (n < length key) × IsPart (take n key) × (written_key e key ≡ take n key ++ 1 ∷ written_key e (drop (n + 1) key))
-cut_there e key n is =
+cut_there e key n plain is =
     let found = position-Some (is_cut e) key n 0 is in
-    let one = one_cut e key n found.0 found.2 found.1 in
+    let one = one_cut e key n plain found.0 found.2 found.1 in
     let next : suc n ≡ n + 1 = omega arith in
     (found.0, one.0, one.1 ∙ ap (λ k. take n key ++ 1 ∷ written_key e (drop k key)) next)
 
 -- where it is cut nowhere
-pub cut_nowhere : (e : Bool) (key : List ℕ) → position (is_cut e) key ≡ None → IsPart key × (written_key e key ≡ key)
-cut_nowhere e key is = no_cut e key (λ k lt. position-none (is_cut e) key k 0 is lt)
+pub cut_nowhere : (e : Bool) (key : List ℕ) → has_no_zero key ≡ true → position (is_cut e) key ≡ None
+    → IsPart key × (written_key e key ≡ key)
+cut_nowhere e key plain is = no_cut e key plain (λ k lt. position-none (is_cut e) key k 0 is lt)
 
 -- one part of what is left of a key has a number
 pub cut_step : (e : Bool) (paths new : List (List ℕ)) (place : Option ℕ) (rest part left : List ℕ) (end n : ℕ)
-    → position (is_cut e) rest ≡ Some end → part ≡ take end rest → left ≡ drop (end + 1) rest
+    → has_no_zero rest ≡ true → position (is_cut e) rest ≡ Some end → part ≡ take end rest → left ≡ drop (end + 1) rest
     → number_of new (below paths place part) ≡ Some n
     → get_or new n [] ++ 1 ∷ written_key e left ≡ below paths place (written_key e rest)
-cut_step e paths new place rest part left end n is front back number =
+cut_step e paths new place rest part left end n plain is front back number =
     ap (λ (p : List ℕ). p ++ 1 ∷ written_key e left) ((number-read new (below paths place part) n number).1
     ∙ ap (below paths place) front)
     ∙ ap (λ b. below paths place (take end rest) ++ 1 ∷ written_key e b) back
     ∙ sym (below-append paths place (take end rest) (1 ∷ written_key e (drop (end + 1) rest)))
-    ∙ ap (below paths place) (sym (cut_there e rest end is).2)
+    ∙ ap (below paths place) (sym (cut_there e rest end plain is).2)
 
 -- ---- joined paths
 

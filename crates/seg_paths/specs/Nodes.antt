@@ -1,5 +1,5 @@
--- The nodes of a table of paths: each is a part without a byte 1, below the path of a node before it or at the top.
-use Rattle.std.specs.Prelude.{◌≡◌, ℕ, List, [], ◌∷◌, ◌++◌, Bool, true, Option, None, Some, IsTrue, nat_eq}
+-- The nodes of a table of paths: each is a part without a byte 0 or 1, below the path of a node before it or at the top.
+use Rattle.std.specs.Prelude.{◌≡◌, ◌<◌, ℕ, List, [], ◌∷◌, ◌++◌, Bool, true, Option, None, Some, IsTrue, nat_eq}
 use Rattle.std.proofs.Common.{refl, ap}
 use Rattle.std.proofs.lemmas.Bool.{false≢true, and_parts}
 use Rattle.std.proofs.lemmas.Bool.Decides.{Decides-eqb}
@@ -7,7 +7,7 @@ use Rattle.std.specs.Cmp.{IsEquivalence, and_equiv, on_equiv, nat_eq_equiv}
 use Rattle.std.specs.Cmp.Lexicographic.{bytes_decides, nat_list_eq_equiv, options_equiv}
 use Rattle.std.specs.Hash as fed
 use Rattle.std.specs.Hash.{HashWrites}
-use Rattle.std.specs.List.{AllByRecursion}
+use Rattle.std.specs.List.{AllByRecursion, slice_index_or}
 use Rattle.std.specs.Option.{option_eq}
 use Rattle.std.specs.Ordering.{on, eq_of_both}
 use Rattle.std.specs.Str.{bytes_eq}
@@ -34,9 +34,9 @@ abbrev pub paths_with : List (List ℕ) → List Node → List (List ℕ)
 paths_with before [] = before
 paths_with before (n ∷ ns) = paths_with (before ++ node_path before n ∷ []) ns
 
--- no byte is a 1
+-- all bytes are greater than 1
 abbrev pub IsPart : List ℕ → Type 0
-IsPart part = AllByRecursion (λ byte. byte ≡ 1 → ⊥) part
+IsPart part = AllByRecursion (λ byte. 1 < byte) part
 
 -- a part, below one of these paths or at the top
 pub record IsSound (paths : List (List ℕ)) (n : Node) : Type 0 where
@@ -47,6 +47,10 @@ pub record IsSound (paths : List (List ℕ)) (n : Node) : Type 0 where
 abbrev pub AreSound : List (List ℕ) → List Node → Type 0
 AreSound before [] = Unit {0}
 AreSound before (n ∷ ns) = IsSound before n × AreSound (before ++ node_path before n ∷ []) ns
+
+-- the part of the node with a number; past all nodes there is none
+abbrev pub part_at : List Node → ℕ → List ℕ
+part_at ns number = (slice_index_or ns number (record { above = None; part = [] })).part
 
 -- ---- equality and hashes
 

@@ -1,7 +1,8 @@
 -- Joined paths by number: the number of a path is its place in a list.
-use Rattle.std.specs.Prelude.{◌≡◌, ◌<◌, ℕ, suc, List, [], ◌∷◌, ◌++◌, length, reverse, Option, None, Some}
-use Rattle.std.specs.List.{position, slice_index_or}
+use Rattle.std.specs.Prelude.{◌≡◌, ◌<◌, ℕ, suc, List, [], ◌∷◌, ◌++◌, true, length, reverse, Option, None, Some}
+use Rattle.std.specs.List.{AllByRecursion, position, slice_index_or}
 use Rattle.std.specs.Str.{bytes_eq}
+use Rattle.seg_model.specs.Checked.{has_no_zero}
 
 -- the number of a path, if it has one
 abbrev pub number_of : List (List ℕ) → List ℕ → Option ℕ
@@ -10,6 +11,10 @@ number_of paths path = position (bytes_eq path) paths
 -- each path that had a number keeps it
 abbrev pub Extends : List (List ℕ) → List (List ℕ) → Type 0
 Extends old new = (more : List (List ℕ)) × (new ≡ old ++ more)
+
+-- no path has a byte 0
+abbrev pub HaveNoZero : List (List ℕ) → Type 0
+HaveNoZero paths = AllByRecursion (λ path. has_no_zero path ≡ true) paths
 
 -- what something can be below: a path with a number; or it is at the top
 abbrev pub IsAbove : List (List ℕ) → Option ℕ → Type 0

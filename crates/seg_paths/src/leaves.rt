@@ -1,5 +1,6 @@
 //! The leaves of a value, each with the number of its path.
-ghost use Rattle.std.specs.Prelude.{◌≡◌, Some, Bool, List, ℕ, ◌++◌, map, IfOk, OnOk};
+ghost use Rattle.std.specs.Prelude.{◌≡◌, None, Some, Bool, List, ℕ, ◌++◌, map, IfOk, OnOk};
+ghost use Rattle.seg_model.specs.Checked.{tree_refusal};
 ghost use Rattle.seg_model.specs.Leaves.{PlacedLeaf, leaves, leaves_at, joined_path};
 ghost use Rattle.seg_paths.specs.NumberedLeaves.{numbered, in_table, IsPathOf};
 ghost use Rattle.seg_paths.specs.Paths.{Extends, IsAbove, number_of};
@@ -16,13 +17,15 @@ pub struct NumberedLeaf<'a> {
     pub leaf: &'a OwnedValue,
 }
 
-/// The leaves of a value, from left to right, whose paths come into the table. It costs the bytes of the value.
+/// The leaves of a value that a JSON field takes, from left to right, whose paths come into the table. It costs the
+/// bytes of the value.
 pub fn leaves_of<'a>(
     alloc: Global,
     table: &mut PathTable,
     expand_dots: bool,
     value: &'a OwnedValue,
 ) -> Result<Vec<NumberedLeaf<'a>>, AllocError>
+    requires { tree_refusal (tree_of value.now) ≡ None }
     ensures extends { Extends table.old table.new }
     ensures leaves { IfOk result (λ found. map numbered found.items
         ≡ map (in_table table.new expand_dots) (leaves (tree_of value.now))) }
@@ -41,7 +44,8 @@ fn push_leaves<'a>(
     above: Option<u32>,
     value: &'a OwnedValue,
 ) -> Result<(), AllocError>
-    requires { IsAbove table.old above }
+    requires above { IsAbove table.old above }
+    requires taken { tree_refusal (tree_of value.now) ≡ None }
     ensures extends { Extends table.old table.new }
     ensures leaves { (keys : List (List ℕ)) → (level : ℕ) → (found : List PlacedLeaf)
         → IsPathOf table.old expand_dots above keys

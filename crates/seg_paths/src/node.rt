@@ -3,6 +3,7 @@ ghost use Rattle.std.specs.Prelude.{◌≡◌, ◌++◌, reverse, IfOk, OnOk};
 ghost use Rattle.std.specs.Cmp.{partial_equiv_from_equiv, on_equiv, on_per};
 ghost use Rattle.seg_paths.specs.Nodes.{asked, node_eq, node_eq_equiv, writes, same_writes};
 ghost use Rattle.seg_paths.specs.Paths.{behind};
+ghost use Rattle.seg_paths.specs.Slots.{slot_in};
 
 use indexmap::Equivalent;
 use std::alloc::{AllocError, Global};
@@ -39,6 +40,22 @@ impl PathNode {
         ensures { result ≡ self.now.above }
     {
         self.above
+    }
+
+    /// The slot that it is at.
+    pub fn slot(&self) -> usize
+        ensures { result ≡ slot_in self.now }
+    {
+        match self.above {
+            Some(above) => above as usize + 1,
+            None => 0,
+        }
+    }
+
+    pub fn part(&self) -> &[u8]
+        ensures { result.now ≡ self.now.part }
+    {
+        &self.part
     }
 
     /// Adds what it adds to the path above it, from its end on.

@@ -1,19 +1,22 @@
 //! The paths so far, each with a number.
-ghost use Rattle.std.specs.Prelude.{◌≡◌, ◌<◌, ◌^◌, [], ◌∷◌, ◌++◌, Some, false, length, slice_get, IfOk, OnErr};
+ghost use Rattle.std.specs.Prelude.{◌≡◌, ◌<◌, ◌^◌, [], ◌∷◌, ◌++◌, Some, true, false, length, slice_get, IfOk, OnErr};
 ghost use Rattle.std.specs.List.{IsDistinct, list_any};
 ghost use Rattle.std.specs.Str.{bytes_eq};
 ghost use Rattle.seg_common.specs.JsonPaths.{written_key};
+ghost use Rattle.seg_model.specs.Checked.{has_no_zero};
 ghost use Rattle.seg_paths.specs.Nodes.{IsPart, asked, node_eq};
-ghost use Rattle.seg_paths.specs.Paths.{Extends, IsAbove, StepsUp, below, number_of};
+ghost use Rattle.seg_paths.specs.Ranks.{AreRanks};
+ghost use Rattle.seg_paths.specs.Paths.{Extends, HaveNoZero, IsAbove, StepsUp, below, number_of};
 
 use crate::cut::first_cut;
 use crate::node::{NodeParts, PathNode};
+use crate::ranks::node_ranks;
 use indexmap::IndexSet;
 use std::alloc::{AllocError, Global};
 use std::marker::Model;
 
-/// Distinct paths. The number of a path is its place among them, in the order in which they came; with a path come
-/// those that it is below. More than 2^32 are want of memory.
+/// Distinct paths, without a byte 0. The number of a path is its place among them, in the order in which they came; with
+/// a path come those that it is below. More than 2^32 are want of memory.
 #[derive(Drop)]
 pub struct PathTable {
     pub(crate) nodes: IndexSet<PathNode>,
@@ -46,8 +49,17 @@ impl PathTable {
     pub fn len(&self) -> usize
         ensures length { result ≡ length self.now }
         ensures distinct { IsDistinct bytes_eq self.now }
+        ensures no_zero { HaveNoZero self.now }
     {
         self.nodes.len()
+    }
+
+    /// The rank of each path, by its number: its place in the order of terms, where a byte 0 is behind each path. It costs
+    /// the bytes of the parts times a logarithm, and never those of whole paths.
+    pub fn ranks(&self, alloc: Global) -> Result<Vec<u32>, AllocError>
+        ensures { IfOk result (λ ranks. AreRanks self.now ranks.items) }
+    {
+        node_ranks(alloc, self.nodes.as_slice())
     }
 
     /// The path with a number.
@@ -97,7 +109,8 @@ impl PathTable {
         expand_dots: bool,
         key: &str,
     ) -> Result<u32, AllocError>
-        requires { IsAbove self.old above }
+        requires above { IsAbove self.old above }
+        requires key { has_no_zero key.now ≡ true }
         ensures extends { Extends self.old self.new }
         ensures number { IfOk result (λ number. number_of self.new (below self.old above
             (written_key expand_dots key.now)) ≡ Some number) }

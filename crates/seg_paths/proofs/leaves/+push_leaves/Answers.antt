@@ -1,13 +1,15 @@
-use Rattle.std.proofs.Common.{◌<◌, [], ◌∷◌, ◌++◌, ap, arith}
+use Rattle.std.proofs.Common.{◌<◌, [], ◌∷◌, ◌++◌, ap, sym, ◌∙◌, arith}
 use Rattle.seg_values.specs.Tree.{levels, array, object, trees_from, members_from}
 use Rattle.seg_values.specs.View.{tree_of}
 use Rattle.seg_values.proofs.Exports.{levels-at, member_levels-at}
+use Rattle.seg_model.specs.Checked.{tree_refusal}
 use Rattle.seg_model.specs.Leaves.{leaves_of_trees, leaves_of_members}
 use Rattle.seg_paths.specs.declared.leaves.NumberedLeaf.{NumberedLeaf}
 use Rattle.seg_paths.proofs.Below.{above-kept}
 use Rattle.seg_paths.proofs.Cutting.{deeper, is_above, path-kept}
 use Rattle.seg_paths.proofs.Numbers.{extends-trans}
 use Rattle.seg_paths.proofs.Walking.{found-kept, leaf-found, one-member, one-tree}
+use Rattle.seg_paths.proofs.Zeros.{taken_member, taken_tree}
 use Rattle.seg_paths.proofs.leaves.+push_leaves.Goals as goal
 
 pub push_leaves-requires : goal.push_leaves-requires
@@ -17,7 +19,11 @@ push_leaves-requires t c =
     (tree_of c.get.result.now) c.get.ensures in
     let is = ap (λ v. levels (tree_of v)) c.in-Array.is in (
       omega (arith, c.decreases, is, below),
-      above-kept c.args.table.now c.loop-at.table c.args.above c.loop-at.invariant.extends c.requires,
+      (
+        above-kept c.args.table.now c.loop-at.table c.args.above c.loop-at.invariant.extends c.requires.above,
+        taken_tree c.in-Array.values c.loop-at.at (tree_of c.get.result.now)
+            (sym (ap (λ v. tree_refusal (tree_of v)) c.in-Array.is) ∙ c.requires.taken) c.get.ensures,
+      ),
     )
 
 pub loop-at-preserved : goal.loop-at-preserved
@@ -36,6 +42,12 @@ loop-at-preserved t c =
           (path-kept e c.args.table.now c.loop-at.table c.args.above keys inv.extends path) before.numbered);
     }
 
+pub add_key-requires-clause-key : goal.add_key-requires-clause-key
+add_key-requires-clause-key t c =
+    (taken_member c.in-Object.members c.loop-index.index c.get-in-loop-index.result.0.now
+    (tree_of c.get-in-loop-index.result.1.now)
+    (sym (ap (λ v. tree_refusal (tree_of v)) c.in-Object.is) ∙ c.requires.taken) c.get-in-loop-index.ensures).0
+
 pub push_leaves-requires-in-loop-index : goal.push_leaves-requires-in-loop-index
 push_leaves-requires-in-loop-index t c =
     let key = c.get-in-loop-index.result.0.now in
@@ -47,7 +59,12 @@ push_leaves-requires-in-loop-index t c =
     ) c.get-in-loop-index.ensures in
     let is = ap (λ v. levels (tree_of v)) c.in-Object.is in (
       omega (arith, c.decreases, is, below),
-      is_above c.add_key.new.self c.in_ok-path-in-Object.path _ c.in_ok-path-in-Object.ensures.number,
+      (
+        is_above c.add_key.new.self c.in_ok-path-in-Object.path _ c.in_ok-path-in-Object.ensures.number,
+        (taken_member c.in-Object.members c.loop-index.index key (tree_of child)
+            (sym (ap (λ v. tree_refusal (tree_of v)) c.in-Object.is) ∙ c.requires.taken)
+            c.get-in-loop-index.ensures).1,
+      ),
     )
 
 pub loop-index-preserved : goal.loop-index-preserved

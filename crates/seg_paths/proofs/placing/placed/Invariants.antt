@@ -1,0 +1,5 @@
+use Rattle.seg_paths.proofs.GivingRanks.{PlacedSoFar}
+use Rattle.seg_paths.proofs.placing.placed.Given as goal
+
+abbrev pub invariant-loop-number : goal.invariant-loop-number
+invariant-loop-number l = record { so_far : PlacedSoFar l.slots l.offsets l.number l.ranks.items }
