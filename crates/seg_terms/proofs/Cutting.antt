@@ -16,7 +16,7 @@ use Rattle.seg_terms.specs.Entries.{TermEntries}
 use Rattle.seg_terms.specs.Grouped.{grouped}
 use Rattle.seg_terms.specs.Numbered.{numbered_from, numbered_terms}
 use Rattle.seg_terms.specs.Ordered.{count_below, AreOrdered}
-use Rattle.seg_terms.specs.Parts.{entry_of, entries_of, IsWithin, cut_from}
+use Rattle.seg_terms.specs.Parts.{AreCut, entry_of, entries_of, IsWithin, cut_from}
 use Rattle.seg_terms.specs.declared.hit.Hit.{Hit}
 use Rattle.seg_terms.specs.declared.hit.NumberedHit.{NumberedHit}
 use Rattle.seg_terms.specs.declared.term_part.TermPart.{TermPart}
@@ -66,7 +66,7 @@ module _ (count : ℕ) (hits : List NumberedHit) (ordered : List Hit) (ends : Li
     within_cut = subst (All (IsWithin (length ordered))) (sym from_zero)
         (All-from_recursion (IsWithin (length ordered)) _ (within_from 0 keys (omega (arith, as_many))))
 
-keys_numbered : (first : ℕ) (keys : List (List ℕ)) (hits : List NumberedHit)
+pub keys_numbered : (first : ℕ) (keys : List (List ℕ)) (hits : List NumberedHit)
     → keys_of (numbered_from first keys hits) ≡ keys
 keys_numbered first [] hits = refl
 keys_numbered first (k ∷ ks) hits = ap (λ l. k ∷ l) (keys_numbered (first + 1) ks hits)
@@ -84,22 +84,20 @@ pub within_place : (count : ℕ) (terms : List TermPart) (i : ℕ) (x : TermPart
 within_place count terms i x all lt is = subst (IsWithin count) (sym is) (all i x lt)
 
 -- terms that were cut, and then sorted by their bytes
-module _ (count : ℕ) (hits : List NumberedHit) (ordered : List Hit) (ends : List ℕ)
-    (is : AreOrdered count hits ordered ends)
-    (keys : List (List ℕ)) (as_many : length keys ≡ count) (distinct : IsDistinct bytes_eq keys)
-    (terms sorted : List TermPart) (cut : terms ≡ cut_from 0 keys ends) (permuted : IsPermutation terms sorted)
+module _ (keys : List (List ℕ)) (hits : List NumberedHit) (terms : List TermPart) (ordered : List Hit)
+    (is : AreCut keys hits terms ordered) (sorted : List TermPart) (permuted : IsPermutation terms sorted)
     (up : Up (λ (t : TermPart). t.key) sorted) where
   numbered : entries_of terms ordered ≡ numbered_from 0 keys hits
-  numbered = entries_cut count hits ordered ends is keys as_many terms cut
+  numbered = entries_cut (length keys) hits ordered is.ends is.together keys refl terms is.cut
 
   apart : IsDistinct bytes_eq (keys_of (map (entry_of ordered) terms))
-  apart = distinct_cut keys hits terms ordered numbered distinct
+  apart = distinct_cut keys hits terms ordered numbered is.distinct
 
   -- they are in order, and lie within the list
   pub sorted_whole : (is_sorted (slice_cmp nat_cmp) (entries_of sorted ordered) ≡ true)
       × All (IsWithin (length ordered)) sorted
   sorted_whole =
-      let within = within_cut count hits ordered ends is keys as_many terms cut in
+      let within = within_cut (length keys) hits ordered is.ends is.together keys refl terms is.cut in
       let order = is_sorted-seen (entry_of ordered) terms sorted permuted up apart in
       (order, All-permutation (IsWithin (length ordered)) terms sorted permuted within)
 

@@ -3,6 +3,8 @@ mod Counting
 mod Cutting
 mod Grouping
 mod Numbering
+mod PathKeys
+mod PathOrder
 mod Placing
 mod Running
 mod Sorting

@@ -2,7 +2,7 @@
 use Rattle.std.proofs.Common.{◌≡◌, ◌≢◌, ℕ, zero, suc, ◌+◌, ◌^◌, ◌<◌, ◌≤◌, Bool, true, false, cond, List, [], ◌∷◌, ◌++◌}
 use Rattle.std.proofs.Common.{map, length, get_or, Some, None, Option, sym, refl, ap, subst, ◌∙◌, arith, is_some}
 use Rattle.std.proofs.Common.{unwrap_or}
-use Rattle.std.specs.Prelude.{filter, nat_eq, ◌||◌}
+use Rattle.std.specs.Prelude.{filter, nat_eq, not, ◌||◌, Result, Ok, Err, OnOk}
 use Rattle.std.specs.Cmp.Lexicographic.{bytes_decides}
 use Rattle.std.specs.List.{list_any, position}
 use Rattle.std.specs.Str.{bytes_eq}
@@ -12,14 +12,17 @@ use Rattle.std.proofs.lemmas.Bool.{false≢true}
 use Rattle.std.proofs.lemmas.Bool.Decides.{Decides-eqb}
 use Rattle.std.proofs.lemmas.List.{length_push}
 use Rattle.std.proofs.lemmas.List.Quantifiers.{position-Some}
+use Rattle.std.proofs.lemmas.List.Sums.{fails_before_first, passes_at_first, position_or_len_is}
 use Rattle.indexmap.specs.IndexSet.{insert_key}
 use Rattle.seg_model.specs.Reading.{Posting, Terms}
 use Rattle.seg_terms.specs.Adding.{with_position, with_occurrence}
 use Rattle.seg_terms.specs.Entries.{TermEntries}
 use Rattle.seg_terms.specs.Grouped.{grouped}
+use Rattle.seg_terms.specs.Known.{AreKnown, IsAdded, key_number, with_key}
 use Rattle.seg_terms.specs.Numbered.{hits_of, AreBelow, numbered_from, numbered_terms}
 use Rattle.seg_terms.specs.declared.hit.Hit.{Hit}
 use Rattle.seg_terms.specs.declared.hit.NumberedHit.{NumberedHit}
+use Rattle.seg_terms.specs.declared.known_terms.KnownTerms.{KnownTerms}
 use Rattle.seg_terms.proofs.ByBytes.{same_by_bytes, get-lookup, get-insert_bytes}
 use Rattle.seg_terms.proofs.Grouping.{grouped-push}
 
@@ -297,3 +300,89 @@ still_numbered keys keys' hits hits' bs h with_key with_hit is small below =
           (AreBelow-push (length keys') hits h
           (AreBelow-more (length keys) (length keys') hits (omega (arith, many)) below) (omega (arith, many, is))),
     )
+
+-- ---- the keys with one that may be among them
+
+any_from_place : (keys : List (List ℕ)) (bs : List ℕ) (n : ℕ) → IsFirstAt bs n keys → list_any (bytes_eq bs) keys ≡ true
+any_from_place [] bs n at = absurd at
+any_from_place (k ∷ ks) bs zero at = ap (λ b. b || list_any (bytes_eq bs) ks) at
+any_from_place (k ∷ ks) bs (suc n) at = ap (λ b. b || list_any (bytes_eq bs) ks) at.0 ∙ any_from_place ks bs n at.1
+
+pub with_key-there : (keys : List (List ℕ)) (bs : List ℕ) (n : ℕ) → position (bytes_eq bs) keys ≡ Some n
+    → with_key keys bs ≡ keys
+with_key-there keys bs n is = ap (λ b. cond b keys (keys ++ bs ∷ []))
+    (any_from_place keys bs n (IsFirstAt-position bs n keys is))
+
+pub with_key-new : (keys : List (List ℕ)) (bs : List ℕ) → list_any (bytes_eq bs) keys ≡ false
+    → with_key keys bs ≡ keys ++ bs ∷ []
+with_key-new keys bs none = ap (λ b. cond b keys (keys ++ bs ∷ [])) none
+
+pub key_number-there : (keys : List (List ℕ)) (bs : List ℕ) (n : ℕ) → position (bytes_eq bs) keys ≡ Some n
+    → key_number keys bs ≡ n
+key_number-there keys bs n is =
+    let found = position-Some (bytes_eq bs) keys n [] is in
+    position_or_len_is (bytes_eq bs) keys n [] (omega (arith, found.0)) found.2 (λ _. found.1)
+
+none_at : (keys : List (List ℕ)) (bs : List ℕ) (k : ℕ) → list_any (bytes_eq bs) keys ≡ false → k < length keys
+    → bytes_eq bs (get_or keys k []) ≡ false
+none_at [] bs k none lt = absurd (omega (arith, lt))
+none_at (x ∷ xs) bs zero none lt = (both_false (bytes_eq bs x) (list_any (bytes_eq bs) xs) none).0
+none_at (x ∷ xs) bs (suc k) none lt =
+    none_at xs bs k (both_false (bytes_eq bs x) (list_any (bytes_eq bs) xs) none).1 (omega (arith, lt))
+
+pub key_number-new : (keys : List (List ℕ)) (bs : List ℕ) → list_any (bytes_eq bs) keys ≡ false
+    → key_number keys bs ≡ length keys
+key_number-new keys bs none = position_or_len_is (bytes_eq bs) keys (length keys) [] (omega arith)
+    (λ k lt. none_at keys bs k none lt) (λ lt. absurd (omega (arith, lt)))
+
+place-within : (bs : List ℕ) (keys : List (List ℕ)) → list_any (bytes_eq bs) keys ≡ true
+    → key_number keys bs < length keys
+place-within bs [] there = absurd (false≢true there)
+place-within bs (k ∷ ks) there = by (bytes_eq bs k) refl there (place-within bs ks)
+  where
+    by : (b : Bool) → bytes_eq bs k ≡ b → (b || list_any (bytes_eq bs) ks) ≡ true
+        → (list_any (bytes_eq bs) ks ≡ true → key_number ks bs < length ks)
+        → key_number (k ∷ ks) bs < length (k ∷ ks)
+    by true e h rest =
+        let none : key_number (k ∷ ks) bs ≡ 0 = ap (λ b. cond (not b) (1 + key_number ks bs) 0) e in
+        omega (arith, none)
+    by false e h rest =
+        let more : key_number (k ∷ ks) bs ≡ 1 + key_number ks bs = ap (λ b. cond (not b) (1 + key_number ks bs) 0) e in
+        let within = rest h in
+        omega (arith, more, within)
+
+-- a key that is there is at its number
+first_at : (keys : List (List ℕ)) (bs : List ℕ) → list_any (bytes_eq bs) keys ≡ true
+    → IsFirstAt bs (key_number keys bs) keys
+first_at keys bs there =
+    let within = place-within bs keys there in
+    IsFirstAt-from bs (key_number keys bs) keys within (passes_at_first (bytes_eq bs) keys [] within)
+    (λ k lt. fails_before_first (bytes_eq bs) keys k [] lt)
+
+-- one more occurrence, be its term new or not
+pub added_by_key : (keys : List (List ℕ)) (hits : List NumberedHit) (old : Terms) → numbered_terms keys hits ≡ old
+    → AreBelow (length keys) hits → (bs : List ℕ) (h : Hit)
+    → numbered_terms (with_key keys bs) (hits ++ record { term = key_number keys bs; hit = h } ∷ [])
+    ≡ with_occurrence old h.document (record { bytes = bs; position = h.position })
+added_by_key keys hits old seen below bs h = by (list_any (bytes_eq bs) keys) refl
+  where
+    by : (b : Bool) → list_any (bytes_eq bs) keys ≡ b → numbered_terms (cond b keys (keys ++ bs ∷ [])) (hits ++ record {
+      term = key_number keys bs;
+      hit = h;
+    } ∷ []) ≡ with_occurrence old h.document (record { bytes = bs; position = h.position })
+    by true e =
+        from_lookups keys keys hits (record { term = key_number keys bs; hit = h }) bs (λ q.
+        lookup-added 0 (key_number keys bs) keys hits (record { term = key_number keys bs; hit = h }) bs q
+        (first_at keys bs e) (omega arith))
+        ∙ ap (λ t. with_occurrence t h.document (record { bytes = bs; position = h.position })) seen
+    by false e = added_first keys hits old seen (record { term = key_number keys bs; hit = h }) bs e
+        (key_number-new keys bs e) below
+
+-- the same of terms that are known by their keys
+pub added_known : (old new : KnownTerms) (terms : Terms) → numbered_terms old.keys.keys old.hits.items ≡ terms
+    → (bs : List ℕ) (h : Hit) → AreKnown old → {X Y : Type 0} (r : Result X Y) → OnOk r (IsAdded bs h old new)
+    → OnOk r (numbered_terms new.keys.keys new.hits.items
+    ≡ with_occurrence terms h.document (record { bytes = bs; position = h.position }))
+added_known old new terms seen bs h known (Ok x) is =
+    (λ i. numbered_terms (is.keys i) (is.hits i)) ∙ added_by_key old.keys.keys old.hits.items terms seen known.1 bs h
+added_known old new terms seen bs h known (Err e) is = tt

@@ -2,7 +2,10 @@ pub mod Adding
 pub mod Entries
 pub mod Grouped
 pub mod Keys
+pub mod Known
 pub mod Numbered
 pub mod Ordered
 pub mod Parts
+pub mod PathKeys
+pub mod PathParts
 pub mod Runs

@@ -1,18 +1,13 @@
 //! The terms of a field in byte order.
-ghost use Rattle.std.specs.Prelude.{◌≡◌, ◌<◌, ◌≤◌, length, Some, IfOk, slice_get, slice_range};
+ghost use Rattle.std.specs.Prelude.{◌≡◌, ◌<◌, length, Some, IfOk, slice_get};
 ghost use Rattle.std.specs.FinMap.{entries};
-ghost use Rattle.std.specs.List.{IsDistinct};
 ghost use Rattle.std.specs.Map.{keys_of, values_of};
-ghost use Rattle.std.specs.Str.{bytes_eq};
 ghost use Rattle.seg_terms.specs.Grouped.{grouped};
-ghost use Rattle.seg_terms.specs.Parts.{cut_from};
 
 use crate::hit::Hit;
-use crate::key::TermKey;
-use crate::ordered_hits::{OrderedHits, order_hits};
+use crate::parts::{CutTerms, cut_terms, part};
 use crate::term_index::TermIndex;
 use crate::term_part::TermPart;
-use indexmap::IndexSet;
 use std::alloc::{AllocError, Global};
 use std::marker::Model;
 
@@ -70,39 +65,12 @@ impl OrderedTerms {
     }
 }
 
-#[inline]
-fn part(hits: &[Hit], start: usize, end: usize) -> &[Hit]
-    requires forward { start ≤ end }
-    requires within { end ≤ length hits.now }
-    ensures { result.now ≡ slice_range hits.now start end }
-{
-    &hits[start..end]
-}
-
 /// Orders the terms of a field by their bytes.
 pub fn order_terms(alloc: Global, index: TermIndex) -> Result<OrderedTerms, AllocError>
     ensures { IfOk result (λ ordered. ordered ≡ entries index) }
 {
-    let TermIndex { terms, hits } = index;
-    let OrderedHits { hits, ends } = order_hits(alloc, terms.len(), hits)?;
-    let mut terms = cut(alloc, terms, &ends)?;
-    drop(ends);
+    let TermIndex { known } = index;
+    let CutTerms { mut terms, hits } = cut_terms(alloc, known)?;
     terms.sort_unstable_by(|a, b| a.compare(b));
     Ok(OrderedTerms { terms, hits })
-}
-
-/// The terms in the order of their numbers, each with its part of the occurrences, of which these are the ends.
-fn cut(alloc: Global, keys: IndexSet<TermKey>, ends: &[usize]) -> Result<Vec<TermPart>, AllocError>
-    requires { length ends.now ≡ length keys.keys }
-    ensures cut { IfOk result (λ terms. terms.items ≡ cut_from 0 keys.keys ends.now) }
-    ensures distinct { IsDistinct bytes_eq keys.keys }
-{
-    let mut terms = Vec::with_capacity(alloc, keys.len())?;
-    let mut start = 0;
-    for key in keys {
-        let end = ends[terms.len()];
-        terms.push(TermPart { key, start, end })?;
-        start = end;
-    }
-    Ok(terms)
 }

@@ -1,6 +1,6 @@
 use Rattle.std.proofs.Common.{◌≡◌, ◌++◌, ◌+◌, drop, length}
 use Rattle.seg_terms.specs.Parts.{cut_from}
-use Rattle.seg_terms.proofs.ordered_terms.cut.Given as goal
+use Rattle.seg_terms.proofs.parts.cut.Given as goal
 
 -- what is cut, with what is left, is all
 abbrev pub invariant-loop-key : goal.invariant-loop-key
