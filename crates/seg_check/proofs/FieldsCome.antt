@@ -1,8 +1,8 @@
 -- The values of a document come in one after another, each in its field.
 use Rattle.std.proofs.Common.{◌≡◌, ℕ, zero, suc, ◌+◌, ◌<◌, ◌≤◌, get_or, ◌⊎◌, inl, inr, Bool, true, false, cond, List, [], ◌∷◌, ◌++◌, map, length, take, drop, Some, None, Option, refl, sym, ap, ◌∙◌, subst, append-nil, add-one, arith}
-use Rattle.std.specs.Prelude.{filter, nat_eq, is_some, is_none}
+use Rattle.std.specs.Prelude.{◌&&◌, ◌||◌, filter, nat_eq, is_some, is_none}
 use Rattle.std.specs.HashMap.{HashMap, Updates, get}
-use Rattle.std.specs.List.{slice_get}
+use Rattle.std.specs.List.{AllByRecursion, slice_get}
 use Rattle.std.specs.Option.{option_or}
 use Rattle.std.specs.Prelude.{IfOk, Ok, Err, Result}
 use Rattle.std.specs.Cmp.{nat_eq_equiv}
@@ -14,8 +14,9 @@ use Rattle.seg_common.proofs.Lists.{drop-slice_get}
 use Rattle.seg_values.specs.Tree.{Tree, Document}
 use Rattle.seg_values.specs.declared.schema.FieldEntry.{FieldEntry}
 use Rattle.seg_words.specs.declared.token.Token.{Token}
-use Rattle.seg_model.specs.Checked.{Cause, unless, positions_fall, value_texts, positions_refusal, order_refusal, fields_refusal, leaves_refusal, limit_refusal, document_refusal}
-use Rattle.seg_model.specs.Fields.{Schema, Analyzer, is_indexed, indexing_tokenizer, values_of}
+use Rattle.seg_model.specs.Checked.{Cause, unless, json_refusal, tree_refusal, positions_fall, value_texts, positions_refusal, order_refusal, fields_refusal, leaves_refusal, limit_refusal, document_refusal}
+use Rattle.seg_values.specs.declared.schema.FieldKind.TheVariants.{Json}
+use Rattle.seg_model.specs.Fields.{Schema, Analyzer, is_json, is_indexed, indexing_tokenizer, values_of}
 use Rattle.seg_check.specs.AllFields.{StandsAt, AllStand}
 use Rattle.seg_check.specs.Sizes.{all_rise}
 use Rattle.seg_check.specs.Standing.{Stands}
@@ -91,6 +92,33 @@ some-else : (o later : Option Cause) → is_none o ≡ false → is_none (option
 some-else None later h = absurd (false≢true (sym h))
 some-else (Some r) later h = refl
 
+none-first : (o later : Option Cause) → option_or o later ≡ None → o ≡ None
+none-first None later h = refl
+none-first (Some r) later h = absurd (false≢true (ap is_none h))
+
+none-second : (o later : Option Cause) → option_or o later ≡ None → later ≡ None
+none-second None later h = h
+none-second (Some r) later h = absurd (false≢true (ap is_none h))
+
+-- no pair of these has a leaf or a key that it may not have
+module _ (schema : Schema) (document : Document) (i field : ℕ) (t : Tree) (at : slice_get document i ≡ Some (field, t)) (none : leaves_refusal schema (drop i document) ≡ None) where
+  both-none : option_or (json_refusal t (slice_get schema field)) (leaves_refusal schema (drop (i + 1) document)) ≡ None
+  both-none = sym (ap (leaves_refusal schema) (drop-slice_get document i (field, t) at)) ∙ none
+
+  pub none-here : json_refusal t (slice_get schema field) ≡ None
+  none-here = none-first (json_refusal t (slice_get schema field)) (leaves_refusal schema (drop (i + 1) document)) both-none
+
+  pub none-behind : leaves_refusal schema (drop (i + 1) document) ≡ None
+  none-behind = none-second (json_refusal t (slice_get schema field)) (leaves_refusal schema (drop (i + 1) document)) both-none
+
+-- and so the value of a JSON field that is indexed
+pub keys-plain : (schema : Schema) (field : ℕ) (t : Tree) (entry : FieldEntry) → slice_get schema field ≡ Some entry → is_indexed entry ≡ true → json_refusal t (slice_get schema field) ≡ None → entry.kind ≡ Json → tree_refusal t ≡ None
+keys-plain schema field t entry at indexed none json =
+    sym (ap (json_refusal t) at
+    ∙ ap (λ k. cond (is_json k && (is_indexed entry || entry.fast)) (tree_refusal t) None) json
+    ∙ ap (λ b. cond (b || entry.fast) (tree_refusal t) None) indexed)
+    ∙ none
+
 module _ (schema : Schema) (analyzer : Analyzer) (document : Document) (i field : ℕ) (t : Tree) (at : slice_get document i ≡ Some (field, t)) where
   pub rises-on : is_none (positions_refusal analyzer t (slice_get schema field)) ≡ true → order_refusal schema analyzer (drop (i + 1) document) ≡ order_refusal schema analyzer (drop i document)
   rises-on h = sym (ap (order_refusal schema analyzer) (drop-slice_get document i (field, t) at) ∙ none-else (positions_refusal analyzer t (slice_get schema field)) (order_refusal schema analyzer (drop (i + 1) document)) h)
@@ -107,6 +135,11 @@ module _ (schema : Schema) (analyzer : Analyzer) (document : Document) (i field 
       taken (p ∷ d) (suc k) e = ap (λ l. p ∷ l) (taken d k e)
 
 -- ---- what is at a place
+
+pub each-at : {X : Type 0} (P : X → Type 0) (xs : List X) (i : ℕ) (x : X) → AllByRecursion P xs → slice_get xs i ≡ Some x → P x
+each-at P [] i x all at = absurd (false≢true (ap is_some at))
+each-at P (y ∷ ys) zero x all at = subst P (same_Some y x at) all.0
+each-at P (y ∷ ys) (suc i) x all at = each-at P ys i x all.1 at
 
 pub read-at : {X : Type 0} (xs : List X) (place k : ℕ) (x : X) → place < length xs → x ≡ get_or xs place x → place ≡ k → slice_get xs k ≡ Some x
 read-at {X} xs place k x lt is same = ap (slice_get xs) (sym same) ∙ read xs place lt is

@@ -38,6 +38,14 @@ module _ (analyze : List ℕ → List Token) where
   pub starts-standing : (paths : PathTotals) (before left all : List (List ℕ × Leaf)) → left ≡ all → PathsStand analyze paths before → StandWith analyze paths left (before ++ all)
   starts-standing paths before left all is stands = record { came = before; stands = stands; with_left = ap (λ l. before ++ l) is }
 
+  -- one more text, if the leaf is one
+  pub next-cut : (x : List ℕ × Leaf) (left rest : List (List ℕ × Leaf)) → left ≡ x ∷ rest → (texts more before : List (List Token))
+      → more ≡ texts ++ map analyze (leaf_text x.1) → texts ++ texts_of analyze left ≡ before → more ++ texts_of analyze rest ≡ before
+  next-cut x left rest is texts more before put so_far =
+      ap (λ l. l ++ texts_of analyze rest) put
+      ∙ append_assoc texts (map analyze (leaf_text x.1)) (texts_of analyze rest)
+      ∙ ap (λ l. texts ++ texts_of analyze l) (sym is) ∙ so_far
+
   module _ (x : List ℕ × Leaf) (left rest all : List (List ℕ × Leaf)) (is : left ≡ x ∷ rest) where
     next-left : (came : List (List ℕ × Leaf)) → came ++ left ≡ all → (came ++ x ∷ []) ++ rest ≡ all
     next-left came with_left = append_assoc came (x ∷ []) rest ∙ ap (λ l. came ++ l) (sym is) ∙ with_left

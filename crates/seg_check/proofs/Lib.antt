@@ -1,6 +1,7 @@
 pub mod Exports
 mod Adding
 mod Causes
+mod CutContents
 mod Deep
 mod FieldsCome
 mod FieldsFit

@@ -1,13 +1,13 @@
 -- What a document has in its indexed fields so far.
 use Rattle.std.specs.Prelude.{◌≡◌, ℕ, List, [], ◌∷◌, ◌++◌, map, nat_eq, Bool, true, Option, Some, None}
 use Rattle.std.specs.HashMap.{HashMap, get}
-use Rattle.std.specs.List.{slice_get}
+use Rattle.std.specs.List.{slice_get, AllByRecursion}
 use Rattle.seg_values.specs.Tree.{Tree, Document}
 use Rattle.seg_values.specs.declared.schema.FieldEntry.{FieldEntry}
 use Rattle.seg_words.specs.declared.token.Token.{Token}
 use Rattle.seg_model.specs.Checked.{field_fits}
 use Rattle.seg_model.specs.Fields.{Schema, Analyzer, is_indexed, indexing_tokenizer, values_of}
-use Rattle.seg_check.specs.IndexedValues.{value_in, document_values}
+use Rattle.seg_check.specs.IndexedValues.{IsPlainIn, value_in, document_values}
 use Rattle.seg_check.specs.Standing.{Stands}
 use Rattle.seg_check.specs.declared.field_totals.FieldTotals.{FieldTotals}
 use Rattle.seg_check.specs.declared.positions.CutDocument.{CutDocument}
@@ -29,6 +29,7 @@ TellMore schema analyzer p old new = (came : Document) → AllStand schema analy
 -- these pairs of a document came: their values are kept, each text cut, and the totals tell of them
 pub record HasCut (schema : Schema) (analyzer : Analyzer) (document came : Document) (cut : CutDocument) : Type 0 where
   pub values : map (value_in document) cut.values.items ≡ document_values schema analyzer came
+  pub keys : AllByRecursion (IsPlainIn document) cut.values.items
   pub totals : AllStand schema analyzer cut.totals came
 
 -- one more pair came, which is at a place of its document

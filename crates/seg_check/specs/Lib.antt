@@ -1,7 +1,9 @@
 pub mod AllFields
 pub mod IndexedValues
 pub mod Known
+pub mod LeafContents
 pub mod Paths
+pub mod Ready
 pub mod Sizes
 pub mod Standing
 pub mod Texts

@@ -2,7 +2,7 @@
 ghost use Rattle.std.specs.Prelude.{◌≡◌, ◌⊎◌, None, Some, map, IfOk, IfErr, OnOk};
 ghost use Rattle.std.specs.List.{AllByRecursion};
 ghost use Rattle.seg_model.specs.Checked as checked;
-ghost use Rattle.seg_check.specs.IndexedValues.{value_in, document_values};
+ghost use Rattle.seg_check.specs.IndexedValues.{IsPlainIn, value_in, document_values};
 ghost use Rattle.seg_check.specs.Known.{KnowsTexts};
 
 use crate::fields::fields_refusal;
@@ -33,8 +33,8 @@ pub fn check_document<D: Document, Z: Analyzers>(
     Ok(())
 }
 
-/// Checks the pairs of a document before it is indexed, and answers its values in indexed fields that are no JSON fields,
-/// each text cut once; `at` is the place that an error tells.
+/// Checks the pairs of a document before it is indexed, and answers its values in indexed fields, each text cut once;
+/// `at` is the place that an error tells.
 pub fn checked_values<Z: Analyzers>(
     alloc: Global,
     schema: &Schema,
@@ -45,6 +45,7 @@ pub fn checked_values<Z: Analyzers>(
     requires { AllByRecursion (KnowsTexts (Z.knows analyzers.now)) schema.now }
     ensures ok { OnOk result (checked.document_refusal schema.now (Z.tokens_of analyzers.now) document.now ≡ None) }
     ensures values { IfOk result (λ values. map (value_in document.now) values.items ≡ document_values schema.now (Z.tokens_of analyzers.now) document.now) }
+    ensures keys { IfOk result (λ values. AllByRecursion (IsPlainIn document.now) values.items) }
     ensures err { IfErr result (λ e. (e ≡ TantivyError.OutOfMemory) ⊎ (checked.at_place at (checked.document_refusal schema.now (Z.tokens_of analyzers.now) document.now) ≡ Some e)) }
 {
     if let Some(refusal) = fields_refusal(schema, document, at) {

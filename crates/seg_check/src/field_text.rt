@@ -33,7 +33,7 @@ impl FieldText {
 }
 
 /// The tokens that a value comes with.
-pub(crate) fn given_tokens(value: &OwnedValue) -> &[Token]
+pub fn given_tokens(value: &OwnedValue) -> &[Token]
     ensures { result.now ≡ value_tokens (λ _. []) (tree_of value.now) }
 {
     match value {

@@ -6,21 +6,20 @@ ghost use Rattle.seg_words.specs.declared.token.Token.{Token};
 ghost use Rattle.seg_values.specs.View.{tree_of};
 ghost use Rattle.seg_model.specs.Checked as checked;
 ghost use Rattle.seg_model.specs.Fields as fields;
-ghost use Rattle.seg_check.specs.Known.{KnowsTexts};
 ghost use Rattle.seg_check.specs.Paths.{IsNumbered, PathsStand, path_leaf, texts_of};
+ghost use Rattle.seg_check.specs.Ready.{IsReady};
 ghost use Rattle.seg_check.specs.Sizes.{measured};
 ghost use Rattle.seg_check.specs.Standing.{Stands, found_in, rises as rises_in};
-ghost use Rattle.seg_check.specs.Texts.{IsCut};
 
 use crate::entry::indexing_tokenizer;
 use crate::field_text::FieldText;
 use crate::paths::PathTotals;
 use crate::size::{TextSize, text_size};
-use crate::texts::leaf_size;
+use crate::texts::cut_leaf;
 use crate::totals::{Totals, is_u32};
 use seg_paths::NumberedLeaf;
 use seg_values::{FieldEntry, FieldKind, OwnedValue};
-use seg_words::Analyzers;
+use seg_words::{Analyzers, Tokens};
 use std::alloc::{AllocError, Global};
 
 /// What came in a field: as a whole, and in a JSON field at each joined path.
@@ -41,7 +40,8 @@ impl FieldTotals {
         }
     }
 
-    /// One more value, which in a text field is cut, unless positions decrease in one of its texts.
+    /// One more value, which in a text field is cut, unless positions decrease in one of its texts. The texts of a JSON
+    /// value are cut here, and come behind those before them.
     pub fn add_value<Z: Analyzers>(
         &mut self,
         alloc: Global,
@@ -49,14 +49,15 @@ impl FieldTotals {
         entry: &FieldEntry,
         text: &FieldText,
         value: &OwnedValue,
+        texts: &mut Vec<Tokens>,
     ) -> Result<bool, AllocError>
-        requires known { KnowsTexts (Z.knows analyzers.now) entry.now }
-        requires indexed { fields.is_indexed entry.now ≡ true }
-        requires cut { IsCut (Z.tokens_of analyzers.now) entry.now text.now.cut (tree_of value.now) }
+        requires { IsReady (Z.knows analyzers.now) (Z.tokens_of analyzers.now) entry.now text.now.cut (tree_of value.now) }
         ensures rises { IfOk result (λ rises. rises ≡ rises_in (Z.tokens_of analyzers.now) entry.now (tree_of value.now)) }
         ensures stands { (done : List Tree) → Stands entry.now (Z.tokens_of analyzers.now (fields.indexing_tokenizer entry.now)) self.old done → IfOk result (λ rises. rises ≡ true → Stands entry.now (Z.tokens_of analyzers.now (fields.indexing_tokenizer entry.now)) self.new (done ++ tree_of value.now ∷ [])) }
+        ensures cut { entry.now.kind ≡ FieldKind.Json → IfOk result (λ rises. rises ≡ true → texts.new.items
+            ≡ texts.old.items ++ checked.value_texts entry.now.kind (Z.tokens_of analyzers.now (fields.indexing_tokenizer entry.now)) (tree_of value.now)) }
     {
-        match texts_size(&mut self.paths, alloc, analyzers, entry, text, value)? {
+        match texts_size(&mut self.paths, alloc, analyzers, entry, text, value, texts)? {
             Some(size) => {
                 self.whole = self.whole.with(size);
                 Ok(true)
@@ -83,7 +84,8 @@ impl FieldTotals {
     }
 }
 
-/// The size of the texts of a value; none where positions decrease in one. In a JSON field its leaves come in.
+/// The size of the texts of a value; none where positions decrease in one. In a JSON field its leaves come in, and its
+/// texts are cut.
 fn texts_size<Z: Analyzers>(
     paths: &mut PathTotals,
     alloc: Global,
@@ -91,31 +93,33 @@ fn texts_size<Z: Analyzers>(
     entry: &FieldEntry,
     text: &FieldText,
     value: &OwnedValue,
+    texts: &mut Vec<Tokens>,
 ) -> Result<Option<TextSize>, AllocError>
-    requires known { KnowsTexts (Z.knows analyzers.now) entry.now }
-    requires indexed { fields.is_indexed entry.now ≡ true }
-    requires cut { IsCut (Z.tokens_of analyzers.now) entry.now text.now.cut (tree_of value.now) }
+    requires { IsReady (Z.knows analyzers.now) (Z.tokens_of analyzers.now) entry.now text.now.cut (tree_of value.now) }
     ensures size { IfOk result (λ size. size ≡ measured (checked.value_texts entry.now.kind (Z.tokens_of analyzers.now (fields.indexing_tokenizer entry.now)) (tree_of value.now))) }
     ensures stands { (done : List Tree) → entry.now.kind ≡ FieldKind.Json → PathsStand (Z.tokens_of analyzers.now (fields.indexing_tokenizer entry.now)) paths.old (found_in entry.now.expand_dots done) → IfOk result (λ size. IsSome size → PathsStand (Z.tokens_of analyzers.now (fields.indexing_tokenizer entry.now)) paths.new (found_in entry.now.expand_dots (done ++ tree_of value.now ∷ []))) }
+    ensures cut { entry.now.kind ≡ FieldKind.Json → IfOk result (λ size. IsSome size → texts.new.items
+        ≡ texts.old.items ++ checked.value_texts entry.now.kind (Z.tokens_of analyzers.now (fields.indexing_tokenizer entry.now)) (tree_of value.now)) }
 {
     match entry.kind {
         FieldKind::Text => Ok(text_size(text.tokens(value))),
         FieldKind::Json => {
             let tokenizer = indexing_tokenizer(entry);
             let leaves = paths.leaves_of(alloc, entry.expand_dots, value)?;
-            add_leaves(paths, alloc, analyzers, tokenizer, leaves)
+            add_leaves(paths, alloc, analyzers, tokenizer, leaves, texts)
         }
         _ => Ok(Some(TextSize::none())),
     }
 }
 
-/// The leaves of a value come in. The size of their texts; none where positions decrease in one.
+/// The leaves of a value come in, and their texts are cut. The size of these; none where positions decrease in one.
 fn add_leaves<Z: Analyzers>(
     paths: &mut PathTotals,
     alloc: Global,
     analyzers: &Z,
     tokenizer: &str,
     leaves: Vec<NumberedLeaf>,
+    texts: &mut Vec<Tokens>,
 ) -> Result<Option<TextSize>, AllocError>
     requires { IsTrue (Z.knows analyzers.now tokenizer.now) }
     ensures size { IfOk result (λ size. size
@@ -126,11 +130,14 @@ fn add_leaves<Z: Analyzers>(
         → PathsStand (Z.tokens_of analyzers.now tokenizer.now) paths.old found → IfOk result (λ size. IsSome size
         → PathsStand (Z.tokens_of analyzers.now tokenizer.now) paths.new
         (found ++ map (path_leaf paths.old.table) leaves.entry.items)) }
+    ensures cut { IfOk result (λ size. IsSome size → texts.new.items
+        ≡ texts.old.items ++ texts_of (Z.tokens_of analyzers.now tokenizer.now)
+        (map (path_leaf paths.old.table) leaves.entry.items)) }
 {
     let mut whole = TextSize::none();
     for found in leaves {
         let NumberedLeaf { path, leaf } = found;
-        let Some(size) = leaf_size(alloc, analyzers, tokenizer, leaf)? else {
+        let Some(size) = cut_leaf(texts, alloc, analyzers, tokenizer, leaf)? else {
             return Ok(None);
         };
         paths.add(path, size)?;

@@ -28,5 +28,6 @@ mod totals;
 
 pub use document::{check_document, checked_values};
 pub use entry::indexing_tokenizer;
+pub use field_text::given_tokens;
 pub use indexed_value::{IndexedValue, ValueForm};
 pub use size::{counted_len, text_width};

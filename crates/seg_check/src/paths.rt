@@ -1,8 +1,9 @@
 //! The joined paths of a JSON field.
-ghost use Rattle.std.specs.Prelude.{◌≡◌, List, ℕ, [], ◌∷◌, ◌++◌, Some, map, IfOk, OnOk};
+ghost use Rattle.std.specs.Prelude.{◌≡◌, List, ℕ, [], ◌∷◌, ◌++◌, None, Some, map, IfOk, OnOk};
 ghost use Rattle.seg_values.specs.Tree.{Leaf};
 ghost use Rattle.seg_values.specs.View.{tree_of};
 ghost use Rattle.seg_words.specs.declared.token.Token.{Token};
+ghost use Rattle.seg_model.specs.Checked.{tree_refusal};
 ghost use Rattle.seg_model.specs.Leaves.{leaves};
 ghost use Rattle.seg_model.specs.Occurrences.{leaf_text};
 ghost use Rattle.seg_paths.specs.Paths.{number_of};
@@ -36,13 +37,14 @@ impl PathTotals {
         }
     }
 
-    /// The leaves of a value, whose joined paths get numbers.
+    /// The leaves of a value that passed the check of leaves and keys, whose joined paths get numbers.
     pub fn leaves_of<'a>(
         &mut self,
         alloc: Global,
         expand_dots: bool,
         value: &'a OwnedValue,
     ) -> Result<Vec<NumberedLeaf<'a>>, AllocError>
+        requires { tree_refusal (tree_of value.now) ≡ None }
         ensures leaves { IfOk result (λ found. AreLeaves self.new.table
             (map (at_path expand_dots) (leaves (tree_of value.now))) found.items) }
         ensures stands { (analyze : List ℕ → List Token) → (found : List (List ℕ × Leaf))

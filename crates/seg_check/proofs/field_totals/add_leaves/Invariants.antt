@@ -2,7 +2,7 @@ use Rattle.std.proofs.Common.{◌≡◌, ℕ, ◌++◌, List, map}
 use Rattle.std.specs.List.{AllByRecursion}
 use Rattle.std.specs.Vec.Iter.{into_iter_items}
 use Rattle.seg_values.specs.Tree.{Leaf}
-use Rattle.seg_check.specs.Paths.{IsNumbered, PathsStand, path_leaf}
+use Rattle.seg_check.specs.Paths.{IsNumbered, PathsStand, path_leaf, texts_of}
 use Rattle.seg_check.proofs.LeavesCome.{SizedWith, StandWith}
 use Rattle.seg_check.proofs.field_totals.add_leaves.Given as goal
 
@@ -15,6 +15,7 @@ invariant-loop-found g l =
     let all = map (path_leaf table) (into_iter_items l.initial.found-iterator) in
     record {
       sized : SizedWith analyze l.whole left all;
+      cut : l.texts.items ++ texts_of analyze left ≡ l.initial.texts.items ++ texts_of analyze all;
       same : l.paths.table ≡ table;
       numbered : AllByRecursion (IsNumbered table) (into_iter_items l.initial.found-iterator)
           → AllByRecursion (IsNumbered table) (into_iter_items l.found-iterator);

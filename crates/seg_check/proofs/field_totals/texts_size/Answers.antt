@@ -41,3 +41,19 @@ returns-in_ok-leaves-in-Json-clause-stands g c done json stands =
     subst (λ l. PathsStand (T (indexing_tokenizer e)) c.add_leaves.new.paths l) same (subst (λ n. PathsStand
     (T n) c.add_leaves.new.paths (found_in e.expand_dots done ++ came)) tokenizer.ensures (more some)))
     (c.add_leaves.ensures.stands (found_in e.expand_dots done) walk.ensures.leaves.numbered before)
+
+pub returns-in_ok-leaves-in-Json-clause-cut : goal.returns-in_ok-leaves-in-Json-clause-cut
+returns-in_ok-leaves-in-Json-clause-cut g c json =
+    let T = g.Z.Analyzers.tokens_of c.args.analyzers.now in
+    let e = c.args.entry.now in
+    let t = tree_of c.args.value.now in
+    let walk = c.in_ok-leaves-in-Json in
+    let table = c.leaves_of.new.self.table in
+    let same : texts_of (T c.indexing_tokenizer-tokenizer.result.now) (map (path_leaf table) walk.leaves.items)
+    ≡ value_texts e.kind (T (indexing_tokenizer e)) t =
+    ap (λ n. texts_of (T n) (map (path_leaf table) walk.leaves.items)) c.indexing_tokenizer-tokenizer.ensures
+    ∙ ap (texts_of (T (indexing_tokenizer e))) walk.ensures.leaves.are
+    ∙ texts-walked e.expand_dots (T (indexing_tokenizer e)) t
+    ∙ ap (λ k. value_texts k (T (indexing_tokenizer e)) t) (sym c.in-Json.is) in
+    IfOk-weaker c.add_leaves.result _ _ (λ size is some. is some
+    ∙ ap (λ l. c.args.texts.now.items ++ l) same) c.add_leaves.ensures.cut

@@ -1,5 +1,5 @@
-use Rattle.std.proofs.Common.{◌≡◌, take, drop}
-use Rattle.seg_model.specs.Checked.{order_refusal}
+use Rattle.std.proofs.Common.{◌≡◌, None, take, drop}
+use Rattle.seg_model.specs.Checked.{leaves_refusal, order_refusal}
 use Rattle.seg_check.specs.AllFields.{HasCut}
 use Rattle.seg_check.proofs.positions.cut_texts.Given as goal
 
@@ -9,5 +9,6 @@ invariant-loop-at g l =
     record {
       -- what is left decides
       order : order_refusal l.schema analyzer (drop l.at l.document) ≡ order_refusal l.schema analyzer l.document;
+      json : leaves_refusal l.schema (drop l.at l.document) ≡ None;
       cut : HasCut l.schema analyzer l.document (take l.at l.document) l.cut;
     }

@@ -5,7 +5,8 @@ use Rattle.std.proofs.lemmas.Option.{same_Some}
 use Rattle.seg_values.specs.View.{tree_of}
 use Rattle.seg_model.specs.Fields.{is_indexed}
 use Rattle.seg_check.specs.AllFields.{CutsMore}
-use Rattle.seg_check.proofs.FieldsCome.{order-of, order-none, read-at, none-past}
+use Rattle.seg_check.specs.Known.{KnowsTexts}
+use Rattle.seg_check.proofs.FieldsCome.{each-at, keys-plain, order-of, order-none, read-at, none-past}
 use Rattle.seg_check.proofs.KeptValues.{cut-passed}
 use Rattle.seg_check.proofs.positions.CutDocument.add_pair.Goals as goal
 
@@ -24,6 +25,19 @@ returns-then-not-is_indexed-clause-cut g c passes document came at has =
     let here = read-at c.args.schema.now c.field_id-field.result c.args.field c.in-Some.entry.now c.in-Some.ensures.lookup.3.0 c.in-Some.ensures.lookup.1 c.field_id-field.ensures in
     cut-passed c.args.schema.now (g.Z.Analyzers.tokens_of c.args.analyzers.now) came c.args.field (tree_of c.args.value.now) document c.args.self.now
     (λ entry at_entry. ap is_indexed (same_Some entry c.in-Some.entry.now (sym at_entry ∙ here)) ∙ sym c.is_indexed.ensures ∙ c.if-not-is_indexed.true) has
+
+pub add_value-requires : goal.add_value-requires
+add_value-requires g c =
+    let schema = c.args.schema.now in
+    let t = tree_of c.args.value.now in
+    let here = read-at schema c.field_id-field.result c.args.field c.in-Some.entry.now c.in-Some.ensures.lookup.3.0 c.in-Some.ensures.lookup.1 c.field_id-field.ensures in
+    let indexed = sym c.is_indexed.ensures ∙ c.if-not-is_indexed.false in
+    record {
+      known = each-at (KnowsTexts (g.Z.Analyzers.knows c.args.analyzers.now)) schema c.args.field c.in-Some.entry.now c.requires.known here;
+      indexed = indexed;
+      cut = c.in_ok-cut.ensures;
+      keys = keys-plain schema c.args.field t c.in-Some.entry.now here indexed c.requires.json;
+    }
 
 pub returns-clause-order : goal.returns-clause-order
 returns-clause-order g c =
