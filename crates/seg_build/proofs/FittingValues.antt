@@ -11,34 +11,32 @@ use Rattle.seg_check.specs.IndexedValues.{IndexedContent, content_of, content_at
 use Rattle.seg_check.proofs.Exports.{for_one_field}
 use Rattle.seg_segment.specs.Built.{is_built_schema}
 use Rattle.seg_segment.proofs.Exports.{built_field_at}
-use Rattle.seg_build.specs.Field.{next_start, length_in, start_of, Fits}
+use Rattle.seg_build.specs.Field.{first_starts, next_starts, length_in, start_of, TextsFit, Fits}
 use Rattle.seg_build.specs.Steps.{AllFit, indexed_part, with_pair, with_pairs}
-use Rattle.seg_build.specs.declared.field.FieldPostings.{FieldPostings}
-use Rattle.seg_build.proofs.Contents.{AreBounded, start_after_values, start_after_values-append, start_after_values-ge, length_of_values, length_of_values-append}
+use Rattle.seg_build.specs.FieldSoFar.{FieldSoFar}
+use Rattle.seg_build.proofs.Contents.{AreBounded, AreLow, start_after_values, start_after_values-append, low-before, texts_fit, length_of_values, length_of_values-append}
 use Rattle.seg_build.proofs.IndexedParts.{part-kept, part-passed, values_kept, IsIndexedPair, indexed_pair}
 use Rattle.seg_build.proofs.Places.{contents_of, contents_of-taken, contents_of-append, added_all, start_of-added_all, length_of-added_all, field_after}
 use Rattle.seg_build.proofs.Taken.{bounded, passed}
 use Rattle.seg_build.proofs.Whole.{AllHaveTerms, IsFresh}
 
 -- a value among those of its field, of which all together are bounded
-fits_between : (id : ℕ) (field : FieldPostings) → IsFresh id field
+fits_between : (id : ℕ) (field : FieldSoFar) → IsFresh id field
     → (vs : List IndexedContent) (v : IndexedContent) (ws : List IndexedContent) → AreBounded (vs ++ v ∷ ws)
     → Fits id v (added_all id field vs)
 fits_between id field fresh vs v ws bounds =
-    let start : start_of id (added_all id field vs) ≡ start_after_values 0 vs = start_of-added_all id field vs ∙ ap (λ s. start_after_values s vs) fresh.start in
-    let end : start_after_values 0 (vs ++ v ∷ ws) ≡ start_after_values (next_start (start_after_values 0 vs) v) ws = start_after_values-append 0 vs (v ∷ ws) in
-    let ge = start_after_values-ge (next_start (start_after_values 0 vs) v) ws in
-    let low : start_after_values 0 (vs ++ v ∷ ws) < 2 ^ 32 = bounds.end in
+    let start : start_of id (added_all id field vs) ≡ start_after_values first_starts vs = start_of-added_all id field vs ∙ ap (λ s. start_after_values s vs) fresh.start in
+    let low = subst AreLow (start_after_values-append first_starts vs (v ∷ ws)) bounds.end in
     let all : length_of_values (vs ++ v ∷ ws) ≡ length_of_values vs + (length_in v + length_of_values ws) = length_of_values-append vs (v ∷ ws) in
     let few : length_of_values (vs ++ v ∷ ws) < 2 ^ 32 = bounds.len in
     record {
-      next = subst (λ s. next_start s v < 2 ^ 32) (sym start) (omega (arith, end, ge, low));
+      next = subst (λ s. TextsFit s v) (sym start) (texts_fit (start_after_values first_starts vs) v (low-before (next_starts (start_after_values first_starts vs) v) ws low));
       len = omega (arith, length_of-added_all id field vs, fresh.len, all, few);
     }
 
 -- ---- the values of a document
 
-with_pairs-push : (schema : Schema) (analyzer : Analyzer) (id : ℕ) (fields : List FieldPostings) (ps : Document) (p : ℕ × Tree)
+with_pairs-push : (schema : Schema) (analyzer : Analyzer) (id : ℕ) (fields : List FieldSoFar) (ps : Document) (p : ℕ × Tree)
     → with_pairs schema analyzer id fields (ps ++ p ∷ []) ≡ with_pair schema analyzer id (with_pairs schema analyzer id fields ps) p
 with_pairs-push schema analyzer id fields [] p = refl
 with_pairs-push schema analyzer id fields (q ∷ qs) p =
@@ -55,7 +53,7 @@ all_indexed schema (p ∷ ps) = elim (cases_Bool (is_field is_indexed (slice_get
   | inr off ↦ subst (AllByRecursion (IsIndexedPair schema)) (sym (part-passed schema p ps off)) (all_indexed schema ps)
 ]
 
-module _ (schema : Schema) (analyzer : Analyzer) (entries : is_built_schema schema ≡ true) (d : Document) (taken : is_taken schema analyzer d ≡ true) (before : List Document) (fields : List FieldPostings) (have : AllHaveTerms schema analyzer entries before fields) where
+module _ (schema : Schema) (analyzer : Analyzer) (entries : is_built_schema schema ≡ true) (d : Document) (taken : is_taken schema analyzer d ≡ true) (before : List Document) (fields : List FieldSoFar) (have : AllHaveTerms schema analyzer entries before fields) where
   abbrev id : ℕ
   id = length before
 

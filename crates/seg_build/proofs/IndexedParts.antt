@@ -1,16 +1,13 @@
 -- The values of a document in fields that are indexed.
 use Rattle.std.proofs.Common.{◌≡◌, ℕ, true, false, cond, [], ◌∷◌, map, Some, None, Option, sym, refl, ap, ◌∙◌, inl, inr}
-use Rattle.std.specs.Prelude.{filter, nat_eq, not, ◌&&◌}
+use Rattle.std.specs.Prelude.{filter, nat_eq}
 use Rattle.std.specs.List.{slice_get}
 use Rattle.std.proofs.lemmas.Bool.{false≢true, cases_Bool}
 use Rattle.std.proofs.lemmas.Bool.Decides.{eqb_tells}
 use Rattle.seg_values.specs.declared.schema.FieldEntry.{FieldEntry}
 use Rattle.seg_values.specs.Tree.{Tree, Document}
-use Rattle.seg_model.specs.Fields.{Schema, is_indexed, is_json, is_field, values_of}
-use Rattle.seg_check.specs.IndexedValues.{has_values, value_part}
-use Rattle.seg_segment.specs.Built.{is_built_schema}
+use Rattle.seg_model.specs.Fields.{Schema, is_indexed, is_field, values_of}
 use Rattle.seg_build.specs.Steps.{indexed_part}
-use Rattle.seg_segment.proofs.Exports.{built_field_at, not_json}
 
 module _ (k : ℕ) where
   pub values-own : (p : ℕ × Tree) (ps : Document) → nat_eq k p.0 ≡ true → values_of k (p ∷ ps) ≡ p.1 ∷ values_of k ps
@@ -63,16 +60,4 @@ module _ (schema : Schema) where
     values_dropped (p ∷ ps) off = elim (eqb_tells k p.0) [
       | inl h ↦ ap (values_of k) (part-passed p ps (own_test p h.1 ∙ off)) ∙ values_dropped ps off
       | inr h ↦ values_past p ps h.0 ∙ values_dropped ps off
-    ]
-
--- where fields are built, the pairs in indexed fields are those whose values are indexed
-pub value_part-built : (schema : Schema) → is_built_schema schema ≡ true → (ps : Document) → value_part schema ps ≡ indexed_part schema ps
-value_part-built schema built [] = refl
-value_part-built schema built (p ∷ ps) = λ i. cond (same (slice_get schema p.0) refl i) (p ∷ value_part-built schema built ps i) (value_part-built schema built ps i)
-  where
-    same : (o : Option FieldEntry) → slice_get schema p.0 ≡ o → is_field has_values o ≡ is_field is_indexed o
-    same None at = refl
-    same (Some e) at = elim (cases_Bool (is_indexed e)) [
-      | inl on ↦ ap (λ b. b && not (is_json e.kind)) on ∙ ap not (not_json e.kind (built_field_at schema p.0 e built at on).kind) ∙ sym on
-      | inr off ↦ ap (λ b. b && not (is_json e.kind)) off ∙ sym off
     ]

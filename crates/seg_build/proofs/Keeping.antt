@@ -1,7 +1,7 @@
 -- What a writer keeps after one more document.
 use Rattle.std.proofs.Common.{◌≡◌, ℕ, suc, ◌+◌, ◌<◌, ◌≤◌, ◌^◌, ◌-◌, Bool, true, List, [], ◌∷◌, ◌++◌, map, length, take, drop, get_or, Some, None, Option, option_map, refl, sym, ap, ◌∙◌, subst, arith, length-append}
 use Rattle.std.specs.Prelude.{IsSomeAnd, IfSome}
-use Rattle.std.specs.List.{list_all}
+use Rattle.std.specs.List.{AllByRecursion, list_all}
 use Rattle.std.proofs.lemmas.Bool.{and_from, and_parts}
 use Rattle.std.proofs.lemmas.List.{length-map, take_at}
 use Rattle.seg_values.specs.declared.schema.FieldEntry.{FieldEntry}
@@ -14,7 +14,7 @@ use Rattle.seg_values.specs.StoredForm.{stored_form}
 use Rattle.seg_store.specs.BlockLaw.{AreTakenLast}
 use Rattle.seg_store.specs.Writing.{taken_count}
 use Rattle.seg_segment.specs.Built.{is_built_schema}
-use Rattle.seg_check.specs.IndexedValues.{IndexedContent, value_in, value_of, document_values}
+use Rattle.seg_check.specs.IndexedValues.{IndexedContent, IsPlainIn, value_in, value_of, document_values}
 use Rattle.seg_check.specs.declared.indexed_value.IndexedValue.{IndexedValue}
 use Rattle.seg_build.specs.Kept.{Kept}
 use Rattle.seg_build.specs.Lengths.{HaveLengths, with_lengths}
@@ -22,12 +22,11 @@ use Rattle.seg_build.specs.MemoryUsage.{occurrence_count, value_count}
 use Rattle.seg_build.specs.SegmentWriting.{kept_of, Stores, IsKeptOf, IsUnderWay, HasPlace, Adds, HasRoom, HasTaken}
 use Rattle.seg_build.specs.Steps.{AllFit, fresh, indexed_part, with_documents, with_pairs, with_values}
 use Rattle.seg_build.specs.StoredBlocks.{stored_with}
-use Rattle.seg_build.specs.declared.field.FieldPostings.{FieldPostings}
+use Rattle.seg_build.specs.FieldSoFar.{FieldSoFar}
 use Rattle.seg_build.specs.declared.writer_parts.WriterParts.{WriterParts}
 use Rattle.seg_common.proofs.Lists.{all_push}
 use Rattle.seg_build.proofs.FittingValues.{document_fits}
 use Rattle.seg_build.proofs.KeptLengths.{fields_turn, lengths_turn}
-use Rattle.seg_build.proofs.IndexedParts.{value_part-built}
 use Rattle.seg_build.proofs.StoringDocuments.{HasStored, shallow_taken, stored_turn}
 use Rattle.seg_build.proofs.Taken.{passed}
 use Rattle.seg_build.proofs.ValueSteps.{values-pairs}
@@ -88,16 +87,17 @@ module _ (schema : Schema) (analyzer : Analyzer) (entries : is_built_schema sche
   few : many < 2 ^ 31 - 1
   few = omega (arith, count, place)
 
-  pub has_room : (found : List IndexedValue) → map (value_in d) found ≡ document_values schema analyzer d → HasRoom d found old
-  has_room found found_are = record {
+  pub has_room : (found : List IndexedValue) → map (value_in d) found ≡ document_values schema analyzer d → AllByRecursion (IsPlainIn d) found → HasRoom d found old
+  has_room found found_are keys = record {
     place = place;
     shallow = shallow_taken d (passed schema analyzer d taken).shallow;
     fit =
         let fit = document_fits schema analyzer entries d taken documents (with_documents schema analyzer 0 (map (λ _. fresh) schema) documents) (all_more schema analyzer entries [] (map (λ _. fresh) schema) documents (all_fresh schema analyzer entries)) in
-        let values_are : map (value_in d) found ≡ map (value_of schema analyzer) (indexed_part schema d) = found_are ∙ ap (map (value_of schema analyzer)) (value_part-built schema entries d) in
+        let values_are : map (value_in d) found ≡ map (value_of schema analyzer) (indexed_part schema d) = found_are in
         subst (λ (n : ℕ). AllFit n old.fields (map (value_in d) found)) (sym count)
-        (subst (λ (fs : List FieldPostings). AllFit many fs (map (value_in d) found)) (sym are.fields)
+        (subst (λ (fs : List FieldSoFar). AllFit many fs (map (value_in d) found)) (sym are.fields)
         (subst (λ (vs : List (ℕ × IndexedContent)). AllFit many (with_documents schema analyzer 0 (map (λ _. fresh) schema) documents) vs) (sym values_are) fit));
+    keys = keys;
     store = if_some _ old.store (weaker (Stores schema size documents) (λ w. taken_count w < 2 ^ 31 - 1) old.store (λ w s. omega (arith, s.count, few)) are.store);
   }
 
@@ -106,7 +106,7 @@ module _ (schema : Schema) (analyzer : Analyzer) (entries : is_built_schema sche
     values = map (value_in d) found
 
     values_are : values ≡ map (value_of schema analyzer) (indexed_part schema d)
-    values_are = found_are ∙ ap (map (value_of schema analyzer)) (value_part-built schema entries d)
+    values_are = found_are
 
     places : map (λ (v : IndexedValue). v.field) found ≡ map (λ (p : ℕ × Tree). p.0) (indexed_part schema d)
     places = in_values found ∙ ap (map (λ (v : ℕ × IndexedContent). v.0)) values_are ∙ in_pairs (indexed_part schema d)
@@ -171,8 +171,8 @@ module _ (schema : Schema) (analyzer : Analyzer) (entries : is_built_schema sche
   under h = subst (λ x. IfSome x (λ p. IsUnderWay schema analyzer (kept_of p))) is h
 
   -- a writer under way can take one more document
-  pub room_of : (values : List IndexedValue) → map (value_in d) values ≡ document_values schema analyzer d → IfSome parts (λ p. IsUnderWay schema analyzer (kept_of p)) → HasRoom d values (kept_of p)
-  room_of values values_are h = let u = under h in has_room schema analyzer entries u.documents d taken utf8 u.block_size u.stamps stamp (kept_of p) u.are place values values_are
+  pub room_of : (values : List IndexedValue) → map (value_in d) values ≡ document_values schema analyzer d → AllByRecursion (IsPlainIn d) values → IfSome parts (λ p. IsUnderWay schema analyzer (kept_of p)) → HasRoom d values (kept_of p)
+  room_of values values_are keys h = let u = under h in has_room schema analyzer entries u.documents d taken utf8 u.block_size u.stamps stamp (kept_of p) u.are place values values_are keys
 
   module _ (in_order : AreTakenLast) (values : List IndexedValue) (values_are : map (value_in d) values ≡ document_values schema analyzer d) (new : WriterParts) (took : HasTaken schema d values stamp (kept_of p) (kept_of new)) where
     -- is under way after it

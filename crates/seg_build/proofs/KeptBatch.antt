@@ -28,14 +28,14 @@ use Rattle.seg_build.specs.Steps.{fresh}
 use Rattle.seg_build.specs.StoredBatch.{IsStoredBatch}
 use Rattle.seg_build.specs.StoredBlocks.{HasBlocks, stored_with}
 use Rattle.seg_build.specs.Writable.{PositionsCanBeWritten}
-use Rattle.seg_build.specs.declared.field.FieldPostings.{FieldPostings}
+use Rattle.seg_build.specs.FieldSoFar.{FieldSoFar}
 use Rattle.seg_build.specs.declared.fields.IndexedBatch.{IndexedBatch}
 use Rattle.seg_build.proofs.RecordedTerms.{recorded_are_fields, length-recorded_fields}
 use Rattle.seg_build.proofs.Whole.{terms_of_all, length-with_documents}
 use Rattle.seg_build.proofs.WritableTerms.{built_terms_can_be_written}
 
 -- the terms of fields, each in byte order with all its positions
-abbrev pub listed : List FieldPostings → List TermEntries
+abbrev pub listed : List FieldSoFar → List TermEntries
 listed fields = map (λ f. entries f.terms) fields
 
 read_from : (schema : Schema) (size : ℕ) (documents : List Document) (o : Option Taken) (file : Option (List Block)) → file ≡ option_map all_blocks o → IsSomeAnd o (Stores schema size documents) → option_map documents_of file ≡ Some (map (stored_document schema) documents)
@@ -60,7 +60,7 @@ module _ (schema : Schema) (analyzer : Analyzer) (built : is_built_schema schema
   as_many_fields = ap length are.fields ∙ length-with_documents schema analyzer 0 (map (λ (e : FieldEntry). fresh) schema) documents ∙ length-map schema (λ (e : FieldEntry). fresh)
 
   pub as_many_recorded : (fields : List FieldTerms) → fields ≡ recorded_fields schema (listed kept.fields) → length fields ≡ length schema
-  as_many_recorded fields is = ap length is ∙ length-recorded_fields schema (listed kept.fields) (length-map kept.fields (λ (f : FieldPostings). entries f.terms) ∙ as_many_fields)
+  as_many_recorded fields is = ap length is ∙ length-recorded_fields schema (listed kept.fields) (length-map kept.fields (λ (f : FieldSoFar). entries f.terms) ∙ as_many_fields)
 
   pub are_fields : (fields : List FieldTerms) → fields ≡ recorded_fields schema (listed kept.fields) → fields ≡ fields_of schema analyzer documents
   are_fields fields is = is ∙ ap (recorded_fields schema) terms ∙ recorded_are_fields schema analyzer documents

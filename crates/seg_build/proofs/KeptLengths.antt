@@ -17,8 +17,7 @@ use Rattle.seg_segment.specs.Built.{is_built_schema}
 use Rattle.seg_build.specs.Field.{length_of}
 use Rattle.seg_build.specs.Lengths.{AreUpTo, HaveLengths, with_each_length, with_lengths}
 use Rattle.seg_build.specs.Steps.{fresh, indexed_part, with_pairs, with_documents}
-use Rattle.seg_build.specs.declared.field.FieldPostings.{FieldPostings}
-use Rattle.seg_segment.proofs.Exports.{built_field_at, not_json}
+use Rattle.seg_build.specs.FieldSoFar.{FieldSoFar}
 use Rattle.seg_check.specs.IndexedValues.{content_of}
 use Rattle.seg_build.proofs.Contents.{length_of_values, kind_lengths}
 use Rattle.seg_build.proofs.Elements.{element_at}
@@ -30,20 +29,20 @@ use Rattle.seg_build.proofs.Whole.{all_more, all_fresh}
 -- ---- the length of a field in a document
 
 -- a field at a place has this length in a document, where it has lengths
-record HasNorm (id : ℕ) (now : List FieldPostings) (k : ℕ) (e : FieldEntry) (n : ℕ) : Type 0 where
-  field : FieldPostings
+record HasNorm (id : ℕ) (now : List FieldSoFar) (k : ℕ) (e : FieldEntry) (n : ℕ) : Type 0 where
+  field : FieldSoFar
   at : slice_get now k ≡ Some field
   len : has_lengths e ≡ true → length_of id field ≡ n
 
 -- a field at a place has this length in a document
-record HasLength (id : ℕ) (now : List FieldPostings) (k n : ℕ) : Type 0 where
-  field : FieldPostings
+record HasLength (id : ℕ) (now : List FieldSoFar) (k n : ℕ) : Type 0 where
+  field : FieldSoFar
   at : slice_get now k ≡ Some field
   len : length_of id field ≡ n
 
 -- ---- one document more
 
-with_documents-more : (schema : Schema) (analyzer : Analyzer) (first : ℕ) (now : List FieldPostings) (ds : List Document) (d : Document) → with_documents schema analyzer first now (ds ++ d ∷ []) ≡ with_pairs schema analyzer (first + length ds) (with_documents schema analyzer first now ds) (indexed_part schema d)
+with_documents-more : (schema : Schema) (analyzer : Analyzer) (first : ℕ) (now : List FieldSoFar) (ds : List Document) (d : Document) → with_documents schema analyzer first now (ds ++ d ∷ []) ≡ with_pairs schema analyzer (first + length ds) (with_documents schema analyzer first now ds) (indexed_part schema d)
 with_documents-more schema analyzer first now [] d = ap (λ n. with_pairs schema analyzer n now (indexed_part schema d)) (let z : first ≡ first + 0 = omega arith in z)
 with_documents-more schema analyzer first now (x ∷ ds) d =
     with_documents-more schema analyzer (first + 1) (with_pairs schema analyzer first now (indexed_part schema x)) ds d
@@ -93,7 +92,7 @@ module _ (analyzer : Analyzer) where
           | false ↦ λ is. refl
         ]) is
 
-    all_more_ids : (now : List FieldPostings) (n : ℕ) (xs : List FieldEntry) → ((i : ℕ) (e : FieldEntry) → slice_get xs i ≡ Some e → HasNorm id now i e (field_length analyzer e (values_of (n + i) d))) → with_each_length id now (map (kept_of before) (enumerate_from n xs)) ≡ map (kept_of (before ++ d ∷ [])) (enumerate_from n xs)
+    all_more_ids : (now : List FieldSoFar) (n : ℕ) (xs : List FieldEntry) → ((i : ℕ) (e : FieldEntry) → slice_get xs i ≡ Some e → HasNorm id now i e (field_length analyzer e (values_of (n + i) d))) → with_each_length id now (map (kept_of before) (enumerate_from n xs)) ≡ map (kept_of (before ++ d ∷ [])) (enumerate_from n xs)
     all_more_ids [] n [] h = refl
     all_more_ids (f ∷ now) n [] h = refl
     all_more_ids [] n (x ∷ xs) h = absurd (false≢true (ap is_some (h 0 x refl).at))
@@ -153,7 +152,7 @@ no_contents analyzer e k (p ∷ ps) h = elim (eqb_tells k p.0) [
 ]
 
 module _ (schema : Schema) (analyzer : Analyzer) (ds : List Document) (i : ℕ) (within : i ≤ length ds) where
-  module _ (entries : is_built_schema schema ≡ true) (d : Document) (here : drop i ds ≡ d ∷ drop (i + 1) ds) (initial now after : List FieldPostings) where
+  module _ (entries : is_built_schema schema ≡ true) (d : Document) (here : drop i ds ≡ d ∷ drop (i + 1) ds) (initial now after : List FieldSoFar) where
     -- the fields with it
     pub fields_turn : now ≡ with_documents schema analyzer 0 initial (take i ds) → after ≡ with_pairs schema analyzer i now (indexed_part schema d) → after ≡ with_documents schema analyzer 0 initial (take (i + 1) ds)
     fields_turn is more =
@@ -188,12 +187,12 @@ module _ (schema : Schema) (analyzer : Analyzer) (ds : List Document) (i : ℕ) 
               let on = (and_parts (is_indexed e) e.norms long).0 in
               has.len
               ∙ ap (λ vs. length_of_values (map (content_of analyzer e) vs)) (values_kept schema k e at_e d on)
-              ∙ kind_lengths (analyzer (indexing_tokenizer e)) e.kind (not_json e.kind (built_field_at schema k e entries at_e on).kind) (values_of k d);
+              ∙ kind_lengths e.expand_dots (analyzer (indexing_tokenizer e)) e.kind (values_of k d);
         }
 
     -- and the lengths with its own
     module _ (first : initial ≡ map (λ _. fresh) schema) (is : now ≡ with_documents schema analyzer 0 initial (take i ds)) (more : after ≡ with_pairs schema analyzer i now (indexed_part schema d)) (many : length after ≡ length schema) (places : List ℕ) (are : places ≡ map (λ p. p.0) (indexed_part schema d)) where
-      none_added : (k : ℕ) (f : FieldPostings) → slice_get after k ≡ Some f → IsNoneOf k places → length_of i f ≡ 0
+      none_added : (k : ℕ) (f : FieldSoFar) → slice_get after k ≡ Some f → IsNoneOf k places → length_of i f ≡ 0
       none_added k f at_f none =
           let entry = element_at schema k (omega (arith, many, slice_get_within after k f at_f)) in
           let has = length_in_field first is more k entry.element entry.at in

@@ -11,7 +11,7 @@ use Rattle.seg_model.specs.Norms.{length_id}
 use Rattle.seg_norms.specs.FieldNorms.{at_field, filled, with_length}
 use Rattle.seg_build.specs.Field.{length_of}
 use Rattle.seg_build.specs.Lengths.{AreUpTo, lacks_length, recorded_once, length_at, with_length_of, with_lengths, with_each_length}
-use Rattle.seg_build.specs.declared.field.FieldPostings.{FieldPostings}
+use Rattle.seg_build.specs.FieldSoFar.{FieldSoFar}
 
 -- what is kept of all fields
 abbrev pub Kept : Type 0
@@ -108,7 +108,7 @@ module _ (id : ℕ) (ids : List ℕ) (few : length ids ≤ id) where
 abbrev pub IsNoneOf : ℕ → List ℕ → Type 0
 IsNoneOf k places = AllByRecursion (λ place. k ≢ place) places
 
-module _ (id : ℕ) (fields : List FieldPostings) where
+module _ (id : ℕ) (fields : List FieldSoFar) where
   pub length-with_lengths : (places : List ℕ) (kept : Kept) → length (with_lengths id fields places kept) ≡ length kept
   length-with_lengths [] kept = refl
   length-with_lengths (p ∷ ps) kept = length-with_lengths ps (with_length_of id fields p kept) ∙ length-at_field (recorded_once id (length_at id (slice_get fields p))) kept p
@@ -170,13 +170,13 @@ module _ (id : ℕ) (fields : List FieldPostings) where
 -- ---- all fields
 
 -- what is kept of a field before a document and after it
-pub record IsRecordedAt (id k : ℕ) (field : FieldPostings) (o : Option (List ℕ)) (now : Kept) : Type 0 where
+pub record IsRecordedAt (id k : ℕ) (field : FieldSoFar) (o : Option (List ℕ)) (now : Kept) : Type 0 where
   pub new : Option (List ℕ)
   pub at : slice_get now k ≡ Some new
   pub is : option_map (filled (id + 1)) new ≡ option_map (with_length id (length_of id field)) o
   pub up_to : IfSome new (λ ids. length ids ≤ id + 1)
 
-module _ (id : ℕ) (fields : List FieldPostings) (places : List ℕ) (kept : Kept) (k : ℕ) (field : FieldPostings) (at_f : slice_get fields k ≡ Some field) (none : IsNoneOf k places → length_of id field ≡ 0) where
+module _ (id : ℕ) (fields : List FieldSoFar) (places : List ℕ) (kept : Kept) (k : ℕ) (field : FieldSoFar) (at_f : slice_get fields k ≡ Some field) (none : IsNoneOf k places → length_of id field ≡ 0) where
   pub recorded_at : (o : Option (List ℕ)) → slice_get kept k ≡ Some o → IfSome o (λ ids. length ids ≤ id) → IsRecordedAt id k field o (with_lengths id fields places kept)
   recorded_at None at few = record { new = None; at = stays_none id fields k places kept at; is = refl; up_to = tt }
   recorded_at (Some ids) at few = elim (comes id fields k places kept ids at few) [
@@ -198,12 +198,12 @@ module _ (id : ℕ) (fields : List FieldPostings) (places : List ℕ) (kept : Ke
   ]
 
 -- the ids after a document, filled up, are those before it with its lengths
-pub record AreRecorded (id : ℕ) (fields : List FieldPostings) (old new : Kept) : Type 0 where
+pub record AreRecorded (id : ℕ) (fields : List FieldSoFar) (old new : Kept) : Type 0 where
   pub up_to : AreUpTo (id + 1) new
   pub filled : map (option_map (filled (id + 1))) new ≡ with_each_length id fields old
 
-pub all_recorded : (id : ℕ) (fields : List FieldPostings) (old new : Kept) → length fields ≡ length old → length new ≡ length old
-    → ((k : ℕ) (f : FieldPostings) (o : Option (List ℕ)) → slice_get fields k ≡ Some f → slice_get old k ≡ Some o → IsRecordedAt id k f o new)
+pub all_recorded : (id : ℕ) (fields : List FieldSoFar) (old new : Kept) → length fields ≡ length old → length new ≡ length old
+    → ((k : ℕ) (f : FieldSoFar) (o : Option (List ℕ)) → slice_get fields k ≡ Some f → slice_get old k ≡ Some o → IsRecordedAt id k f o new)
     → AreRecorded id fields old new
 all_recorded id [] [] [] as_many same h = record { up_to = tt; filled = refl }
 all_recorded id [] [] (n ∷ new) as_many same h = absurd (let z : ⊥ = omega (arith, same) in z)
@@ -221,7 +221,7 @@ all_recorded id (f ∷ fs) (o ∷ old) (n ∷ new) as_many same h =
     }
 
 -- lengths are recorded after ids that were filled up as after those that were not
-pub lengths_filled : (id : ℕ) (fields : List FieldPostings) (kept : Kept) → length fields ≡ length kept → with_each_length id fields kept ≡ with_each_length id fields (map (option_map (filled id)) kept)
+pub lengths_filled : (id : ℕ) (fields : List FieldSoFar) (kept : Kept) → length fields ≡ length kept → with_each_length id fields kept ≡ with_each_length id fields (map (option_map (filled id)) kept)
 lengths_filled id [] [] same = refl
 lengths_filled id [] (k ∷ ks) same = absurd (let z : ⊥ = omega (arith, same) in z)
 lengths_filled id (f ∷ fs) [] same = refl

@@ -10,7 +10,7 @@ use Rattle.seg_model.specs.Checked.{Cause, past_limit, is_u32, kind_fits, field_
 use Rattle.seg_model.specs.Fields.{Schema, Analyzer, indexing_tokenizer, values_of, fields}
 use Rattle.seg_values.specs.StoredForm.{stored_form}
 use Rattle.seg_model.proofs.Exports.{or_first, or_second, unless_true}
-use Rattle.seg_segment.proofs.Exports.{IsBuiltField, not_json}
+use Rattle.seg_segment.proofs.Exports.{IsBuiltField}
 use Rattle.seg_build.proofs.Contents.{AreBounded, kind_bounded}
 use Rattle.seg_build.proofs.Places.{contents_of}
 
@@ -48,4 +48,4 @@ values_fit analyzer k e ps own h =
 
 -- and what they give is bounded
 pub bounded : (analyzer : Analyzer) (k : ℕ) (e : FieldEntry) (ps : Document) → IsBuiltField e → field_fits analyzer ps (k, e) ≡ true → AreBounded (contents_of analyzer e k ps)
-bounded analyzer k e ps own h = kind_bounded (analyzer (indexing_tokenizer e)) e.kind (not_json e.kind own.kind) e.expand_dots (values_of k ps) (values_fit analyzer k e ps own h)
+bounded analyzer k e ps own h = kind_bounded e.expand_dots (analyzer (indexing_tokenizer e)) e.kind (values_of k ps) (values_fit analyzer k e ps own h)

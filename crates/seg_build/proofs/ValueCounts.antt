@@ -12,7 +12,7 @@ use Rattle.seg_model.specs.Occurrences.{occurrences}
 use Rattle.seg_check.specs.IndexedValues.{content_of, content_at, value_in, value_of}
 use Rattle.seg_check.specs.declared.indexed_value.IndexedValue.{IndexedValue}
 use Rattle.seg_segment.specs.Built.{is_built_schema}
-use Rattle.seg_build.specs.Field.{count_in}
+use Rattle.seg_build.specs.Field.{count_in, first_starts}
 use Rattle.seg_build.specs.MemoryUsage.{total, saturated, occurrence_count, value_count}
 use Rattle.seg_build.specs.Steps.{indexed_part}
 use Rattle.seg_build.proofs.Contents.{length_from}
@@ -23,16 +23,15 @@ use Rattle.seg_build.proofs.Whole.{occurrences-built, occurrences-unindexed}
 
 -- ---- the loop over the values
 
-sum_turn : (count more rest now : ℕ) → now ≡ min (count + more) (2 ^ 64 - 1) → saturated (now + rest) ≡ saturated (count + (more + rest))
+sum_turn : (count more rest now : ℕ) → now ≡ min (count + saturated more) (2 ^ 64 - 1) → saturated (now + rest) ≡ saturated (count + (more + rest))
 sum_turn count more rest now is = omega (arith, is)
 
 -- one turn
-pub counted_turn : (document : Document) (values : List IndexedValue) (i : ℕ) (v : IndexedValue) (count more now : ℕ) → i < length values → v ≡ get_or values i v → more ≡ count_in (value_in document v).1 → now ≡ min (count + more) (2 ^ 64 - 1)
+pub counted_turn : (document : Document) (values : List IndexedValue) (i : ℕ) (v : IndexedValue) (count more now : ℕ) → i < length values → v ≡ get_or values i v → more ≡ saturated (count_in (value_in document v).1) → now ≡ min (count + more) (2 ^ 64 - 1)
     → saturated (now + value_count (map (value_in document) (drop (i + 1) values))) ≡ saturated (count + value_count (map (value_in document) (drop i values)))
 counted_turn document values i v count more now lt is more_is sum =
     let rest = value_count (map (value_in document) (drop (i + 1) values)) in
-    sum_turn count more rest now sum
-    ∙ ap (λ n. saturated (count + (n + rest))) more_is
+    sum_turn count (count_in (value_in document v).1) rest now (sum ∙ ap (λ n. min (count + n) (2 ^ 64 - 1)) more_is)
     ∙ ap (λ vs. saturated (count + value_count (map (value_in document) vs))) (sym (drop-item values i v lt is))
 
 -- after the last value
@@ -145,7 +144,7 @@ module _ (schema : Schema) (analyzer : Analyzer) where
         by : (b : Bool) → is_indexed e ≡ b → total count_in (contents_of analyzer e k (indexed_part schema d)) ≡ length (occurrences schema analyzer d k)
         by true on =
             ap (λ vs. total count_in (map (content_of analyzer e) vs)) (values_kept schema k e at_e d on)
-            ∙ sym (length_from 0 (contents_of analyzer e k d))
+            ∙ sym (length_from first_starts (contents_of analyzer e k d))
             ∙ ap length (sym (occurrences-built schema analyzer k e at_e d (built_field_at schema k e entries at_e on)))
         by false off =
             ap (λ vs. total count_in (map (content_of analyzer e) vs)) (values_dropped schema k e at_e d off)

@@ -1,13 +1,15 @@
 -- The terms of documents that are built can be written.
-use Rattle.std.proofs.Common.{◌≡◌, ℕ, suc, ◌+◌, ◌<◌, ◌≤◌, ◌^◌, Bool, true, false, cond, List, [], ◌∷◌, ◌++◌, map, length, Some, None, Option, Less, Equal, Greater, sym, refl, ap, ◌∙◌, subst, arith, inl, inr, length-append}
-use Rattle.std.specs.Prelude.{filter, nat_le, is_some, ◌&&◌}
+use Rattle.std.proofs.Common.{◌≡◌, ℕ, suc, ◌+◌, ◌<◌, ◌≤◌, ◌^◌, Bool, true, false, cond, List, [], ◌∷◌, ◌++◌, map, length, Some, None, Option, Less, Equal, Greater, sym, refl, ap, ◌∙◌, subst, arith, inl, inr, eq-eqb, length-append}
+use Rattle.std.specs.Prelude.{filter, nat_eq, nat_le, is_some, ◌&&◌, ◌||◌}
 use Rattle.std.specs.FinMap.{entries, empty, from_entries, entries_sorted, entries-insert, len-empty, len-entries}
 use Rattle.std.specs.FinMap.Entries.{put, by_order}
 use Rattle.std.specs.List.{AllByRecursion, slice_get, list_all, flat_map, enumerate_from}
 use Rattle.std.specs.Ordering.{nat_cmp}
 use Rattle.std.specs.Cmp.Lexicographic.{slice_cmp, nat_list_cmp_total}
 use Rattle.std.specs.Str.{bytes_eq}
-use Rattle.std.proofs.lemmas.Bool.{false≢true, and_parts, leb-true, ltb-true}
+use Rattle.std.proofs.lemmas.Bool.{false≢true, and_parts, eqb-true, leb-true, ltb-true}
+use Rattle.std.proofs.lemmas.Grind.{flat_map-append}
+use Rattle.seg_common.proofs.Lists.{all_back, all_both, all_front}
 use Rattle.std.proofs.lemmas.Bool.Decides.{eqb_tells}
 use Rattle.std.proofs.lemmas.List.{length-map}
 use Rattle.std.proofs.lemmas.Option.{same_Some}
@@ -19,10 +21,12 @@ use Rattle.seg_values.specs.declared.schema.FieldKind.TheVariants.{Text, U64, I6
 use Rattle.seg_values.specs.declared.schema.IndexOption.TheVariants as options
 use Rattle.seg_values.specs.Tree.{Leaf, null, text, pre_tokenized, unsigned, signed, boolean, date, facet, byte_string, ip, Tree, leaf, array, object, Document}
 use Rattle.seg_model.specs.Built.{is_taken}
-use Rattle.seg_model.specs.Checked.{wrong_value, positions_fall, unless, value_refusal, value_texts, is_rising, is_u32, count_of, kind_fits, positions_refusal, field_fits, fields_refusal, order_refusal}
+use Rattle.seg_model.specs.Checked.{wrong_value, positions_fall, unless, json_refusal, tree_refusal, leaves_refusal, value_refusal, value_texts, is_rising, is_u32, count_of, kind_fits, positions_refusal, field_fits, fields_refusal, order_refusal}
 use Rattle.seg_model.specs.Fields.{Schema, Analyzer, is_json, is_indexed, indexing_tokenizer, values_of}
-use Rattle.seg_model.specs.Occurrences.{Occurrence, at_zero, counted, reach, start_after, start_after_all, value_tokens, leaf_terms, value_terms, text_occurrences, kind_occurrences, occurrences_at, occurrences}
-use Rattle.seg_model.specs.Reading.{Recorded, Posting, Terms, positions_of, if_occurs, recorded_in, postings_from, postings_of, if_any, terms_of}
+use Rattle.seg_model.specs.Occurrences.{Occurrence, at_zero, counted, reach, start_after, start_after_all, value_tokens, leaf_text, texts_at, leaf_terms, value_terms, text_occurrences, json_occurrences, kind_occurrences, occurrences_at, occurrences}
+use Rattle.seg_model.specs.Shape.{path_part}
+use Rattle.seg_model.specs.Leaves.{PlacedLeaf, joined_path, leaves, leaves_of}
+use Rattle.seg_model.specs.Reading.{Recorded, Posting, Terms, type_code, positions_of, if_occurs, recorded_in, postings_from, postings_of, if_any, terms_of}
 use Rattle.seg_model.specs.Takes.{is_of_kind, is_own_leaf, is_own_array, takes}
 use Rattle.seg_common.specs.Tables.{entry_of}
 use Rattle.seg_postings.specs.declared.record_kind.RecordKind.TheVariants.{Positions}
@@ -31,11 +35,14 @@ use Rattle.seg_segment.specs.Built.{is_built_kind, is_built_entry}
 use Rattle.seg_terms.specs.Entries.{TermEntries}
 use Rattle.seg_build.specs.FieldTerms.{positional}
 use Rattle.seg_build.specs.Writable.{PositionsCanBeWritten, BuiltTermsCanBeWritten}
-use Rattle.seg_segment.proofs.Exports.{IsBuiltField, built_field_at, not_json}
+use Rattle.seg_segment.proofs.Exports.{IsBuiltField, built_field_at}
 use Rattle.seg_check.proofs.Exports.{for_one_field, rises, rises_first}
 use Rattle.seg_model.proofs.Exports.{or_both, unless_true}
 use Rattle.seg_build.proofs.Contents.{length_texts, reach-ge, short_texts, start_after_all-ge}
 use Rattle.seg_build.proofs.IndexedParts.{values-own, values-other}
+use Rattle.seg_build.proofs.JsonLimits.{low_at}
+use Rattle.seg_build.proofs.JsonPositions.{in_texts, in_leaves}
+use Rattle.seg_build.proofs.PlainPaths.{plain_leaves_of, value_part}
 use Rattle.seg_build.proofs.RecordedTerms.{no_terms_of}
 use Rattle.seg_build.proofs.Taken.{HasPassed, passed, values_fit}
 
@@ -94,10 +101,14 @@ rise_texts start before (v ∷ vs) up le low =
     rise_placed start top (omega (arith, low, ge, next)) before 0 (counted v) (text_occurrences (start_after start v) vs) (rises_first (counted v) ∙ up.0) (omega (arith, le)) (omega (arith, le, reaches)) (omega arith)
     (rise_texts (start_after start v) top vs up.1 (omega (arith, next)) low)
 
--- the occurrences of a document in a field rise, and are few
+-- the positions of each term in a field of a document rise, and are few
 record Fit (os : List Occurrence) : Type 0 where
-  rising : Rise 0 (placed_at os)
-  few : length os < 2 ^ 32
+  rising : (q : List ℕ) → Rise 0 (positions_of q os)
+  few : (q : List ℕ) → length (positions_of q os) < 2 ^ 32
+
+-- and so they do where all of them do
+fit_all : (os : List Occurrence) → Rise 0 (placed_at os) → length os < 2 ^ 32 → Fit os
+fit_all os rising few = record { rising = λ q. rise_some q 0 os rising; few = λ q. omega (arith, fewer q os, few) }
 
 -- ---- values that are no texts
 
@@ -143,6 +154,61 @@ few_terms kind built [] own = omega arith
 few_terms kind built (t ∷ ts) own =
     omega (arith, single_value kind built t own.0, few_terms kind built ts own.1, length-append (value_terms t) (flat_map value_terms ts))
 
+-- ---- the leaves of JSON values
+
+each_rises : (vs : List (List Token)) → list_all (λ tokens. is_rising (counted tokens)) vs ≡ true → AllRising vs
+each_rises [] h = tt
+each_rises (v ∷ vs) h = let two = and_parts (is_rising (counted v)) (list_all (λ tokens. is_rising (counted tokens)) vs) h in (two.0, each_rises vs two.1)
+
+rise_zero : (ps : List ℕ) → AllByRecursion (λ p. p ≡ 0) ps → Rise 0 ps
+rise_zero [] h = tt
+rise_zero (p ∷ ps) h = let first = h.0 in (omega arith, omega (arith, first), subst (λ n. Rise n ps) (sym h.0) (rise_zero ps h.1))
+
+module _ (e : Bool) (analyze : List ℕ → List Token) (values : List Tree) (limits : kind_fits Json e analyze values ≡ true) (plain : AllByRecursion (λ t. tree_refusal t ≡ None) values) (up : AllByRecursion (λ t. AllRising (value_texts Json analyze t)) values) where
+  abbrev found : List PlacedLeaf
+  found = leaves_of values
+
+  abbrev leaf_tokens : PlacedLeaf → List (List Token)
+  leaf_tokens p = map analyze (leaf_text p.leaf)
+
+  all_up : (vs : List Tree) → AllByRecursion (λ t. AllRising (value_texts Json analyze t)) vs → AllRising (flat_map leaf_tokens (leaves_of vs))
+  all_up [] h = tt
+  all_up (t ∷ ts) h =
+      subst AllRising (sym (flat_map-append leaf_tokens (leaves t) (leaves_of ts)))
+      (all_both (λ v. is_rising (counted v) ≡ true) (value_texts Json analyze t) (flat_map leaf_tokens (leaves_of ts)) h.0 (all_up ts h.1))
+
+  path_up : (path : List ℕ) (ls : List PlacedLeaf) → AllRising (flat_map leaf_tokens ls) → AllRising (texts_at e analyze path ls)
+  path_up path [] h = tt
+  path_up path (p ∷ ps) h =
+      let here = all_front (λ v. is_rising (counted v) ≡ true) (leaf_tokens p) (flat_map leaf_tokens ps) h in
+      let rest = all_back (λ v. is_rising (counted v) ≡ true) (leaf_tokens p) (flat_map leaf_tokens ps) h in
+      all_both (λ v. is_rising (counted v) ≡ true) (cond (bytes_eq path (joined_path e p.keys)) (leaf_tokens p) []) (texts_at e analyze path ps) (by (bytes_eq path (joined_path e p.keys)) here) (path_up path ps rest)
+    where
+      by : (b : Bool) → AllRising (leaf_tokens p) → AllRising (cond b (leaf_tokens p) [])
+      by true h = h
+      by false h = tt
+
+  term_fits : (q : List ℕ) (b : Bool) → nat_eq (type_code q) 115 ≡ b → Rise 0 (positions_of q (json_occurrences e analyze [] found)) × (length (positions_of q (json_occurrences e analyze [] found)) < 2 ^ 32)
+  term_fits q true is =
+      let path = path_part q in
+      let low = low_at e analyze path values limits in
+      let texts = texts_at e analyze path found in
+      let os = text_occurrences 0 texts in
+      let same = in_texts e analyze q (eqb-true (type_code q) 115 is) [] found (plain_leaves_of e values plain) in
+      let count = low.tokens in
+      let few : length (positions_of (value_part q) os) < 2 ^ 32 = omega (arith, fewer (value_part q) os, length_texts 0 texts, count) in (
+        subst (Rise 0) (sym same) (rise_some (value_part q) 0 os (rise_texts 0 0 texts (path_up path found (all_up values up)) (omega arith) low.end)),
+        subst (λ (ps : List ℕ). length ps < 2 ^ 32) (sym same) few,
+      )
+  term_fits q false other =
+      let all = in_leaves e analyze q (λ is. false≢true (sym other ∙ eq-eqb (type_code q) 115 is)) [] found (plain_leaves_of e values plain) in
+      let low = (low_at e analyze (path_part q) values limits).leaves in
+      let few = all.few in
+      (rise_zero (positions_of q (json_occurrences e analyze [] found)) all.are_zero, omega (arith, few, low))
+
+  json_fit : Fit (json_occurrences e analyze [] found)
+  json_fit = record { rising = λ q. (term_fits q (nat_eq (type_code q) 115) refl).0; few = λ q. (term_fits q (nat_eq (type_code q) 115) refl).1 }
+
 -- ---- a document that is taken
 
 module _ (schema : Schema) (analyzer : Analyzer) (k : ℕ) (e : FieldEntry) (at_e : slice_get schema k ≡ Some e) (built : IsBuiltField e) where
@@ -158,6 +224,16 @@ module _ (schema : Schema) (analyzer : Analyzer) (k : ℕ) (e : FieldEntry) (at_
       ap (λ b. cond b (unless (list_all (λ tokens. is_rising (counted tokens)) (value_texts e.kind analyze t)) positions_fall) None) built.indexed
       ∙ ap (λ kind. unless (list_all (λ tokens. is_rising (counted tokens)) (value_texts kind analyze t)) positions_fall) kind_is
 
+  positions_refusal-json : e.kind ≡ Json → (t : Tree) → positions_refusal analyzer t (Some e) ≡ unless (list_all (λ tokens. is_rising (counted tokens)) (value_texts Json analyze t)) positions_fall
+  positions_refusal-json kind_is t =
+      ap (λ b. cond b (unless (list_all (λ tokens. is_rising (counted tokens)) (value_texts e.kind analyze t)) positions_fall) None) built.indexed
+      ∙ ap (λ kind. unless (list_all (λ tokens. is_rising (counted tokens)) (value_texts kind analyze t)) positions_fall) kind_is
+
+  json_refusal-checked : e.kind ≡ Json → (t : Tree) → json_refusal t (Some e) ≡ tree_refusal t
+  json_refusal-checked kind_is t =
+      ap (λ k. cond (is_json k && (is_indexed e || e.fast)) (tree_refusal t) None) kind_is
+      ∙ ap (λ b. cond (b || e.fast) (tree_refusal t) None) built.indexed
+
   rising_texts : e.kind ≡ Text → (ps : Document) → order_refusal schema analyzer ps ≡ None → AllRising (texts_of ps)
   rising_texts kind_is [] none = tt
   rising_texts kind_is (p ∷ ps) none =
@@ -172,21 +248,47 @@ module _ (schema : Schema) (analyzer : Analyzer) (k : ℕ) (e : FieldEntry) (at_
         | inr h ↦ subst (λ ts. AllRising (map (value_tokens analyze) ts)) (sym (values-other k p ps h.0)) rest
       ]
 
-  takes_own : (t : Tree) → takes e t ≡ is_own_leaf e.kind t
-  takes_own t =
-      ap (λ b. cond b true (cond (is_indexed e) (is_own_leaf e.kind t) (cond e.fast (is_own_array e.kind t) true))) (not_json e.kind built.kind)
+  -- of a JSON field: each text of its values
+  rising_leaves : e.kind ≡ Json → (ps : Document) → order_refusal schema analyzer ps ≡ None → AllByRecursion (λ t. AllRising (value_texts Json analyze t)) (values_of k ps)
+  rising_leaves kind_is [] none = tt
+  rising_leaves kind_is (p ∷ ps) none =
+      let two = or_both (positions_refusal analyzer p.1 (slice_get schema p.0)) (order_refusal schema analyzer ps) none in
+      let rest = rising_leaves kind_is ps two.1 in
+      elim (eqb_tells k p.0) [
+        | inl h ↦
+            let refusal : unless (list_all (λ tokens. is_rising (counted tokens)) (value_texts Json analyze p.1)) positions_fall ≡ None = sym (positions_refusal-json kind_is p.1) ∙ ap (positions_refusal analyzer p.1) (sym (ap (slice_get schema) (sym h.1) ∙ at_e)) ∙ two.0 in
+            subst (AllByRecursion (λ t. AllRising (value_texts Json analyze t))) (sym (values-own k p ps h.0)) (each_rises (value_texts Json analyze p.1) (unless_true _ positions_fall refusal), rest)
+        | inr h ↦ subst (AllByRecursion (λ t. AllRising (value_texts Json analyze t))) (sym (values-other k p ps h.0)) rest
+      ]
+
+  -- and no key of them has a byte 0
+  plain_values : e.kind ≡ Json → (ps : Document) → leaves_refusal schema ps ≡ None → AllByRecursion (λ t. tree_refusal t ≡ None) (values_of k ps)
+  plain_values kind_is [] none = tt
+  plain_values kind_is (p ∷ ps) none =
+      let two = or_both (json_refusal p.1 (slice_get schema p.0)) (leaves_refusal schema ps) none in
+      let rest = plain_values kind_is ps two.1 in
+      elim (eqb_tells k p.0) [
+        | inl h ↦
+            let refusal : json_refusal p.1 (Some e) ≡ None = ap (json_refusal p.1) (sym (ap (slice_get schema) (sym h.1) ∙ at_e)) ∙ two.0 in
+            subst (AllByRecursion (λ t. tree_refusal t ≡ None)) (sym (values-own k p ps h.0)) (sym (json_refusal-checked kind_is p.1) ∙ refusal, rest)
+        | inr h ↦ subst (AllByRecursion (λ t. tree_refusal t ≡ None)) (sym (values-other k p ps h.0)) rest
+      ]
+
+  takes_own : is_json e.kind ≡ false → (t : Tree) → takes e t ≡ is_own_leaf e.kind t
+  takes_own other t =
+      ap (λ b. cond b true (cond (is_indexed e) (is_own_leaf e.kind t) (cond e.fast (is_own_array e.kind t) true))) other
       ∙ ap (λ b. cond b (is_own_leaf e.kind t) (cond e.fast (is_own_array e.kind t) true)) built.indexed
 
   -- its values are of its kind
-  own_values : (ps : Document) → fields_refusal schema ps ≡ None → AllByRecursion (λ t. is_own_leaf e.kind t ≡ true) (values_of k ps)
-  own_values [] none = tt
-  own_values (p ∷ ps) none =
+  own_values : is_json e.kind ≡ false → (ps : Document) → fields_refusal schema ps ≡ None → AllByRecursion (λ t. is_own_leaf e.kind t ≡ true) (values_of k ps)
+  own_values other [] none = tt
+  own_values other (p ∷ ps) none =
       let two = or_both (value_refusal p.0 p.1 (slice_get schema p.0)) (fields_refusal schema ps) none in
-      let rest = own_values ps two.1 in
+      let rest = own_values other ps two.1 in
       elim (eqb_tells k p.0) [
         | inl h ↦
             let refusal : unless (takes e p.1) (wrong_value p.0) ≡ None = ap (value_refusal p.0 p.1) (sym (ap (slice_get schema) (sym h.1) ∙ at_e)) ∙ two.0 in
-            subst (AllByRecursion (λ t. is_own_leaf e.kind t ≡ true)) (sym (values-own k p ps h.0)) (sym (takes_own p.1) ∙ unless_true (takes e p.1) (wrong_value p.0) refusal, rest)
+            subst (AllByRecursion (λ t. is_own_leaf e.kind t ≡ true)) (sym (values-own k p ps h.0)) (sym (takes_own other p.1) ∙ unless_true (takes e p.1) (wrong_value p.0) refusal, rest)
         | inr h ↦ subst (AllByRecursion (λ t. is_own_leaf e.kind t ≡ true)) (sym (values-other k p ps h.0)) rest
       ]
 
@@ -204,33 +306,38 @@ module _ (schema : Schema) (analyzer : Analyzer) (k : ℕ) (e : FieldEntry) (at_
     texts_fit_in : (kind : FieldKind) → e.kind ≡ kind → kind ≡ Text → IsFit Text
     texts_fit_in kind same kind_is =
         let is : e.kind ≡ Text = same ∙ kind_is in
-        let short = short_texts analyze e.expand_dots values (and_parts (is_u32 (length values)) (kind_fits Text e.expand_dots analyze values) (ap (λ q. is_u32 (length values) && kind_fits q e.expand_dots analyze values) (sym is) ∙ fits)).1 in
+        let short = short_texts e.expand_dots analyze values (and_parts (is_u32 (length values)) (kind_fits Text e.expand_dots analyze values) (ap (λ q. is_u32 (length values) && kind_fits q e.expand_dots analyze values) (sym is) ∙ fits)).1 in
         let few : count_of (texts_of ps) < 2 ^ 32 = short.count in
         let many : length (text_occurrences 0 (texts_of ps)) ≡ count_of (texts_of ps) = length_texts 0 (texts_of ps) in
-        record { rising = rise_texts 0 0 (texts_of ps) (rising_texts is ps h.order) (omega arith) short.end; few = omega (arith, few, many) }
+        fit_all (text_occurrences 0 (texts_of ps)) (rise_texts 0 0 (texts_of ps) (rising_texts is ps h.order) (omega arith) short.end) (omega (arith, few, many))
 
-    terms_fit_in : Fit (map at_zero (flat_map value_terms values))
-    terms_fit_in =
+    terms_fit_in : is_json e.kind ≡ false → Fit (map at_zero (flat_map value_terms values))
+    terms_fit_in other =
         let few : length values < 2 ^ 32 = ltb-true (length values) (2 ^ 32) (and_parts (is_u32 (length values)) (kind_fits e.kind e.expand_dots analyze values) fits).0 in
-        let less = few_terms e.kind built.kind values (own_values ps h.taken) in
-        record { rising = rise_zeros (flat_map value_terms values); few = omega (arith, few, less, length-map (flat_map value_terms values) at_zero) }
+        let less = few_terms e.kind built.kind values (own_values other ps h.taken) in
+        fit_all (map at_zero (flat_map value_terms values)) (rise_zeros (flat_map value_terms values)) (omega (arith, few, less, length-map (flat_map value_terms values) at_zero))
 
-    by_kind : (kind : FieldKind) → e.kind ≡ kind → is_json kind ≡ false → IsFit kind
-    by_kind Text same other = texts_fit_in Text same refl
-    by_kind Json same other = absurd (false≢true (sym other))
-    by_kind U64 same other = terms_fit_in
-    by_kind I64 same other = terms_fit_in
-    by_kind Boolean same other = terms_fit_in
-    by_kind Date same other = terms_fit_in
-    by_kind Facet same other = terms_fit_in
-    by_kind Bytes same other = terms_fit_in
-    by_kind IpAddr same other = terms_fit_in
+    json_fits_in : e.kind ≡ Json → IsFit Json
+    json_fits_in is =
+        let limits = (and_parts (is_u32 (length values)) (kind_fits Json e.expand_dots analyze values) (ap (λ q. is_u32 (length values) && kind_fits q e.expand_dots analyze values) (sym is) ∙ fits)).1 in
+        json_fit e.expand_dots analyze values limits (plain_values is ps h.json) (rising_leaves is ps h.order)
+
+    by_kind : (kind : FieldKind) → e.kind ≡ kind → IsFit kind
+    by_kind Text same = texts_fit_in Text same refl
+    by_kind Json same = json_fits_in same
+    by_kind U64 same = terms_fit_in (ap is_json same)
+    by_kind I64 same = terms_fit_in (ap is_json same)
+    by_kind Boolean same = terms_fit_in (ap is_json same)
+    by_kind Date same = terms_fit_in (ap is_json same)
+    by_kind Facet same = terms_fit_in (ap is_json same)
+    by_kind Bytes same = terms_fit_in (ap is_json same)
+    by_kind IpAddr same = terms_fit_in (ap is_json same)
 
     occurrences_are : occurrences schema analyzer ps k ≡ kind_occurrences e.kind e.expand_dots analyze values
     occurrences_are = ap (occurrences_at analyzer ps k) at_e ∙ ap (λ b. cond b (kind_occurrences e.kind e.expand_dots analyze values) []) built.indexed
 
     passed_fits : Fit (occurrences schema analyzer ps k)
-    passed_fits = subst Fit (sym occurrences_are) (by_kind e.kind refl (not_json e.kind built.kind))
+    passed_fits = subst Fit (sym occurrences_are) (by_kind e.kind refl)
 
   all_fit : (ds : List Document) → list_all (is_taken schema analyzer) ds ≡ true → AllByRecursion Fit (map (λ d. occurrences schema analyzer d k) ds)
   all_fit [] h = tt
@@ -256,7 +363,7 @@ kept (p ∷ ps) rise few = (p ∷ ps, omega arith, few, rise, refl)
 module _ (e : FieldEntry) where
   all_kept : (q : List ℕ) (ds : List (List Occurrence)) → AllByRecursion Fit ds → AllByRecursion IsKept (map (recorded_in (positional e) q) ds)
   all_kept q [] h = tt
-  all_kept q (os ∷ ds) h = (kept (positions_of q os) (rise_some q 0 os h.0.rising) (let few = h.0.few in omega (arith, fewer q os, few)), all_kept q ds h.1)
+  all_kept q (os ∷ ds) h = (kept (positions_of q os) (h.0.rising q) (h.0.few q), all_kept q ds h.1)
 
   postings_writable : (q : List ℕ) (ds : List (List Occurrence)) → AllByRecursion Fit ds → length ds < 2 ^ 31 → AreWritable Positions 0 0 (postings_of (positional e) q ds)
   postings_writable q ds h few = writable_from 0 0 0 (map (recorded_in (positional e) q) ds) (omega arith) (omega (arith, few, length-map ds (recorded_in (positional e) q))) (all_kept q ds h)

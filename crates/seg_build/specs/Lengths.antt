@@ -6,7 +6,7 @@ use Rattle.seg_model.specs.Fields.{Schema, Analyzer}
 use Rattle.seg_norms.specs.FieldNorms.{at_field, filled, with_length}
 use Rattle.seg_build.specs.Batch.{kept_norms}
 use Rattle.seg_build.specs.Field.{length_of}
-use Rattle.seg_build.specs.declared.field.FieldPostings.{FieldPostings}
+use Rattle.seg_build.specs.FieldSoFar.{FieldSoFar}
 
 -- no field has more ids than there are documents before this one
 abbrev pub AreUpTo : ℕ → List (Option (List ℕ)) → Type 0
@@ -27,21 +27,21 @@ abbrev pub recorded_once : ℕ → ℕ → List ℕ → List ℕ
 recorded_once document len ids = if lacks_length document (Some ids) then with_length document len ids else ids
 
 -- the length of a field in a document, if it is there
-abbrev pub length_at : ℕ → Option FieldPostings → ℕ
+abbrev pub length_at : ℕ → Option FieldSoFar → ℕ
 length_at document None = 0
 length_at document (Some field) = length_of document field
 
 -- the ids of all fields with that of a document's length in one field
-abbrev pub with_length_of : ℕ → List FieldPostings → ℕ → List (Option (List ℕ)) → List (Option (List ℕ))
+abbrev pub with_length_of : ℕ → List FieldSoFar → ℕ → List (Option (List ℕ)) → List (Option (List ℕ))
 with_length_of document fields place kept = at_field place (recorded_once document (length_at document (slice_get fields place))) kept
 
 -- and in some fields
-abbrev pub with_lengths : ℕ → List FieldPostings → List ℕ → List (Option (List ℕ)) → List (Option (List ℕ))
+abbrev pub with_lengths : ℕ → List FieldSoFar → List ℕ → List (Option (List ℕ)) → List (Option (List ℕ))
 with_lengths document fields [] kept = kept
 with_lengths document fields (place ∷ places) kept = with_lengths document fields places (with_length_of document fields place kept)
 
 -- the ids of each field that has lengths, with the id of a document's length
-abbrev pub with_each_length : ℕ → List FieldPostings → List (Option (List ℕ)) → List (Option (List ℕ))
+abbrev pub with_each_length : ℕ → List FieldSoFar → List (Option (List ℕ)) → List (Option (List ℕ))
 with_each_length document [] kept = kept
 with_each_length document (f ∷ fs) [] = []
 with_each_length document (f ∷ fs) (k ∷ ks) = option_map (with_length document (length_of document f)) k ∷ with_each_length document fs ks

@@ -12,7 +12,7 @@ use Rattle.seg_model.specs.Checked.{at_place, document_refusal}
 use Rattle.seg_model.specs.Fields.{Schema, Analyzer}
 use Rattle.seg_model.specs.Reading.{stored_document}
 use Rattle.seg_values.specs.StoredForm.{stored_form}
-use Rattle.seg_check.specs.IndexedValues.{value_in}
+use Rattle.seg_check.specs.IndexedValues.{IsPlainIn, value_in}
 use Rattle.seg_check.specs.declared.indexed_value.IndexedValue.{IndexedValue}
 use Rattle.seg_store.specs.BlockLaw.{all_documents}
 use Rattle.seg_store.specs.Store.{documents_of}
@@ -111,6 +111,7 @@ pub record HasRoom (document : Document) (values : List IndexedValue) (kept : Ke
   pub place : HasPlace kept
   pub shallow : AreShallow document
   pub fit : AllFit (length kept.stamps) kept.fields (map (value_in document) values)
+  pub keys : AllByRecursion (IsPlainIn document) values
   pub store : IfSome kept.store (λ w. taken_count w < 2 ^ 31 - 1)
 
 -- one more document was taken, of which these are the indexed values

@@ -92,7 +92,7 @@ pub(crate) fn new_fields(
 {
     schema
         .iter()
-        .map(|_| FieldPostings::new(alloc))
+        .map(|entry| FieldPostings::new(alloc, entry))
         .collect(alloc)
 }
 
@@ -108,7 +108,7 @@ fn sort_fields(
     let mut sorted = Vec::new(alloc);
     for field in fields {
         let asked = AskedKind::of_entry(&schema[sorted.len()]);
-        sorted.push(sort_terms(alloc, asked, field.terms)?)?;
+        sorted.push(sort_terms(alloc, asked, field)?)?;
     }
     Ok(sorted)
 }

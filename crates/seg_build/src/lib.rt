@@ -1,13 +1,15 @@
 //! Indexes documents in memory, and writes them as the six files of a segment.
 //!
 //! A schema and documents become the terms of each field, in byte order, each with its postings; contracts see them as a
-//! list for each field. While documents come, the terms of a field are a `TermIndex`, each with all its positions; at
-//! the end they are ordered once, and what is shown and written of a term is what its field records. A `SegmentWriter`
-//! takes documents one by one. What isn't built yet, fields that are fast and indexed fields of JSON or facets, is refused
-//! when a writer is made.
+//! list for each field. While documents come, the terms of a field are a `TermIndex`, those of a JSON field `PathTerms`,
+//! each with all its positions; at the end they are ordered once, and what is shown and written of a term is what its
+//! field records. A `SegmentWriter`
+//! takes documents one by one. What isn't built yet, fields that are fast and indexed fields of facets, is refused when a
+//! writer is made.
 //!
-//! To be read in this order: `sorted` (the terms of a field in byte order), `tokens`, `value_terms` and `field` (what one more
-//! value adds), `lengths` (the field norms of a document), `usage` (how much memory documents take), `fields` (those of all
+//! To be read in this order: `path_start`, `json_terms` and `gathered_terms` (the terms of a field so far), `tokens`,
+//! `value_terms`, `coded_leaf`, `path_tokens`, `json_leaves` and `field` (what one more value adds), `ordered_field` and
+//! `sorted` (the terms of a field in byte order), `lengths` (the field norms of a document), `usage` (how much memory documents take), `fields` (those of all
 //! documents); `writing` (the terms of a field, into a `TermWriter`), `terms_files` and `norms_file` (the parts
 //! of files), `filling` (what the components of a segment are to hold); `add_operation`, `adding` (the values of a
 //! document that passed its check), `writer_start`, `writer_parts`, `memory_segment`, `finishing` and `segment_writer`;
@@ -16,14 +18,21 @@
 
 mod add_operation;
 mod adding;
+mod coded_leaf;
 mod field;
 mod fields;
 mod filling;
 mod finishing;
+mod gathered_terms;
+mod json_leaves;
+mod json_terms;
 mod laws;
 mod lengths;
 mod memory_segment;
 mod norms_file;
+mod ordered_field;
+mod path_start;
+mod path_tokens;
 mod segment_writer;
 mod sorted;
 mod terms_files;

@@ -1,5 +1,5 @@
 //! Terms in byte order.
-ghost use Rattle.std.specs.Prelude.{◌≡◌, ◌<◌, ◌-◌, ◌^◌, length, min, Some, IfOk, IsSomeAnd};
+ghost use Rattle.std.specs.Prelude.{◌≡◌, ◌<◌, ◌-◌, ◌^◌, length, min, Some, IfOk, OnOk, IsSomeAnd};
 ghost use Rattle.std.specs.FinMap.{entries};
 ghost use Rattle.std.specs.List.{slice_get};
 ghost use Rattle.std.specs.Map.{keys_of};
@@ -7,8 +7,10 @@ ghost use Rattle.seg_terms.specs.Grouped.{grouped};
 ghost use Rattle.seg_build.specs.FieldTerms.{entries_as, kind_in, postings_as};
 ghost use Rattle.seg_build.specs.TokenTotal.{count_total, token_total};
 
+use crate::field::FieldPostings;
+use crate::ordered_field::{OrderedField, order_field};
 use seg_postings::{AskedKind, RecordKind};
-use seg_terms::{Hit, OrderedTerms, TermIndex, order_terms, posting_count};
+use seg_terms::{Hit, posting_count};
 use std::alloc::{AllocError, Global};
 use std::marker::Model;
 
@@ -16,19 +18,20 @@ use std::marker::Model;
 #[derive(Drop)]
 pub struct SortedTerms {
     asked: AskedKind,
-    terms: OrderedTerms,
+    terms: OrderedField,
 }
 
 impl Model for SortedTerms {
     ghost use Rattle.std.specs.Coded.{codes};
     ghost use Rattle.seg_terms.specs.Entries.{entries_code};
     ghost use Rattle.seg_build.specs.FieldTerms.{FieldTerms, entries_as};
+    ghost use Rattle.seg_build.specs.OrderedFields.{ordered_terms};
 
     ghost Value = { FieldTerms };
 
     ghost coded = { Prim.hlevel (codes, entries_code) };
 
-    ghost view = { λ a. record { asked = a.asked; terms = entries_as a.asked a.terms } };
+    ghost view = { λ a. record { asked = a.asked; terms = entries_as a.asked (ordered_terms a.terms) } };
 }
 
 impl SortedTerms {
@@ -45,13 +48,17 @@ impl SortedTerms {
         self.terms.len()
     }
 
-    /// The bytes of the term at a place.
-    #[inline]
-    pub fn bytes_at(&self, index: usize) -> &[u8]
+    /// Writes the bytes of the term at a place, in place of what is in `out`.
+    pub fn copy_bytes_at(
+        &self,
+        alloc: Global,
+        index: usize,
+        out: &mut Vec<u8>,
+    ) -> Result<(), AllocError>
         requires { index < length self.now.terms }
-        ensures { slice_get (keys_of self.now.terms) index ≡ Some result.now }
+        ensures { OnOk result (slice_get (keys_of self.now.terms) index ≡ Some out.new.items) }
     {
-        self.terms.bytes_at(index)
+        self.terms.copy_bytes_at(alloc, index, out)
     }
 
     /// Where that term occurs: document by document, and in a document as its tokens come.
@@ -65,16 +72,18 @@ impl SortedTerms {
 
     /// How often the terms occur in all, as far as that is recorded: where their documents alone are, once in each. A
     /// sum past the greatest u64 stays at it.
-    pub fn total_num_tokens(&self) -> u64
-        ensures { result ≡ min (2 ^ 64 - 1) (token_total self.now.terms) }
+    pub fn total_num_tokens(&self, alloc: Global) -> Result<u64, AllocError>
+        ensures { IfOk result (λ total. total ≡ min (2 ^ 64 - 1) (token_total self.now.terms)) }
     {
+        let mut bytes = Vec::new(alloc);
         let mut total: u64 = 0;
         for at in 0..self.len() {
-            let kind = self.kind_of(self.bytes_at(at));
+            self.copy_bytes_at(alloc, at, &mut bytes)?;
+            let kind = self.kind_of(&bytes);
             let count = recorded_count(kind, self.hits_at(at)) as u64;
             total = total.saturating_add(count);
         }
-        total
+        Ok(total)
     }
 }
 
@@ -92,10 +101,11 @@ fn recorded_count(kind: RecordKind, hits: &[Hit]) -> usize
 pub(crate) fn sort_terms(
     alloc: Global,
     asked: AskedKind,
-    index: TermIndex,
+    field: FieldPostings,
 ) -> Result<SortedTerms, AllocError>
-    ensures { IfOk result (λ sorted. sorted ≡ record { asked = asked; terms = entries_as asked (entries index) }) }
+    ensures { IfOk result (λ sorted. sorted ≡ record { asked = asked; terms = entries_as asked (entries field.terms) }) }
 {
-    let terms = order_terms(alloc, index)?;
+    let FieldPostings { terms, .. } = field;
+    let terms = order_field(alloc, terms)?;
     Ok(SortedTerms { asked, terms })
 }

@@ -20,9 +20,9 @@ impl TermsByField for IndexedFields {
 
     ghost can_write = { λ fields field. field < length fields };
 
-    fn total_num_tokens(&self, field: Field) -> Result<u64, AllocError> {
+    fn total_num_tokens(&self, alloc: Global, field: Field) -> Result<u64, AllocError> {
         let terms = self.writable_terms(field.field_id() as usize);
-        Ok(terms.total_num_tokens())
+        terms.total_num_tokens(alloc)
     }
 
     fn write_terms(

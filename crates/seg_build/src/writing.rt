@@ -27,11 +27,12 @@ pub(crate) fn write_terms(
     requires unwritten { IsSomeAnd writer.old IsUnwritten }
     ensures { OnOk result (HasGrown writer.old writer.new (with_terms (all_written (Some terms.now)))) }
 {
+    let mut bytes = Vec::new(alloc);
     let mut places = Vec::new(alloc);
     for at in 0..terms.len() {
-        let bytes = terms.bytes_at(at);
-        let kind = terms.kind_of(bytes);
-        write_term(kind, bytes, terms.hits_at(at), &mut places, writer)?;
+        terms.copy_bytes_at(alloc, at, &mut bytes)?;
+        let kind = terms.kind_of(&bytes);
+        write_term(kind, &bytes, terms.hits_at(at), &mut places, writer)?;
     }
     Ok(())
 }

@@ -60,18 +60,20 @@ fn made(alloc: Global, documents: &[&[&str]]) -> TResult<MemorySegment> {
 fn shown(alloc: Global, fields: &IndexedFields) -> Result<String, AllocError> {
     let mut out = String::new(alloc);
     for field in 0..fields.len() {
-        show_field(&mut out, fields.get(field))?;
+        show_field(alloc, &mut out, fields.get(field))?;
     }
     Ok(out)
 }
 
-fn show_field(out: &mut String, terms: &SortedTerms) -> Result<(), AllocError> {
-    write!(out, "{}", terms.total_num_tokens())?;
+fn show_field(alloc: Global, out: &mut String, terms: &SortedTerms) -> Result<(), AllocError> {
+    let total = terms.total_num_tokens(alloc)?;
+    write!(out, "{total}")?;
     out.push('[')?;
+    let mut bytes = Vec::new(alloc);
     for at in 0..terms.len() {
-        let bytes = terms.bytes_at(at);
-        out.push(kind_letter(terms.kind_of(bytes)))?;
-        show_term(out, bytes, terms.hits_at(at))?;
+        terms.copy_bytes_at(alloc, at, &mut bytes)?;
+        out.push(kind_letter(terms.kind_of(&bytes)))?;
+        show_term(out, &bytes, terms.hits_at(at))?;
     }
     out.push(']')
 }

@@ -45,7 +45,7 @@ impl<'a> TermsByField for NumberedParts<'a> {
 
     ghost can_write = { λ parts field. CanJoin parts field };
 
-    fn total_num_tokens(&self, field: Field) -> Result<u64, AllocError> {
+    fn total_num_tokens(&self, _alloc: Global, field: Field) -> Result<u64, AllocError> {
         Ok(tokens_of(field, self.as_slice()))
     }
 

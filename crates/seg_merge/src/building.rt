@@ -47,7 +47,7 @@ use std::alloc::Global;
 /// The output is saved so that a crash at any moment leaves it as no index, as the empty one, or whole; once the call
 /// answers Ok, as the whole.
 ///
-/// Refusals come in this order: what is not built yet (fields with columns, indexed fields of other kinds than texts),
+/// Refusals come in this order: what is not built yet (fields with columns, indexed fields of facets),
 /// `Cuts`, `Batches`, `Filters`, `SegmentIds`, `FieldName`, `Settings`, `Tokenizer`, `DeleteField`; then each directory
 /// that has files; then, batch by batch after the files of those before it, `Documents`, and the first document that does
 /// not pass its check; and last, when the output index is begun, `Documents`, where more are left than one segment can

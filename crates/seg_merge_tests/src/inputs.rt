@@ -118,9 +118,11 @@ fn numbers_and_columns(rt: HostRuntime) -> Result<(), Fail> {
     assert_eq!(rt; built(alloc, &unindexed), Ok(7));
     let indexed = schema(alloc, FieldKind::U64, IndexOption::Basic, false)?;
     assert_eq!(rt; built(alloc, &indexed), Ok(7));
-    let later = Err(TantivyError::InvalidArgument(ArgumentCause::Later));
     let of_json = schema(alloc, FieldKind::Json, IndexOption::Basic, false)?;
-    assert_eq!(rt; built(alloc, &of_json), later);
+    assert_eq!(rt; built(alloc, &of_json), Ok(7));
+    let later = Err(TantivyError::InvalidArgument(ArgumentCause::Later));
+    let of_facets = schema(alloc, FieldKind::Facet, IndexOption::Basic, false)?;
+    assert_eq!(rt; built(alloc, &of_facets), later);
     let with_column = schema(alloc, FieldKind::Text, IndexOption::Freqs, true)?;
     assert_eq!(rt; built(alloc, &with_column), later);
     Ok(())

@@ -77,7 +77,7 @@ impl SegmentReader {
     /// the order terms, store, postings, positions, fast fields, field norms, alive. Once the six are read, each is
     /// checked whole and against those before it. `DataCorruption` names the first that is missing, or else the first
     /// that is wrong by itself or with those before it. `Later`, before a file is read: the schema has a fast field, or
-    /// an indexed one of another kind than text. `OpenReadError`: a file can't be read. What a crash may leave of the
+    /// an indexed one of facets. `OpenReadError`: a file can't be read. What a crash may leave of the
     /// directory stays.
     pub fn open<W: Directory>(
         alloc: Global,

@@ -6,27 +6,13 @@ use Rattle.std.proofs.lemmas.Bool.{false≢true, not-true, and_parts}
 pub use Rattle.std.proofs.lemmas.Bool.{and_parts as both_true}
 use Rattle.std.proofs.lemmas.Option.{same_Some}
 use Rattle.seg_values.specs.declared.schema.FieldEntry.{FieldEntry}
-use Rattle.seg_values.specs.declared.schema.FieldKind.{FieldKind}
-use Rattle.seg_values.specs.declared.schema.FieldKind.TheVariants.{Text, U64, I64, Bool as Boolean, Date, Facet, Bytes, IpAddr, Json}
-use Rattle.seg_model.specs.Fields.{is_json, is_indexed, Schema}
+use Rattle.seg_model.specs.Fields.{is_indexed, Schema}
 use Rattle.seg_segment.specs.Built.{is_built_kind, is_built_entry, is_built_schema}
 
 -- an indexed field of a kind that is built
 pub record IsBuiltField (e : FieldEntry) : Type 0 where
   pub kind : is_built_kind e.kind ≡ true
   pub indexed : is_indexed e ≡ true
-
--- it is no JSON field
-pub not_json : (kind : FieldKind) → is_built_kind kind ≡ true → is_json kind ≡ false
-not_json Json h = absurd (false≢true h)
-not_json Facet h = refl
-not_json Text h = refl
-not_json U64 h = refl
-not_json I64 h = refl
-not_json Boolean h = refl
-not_json Date h = refl
-not_json Bytes h = refl
-not_json IpAddr h = refl
 
 first_holds : (a b : Bool) → (a || not b) ≡ true → b ≡ true → a ≡ true
 first_holds true b h k = refl

@@ -1,15 +1,15 @@
--- What is indexed so far: fields without columns, of each kind but JSON and facets. Fields of these two are stored alone.
+-- What is indexed so far: fields without columns, of each kind but facets. Fields of these are stored alone.
 use Rattle.std.specs.Prelude.{List, Bool, not, ◌&&◌, ◌||◌}
 use Rattle.std.specs.List.{list_all}
 use Rattle.seg_values.specs.declared.schema.FieldEntry.{FieldEntry}
 use Rattle.seg_values.specs.declared.schema.FieldKind.{FieldKind}
 use Rattle.seg_values.specs.Tree.{Document}
 use Rattle.seg_model.specs.Built.{is_taken}
-use Rattle.seg_model.specs.Fields.{Schema, Analyzer, is_json, is_facet, is_indexed}
+use Rattle.seg_model.specs.Fields.{Schema, Analyzer, is_facet, is_indexed}
 
 -- a kind whose values are indexed
 abbrev pub is_built_kind : FieldKind → Bool
-is_built_kind kind = not (is_json kind || is_facet kind)
+is_built_kind kind = not (is_facet kind)
 
 -- a field without columns that is of such a kind, or not indexed
 abbrev pub is_built_entry : FieldEntry → Bool

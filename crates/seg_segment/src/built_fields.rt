@@ -4,12 +4,12 @@ ghost use Rattle.seg_segment.specs.Built as built;
 
 use seg_values::{FieldEntry, FieldKind};
 
-/// Whether values of a kind are indexed: all but JSON and facets.
+/// Whether values of a kind are indexed: all but facets.
 fn is_built_kind(kind: FieldKind) -> bool
     ensures { result ≡ built.is_built_kind kind }
 {
     match kind {
-        FieldKind::Json | FieldKind::Facet => false,
+        FieldKind::Facet => false,
         _ => true,
     }
 }
@@ -21,7 +21,7 @@ fn is_built_entry(entry: &FieldEntry) -> bool
     !entry.fast && (is_built_kind(entry.kind) || !entry.is_indexed())
 }
 
-/// Whether each field is built so far: it has no column, and where it is indexed it is neither JSON nor of facets.
+/// Whether each field is built so far: it has no column, and where it is indexed it is not of facets.
 pub fn is_built_schema(schema: &[FieldEntry]) -> bool
     ensures { result ≡ built.is_built_schema schema.now }
 {

@@ -24,7 +24,7 @@ pub trait TermsByField {
     ghost can_write: { Self → ℕ → Type 0 };
 
     /// The total of the tokens of a field.
-    fn total_num_tokens(&self, field: Field) -> Result<u64, AllocError>
+    fn total_num_tokens(&self, alloc: Global, field: Field) -> Result<u64, AllocError>
         requires { can_write self.now field }
         ensures { IfOk result (λ n. n ≡ total self.now field) };
 
@@ -75,7 +75,7 @@ fn write_field<T: TermsByField>(
     if !entry.is_indexed() {
         return Ok(());
     }
-    let total = terms.total_num_tokens(field)?;
+    let total = terms.total_num_tokens(alloc, field)?;
     let Ok(begun) = files.new_field(field, total) else {
         return Err(AllocError);
     };

@@ -1,10 +1,13 @@
 use Rattle.std.proofs.Common.{◌∙◌, arith}
 use Rattle.seg_build.proofs.ValueCounts.{counted_turn, counted_end}
-use Rattle.seg_build.proofs.ValueSteps.{added_turn, fit_here, fit_turn}
+use Rattle.seg_build.proofs.ValueSteps.{added_turn, fit_here, fit_turn, plain_here, plain_turn}
 use Rattle.seg_build.proofs.adding.add_values.Goals as goal
 
-pub add_value-requires : goal.add_value-requires
-add_value-requires c = fit_here c.args.id c.args.document.now c.loop-value.fields c.args.values.now c.loop-value.value-index c.value-item.result c.loop-value-test.true c.value-item.is c.loop-value.invariant.fit
+pub add_value-requires-clause-keys : goal.add_value-requires-clause-keys
+add_value-requires-clause-keys c = plain_here c.args.document.now c.args.values.now c.loop-value.value-index c.value-item.result c.loop-value-test.true c.value-item.is c.loop-value.invariant.keys
+
+pub add_value-requires-clause-fits : goal.add_value-requires-clause-fits
+add_value-requires-clause-fits c = fit_here c.args.id c.args.document.now c.loop-value.fields c.args.values.now c.loop-value.value-index c.value-item.result c.loop-value-test.true c.value-item.is c.loop-value.invariant.fit
 
 pub loop-value-preserved : goal.loop-value-preserved
 loop-value-preserved c = record {
@@ -14,6 +17,7 @@ loop-value-preserved c = record {
       ∙ c.loop-value.invariant.count;
   few = omega (arith, c.saturating_add-count.ensures);
   fit = fit_turn c.args.id c.args.document.now c.loop-value.fields c.add_value.new.fields c.args.values.now c.loop-value.value-index c.value-item.result c.loop-value-test.true c.value-item.is c.in_ok-more.ensures.fields c.loop-value.invariant.fit;
+  keys = plain_turn c.args.document.now c.args.values.now c.loop-value.value-index c.value-item.result c.loop-value-test.true c.value-item.is c.loop-value.invariant.keys;
 }
 
 pub returns-clause-counted : goal.returns-clause-counted

@@ -1,5 +1,6 @@
 use Rattle.std.proofs.Common.{◌≡◌, ◌+◌, ◌-◌, ◌^◌, ◌≤◌, map, drop}
-use Rattle.seg_check.specs.IndexedValues.{value_in}
+use Rattle.std.specs.List.{AllByRecursion}
+use Rattle.seg_check.specs.IndexedValues.{IsPlainIn, value_in}
 use Rattle.seg_build.specs.MemoryUsage.{saturated, value_count}
 use Rattle.seg_build.specs.Steps.{AllFit, with_values}
 use Rattle.seg_build.proofs.adding.add_values.Given as goal
@@ -13,4 +14,5 @@ invariant-loop-value l =
       count : saturated (l.count + value_count left) ≡ saturated (value_count (map (value_in l.document) l.values));
       few : l.count ≤ 2 ^ 64 - 1;
       fit : AllFit l.id l.fields left;
+      keys : AllByRecursion (IsPlainIn l.document) (drop l.value-index l.values);
     }

@@ -1,7 +1,8 @@
 use Rattle.std.proofs.Common.{◌≡◌, ◌⊎◌, ◌<◌, ◌-◌, ◌^◌, true, map, Some, length, sym, ap, ◌∙◌, subst}
 use Rattle.std.specs.Prelude.{is_none, IsSomeAnd}
+use Rattle.std.specs.List.{AllByRecursion}
 use Rattle.seg_model.specs.Built.{is_taken}
-use Rattle.seg_check.specs.IndexedValues.{value_in, document_values}
+use Rattle.seg_check.specs.IndexedValues.{IsPlainIn, value_in, document_values}
 use Rattle.seg_values.specs.declared.error.TantivyError.TheVariants.{OutOfMemory}
 use Rattle.seg_build.specs.SegmentWriting.{kept_of, Adds, AddsNone, HasPlace, HasTaken, Tells}
 use Rattle.seg_build.proofs.Keeping.{of_parts, room_of, still_under_way, adds}
@@ -17,7 +18,8 @@ with_document-requires g c =
     let place : length c.in-Some.parts.stamps.items < 2 ^ 31 - 1 = of_parts HasPlace c.self.inside.parts c.in-Some.parts (sym c.take.ensures.value ∙ c.in-Some.is) (subst (λ v. IsSomeAnd v.1.kept HasPlace) (sym c.self.view_is) c.requires) in
     let values = c.deref.result.now in
     let are : map (value_in d) values ≡ document_values schema F d = ap (map (value_in d)) c.deref.ensures.value ∙ c.in-Ok.ensures.values ∙ ap (λ s. document_values s F d) c.schema-schema.ensures in
-    record { room = room_of schema F c.self.invariant.0 d taken c.texts_are_utf8.ensures c.args.opstamp c.self.inside.parts c.in-Some.parts (sym c.take.ensures.value ∙ c.in-Some.is) place values are c.self.invariant.2 }
+    let keys : AllByRecursion (IsPlainIn d) values = subst (AllByRecursion (IsPlainIn d)) (sym c.deref.ensures.value) c.in-Ok.ensures.keys in
+    record { room = room_of schema F c.self.invariant.0 d taken c.texts_are_utf8.ensures c.args.opstamp c.self.inside.parts c.in-Some.parts (sym c.take.ensures.value ∙ c.in-Some.is) place values are keys c.self.invariant.2 }
 
 pub invariant_of-self-in-Ok-with_document : goal.invariant_of-self-in-Ok-with_document
 invariant_of-self-in-Ok-with_document g c =

@@ -13,11 +13,12 @@ loop-at-preserved c =
     let count = c.recorded_count-count.result in
     let field = c.args.self.now in
     let kind = c.kind_of-kind.result in
-    let bytes = c.bytes_at.result.now in
+    let bytes = c.copy_bytes_at.new.out.items in
     let hits = grouped c.hits_at.result.now in
     let postings = postings_as (kind_in field.asked bytes) hits in
-    let at = value_there field.asked field.terms c.loop-at.at bytes hits c.bytes_at.ensures c.hits_at.ensures in
-    let counted : count ≡ count_total postings = c.recorded_count-count.ensures ∙ ap (λ k. count_total (postings_as k hits)) c.kind_of-kind.ensures in
+    let at = value_there field.asked field.terms c.loop-at.at bytes hits c.in_ok-copy_bytes_at.ensures c.hits_at.ensures in
+    let kind_is : kind ≡ kind_in field.asked bytes = c.kind_of-kind.ensures ∙ ap (kind_in field.asked) c.deref.ensures.value in
+    let counted : count ≡ count_total postings = c.recorded_count-count.ensures ∙ ap (λ k. count_total (postings_as k hits)) kind_is in
     record {
       sum = saturated_more c.loop-at.total count c.saturating_add-total.result (values_of c.args.self.now.terms) c.loop-at.at postings at counted c.saturating_add-total.ensures ∙ c.loop-at.invariant.sum;
       few = omega (arith, c.saturating_add-total.ensures);
