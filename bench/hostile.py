@@ -14,6 +14,9 @@ above 1.2, or where a run fails or takes more than the limit.
   deletes-over-batches    a batch for each document, and as many deletes by words that many have
   text       one document of one long text
   pairs      one document of many short texts
+  wide       as many fields without lengths as documents, each of one pair
+  long-key   a JSON key of a megabyte above many leaves of one value
+  paths      many paths of JSON in each of 1,000 documents
 """
 import argparse
 import json
@@ -76,6 +79,26 @@ def pairs(rng, count):
     return one_field([addition(*(['t', text(rng, 3)] for _ in range(count)))])
 
 
+def wide(rng, count):
+    return {
+        'schema': [entry(f'f{number}', norms=False) for number in range(count)],
+        'operations': [addition([f'f{number}', text(rng, 3)]) for number in range(count)],
+    }
+
+
+def json_field(operations):
+    return {'schema': [{'name': 'j', 'kind': 'json', 'index': 'positions', 'tokenizer': 'default'}], 'operations': operations}
+
+
+def long_key(rng, count):
+    return json_field([addition(['j', {'k' * 1000000: [7] * count}])])
+
+
+def paths(rng, count):
+    values = {f'k{number}': number for number in range(count)}
+    return json_field([addition(['j', values]) for _ in range(1000)])
+
+
 SHAPES = {
     'batches': (batches, 1000),
     'fields': (fields, 500),
@@ -83,6 +106,9 @@ SHAPES = {
     'deletes-over-batches': (deletes_over_batches, 500),
     'text': (long_text, 200000),
     'pairs': (pairs, 50000),
+    'wide': (wide, 2000),
+    'long-key': (long_key, 50000),
+    'paths': (paths, 500),
 }
 
 
