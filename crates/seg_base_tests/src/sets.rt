@@ -17,7 +17,7 @@ const THREE_ROWS: [u8; 24] = [
 fn a_file_without_columns(rt: HostRuntime) -> Result<(), Fail> {
     let bytes = ColumnarWriter::new(rt.alloc()).serialize(3)?;
     assert!(rt; bytes.as_slice() == THREE_ROWS.as_slice());
-    let reader = ColumnarReader::open(OwnedBytes::from_vec(rt.alloc(), bytes)?)?;
+    let reader = ColumnarReader::open(rt.alloc(), OwnedBytes::from_vec(rt.alloc(), bytes)?)?;
     assert!(rt; reader.num_rows() == 3);
     Ok(())
 }

@@ -1,0 +1,3 @@
+mod FileParts
+mod FileSteps
+mod TableSteps

@@ -1,1 +1,4 @@
+pub mod ColumnFiles
+pub mod ColumnTable
 pub mod Columnar
+pub mod Footers

@@ -1,17 +1,27 @@
 //! The file of a segment's columns, which has a row for each document.
 //!
-//! It has no column yet, so bytes read as a number of rows, or as nothing.
+//! Bytes are a file or not, and a reader of one is seen as the number of rows and the columns in order of path and
+//! type. Only the file without columns is written so far.
 //!
-//! To be read in this order: `error`, `format`; `writer`; `reader`; `row_addr` (a row of one of several files).
+//! To be read in this order: `format`; `writer`, `empty`; `entry`, `table_check`, `columns_check`, `footer`;
+//! `column_iter`, `selection`, `reader`; `row_addr` (a row of one of several files).
 #![tactic(auto)]
 
-mod error;
+mod column_iter;
+mod columns_check;
+mod empty;
+mod entry;
+mod footer;
 mod format;
 mod reader;
 mod row_addr;
+mod selection;
+mod table_check;
 mod writer;
 
-pub use error::ColumnError;
+pub use column_iter::ColumnIter;
+pub use empty::rows_without_columns;
 pub use reader::ColumnarReader;
 pub use row_addr::RowAddr;
+pub use seg_columns::ColumnError;
 pub use writer::ColumnarWriter;

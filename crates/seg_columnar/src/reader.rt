@@ -1,62 +1,99 @@
 //! The reader of files of columns.
-ghost use Rattle.std.specs.Prelude.{◌≡◌, Some, None, MatchOption, MatchResult, IfErr};
-ghost use Rattle.seg_columnar.specs.Columnar.{rows_of};
+ghost use Rattle.std.specs.Prelude.{◌≡◌, false, IfErr, IfOk, MatchResult};
+ghost use Rattle.seg_columns.specs.declared.error.ColumnError.TheVariants.{OutOfMemory};
+ghost use Rattle.seg_columns.specs.Refusals.{Refuses};
+ghost use Rattle.seg_columnar.specs.ColumnFiles.{IsColumnFile, column_file_of, is_below, is_selected, stored_where};
 
-use crate::error::ColumnError;
-use crate::format::{
-    LENGTH, NO_COLUMN, ROWS_AT, TABLE_LENGTH, TABLE_LENGTH_AT, VERSION, VERSION_AT,
-};
-use seg_common::{OwnedBytes, u32_at, u64_at};
+use crate::column_iter::ColumnIter;
+use crate::footer::{Footer, checked_footer};
+use crate::selection::selected_columns;
+use seg_columns::{ColumnError, DynamicColumnHandle};
+use seg_common::OwnedBytes;
+use std::alloc::{AllocError, Global};
 use std::marker::Model;
 
-/// The columns of a segment, of which there are none yet, as they are read from their file. It is seen as its number of
-/// rows.
-#[derive(Debug, Drop)]
+/// The columns of a segment, in the bytes of their file. It is seen as the number of rows and the columns in order of
+/// path and type. A copy takes no memory.
+#[derive(Drop)]
 pub struct ColumnarReader {
-    num_rows: u32,
+    bytes: OwnedBytes,
+    footer: Footer,
 }
 
 impl Model for ColumnarReader {
-    ghost use Rattle.std.specs.Prelude.{ℕ};
+    ghost use Rattle.seg_columnar.specs.ColumnFiles.{ColumnFile, IsColumnFile, column_file_of};
+    ghost use Rattle.seg_columnar.specs.Footers.{IsFooterOf};
 
-    ghost Value = { ℕ };
+    ghost Value = { ColumnFile };
 
-    ghost view = { λ r. r.num_rows };
+    ghost view = { λ r. column_file_of r.bytes };
+
+    ghost invariant = { λ r. IsColumnFile r.bytes × IsFooterOf r.bytes r.footer };
 }
 
 impl ColumnarReader {
-    /// Checks the bytes whole, in a fixed number of steps, and takes no memory. A file that has columns is `Malformed`
-    /// until columns are written.
-    pub fn open(bytes: OwnedBytes) -> Result<ColumnarReader, ColumnError>
-        ensures read { MatchResult result (λ rows. rows_of bytes ≡ Some rows) (λ _. rows_of bytes ≡ None) }
-        ensures err { IfErr result (λ e. e ≡ ColumnError.Malformed) }
+    /// Checks the bytes whole, in time linear in them. For a column of texts or bytes it takes a byte for each distinct
+    /// one, and gives them back.
+    pub fn open(alloc: Global, bytes: OwnedBytes) -> Result<ColumnarReader, ColumnError>
+        ensures { MatchResult result (λ r. IsColumnFile bytes × (r ≡ column_file_of bytes))
+            (Refuses (IsColumnFile bytes)) }
     {
-        match checked_rows(bytes.as_slice()) {
-            Some(num_rows) => Ok(ColumnarReader { num_rows }),
-            None => Err(ColumnError::Malformed),
+        match checked_footer(alloc, &bytes) {
+            Ok(footer) => Ok(ColumnarReader { bytes, footer }),
+            Err(error) => Err(error),
         }
     }
 
     /// How many rows each column has: one for each document.
     pub fn num_rows(&self) -> u32
-        ensures { result ≡ self.now }
+        ensures { result ≡ self.now.rows }
     {
-        self.num_rows
+        self.footer.num_rows
+    }
+
+    /// The columns with their paths, in order of path and type.
+    pub fn iter_columns(&self) -> ColumnIter<'_>
+        ensures { result ≡ self.now.columns }
+    {
+        ColumnIter::new(&self.bytes, self.footer)
+    }
+
+    /// The columns of a path, in order of type.
+    pub fn read_columns(
+        &self,
+        alloc: Global,
+        name: &str,
+    ) -> Result<Vec<DynamicColumnHandle>, ColumnError>
+        ensures ok { IfOk result (λ handles. handles.items
+            ≡ stored_where (is_selected false name.now) self.now.columns) }
+        ensures err { IfErr result (λ e. e ≡ OutOfMemory) }
+    {
+        Ok(selected_columns(alloc, self.iter_columns(), name, false)?)
+    }
+
+    /// The columns of all paths below one: those that begin with it and a byte 1. They are in order of path and type.
+    pub fn read_subpath_columns(
+        &self,
+        alloc: Global,
+        path: &str,
+    ) -> Result<Vec<DynamicColumnHandle>, ColumnError>
+        ensures ok { IfOk result (λ handles. handles.items ≡ stored_where (is_below path.now) self.now.columns) }
+        ensures err { IfErr result (λ e. e ≡ OutOfMemory) }
+    {
+        Ok(selected_columns(alloc, self.iter_columns(), path, true)?)
     }
 }
 
-/// The number of rows, where the bytes are a file without columns.
-#[tactic(auto, unfolding(crate::specs::Columnar::rows_of, crate::specs::Columnar::is_without_columns))]
-fn checked_rows(bytes: &[u8]) -> Option<u32>
-    ensures { result ≡ rows_of bytes.now }
-{
-    if bytes.len() == LENGTH
-        && u64_at(bytes, 0) == NO_COLUMN
-        && u64_at(bytes, TABLE_LENGTH_AT) == TABLE_LENGTH
-        && u32_at(bytes, VERSION_AT) == VERSION
-    {
-        Some(u32_at(bytes, ROWS_AT))
-    } else {
-        None
+/// Shares the bytes, and never fails.
+impl Clone for ColumnarReader {
+    ghost is_clone = { λ reader copy. copy ≡ reader };
+
+    ghost is_infallible = { λ _. Unit {0} };
+
+    fn clone(&self) -> Result<ColumnarReader, AllocError> {
+        Ok(ColumnarReader {
+            bytes: self.bytes.share(),
+            footer: self.footer,
+        })
     }
 }

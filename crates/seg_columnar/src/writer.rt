@@ -2,8 +2,8 @@
 ghost use Rattle.std.specs.Prelude.{◌≡◌, Some, IfOk, IfErr};
 ghost use Rattle.seg_columnar.specs.Columnar.{rows_of};
 
-use crate::error::ColumnError;
-use crate::format::{NO_COLUMN, TABLE_LENGTH, VERSION};
+use crate::format::{COUNT, NO_COLUMN, VERSION};
+use seg_columns::ColumnError;
 use seg_common::{put_u32, put_u64};
 use std::alloc::Global;
 
@@ -25,7 +25,7 @@ impl ColumnarWriter {
     {
         let mut bytes = Vec::new(self.alloc);
         put_u64(&mut bytes, NO_COLUMN)?;
-        put_u64(&mut bytes, TABLE_LENGTH)?;
+        put_u64(&mut bytes, COUNT as u64)?;
         put_u32(&mut bytes, num_docs)?;
         put_u32(&mut bytes, VERSION)?;
         Ok(bytes)

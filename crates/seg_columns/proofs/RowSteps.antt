@@ -16,7 +16,8 @@ module _ {T : Type 0} where
 
   pub next_value : (width : ℕ) (decoded : List ℕ → Option T) (values : List ℕ) (place end : ℕ) → place < end
       → IsSome (value_at width decoded values place) → (r : Option T) → r ≡ value_at width decoded values place
-      → IsSomeAnd r (λ x. values_between width decoded values place end ≡ x ∷ values_between width decoded values (place + 1) end)
+      → IsSomeAnd r (λ x. values_between width decoded values place end ≡ x ∷ values_between width decoded values
+      (place + 1) end)
   next_value width decoded values place end lt known r e =
       let n : end - place ≡ suc (end - (place + 1)) = omega arith in
       let f : ℕ → Option T = value_at width decoded values in
@@ -38,14 +39,16 @@ module _ {T : Type 0} where
 
   -- the bytes of a value, by its place
   pub at_place : (width : ℕ) (decoded : List ℕ → Option T) (values : List ℕ) (place w v : ℕ) → w ≡ width → v ≡ width
-      → (r : Option T) → r ≡ decoded (slice_range values (place * w) (place * w + v)) → r ≡ value_at width decoded values place
+      → (r : Option T) → r ≡ decoded (slice_range values (place * w) (place * w + v))
+      → r ≡ value_at width decoded values place
   unfolding value_at
   at_place width decoded values place w v a b r h =
       let s : place * w ≡ width * place = ap (λ n. place * n) a ∙ mul_comm place width in
       subst (λ (m : ℕ). r ≡ decoded (slice_range values m (m + width))) s
       (subst (λ (m : ℕ). r ≡ decoded (slice_range values (place * w) (place * w + m))) b h)
 
-  pub told_some : (b : Bool) (r : Option T) → b ≡ is_some r → (v : Option T) → r ≡ v → MatchBool b (IsSome v) (IsSome v → ⊥)
+  pub told_some : (b : Bool) (r : Option T) → b ≡ is_some r → (v : Option T) → r ≡ v
+      → MatchBool b (IsSome v) (IsSome v → ⊥)
   told_some b r e v is =
       subst (λ (q : Option T). MatchBool b (IsSome q) (IsSome q → ⊥)) is
       (subst (λ (a : Bool). MatchBool a (IsSome r) (IsSome r → ⊥)) (sym e) (by r))
@@ -55,7 +58,8 @@ module _ {T : Type 0} where
       by None = λ h. false≢true h
 
   -- a document without a value has the default
-  defaulted : (default : T) (rows : List (List T)) (doc : ℕ) → doc < length rows → slice_get (get_or rows doc []) 0 ≡ None
+  defaulted : (default : T) (rows : List (List T)) (doc : ℕ) → doc < length rows
+      → slice_get (get_or rows doc []) 0 ≡ None
       → slice_get (map (first_or default) rows) doc ≡ Some default
   defaulted default [] doc lt none = absurd (omega (arith, lt))
   defaulted default ([] ∷ rows) zero lt none = refl
@@ -69,7 +73,8 @@ module _ {T : Type 0} where
 
   -- ---- an open column
 
-  module _ (width : ℕ) (decoded : List ℕ → Option T) (rows : ℕ) (bytes : List ℕ) (is : IsColumn width decoded rows bytes) where
+  module _ (width : ℕ) (decoded : List ℕ → Option T) (rows : ℕ) (bytes : List ℕ)
+      (is : IsColumn width decoded rows bytes) where
     pub within : (i : ℕ) → i ≤ rows → width * start_at bytes i ≤ length (drop (8 * rows) bytes)
     within i h =
         omega (arith, is.fill, length-drop (8 * rows) bytes, mul-le-mul_left width (at_most_all bytes rows is.rise i h))

@@ -47,14 +47,16 @@ module _ {T : Type 0} (is_image : ℕ → Bool) (value_of : ℕ → T) (number :
     unfolding value_at
     are_numbers = record { ends = is.ends; rise = is.rise; fill = is.fill; known = λ k lt. refl }
 
-    row : (doc : ℕ) → doc < docs → row_of 8 unsigned docs bytes doc ≡ map number (row_of 8 (value_of_image is_image value_of) docs bytes doc)
+    row : (doc : ℕ) → doc < docs
+        → row_of 8 unsigned docs bytes doc ≡ map number (row_of 8 (value_of_image is_image value_of) docs bytes doc)
     unfolding row_of
     row doc lt =
         let start = start_at bytes doc in
         let end = start_at bytes (doc + 1) in
         let order = is.rise doc lt in
         between (drop (8 * docs) bytes) start (end - start)
-        (λ k below. known 8 (value_of_image is_image value_of) docs bytes is (doc + 1) (omega (arith, lt)) k (omega (arith, below, order)))
+        (λ k below. known 8 (value_of_image is_image value_of) docs bytes is (doc + 1) (omega (arith, lt)) k
+        (omega (arith, below, order)))
 
     each_row : (from n : ℕ) → from + n ≤ docs
         → map (row_of 8 unsigned docs bytes) (range_with_len from n)
@@ -63,7 +65,8 @@ module _ {T : Type 0} (is_image : ℕ → Bool) (value_of : ℕ → T) (number :
     each_row from (suc n) le =
         (λ j. row from (omega (arith, le)) j ∷ each_row (from + 1) n (omega (arith, le)) j)
 
-    pub numbers_stand : rows_of 8 unsigned docs bytes ≡ map (map number) (rows_of 8 (value_of_image is_image value_of) docs bytes)
+    pub numbers_stand : rows_of 8 unsigned docs bytes ≡ map (map number)
+        (rows_of 8 (value_of_image is_image value_of) docs bytes)
     numbers_stand = each_row 0 docs (omega arith)
 
 -- a number is that of the value that it stands for

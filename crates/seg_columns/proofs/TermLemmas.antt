@@ -15,21 +15,25 @@ pub length-terms_of : (bytes : List ℕ) → length (terms_of bytes) ≡ count_o
 unfolding terms_of
 length-terms_of bytes = length-map-range_with_len (term_at bytes) 0 (count_of bytes)
 
-get_or-terms_of : (bytes : List ℕ) (i : ℕ) (d : List ℕ) → i < count_of bytes → get_or (terms_of bytes) i d ≡ term_at bytes i
+get_or-terms_of : (bytes : List ℕ) (i : ℕ) (d : List ℕ) → i < count_of bytes
+    → get_or (terms_of bytes) i d ≡ term_at bytes i
 unfolding terms_of
 get_or-terms_of bytes i d h = get_or-map-range_with_len (term_at bytes) 0 (count_of bytes) i i d h (omega arith)
 
 -- the bytes, and the count kept beside them, of a dictionary that is seen as some terms
-module _ (bytes : List ℕ) (count : ℕ) (terms : List (List ℕ)) (counted : count ≡ count_of bytes) (view : terms_of bytes ≡ terms) where
+module _ (bytes : List ℕ) (count : ℕ) (terms : List (List ℕ)) (counted : count ≡ count_of bytes)
+    (view : terms_of bytes ≡ terms) where
   pub seen_length : length terms ≡ count
   seen_length = ap length (sym view) ∙ length-terms_of bytes ∙ sym counted
 
   seen_term : (i : ℕ) (d : List ℕ) → i < count → get_or terms i d ≡ term_at bytes i
-  seen_term i d h = ap (λ (ts : List (List ℕ)). get_or ts i d) (sym view) ∙ get_or-terms_of bytes i d (omega (arith, h, counted))
+  seen_term i d h = ap (λ (ts : List (List ℕ)). get_or ts i d) (sym view)
+      ∙ get_or-terms_of bytes i d (omega (arith, h, counted))
 
   pub seen_get : (i : ℕ) → i < count → slice_get terms i ≡ Some (term_at bytes i)
   seen_get i h =
-      slice_get-get_or terms i (term_at bytes i) (omega (arith, h, seen_length)) ∙ ap Some (seen_term i (term_at bytes i) h)
+      slice_get-get_or terms i (term_at bytes i) (omega (arith, h, seen_length))
+      ∙ ap Some (seen_term i (term_at bytes i) h)
 
   pub seen_none : (term : List ℕ) → ((i : ℕ) → i < count → term_at bytes i ≢ term) → All (λ t. t ≢ term) terms
   seen_none term none i d h e =

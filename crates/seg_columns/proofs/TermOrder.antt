@@ -44,13 +44,15 @@ one_more bytes place p q some before a b less i lt =
       | inr le ↦
           let e : i + 1 ≡ place = omega arith in
           let f : i ≡ place - 1 = omega arith in
-          (λ j. slice_cmp nat_cmp (term_at bytes (f j)) (term_at bytes (e j))) ∙ sym (λ j. slice_cmp nat_cmp (a j) (b j)) ∙ less
+          (λ j. slice_cmp nat_cmp (term_at bytes (f j)) (term_at bytes (e j)))
+          ∙ sym (λ j. slice_cmp nat_cmp (a j) (b j)) ∙ less
     ]
 
 -- ---- terms that ascend
 
 module _ (bytes : List ℕ) (ascend : TermsAscend bytes) where
-  rises : (i k : ℕ) → i + k + 1 < count_of bytes → slice_cmp nat_cmp (term_at bytes i) (term_at bytes (i + k + 1)) ≡ Less
+  rises : (i k : ℕ) → i + k + 1 < count_of bytes
+      → slice_cmp nat_cmp (term_at bytes i) (term_at bytes (i + k + 1)) ≡ Less
   rises i zero h = let e : i + 0 + 1 ≡ i + 1 = omega arith in rw e (ascend i (omega arith))
   rises i (suc k) h =
       let e : i + suc k + 1 ≡ i + k + 1 + 1 = omega arith in
@@ -60,36 +62,42 @@ module _ (bytes : List ℕ) (ascend : TermsAscend bytes) where
   rising : (i j : ℕ) → i < j → j < count_of bytes → slice_cmp nat_cmp (term_at bytes i) (term_at bytes j) ≡ Less
   rising i j lt h =
       let e : i + (j - (i + 1)) + 1 ≡ j = omega arith in
-      subst (λ (n : ℕ). slice_cmp nat_cmp (term_at bytes i) (term_at bytes n) ≡ Less) e (rises i (j - (i + 1)) (omega arith))
+      subst (λ (n : ℕ). slice_cmp nat_cmp (term_at bytes i) (term_at bytes n) ≡ Less) e
+      (rises i (j - (i + 1)) (omega arith))
 
   pub below_middle : (m k : ℕ) (term : List ℕ) → m < count_of bytes → slice_cmp nat_cmp (term_at bytes m) term ≡ Less
       → k < m + 1 → slice_cmp nat_cmp (term_at bytes k) term ≡ Less
   below_middle m k term h less lt =
       elim (cases_lt k m) [
         | inl below ↦ nat_list_cmp_total.trans (term_at bytes k) (term_at bytes m) term (rising k m below h) less
-        | inr le ↦ let e : m ≡ k = omega arith in subst (λ (n : ℕ). slice_cmp nat_cmp (term_at bytes n) term ≡ Less) e less
+        | inr le ↦ let e : m ≡ k = omega arith in subst
+            (λ (n : ℕ). slice_cmp nat_cmp (term_at bytes n) term ≡ Less) e less
       ]
 
   pub above_middle : (m k : ℕ) (term : List ℕ) → slice_cmp nat_cmp (term_at bytes m) term ≡ Greater → m ≤ k
       → k < count_of bytes → slice_cmp nat_cmp (term_at bytes k) term ≡ Greater
   above_middle m k term greater le h =
       elim (cases_lt m k) [
-        | inl above ↦ below_is_above term (term_at bytes k) (nat_list_cmp_total.trans term (term_at bytes m) (term_at bytes k)
+        | inl above ↦ below_is_above term (term_at bytes k)
+            (nat_list_cmp_total.trans term (term_at bytes m) (term_at bytes k)
             (above_is_below (term_at bytes m) term greater) (rising m k above h))
         | inr past ↦ let e : m ≡ k = omega arith in
             subst (λ (n : ℕ). slice_cmp nat_cmp (term_at bytes n) term ≡ Greater) e greater
       ]
 
   above : (i from n : ℕ) → i < from → from + n ≤ count_of bytes
-      → AllByRecursion (λ term. slice_cmp nat_cmp (term_at bytes i) term ≡ Less) (map (term_at bytes) (range_with_len from n))
+      → AllByRecursion (λ term. slice_cmp nat_cmp (term_at bytes i) term ≡ Less)
+      (map (term_at bytes) (range_with_len from n))
   above i from zero lt le = tt
-  above i from (suc n) lt le = (rising i from lt (omega (arith, le)), above i (from + 1) n (omega (arith, lt)) (omega (arith, le)))
+  above i from (suc n) lt le =
+      (rising i from lt (omega (arith, le)), above i (from + 1) n (omega (arith, lt)) (omega (arith, le)))
 
   sorted_from : (from n : ℕ) → from + n ≤ count_of bytes
       → IsStrictlySortedBy (slice_cmp nat_cmp) (map (term_at bytes) (range_with_len from n))
   unfolding IsStrictlySortedBy
   sorted_from from zero le = tt
-  sorted_from from (suc n) le = (above from (from + 1) n (omega arith) (omega (arith, le)), sorted_from (from + 1) n (omega (arith, le)))
+  sorted_from from (suc n) le =
+      (above from (from + 1) n (omega arith) (omega (arith, le)), sorted_from (from + 1) n (omega (arith, le)))
 
   pub terms_sorted : IsStrictlySortedBy (slice_cmp nat_cmp) (terms_of bytes)
   unfolding terms_of

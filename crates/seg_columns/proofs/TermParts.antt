@@ -50,14 +50,16 @@ module _ (docs : ℕ) (bytes front back : List ℕ) (ords terms : List (List ℕ
     record {
       ordinals = subst (IsColumn 8 unsigned docs) at column;
       dictionary = subst IsDictionary behind dictionary;
-      uses = subst (UsesEach (count_of (dictionary_in docs bytes))) same_rows (subst (λ (n : ℕ). UsesEach n ords) same_count uses);
+      uses = subst (UsesEach (count_of (dictionary_in docs bytes))) same_rows
+          (subst (λ (n : ℕ). UsesEach n ords) same_count uses);
     },
     λ i. record { terms = (seen ∙ ap terms_of behind) i; ords = same_rows i },
   )
 
   pub not_all_used : (UsesEach count ords → ⊥) → IsBytesColumn docs bytes → ⊥
   not_all_used none is = none
-      (subst (λ (n : ℕ). UsesEach n ords) (sym same_count) (subst (UsesEach (count_of (dictionary_in docs bytes))) (sym same_rows) is.uses))
+      (subst (λ (n : ℕ). UsesEach n ords) (sym same_count)
+      (subst (UsesEach (count_of (dictionary_in docs bytes))) (sym same_rows) is.uses))
 
 -- a column that was checked before
 pub uses_terms : (docs : ℕ) (bytes : List ℕ) (ords terms : List (List ℕ)) → IsBytesColumn docs bytes
@@ -68,8 +70,10 @@ uses_terms docs bytes ords terms is rows seen =
     (subst (UsesEach (count_of (dictionary_in docs bytes))) (sym rows) is.uses)
 
 -- a text of a dictionary of texts
-pub utf8_at : (terms : List (List ℕ)) (ord : ℕ) (term : List ℕ) → All IsUtf8 terms → slice_get terms ord ≡ Some term → IsUtf8 term
-utf8_at terms ord term all at = subst IsUtf8 (get_or_from_slice_get terms ord term term at) (all ord term (slice_get_within terms ord term at))
+pub utf8_at : (terms : List (List ℕ)) (ord : ℕ) (term : List ℕ) → All IsUtf8 terms → slice_get terms ord ≡ Some term
+    → IsUtf8 term
+utf8_at terms ord term all at =
+    subst IsUtf8 (get_or_from_slice_get terms ord term term at) (all ord term (slice_get_within terms ord term at))
 
 -- the texts that were seen, and one more
 pub more_utf8 : (terms : List (List ℕ)) (place : ℕ) (term : List ℕ) → slice_get terms place ≡ Some term → IsUtf8 term
@@ -79,5 +83,6 @@ more_utf8 terms place term at utf8 before i lt =
       | inl earlier ↦ before i earlier
       | inr le ↦
           let e : place ≡ i = omega arith in
-          subst (λ (k : ℕ). IsUtf8 (get_or terms k [])) e (subst IsUtf8 (sym (get_or_from_slice_get terms place term [] at)) utf8)
+          subst (λ (k : ℕ). IsUtf8 (get_or terms k [])) e
+          (subst IsUtf8 (sym (get_or_from_slice_get terms place term [] at)) utf8)
     ]

@@ -31,7 +31,8 @@ pub record HoldsTerms (bytes : List ℕ) : Type 0 where
 
 -- each term is below the next one in byte order
 abbrev pub TermsAscend : List ℕ → Type 0
-TermsAscend bytes = (i : ℕ) → i + 1 < count_of bytes → slice_cmp nat_cmp (term_at bytes i) (term_at bytes (i + 1)) ≡ Less
+TermsAscend bytes = (i : ℕ) → i + 1 < count_of bytes
+    → slice_cmp nat_cmp (term_at bytes i) (term_at bytes (i + 1)) ≡ Less
 
 -- bytes are a dictionary
 pub record IsDictionary (bytes : List ℕ) : Type 0 where

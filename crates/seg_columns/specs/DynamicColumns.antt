@@ -45,7 +45,7 @@ type_of (columns.Bool _) = types.Bool
 type_of (columns.IpAddr _) = types.IpAddr
 type_of (columns.DateTime _) = types.DateTime
 
--- the numbers that stand for its values: those of their order, and for texts and bytes their ordinals; addresses have none
+-- the numbers that stand for its values, in their order; for texts and bytes their ordinals; addresses have none
 abbrev pub numbers_of : DynamicColumn → Option (List (List ℕ))
 numbers_of (columns.I64 rows) = Some (map (map raised) rows)
 numbers_of (columns.U64 rows) = Some rows

@@ -33,7 +33,8 @@ impl BytesColumn {
         bytes: &OwnedBytes,
         num_docs: u32,
     ) -> Result<BytesColumn, ColumnError>
-        ensures { MatchResult result (λ c. IsBytesColumn num_docs bytes.now × (c ≡ term_column_of num_docs bytes.now)) (Refuses (IsBytesColumn num_docs bytes.now)) }
+        ensures { MatchResult result (λ c. IsBytesColumn num_docs bytes.now × (c ≡ term_column_of num_docs bytes.now))
+            (Refuses (IsBytesColumn num_docs bytes.now)) }
     {
         match TermColumn::open(alloc, bytes, num_docs) {
             Ok(column) => Ok(BytesColumn { column }),
@@ -68,7 +69,8 @@ impl BytesColumn {
     /// Copies the distinct value at a place into `out`, in place of what it held; nothing and `false` where there is no
     /// such place, and nothing when out of memory.
     pub fn ord_to_bytes(&self, ord: u64, out: &mut Vec<u8>) -> Result<bool, ColumnError>
-        ensures ok { IfOk result (λ found. MatchBool found (slice_get self.now.terms ord ≡ Some out.new.items) ((slice_get self.now.terms ord ≡ None) × (out.new.items ≡ []))) }
+        ensures ok { IfOk result (λ found. MatchBool found (slice_get self.now.terms ord ≡ Some out.new.items)
+            ((slice_get self.now.terms ord ≡ None) × (out.new.items ≡ []))) }
         ensures err { IfErr result (λ e. e ≡ ColumnError.OutOfMemory) }
         ensures cleared { OnErr result (out.new.items ≡ []) }
     {

@@ -7,7 +7,8 @@ use crate::ends::{END, ends_rise, start_at};
 
 /// Whether bytes are a column of this type for so many documents: one pass over them, without memory.
 pub fn is_column<T: ColumnValue>(bytes: &[u8], num_docs: u32) -> bool
-    ensures { MatchBool result (IsColumn T.WIDTH T.decoded num_docs bytes.now) (IsColumn T.WIDTH T.decoded num_docs bytes.now → ⊥) }
+    ensures { MatchBool result (IsColumn T.WIDTH T.decoded num_docs bytes.now)
+        (IsColumn T.WIDTH T.decoded num_docs bytes.now → ⊥) }
 {
     let rows = num_docs as usize;
     if bytes.len() / END < rows {
@@ -43,7 +44,8 @@ fn fill<T: ColumnValue>(count: u64, len: usize) -> bool
 
 fn are_known<T: ColumnValue>(values: &[u8], count: usize) -> bool
     requires { T.WIDTH * count ≤ length values.now }
-    ensures { MatchBool result (AreKnown T.WIDTH T.decoded values.now count) (AreKnown T.WIDTH T.decoded values.now count → ⊥) }
+    ensures { MatchBool result (AreKnown T.WIDTH T.decoded values.now count)
+        (AreKnown T.WIDTH T.decoded values.now count → ⊥) }
 {
     for place in 0..count {
         if !is_known::<T>(values, place) {
@@ -55,7 +57,8 @@ fn are_known<T: ColumnValue>(values: &[u8], count: usize) -> bool
 
 fn is_known<T: ColumnValue>(values: &[u8], place: usize) -> bool
     requires { T.WIDTH * place + T.WIDTH ≤ length values.now }
-    ensures { MatchBool result (IsSome (value_at T.WIDTH T.decoded values.now place)) (IsSome (value_at T.WIDTH T.decoded values.now place) → ⊥) }
+    ensures { MatchBool result (IsSome (value_at T.WIDTH T.decoded values.now place))
+        (IsSome (value_at T.WIDTH T.decoded values.now place) → ⊥) }
 {
     let start = place * T::WIDTH;
     T::decode(&values[start..start + T::WIDTH]).is_some()

@@ -24,7 +24,8 @@ impl<'a, T: ColumnValue> Model for ColumnValues<'a, T> {
 
     ghost view = { λ s. values_between T.WIDTH T.decoded s.values.now s.place s.end };
 
-    ghost invariant = { λ s. (s.place ≤ s.end) × (T.WIDTH * s.end ≤ length s.values.now) × AreKnown T.WIDTH T.decoded s.values.now s.end };
+    ghost invariant = { λ s. (s.place ≤ s.end) × (T.WIDTH * s.end ≤ length s.values.now)
+        × AreKnown T.WIDTH T.decoded s.values.now s.end };
 }
 
 impl<'a, T: ColumnValue> ColumnValues<'a, T> {

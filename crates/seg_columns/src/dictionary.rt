@@ -61,7 +61,8 @@ impl Dictionary {
 
     /// The place of a term, by halving.
     pub fn term_ord(&self, key: &[u8]) -> Option<u64>
-        ensures { MatchOption result (All (λ term. term ≢ key.now) self.now) (λ ord. slice_get self.now ord ≡ Some key.now) }
+        ensures { MatchOption result (All (λ term. term ≢ key.now) self.now)
+            (λ ord. slice_get self.now ord ≡ Some key.now) }
     {
         match find_term(self.bytes.as_slice(), self.count, key) {
             Some(place) => Some(place as u64),

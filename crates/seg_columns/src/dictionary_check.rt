@@ -11,7 +11,8 @@ use std::cmp::Ordering;
 
 /// The number of terms, where the bytes are a dictionary.
 pub(crate) fn checked_count(bytes: &[u8]) -> Option<usize>
-    ensures { MatchOption result (IsDictionary bytes.now → ⊥) (λ count. (count ≡ count_of bytes.now) × IsDictionary bytes.now) }
+    ensures { MatchOption result (IsDictionary bytes.now → ⊥)
+        (λ count. (count ≡ count_of bytes.now) × IsDictionary bytes.now) }
 {
     let count = terms_held(bytes)?;
     if !terms_ascend(bytes, count) {
@@ -22,7 +23,8 @@ pub(crate) fn checked_count(bytes: &[u8]) -> Option<usize>
 
 /// The number of terms, where so many fill the bytes.
 fn terms_held(bytes: &[u8]) -> Option<usize>
-    ensures { MatchOption result (HoldsTerms bytes.now → ⊥) (λ count. (count ≡ count_of bytes.now) × HoldsTerms bytes.now) }
+    ensures { MatchOption result (HoldsTerms bytes.now → ⊥)
+        (λ count. (count ≡ count_of bytes.now) × HoldsTerms bytes.now) }
 {
     if bytes.len() < COUNT {
         return None;
@@ -58,7 +60,8 @@ fn terms_ascend(bytes: &[u8], count: usize) -> bool
 }
 
 fn is_below(left: &[u8], right: &[u8]) -> bool
-    ensures { MatchBool result (slice_cmp nat_cmp left.now right.now ≡ Ordering.Less) (slice_cmp nat_cmp left.now right.now ≡ Ordering.Less → ⊥) }
+    ensures { MatchBool result (slice_cmp nat_cmp left.now right.now ≡ Ordering.Less)
+        (slice_cmp nat_cmp left.now right.now ≡ Ordering.Less → ⊥) }
 {
     match left.cmp(&right) {
         Ordering::Less => true,

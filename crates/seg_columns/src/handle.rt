@@ -40,7 +40,8 @@ impl DynamicColumnHandle {
         bytes: OwnedBytes,
         num_docs: u32,
     ) -> Result<DynamicColumnHandle, ColumnError>
-        ensures { MatchResult result (λ h. IsColumnOf column_type num_docs bytes × (h ≡ stored_column column_type num_docs bytes)) (Refuses (IsColumnOf column_type num_docs bytes)) }
+        ensures { MatchResult result (λ h. IsColumnOf column_type num_docs bytes
+            × (h ≡ stored_column column_type num_docs bytes)) (Refuses (IsColumnOf column_type num_docs bytes)) }
     {
         match check_column(alloc, column_type, &bytes, num_docs) {
             Ok(()) => Ok(DynamicColumnHandle::of_checked(column_type, bytes, num_docs)),

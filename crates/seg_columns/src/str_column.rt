@@ -32,7 +32,8 @@ impl Model for StrColumn {
 impl StrColumn {
     /// Checks the bytes whole, in time linear in them. It takes a byte for each distinct text, and gives them back.
     pub fn open(alloc: Global, bytes: &OwnedBytes, num_docs: u32) -> Result<StrColumn, ColumnError>
-        ensures { MatchResult result (λ c. IsStrColumn num_docs bytes.now × (c ≡ term_column_of num_docs bytes.now)) (Refuses (IsStrColumn num_docs bytes.now)) }
+        ensures { MatchResult result (λ c. IsStrColumn num_docs bytes.now × (c ≡ term_column_of num_docs bytes.now))
+            (Refuses (IsStrColumn num_docs bytes.now)) }
     {
         let column = match TermColumn::open(alloc, bytes, num_docs) {
             Ok(column) => column,
@@ -71,7 +72,8 @@ impl StrColumn {
     /// Copies the distinct text at a place into `out`, in place of what it held; nothing and `false` where there is no
     /// such place, and nothing when out of memory.
     pub fn ord_to_str(&self, ord: u64, out: &mut String) -> Result<bool, ColumnError>
-        ensures ok { IfOk result (λ found. MatchBool found (slice_get self.now.terms ord ≡ Some (string_bytes out.new)) ((slice_get self.now.terms ord ≡ None) × (string_bytes out.new ≡ []))) }
+        ensures ok { IfOk result (λ found. MatchBool found (slice_get self.now.terms ord ≡ Some (string_bytes out.new))
+            ((slice_get self.now.terms ord ≡ None) × (string_bytes out.new ≡ []))) }
         ensures err { IfErr result (λ e. e ≡ ColumnError.OutOfMemory) }
         ensures cleared { OnErr result (string_bytes out.new ≡ []) }
     {
@@ -101,7 +103,8 @@ impl StrColumn {
 
     /// The distinct text at a place.
     fn text(&self, ord: u64) -> Option<&str>
-        ensures { MatchOption result (slice_get self.now.terms ord ≡ None) (λ text. slice_get self.now.terms ord ≡ Some text.now) }
+        ensures { MatchOption result (slice_get self.now.terms ord ≡ None)
+            (λ text. slice_get self.now.terms ord ≡ Some text.now) }
     {
         let term = self.column.dictionary().ord_to_term(ord)?;
         match str::from_utf8(term) {

@@ -39,7 +39,8 @@ impl TermColumn {
         bytes: &OwnedBytes,
         num_docs: u32,
     ) -> Result<TermColumn, ColumnError>
-        ensures { MatchResult result (λ c. IsBytesColumn num_docs bytes.now × (c ≡ term_column_of num_docs bytes.now)) (Refuses (IsBytesColumn num_docs bytes.now)) }
+        ensures { MatchResult result (λ c. IsBytesColumn num_docs bytes.now × (c ≡ term_column_of num_docs bytes.now))
+            (Refuses (IsBytesColumn num_docs bytes.now)) }
     {
         let Some((front, back)) = parts_of(bytes, num_docs) else {
             return Err(ColumnError::Malformed);
@@ -100,7 +101,8 @@ impl TermColumn {
 
 /// The bytes of the ordinals, and those of the dictionary.
 fn parts_of(bytes: &OwnedBytes, num_docs: u32) -> Option<(OwnedBytes, OwnedBytes)>
-    ensures { MatchOption result (IsColumn 8 unsigned num_docs (ordinals_in num_docs bytes.now) → ⊥) (λ p. (p.0 ≡ ordinals_in num_docs bytes.now) × (p.1 ≡ dictionary_in num_docs bytes.now)) }
+    ensures { MatchOption result (IsColumn 8 unsigned num_docs (ordinals_in num_docs bytes.now) → ⊥)
+        (λ p. (p.0 ≡ ordinals_in num_docs bytes.now) × (p.1 ≡ dictionary_in num_docs bytes.now)) }
 {
     let docs = num_docs as usize;
     let words = bytes.len() / END;

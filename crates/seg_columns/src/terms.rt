@@ -56,7 +56,8 @@ fn part(bytes: &[u8], start: usize, end: usize) -> &[u8]
 pub(crate) fn find_term(bytes: &[u8], count: usize, term: &[u8]) -> Option<usize>
     requires count { count ≡ spec.count_of bytes.now }
     requires dictionary { spec.IsDictionary bytes.now }
-    ensures { MatchOption result ((i : ℕ) → i < count → spec.term_at bytes.now i ≢ term.now) (λ i. (i < count) × (spec.term_at bytes.now i ≡ term.now)) }
+    ensures { MatchOption result ((i : ℕ) → i < count → spec.term_at bytes.now i ≢ term.now)
+        (λ i. (i < count) × (spec.term_at bytes.now i ≡ term.now)) }
 {
     let mut low = 0;
     let mut high = count;

@@ -20,7 +20,8 @@ pub fn check_column(
     bytes: &OwnedBytes,
     num_docs: u32,
 ) -> Result<(), ColumnError>
-    ensures { MatchResult result (λ _. IsColumnOf column_type num_docs bytes.now) (Refuses (IsColumnOf column_type num_docs bytes.now)) }
+    ensures { MatchResult result (λ _. IsColumnOf column_type num_docs bytes.now)
+        (Refuses (IsColumnOf column_type num_docs bytes.now)) }
 {
     let data = bytes.as_slice();
     match column_type {
@@ -35,14 +36,16 @@ pub fn check_column(
 }
 
 fn check_bytes(alloc: Global, bytes: &OwnedBytes, num_docs: u32) -> Result<(), ColumnError>
-    ensures { MatchResult result (λ _. IsColumnOf ColumnType.Bytes num_docs bytes.now) (Refuses (IsColumnOf ColumnType.Bytes num_docs bytes.now)) }
+    ensures { MatchResult result (λ _. IsColumnOf ColumnType.Bytes num_docs bytes.now)
+        (Refuses (IsColumnOf ColumnType.Bytes num_docs bytes.now)) }
 {
     BytesColumn::open(alloc, bytes, num_docs)?;
     Ok(())
 }
 
 fn check_str(alloc: Global, bytes: &OwnedBytes, num_docs: u32) -> Result<(), ColumnError>
-    ensures { MatchResult result (λ _. IsColumnOf ColumnType.Str num_docs bytes.now) (Refuses (IsColumnOf ColumnType.Str num_docs bytes.now)) }
+    ensures { MatchResult result (λ _. IsColumnOf ColumnType.Str num_docs bytes.now)
+        (Refuses (IsColumnOf ColumnType.Str num_docs bytes.now)) }
 {
     StrColumn::open(alloc, bytes, num_docs)?;
     Ok(())

@@ -24,8 +24,10 @@ pub(crate) fn uses_each(alloc: Global, ords: &Column<u64>, count: usize) -> Resu
 /// Marks the ordinals of a document, where all have a place.
 fn mark(used: &mut Vec<bool>, ords: ColumnValues<'_, u64>) -> bool
     ensures length { length used.new.items ≡ length used.old.items }
-    ensures below { MatchBool result (All (λ ord. ord < length used.old.items) ords.entry) (All (λ ord. ord < length used.old.items) ords.entry → ⊥) }
-    ensures marks { IsTrue result → (ord : ℕ) → ord < length used.old.items → get_or used.new.items ord false ≡ (get_or used.old.items ord false || list_any (nat_eq ord) ords.entry) }
+    ensures below { MatchBool result (All (λ ord. ord < length used.old.items) ords.entry)
+        (All (λ ord. ord < length used.old.items) ords.entry → ⊥) }
+    ensures marks { IsTrue result → (ord : ℕ) → ord < length used.old.items
+        → get_or used.new.items ord false ≡ (get_or used.old.items ord false || list_any (nat_eq ord) ords.entry) }
 {
     for ord in ords {
         if ord >= used.len() as u64 {

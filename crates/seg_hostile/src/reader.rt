@@ -60,7 +60,7 @@ impl Format {
             Format::Meta => is_meta(alloc, bytes)?,
             Format::Dictionary => TermDictionary::open(owned).is_ok(),
             Format::Store => StoreReader::open(owned).is_ok(),
-            Format::Columns => ColumnarReader::open(owned).is_ok(),
+            Format::Columns => ColumnarReader::open(alloc, owned).is_ok(),
             Format::Alive => AliveBitSet::open(owned).is_ok(),
         })
     }

@@ -7,7 +7,7 @@ ghost use Rattle.seg_norms.specs.NormsRead.{norms_of, AreNorms, HoldNorms};
 ghost use Rattle.seg_store.specs.Block.{Block};
 ghost use Rattle.seg_store.specs.Store.{store_of, documents_of};
 
-use seg_columnar::ColumnarReader;
+use seg_columnar::rows_without_columns;
 use seg_common::OwnedBytes;
 use seg_norms::FieldNormReaders;
 use seg_store::StoreReader;
@@ -32,9 +32,9 @@ pub(crate) fn open_store(bytes: OwnedBytes, max_doc: u32) -> Option<StoreReader>
 pub(crate) fn are_columns(bytes: OwnedBytes, max_doc: u32) -> bool
     ensures { MatchBool result (rows_of bytes ≡ Some max_doc) (rows_of bytes ≢ Some max_doc) }
 {
-    match ColumnarReader::open(bytes) {
-        Ok(columns) => columns.num_rows() == max_doc,
-        Err(_) => false,
+    match rows_without_columns(bytes.as_slice()) {
+        Some(rows) => rows == max_doc,
+        None => false,
     }
 }
 

@@ -32,7 +32,8 @@ pub new-requires-clause-known : goal.new-requires-clause-known
 new-requires-clause-known g c = λ k lt.
     let v = g.T.ColumnValue in
     let next = c.args.row + 1 in
-    let all = known v.WIDTH v.decoded c.args.rows c.args.bytes.now c.requires.column next (omega (arith, c.requires.place)) in
+    let all = known v.WIDTH v.decoded c.args.rows c.args.bytes.now c.requires.column next
+    (omega (arith, c.requires.place)) in
     subst (λ (vs : List ℕ). IsSome (value_at v.WIDTH v.decoded vs k)) (sym c.values_of.ensures)
     (all k (omega (arith, lt, c.start_at-end.ensures)))
 

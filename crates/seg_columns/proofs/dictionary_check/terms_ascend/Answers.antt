@@ -8,11 +8,13 @@ loop-place-init c = λ i lt. absurd (omega (arith, lt))
 pub returns-then-not-is_below : goal.returns-then-not-is_below
 returns-then-not-is_below c = λ ascend.
     c.if-not-is_below.ensures
-    (is_next c.args.bytes.now c.loop-place.place _ _ (omega arith) (omega (arith, c.requires.count)) c.term_at.ensures c.term_at-in-loop-place.ensures ascend)
+    (is_next c.args.bytes.now c.loop-place.place _ _ (omega arith)
+    (omega (arith, c.requires.count)) c.term_at.ensures c.term_at-in-loop-place.ensures ascend)
 
 pub loop-place-preserved : goal.loop-place-preserved
 loop-place-preserved c =
-    one_more c.args.bytes.now c.loop-place.place _ _ (omega arith) c.loop-place.invariant c.term_at.ensures c.term_at-in-loop-place.ensures
+    one_more c.args.bytes.now c.loop-place.place _ _
+    (omega arith) c.loop-place.invariant c.term_at.ensures c.term_at-in-loop-place.ensures
     c.if-not-is_below.ensures
 
 pub returns : goal.returns

@@ -6,4 +6,5 @@ use Rattle.seg_columns.specs.Dictionaries.{term_at}
 use Rattle.seg_columns.proofs.dictionary_check.terms_ascend.Given as goal
 
 abbrev pub invariant-loop-place : goal.invariant-loop-place
-invariant-loop-place l = (i : ℕ) → i + 1 < l.place → slice_cmp nat_cmp (term_at l.bytes i) (term_at l.bytes (i + 1)) ≡ Less
+invariant-loop-place l = (i : ℕ) → i + 1 < l.place
+    → slice_cmp nat_cmp (term_at l.bytes i) (term_at l.bytes (i + 1)) ≡ Less

@@ -7,4 +7,5 @@ pub of_checked-requires : goal.of_checked-requires
 of_checked-requires c = are_numbers (λ _. true) lowered raised raised-lowered c.args.num_docs c.args.bytes c.requires
 
 pub returns : goal.returns
-returns c = c.of_checked.ensures ∙ numbers_stand (λ _. true) lowered raised raised-lowered c.args.num_docs c.args.bytes c.requires
+returns c = c.of_checked.ensures
+    ∙ numbers_stand (λ _. true) lowered raised raised-lowered c.args.num_docs c.args.bytes c.requires

@@ -11,11 +11,13 @@ pub loop-low-preserved-in-Less : goal.loop-low-preserved-in-Less
 loop-low-preserved-in-Less c =
     let bytes = c.args.bytes.now in
     let m : ℕ = c.loop-low.low + (c.loop-low.high - c.loop-low.low) / 2 in
-    let less : slice_cmp nat_cmp (term_at bytes m) c.args.term.now ≡ Less = rw (← c.term_at.ensures) (sym c.in-Less.ensures) in
+    let less : slice_cmp nat_cmp (term_at bytes m) c.args.term.now ≡ Less =
+    rw (← c.term_at.ensures) (sym c.in-Less.ensures) in
     record {
       order = omega arith;
       within = c.loop-low.invariant.within;
-      below = λ k lt. below_middle bytes c.requires.dictionary.ascend m k c.args.term.now (omega (arith, c.requires.count, c.loop-low.invariant.within)) less lt;
+      below = λ k lt. below_middle bytes c.requires.dictionary.ascend m k c.args.term.now
+          (omega (arith, c.requires.count, c.loop-low.invariant.within)) less lt;
       above = c.loop-low.invariant.above;
     }
 
@@ -23,16 +25,22 @@ pub loop-low-preserved : goal.loop-low-preserved
 loop-low-preserved c =
     let bytes = c.args.bytes.now in
     let m : ℕ = c.loop-low.low + (c.loop-low.high - c.loop-low.low) / 2 in
-    let greater : slice_cmp nat_cmp (term_at bytes m) c.args.term.now ≡ Greater = rw (← c.term_at.ensures) (sym c.in-Greater.ensures) in
+    let greater : slice_cmp nat_cmp (term_at bytes m) c.args.term.now ≡ Greater =
+    rw (← c.term_at.ensures) (sym c.in-Greater.ensures) in
     record {
       order = omega arith;
       within = omega arith;
       below = c.loop-low.invariant.below;
-      above = λ k le lt. above_middle bytes c.requires.dictionary.ascend m k c.args.term.now greater le (omega (arith, lt, c.requires.count));
+      above = λ k le lt. above_middle bytes c.requires.dictionary.ascend m k c.args.term.now greater le
+          (omega (arith, lt, c.requires.count));
     }
 
 pub returns-in-Equal : goal.returns-in-Equal
-returns-in-Equal c = (omega arith, sym c.term_at.ensures ∙ same_term c.term_at.result.now c.args.term.now (sym c.in-Equal.ensures))
+returns-in-Equal c = (
+  omega arith,
+  sym c.term_at.ensures
+      ∙ same_term c.term_at.result.now c.args.term.now (sym c.in-Equal.ensures),
+)
 
 pub returns : goal.returns
 returns c = λ i h same.

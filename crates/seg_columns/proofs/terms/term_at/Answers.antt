@@ -9,7 +9,8 @@ part-requires-clause-within c =
     let next = c.args.place + 1 in
     let end : c.start_at-end.result ≡ start_at (ends_of c.args.bytes.now) next =
     c.start_at-end.ensures ∙ ap (λ (l : List ℕ). start_at l next) c.ends_of-ends.ensures in
-    let within = start_within c.args.bytes.now c.requires.holds next (omega (arith, c.requires.place, c.requires.count)) in
+    let within = start_within c.args.bytes.now c.requires.holds next
+    (omega (arith, c.requires.place, c.requires.count)) in
     omega (arith, within, end, ap length c.texts_of.ensures)
 
 pub returns : goal.returns

@@ -8,8 +8,10 @@ invariant-loop-ord l = record {
   can : (goal.iterator-loop-ord).can_next l.ord-iterator;
   finite : (goal.iterator-loop-ord).is_finite l.ord-iterator;
   long : length l.used.items ≡ length l.fn.used.items;
-  below : All (λ ord. ord < length l.fn.used.items) l.ord-iterator → All (λ ord. ord < length l.fn.used.items) l.fn.ords;
-  all_below : All (λ ord. ord < length l.fn.used.items) l.fn.ords → All (λ ord. ord < length l.fn.used.items) l.ord-iterator;
+  below : All (λ ord. ord < length l.fn.used.items) l.ord-iterator
+      → All (λ ord. ord < length l.fn.used.items) l.fn.ords;
+  all_below : All (λ ord. ord < length l.fn.used.items) l.fn.ords
+      → All (λ ord. ord < length l.fn.used.items) l.ord-iterator;
   marks : (ord : ℕ) → ord < length l.fn.used.items
       → (get_or l.used.items ord false || list_any (nat_eq ord) l.ord-iterator)
       ≡ (get_or l.fn.used.items ord false || list_any (nat_eq ord) l.fn.ords);

@@ -8,5 +8,6 @@ invariant-loop-doc l = record {
   long : length l.used.items ≡ l.count;
   below : (i : ℕ) → i < l.doc → All (λ ord. ord < l.count) (get_or l.ords i []);
   marks : (ord : ℕ) → ord < l.count
-      → (get_or l.used.items ord false || list_any (list_any (nat_eq ord)) (drop l.doc l.ords)) ≡ list_any (list_any (nat_eq ord)) l.ords;
+      → (get_or l.used.items ord false || list_any (list_any (nat_eq ord)) (drop l.doc l.ords)) ≡ list_any
+      (list_any (nat_eq ord)) l.ords;
 }

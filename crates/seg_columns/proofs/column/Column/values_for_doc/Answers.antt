@@ -21,7 +21,8 @@ returns g c =
     let row = row_of v.WIDTH v.decoded docs in
     let bytes = c.self.inside.bytes in
     let doc = c.args.doc in
-    let lt : doc < docs = omega (arith, c.requires, ap length c.self.view_is, length-map-range_with_len (row bytes) 0 docs) in
+    let lt : doc < docs = omega
+    (arith, c.requires, ap length c.self.view_is, length-map-range_with_len (row bytes) 0 docs) in
     let here : get_or (map (row bytes) (range_with_len 0 docs)) doc [] ≡ row bytes doc =
     get_or-map-range_with_len (row bytes) 0 docs doc doc [] lt (omega arith) in
     c.row_values.ensures ∙ (λ i. row (c.as_slice.ensures i) doc) ∙ sym here ∙ (λ i. get_or (c.self.view_is i) doc [])

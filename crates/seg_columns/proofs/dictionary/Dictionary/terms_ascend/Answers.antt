@@ -6,4 +6,5 @@ use Rattle.seg_columns.proofs.TermOrder.{terms_sorted}
 use Rattle.seg_columns.proofs.dictionary.Dictionary.terms_ascend.Goals as goal
 
 pub returns : goal.returns
-returns c = subst (IsStrictlySortedBy (slice_cmp nat_cmp)) c.self.view_is (terms_sorted c.self.inside.bytes c.self.invariant.1.ascend)
+returns c = subst (IsStrictlySortedBy (slice_cmp nat_cmp)) c.self.view_is
+    (terms_sorted c.self.inside.bytes c.self.invariant.1.ascend)

@@ -10,7 +10,8 @@ returns-then-not-branch c =
     let count = c.num_terms.result in
     not_all_used c.args.num_docs c.args.bytes.now c.in-Some.front c.in-Some.back ords c.in-Some-open-2.dictionary count
     c.in-Some.ensures.0 c.in-Some.ensures.1 c.in-Some-open.ensures.1 c.in-Some-open-2.ensures.1 c.num_terms.ensures
-    (subst (λ (b : Bool). MatchBool b (UsesEach count ords) (UsesEach count ords → ⊥)) c.if-not-branch.true c.in_ok-uses_each.ensures)
+    (subst (λ (b : Bool). MatchBool b (UsesEach count ords)
+    (UsesEach count ords → ⊥)) c.if-not-branch.true c.in_ok-uses_each.ensures)
 
 pub returns : goal.returns
 returns c =
@@ -19,4 +20,5 @@ returns c =
     whole c.args.num_docs c.args.bytes.now c.in-Some.front c.in-Some.back ords c.in-Some-open-2.dictionary count
     c.in-Some.ensures.0 c.in-Some.ensures.1 c.in-Some-open.ensures.1 c.in-Some-open-2.ensures.1 c.num_terms.ensures
     c.in-Some-open.ensures.0 c.in-Some-open-2.ensures.0
-    (subst (λ (b : Bool). MatchBool b (UsesEach count ords) (UsesEach count ords → ⊥)) c.if-not-branch.false c.in_ok-uses_each.ensures)
+    (subst (λ (b : Bool). MatchBool b (UsesEach count ords)
+    (UsesEach count ords → ⊥)) c.if-not-branch.false c.in_ok-uses_each.ensures)
