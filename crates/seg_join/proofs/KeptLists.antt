@@ -1,9 +1,9 @@
 -- The marked members of a list, one place after another.
 use Rattle.std.proofs.Common.{◌≡◌, ℕ, zero, suc, ◌+◌, ◌<◌, ◌≤◌, Bool, true, false, List, [], ◌∷◌, ◌++◌, length, take, drop, cond, get_or, refl, sym, ap, ◌∙◌, arith, drop-drop}
 use Rattle.std.specs.Prelude.{Some}
-use Rattle.std.specs.List.{slice_get}
+use Rattle.std.specs.List.{list_all, slice_get}
 use Rattle.std.proofs.lemmas.List.{drop_all}
-use Rattle.std.proofs.lemmas.Bool.{false≢true}
+use Rattle.std.proofs.lemmas.Bool.{and_parts, false≢true}
 use Rattle.std.proofs.lemmas.Option.{none-some, same_Some}
 use Rattle.seg_model.specs.Operations.{kept}
 
@@ -49,3 +49,12 @@ marked_counted (b ∷ bs) (y ∷ ys) (suc i) lt alive = marked_counted bs ys i (
 -- after the last place nothing is kept
 pub kept_past : {X : Type 0} (marks : List Bool) (xs : List X) (i : ℕ) → length xs ≤ i → kept (drop i marks) (drop i xs) ≡ []
 kept_past marks xs i past = kept_of_none (drop i marks) (drop i xs) (drop_all i xs past)
+
+-- where all are marked all are kept
+pub kept_all : {X : Type 0} (marks : List Bool) (xs : List X) → list_all (λ b. b) marks ≡ true → length marks ≡ length xs → kept marks xs ≡ xs
+kept_all [] [] all many = refl
+kept_all [] (x ∷ xs) all many = absurd (omega (arith, many))
+kept_all (b ∷ bs) [] all many = absurd (omega (arith, many))
+kept_all (b ∷ bs) (x ∷ xs) all many =
+    let both = and_parts b (list_all (λ (c : Bool). c) bs) all in
+    ap (λ c. cond c (x ∷ kept bs xs) (kept bs xs)) both.0 ∙ ap (λ ys. x ∷ ys) (kept_all bs xs both.1 (omega (arith, many)))

@@ -22,7 +22,7 @@ use Rattle.seg_store.specs.Writing.{Taken, all_blocks}
 use Rattle.seg_values.specs.declared.error.TantivyError.{TantivyError}
 use Rattle.seg_values.specs.declared.error.TantivyError.TheVariants.{OutOfMemory}
 use Rattle.seg_open.specs.OpenSegment.{IsMarked, IsOfSchema, OpenSegment, kept_count}
-use Rattle.seg_join.specs.JoinedStore.{joined_bytes, joined_documents, no_documents, taken_documents, with_documents}
+use Rattle.seg_join.specs.JoinedStore.{joined_documents, no_documents, taken_documents, with_segments}
 use Rattle.seg_join.specs.Joining.{HoldJoined, HoldsJoinedNorms, IsJoined}
 use Rattle.seg_join.specs.Merger.{AreJoinedFiles, WritesJoined, makes, runs_out}
 use Rattle.seg_join.proofs.SegmentsJoined.{all_stored, joined_shape}
@@ -31,7 +31,7 @@ use Rattle.seg_join.proofs.SegmentsJoined.{all_stored, joined_shape}
 pub is_joined : (given : Serializing) (readers : List OpenSegment) (block_size : ℕ) → given ≡ unfilled given.segment block_size
     → (segment : SegmentParts) (postings : Option FieldFiles) (before after : Option Taken) (fast norms : List ℕ)
     → segment ≡ given.segment → before ≡ given.store → IsSomeAnd postings (HoldJoined given.segment.schema readers)
-    → after ≡ option_map (with_documents (joined_bytes readers)) before
+    → after ≡ option_map (with_segments readers) before
     → option_map taken_documents after ≡ option_map (λ w. taken_documents w ++ joined_documents readers) before
     → rows_of fast ≡ Some (kept_count readers) → HoldsJoinedNorms given.segment.schema readers norms
     → (s : Serializing) → s ≡ filled_with segment postings after fast norms → IsJoined given.segment block_size readers s
@@ -40,7 +40,7 @@ is_joined given readers block_size fresh segment postings before after fast norm
     subst (IsJoined given.segment block_size readers) (sym is) (record {
       segment_is = of;
       postings = holds;
-      store = taken ∙ ap (option_map (with_documents (joined_bytes readers))) begun;
+      store = taken ∙ ap (option_map (with_segments readers)) begun;
       stored = told ∙ ap (option_map (λ w. taken_documents w ++ joined_documents readers)) begun;
       rows = rows;
       norms = put;
@@ -65,7 +65,7 @@ module _ (law : JoinsHaveFullShape) (segment : SegmentParts) (block_size : ℕ) 
           shape = joined_shape segment.schema law readers built are;
         };
         totals = all.1;
-        store = laid.store ∙ ap (λ w. Some (all_blocks w)) (same_Some laid.taken (with_documents (joined_bytes readers) (no_documents block_size)) (sym laid.stored ∙ joined.store));
+        store = laid.store ∙ ap (λ w. Some (all_blocks w)) (same_Some laid.taken (with_segments readers (no_documents block_size)) (sym laid.stored ∙ joined.store));
       }
 
   module _ {T : Type 0} (a b : DirectoryState) where

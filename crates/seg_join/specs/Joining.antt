@@ -11,7 +11,7 @@ use Rattle.seg_segment.specs.HoldTerms.{HoldTerms}
 use Rattle.seg_segment.specs.Serializing.{Serializing}
 use Rattle.seg_segment.specs.Totals.{TellTotals}
 use Rattle.seg_open.specs.OpenSegment.{OpenSegment, kept_count, part_of}
-use Rattle.seg_join.specs.JoinedStore.{joined_bytes, joined_documents, no_documents, taken_documents, with_documents}
+use Rattle.seg_join.specs.JoinedStore.{joined_documents, no_documents, taken_documents, with_segments}
 use Rattle.seg_join.specs.JoinedTotals.{joined_total}
 
 -- files of these parts hold the joined terms, and tell the estimated totals
@@ -27,11 +27,11 @@ abbrev pub HoldsJoinedNorms : Schema → List OpenSegment → List ℕ → Type 
 HoldsJoinedNorms schema readers file =
     composite file ≡ Some (norms_parts schema (map (joined_norms (map part_of readers)) (fields schema)))
 
--- a serializer of a segment has what segments are joined to, with blocks of this size
+-- a serializer of a segment has what segments are joined to, with blocks that are stacked or of this size
 pub record IsJoined (segment : SegmentParts) (block_size : ℕ) (readers : List OpenSegment) (s : Serializing) : Type 0 where
   pub segment_is : s.segment ≡ segment
   pub postings : IsSomeAnd s.postings (HoldJoined segment.schema readers)
-  pub store : s.store ≡ Some (with_documents (joined_bytes readers) (no_documents block_size))
+  pub store : s.store ≡ Some (with_segments readers (no_documents block_size))
   pub stored : option_map taken_documents s.store ≡ Some (joined_documents readers)
   pub rows : rows_of s.fast ≡ Some (kept_count readers)
   pub norms : IsSomeAnd s.norms (HoldsJoinedNorms segment.schema readers)

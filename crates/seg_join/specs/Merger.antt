@@ -18,10 +18,9 @@ use Rattle.seg_segment.specs.Spelling.{Spell}
 use Rattle.seg_segment.specs.Totals.{TellTotals}
 use Rattle.seg_segment.specs.declared.segment_files.SegmentFiles.{SegmentFiles}
 use Rattle.seg_store.specs.Store.{store_of}
-use Rattle.seg_store.specs.Writing.{all_blocks}
 use Rattle.seg_open.specs.OpenSegment.{OpenSegment, kept_count, part_of}
 use Rattle.seg_open.specs.SegmentOpened.{OpensSegments, asked_of, later}
-use Rattle.seg_join.specs.JoinedStore.{joined_bytes, no_documents, with_documents}
+use Rattle.seg_join.specs.JoinedStore.{merged_blocks}
 use Rattle.seg_join.specs.JoinedTotals.{joined_total}
 
 -- the schema, and the segments that are merged
@@ -70,11 +69,11 @@ pub data OpensMerger (schema : Schema) (segments : List SegmentParts) (filters :
 
 -- ---- what is written
 
--- six files are those of what segments join to, with the estimated totals of tokens, and with blocks of this size
+-- six files are those of what segments join to, with the estimated totals of tokens, and with blocks that are stacked or of this size
 pub record AreJoinedFiles (schema : Schema) (block_size : ℕ) (readers : List OpenSegment) (files : SegmentFiles) : Type 0 where
   pub spell : Spell schema files (joined_with schema (map part_of readers) empty)
   pub totals : TellTotals schema (joined_total readers) files.postings
-  pub store : store_of files.store ≡ Some (all_blocks (with_documents (joined_bytes readers) (no_documents block_size)))
+  pub store : store_of files.store ≡ Some (merged_blocks block_size readers)
 
 -- they are made: out of memory before any call, or the six files of the segment
 pub data WritesJoined {T : Type 0} (segment : SegmentParts) (block_size : ℕ) (readers : List OpenSegment)

@@ -29,7 +29,7 @@ ends-next start total e es h =
     let p = and_parts _ _ h in
     record { from = leb-true start e p.0; within = ends-low e total es p.1; others = p.1 }
 
-ends-go : (start total e : ℕ) (es : List ℕ) → start ≤ e → are_ends start total (e ∷ es) ≡ are_ends e total es
+pub ends-go : (start total e : ℕ) (es : List ℕ) → start ≤ e → are_ends start total (e ∷ es) ≡ are_ends e total es
 ends-go start total e es h = rw (le-leb start e h) refl
 
 -- one end more

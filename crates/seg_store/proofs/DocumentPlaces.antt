@@ -279,7 +279,7 @@ total_at bytes h =
 
 -- ---- where blocks end
 
-block_size_is : (block : List ℕ) → is_block block ≡ true → length block ≡ stored_size (documents_in block ∷ [])
+pub block_size_is : (block : List ℕ) → is_block block ≡ true → length block ≡ stored_size (documents_in block ∷ [])
 block_size_is block h =
     let f = block_facts block h in
     let documents = ap byte_count (documents_by block) in
@@ -311,7 +311,7 @@ byte_end_at bytes i h lt =
 
 -- ---- how many bytes there are
 
-size_from : (start : ℕ) (ends bytes : List ℕ) → are_ends start (length bytes) ends ≡ true → list_all is_block (cut_from start ends bytes) ≡ true → length bytes ≡ start + stored_size (map documents_in (cut_from start ends bytes))
+pub size_from : (start : ℕ) (ends bytes : List ℕ) → are_ends start (length bytes) ends ≡ true → list_all is_block (cut_from start ends bytes) ≡ true → length bytes ≡ start + stored_size (map documents_in (cut_from start ends bytes))
 size_from start [] bytes h all = omega (arith, eqb-true start (length bytes) h)
 size_from start (x ∷ xs) bytes h all =
     let n = ends-next start (length bytes) x xs h in

@@ -1,5 +1,5 @@
 -- What a writer keeps as it grows.
-use Rattle.std.proofs.Common.{◌≡◌, ◌≢◌, ℕ, ◌+◌, ◌-◌, ◌<◌, ◌≤◌, ◌^◌, Bool, true, false, List, [], ◌∷◌, ◌++◌, length, take, drop, map, refl, sym, ap, subst, ◌∙◌, arith, Some, append_assoc}
+use Rattle.std.proofs.Common.{◌≡◌, ◌≢◌, ℕ, ◌+◌, ◌-◌, ◌<◌, ◌≤◌, ◌^◌, Bool, true, false, List, [], ◌∷◌, ◌++◌, length, take, drop, map, refl, sym, ap, subst, ◌∙◌, arith, Some, append_assoc, append-nil}
 use Rattle.std.specs.Prelude.{nat_le, Result, Ok, Err, IfOk}
 use Rattle.std.specs.List.{flat_map, list_all, AllByRecursion}
 use Rattle.std.specs.Int.{w32, w64, to_le_bytes}
@@ -11,7 +11,7 @@ use Rattle.seg_store.specs.Ends.{are_ends, cut_from}
 use Rattle.seg_stored.specs.StoredDocument.{is_stored_document}
 use Rattle.seg_store.specs.Block.{Block, documents_in, is_block}
 use Rattle.seg_store.specs.Store.{id_ends, document_count, store_of}
-use Rattle.seg_store.specs.Writing.{Taken, byte_count, block_bytes, taken_count, last_block, all_blocks, with_closed, closed_if_full, with_document}
+use Rattle.seg_store.specs.Writing.{Taken, byte_count, block_bytes, taken_count, last_block, all_blocks, with_all_closed, with_closed, closed_if_full, with_document}
 use Rattle.seg_store.specs.Buffers.{Buffers, closed_parts, taken_of, IsKept}
 use Rattle.seg_store.proofs.Cutting.{ends-push, ends-below, cut-push, length-cut, bytes-cut}
 use Rattle.seg_store.proofs.Blocks.{block_form, block_read}
@@ -220,10 +220,21 @@ last-some [] some = absurd (omega arith)
 last-some (d ∷ ds) some = refl
 
 -- the open block has documents, so it is the last one
-pub all_closed : (b : Buffers) (t : Taken) → b.ends ≢ [] → t ≡ with_closed (taken_of b) → t.closed ≡ all_blocks (taken_of b)
+pub all_closed : (b : Buffers) (t : Taken) → b.ends ≢ [] → t ≡ with_closed (taken_of b) → t ≡ with_all_closed (taken_of b)
 all_closed b t some is =
-    ap (λ (u : Taken). u.closed) is
-    ∙ ap (λ bs. (taken_of b).closed ++ bs) (sym (last-some (taken_of b).open_block (omega (arith, some-length b.ends some, length-cut 0 b.ends (drop b.start b.bytes)))))
+    let last = sym (last-some (taken_of b).open_block (omega (arith, some-length b.ends some, length-cut 0 b.ends (drop b.start b.bytes)))) in
+    is ∙ (λ i. record { block_size = b.block_size; closed = (taken_of b).closed ++ last i; open_block = [] })
+
+-- no end, so no document is in the open block
+pub nothing_left : (b : Buffers) → b.ends ≡ [] → (taken_of b).open_block ≡ []
+nothing_left b none = ap (λ (es : List ℕ). cut_from 0 es (drop b.start b.bytes)) none
+
+-- and the closed blocks are all
+pub all_are_closed : (b : Buffers) → b.ends ≡ [] → all_blocks (taken_of b) ≡ (taken_of b).closed
+all_are_closed b none = ap (λ (d : Block). (taken_of b).closed ++ last_block d) (nothing_left b none) ∙ append-nil (taken_of b).closed
+
+pub none_open : (b : Buffers) → b.ends ≡ [] → taken_of b ≡ with_all_closed (taken_of b)
+none_open b none = λ i. record { block_size = b.block_size; closed = sym (all_are_closed b none) i; open_block = nothing_left b none i }
 
 -- what holds of an Ok
 pub if_ok : {A E : Type 0} (P Q : A → Type 0) (r : Result A E) → ((x : A) → P x → Q x) → IfOk r P → IfOk r Q

@@ -5,6 +5,7 @@ mod Blocks
 mod CacheEntries
 mod CacheUses
 mod Cases
+mod CheckpointLists
 mod CutParts
 mod Cutting
 mod DocumentNumbers
@@ -13,6 +14,7 @@ mod KeptBlocks
 mod MadeDocuments
 mod PartPlaces
 mod SplitFiles
+mod StackedBlocks
 mod Stores
 mod Tables
 mod TakenLast

@@ -7,5 +7,6 @@ pub mod CachedBlocks
 pub mod Checkpoints
 pub mod Ends
 pub mod Parts
+pub mod Stacking
 pub mod Store
 pub mod Writing

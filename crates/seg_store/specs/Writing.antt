@@ -35,6 +35,14 @@ last_block (d ∷ ds) = (d ∷ ds) ∷ []
 abbrev pub all_blocks : Taken → List Block
 all_blocks w = w.closed ++ last_block w.open_block
 
+-- no block is left open
+abbrev pub with_all_closed : Taken → Taken
+with_all_closed w = record w { closed = all_blocks w; open_block = [] }
+
+-- blocks more, as they are, once no block is left open
+abbrev pub with_stacked : List Block → Taken → Taken
+with_stacked blocks w = record w { closed = all_blocks w ++ blocks; open_block = [] }
+
 -- how many documents were taken
 abbrev pub taken_count : Taken → ℕ
 taken_count w = document_count w.closed + length w.open_block

@@ -26,7 +26,7 @@ mod store_reader;
 mod store_writer;
 mod written_blocks;
 
-pub use block_law::documents_stay_in_order;
+pub use block_law::{documents_stay_in_order, stacked_blocks_stay_in_order};
 pub use cache_stats::CacheStats;
 pub use cached_store_reader::CachedStoreReader;
 pub use checkpoint::Checkpoint;

@@ -5,7 +5,7 @@ ghost use Rattle.seg_common.specs.LittleEndian as numbers;
 ghost use Rattle.seg_store.specs.Block.{block_table, is_block, documents_in};
 ghost use Rattle.seg_store.specs.Cache.{block_of};
 ghost use Rattle.seg_store.specs.Ends.{numbers_of, start_of};
-ghost use Rattle.seg_store.specs.Store.{store_table, checkpoints_of, is_store, blocks_of, raw_documents, document_count};
+ghost use Rattle.seg_store.specs.Store.{store_table, store_body, checkpoints_of, is_store, blocks_of, raw_documents, document_count};
 
 use crate::checkpoint::{CHECKPOINT_BYTES, checkpoint_at};
 use crate::store_check::FOOTER_BYTES;
@@ -71,9 +71,18 @@ pub(crate) fn checkpoint_table(bytes: &[u8]) -> &[u8]
     requires { is_store bytes.now ≡ true }
     ensures { result.now ≡ store_table bytes.now }
 {
+    blocks_and_table(bytes).1
+}
+
+/// The bytes of the blocks, and the table of checkpoints.
+pub(crate) fn blocks_and_table(bytes: &[u8]) -> (&[u8], &[u8])
+    requires { is_store bytes.now ≡ true }
+    ensures blocks { result.0.now ≡ store_body bytes.now }
+    ensures table { result.1.now ≡ store_table bytes.now }
+{
     let (rest, footer) = bytes.split_at(bytes.len() - FOOTER_BYTES);
     let count = u32_at(footer, 0) as usize;
-    rest.split_at(rest.len() - CHECKPOINT_BYTES * count).1
+    rest.split_at(rest.len() - CHECKPOINT_BYTES * count)
 }
 
 /// The first block of a table that ends past a document, or the number of blocks.

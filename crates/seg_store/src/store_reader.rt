@@ -6,12 +6,16 @@ ghost use Rattle.seg_store.specs.Block.{is_block, documents_in};
 ghost use Rattle.seg_store.specs.Cache.{block_of};
 ghost use Rattle.seg_store.specs.Checkpoints.{checkpoints, stored_size};
 ghost use Rattle.seg_stored.specs.StoredDocument.{is_stored_document, stored_document_of};
+ghost use Rattle.seg_store.specs.Stacking.{HaveBlocks};
 ghost use Rattle.seg_store.specs.Store.{store_of, document_count, raw_documents, documents_of};
+ghost use Rattle.seg_store.specs.Writing.{block_bytes};
 
 use crate::checkpoint::{CHECKPOINT_BYTES, Checkpoint, checkpoint_at};
 use crate::checkpoints::Checkpoints;
 use crate::error::StoreError;
-use crate::locating::{self, block_place, checkpoint_table, document_place, first_document};
+use crate::locating::{
+    self, block_place, blocks_and_table, checkpoint_table, document_place, first_document,
+};
 use crate::raw_docs::RawDocs;
 use crate::store_check::is_store;
 use seg_bits::ReadOnlyBitSet;
@@ -20,6 +24,12 @@ use seg_stored::document_of;
 use seg_values::TantivyDocument;
 use std::alloc::Global;
 use std::marker::Model;
+
+/// How many bytes it takes to say where a document ends in its block.
+const END_BYTES: usize = 8;
+
+/// How many bytes a block's number of documents takes.
+const COUNT_BYTES: usize = 4;
 
 /// Reads the documents of a store out of its bytes, of which nothing is copied. It is seen as the store's blocks.
 #[derive(Drop)]
@@ -143,6 +153,23 @@ impl StoreReader {
     {
         let (start, end) = block_place(self.bytes.as_slice(), number);
         self.bytes.slice(start, end)
+    }
+
+    /// The bytes of all blocks.
+    pub(crate) fn blocks(&self) -> &[u8]
+        ensures { HaveBlocks self.now result.now }
+    {
+        blocks_and_table(self.bytes.as_slice()).0
+    }
+
+    /// How many bytes the documents have.
+    pub(crate) fn document_bytes(&self) -> usize
+        ensures { result ≡ block_bytes self.now }
+    {
+        let all = self.blocks().len();
+        let ends = END_BYTES * self.num_docs() as usize;
+        let counts = COUNT_BYTES * self.block_count();
+        all - ends - counts
     }
 
     /// The bytes of the documents that are alive in a set, of all without one, in order. One past the set's size is dead.

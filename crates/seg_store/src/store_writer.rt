@@ -1,14 +1,15 @@
 //! The writer of stores.
-ghost use Rattle.std.specs.Prelude.{◌≡◌, ◌≢◌, ◌<◌, ◌-◌, ◌^◌, ◌⊎◌, ◌↔◌, [], true, Option, Some, None, Err, option_map, IfOk, IfErr, IfSome, OnOk};
+ghost use Rattle.std.specs.Prelude.{◌≡◌, ◌≢◌, ◌<◌, ◌+◌, ◌-◌, ◌^◌, ◌⊎◌, ◌↔◌, [], true, Option, Some, None, Err, option_map, IfOk, IfErr, IfSome, OnOk};
 ghost use Rattle.seg_common.specs.Growing.{HasGrown};
 ghost use Rattle.seg_model.specs.Reading.{stored_document};
 ghost use Rattle.seg_values.specs.StoredForm.{stored_form};
 ghost use Rattle.seg_stored.specs.StoredDocument.{stored_document_of, is_stored_document};
 ghost use Rattle.seg_stored.specs.StoredLaw.{AreShallow};
-ghost use Rattle.seg_store.specs.Store.{store_of};
-ghost use Rattle.seg_store.specs.Writing.{Taken, with_document, all_blocks, taken_count, taken_bytes};
+ghost use Rattle.seg_store.specs.Store.{store_of, document_count};
+ghost use Rattle.seg_store.specs.Writing.{Taken, with_document, with_stacked, all_blocks, taken_count, taken_bytes};
 
 use crate::error::StoreError;
+use crate::store_reader::StoreReader;
 use crate::written_blocks::WrittenBlocks;
 use seg_values::{Compressor, Document, Pairs, Schema};
 use std::alloc::Global;
@@ -101,6 +102,25 @@ impl StoreWriter {
             return Err(StoreError::OutOfMemory);
         };
         match blocks.with_bytes(bytes) {
+            Ok(blocks) => {
+                self.blocks = Some(blocks);
+                Ok(())
+            }
+            Err(_) => Err(StoreError::OutOfMemory),
+        }
+    }
+
+    /// Adds the documents of a store, whose blocks stay as they are; before them the open block is closed, if it has
+    /// documents. The blocks' bytes are copied, and nothing is decoded.
+    pub fn stack(&mut self, reader: &StoreReader) -> Result<(), StoreError>
+        requires limit { IfSome self.old (λ w. taken_count w + document_count reader.now < 2 ^ 31) }
+        ensures ok { OnOk result (HasGrown self.old self.new (with_stacked reader.now)) }
+        ensures err { IfErr result (λ e. (e ≡ StoreError.OutOfMemory) × (self.new ≡ None)) }
+    {
+        let Some(blocks) = self.blocks.take() else {
+            return Err(StoreError::OutOfMemory);
+        };
+        match blocks.with_stacked(reader) {
             Ok(blocks) => {
                 self.blocks = Some(blocks);
                 Ok(())

@@ -1,16 +1,19 @@
 //! The blocks of a store that is being written.
-ghost use Rattle.std.specs.Prelude.{◌≡◌, ◌≢◌, ◌≤◌, ◌<◌, ◌-◌, ◌^◌, ◌++◌, [], true, length, take, drop, map, Some, IfOk, OnOk};
+ghost use Rattle.std.specs.Prelude.{◌≡◌, ◌≢◌, ◌≤◌, ◌<◌, ◌+◌, ◌-◌, ◌^◌, ◌++◌, [], true, length, take, drop, map, Some, IfOk, OnOk};
 ghost use Rattle.std.specs.List.{flat_map};
 ghost use Rattle.std.specs.Int.{w32, w64, to_le_bytes};
 ghost use Rattle.seg_model.specs.Reading.{stored_document};
 ghost use Rattle.seg_values.specs.StoredForm.{stored_form};
 ghost use Rattle.seg_stored.specs.StoredDocument.{stored_document_of, is_stored_document};
 ghost use Rattle.seg_stored.specs.StoredLaw.{AreShallow};
-ghost use Rattle.seg_store.specs.Store.{store_of};
-ghost use Rattle.seg_store.specs.Writing.{with_document, closed_if_full, with_closed, all_blocks};
+ghost use Rattle.seg_store.specs.Checkpoints.{checkpoints, stored_size};
+ghost use Rattle.seg_store.specs.Stacking.{shifted};
+ghost use Rattle.seg_store.specs.Store.{store_of, document_count};
+ghost use Rattle.seg_store.specs.Writing.{with_document, closed_if_full, with_closed, all_blocks, with_all_closed, with_stacked};
 ghost use Rattle.seg_store.specs.Buffers.{taken_of, IsKept, checkpoint_form};
 
 use crate::checkpoint::Checkpoint;
+use crate::store_reader::StoreReader;
 use seg_common::{put_u32, put_u64};
 use seg_stored::put_document;
 use seg_values::{Pairs, Schema};
@@ -161,13 +164,42 @@ impl WrittenBlocks {
     fn with_all_closed(self) -> Result<WrittenBlocks, AllocError>
         requires kept { IsKept self }
         ensures kept { IfOk result IsKept }
-        ensures closed { IfOk result (λ w. (taken_of w).closed ≡ all_blocks (taken_of self)) }
+        ensures closed { IfOk result (λ w. taken_of w ≡ with_all_closed (taken_of self)) }
         ensures none { IfOk result (λ w. w.ends ≡ []) }
     {
         if self.ends.is_empty() {
             return Ok(self);
         }
         self.with_block_closed()
+    }
+
+    /// Adds the blocks of a store as they are, once the open block is closed, if it has documents.
+    pub(crate) fn with_stacked(self, reader: &StoreReader) -> Result<WrittenBlocks, AllocError>
+        requires kept { IsKept self }
+        requires few { self.documents + document_count reader.now < 2 ^ 31 }
+        ensures kept { IfOk result IsKept }
+        ensures more { IfOk result (λ w. taken_of w ≡ with_stacked reader.now (taken_of self)) }
+    {
+        let closed = self.with_all_closed()?;
+        closed.with_blocks(reader)
+    }
+
+    /// Adds the blocks of a store where no block is open.
+    fn with_blocks(self, reader: &StoreReader) -> Result<WrittenBlocks, AllocError>
+        requires kept { IsKept self }
+        requires none { self.ends ≡ [] }
+        requires few { self.documents + document_count reader.now < 2 ^ 31 }
+        ensures kept { IfOk result IsKept }
+        ensures more { IfOk result (λ w. taken_of w ≡ with_stacked reader.now (taken_of self)) }
+    {
+        let mut blocks = self;
+        let before = blocks.start as u64;
+        blocks.bytes.extend_from_slice(reader.blocks())?;
+        push_checkpoints(&mut blocks.checkpoints, reader, blocks.documents, before)?;
+        blocks.start = blocks.bytes.len();
+        blocks.documents += reader.num_docs();
+        blocks.stored += reader.document_bytes();
+        Ok(blocks)
     }
 
     /// The bytes of the file.
@@ -188,6 +220,26 @@ impl WrittenBlocks {
         bytes.push(0)?;
         Ok(bytes)
     }
+}
+
+/// Adds the checkpoints of a store whose blocks come after this many documents and bytes.
+fn push_checkpoints(
+    out: &mut Vec<Checkpoint>,
+    reader: &StoreReader,
+    documents: u32,
+    bytes: u64,
+) -> Result<(), AllocError>
+    requires few { documents + document_count reader.now < 2 ^ 32 }
+    requires small { bytes + stored_size reader.now < 2 ^ 64 }
+    ensures { OnOk result (out.new.items ≡ out.old.items ++ map (shifted documents bytes) (checkpoints reader.now)) }
+{
+    for checkpoint in reader.block_checkpoints() {
+        out.push(Checkpoint {
+            doc_end: documents + checkpoint.doc_end,
+            byte_end: bytes + checkpoint.byte_end,
+        })?;
+    }
+    Ok(())
 }
 
 /// Adds the ends of a block's documents.

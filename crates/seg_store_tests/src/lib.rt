@@ -8,6 +8,8 @@ mod raw_documents;
 #[cfg(test)]
 mod reading;
 #[cfg(test)]
+mod stacking;
+#[cfg(test)]
 mod values;
 #[cfg(test)]
 mod writing;

@@ -2,6 +2,7 @@ use Rattle.std.proofs.Common.{◌≡◌, ◌++◌, [], ◌∷◌, Some, length, 
 use Rattle.std.specs.List.{flat_map}
 use Rattle.std.specs.Int.{to_le_bytes}
 use Rattle.seg_store.specs.Store.{store_of}
+use Rattle.seg_store.specs.Writing.{Taken}
 use Rattle.seg_store.specs.Buffers.{Buffers, taken_of, IsKept, checkpoint_form}
 use Rattle.seg_store.proofs.Stores.{store_form}
 use Rattle.seg_store.proofs.KeptBlocks.{file_read}
@@ -13,7 +14,7 @@ returns c =
     let b : Buffers = record { bytes = inside.bytes.items; checkpoints = inside.checkpoints.items; start = inside.start; ends = inside.ends.items; documents = inside.documents; stored = inside.stored; block_size = inside.block_size } in
     let kept : IsKept b = subst IsKept (sym c.blocks-2.view_is) c.in_ok-blocks.ensures.kept in
     let none : b.ends ≡ [] = ap (λ (x : Buffers). x.ends) c.blocks-2.view_is ∙ c.in_ok-blocks.ensures.none in
-    let closed = ap (λ (x : Buffers). (taken_of x).closed) c.blocks-2.view_is ∙ c.in_ok-blocks.ensures.closed in
+    let closed = ap (λ (x : Buffers). (taken_of x).closed) c.blocks-2.view_is ∙ ap (λ (t : Taken). t.closed) c.in_ok-blocks.ensures.closed in
     let table : c.put_checkpoints.new.out.items ≡ inside.bytes.items ++ flat_map checkpoint_form inside.checkpoints.items = c.in_ok-put_checkpoints.ensures ∙ ap (λ cs. inside.bytes.items ++ flat_map checkpoint_form cs) c.deref.ensures.value in
     let count : c.len.result ≡ length inside.checkpoints.items = omega (arith, c.len.ensures, inside.checkpoints.ok.0) in
     let counted : c.put_u32.new.out.items ≡ (inside.bytes.items ++ flat_map checkpoint_form inside.checkpoints.items) ++ to_le_bytes w32 (length inside.checkpoints.items) = c.in_ok-put_u32.ensures.ok ∙ (λ i. table i ++ to_le_bytes w32 (count i)) in

@@ -2,7 +2,7 @@ use Rattle.std.proofs.Common.{◌≡◌, ℕ, List, ap, ◌∙◌, arith}
 use Rattle.seg_common.specs.LittleEndian.{u32_at}
 use Rattle.seg_store.specs.Store.{store_count}
 use Rattle.seg_store.proofs.DocumentPlaces.{store_facts}
-use Rattle.seg_store.proofs.locating.checkpoint_table.Goals as goal
+use Rattle.seg_store.proofs.locating.blocks_and_table.Goals as goal
 
 pub overflow_sub-bytes : goal.overflow_sub-bytes
 overflow_sub-bytes c = omega (arith, (store_facts c.args.bytes.now c.requires).room)

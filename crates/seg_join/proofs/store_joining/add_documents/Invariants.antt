@@ -3,7 +3,7 @@ use Rattle.seg_model.specs.Operations.{kept}
 use Rattle.seg_store.specs.Store.{raw_documents}
 use Rattle.seg_store.specs.Writing.{taken_count}
 use Rattle.seg_join.specs.JoinedStore.{kept_bytes, with_documents}
-use Rattle.seg_join.proofs.store_joining.add_part.Given as goal
+use Rattle.seg_join.proofs.store_joining.add_documents.Given as goal
 
 abbrev pub invariant-loop-doc : goal.invariant-loop-doc
 invariant-loop-doc l = record {
