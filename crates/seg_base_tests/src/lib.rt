@@ -9,13 +9,13 @@ mod dates;
 #[cfg(test)]
 mod deletes;
 #[cfg(test)]
-mod documents;
-#[cfg(test)]
 mod json_terms;
 #[cfg(test)]
 mod json_values;
 #[cfg(test)]
 mod names;
+#[cfg(test)]
+mod paths;
 #[cfg(test)]
 mod sets;
 #[cfg(test)]

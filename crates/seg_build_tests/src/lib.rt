@@ -5,5 +5,3 @@
 mod map_documents;
 #[cfg(test)]
 mod segment_writer;
-#[cfg(test)]
-mod tests;

@@ -1,16 +1,14 @@
-//! Inputs that no script says: fields of numbers, and columns.
-ghost use Rattle.std.specs.Prelude.{◌≡◌, true, IfOk};
-ghost use Rattle.seg_values.specs.Names.{is_allowed};
+//! Operations that are compared, and segments that are merged by the call that no program makes alone.
 
 use seg_bits::AliveBitSet;
 use seg_common::SegmentId;
-use seg_directory::{MemoryDirectory, list_files};
+use seg_directory::MemoryDirectory;
 use seg_input::UserOperation;
 use seg_merge::{build_index, merge_filtered_segments};
 use seg_meta::{Index, IndexSettings};
 use seg_values::{
-    ArgumentCause, Compressor, Field, FieldEntry, FieldKind, IndexOption, OwnedValue, Schema,
-    SchemaBuilder, SchemaCause, TResult, TantivyDocument, TantivyError,
+    Compressor, Field, FieldKind, IndexOption, OwnedValue, Schema, TResult, TantivyDocument,
+    TantivyError,
 };
 use seg_words::{DefaultTokenizer, TokenizerManager};
 use std::alloc::{AllocError, Global};
@@ -22,35 +20,9 @@ const SETTINGS: IndexSettings = IndexSettings {
     docstore_compress_dedicated_thread: false,
 };
 
-/// A field that is not stored.
-fn entry(
-    alloc: Global,
-    kind: FieldKind,
-    index: IndexOption,
-    fast: bool,
-) -> Result<FieldEntry, AllocError>
-    ensures { IfOk result (λ e. (e.kind ≡ kind) × (e.index ≡ index)) }
-{
-    Ok(FieldEntry {
-        stored: false,
-        norms: false,
-        fast,
-        ..seg_testing::entry(alloc, "n", kind, index)?
-    })
-}
-
-/// A schema of one field.
-fn schema(
-    alloc: Global,
-    kind: FieldKind,
-    index: IndexOption,
-    fast: bool,
-) -> Result<Schema, AllocError>
-    requires { is_allowed kind index ≡ true }
-{
-    let mut builder = SchemaBuilder::new(alloc);
-    let _ = builder.add_field(entry(alloc, kind, index, fast)?).is_ok();
-    Ok(builder.build())
+/// A schema of one field of numbers, which is not indexed.
+fn one_number(alloc: Global) -> Result<Schema, AllocError> {
+    seg_testing::schema(alloc, &[("n", FieldKind::U64, IndexOption::No)])
 }
 
 /// The addition of a document with the number 5 in the field.
@@ -87,55 +59,6 @@ fn directory(alloc: Global) -> TResult<MemoryDirectory> {
         Ok(directory) => Ok(directory),
         Err(_) => Err(TantivyError::OutOfMemory),
     }
-}
-
-/// Builds an index of that document, and says how many files the output directory has then.
-fn built(alloc: Global, schema: &Schema) -> TResult<u64> {
-    let mut work = directory(alloc)?;
-    let mut output = directory(alloc)?;
-    let index = build_index(
-        alloc,
-        schema,
-        &SETTINGS,
-        &analyzers(alloc)?,
-        &operations(alloc)?,
-        &[],
-        &[None],
-        &[SegmentId::from_u128(1), SegmentId::from_u128(2)],
-        &mut work,
-        &mut output,
-    );
-    match index {
-        Ok(_) => list_files(alloc, &mut output),
-        Err(e) => Err(e),
-    }
-}
-
-#[test]
-fn numbers_and_columns(rt: HostRuntime) -> Result<(), Fail> {
-    let alloc = rt.alloc();
-    let unindexed = schema(alloc, FieldKind::U64, IndexOption::No, false)?;
-    assert_eq!(rt; built(alloc, &unindexed), Ok(7));
-    let indexed = schema(alloc, FieldKind::U64, IndexOption::Basic, false)?;
-    assert_eq!(rt; built(alloc, &indexed), Ok(7));
-    let of_json = schema(alloc, FieldKind::Json, IndexOption::Basic, false)?;
-    assert_eq!(rt; built(alloc, &of_json), Ok(7));
-    let later = Err(TantivyError::InvalidArgument(ArgumentCause::Later));
-    let of_facets = schema(alloc, FieldKind::Facet, IndexOption::Basic, false)?;
-    assert_eq!(rt; built(alloc, &of_facets), later);
-    let with_column = schema(alloc, FieldKind::Text, IndexOption::Freqs, true)?;
-    assert_eq!(rt; built(alloc, &with_column), later);
-    Ok(())
-}
-
-#[test]
-fn a_number_for_a_text(rt: HostRuntime) -> Result<(), Fail> {
-    let alloc = rt.alloc();
-    let texts = schema(alloc, FieldKind::Text, IndexOption::Freqs, false)?;
-    let field = Field::from_field_id(0);
-    let wrong = Err(TantivyError::SchemaError(SchemaCause::WrongValue { at: 0, field }));
-    assert_eq!(rt; built(alloc, &texts), wrong);
-    Ok(())
 }
 
 /// As those, and the same document once more.
@@ -206,7 +129,7 @@ fn documents_merged(alloc: Global, schema: &Schema) -> TResult<Option<u32>> {
 #[test]
 fn two_segments_are_merged(rt: HostRuntime) -> Result<(), Fail> {
     let alloc = rt.alloc();
-    let unindexed = schema(alloc, FieldKind::U64, IndexOption::No, false)?;
-    assert_eq!(rt; documents_merged(alloc, &unindexed), Ok(Some(2)));
+    let schema = one_number(alloc)?;
+    assert_eq!(rt; documents_merged(alloc, &schema), Ok(Some(2)));
     Ok(())
 }
