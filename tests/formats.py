@@ -239,16 +239,7 @@ def alive_set(data):
     return [bit == 1 for bit in bits[:documents]]
 
 
-# ---- columns and the store
-
-def number_of_rows(data):
-    reader = Reader(data)
-    check(reader.u64() == 0 and reader.u64() == 8, 'there are columns, which are not read yet')
-    rows = reader.u32()
-    check(reader.u32() == 1, 'the version is not 1')
-    reader.end()
-    return rows
-
+# ---- the store
 
 def block(data):
     """The bytes of each document of a block."""
@@ -257,18 +248,24 @@ def block(data):
     return cut(body, [ends.u64() for _ in range(count)])
 
 
-def store(data):
-    """The bytes of each stored document."""
+def store_blocks(data):
+    """The blocks of a store, each the bytes of its documents."""
     body, count, table = split_table(data, 9, 12)
     checkpoints = [(table.u32(), table.u64()) for _ in range(count)]
     table.u32()
-    documents, compression, stored = table.u32(), table.take(1)[0], []
+    documents, compression, blocks, stored = table.u32(), table.take(1)[0], [], 0
     check(compression == 0, 'the store is compressed')
     for (last, _), piece in zip(checkpoints, cut(body, [end for _, end in checkpoints])):
-        stored += block(piece)
-        check(len(stored) == last, 'a checkpoint tells another number of documents')
-    check(len(stored) == documents, 'the store tells another number of documents')
-    return stored
+        blocks.append(block(piece))
+        stored += len(blocks[-1])
+        check(stored == last, 'a checkpoint tells another number of documents')
+    check(stored == documents, 'the store tells another number of documents')
+    return blocks
+
+
+def store(data):
+    """The bytes of each stored document."""
+    return [document for documents in store_blocks(data) for document in documents]
 
 
 def token(reader):

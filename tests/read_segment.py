@@ -10,7 +10,16 @@ from contextlib import contextmanager
 from pathlib import Path
 
 import formats
+from columns import columns as read_columns
 from formats import COUNTS, POSITIONS, Malformed, check
+
+# so many blocks at least stay as they are in a merge, where no document is dead
+LEAST_STACKED = 6
+
+# the type of the column of a fast field, by its kind; JSON fields have columns by their values
+COLUMN_TYPES = {
+    'text': 'Str', 'facet': 'Str', 'u64': 'U64', 'i64': 'I64', 'bool': 'Bool', 'date': 'DateTime', 'bytes': 'Bytes', 'ip': 'IpAddr',
+}
 
 
 @contextmanager
@@ -125,13 +134,14 @@ def meta_of(data):
 class Segment:
     """What the six files of a segment hold, and which of its documents are alive, all of it checked."""
 
-    def __init__(self, read, schema, listed):
-        self.read, self.schema, self.id, self.max_doc = read, schema, listed['segment_id'], listed['max_doc']
-        check(not any(e['fast'] and e['kind'] != 'json' for e in schema), f'{self.id}: columns are not read yet')
+    def __init__(self, read, meta, listed):
+        self.read, self.id, self.max_doc = read, listed['segment_id'], listed['max_doc']
+        self.schema = schema = meta['schema']
+        self.block_size = meta['index_settings']['docstore_blocksize']
         indexed = [at for at, entry in enumerate(schema) if entry['index'] != 'no']
         self.norms = self.parts('fieldnorm', [at for at in indexed if schema[at]['norms']])
         self.check_norms()
-        self.check_rows()
+        self.columns = self.read_columns()
         self.terms = self.read_terms(self.parts('term', indexed))
         self.totals = self.read_postings(self.parts('idx', indexed))
         self.read_positions(self.parts('pos', indexed))
@@ -155,9 +165,12 @@ class Segment:
             for part in self.norms.values():
                 check(len(part) == self.max_doc, 'a part has more or fewer length ids than documents')
 
-    def check_rows(self):
+    def read_columns(self):
         with reading(self.name('fast')):
-            check(formats.number_of_rows(self.bytes_of('fast')) == self.max_doc, 'the number of rows is not max_doc')
+            rows, columns = read_columns(self.bytes_of('fast'))
+            check(rows == self.max_doc, 'the number of rows is not max_doc')
+            check_columns(self.schema, columns)
+            return columns
 
     def read_terms(self, parts):
         with reading(self.name('term')):
@@ -180,9 +193,13 @@ class Segment:
 
     def read_store(self):
         with reading(self.name('store')):
-            stored = formats.store(self.bytes_of('store'))
+            self.blocks = formats.store_blocks(self.bytes_of('store'))
+            stored = self.raw_documents()
             check(len(stored) == self.max_doc, 'the number of documents is not max_doc')
             return [formats.stored_document(data, self.schema) for data in stored]
+
+    def raw_documents(self):
+        return [document for block in self.blocks for document in block]
 
     def read_alive(self, deletes):
         if deletes is None:
@@ -204,18 +221,70 @@ class Segment:
                     formats.check_lengths(self.schema[at], terms, self.norms[at])
 
     def check_merged_from(self, segments):
-        """What holds besides where the segment was merged from these, without filters: the token totals."""
+        """What holds besides where the segment was merged from these, without filters: the blocks of the store and the
+        token totals."""
+        with reading(self.name('store')):
+            check(self.blocks == merged_blocks(segments, self.block_size), 'the blocks are not those of the segments')
         for at, total in self.totals.items():
             with reading(self.name('idx')):
                 merged = sum(formats.live_tokens(s.totals[at], s.norms.get(at), s.alive) for s in segments if any(s.alive))
                 check(total == min(merged, formats.MAX_TOTAL), f'the token total of field {at} is {total} and not {merged}')
 
 
+def check_columns(schema, columns):
+    """Whether these are columns under a schema: those that it declares are there, and each other one has a value and is of
+    a JSON field."""
+    fast = [entry for entry in schema if entry['fast']]
+    declared = {(entry['name'], COLUMN_TYPES[entry['kind']]) for entry in fast if entry['kind'] != 'json'}
+    names = [entry['name'] for entry in fast if entry['kind'] == 'json']
+    check(declared <= {(column.path, column.type) for column in columns}, 'a declared column is not there')
+    for column in columns:
+        if (column.path, column.type) not in declared:
+            check(any(column.rows), 'a column that is not declared has no value')
+            check(column.type not in ('Bytes', 'IpAddr'), 'a column of a JSON field has a type that JSON has not')
+            check(any(f'{column.path}\1'.startswith(f'{name}\1') for name in names), 'a column is of no fast field')
+
+
+class BlockWriter:
+    """Cuts documents into blocks."""
+
+    def __init__(self, block_size):
+        self.block_size, self.blocks, self.opened = block_size, [], []
+
+    def close(self):
+        if self.opened:
+            self.blocks.append(self.opened)
+        self.opened = []
+
+    def add(self, document):
+        self.opened.append(document)
+        if sum(map(len, self.opened)) >= self.block_size:
+            self.close()
+
+    def stack(self, blocks):
+        self.close()
+        self.blocks += blocks
+
+
+def merged_blocks(segments, block_size):
+    """The blocks of the store that segments are merged to."""
+    merged = BlockWriter(block_size)
+    for segment in segments:
+        if all(segment.alive) and len(segment.blocks) >= LEAST_STACKED:
+            merged.stack(segment.blocks)
+            continue
+        for document, is_alive in zip(segment.raw_documents(), segment.alive):
+            if is_alive:
+                merged.add(document)
+    merged.close()
+    return merged.blocks
+
+
 def read_index(read):
     """The segments of an index, whose files `read` answers by their names."""
     with reading('meta.json'):
         meta = meta_of(bytes_of(read, 'meta.json'))
-    return [Segment(read, meta['schema'], listed) for listed in meta['segments']]
+    return [Segment(read, meta, listed) for listed in meta['segments']]
 
 
 # ---- the printed text
@@ -238,6 +307,11 @@ def posting_text(term, place):
     return text
 
 
+def column_line(column):
+    rows = [f'{row}:' + ','.join(map(json_text, values)) for row, values in enumerate(column.rows) if values]
+    return ' '.join([f'column {json_text(column.path)} {column.type}', *rows])
+
+
 def segment_text(segment, label, is_full=False):
     lines = [f'{label} {segment.id} docs {segment.max_doc} alive {segment.alive.count(True)}']
     dead = [document for document, is_alive in enumerate(segment.alive) if not is_alive]
@@ -248,6 +322,7 @@ def segment_text(segment, label, is_full=False):
         for term in terms:
             lines.append(term_text(term.key) + ''.join(posting_text(term, place) for place in range(len(term.counts))))
     lines += [f'doc {document} {json_text(pairs)}' for document, pairs in enumerate(segment.stored)]
+    lines += [column_line(column) for column in segment.columns if is_full]
     for at, ids in segment.norms.items() if is_full else []:
         lines.append(' '.join([f'norms {json_text(segment.schema[at]["name"])}', *map(str, ids)]))
     return ''.join(line + '\n' for line in lines)
@@ -262,10 +337,10 @@ def main():
     parser = argparse.ArgumentParser(description='Reads the segments of a folder by docs/FORMATS.md and prints them.')
     parser.add_argument('folder', nargs='?', type=Path, help='the folder with meta.json')
     parser.add_argument('label', nargs='?', default='work', help='the word before the id of a segment (work)')
-    parser.add_argument('--full', action='store_true', help='print the length ids too')
+    parser.add_argument('--full', action='store_true', help='print the columns and the length ids too')
     parser.add_argument('--totals', action='store_true', help='print the token total of each field too, which the program does not')
     parser.add_argument('--from-documents', action='store_true', help='check the token totals and the lengths too, of segments that no merge made')
-    parser.add_argument('--merged-from', type=Path, metavar='WORK', help='check the token totals too, of a segment that the segments of this folder were merged into, without filters')
+    parser.add_argument('--merged-from', type=Path, metavar='WORK', help='check the blocks of the store and the token totals too, of a segment that the segments of this folder were merged into, without filters')
     parser.add_argument('--self-test', action='store_true', help='read the segment that docs/FORMATS.md gives in bytes, and damaged ones')
     words = parser.parse_args()
     if words.self_test:

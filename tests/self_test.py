@@ -4,6 +4,7 @@ import re
 from pathlib import Path
 
 import formats
+from columns import columns
 from formats import COUNTS, DOCUMENTS, POSITIONS, Malformed, Reader, Term
 from read_segment import read_index, segment_text, totals_text
 
@@ -128,6 +129,31 @@ TOTALS = [
 ]
 
 
+# numbers of eight bytes, and a dictionary behind them; path and type; and the values of each of two rows
+DICTIONARY = [2, 1, 2], b'ab'
+COLUMNS = [
+    ([1, 1, 2 ** 63 + 5], b'', b'n', 0, [[5], []]), ([0, 2, 7, 7], b'', b'n', 1, [[], [7, 7]]), ([1, 2, 0, 1], b'', b'n', 4, [[False], [True]]),
+    ([0, 0], b'', b'n', 5, [[], []]), ([0, 1], bytes(10) + b'\xff\xff\x7f\0\0\1', b'n', 5, [[], ['127.0.0.1']]),
+    ([1, 1, 2 ** 63 + 5 * 10 ** 8], b'', b'n', 6, [['1970-01-01T00:00:00.5Z'], []]),
+    ([2, 3, 1, 0, 1, *DICTIONARY[0]], DICTIONARY[1], b'n', 3, [['b', 'a'], ['b']]), ([1, 2, 0, 1, *DICTIONARY[0]], DICTIONARY[1], b'n', 2, [['YQ=='], ['Yg==']]),
+    ([1, 1, 5], b'0', b'n', 1, None), ([1, 0, 5], b'', b'n', 1, None), ([1, 1], b'', b'n', 1, None), ([1, 1, 2], b'', b'n', 4, None), ([0, 0], b'', b'n', 7, None),
+    ([0, 0], b'', b'\xff', 1, None), ([1, 2, 0, 0, *DICTIONARY[0]], DICTIONARY[1], b'n', 3, None), ([1, 2, 0, 1, *DICTIONARY[0]], b'ba', b'n', 3, None),
+    ([1, 2, 0, 1, *DICTIONARY[0]], b'a\xff', b'n', 3, None), ([1, 2, 0, 2 ** 40], b'', b'n', 3, None),
+]
+
+
+def u64s(*numbers):
+    return b''.join(number.to_bytes(8, 'little') for number in numbers)
+
+
+def rows_of(numbers, rest, path, type):
+    """The values of the one column of a file with two rows."""
+    data = u64s(*numbers) + rest
+    table = u64s(1, len(path)) + path + bytes([type]) + u64s(len(data))
+    rows, (column,) = columns(data + table + u64s(len(table)) + bytes.fromhex('0200000001000000'))
+    return column.rows
+
+
 def alive_of(data):
     return [document for document, is_alive in enumerate(formats.alive_set(data)) if is_alive]
 
@@ -170,6 +196,8 @@ def run():
         expect(said == f'{name}: {rule}', f'{name} with byte {at} set to {byte}: {said}')
     for form, alive in ALIVE_SETS:
         expect(or_none(alive_of, bytes.fromhex(form)) == alive, f'the alive set {form}')
+    for *given, rows in COLUMNS:
+        expect(or_none(rows_of, *given) == rows, f'the column {given}: {or_none(rows_of, *given)}')
     for form, number in VARINTS:
         expect(or_none(Reader(bytes.fromhex(form)).varint) == number, f'the varint {form}')
     for form, shown in VALUES:
