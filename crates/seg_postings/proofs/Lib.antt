@@ -9,6 +9,8 @@ mod FieldMap
 mod FieldRead
 mod FieldSteps
 mod FormedTerms
+mod JsonHeads
+mod JsonRuns
 mod KeptTerms
 mod KindLemmas
 mod LastInfo
@@ -17,8 +19,10 @@ mod OpenedFields
 mod PassedPositions
 mod PostingsBack
 mod PostingsSteps
+mod RangeSums
 mod ReadRising
 mod RisingPositions
+mod SpaceSteps
 mod StreamedTerms
 mod Streams
 mod TermReads

@@ -5,6 +5,8 @@ pub mod FieldReading
 pub mod FieldWriting
 pub mod Files
 pub mod HeldTerms
+pub mod JsonRuns
+pub mod JsonSpaces
 pub mod Kinds
 pub mod Passing
 pub mod Postings
@@ -12,5 +14,6 @@ pub mod PostingsAlone
 pub mod PostingsForm
 pub mod PostingsLeft
 pub mod PostingsReading
+pub mod RangesFollow
 pub mod TermForms
 pub mod Written

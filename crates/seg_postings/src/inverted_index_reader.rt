@@ -1,10 +1,16 @@
 //! A field that is open.
-ghost use Rattle.std.specs.Prelude.{◌≡◌, [], map, length, IfOk, IfErr};
+ghost use Rattle.std.specs.Prelude.{◌≡◌, true, [], map, length, IfOk, IfErr};
 ghost use Rattle.std.specs.FinMap.{entries};
-ghost use Rattle.std.specs.List.{AllByRecursion, Any};
+ghost use Rattle.std.specs.List.{AllByRecursion, Any, list_all};
+ghost use Rattle.seg_values.specs.declared.schema.FieldKind.TheVariants as kinds;
 ghost use Rattle.seg_postings.specs.FieldReading.{IsReadable, read_term, dictionary_terms, written_terms};
 ghost use Rattle.seg_postings.specs.HeldTerms.{terms_held};
+ghost use Rattle.seg_postings.specs.JsonSpaces.{AreSpaces};
+ghost use Rattle.seg_postings.specs.RangesFollow.{RangesFollow};
+ghost use Rattle.seg_postings.specs.TermForms.{is_formed};
 
+use crate::field_space::InvertedIndexFieldSpace;
+use crate::json_spaces::json_spaces;
 use crate::range::bytes_in;
 use crate::segment_postings::SegmentPostings;
 use seg_common::{OwnedBytes, TermInfo};
@@ -27,12 +33,13 @@ impl Model for InvertedIndexReader {
     ghost use Rattle.std.specs.Prelude.{map};
     ghost use Rattle.std.specs.List.{AllByRecursion};
     ghost use Rattle.seg_postings.specs.FieldReading.{OpenField, IsReadable, read_term};
+    ghost use Rattle.seg_postings.specs.RangesFollow.{RangesFollow};
 
     ghost Value = { OpenField };
 
     ghost view = { λ r. record { total = r.total; terms = map (read_term r.postings r.positions) r.terms } };
 
-    ghost invariant = { λ r. AllByRecursion (IsReadable r.postings r.positions) r.terms };
+    ghost invariant = { λ r. AllByRecursion (IsReadable r.postings r.positions) r.terms × RangesFollow r.terms };
 }
 
 impl InvertedIndexReader {
@@ -58,7 +65,8 @@ impl InvertedIndexReader {
         postings: OwnedBytes,
         positions: OwnedBytes,
     ) -> InvertedIndexReader
-        requires { AllByRecursion (IsReadable postings positions) terms }
+        requires read { AllByRecursion (IsReadable postings positions) terms }
+        requires follow { RangesFollow terms }
         ensures { result ≡ record { total = total; terms = map (read_term postings positions) terms } }
     {
         InvertedIndexReader {
@@ -108,5 +116,21 @@ impl InvertedIndexReader {
         ensures { result ≡ self.now.total }
     {
         self.total
+    }
+
+    /// The paths and types of the terms of a JSON field, with the space that the terms of each take.
+    pub fn list_encoded_json_fields(
+        &self,
+        alloc: Global,
+    ) -> Result<Vec<InvertedIndexFieldSpace>, PostingsError>
+        requires { list_all (is_formed kinds.Json) (dictionary_terms self.now) ≡ true }
+        ensures ok { IfOk result (λ spaces. AreSpaces (dictionary_terms self.now) spaces.items) }
+        ensures err { IfErr result (λ e. e ≡ PostingsError.OutOfMemory) }
+    {
+        self.terms.keys_ascend();
+        let Ok(spaces) = json_spaces(alloc, &self.terms) else {
+            return Err(PostingsError::OutOfMemory);
+        };
+        Ok(spaces)
     }
 }

@@ -9,7 +9,7 @@
 //! To be read in this order: `record_kind`, `occurrence` (the bytes of a document), `open_term`, `field_parts`,
 //! `field_serializer`, `inverted_index_serializer`; `documents` (what is at the front of bytes), `postings_check`,
 //! `asked_kind`, `term_form`, `range`, `terms_check`, `last_term`, `field_terms`, `field_postings`, `segment_postings`,
-//! `inverted_index_reader`; `laws`.
+//! `field_space`, `json_spaces`, `inverted_index_reader`; `laws`.
 #![tactic(auto)]
 
 mod asked_kind;
@@ -17,9 +17,11 @@ mod documents;
 mod field_parts;
 mod field_postings;
 mod field_serializer;
+mod field_space;
 mod field_terms;
 mod inverted_index_reader;
 mod inverted_index_serializer;
+mod json_spaces;
 mod last_term;
 mod laws;
 mod occurrence;
@@ -35,6 +37,7 @@ pub use asked_kind::AskedKind;
 pub use documents::TERMINATED;
 pub use field_postings::FieldPostings;
 pub use field_serializer::FieldSerializer;
+pub use field_space::InvertedIndexFieldSpace;
 pub use field_terms::FieldTerms;
 pub use inverted_index_reader::InvertedIndexReader;
 pub use inverted_index_serializer::{InvertedIndexSerializer, PostingsFiles};

@@ -53,7 +53,7 @@ fn is_utf8(bytes: &[u8]) -> bool
 }
 
 /// The bytes before the first byte 0; all of them if there is none.
-fn path_part(bytes: &[u8]) -> &[u8]
+pub(crate) fn path_part(bytes: &[u8]) -> &[u8]
     ensures { result.now ≡ shape.path_part bytes.now }
 {
     for at in 0..bytes.len() {

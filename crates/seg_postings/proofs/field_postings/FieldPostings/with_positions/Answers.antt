@@ -5,6 +5,8 @@ use Rattle.seg_termdict.specs.Building.{last_term, positions_end}
 use Rattle.seg_values.specs.declared.postings_error.PostingsError.TheVariants.{Malformed, OutOfMemory}
 use Rattle.seg_postings.specs.FieldWriting.{TermWritten}
 use Rattle.seg_postings.specs.FieldReading.{FirstParts, IsFieldBy, written_terms, dictionary_terms}
+use Rattle.seg_postings.specs.RangesFollow.{RangesFollow}
+use Rattle.seg_postings.proofs.RangeSums.{ranges_follow}
 use Rattle.seg_postings.proofs.OpenedFields.{behind_total, lie_within, no_field_by, are_readable, opened, its_terms}
 use Rattle.seg_postings.proofs.field_postings.FieldPostings.with_positions.Goals as goal
 
@@ -23,12 +25,17 @@ returns-then-not-branch-clause-err c =
     subst (λ (v : FirstParts). (Malformed ≡ OutOfMemory) ⊎ ((Malformed ≡ Malformed) × ((total : ℕ) (terms : List TermWritten) → IsFieldBy v.rules v.dictionary v.postings c.args.positions total terms → ⊥))) c.self.view_is
     (inr (refl, no_field_by s.field.rules s.field.dictionary s.postings c.args.positions c.terms.ensures.dictionary c.self.invariant.0 c.self.invariant.1 fill c.as_slice-2.result.now c.as_slice-3.result.now body c.as_slice-3.ensures (sym c.in_ok-are_terms.ensures.ok ∙ c.if-not-branch.true)))
 
-pub new-requires : goal.new-requires
-new-requires c =
+pub new-requires-clause-read : goal.new-requires-clause-read
+new-requires-clause-read c =
     let s = c.self.inside in
     let fill : positions_end (last_term None (terms_of s.field.dictionary)) ≡ length c.args.positions = ap (λ (ts : List Term). positions_end (last_term None ts)) (sym c.terms.ensures.terms) ∙ sym c.last_positions_end.ensures ∙ c.if-last_positions_end-len.false ∙ c.len.ensures in
     let body : c.as_slice-2.result.now ≡ drop 8 s.postings = behind_total s.postings c.as_slice-2.result.now c.slice-postings.result c.len-2.result c.self.invariant.0 c.len-2.ensures c.slice-postings.ensures c.as_slice-2.ensures in
     are_readable s.field.rules s.field.dictionary s.postings c.args.positions c.terms.ensures.dictionary c.self.invariant.0 c.self.invariant.1 fill c.as_slice-2.result.now c.as_slice-3.result.now body c.as_slice-3.ensures (sym c.in_ok-are_terms.ensures.ok ∙ c.if-not-branch.false) c.slice-postings.result c.into_terms.result c.as_slice-2.ensures c.into_terms.ensures
+
+pub new-requires-clause-follow : goal.new-requires-clause-follow
+new-requires-clause-follow c =
+    let s = c.self.inside in
+    subst RangesFollow (sym c.into_terms.ensures) (ranges_follow s.field.dictionary c.terms.ensures.dictionary.is_dictionary)
 
 pub returns-clause-ok : goal.returns-clause-ok
 returns-clause-ok c =
