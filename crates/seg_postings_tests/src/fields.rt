@@ -87,7 +87,7 @@ pub(crate) const WITH_DOCUMENTS: Parts<'static> = Parts {
     positions: &[],
 };
 
-fn owned(alloc: Global, bytes: &[u8]) -> Result<OwnedBytes, PostingsError> {
+pub(crate) fn owned(alloc: Global, bytes: &[u8]) -> Result<OwnedBytes, PostingsError> {
     match OwnedBytes::new(alloc, bytes) {
         Ok(bytes) => Ok(bytes),
         Err(_) => Err(PostingsError::OutOfMemory),

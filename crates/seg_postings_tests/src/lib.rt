@@ -6,6 +6,8 @@ mod alive;
 #[cfg(test)]
 mod fields;
 #[cfg(test)]
+mod json_spaces;
+#[cfg(test)]
 mod norms;
 #[cfg(test)]
 mod reading;
