@@ -90,3 +90,21 @@ fn a_serializer_makes_six_files(rt: HostRuntime) -> Result<(), Fail> {
     assert!(rt; list_files(rt.alloc(), &mut directory) == Ok(6));
     Ok(())
 }
+
+/// Whether what lengths are written to is handed out once, and nothing was stored or written.
+fn has_components(alloc: Global) -> TResult<bool> {
+    let segment = segment(title_body(alloc)?, 0);
+    let mut serializer = SegmentSerializer::for_segment(alloc, segment, &settings(16))?;
+    let first = serializer.extract_fieldnorms_serializer().is_some();
+    let again = serializer.extract_fieldnorms_serializer().is_some();
+    serializer.put_fieldnorms(Vec::new(alloc));
+    let _postings = serializer.get_postings_serializer();
+    let columns = serializer.get_fast_field_write().len();
+    let stored = serializer.get_store_writer().mem_usage();
+    Ok(first && !again && columns == 0 && stored == 0 && serializer.mem_usage() == 0)
+}
+
+#[test]
+fn components_are_lent(rt: HostRuntime) {
+    assert!(rt; has_components(rt.alloc()) == Ok(true));
+}

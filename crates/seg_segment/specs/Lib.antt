@@ -5,6 +5,7 @@ pub mod HoldTerms
 pub mod Holds
 pub mod HoldsAlive
 pub mod Laws
+pub mod Lending
 pub mod LengthsWritten
 pub mod MadeFiles
 pub mod SegmentFiles

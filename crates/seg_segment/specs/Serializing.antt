@@ -1,6 +1,6 @@
 -- A serializer of a segment, and the files that it leaves.
 use Rattle.std.specs.Prelude.{◌≡◌, ℕ, List, [], Option, Some, None, Result, Err}
-use Rattle.seg_directory.specs.Composite.{composite}
+use Rattle.seg_directory.specs.Composite.{Part, composite}
 use Rattle.seg_directory.specs.State.{DirectoryState}
 use Rattle.seg_directory.specs.Works.{Works}
 use Rattle.seg_meta.specs.Metas.{SegmentParts}
@@ -12,12 +12,14 @@ use Rattle.seg_values.specs.declared.error.TantivyError.TheVariants.{OutOfMemory
 use Rattle.seg_segment.specs.SegmentFiles.{write_steps}
 use Rattle.seg_segment.specs.declared.segment_files.SegmentFiles.{SegmentFiles}
 
--- the segment, and what its components have: parts of fields and stored documents, of which nothing is left once out of memory, the bytes of the columns, and those of the lengths where they were put
+-- the segment, and what its components have: parts of fields and stored documents, of which nothing is left once out of memory,
+-- the bytes of the columns, a serializer of lengths until it is taken, and the bytes of the lengths where they were put
 pub record Serializing : Type 0 where
   pub segment : SegmentParts
   pub postings : Option FieldFiles
   pub store : Option Taken
   pub fast : List ℕ
+  pub lengths : Option (Option (List Part))
   pub norms : Option (List ℕ)
 
 -- nothing yet, with blocks that are closed once they have this many bytes
@@ -27,12 +29,20 @@ unfilled segment block_size = record {
   postings = Some no_fields;
   store = Some (record { block_size = block_size; closed = []; open_block = [] });
   fast = [];
+  lengths = Some (Some []);
   norms = None;
 }
 
 -- these are all that the components are to hold
 abbrev pub filled_with : SegmentParts → Option FieldFiles → Option Taken → List ℕ → List ℕ → Serializing
-filled_with segment postings store fast norms = record { segment = segment; postings = postings; store = store; fast = fast; norms = Some norms }
+filled_with segment postings store fast norms = record {
+  segment = segment;
+  postings = postings;
+  store = store;
+  fast = fast;
+  lengths = None;
+  norms = Some norms;
+}
 
 -- the file of lengths: those that were put, or else a composite without parts
 abbrev pub IsNormsFile : Option (List ℕ) → List ℕ → Type 0

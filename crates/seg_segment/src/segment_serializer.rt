@@ -1,6 +1,10 @@
 //! The serializer of a segment.
-ghost use Rattle.std.specs.Prelude.{◌≡◌, ◌≢◌, ◌⊎◌, ◌↔◌, true, Err, option_map, IfOk, IfErr, IsTrue};
+ghost use Rattle.std.specs.Prelude.{◌≡◌, ◌≢◌, ◌⊎◌, ◌↔◌, true, Err, Some, None, option_map, IfOk, IfErr, IsTrue};
 ghost use Rattle.seg_directory.specs.DiskRuns.{KeepsOnDisk};
+ghost use Rattle.std.specs.Borrow.{Lends, sem};
+ghost use Rattle.seg_store.specs.Writing.{taken_bytes};
+ghost use Rattle.seg_segment.specs.Lending.{LendsPostings, LendsStore, bytes_row};
+ghost use Rattle.seg_segment.specs.contracts.segment_serializer.SegmentSerializer.{the_row};
 ghost use Rattle.seg_segment.specs.SegmentFiles.{IsOtherName};
 ghost use Rattle.seg_segment.specs.Serializing.{IsNormsFile};
 
@@ -22,6 +26,7 @@ pub struct SegmentSerializer {
     postings: InvertedIndexSerializer,
     store: StoreWriter,
     fast: Vec<u8>,
+    lengths: Option<FieldNormsSerializer>,
     norms: Option<Vec<u8>>,
 }
 
@@ -36,6 +41,7 @@ impl Model for SegmentSerializer {
       postings = s.postings;
       store = s.store;
       fast = s.fast.items;
+      lengths = s.lengths;
       norms = option_map (λ v. v.items) s.norms;
     } };
 }
@@ -68,6 +74,7 @@ impl SegmentSerializer {
             postings: InvertedIndexSerializer::new(alloc),
             store,
             fast: Vec::new(alloc),
+            lengths: Some(FieldNormsSerializer::new(alloc)),
             norms: None,
         })
     }
@@ -89,6 +96,7 @@ impl SegmentSerializer {
             postings,
             store,
             fast,
+            lengths: None,
             norms: Some(norms),
         }
     }
@@ -98,6 +106,53 @@ impl SegmentSerializer {
         ensures { result.now ≡ self.now.segment }
     {
         &self.segment
+    }
+
+    /// How many bytes the stored documents have that were taken.
+    pub fn mem_usage(&self) -> usize
+        ensures { result ≡ taken_bytes self.now.store }
+    {
+        self.store.mem_usage()
+    }
+
+    /// What the postings of the fields are written to.
+    pub fn get_postings_serializer(&mut self) -> &mut InvertedIndexSerializer
+        ensures* writes_back { sem 𝓛 (LendsPostings self.entry result) }
+        ensures value { result.now ≡ self.old.postings }
+    {
+        &mut self.postings
+    }
+
+    /// What the documents are stored in.
+    pub fn get_store_writer(&mut self) -> &mut StoreWriter
+        ensures* writes_back { sem 𝓛 (LendsStore self.entry result) }
+        ensures value { result.now ≡ self.old.store }
+    {
+        &mut self.store
+    }
+
+    /// The bytes of the columns.
+    pub fn get_fast_field_write(&mut self) -> &mut Vec<u8>
+        ensures* writes_back { sem 𝓛 (Lends the_row bytes_row self.entry result (λ v. record self.old { fast = v.items })) }
+        ensures value { result.now.items ≡ self.old.fast }
+    {
+        &mut self.fast
+    }
+
+    /// What the lengths of the fields are written to, the first time; nothing from then on. Its file is given back by
+    /// `put_fieldnorms`.
+    pub fn extract_fieldnorms_serializer(&mut self) -> Option<FieldNormsSerializer>
+        ensures taken { result ≡ self.old.lengths }
+        ensures rest { self.new ≡ record self.old { lengths = None } }
+    {
+        self.lengths.take()
+    }
+
+    /// Puts the file of the lengths, in place of one that was put before.
+    pub fn put_fieldnorms(&mut self, bytes: Vec<u8>)
+        ensures { self.new ≡ record self.old { norms = Some bytes.items } }
+    {
+        self.norms = Some(bytes);
     }
 
     /// The segment, and the writer of its store, with what this has taken: for a serializer whose other components have
@@ -134,6 +189,7 @@ impl SegmentSerializer {
             postings,
             store,
             fast,
+            lengths: _,
             norms,
         } = self;
         let Ok(norms) = norms_or_none(alloc, norms) else {
