@@ -1,12 +1,12 @@
 -- Keys with numbers of paths, and the terms that they are.
-use Rattle.std.proofs.Common.{◌≡◌, ℕ, ◌+◌, ◌<◌, ◌≤◌, ◌^◌, Bool, true, false, cond, List, [], ◌∷◌, ◌++◌, map}
-use Rattle.std.proofs.Common.{length, get_or, drop, refl, sym, ap, ◌∙◌, subst, arith}
+use Rattle.std.proofs.Common.{◌≡◌, ℕ, ◌+◌, ◌<◌, ◌^◌, Bool, true, false, cond, List, [], ◌∷◌, ◌++◌, map}
+use Rattle.std.proofs.Common.{length, get_or, drop, refl, sym, ap, ◌∙◌, subst}
 use Rattle.std.specs.Prelude.{not, ◌||◌, Result, Ok, Err, OnOk}
 use Rattle.std.specs.Cmp.Lexicographic.{bytes_decides}
 use Rattle.std.specs.List.{AllByRecursion, IsDistinct, list_any}
 use Rattle.std.specs.Str.{bytes_eq}
 use Rattle.std.proofs.lemmas.Bool.{false≢true}
-use Rattle.std.proofs.lemmas.List.{get_or_append_left, length-append, length-map, map_push}
+use Rattle.std.proofs.lemmas.List.{get_or_append_left, length-map, map_push}
 use Rattle.std.proofs.lemmas.Nat.{from_le_bytes-to_le_bytes_4}
 use Rattle.seg_paths.specs.Paths.{Extends, HaveNoZero}
 use Rattle.seg_paths.proofs.Exports.{ended-apart, no_zero-at, same_place}
@@ -42,15 +42,6 @@ module _ (count : ℕ) (key : List ℕ) (is : IsPathKey count key) where
 
   pub rest-of : drop 4 key ≡ is.rest
   rest-of = ap (drop 4) is.is ∙ rest-kept is.number is.rest
-
-pub more-paths : (few many : ℕ) (key : List ℕ) → few ≤ many → IsPathKey few key → IsPathKey many key
-more-paths few many key le is = record {
-  number = is.number;
-  rest = is.rest;
-  is = is.is;
-  within = let within = is.within in omega (arith, within, le);
-  small = is.small;
-}
 
 -- ---- two keys are two terms
 
@@ -122,16 +113,7 @@ module _ (paths : List (List ℕ)) (plain : HaveNoZero paths) (distinct : IsDist
 
 -- ---- more paths
 
-pub all-more : (few many : ℕ) (keys : List (List ℕ)) → few ≤ many → AllByRecursion (IsPathKey few) keys
-    → AllByRecursion (IsPathKey many) keys
-all-more few many [] le all = tt
-all-more few many (k ∷ ks) le all = (more-paths few many k le all.0, all-more few many ks le all.1)
-
 module _ (old new : List (List ℕ)) (more : Extends old new) where
-  pub longer : length old ≤ length new
-  longer = let many : length new ≡ length old + length more.0 = ap length more.1 ∙ length-append old more.0 in
-      omega (arith, many)
-
   same-terms : (keys : List (List ℕ)) → AllByRecursion (IsPathKey (length old)) keys
       → map (term_on new) keys ≡ map (term_on old) keys
   same-terms [] all = refl
@@ -146,15 +128,9 @@ module _ (old new : List (List ℕ)) (more : Extends old new) where
 module _ (known : KnownTerms) (old new : List (List ℕ)) (index : TermsOnPaths) (more : Extends old new)
     (seen : record { paths = old; terms = numbered_terms (map (term_on old) known.keys.keys) known.hits.items } ≡ index)
     (all : AllByRecursion (IsPathKey (length old)) known.keys.keys) where
-  pub still_kept : AllByRecursion (IsPathKey (length new)) known.keys.keys
-  still_kept = all-more (length old) (length new) known.keys.keys (longer old new more) all
-
   pub terms_stay : numbered_terms (map (term_on new) known.keys.keys) known.hits.items ≡ index.terms
   terms_stay = ap (λ ks. numbered_terms ks known.hits.items) (same-terms old new more known.keys.keys all)
       ∙ ap (λ (x : TermsOnPaths). x.terms) seen
-
-  pub paths_extend : Extends index.paths new
-  paths_extend = subst (λ ps. Extends ps new) (ap (λ (x : TermsOnPaths). x.paths) seen) more
 
 -- ---- one more occurrence
 
