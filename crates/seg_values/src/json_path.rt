@@ -6,8 +6,18 @@ ghost use Rattle.seg_values.specs.JsonPathTexts.{path_keys, keys_in, before_firs
 use seg_common::JsonPathWriter;
 use std::alloc::{AllocError, Global};
 
-/// What a term of a JSON field begins with: the path that a text names, and a byte 0. The path's keys stand between
-/// dots, and `\.` is a dot in a key. Any other backslash stands for itself, so `\\.` is a backslash and a dot.
+/// The path that a text names, with U+0001 between each two keys, as terms and columns have it. In the text the keys
+/// stand between dots, and `\.` is a dot in a key. Any other backslash stands for itself, so `\\.` is a backslash and a
+/// dot.
+pub fn json_path_text(alloc: Global, text: &str, expand_dots: bool) -> Result<String, AllocError>
+    ensures { IfOk result (λ path. string_bytes path ≡ joined_path expand_dots (path_keys text.now)) }
+{
+    let path = path_from(alloc, text, expand_dots)?;
+    let copy = String::from_str(alloc, path.as_str())?;
+    Ok(copy)
+}
+
+/// What a term of a JSON field begins with: the path that a text names, and a byte 0.
 pub(crate) fn path_bytes(
     alloc: Global,
     text: &str,
@@ -15,7 +25,7 @@ pub(crate) fn path_bytes(
 ) -> Result<Vec<u8>, AllocError>
     ensures { IfOk result (λ bytes. bytes.items ≡ joined_path expand_dots (path_keys text.now) ++ 0 ∷ []) }
 {
-    let path = path_from(alloc, text, expand_dots)?;
+    let path = json_path_text(alloc, text, expand_dots)?;
     let mut bytes = Vec::from_slice(alloc, path.as_str().as_bytes())?;
     bytes.push(0)?;
     Ok(bytes)

@@ -45,6 +45,7 @@ pub use error::{ArgumentCause, SchemaCause, TResult, TantivyError};
 pub use facet::Facet;
 pub use fast_value::FastValue;
 pub use field_type::FieldType;
+pub use json_path::json_path_text;
 pub use laws::json_reads_back;
 pub use pairs::Pairs;
 pub use postings_error::PostingsError;
