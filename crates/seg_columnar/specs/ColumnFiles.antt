@@ -81,6 +81,12 @@ columns_from bytes place =
 abbrev pub column_file_of : List ℕ → ColumnFile
 column_file_of bytes = record { rows = row_count bytes; columns = columns_from bytes 0 }
 
+-- columns are what the bytes of some file read as
+pub record IsOfFile (file : ColumnFile) : Type 0 where
+  pub bytes : List ℕ
+  pub is_file : IsColumnFile bytes
+  pub read : file ≡ column_file_of bytes
+
 -- ---- the columns of a path
 
 -- whether a path goes on behind another one, after a byte 1

@@ -2,7 +2,7 @@
 ghost use Rattle.std.specs.Prelude.{◌≡◌, false, IfErr, IfOk, MatchResult};
 ghost use Rattle.seg_columns.specs.declared.error.ColumnError.TheVariants.{OutOfMemory};
 ghost use Rattle.seg_columns.specs.Refusals.{Refuses};
-ghost use Rattle.seg_columnar.specs.ColumnFiles.{IsColumnFile, column_file_of, is_below, is_selected, stored_where};
+ghost use Rattle.seg_columnar.specs.ColumnFiles.{IsColumnFile, IsOfFile, column_file_of, is_below, is_selected, stored_where};
 
 use crate::column_iter::ColumnIter;
 use crate::footer::{Footer, checked_footer};
@@ -42,6 +42,13 @@ impl ColumnarReader {
             Ok(footer) => Ok(ColumnarReader { bytes, footer }),
             Err(error) => Err(error),
         }
+    }
+
+    /// What the bytes were checked for: the columns are those of a file.
+    pub fn are_of_a_file(&self)
+        ensures { IsOfFile self.now }
+    {
+        let _bytes = &self.bytes;
     }
 
     /// How many rows each column has: one for each document.
