@@ -1,0 +1,27 @@
+//! The bytes of files of columns, as they are written.
+//!
+//! `specs/ColumnBytes` says the bytes of a column from its rows, `specs/FileBytes` those of a file from its columns,
+//! and `specs/ModelColumns` what a file means. `laws` has what is read back of them.
+//!
+//! To be read in this order: `laws`, `table_writing`, `room`; `term`, `term_order`, `term_table` (the distinct terms of
+//! a column, by their numbers and in byte order), `dictionary_writing`; `row_number`, `column_writing`.
+#![tactic(auto)]
+
+mod column_writing;
+mod dictionary_writing;
+mod laws;
+mod room;
+mod row_number;
+mod table_writing;
+mod term;
+mod term_order;
+mod term_table;
+
+pub use column_writing::{put_numbers, put_ordered_terms};
+pub use dictionary_writing::put_dictionary;
+pub use laws::{bytes_columns_read_back, files_read_back, str_columns_read_back};
+pub use room::sum;
+pub use row_number::RowNumber;
+pub use table_writing::{put_entry, put_table, type_code};
+pub use term_order::TermOrder;
+pub use term_table::TermTable;
