@@ -1,0 +1,11 @@
+pub mod Encoded
+pub mod Filed
+pub mod Kinds
+pub mod Known
+pub mod Names
+pub mod Recorded
+pub mod Records
+pub mod RowValues
+pub mod Sound
+pub mod Takes
+pub mod Typed
