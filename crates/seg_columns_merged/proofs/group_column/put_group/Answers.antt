@@ -1,0 +1,18 @@
+use Rattle.std.proofs.Common.{[], ◌∷◌, Some, refl, ap, ◌∙◌}
+use Rattle.seg_columns_merged.proofs.GroupSteps.{file_more}
+use Rattle.seg_columns_merged.proofs.group_column.put_group.Goals as goal
+
+pub returns : goal.returns
+returns c = λ columns is.
+    let old = c.args.file.now in
+    let type = c.in-Some.column_type in
+    let path = c.args.path.now in
+    let adds = c.in-Ok-put_column.ensures in
+    record {
+      type = Some type;
+      decided = c.in-Ok.ensures ∙ ap Some c.in-Some.is;
+      added = record { path = path; type = type; bytes = adds.bytes } ∷ [];
+      are = record { path_is = refl; type_is = refl; column = adds.column; read = adds.read };
+      file_is = file_more columns path type adds.bytes old (record old { bytes = c.put_column.new.out })
+          c.end_column.new.self is adds.added refl refl c.in-Ok-end_column.ensures;
+    }
