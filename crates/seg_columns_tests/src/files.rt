@@ -7,7 +7,7 @@ use std::alloc::Global;
 use std::test::Fail;
 
 /// Two documents, of which the first has the number 5 in the column `n`.
-const ONE: [u8; 66] = [
+pub(crate) const ONE: [u8; 66] = [
     1, 0, 0, 0, 0, 0, 0, 0, // one value up to the first document
     1, 0, 0, 0, 0, 0, 0, 0, // and up to the second
     5, 0, 0, 0, 0, 0, 0, 128, // 2^63 + 5
@@ -39,7 +39,7 @@ const BOTH: [u8; 76] = [
     1, 0, 0, 0, // version
 ];
 
-fn open(alloc: Global, bytes: &[u8]) -> Result<ColumnarReader, ColumnError> {
+pub(crate) fn open(alloc: Global, bytes: &[u8]) -> Result<ColumnarReader, ColumnError> {
     let Ok(bytes) = OwnedBytes::new(alloc, bytes) else {
         return Err(ColumnError::OutOfMemory);
     };

@@ -1,12 +1,18 @@
-//! Tests of the public calls of `seg_columns` and `seg_columnar`, apart from them, so that they are proved without proving
+//! Tests of the public calls of the crates of columns, apart from them, so that they are proved without proving
 //! them again.
 #![tactic(auto)]
 
 #[cfg(test)]
 mod columns;
 #[cfg(test)]
+mod fast_fields;
+#[cfg(test)]
 mod files;
 #[cfg(test)]
 mod handles;
 #[cfg(test)]
+mod merges;
+#[cfg(test)]
 mod texts;
+#[cfg(test)]
+mod writing;

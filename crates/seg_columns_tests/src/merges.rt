@@ -1,0 +1,227 @@
+//! Merged files, against bytes that were written by hand.
+ghost use Rattle.std.specs.Prelude.{◌≡◌, ◌<◌, ◌^◌, [], ◌∷◌, All, false, length, IfOk};
+ghost use Rattle.std.specs.List.{AllByRecursion};
+ghost use Rattle.seg_model.specs.Columns.{is_number};
+ghost use Rattle.seg_columns_merged.specs.RowOrders.{IsRow, rows_in_order};
+
+use seg_columnar::{ColumnError, ColumnarReader, RowAddr};
+use seg_columns_merged::{MergeRowOrder, merge_columnar};
+use seg_common::{ColumnType, OwnedBytes};
+use std::alloc::{AllocError, Global};
+use std::test::Fail;
+
+/// Two documents, of which the first has the number 5 in the column `n`.
+const FIVE: [u8; 66] = [
+    1, 0, 0, 0, 0, 0, 0, 0, // one value up to the first document
+    1, 0, 0, 0, 0, 0, 0, 0, // and up to the second
+    5, 0, 0, 0, 0, 0, 0, 128, // 2^63 + 5
+    1, 0, 0, 0, 0, 0, 0, 0, // one column
+    1, 0, 0, 0, 0, 0, 0, 0, // the length of its path
+    b'n', // its path
+    0, // I64
+    24, 0, 0, 0, 0, 0, 0, 0, // its end
+    26, 0, 0, 0, 0, 0, 0, 0, // the length of the table
+    2, 0, 0, 0, // documents
+    1, 0, 0, 0, // version
+];
+
+/// The same with the number -1.
+const MINUS_ONE: [u8; 66] = [
+    1, 0, 0, 0, 0, 0, 0, 0, // one value up to the first document
+    1, 0, 0, 0, 0, 0, 0, 0, // and up to the second
+    255, 255, 255, 255, 255, 255, 255, 127, // 2^63 - 1
+    1, 0, 0, 0, 0, 0, 0, 0, // one column
+    1, 0, 0, 0, 0, 0, 0, 0, // the length of its path
+    b'n', // its path
+    0, // I64
+    24, 0, 0, 0, 0, 0, 0, 0, // its end
+    26, 0, 0, 0, 0, 0, 0, 0, // the length of the table
+    2, 0, 0, 0, // documents
+    1, 0, 0, 0, // version
+];
+
+/// One document with the number 2^63 in the column `n`.
+const LARGE: [u8; 58] = [
+    1, 0, 0, 0, 0, 0, 0, 0, // one value up to the document
+    0, 0, 0, 0, 0, 0, 0, 128, // 2^63
+    1, 0, 0, 0, 0, 0, 0, 0, // one column
+    1, 0, 0, 0, 0, 0, 0, 0, // the length of its path
+    b'n', // its path
+    1, // U64
+    16, 0, 0, 0, 0, 0, 0, 0, // its end
+    26, 0, 0, 0, 0, 0, 0, 0, // the length of the table
+    1, 0, 0, 0, // documents
+    1, 0, 0, 0, // version
+];
+
+/// Three documents with 5, nothing and 2^63.
+const STACKED: [u8; 82] = [
+    1, 0, 0, 0, 0, 0, 0, 0, // one value up to the first document
+    1, 0, 0, 0, 0, 0, 0, 0, // up to the second
+    2, 0, 0, 0, 0, 0, 0, 0, // two up to the third
+    5, 0, 0, 0, 0, 0, 0, 0, // 5
+    0, 0, 0, 0, 0, 0, 0, 128, // 2^63
+    1, 0, 0, 0, 0, 0, 0, 0, // one column
+    1, 0, 0, 0, 0, 0, 0, 0, // the length of its path
+    b'n', // its path
+    1, // U64
+    40, 0, 0, 0, 0, 0, 0, 0, // its end
+    26, 0, 0, 0, 0, 0, 0, 0, // the length of the table
+    3, 0, 0, 0, // documents
+    1, 0, 0, 0, // version
+];
+
+/// Two documents with nothing and 2^63.
+const WITHOUT_FIRST: [u8; 66] = [
+    0, 0, 0, 0, 0, 0, 0, 0, // no value up to the first document
+    1, 0, 0, 0, 0, 0, 0, 0, // one up to the second
+    0, 0, 0, 0, 0, 0, 0, 128, // 2^63
+    1, 0, 0, 0, 0, 0, 0, 0, // one column
+    1, 0, 0, 0, 0, 0, 0, 0, // the length of its path
+    b'n', // its path
+    1, // U64
+    24, 0, 0, 0, 0, 0, 0, 0, // its end
+    26, 0, 0, 0, 0, 0, 0, 0, // the length of the table
+    2, 0, 0, 0, // documents
+    1, 0, 0, 0, // version
+];
+
+/// Three documents with 5, nothing and 2^63, and a column of texts without any.
+const WITH_TEXTS: [u8; 132] = [
+    1, 0, 0, 0, 0, 0, 0, 0, // one value up to the first document
+    1, 0, 0, 0, 0, 0, 0, 0, // up to the second
+    2, 0, 0, 0, 0, 0, 0, 0, // two up to the third
+    5, 0, 0, 0, 0, 0, 0, 0, // 5
+    0, 0, 0, 0, 0, 0, 0, 128, // 2^63
+    0, 0, 0, 0, 0, 0, 0, 0, // no text up to the first document
+    0, 0, 0, 0, 0, 0, 0, 0, // nor to the second
+    0, 0, 0, 0, 0, 0, 0, 0, // nor to the third
+    0, 0, 0, 0, 0, 0, 0, 0, // no distinct text
+    2, 0, 0, 0, 0, 0, 0, 0, // two columns
+    1, 0, 0, 0, 0, 0, 0, 0, // the length of the first path
+    b'n', // it
+    1, // U64
+    40, 0, 0, 0, 0, 0, 0, 0, // its end
+    1, 0, 0, 0, 0, 0, 0, 0, // the length of the second path
+    b't', // it
+    3, // Str
+    72, 0, 0, 0, 0, 0, 0, 0, // its end
+    44, 0, 0, 0, 0, 0, 0, 0, // the length of the table
+    3, 0, 0, 0, // documents
+    1, 0, 0, 0, // version
+];
+
+/// A file of so many rows.
+fn file_of(alloc: Global, bytes: &[u8], rows: u32) -> Result<ColumnarReader, ColumnError>
+    ensures { IfOk result (λ file. file.rows ≡ rows) }
+{
+    let Ok(bytes) = OwnedBytes::new(alloc, bytes) else {
+        return Err(ColumnError::OutOfMemory);
+    };
+    let Ok(file) = ColumnarReader::open(alloc, bytes) else {
+        return Err(ColumnError::OutOfMemory);
+    };
+    if file.num_rows() != rows {
+        return Err(ColumnError::Malformed);
+    }
+    Ok(file)
+}
+
+fn both(
+    alloc: Global,
+    first: ColumnarReader,
+    second: ColumnarReader,
+) -> Result<Vec<ColumnarReader>, AllocError>
+    ensures { IfOk result (λ files. files.items ≡ first ∷ second ∷ []) }
+{
+    let mut files = Vec::new(alloc);
+    let Ok(()) = files.push(first) else {
+        return Err(AllocError);
+    };
+    let Ok(()) = files.push(second) else {
+        return Err(AllocError);
+    };
+    Ok(files)
+}
+
+/// A file of two rows, and the one with 2^63, merged.
+fn merged(
+    alloc: Global,
+    first: &[u8],
+    required: &[(String, ColumnType)],
+    order: &MergeRowOrder,
+) -> Result<Vec<u8>, ColumnError>
+    requires rows { AllByRecursion (IsRow (2 ∷ 1 ∷ [])) (rows_in_order (2 ∷ 1 ∷ []) order.now) }
+    requires few { length (rows_in_order (2 ∷ 1 ∷ []) order.now) < 2 ^ 32 }
+    requires types { All (λ r. is_number r.1 ≡ false) required.now }
+{
+    let first = file_of(alloc, first, 2)?;
+    let second = file_of(alloc, LARGE.as_slice(), 1)?;
+    let Ok(files) = both(alloc, first, second) else {
+        return Err(ColumnError::OutOfMemory);
+    };
+    merge_columnar(alloc, files.as_slice(), required, order)
+}
+
+/// The second row of the first file, and the only one of the second.
+fn without_first(alloc: Global) -> Result<MergeRowOrder, AllocError>
+    ensures { IfOk result (λ order. rows_in_order (2 ∷ 1 ∷ []) order ≡ (0, 1) ∷ (1, 0) ∷ []) }
+{
+    let mut rows = Vec::new(alloc);
+    rows.push(RowAddr {
+        segment_ord: 0,
+        row_id: 1,
+    })?;
+    rows.push(RowAddr {
+        segment_ord: 1,
+        row_id: 0,
+    })?;
+    Ok(MergeRowOrder::Shuffled(rows))
+}
+
+/// The column `t` of texts.
+fn texts(alloc: Global) -> Result<Vec<(String, ColumnType)>, AllocError>
+    ensures { IfOk result (λ required. All (λ r. is_number r.1 ≡ false) required.items) }
+{
+    let mut required = Vec::new(alloc);
+    let path = String::from_str(alloc, "t")?;
+    let Ok(()) = required.push((path, ColumnType::Str)) else {
+        return Err(AllocError);
+    };
+    Ok(required)
+}
+
+#[test]
+fn numbers_of_two_types_come_together(rt: HostRuntime) -> Result<(), Fail> {
+    let bytes = merged(rt.alloc(), FIVE.as_slice(), &[], &MergeRowOrder::Stack)?;
+    assert!(rt; bytes.as_slice() == STACKED.as_slice());
+    Ok(())
+}
+
+#[test]
+fn numbers_without_a_type(rt: HostRuntime) -> Result<(), Fail> {
+    let merged = merged(rt.alloc(), MINUS_ONE.as_slice(), &[], &MergeRowOrder::Stack);
+    assert!(rt; merged.err() == Some(ColumnError::Mixed));
+    Ok(())
+}
+
+#[test]
+fn numbers_of_rows_left_out_do_not_count(rt: HostRuntime) -> Result<(), Fail> {
+    let order = without_first(rt.alloc())?;
+    let bytes = merged(rt.alloc(), MINUS_ONE.as_slice(), &[], &order)?;
+    assert!(rt; bytes.as_slice() == WITHOUT_FIRST.as_slice());
+    Ok(())
+}
+
+#[test]
+fn a_required_column_needs_no_value(rt: HostRuntime) -> Result<(), Fail> {
+    let required = texts(rt.alloc())?;
+    let bytes = merged(
+        rt.alloc(),
+        FIVE.as_slice(),
+        required.as_slice(),
+        &MergeRowOrder::Stack,
+    )?;
+    assert!(rt; bytes.as_slice() == WITH_TEXTS.as_slice());
+    Ok(())
+}
