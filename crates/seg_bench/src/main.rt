@@ -8,11 +8,18 @@
 //! seg_bench open-field TIMES TERMS POSTINGS POSITIONS
 //!                                         opens a field of texts, whose documents are below 1,000
 //! seg_bench open-store TIMES STORE        opens a store
+//! seg_bench column-numbers ROWS FILE      writes a file with a column of one number a row
+//! seg_bench column-texts ROWS TEXTS FILE  writes a file with a column of one text a row, of so many distinct ones
+//! seg_bench column-stack FILE FILE..      writes a file with the rows of others, one after another
+//! seg_bench column-read FILE..            opens files of columns, and adds up the first value of each row
 //! ```
 //!
-//! It prints one number: how many keys were found, terms merged, pairs read, or terms and documents opened.
+//! It prints one number: how many keys were found, terms merged, pairs read, terms and documents opened, or bytes written,
+//! or the sum. `bench/columns.py` has the tasks over columns.
 #![tactic(auto)]
 
+mod column_files;
+mod column_tasks;
 mod documents;
 mod drawing;
 mod merging;
@@ -29,6 +36,10 @@ use std::{env, fs, io};
 
 fn main(rt: HostRuntime) -> Result<()> {
     let words = program_words(&rt)?;
+    if let Some(count) = column_tasks::work(&rt, words.as_slice())? {
+        println!(rt; "{count}")?;
+        return Ok(());
+    }
     let [task, times, names @ ..] = words.as_slice() else {
         bail!("a task, how often, and files");
     };
@@ -52,7 +63,7 @@ fn program_words(rt: &(impl Env + AllocGlobal)) -> io::Result<Vec<String>> {
 }
 
 /// The bytes of these files.
-fn files<R: Files + AllocGlobal>(rt: &R, names: &[String]) -> Result<Vec<OwnedBytes>> {
+pub(crate) fn files<R: Files + AllocGlobal>(rt: &R, names: &[String]) -> Result<Vec<OwnedBytes>> {
     let mut files = Vec::new(rt.alloc());
     for name in names {
         let bytes = fs::read(rt, name.as_str())?;

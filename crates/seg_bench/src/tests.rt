@@ -1,5 +1,6 @@
 //! Each task over small files.
 
+use crate::column_files::{numbers, sum_of_firsts};
 use crate::work;
 use seg_common::OwnedBytes;
 use std::alloc::{AllocError, Global};
@@ -68,5 +69,13 @@ fn other_tasks_are_refused(rt: HostRuntime) -> Result<(), Fail> {
     assert!(rt; count(alloc, "get", &[])?.is_none());
     assert!(rt; count(alloc, "stack", &[STORE])?.is_none());
     assert!(rt; count(alloc, "get", &[TERMS])?.is_none());
+    Ok(())
+}
+
+#[test]
+fn columns_are_written_and_read(rt: HostRuntime) -> Result<(), Fail> {
+    let alloc = rt.alloc();
+    let bytes = numbers(alloc, 3)?;
+    assert!(rt; sum_of_firsts(alloc, &OwnedBytes::from_vec(alloc, bytes)?).is_ok());
     Ok(())
 }

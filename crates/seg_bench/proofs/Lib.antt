@@ -1,0 +1,2 @@
+mod ColumnSteps
+mod Stacking
