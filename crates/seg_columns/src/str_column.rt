@@ -101,8 +101,8 @@ impl StrColumn {
         self.column.dictionary()
     }
 
-    /// The distinct text at a place.
-    fn text(&self, ord: u64) -> Option<&str>
+    /// The distinct text at a place, from the file's bytes.
+    pub fn text(&self, ord: u64) -> Option<&str>
         ensures { MatchOption result (slice_get self.now.terms ord ≡ None)
             (λ text. slice_get self.now.terms ord ≡ Some text.now) }
     {
