@@ -429,16 +429,6 @@ module _ (count : ℕ) (path : List ℕ) (type : ColumnType) (c : ColumnRecord) 
   declared_kind : IsOfKind (kind_of type) c.recording.declared
   declared_kind = subst (λ (k : ValueKind). IsOfKind k c.recording.declared) kind good.kind
 
-  free_kinds : type_of_values (kind_of type) (map (λ v. v.value) c.recording.values)
-      ≡ type_of_rows (kind_of type) (rows_in count c.recording)
-  free_kinds = subst (λ (k : ValueKind). type_of_values k (map (λ v. v.value) c.recording.values)
-      ≡ type_of_rows k (rows_in count c.recording)) kind good.free
-
-  some_kind : is_some (option_or c.recording.declared
-      (type_of_values (kind_of type) (map (λ v. v.value) c.recording.values))) ≡ true
-  some_kind = subst (λ (k : ValueKind). is_some (option_or c.recording.declared
-      (type_of_values k (map (λ v. v.value) c.recording.values))) ≡ true) kind good.typed
-
 module _ (count : ℕ) (path : List ℕ) (c : ColumnRecord) (good : IsGood count c) (es : Entries)
     (is : bytes_eq path c.path ≡ true) where
   abbrev Found : ColumnType → Type 0

@@ -17,7 +17,6 @@ use Rattle.seg_model.specs.Columns.{ColumnValue, number, bytes_value, text_value
 use Rattle.seg_columns.specs.Addresses.{address, address_of}
 use Rattle.seg_columns.specs.Columns.{IsColumn, rows_of}
 use Rattle.seg_columns.specs.DynamicColumns.{IsColumnOf, column_of}
-use Rattle.seg_columns.specs.Images.{signed, truth, unsigned}
 use Rattle.seg_columns.specs.TermColumns.{TermColumn, UsesEach, term_column_of}
 use Rattle.seg_columns_written.specs.ColumnBytes.{IsReadAs, column_bytes, ends_from, number_bytes, term_column_bytes, total}
 use Rattle.seg_columns_written.specs.ModelColumns.{column_rows, terms_at}

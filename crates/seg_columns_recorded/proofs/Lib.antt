@@ -1,7 +1,10 @@
+pub mod Exports
 mod AddedRows
 mod Arranging
 mod Bridge
 mod ColumnParts
+mod DocumentColumns
+mod DocumentRows
 mod Encoding
 mod FileSteps
 mod Filing
@@ -14,6 +17,7 @@ mod NumberRanks
 mod Ordinals
 mod PutSteps
 mod RowSorting
+mod RowSteps
 mod SoundLaws
 mod TakeLaws
 mod TermParts

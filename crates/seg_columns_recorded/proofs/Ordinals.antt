@@ -23,9 +23,6 @@ module _ (terms : List (List ℕ)) (numbers ordinals : List ℕ) (is : IsOrder t
       length_permutation (range_with_len 0 (length terms)) numbers is.ascend.all
       ∙ length-range_with_len 0 (length terms)
 
-  pub length-sorted : length sorted ≡ length terms
-  length-sorted = length-map numbers (λ n. get_or terms n []) ∙ many
-
   -- the place of a number
   found : (i : ℕ) → i < length terms → (k : ℕ) × (k < length numbers) × (get_or numbers k 0 ≡ i)
   found i lt =

@@ -9,7 +9,7 @@ use Rattle.std.proofs.lemmas.List.{get_or_append_left, get_or_push, length_push,
 use Rattle.seg_common.proofs.Lists.{all_push}
 use Rattle.seg_common.specs.declared.column_type.ColumnType.{ColumnType}
 use Rattle.seg_common.specs.declared.column_type.ColumnType.TheVariants as types
-use Rattle.seg_model.specs.Columns.{ColumnValue, fits_i64, free_number_type, is_not_negative}
+use Rattle.seg_model.specs.Columns.{ColumnValue, fits_i64, is_not_negative}
 use Rattle.seg_columns_recorded.specs.Kinds.{kind_of}
 use Rattle.seg_columns_recorded.specs.Recorded.{IsOfKind, IsRecorded, type_of_values}
 use Rattle.seg_columns_recorded.specs.Records.{Accepts, Recording, RowedValue, with_value}
@@ -40,11 +40,6 @@ reached kind terms row (v ∷ values) all = (
   all zero (rowed kind terms v) (omega arith),
   reached kind terms row values (λ i d lt. all (suc i) d (omega (arith, lt))),
 )
-
-and_last : (a b : Bool) → (a && (b && true)) ≡ (a && b)
-and_last true true = refl
-and_last true false = refl
-and_last false b = refl
 
 and_assoc : (a b c : Bool) → (a && (b && c)) ≡ ((a && b) && c)
 and_assoc true b c = refl
@@ -86,15 +81,6 @@ fits_any Str count v fits = absurd (omega (arith, fits))
 fits_any Boolean count v fits = fits
 fits_any IpAddr count v fits = absurd (omega (arith, fits))
 fits_any DateTime count v fits = tt
-
-same_value : (kind : ValueKind) (terms : List (List ℕ)) (v : RowValue) → Fits kind 0 v
-    → value_of kind terms v ≡ value_of kind [] v
-same_value Number terms v fits = refl
-same_value Bytes terms v fits = absurd (omega (arith, fits))
-same_value Str terms v fits = absurd (omega (arith, fits))
-same_value Boolean terms v fits = refl
-same_value IpAddr terms v fits = absurd (omega (arith, fits))
-same_value DateTime terms v fits = refl
 
 marks_push : (kind : ValueKind) (signed unsigned : Bool) (values : List RowValue) (v : RowValue)
     → MarksTell kind signed unsigned values
@@ -153,14 +139,6 @@ module _ (kind : ValueKind) (declared : Option ColumnType) (signed unsigned : Bo
     marks = marks_push kind signed unsigned values v sound.marks;
     declared_is = declared_push kind declared signed unsigned v sound.declared_is accepts;
   }
-
-pub seen_pushed : (kind : ValueKind) (terms : List (List ℕ)) (values : List RowValue) (v : RowValue) → Fits kind 0 v
-    → map (rowed kind terms) (values ++ v ∷ [])
-    ≡ map (rowed kind terms) values ++ record { row = v.row; value = value_of kind [] v } ∷ []
-seen_pushed kind terms values v fits =
-    map-append (rowed kind terms) values (v ∷ [])
-    ∙ ap (λ (x : ColumnValue). map (rowed kind terms) values ++ record { row = v.row; value = x } ∷ [])
-    (same_value kind terms v fits)
 
 -- ---- a value by its term
 

@@ -1,5 +1,5 @@
 -- A column of texts, bytes or addresses is what was recorded.
-use Rattle.std.proofs.Common.{◌≡◌, ℕ, ◌<◌, ◌^◌, Bool, true, false, List, [], ◌∷◌, ◌++◌, length, map, get_or, Option, Some, refl, sym, ap, subst, ◌∙◌, arith, append_assoc}
+use Rattle.std.proofs.Common.{◌≡◌, ℕ, ◌<◌, ◌^◌, Bool, true, false, List, [], ◌∷◌, ◌++◌, length, map, get_or, Option, refl, sym, ap, subst, ◌∙◌, arith, append_assoc}
 use Rattle.std.specs.Prelude.{◌||◌, All, IsUtf8, nat_eq, nat_lt}
 use Rattle.std.specs.List.{AllByRecursion, flat_map, list_any}
 use Rattle.std.specs.Ordering.{is_gt}
@@ -16,11 +16,10 @@ use Rattle.seg_columns_written.specs.ColumnBytes.{column_bytes, dictionary_bytes
 use Rattle.seg_columns_recorded.specs.Encoded.{AddsAddresses, AddsColumn, AddsTexts, AddsValues, IsArranged, IsColumnBytes, ranked}
 use Rattle.seg_columns_written.specs.RowNumbers.{eight_bytes, term_bytes}
 use Rattle.seg_columns_recorded.specs.Kinds.{kind_of}
-use Rattle.seg_columns_recorded.specs.Records.{RowedValue}
-use Rattle.seg_columns_recorded.specs.Recorded.{option_or, type_of_values, value_cmp}
+use Rattle.seg_columns_recorded.specs.Recorded.{value_cmp}
 use Rattle.seg_columns_written.specs.Rows.{Rise, rows_from}
 use Rattle.seg_columns_recorded.specs.RowValues.{value_of}
-use Rattle.seg_columns_recorded.specs.Sound.{AreSound, Fits, IsTermOf, rowed}
+use Rattle.seg_columns_recorded.specs.Sound.{AreSound, Fits, IsTermOf}
 use Rattle.seg_columns_written.specs.Terms.{IsOrder, terms_at}
 use Rattle.seg_columns_written.specs.declared.row_number.RowNumber.{RowNumber}
 use Rattle.seg_columns_recorded.specs.declared.row_value.RowValue.{RowValue}
@@ -34,7 +33,6 @@ use Rattle.seg_columns_recorded.proofs.ImageColumns.{recorded}
 use Rattle.seg_columns_recorded.proofs.Ordinals.{many, ordinal_below, ordinal_of_place, ordinal_term, terms_rising}
 use Rattle.seg_columns_written.proofs.Parts.{all_at}
 use Rattle.seg_columns_written.proofs.TermSorting.{below_many}
-use Rattle.seg_columns_recorded.proofs.TypedValues.{kind_is}
 
 -- ---- a value among rows
 
@@ -298,12 +296,3 @@ module _ (kind : ValueKind) (declared : Option ColumnType) (signed unsigned : Bo
               (few address_rank (term_bytes listed) sorts values sound.rise count below old new a.addresses) octets);
           added = bytes_added address_rank (term_bytes listed) sorts values sound.rise count below old new a.addresses;
         })
-
--- ---- by the type of the column
-
-module _ (kind : ValueKind) (declared : Option ColumnType) (signed unsigned : Bool) (values : List RowValue)
-    (terms : List (List ℕ)) (sound : AreSound kind declared signed unsigned values terms) where
-  pub kind_of_type : (type : ColumnType)
-      → option_or declared (type_of_values kind (map (λ (v : RowedValue). v.value) (map (rowed kind terms) values)))
-      ≡ Some type → kind ≡ kind_of type
-  kind_of_type type typed = kind_is kind declared signed unsigned values terms sound type typed

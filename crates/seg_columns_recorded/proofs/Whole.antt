@@ -39,7 +39,7 @@ same_keys q k e =
     let type = same_type q.type k.type ((Decides-eqb (type_place q.type) (type_place k.type)).0 both.1) in
     λ j. record { path = path j; type = type j }
 
-apart_keys : IsAntisymmetric column_cmp
+pub apart_keys : IsAntisymmetric column_cmp
 apart_keys q k e = same_keys q k (ap is_eq e)
 
 abbrev Rows : Type 0
@@ -145,7 +145,7 @@ entries_distinct count cs good apart =
 
 -- ---- nothing is elsewhere
 
-all_fail : (q : ColumnKey) (path : List ℕ) (t : ColumnType) → list_any (key_is q) (keys_with path all_types) ≡ false
+pub all_fail : (q : ColumnKey) (path : List ℕ) (t : ColumnType) → list_any (key_is q) (keys_with path all_types) ≡ false
     → key_is q (record { path = path; type = t }) ≡ false
 all_fail q path types.I64 e = fails_at (key_is q) (keys_with path all_types) 0 q e (omega arith)
 all_fail q path types.U64 e = fails_at (key_is q) (keys_with path all_types) 1 q e (omega arith)

@@ -1,3 +1,4 @@
+pub mod Documents
 pub mod Encoded
 pub mod Filed
 pub mod Kinds
@@ -6,6 +7,7 @@ pub mod Names
 pub mod Recorded
 pub mod Records
 pub mod RowValues
+pub mod RowByRow
 pub mod Sound
 pub mod Takes
 pub mod Typed

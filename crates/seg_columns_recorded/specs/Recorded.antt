@@ -1,6 +1,6 @@
 -- What was declared and recorded, as columns of documents.
-use Rattle.std.specs.Prelude.{◌≡◌, ℕ, ◌==◌, ◌||◌, ◌&&◌, List, [], ◌∷◌, ◌++◌, map, filter, Bool, true, false, Option, None, Some, if◌then◌else◌, not, is_some}
-use Rattle.std.specs.List.{flat_map, list_any, range_with_len}
+use Rattle.std.specs.Prelude.{◌≡◌, ℕ, ◌==◌, ◌||◌, List, [], ◌∷◌, ◌++◌, map, filter, Bool, true, false, Option, None, Some, if◌then◌else◌, not, is_some}
+use Rattle.std.specs.List.{flat_map, range_with_len}
 use Rattle.std.specs.Ordering.{nat_cmp, int_cmp, is_gt}
 use Rattle.std.specs.Cmp.Lexicographic.{slice_cmp}
 use Rattle.std.specs.declared.cmp.Ordering.{Ordering}
@@ -8,7 +8,7 @@ use Rattle.std.specs.declared.cmp.Ordering.TheVariants.{Equal}
 use Rattle.seg_common.specs.declared.column_type.ColumnType.{ColumnType}
 use Rattle.seg_common.specs.declared.column_type.ColumnType.TheVariants as types
 use Rattle.seg_common.specs.Mappable.{bit}
-use Rattle.seg_model.specs.Columns.{ColumnKey, ColumnValue, Columns, number, bytes_value, text_value, boolean_value, ip_value, date_value, column_named, columns_from, free_number_type, is_filled}
+use Rattle.seg_model.specs.Columns.{ColumnKey, ColumnValue, Columns, number, bytes_value, text_value, boolean_value, ip_value, date_value, column_named, columns_from, free_number_type}
 use Rattle.seg_columns_recorded.specs.Kinds.{kind_of}
 use Rattle.seg_columns_recorded.specs.Records.{ColumnRecord, Recording, is_named}
 use Rattle.seg_columns_written.specs.Rows.{Rise}

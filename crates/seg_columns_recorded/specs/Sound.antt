@@ -1,7 +1,6 @@
 -- A column while values come, by its parts: values by their numbers, and the terms of texts, bytes and addresses.
-use Rattle.std.specs.Prelude.{◌≡◌, ℕ, ◌<◌, List, [], ◌∷◌, ◌++◌, length, map, Bool, true, false, Option, None, Some, if◌then◌else◌, nat_eq, IsUtf8}
-use Rattle.std.specs.List.{AllByRecursion, list_all, list_any, position_or_len}
-use Rattle.std.specs.Str.{bytes_eq}
+use Rattle.std.specs.Prelude.{◌≡◌, ℕ, ◌<◌, List, [], ◌∷◌, ◌++◌, length, Bool, true, false, Option, None, Some, nat_eq, IsUtf8}
+use Rattle.std.specs.List.{AllByRecursion, list_all, list_any}
 use Rattle.std.specs.Net.Addr.{ipv6_octets}
 use Rattle.std.specs.declared.net.ipv6_addr.Ipv6Addr.{Ipv6Addr}
 use Rattle.seg_common.specs.declared.column_type.ColumnType.{ColumnType}

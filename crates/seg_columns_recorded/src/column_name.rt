@@ -38,13 +38,6 @@ impl ColumnName {
     {
         &self.path
     }
-
-    /// The path alone.
-    pub fn into_path(self) -> Vec<u8>
-        ensures { result.items ≡ self.path }
-    {
-        self.path
-    }
 }
 
 impl PartialEq for ColumnName {
