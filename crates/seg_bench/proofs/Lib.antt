@@ -1,2 +1,2 @@
-mod ColumnSteps
+mod ColumnNames
 mod Stacking

@@ -8,7 +8,7 @@ use Rattle.std.proofs.lemmas.List.Sums.{sum_by-cons}
 use Rattle.std.proofs.Math.Seq.{get_or-append_seam}
 use Rattle.seg_columnar.specs.ColumnFiles.{ColumnFile}
 use Rattle.seg_columns_merged.specs.MergedColumns.{CanMerge}
-use Rattle.seg_columns_merged.specs.RowOrders.{IsRow, Place, rows_from, stacked}
+use Rattle.seg_columns_joined.specs.RowOrders.{IsRow, Place, rows_from, stacked}
 
 in_file : (counts : List ℕ) (file count : ℕ) → get_or counts file 0 ≡ count → All (IsRow counts) (rows_from file 0 count)
 in_file counts file count is =

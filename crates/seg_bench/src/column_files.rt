@@ -6,7 +6,7 @@ use seg_columnar::ColumnarReader;
 use seg_columns::{Column, ColumnError};
 use seg_columns_merged::{MergeRowOrder, merge_columnar};
 use seg_columns_recorded::{ColumnarWriter, NumericalValue};
-use seg_common::OwnedBytes;
+use seg_common::{ColumnType, OwnedBytes};
 use std::alloc::{AllocError, Global};
 
 /// Numbers without a pattern, the same at each start and in `bench/plain_columns.rs`.
@@ -29,9 +29,10 @@ impl Drawn {
     }
 }
 
-/// A file with a column of one number a row.
+/// A file with a column of one unsigned number a row.
 pub(crate) fn numbers(alloc: Global, rows: u32) -> Result<Vec<u8>, ColumnError> {
     let mut writer = ColumnarWriter::new(alloc);
+    writer.record_column_type("number", ColumnType::U64, false)?;
     let mut drawn = Drawn::new();
     for row in 0..rows {
         let value = NumericalValue::U64(drawn.next());

@@ -17,7 +17,7 @@ use Rattle.seg_columnar.specs.ColumnFiles.{ColumnFile, NamedColumn}
 use Rattle.seg_columns_written.specs.ModelColumns.{column_key}
 use Rattle.seg_columns_merged.specs.Cells.{is_absent, is_of, rows_with}
 use Rattle.seg_columns_merged.specs.MergedColumns.{AgreesWith, required_key}
-use Rattle.seg_columns_merged.specs.Tables.{Row, all_rows, file_row, file_rows, kind_of, required_row}
+use Rattle.seg_columns_joined.specs.Tables.{Row, all_rows, file_row, file_rows, kind_of, required_row}
 
 -- the key of a row
 abbrev pub row_key : Row → ColumnKey

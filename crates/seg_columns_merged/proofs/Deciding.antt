@@ -11,17 +11,17 @@ use Rattle.seg_model.specs.Columns.{ColumnValue, fits_i64, free_number_type, is_
 use Rattle.seg_columns_merged.specs.Cells.{cells, is_absent}
 use Rattle.seg_columns_merged.specs.Decisions.{AreDecidable, as_there, free_type, has_value, merged_type, range_of, range_type}
 use Rattle.seg_columns_merged.specs.Groups.{AreOfFiles, FileFits}
-use Rattle.seg_columns_merged.specs.KeptColumns.{there}
-use Rattle.seg_columns_merged.specs.KeptRows.{AreMarks}
+use Rattle.seg_columns_joined.specs.KeptColumns.{there}
+use Rattle.seg_columns_joined.specs.KeptRows.{AreMarks}
 use Rattle.seg_columns_merged.specs.MergedBytes.{HasNumbers, HasType, RowFits}
-use Rattle.seg_columns_merged.specs.NumberRanges.{no_numbers, type_of_range}
-use Rattle.seg_columns_merged.specs.RowOrders.{Place}
-use Rattle.seg_columns_merged.specs.Tables.{column_in, kind_of, row_of}
-use Rattle.seg_columns_merged.specs.declared.number_range.NumberRange.{NumberRange}
-use Rattle.seg_columns_merged.specs.declared.tables.FileColumn.{FileColumn}
-use Rattle.seg_columns_merged.specs.declared.tables.TableRow.{TableRow}
+use Rattle.seg_columns_joined.specs.NumberRanges.{no_numbers, type_of_range}
+use Rattle.seg_columns_joined.specs.RowOrders.{Place}
+use Rattle.seg_columns_joined.specs.Tables.{column_in, kind_of, row_of}
+use Rattle.seg_columns_joined.specs.declared.number_range.NumberRange.{NumberRange}
+use Rattle.seg_columns_joined.specs.declared.tables.FileColumn.{FileColumn}
+use Rattle.seg_columns_joined.specs.declared.tables.TableRow.{TableRow}
 use Rattle.seg_columns_merged.proofs.KeptCells.{Counted, HasOthers, any_of, filled_are, large_is, negative_is, some_is, value_is}
-use Rattle.seg_columns_merged.proofs.NumberTypes.{type_of_rows}
+use Rattle.seg_columns_joined.proofs.Exports.{type_of_rows}
 use Rattle.seg_columns_merged.proofs.PutTerms.{cells_are}
 use Rattle.seg_columns_merged.proofs.SourceRows.{column_cells}
 

@@ -19,11 +19,11 @@ use Rattle.seg_columns_merged.specs.MergedBytes.{IsMerge, places_of}
 use Rattle.seg_columns_merged.specs.MergedColumns.{IsMerged, MergeFails, merged_columns, required_key, rows_at}
 use Rattle.seg_columns_merged.specs.MergedFiles.{IsFileOf}
 use Rattle.seg_columns_merged.specs.Merging.{IsCut, IsTableOf, NextFails, SoFar, covers, entries_in, found_at, mixed_at}
-use Rattle.seg_columns_merged.specs.RowOrders.{Place}
-use Rattle.seg_columns_merged.specs.Tables.{Row, all_rows, kind_of, row_of}
+use Rattle.seg_columns_joined.specs.RowOrders.{Place}
+use Rattle.seg_columns_joined.specs.Tables.{Row, all_rows, kind_of, row_of}
 use Rattle.seg_columns_merged.specs.declared.merge.Merge.{Merge}
 use Rattle.seg_columns_merged.specs.declared.merged_file.MergedFile.{MergedFile}
-use Rattle.seg_columns_merged.specs.declared.tables.TableRow.{TableRow}
+use Rattle.seg_columns_joined.specs.declared.tables.TableRow.{TableRow}
 use Rattle.seg_columns_merged.proofs.CellLaws.{rows_are}
 use Rattle.seg_columns_merged.proofs.Completing.{columns_are, columns_undefined, empty_found, empty_unmixed}
 use Rattle.seg_columns_merged.proofs.GroupPuts.{key_mixed, their_key}

@@ -3,15 +3,13 @@ use Rattle.std.proofs.Common.{◌≡◌, ℕ, ◌+◌, ◌-◌, ◌<◌, ◌≤�
 use Rattle.std.specs.Prelude.{◌&&◌, All, IsUtf8, nat_eq, slice_range}
 use Rattle.std.specs.FinMap.{find}
 use Rattle.std.specs.List.{AllByRecursion, list_any}
-use Rattle.std.specs.Cmp.{IsTotalOrder}
-use Rattle.std.specs.Ordering.{eq_by_cmp, is_eq, is_lt, nat_cmp, on, ordering_then, then_cmp}
-use Rattle.std.specs.Cmp.Lexicographic.{bytes_decides, nat_list_cmp_total, slice_cmp}
+use Rattle.std.specs.Ordering.{eq_by_cmp, is_eq, is_lt, nat_cmp, ordering_then}
+use Rattle.std.specs.Cmp.Lexicographic.{bytes_decides, slice_cmp}
 use Rattle.std.specs.declared.cmp.Ordering.{Ordering}
 use Rattle.std.specs.declared.cmp.Ordering.TheVariants.{Less, Equal, Greater}
 use Rattle.std.specs.Str.{bytes_eq}
 use Rattle.std.proofs.lemmas.Bool.{and_parts, false≢true}
 use Rattle.std.proofs.lemmas.Bool.Decides.{nat_tests}
-use Rattle.std.proofs.lemmas.Cmp.{nat_cmp_total, on_total, then_total}
 use Rattle.seg_common.proofs.Lists.{all_both}
 use Rattle.std.proofs.lemmas.List.{append-nil, get_or-drop, get_or-take, get_or_default, length-drop, length-take-le, map-append, take-append-drop, take-take}
 use Rattle.std.proofs.lemmas.List.Elements.{All-from_recursion, recursion_from_All}
@@ -19,7 +17,7 @@ use Rattle.std.proofs.lemmas.Slice.{between_is}
 use Rattle.seg_common.specs.declared.column_type.ColumnType.{ColumnType}
 use Rattle.seg_common.specs.declared.column_type.ColumnType.TheVariants as types
 use Rattle.seg_model.specs.Columns.{ColumnKey, ColumnValue, column_cmp, type_place}
-use Rattle.seg_columns.specs.DynamicColumns.{IsColumnOf, column_of, type_of}
+use Rattle.seg_columns.specs.DynamicColumns.{IsColumnOf, column_of}
 use Rattle.seg_columnar.specs.ColumnTable.{are_apart}
 use Rattle.seg_columns_written.specs.FileBytes.{AreInOrder, IsWritten, WrittenColumn, code_of, may_stand_behind, read_column}
 use Rattle.seg_columns_written.specs.ModelColumns.{column_key, column_rows}
@@ -29,10 +27,10 @@ use Rattle.seg_columns_merged.specs.Groups.{AreOfFiles, IsGroup, has_key}
 use Rattle.seg_columns_merged.specs.MergedBytes.{HasType, IsMerge, RowFits, places_of}
 use Rattle.seg_columns_merged.specs.MergedFiles.{AddsGroup, AreGroupColumns, IsColumnGroup, IsMergedColumn, values_of}
 use Rattle.seg_columns_merged.specs.Merging.{IsBelow, IsCut, IsTableOf, SoFar, covers, entries_in, entry_in, found_at, mixed_at, row_lt}
-use Rattle.seg_columns_merged.specs.Tables.{Row, all_rows, column_in, kind_of, row_of}
+use Rattle.seg_columns_joined.specs.Tables.{Row, all_rows, column_in, kind_of, row_of}
 use Rattle.seg_columns_merged.specs.declared.merge.Merge.{Merge}
 use Rattle.seg_columns_merged.specs.declared.merged_file.MergedFile.{MergedFile}
-use Rattle.seg_columns_merged.specs.declared.tables.TableRow.{TableRow}
+use Rattle.seg_columns_joined.specs.declared.tables.TableRow.{TableRow}
 use Rattle.seg_columns_merged.proofs.Agreeing.{types_agree}
 use Rattle.seg_columns_merged.proofs.Choosing.{at_type}
 use Rattle.seg_columns_merged.proofs.Completing.{one_type}
@@ -40,6 +38,8 @@ use Rattle.seg_columns_merged.proofs.Decided.{model_has, model_mixed, model_unmi
 use Rattle.seg_columns_merged.proofs.GroupSteps.{kind_decided}
 use Rattle.seg_columns_merged.proofs.Grouping.{cut_behind, group_is_all}
 use Rattle.seg_columns_merged.proofs.KeyLaws.{key_is}
+use Rattle.seg_columns_merged.proofs.KeyOrder.{key_cmp, key_then}
+use Rattle.seg_columns_merged.proofs.OfFiles.{all_of_files, type_read_back}
 
 -- ---- the rows between two places
 
@@ -143,24 +143,6 @@ module _ {V : Type 0} (q : ColumnKey) where
 
 -- ---- columns in order
 
-less_is : (r : Ordering) → is_lt r ≡ true → r ≡ Less
-less_is Less e = refl
-less_is Equal e = absurd (false≢true e)
-less_is Greater e = absurd (false≢true e)
-
-abbrev Key : Type 0
-Key = List ℕ × ℕ
-
-abbrev key_cmp : Key → Key → Ordering
-key_cmp = then_cmp (on (λ (k : Key). k.0) (slice_cmp nat_cmp)) (on (λ (k : Key). k.1) nat_cmp)
-
-key_total : IsTotalOrder key_cmp
-key_total = then_total (on_total (λ (k : Key). k.0) nat_list_cmp_total) (on_total (λ (k : Key). k.1) nat_cmp_total)
-
-key_then : (a b c : Key) → is_lt (key_cmp a b) ≡ true → is_lt (key_cmp b c) ≡ true → is_lt (key_cmp a c) ≡ true
-key_then a b c first second =
-    ap is_lt (key_total.trans a b c (less_is (key_cmp a b) first) (less_is (key_cmp b c) second))
-
 code_bound : (t : ColumnType) → code_of t ≤ kind_of t + 1
 code_bound types.I64 = omega arith
 code_bound types.U64 = omega arith
@@ -219,15 +201,6 @@ below_next x y lt (c ∷ cs) all = (
 )
 
 -- ---- what a column reads as
-
-type_read_back : (t : ColumnType) (rows : ℕ) (bytes : List ℕ) → type_of (column_of t rows bytes) ≡ t
-type_read_back types.I64 rows bytes = refl
-type_read_back types.U64 rows bytes = refl
-type_read_back types.Bytes rows bytes = refl
-type_read_back types.Str rows bytes = refl
-type_read_back types.Bool rows bytes = refl
-type_read_back types.IpAddr rows bytes = refl
-type_read_back types.DateTime rows bytes = refl
 
 module _ (path : List ℕ) (t : ColumnType) (values : List (List ColumnValue)) (rows : ℕ) (c : WrittenColumn)
     (is : IsMergedColumn path t values rows c) where
@@ -296,11 +269,15 @@ module _ (merge : Merge) (is_merge : IsMerge merge) (table : List TableRow)
       types_agree merge.required.now merge.columnars.now is_merge.can.types path kind (row_of r) (map row_of rest)
       (sym all_of_them ∙ ap (map row_of) is) absent
 
-  pub is_group : AreOfFiles merge.counts.now 0 these → All (λ r. RowFits merge.kept.now r.column) these
-      → IsColumnGroup merge these
-  is_group files fits = record {
+  pub of_files : AreOfFiles merge.counts.now 0 these
+  of_files =
+      all_of_files path kind merge.required.now merge.columnars.now of.read merge.counts.now is_merge.counts these
+      all_of_them
+
+  pub is_group : All (λ r. RowFits merge.kept.now r.column) these → IsColumnGroup merge these
+  is_group fits = record {
     decidable = record {
-      files = files;
+      files = of_files;
       types = all_between table start stop group.some group.within (λ r. HasType r.column_type r.column)
           (λ k d le lt. of.typed k d (omega (arith, lt, group.within)));
       fits = fits;
@@ -503,6 +480,11 @@ module _ (merge : Merge) (is_merge : IsMerge merge) (table : List TableRow)
       }
   are_next (Some t) decided kinds (c ∷ d ∷ cs) are = absurd are
 
+  pub next_cut : IsCut table stop
+  next_cut = record {
+    below = cut_behind of.old table of.sorted of.stable start stop x there first group below;
+  }
+
   pub put_more : (old new : MergedFile) (so_far : SoFar merge table start old)
       → AddsGroup merge path these so_far.columns new
       → ((t : ColumnType) → merged_type (map row_of these) values ≡ Some (Some t) → kind_of t ≡ kind)
@@ -529,7 +511,7 @@ module _ (merge : Merge) (is_merge : IsMerge merge) (table : List TableRow)
             (ours q) (found_at merge q) (so_far.found q) (next.found q)
             ∙ ap (λ (b : Bool). cond b (found_at merge q) None) (sym (covers_more q));
         clear = λ q is. by_side q adds.type adds.decided so_far (sym (covers_more q) ∙ is);
-        cut = record { below = λ k d lt more. behind k d lt more };
+        cut = next_cut;
       }
     where
       by_side : (q : ColumnKey) (type : Option ColumnType) → merged_type (map row_of these) values ≡ Some type

@@ -16,11 +16,11 @@ use Rattle.seg_columns_merged.specs.Cells.{is_absent}
 use Rattle.seg_columns_merged.specs.Decisions.{as_there, merged_type}
 use Rattle.seg_columns_merged.specs.MergedBytes.{HasNumbers, HasType, HoldsAll, IsNumberType, SuitsType, places_of}
 use Rattle.seg_columns_merged.specs.MergedFiles.{AddsEntry, IsColumnGroup, IsFileOf, values_of}
-use Rattle.seg_columns_merged.specs.Tables.{column_in, kind_of, row_of}
+use Rattle.seg_columns_joined.specs.Tables.{column_in, kind_of, row_of}
 use Rattle.seg_columns_merged.specs.declared.merge.Merge.{Merge}
 use Rattle.seg_columns_merged.specs.declared.merged_file.MergedFile.{MergedFile}
-use Rattle.seg_columns_merged.specs.declared.tables.FileColumn.{FileColumn}
-use Rattle.seg_columns_merged.specs.declared.tables.TableRow.{TableRow}
+use Rattle.seg_columns_joined.specs.declared.tables.FileColumn.{FileColumn}
+use Rattle.seg_columns_joined.specs.declared.tables.TableRow.{TableRow}
 use Rattle.seg_columns_merged.proofs.Agreeing.{type_of_kind}
 use Rattle.seg_columns_merged.proofs.Deciding.{same_kind_number}
 
@@ -211,10 +211,6 @@ data_more columns c =
 
 many_more : (columns : List WrittenColumn) (c : WrittenColumn) → length (columns ++ c ∷ []) ≡ length columns + 1
 many_more columns c = length-append columns (c ∷ [])
-
-pub file_same : (columns : List WrittenColumn) (file : MergedFile) → IsFileOf columns file
-    → IsFileOf (columns ++ []) file
-file_same columns file is = subst (λ (cs : List WrittenColumn). IsFileOf cs file) (sym (append-nil columns)) is
 
 pub file_more : (columns : List WrittenColumn) (path : List ℕ) (type : ColumnType) (bytes : List ℕ)
     (old middle new : MergedFile) → IsFileOf columns old → middle.bytes.items ≡ old.bytes.items ++ bytes

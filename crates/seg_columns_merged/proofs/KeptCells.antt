@@ -14,18 +14,18 @@ use Rattle.seg_columns.specs.declared.dynamic_column.DynamicColumn.{DynamicColum
 use Rattle.seg_columns.specs.declared.dynamic_column.DynamicColumn.TheVariants as columns
 use Rattle.seg_columns_written.specs.ModelColumns.{column_rows}
 use Rattle.seg_columns_merged.specs.Decisions.{has_value, range_of, with_column}
-use Rattle.seg_columns_merged.specs.KeptColumns.{any_kept_value, kept_fit, range_with, row_count_of, there}
-use Rattle.seg_columns_merged.specs.KeptRows.{AreMarks, kept_values}
-use Rattle.seg_columns_merged.specs.NumberRanges.{no_numbers}
+use Rattle.seg_columns_joined.specs.KeptColumns.{any_kept_value, kept_fit, range_with, row_count_of, there}
+use Rattle.seg_columns_joined.specs.KeptRows.{AreMarks, kept_values}
+use Rattle.seg_columns_joined.specs.NumberRanges.{no_numbers}
 use Rattle.seg_columns_merged.specs.MergedBytes.{HasNumbers, RowFits}
-use Rattle.seg_columns_merged.specs.RowOrders.{Place}
-use Rattle.seg_columns_merged.specs.declared.number_range.NumberRange.{NumberRange}
-use Rattle.seg_columns_merged.specs.declared.tables.FileColumn.{FileColumn}
-use Rattle.seg_columns_merged.specs.declared.tables.TableRow.{TableRow}
-use Rattle.seg_columns_merged.proofs.KeptAny.{any_both, any_kept}
+use Rattle.seg_columns_joined.specs.RowOrders.{Place}
+use Rattle.seg_columns_joined.specs.declared.number_range.NumberRange.{NumberRange}
+use Rattle.seg_columns_joined.specs.declared.tables.FileColumn.{FileColumn}
+use Rattle.seg_columns_joined.specs.declared.tables.TableRow.{TableRow}
+use Rattle.seg_columns_joined.proofs.Exports.{any_both, any_kept}
 use Rattle.seg_columns_merged.proofs.NumberColumns.{row_of_map}
-use Rattle.seg_columns_merged.proofs.NumberTypes.{large_unsigned, negative_signed, negative_unsigned}
-use Rattle.seg_columns_merged.proofs.RangeLaws.{signed_large, signed_negative, signed_some, unsigned_large, unsigned_negative, unsigned_some}
+use Rattle.seg_columns_joined.proofs.Exports.{large_unsigned, negative_signed, negative_unsigned}
+use Rattle.seg_columns_joined.proofs.Exports.{signed_large, signed_negative, signed_some, unsigned_large, unsigned_negative, unsigned_some}
 use Rattle.seg_columns_merged.proofs.SourceRows.{column_cell, column_cells}
 
 -- whether a value of a column passes a test, at any of some places

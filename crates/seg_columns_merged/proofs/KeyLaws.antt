@@ -13,7 +13,7 @@ use Rattle.seg_common.specs.declared.column_type.ColumnType.{ColumnType}
 use Rattle.seg_common.specs.declared.column_type.ColumnType.TheVariants.{I64, U64, Bytes, Str, Bool as Boolean, IpAddr, DateTime}
 use Rattle.seg_model.specs.Columns.{ColumnKey, column_cmp, type_place}
 use Rattle.seg_columns_merged.specs.MergedColumns.{keys_with}
-use Rattle.seg_columns_merged.specs.Tables.{kind_of}
+use Rattle.seg_columns_joined.specs.Tables.{kind_of}
 
 -- ---- types, where paths compare in some way
 

@@ -15,11 +15,11 @@ use Rattle.seg_columns.specs.DynamicColumns.{numbers_of, type_of}
 use Rattle.seg_columns.specs.declared.dynamic_column.DynamicColumn.{DynamicColumn}
 use Rattle.seg_columns.specs.declared.dynamic_column.DynamicColumn.TheVariants as columns
 use Rattle.seg_columns_written.specs.ModelColumns.{column_rows}
-use Rattle.seg_columns_merged.specs.ColumnSources.{number_map}
-use Rattle.seg_columns_merged.specs.ImageValues.{value_in}
-use Rattle.seg_columns_merged.specs.KeptColumns.{row_count_of}
-use Rattle.seg_columns_merged.specs.Sources.{CanMap, mapped}
-use Rattle.seg_columns_merged.specs.declared.number_map.NumberMap.{NumberMap}
+use Rattle.seg_columns_joined.specs.ColumnSources.{number_map}
+use Rattle.seg_columns_joined.specs.ImageValues.{value_in}
+use Rattle.seg_columns_joined.specs.KeptColumns.{row_count_of}
+use Rattle.seg_columns_joined.specs.Sources.{CanMap, mapped}
+use Rattle.seg_columns_joined.specs.declared.number_map.NumberMap.{NumberMap}
 
 -- ---- one number
 

@@ -12,23 +12,23 @@ use Rattle.seg_model.specs.Columns.{boolean_value, date_value, number}
 use Rattle.seg_columns.specs.DynamicColumns.{type_of}
 use Rattle.seg_columns_written.specs.ColumnBytes.{column_bytes, total}
 use Rattle.seg_columns_merged.specs.Cells.{cells}
-use Rattle.seg_columns_merged.specs.ColumnSources.{number_map, number_source, source_of, with_column, with_map, with_maps, with_rows}
+use Rattle.seg_columns_joined.specs.ColumnSources.{number_map, number_source, source_of, with_column, with_map, with_maps, with_rows}
 use Rattle.seg_columns_merged.specs.Groups.{AreOfFiles}
-use Rattle.seg_columns_merged.specs.ImageValues.{value_in}
-use Rattle.seg_columns_merged.specs.JoinedNumbers.{IsNumeric, joined_numbers, row_numbers}
-use Rattle.seg_columns_merged.specs.KeptColumns.{row_count_of}
+use Rattle.seg_columns_joined.specs.ImageValues.{value_in}
+use Rattle.seg_columns_joined.specs.JoinedNumbers.{IsNumeric, joined_numbers, row_numbers}
+use Rattle.seg_columns_joined.specs.KeptColumns.{row_count_of}
 use Rattle.seg_columns_merged.specs.MergedBytes.{AddsMerged, HasType, IsNumberType}
-use Rattle.seg_columns_merged.specs.RowOrders.{Place, IsRow}
-use Rattle.seg_columns_merged.specs.Sources.{CanMap, CanPut, IsPut, joined, mapped}
-use Rattle.seg_columns_merged.specs.Tables.{row_of}
-use Rattle.seg_columns_merged.specs.declared.number_map.NumberMap.{NumberMap}
-use Rattle.seg_columns_merged.specs.declared.number_map.NumberMap.TheVariants.{Same}
-use Rattle.seg_columns_merged.specs.declared.source.Source.{Source}
-use Rattle.seg_columns_merged.specs.declared.source.Source.TheVariants.{Nothing, Numbers}
-use Rattle.seg_columns_merged.specs.declared.tables.FileColumn.{FileColumn}
-use Rattle.seg_columns_merged.specs.declared.tables.TableRow.{TableRow}
-use Rattle.seg_columns_merged.proofs.JoinedRows.{joined_column, joined_rows}
-use Rattle.seg_columns_merged.proofs.KeptMarks.{file_below}
+use Rattle.seg_columns_joined.specs.RowOrders.{Place, IsRow}
+use Rattle.seg_columns_joined.specs.Sources.{CanMap, CanPut, IsPut, joined, mapped}
+use Rattle.seg_columns_joined.specs.Tables.{row_of}
+use Rattle.seg_columns_joined.specs.declared.number_map.NumberMap.{NumberMap}
+use Rattle.seg_columns_joined.specs.declared.number_map.NumberMap.TheVariants.{Same}
+use Rattle.seg_columns_joined.specs.declared.source.Source.{Source}
+use Rattle.seg_columns_joined.specs.declared.source.Source.TheVariants.{Nothing, Numbers}
+use Rattle.seg_columns_joined.specs.declared.tables.FileColumn.{FileColumn}
+use Rattle.seg_columns_joined.specs.declared.tables.TableRow.{TableRow}
+use Rattle.seg_columns_joined.proofs.Exports.{joined_column, joined_rows}
+use Rattle.seg_columns_joined.proofs.Exports.{file_below}
 use Rattle.seg_columns_merged.proofs.KeptPlaces.{IsKept, all_kept}
 use Rattle.seg_columns_merged.proofs.NumberColumns.{IsNumberRow, RowSuits, is_image_of, number_row}
 use Rattle.seg_columns_merged.proofs.PutTerms.{cells_are}

@@ -15,19 +15,19 @@ use Rattle.seg_columns_written.specs.ModelColumns.{terms_at}
 use Rattle.seg_columns_written.proofs.TermLaws.{is_bytes_column, is_str_column, term_column_read}
 use Rattle.seg_columns_merged.specs.Cells.{cells}
 use Rattle.seg_columns_merged.specs.Groups.{AreOfFiles}
-use Rattle.seg_columns_merged.specs.JoinedNumbers.{IsNumeric, joined_numbers, row_numbers}
-use Rattle.seg_columns_merged.specs.KeptRows.{AreMarks}
+use Rattle.seg_columns_joined.specs.JoinedNumbers.{IsNumeric, joined_numbers, row_numbers}
+use Rattle.seg_columns_joined.specs.KeptRows.{AreMarks}
 use Rattle.seg_columns_merged.specs.MergedBytes.{AddsMerged, HasType, IsTermType}
-use Rattle.seg_columns_merged.specs.MergedTerms.{AreMerged, HasTexts}
-use Rattle.seg_columns_merged.specs.RowOrders.{Place, IsRow}
-use Rattle.seg_columns_merged.specs.Sources.{IsPut, joined}
-use Rattle.seg_columns_merged.specs.Tables.{row_of}
-use Rattle.seg_columns_merged.specs.TermSources.{AreTermSources}
-use Rattle.seg_columns_merged.specs.declared.source.Source.{Source}
-use Rattle.seg_columns_merged.specs.declared.source.Source.TheVariants.{Nothing}
-use Rattle.seg_columns_merged.specs.declared.tables.FileColumn.{FileColumn}
-use Rattle.seg_columns_merged.specs.declared.tables.TableRow.{TableRow}
-use Rattle.seg_columns_merged.proofs.JoinedRows.{joined_bytes, joined_total}
+use Rattle.seg_columns_joined.specs.MergedTerms.{AreMerged, HasTexts}
+use Rattle.seg_columns_joined.specs.RowOrders.{Place, IsRow}
+use Rattle.seg_columns_joined.specs.Sources.{IsPut, joined}
+use Rattle.seg_columns_joined.specs.Tables.{row_of}
+use Rattle.seg_columns_joined.specs.TermSources.{AreTermSources}
+use Rattle.seg_columns_joined.specs.declared.source.Source.{Source}
+use Rattle.seg_columns_joined.specs.declared.source.Source.TheVariants.{Nothing}
+use Rattle.seg_columns_joined.specs.declared.tables.FileColumn.{FileColumn}
+use Rattle.seg_columns_joined.specs.declared.tables.TableRow.{TableRow}
+use Rattle.seg_columns_joined.proofs.Exports.{joined_bytes, joined_total}
 use Rattle.seg_columns_merged.proofs.KeptPlaces.{IsKept, all_kept}
 use Rattle.seg_columns_merged.proofs.SourceRows.{FilesRise, cell_by_columns, column_cells, files_rise}
 use Rattle.seg_columns_merged.proofs.TermColumns.{HasTerms, all_put, all_read, are_numeric, bytes_are, texts_are, uses_each}

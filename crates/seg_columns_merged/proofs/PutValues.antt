@@ -14,18 +14,18 @@ use Rattle.seg_columns.specs.declared.dynamic_column.DynamicColumn.{DynamicColum
 use Rattle.seg_columns.specs.declared.dynamic_column.DynamicColumn.TheVariants as columns
 use Rattle.seg_columns_written.specs.ColumnBytes.{column_bytes, total}
 use Rattle.seg_columns_merged.specs.Cells.{cell, cells}
-use Rattle.seg_columns_merged.specs.ColumnSources.{number_source, with_maps, with_rows}
+use Rattle.seg_columns_joined.specs.ColumnSources.{number_source, with_maps, with_rows}
 use Rattle.seg_columns_merged.specs.Groups.{AreOfFiles}
-use Rattle.seg_columns_merged.specs.JoinedNumbers.{IsNumeric}
-use Rattle.seg_columns_merged.specs.KeptRows.{AreMarks, is_kept}
+use Rattle.seg_columns_joined.specs.JoinedNumbers.{IsNumeric}
+use Rattle.seg_columns_joined.specs.KeptRows.{AreMarks, is_kept}
 use Rattle.seg_columns_merged.specs.MergedBytes.{AddsMerged, HasNumbers, HasType, HoldsAll, IsNumberType, RowFits, SuitsType}
-use Rattle.seg_columns_merged.specs.RowOrders.{Place, IsRow}
-use Rattle.seg_columns_merged.specs.Sources.{IsPut, joined}
-use Rattle.seg_columns_merged.specs.Tables.{row_of}
-use Rattle.seg_columns_merged.specs.declared.source.Source.{Source}
-use Rattle.seg_columns_merged.specs.declared.source.Source.TheVariants.{Nothing}
-use Rattle.seg_columns_merged.specs.declared.tables.FileColumn.{FileColumn}
-use Rattle.seg_columns_merged.specs.declared.tables.TableRow.{TableRow}
+use Rattle.seg_columns_joined.specs.RowOrders.{Place, IsRow}
+use Rattle.seg_columns_joined.specs.Sources.{IsPut, joined}
+use Rattle.seg_columns_joined.specs.Tables.{row_of}
+use Rattle.seg_columns_joined.specs.declared.source.Source.{Source}
+use Rattle.seg_columns_joined.specs.declared.source.Source.TheVariants.{Nothing}
+use Rattle.seg_columns_joined.specs.declared.tables.FileColumn.{FileColumn}
+use Rattle.seg_columns_joined.specs.declared.tables.TableRow.{TableRow}
 use Rattle.seg_columns_merged.proofs.KeptPlaces.{IsKept}
 use Rattle.seg_columns_merged.proofs.NumberColumns.{RowSuits}
 use Rattle.seg_columns_merged.proofs.PutNumbers.{maps_of, numbers_added, numbers_images, numbers_put, numbers_read, with_rows_are}

@@ -12,7 +12,7 @@ use Rattle.seg_model.specs.Columns.{ColumnKey, column_cmp, is_declared, type_pla
 use Rattle.seg_columnar.specs.ColumnFiles.{ColumnFile, NamedColumn}
 use Rattle.seg_columns_merged.specs.Cells.{is_absent, is_of, is_required, rows_with}
 use Rattle.seg_columns_merged.specs.MergedColumns.{required_key}
-use Rattle.seg_columns_merged.specs.Tables.{Row, all_rows, file_row, file_rows, kind_of, required_row}
+use Rattle.seg_columns_joined.specs.Tables.{Row, all_rows, file_row, file_rows, kind_of, required_row}
 use Rattle.seg_columns_merged.proofs.KeyLaws.{key_is, kind_too}
 
 -- ---- tests of rows

@@ -3,13 +3,14 @@ use Rattle.std.proofs.Common.{◌≡◌, ℕ, List, [], ◌∷◌, length, Optio
 use Rattle.std.specs.Prelude.{All, Bool}
 use Rattle.std.specs.List.{AllByRecursion, AllZip}
 use Rattle.std.proofs.lemmas.List.Elements.{All-from_recursion}
-use Rattle.seg_columns_merged.specs.ColumnSources.{FileBelow, HasFile}
-use Rattle.seg_columns_merged.specs.Groups.{AreOfFiles, FileFits, HasRows}
-use Rattle.seg_columns_merged.specs.KeptRows.{AreMarks}
-use Rattle.seg_columns_merged.specs.MergedTerms.{AreRowNumbers}
-use Rattle.seg_columns_merged.specs.RowOrders.{Place}
-use Rattle.seg_columns_merged.specs.declared.tables.FileColumn.{FileColumn}
-use Rattle.seg_columns_merged.specs.declared.tables.TableRow.{TableRow}
+use Rattle.seg_columns_joined.specs.ColumnSources.{FileBelow, HasFile}
+use Rattle.seg_columns_joined.specs.KeptColumns.{HasRows}
+use Rattle.seg_columns_merged.specs.Groups.{AreOfFiles, FileFits}
+use Rattle.seg_columns_joined.specs.KeptRows.{AreMarks}
+use Rattle.seg_columns_joined.specs.MergedTerms.{AreRowNumbers}
+use Rattle.seg_columns_joined.specs.RowOrders.{Place}
+use Rattle.seg_columns_joined.specs.declared.tables.FileColumn.{FileColumn}
+use Rattle.seg_columns_joined.specs.declared.tables.TableRow.{TableRow}
 
 module _ (counts : List ℕ) where
   file_below : (first next : ℕ) (o : Option FileColumn) → FileFits counts first o next → FileBelow (length counts) o

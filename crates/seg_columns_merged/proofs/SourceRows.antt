@@ -9,17 +9,17 @@ use Rattle.std.proofs.lemmas.Option.{none-some, same_Some}
 use Rattle.seg_model.specs.Columns.{ColumnValue}
 use Rattle.seg_columns_written.specs.ModelColumns.{column_rows}
 use Rattle.seg_columns_merged.specs.Cells.{cell, row_cell}
-use Rattle.seg_columns_merged.specs.ColumnSources.{source_of, with_maps}
+use Rattle.seg_columns_joined.specs.ColumnSources.{source_of, with_maps}
 use Rattle.seg_columns_merged.specs.Groups.{AreOfFiles, FileFits}
-use Rattle.seg_columns_merged.specs.KeptColumns.{row_count_of}
-use Rattle.seg_columns_merged.specs.RowOrders.{Place}
-use Rattle.seg_columns_merged.specs.Tables.{column_in, row_of}
-use Rattle.seg_columns_merged.specs.declared.number_map.NumberMap.{NumberMap}
-use Rattle.seg_columns_merged.specs.declared.number_map.NumberMap.TheVariants.{Same}
-use Rattle.seg_columns_merged.specs.declared.source.Source.{Source}
-use Rattle.seg_columns_merged.specs.declared.source.Source.TheVariants.{Nothing}
-use Rattle.seg_columns_merged.specs.declared.tables.FileColumn.{FileColumn}
-use Rattle.seg_columns_merged.specs.declared.tables.TableRow.{TableRow}
+use Rattle.seg_columns_joined.specs.KeptColumns.{row_count_of}
+use Rattle.seg_columns_joined.specs.RowOrders.{Place}
+use Rattle.seg_columns_joined.specs.Tables.{column_in, row_of}
+use Rattle.seg_columns_joined.specs.declared.number_map.NumberMap.{NumberMap}
+use Rattle.seg_columns_joined.specs.declared.number_map.NumberMap.TheVariants.{Same}
+use Rattle.seg_columns_joined.specs.declared.source.Source.{Source}
+use Rattle.seg_columns_joined.specs.declared.source.Source.TheVariants.{Nothing}
+use Rattle.seg_columns_joined.specs.declared.tables.FileColumn.{FileColumn}
+use Rattle.seg_columns_joined.specs.declared.tables.TableRow.{TableRow}
 
 -- the values of a column in a row
 abbrev pub values_in : FileColumn → ℕ → List ColumnValue

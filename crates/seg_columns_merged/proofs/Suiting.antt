@@ -15,11 +15,11 @@ use Rattle.seg_columns.specs.DynamicColumns.{type_of}
 use Rattle.seg_columns.specs.declared.dynamic_column.DynamicColumn.{DynamicColumn}
 use Rattle.seg_columns.specs.declared.dynamic_column.DynamicColumn.TheVariants as columns
 use Rattle.seg_columns_written.specs.ModelColumns.{column_rows}
-use Rattle.seg_columns_merged.specs.KeptColumns.{kept_fit}
-use Rattle.seg_columns_merged.specs.KeptRows.{kept_values}
+use Rattle.seg_columns_joined.specs.KeptColumns.{kept_fit}
+use Rattle.seg_columns_joined.specs.KeptRows.{kept_values}
 use Rattle.seg_columns_merged.specs.MergedBytes.{IsNumberType}
-use Rattle.seg_columns_merged.specs.RowOrders.{Place}
-use Rattle.seg_columns_merged.specs.declared.tables.FileColumn.{FileColumn}
+use Rattle.seg_columns_joined.specs.RowOrders.{Place}
+use Rattle.seg_columns_joined.specs.declared.tables.FileColumn.{FileColumn}
 use Rattle.seg_columns_merged.proofs.NumberColumns.{RowSuits, row_of_map}
 use Rattle.seg_columns_merged.proofs.SourceRows.{FilesRise, column_cells, later_files, values_in}
 

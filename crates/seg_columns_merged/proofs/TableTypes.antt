@@ -9,9 +9,9 @@ use Rattle.seg_common.specs.declared.column_type.ColumnType.{ColumnType}
 use Rattle.seg_columns.specs.DynamicColumns.{type_of}
 use Rattle.seg_columnar.specs.ColumnFiles.{ColumnFile, NamedColumn}
 use Rattle.seg_columns_merged.specs.MergedBytes.{HasType}
-use Rattle.seg_columns_merged.specs.Tables.{PlacedColumn, Row, all_rows, column_in, file_row, file_rows, required_row, row_of}
-use Rattle.seg_columns_merged.specs.declared.tables.FileColumn.{FileColumn}
-use Rattle.seg_columns_merged.specs.declared.tables.TableRow.{TableRow}
+use Rattle.seg_columns_joined.specs.Tables.{PlacedColumn, Row, all_rows, column_in, file_row, file_rows, required_row, row_of}
+use Rattle.seg_columns_joined.specs.declared.tables.FileColumn.{FileColumn}
+use Rattle.seg_columns_joined.specs.declared.tables.TableRow.{TableRow}
 
 abbrev IsTyped : ColumnType → Option PlacedColumn → Type 0
 IsTyped type None = Unit {0}

@@ -1,18 +1,18 @@
 -- The sources of columns of texts or bytes, one after the other.
-use Rattle.std.proofs.Common.{◌≡◌, ℕ, ◌+◌, ◌<◌, ◌≤◌, List, [], ◌∷◌, ◌++◌, length, map, take, get_or, set, Option, Some, None, ◌⊎◌, inl, inr, refl, sym, ap, subst, ◌∙◌, arith}
+use Rattle.std.proofs.Common.{◌≡◌, ℕ, ◌+◌, ◌<◌, ◌≤◌, List, [], ◌∷◌, ◌++◌, length, map, take, drop, get_or, set, Option, Some, None, ◌⊎◌, inl, inr, refl, sym, ap, subst, ◌∙◌, arith}
 use Rattle.std.specs.Prelude.{All, Vec, replicate}
 use Rattle.std.specs.declared.alloc.Global.{Global}
 use Rattle.std.proofs.lemmas.Bool.{cases_lt}
-use Rattle.std.proofs.lemmas.List.{get_or_append_left, get_or_push, length-map, length-replicate, length_push, length-take-le, map-append, take_more}
-use Rattle.seg_columns_merged.specs.ColumnSources.{source_of, with_map, with_maps}
-use Rattle.seg_columns_merged.specs.MergedTerms.{ords_in, terms_in}
-use Rattle.seg_columns_merged.specs.TermSources.{AddsSource, AreTermSources, MapsTo}
-use Rattle.seg_columns_merged.specs.declared.number_map.NumberMap.{NumberMap}
-use Rattle.seg_columns_merged.specs.declared.number_map.NumberMap.TheVariants.{Same, Ordinals}
-use Rattle.seg_columns_merged.specs.declared.source.Source.{Source}
-use Rattle.seg_columns_merged.specs.declared.source.Source.TheVariants.{Nothing}
-use Rattle.seg_columns_merged.specs.declared.tables.FileColumn.{FileColumn}
-use Rattle.seg_columns_merged.specs.declared.tables.TableRow.{TableRow}
+use Rattle.std.proofs.lemmas.List.{drop_all, drop_more, get_or-map, get_or_append_left, get_or_push, length-map, length-replicate, length_push, length-take-le, map-append, take_more}
+use Rattle.seg_columns_joined.specs.ColumnSources.{source_of, with_map, with_maps}
+use Rattle.seg_columns_joined.specs.MergedTerms.{ords_in, terms_in}
+use Rattle.seg_columns_joined.specs.TermSources.{AddsSource, AreTermSources, MapsTo}
+use Rattle.seg_columns_joined.specs.declared.number_map.NumberMap.{NumberMap}
+use Rattle.seg_columns_joined.specs.declared.number_map.NumberMap.TheVariants.{Same, Ordinals}
+use Rattle.seg_columns_joined.specs.declared.source.Source.{Source}
+use Rattle.seg_columns_joined.specs.declared.source.Source.TheVariants.{Nothing}
+use Rattle.seg_columns_joined.specs.declared.tables.FileColumn.{FileColumn}
+use Rattle.seg_columns_joined.specs.declared.tables.TableRow.{TableRow}
 use Rattle.seg_columns_merged.proofs.SourceRows.{length-with_maps}
 
 one_more : (cs : List (Option FileColumn)) (ms : List NumberMap) (o : Option FileColumn) (m : NumberMap)
@@ -93,3 +93,22 @@ pub as_long : (n : ℕ) (columns : List (Option FileColumn)) (ordinals : List (L
     → AreTermSources (replicate n Nothing) columns ordinals sources → length sources ≡ n
 as_long n columns ordinals sources are =
     ap length are.are ∙ length-with_maps columns are.written (replicate n Nothing) ∙ length-replicate n Nothing
+
+-- ---- lists of ordinals, taken one by one
+
+module _ {V : Type 0} (all left rest : List V) (at : ℕ) (v : V) (is : left ≡ drop at all) (step : left ≡ v ∷ rest) where
+  pub list_there : at < length all
+  list_there = by (cases_lt at (length all))
+    where
+      by : (at < length all) ⊎ (length all ≤ at) → at < length all
+      by (inl lt) = lt
+      by (inr le) = absurd (omega (arith, ap length (sym step ∙ is ∙ drop_all at all le)))
+
+  split : v ∷ rest ≡ get_or all at v ∷ drop (at + 1) all
+  split = sym step ∙ is ∙ drop_more all at v list_there
+
+  pub rest_is : rest ≡ drop (at + 1) all
+  rest_is = ap (drop 1) split
+
+  pub list_is : (f : V → List ℕ) → f v ≡ get_or (map f all) at []
+  list_is f = ap (λ (l : List V). f (get_or l 0 v)) split ∙ sym (get_or-map f all at v [] list_there)

@@ -5,13 +5,13 @@ use Rattle.seg_common.specs.declared.column_type.ColumnType.{ColumnType}
 use Rattle.seg_model.specs.Columns.{ColumnValue, free_number_type, is_filled, is_number}
 use Rattle.seg_columns_merged.specs.Cells.{is_absent}
 use Rattle.seg_columns_merged.specs.Groups.{AreOfFiles}
-use Rattle.seg_columns_merged.specs.KeptColumns.{any_kept_value, range_with}
+use Rattle.seg_columns_joined.specs.KeptColumns.{any_kept_value, range_with}
 use Rattle.seg_columns_merged.specs.MergedBytes.{HasType, RowFits}
-use Rattle.seg_columns_merged.specs.NumberRanges.{type_of_range}
-use Rattle.seg_columns_merged.specs.Tables.{Row, kind_of}
-use Rattle.seg_columns_merged.specs.declared.number_range.NumberRange.{NumberRange}
-use Rattle.seg_columns_merged.specs.declared.tables.FileColumn.{FileColumn}
-use Rattle.seg_columns_merged.specs.declared.tables.TableRow.{TableRow}
+use Rattle.seg_columns_joined.specs.NumberRanges.{type_of_range}
+use Rattle.seg_columns_joined.specs.Tables.{Row, kind_of}
+use Rattle.seg_columns_joined.specs.declared.number_range.NumberRange.{NumberRange}
+use Rattle.seg_columns_joined.specs.declared.tables.FileColumn.{FileColumn}
+use Rattle.seg_columns_joined.specs.declared.tables.TableRow.{TableRow}
 
 -- ---- what the kept rows have of the columns of rows
 

@@ -1,10 +1,10 @@
 -- Rows of a table that have one key.
 use Rattle.std.specs.Prelude.{◌≡◌, ℕ, ◌+◌, ◌<◌, ◌≤◌, ◌&&◌, Bool, true, false, List, [], ◌∷◌, Option, Some, None, length, get_or, nat_eq}
 use Rattle.std.specs.Str.{bytes_eq}
-use Rattle.seg_columns_merged.specs.KeptColumns.{row_count_of}
-use Rattle.seg_columns_merged.specs.Tables.{kind_of}
-use Rattle.seg_columns_merged.specs.declared.tables.FileColumn.{FileColumn}
-use Rattle.seg_columns_merged.specs.declared.tables.TableRow.{TableRow}
+use Rattle.seg_columns_joined.specs.KeptColumns.{row_count_of}
+use Rattle.seg_columns_joined.specs.Tables.{kind_of}
+use Rattle.seg_columns_joined.specs.declared.tables.FileColumn.{FileColumn}
+use Rattle.seg_columns_joined.specs.declared.tables.TableRow.{TableRow}
 
 -- whether a row has the path and the kind of another one
 abbrev pub has_key : TableRow → TableRow → Bool
@@ -18,11 +18,6 @@ pub record IsGroup (table : List TableRow) (start stop : ℕ) : Type 0 where
   pub other : (d : TableRow) → stop < length table → has_key (get_or table stop d) (get_or table start d) ≡ false
 
 -- ---- the columns of a group
-
--- a file has marks for the rows of its column
-abbrev pub HasRows : List (List Bool) → Option FileColumn → Type 0
-HasRows kept None = Unit {0}
-HasRows kept (Some c) = (c.file < length kept) × (length (get_or kept c.file []) ≡ row_count_of (c.handle).column)
 
 -- a column is of a file from one on, with all rows of that file; the files behind it come next
 abbrev pub FileFits : List ℕ → ℕ → Option FileColumn → ℕ → Type 0

@@ -7,14 +7,14 @@ use Rattle.seg_model.specs.Columns.{ColumnValue, fits_i64, is_not_negative, is_n
 use Rattle.seg_columns.specs.DynamicColumns.{IsColumnOf, column_of, type_of}
 use Rattle.seg_columns_written.specs.ModelColumns.{column_rows}
 use Rattle.seg_columns_merged.specs.Cells.{cells}
-use Rattle.seg_columns_merged.specs.KeptColumns.{kept_fit}
-use Rattle.seg_columns_merged.specs.KeptRows.{AreMarks}
+use Rattle.seg_columns_joined.specs.KeptColumns.{kept_fit}
+use Rattle.seg_columns_joined.specs.KeptRows.{AreMarks}
 use Rattle.seg_columns_merged.specs.MergedColumns.{CanMerge, required_key}
-use Rattle.seg_columns_merged.specs.RowOrders.{Place, IsRow, rows_in_order}
-use Rattle.seg_columns_merged.specs.Tables.{Row, row_of}
+use Rattle.seg_columns_joined.specs.RowOrders.{Place, IsRow, rows_in_order}
+use Rattle.seg_columns_joined.specs.Tables.{Row, row_of}
 use Rattle.seg_columns_merged.specs.declared.merge.Merge.{Merge}
-use Rattle.seg_columns_merged.specs.declared.tables.FileColumn.{FileColumn}
-use Rattle.seg_columns_merged.specs.declared.tables.TableRow.{TableRow}
+use Rattle.seg_columns_joined.specs.declared.tables.FileColumn.{FileColumn}
+use Rattle.seg_columns_joined.specs.declared.tables.TableRow.{TableRow}
 
 -- the rows that a merge keeps
 abbrev pub places_of : Merge → List Place
@@ -22,6 +22,7 @@ places_of merge = rows_in_order merge.counts.now merge.order.now
 
 -- they can be merged, are there, and marked
 pub record IsMerge (merge : Merge) : Type 0 where
+  pub counts : merge.counts.now ≡ map (λ f. f.rows) merge.columnars.now
   pub can : CanMerge (map required_key merge.required.now) merge.columnars.now (places_of merge)
   pub rows : All (IsRow merge.counts.now) (places_of merge)
   pub marks : AreMarks merge.counts.now (places_of merge) merge.kept.now

@@ -3,17 +3,15 @@ use Rattle.std.specs.Prelude.{◌≡◌, ℕ, ◌+◌, ◌++◌, All, true, List
 use Rattle.seg_common.specs.declared.column_type.ColumnType.{ColumnType}
 use Rattle.seg_model.specs.Columns.{ColumnValue}
 use Rattle.seg_columns.specs.DynamicColumns.{IsColumnOf, column_of}
-use Rattle.seg_columns.specs.declared.error.ColumnError.{ColumnError}
-use Rattle.seg_columns.specs.declared.error.ColumnError.TheVariants.{Mixed, Malformed, OutOfMemory}
 use Rattle.seg_columns_written.specs.FileBytes.{WrittenColumn, data_bytes, entries_bytes, entry_bytes}
 use Rattle.seg_columns_written.specs.ModelColumns.{column_rows}
 use Rattle.seg_columns_merged.specs.Cells.{cells, is_absent}
 use Rattle.seg_columns_merged.specs.Decisions.{AreDecidable, merged_type}
 use Rattle.seg_columns_merged.specs.MergedBytes.{places_of}
-use Rattle.seg_columns_merged.specs.Tables.{column_in, row_of}
+use Rattle.seg_columns_joined.specs.Tables.{column_in, row_of}
 use Rattle.seg_columns_merged.specs.declared.merge.Merge.{Merge}
 use Rattle.seg_columns_merged.specs.declared.merged_file.MergedFile.{MergedFile}
-use Rattle.seg_columns_merged.specs.declared.tables.TableRow.{TableRow}
+use Rattle.seg_columns_joined.specs.declared.tables.TableRow.{TableRow}
 
 -- a file has these columns so far
 pub record IsFileOf (columns : List WrittenColumn) (file : MergedFile) : Type 0 where
@@ -62,9 +60,3 @@ pub record AddsGroup (merge : Merge) (path : List ℕ) (rows : List TableRow) (c
   pub added : List WrittenColumn
   pub are : AreGroupColumns path type (values_of merge rows) (length (places_of merge)) added
   pub file_is : IsFileOf (columns ++ added) file
-
--- why it wasn't
-abbrev pub GroupFails : Option (Option ColumnType) → ColumnError → Type 0
-GroupFails decided Mixed = decided ≡ None
-GroupFails decided Malformed = ⊥
-GroupFails decided OutOfMemory = Unit {0}

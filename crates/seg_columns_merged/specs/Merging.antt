@@ -10,7 +10,7 @@ use Rattle.seg_common.specs.declared.column_type.ColumnType.{ColumnType}
 use Rattle.seg_model.specs.Columns.{ColumnKey, ColumnValue, column_at, column_cmp, is_mixed}
 use Rattle.seg_columns.specs.declared.error.ColumnError.{ColumnError}
 use Rattle.seg_columns.specs.declared.error.ColumnError.TheVariants.{Mixed, Malformed, OutOfMemory}
-use Rattle.seg_columnar.specs.ColumnFiles.{ColumnFile}
+use Rattle.seg_columnar.specs.ColumnFiles.{ColumnFile, IsOfFile}
 use Rattle.seg_columns_written.specs.FileBytes.{AreInOrder, IsWritten, WrittenColumn, read_column}
 use Rattle.seg_columns_written.specs.ModelColumns.{column_key, column_rows}
 use Rattle.seg_columns_merged.specs.Cells.{is_of}
@@ -19,12 +19,12 @@ use Rattle.seg_columns_merged.specs.Groups.{IsGroup}
 use Rattle.seg_columns_merged.specs.MergedBytes.{HasType, places_of}
 use Rattle.seg_columns_merged.specs.MergedColumns.{required_key, rows_at}
 use Rattle.seg_columns_merged.specs.MergedFiles.{AddsGroup, IsFileOf, values_of}
-use Rattle.seg_columns_merged.specs.Tables.{all_rows, kind_of, row_of, table_key, table_key_cmp}
+use Rattle.seg_columns_joined.specs.Tables.{all_rows, kind_of, row_of, table_key, table_key_cmp}
 use Rattle.seg_columns_merged.specs.declared.merge.Merge.{Merge}
 use Rattle.seg_columns_merged.specs.declared.merged_file.MergedFile.{MergedFile}
-use Rattle.seg_columns_merged.specs.declared.tables.TableRow.{TableRow}
+use Rattle.seg_columns_joined.specs.declared.tables.TableRow.{TableRow}
 
--- the table of the required columns and those of files, in the order of keys
+-- the table of the required columns and those of files that were read, in the order of keys
 pub record IsTableOf (required : List (String Global × ColumnType)) (files : List ColumnFile)
     (table : List TableRow) : Type 0 where
   pub old : List TableRow
@@ -32,6 +32,7 @@ pub record IsTableOf (required : List (String Global × ColumnType)) (files : Li
   pub sorted : IsSortedByKey table_key table_key_cmp table
   pub stable : IsStableByKey table_key table_key_cmp old table
   pub permutation : IsPermutation old table
+  pub read : AllByRecursion IsOfFile files
   pub typed : All (λ r. HasType r.column_type r.column) table
   pub utf8 : All (λ r. IsUtf8 r.path.now) table
 

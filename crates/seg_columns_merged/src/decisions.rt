@@ -5,17 +5,14 @@ ghost use Rattle.seg_columns.specs.declared.error.ColumnError.TheVariants.{Mixed
 ghost use Rattle.seg_model.specs.Columns.{is_number};
 ghost use Rattle.seg_columns_merged.specs.Cells.{cells};
 ghost use Rattle.seg_columns_merged.specs.Decisions as spec;
-ghost use Rattle.seg_columns_merged.specs.Groups.{HasRows};
+ghost use Rattle.seg_columns_joined.specs.KeptColumns.{HasRows};
 ghost use Rattle.seg_columns_merged.specs.MergedBytes.{IsMerge, places_of};
-ghost use Rattle.seg_columns_merged.specs.NumberRanges.{no_numbers};
-ghost use Rattle.seg_columns_merged.specs.Tables.{row_of};
+ghost use Rattle.seg_columns_joined.specs.NumberRanges.{no_numbers};
+ghost use Rattle.seg_columns_joined.specs.Tables.{row_of};
 
-use crate::kept_rows::KeptRows;
-use crate::kept_values::{has_kept_value, with_kept_numbers};
 use crate::merge::Merge;
-use crate::number_range::NumberRange;
-use crate::tables::TableRow;
 use seg_columns::ColumnError;
+use seg_columns_joined::{KeptRows, NumberRange, TableRow, has_kept_value, with_kept_numbers};
 use seg_common::ColumnType;
 
 /// The type of the column of rows with one key: the one that is required, else the first that holds all values of kept

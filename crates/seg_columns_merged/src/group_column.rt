@@ -1,50 +1,39 @@
 //! The column of rows with one key.
-ghost use Rattle.std.specs.Prelude.{◌≡◌, ◌<◌, Some, List, length, map, MatchResult, OnOk};
+ghost use Rattle.std.specs.Prelude.{◌≡◌, ◌<◌, Some, List, length, map, OnOk};
 ghost use Rattle.seg_columns_written.specs.FileBytes.{WrittenColumn};
 ghost use Rattle.seg_columns_merged.specs.Decisions as spec;
 ghost use Rattle.seg_columns_merged.specs.MergedBytes.{AddsMerged, IsMerge, places_of};
-ghost use Rattle.seg_columns_merged.specs.MergedFiles.{AddsGroup, GroupFails, IsColumnGroup, IsFileOf, values_of};
-ghost use Rattle.seg_columns_merged.specs.Tables.{row_of};
+ghost use Rattle.seg_columns_merged.specs.MergedFiles.{AddsGroup, IsColumnGroup, IsFileOf, values_of};
+ghost use Rattle.seg_columns_joined.specs.Tables.{row_of};
 
-use crate::decisions::merged_type;
 use crate::merge::Merge;
 use crate::merged_file::MergedFile;
-use crate::tables::TableRow;
 use crate::term_columns::put_terms;
 use crate::value_columns::{put_addresses, put_values};
-use seg_columns::ColumnError;
+use seg_columns_joined::TableRow;
 use seg_common::ColumnType;
 use std::alloc::AllocError;
 
-/// Puts the column of rows with one key behind those that were put, if it is required or a kept row has a value. Kept rows
-/// have so many, by which memory is taken.
+/// Puts the column of rows with one key, if there is one, behind those that were put.
 pub(crate) fn put_group(
     merge: &Merge<'_>,
     rows: &[TableRow<'_>],
-    count: usize,
+    column_type: Option<ColumnType>,
     path: &[u8],
     file: &mut MergedFile,
-) -> Result<(), ColumnError>
+) -> Result<(), AllocError>
     requires merge { IsMerge merge.now }
     requires some { 0 < length rows.now }
     requires group { IsColumnGroup merge.now rows.now }
-    ensures { (columns : List WrittenColumn) → IsFileOf columns file.old → MatchResult result
-        (λ _. AddsGroup merge.now path.now rows.now columns file.new)
-        (GroupFails (spec.merged_type (map row_of rows.now) (values_of merge.now rows.now))) }
+    requires decided { spec.merged_type (map row_of rows.now) (values_of merge.now rows.now) ≡ Some column_type }
+    ensures { (columns : List WrittenColumn) → IsFileOf columns file.old
+        → OnOk result (AddsGroup merge.now path.now rows.now columns file.new) }
 {
-    let decided = match merged_type(merge, rows) {
-        Ok(decided) => decided,
-        Err(error) => return Err(error),
-    };
-    let Some(column_type) = decided else {
+    let Some(column_type) = column_type else {
         return Ok(());
     };
-    let Ok(()) = put_column(merge, rows, column_type, count, &mut file.bytes) else {
-        return Err(ColumnError::OutOfMemory);
-    };
-    let Ok(()) = file.end_column(path, column_type) else {
-        return Err(ColumnError::OutOfMemory);
-    };
+    put_column(merge, rows, column_type, &mut file.bytes)?;
+    file.end_column(path, column_type)?;
     Ok(())
 }
 
@@ -53,19 +42,19 @@ fn put_column(
     merge: &Merge<'_>,
     rows: &[TableRow<'_>],
     column_type: ColumnType,
-    count: usize,
     out: &mut Vec<u8>,
 ) -> Result<(), AllocError>
     requires merge { IsMerge merge.now }
     requires some { 0 < length rows.now }
     requires group { IsColumnGroup merge.now rows.now }
     requires decided { spec.merged_type (map row_of rows.now) (values_of merge.now rows.now) ≡ Some (Some column_type) }
-    ensures { OnOk result (AddsMerged column_type (map row_of rows.now) (places_of merge.now) out.old.items out.new.items) }
+    ensures { OnOk result (AddsMerged column_type (map row_of rows.now) (places_of merge.now) out.old.items
+        out.new.items) }
 {
     match column_type {
         ColumnType::Str => put_terms(merge, rows, column_type, out),
         ColumnType::Bytes => put_terms(merge, rows, column_type, out),
-        ColumnType::IpAddr => put_addresses(merge, rows, count, out),
-        _ => put_values(merge, rows, column_type, count, out),
+        ColumnType::IpAddr => put_addresses(merge, rows, out),
+        _ => put_values(merge, rows, column_type, out),
     }
 }

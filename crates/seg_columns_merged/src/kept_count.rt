@@ -1,15 +1,39 @@
 //! How many values kept rows have, so that memory is taken once.
 ghost use Rattle.std.specs.Prelude.{◌≡◌, ◌<◌, ◌^◌, [], All, FitsSigned, if◌then◌else◌, length};
 ghost use Rattle.std.specs.Int.{w64};
-ghost use Rattle.seg_columns_merged.specs.KeptColumns.{IsWhole, kept_fit, row_count_of};
-ghost use Rattle.seg_columns_merged.specs.KeptRows.{kept_values};
+ghost use Rattle.seg_columns_joined.specs.KeptColumns.{HasRows, IsWhole, kept_fit, row_count_of};
+ghost use Rattle.seg_columns_joined.specs.KeptRows.{kept_values};
+ghost use Rattle.seg_columns_merged.specs.MergedBytes.{RowFits};
 
 use seg_columns::{Column, ColumnValue, ColumnValues, DynamicColumn, DynamicColumnHandle};
+use seg_columns_joined::{KeptRows, TableRow};
 use seg_dates::DateTime;
 use std::net::Ipv6Addr;
 
+/// How many values the kept rows have of the columns of rows with one key, but for those of texts and bytes.
+pub(crate) fn kept_count(kept: &KeptRows, rows: &[TableRow<'_>]) -> usize
+    requires { All (λ r. HasRows kept.now r.column) rows.now }
+    ensures { All (λ r. RowFits kept.now r.column) rows.now }
+{
+    let mut count = 0;
+    for row in rows {
+        count = with_row(count, kept, row);
+    }
+    count
+}
+
+fn with_row(count: usize, kept: &KeptRows, row: &TableRow<'_>) -> usize
+    requires { HasRows kept.now row.now.column }
+    ensures { RowFits kept.now row.now.column }
+{
+    match &row.column {
+        Some(column) => with_kept_values(count, &column.handle, kept.of_file(column.file)),
+        None => count,
+    }
+}
+
 /// With the values of the kept rows of a column; those that no usize counts are the most.
-pub(crate) fn with_kept_values(count: usize, handle: &DynamicColumnHandle, kept: &[bool]) -> usize
+fn with_kept_values(count: usize, handle: &DynamicColumnHandle, kept: &[bool]) -> usize
     requires { length kept.now ≡ row_count_of handle.now.column }
     ensures { kept_fit kept.now handle.now.column }
 {

@@ -1,13 +1,12 @@
 //! What all columns of a merge have in common.
 
-use crate::kept_rows::KeptRows;
-use crate::row_order::MergeRowOrder;
 use seg_columnar::ColumnarReader;
+use seg_columns_joined::{KeptRows, MergeRowOrder};
 use seg_common::ColumnType;
 use std::alloc::Global;
 
-/// The files, the columns that are required, and the rows that are kept, by their order and by marks of the rows of each
-/// file.
+/// The files, the columns that are required, and the rows that are kept, by their order and by marks of the rows of
+/// each file.
 #[derive(Drop)]
 pub(crate) struct Merge<'a> {
     pub(crate) alloc: Global,

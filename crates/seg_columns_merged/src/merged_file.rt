@@ -1,8 +1,10 @@
 //! A file while its columns are put.
-ghost use Rattle.std.specs.Prelude.{◌≡◌, ◌<◌, ◌^◌, ◌+◌, ◌++◌, [], List, length, IfOk, OnOk};
-ghost use Rattle.seg_columns_written.specs.FileBytes.{WrittenColumn, entry_bytes, file_bytes};
+ghost use Rattle.std.specs.Prelude.{◌≡◌, ◌<◌, ◌^◌, [], List, length, IfOk, OnOk};
+ghost use Rattle.seg_columns_written.specs.FileBytes.{WrittenColumn, file_bytes};
 ghost use Rattle.seg_columns_merged.specs.MergedFiles.{AddsEntry, IsFileOf};
 
+use crate::planned_group::PlannedGroup;
+use crate::room::{entries_room, file_room};
 use seg_columns_written::{put_entry, put_table};
 use seg_common::ColumnType;
 use std::alloc::{AllocError, Global};
@@ -16,14 +18,18 @@ pub(crate) struct MergedFile {
 }
 
 impl MergedFile {
-    pub(crate) fn new(alloc: Global) -> MergedFile
-        ensures { IsFileOf [] result }
+    /// Takes the memory of the file with the columns of such groups.
+    pub(crate) fn new(alloc: Global, groups: &[PlannedGroup]) -> Result<MergedFile, AllocError>
+        ensures { IfOk result (IsFileOf []) }
     {
-        MergedFile {
-            bytes: Vec::new(alloc),
-            entries: Vec::new(alloc),
+        let entries_room = entries_room(groups);
+        let bytes = Vec::with_capacity(alloc, file_room(groups, entries_room))?;
+        let entries = Vec::with_capacity(alloc, entries_room)?;
+        Ok(MergedFile {
+            bytes,
+            entries,
             count: 0,
-        }
+        })
     }
 
     /// Adds the entry of the column whose bytes were added last.

@@ -1,16 +1,16 @@
 //! Files of columns, merged.
-ghost use Rattle.std.specs.Prelude.{◌≡◌, map, IfOk, MatchResult};
+ghost use Rattle.std.specs.Prelude.{◌≡◌, map, IfOk, MatchResult, OnOk};
+ghost use Rattle.std.specs.List.{AllByRecursion};
+ghost use Rattle.seg_columnar.specs.ColumnFiles.{IsOfFile};
 ghost use Rattle.seg_columns_merged.specs.MergedColumns.{CanMerge, IsMerged, MergeFails, merged_columns, required_key};
 ghost use Rattle.seg_columns_merged.specs.Merging.{IsTableOf};
-ghost use Rattle.seg_columns_merged.specs.RowOrders.{rows_in_order};
+ghost use Rattle.seg_columns_joined.specs.RowOrders.{rows_in_order};
 
-use crate::kept_rows::KeptRows;
 use crate::merge::Merge;
-use crate::row_order::{MergeRowOrder, OrderedRows};
 use crate::sorted_merge::merge_sorted;
-use crate::tables::{TableRow, sort_rows, table_rows};
 use seg_columnar::ColumnarReader;
 use seg_columns::ColumnError;
+use seg_columns_joined::{KeptRows, MergeRowOrder, TableRow, sort_rows, table_rows};
 use seg_common::ColumnType;
 use std::alloc::{AllocError, Global};
 
@@ -34,7 +34,7 @@ pub fn merge_columnar(
         return Err(ColumnError::OutOfMemory);
     };
     let counts = counts.as_slice();
-    let Ok(kept) = KeptRows::new(alloc, counts, OrderedRows::new(counts, order)) else {
+    let Ok(kept) = KeptRows::of_order(alloc, counts, order) else {
         return Err(ColumnError::OutOfMemory);
     };
     let Ok(table) = sorted_table(alloc, required_columns, columnars) else {
@@ -57,6 +57,7 @@ fn sorted_table<'a>(
     required: &'a [(String, ColumnType)],
     columnars: &'a [ColumnarReader],
 ) -> Result<Vec<TableRow<'a>>, AllocError>
+    requires { AllByRecursion IsOfFile columnars.now }
     ensures { IfOk result (λ table. IsTableOf required.now columnars.now table.items) }
 {
     let mut table = table_rows(alloc, required, columnars)?;
@@ -66,10 +67,12 @@ fn sorted_table<'a>(
 
 /// How many rows each file has.
 fn row_counts(alloc: Global, columnars: &[ColumnarReader]) -> Result<Vec<u32>, AllocError>
-    ensures { IfOk result (λ counts. counts.items ≡ map (λ f. f.rows) columnars.now) }
+    ensures counts { IfOk result (λ counts. counts.items ≡ map (λ f. f.rows) columnars.now) }
+    ensures read { OnOk result (AllByRecursion IsOfFile columnars.now) }
 {
     let mut counts = Vec::with_capacity(alloc, columnars.len())?;
     for columnar in columnars {
+        columnar.are_of_a_file();
         counts.push(columnar.num_rows())?;
     }
     Ok(counts)

@@ -1,21 +1,23 @@
 //! The columns of a sorted table, merged group by group.
-ghost use Rattle.std.specs.Prelude.{◌≡◌, ◌<◌, ◌^◌, ◌≤◌, List, length, map, slice_range, MatchResult};
+ghost use Rattle.std.specs.Prelude.{◌≡◌, ◌<◌, ◌^◌, List, length, map, IfOk, MatchResult, OnOk};
 ghost use Rattle.seg_columns_written.specs.FileBytes.{WrittenColumn};
 ghost use Rattle.seg_columns_merged.specs.MergedBytes.{IsMerge, places_of};
 ghost use Rattle.seg_columns_merged.specs.MergedColumns.{IsMerged, MergeFails, merged_columns, required_key};
 ghost use Rattle.seg_columns_merged.specs.MergedFiles.{IsFileOf};
-ghost use Rattle.seg_columns_merged.specs.Merging.{IsCut, IsTableOf, NextFails, PutsNext};
+ghost use Rattle.seg_columns_merged.specs.Merging.{IsTableOf, PutsNext};
+ghost use Rattle.seg_columns_merged.specs.Plans.{ArePlanned, IsPlanned};
 
 use crate::group_column::put_group;
-use crate::groups::{are_of_files, group_end};
 use crate::merge::Merge;
 use crate::merged_file::MergedFile;
-use crate::row_order::OrderedRows;
-use crate::tables::TableRow;
-use crate::value_columns::kept_count;
+use crate::planned_group::{PlannedGroup, rows_between};
+use crate::planning::planned_groups;
 use seg_columns::ColumnError;
+use seg_columns_joined::{OrderedRows, TableRow};
+use std::alloc::AllocError;
 
-/// The file of a table whose rows are in the order of their keys.
+/// The file of a table whose rows are in the order of their keys. The types of all columns are decided before its
+/// memory is taken.
 pub(crate) fn merge_sorted(
     merge: &Merge<'_>,
     table: &[TableRow<'_>],
@@ -28,54 +30,57 @@ pub(crate) fn merge_sorted(
         (MergeFails (merged_columns (map required_key merge.now.required.now) merge.now.columnars.now
         (places_of merge.now))) }
 {
-    let mut file = MergedFile::new(merge.alloc);
-    let mut start = 0;
-    while start < table.len() {
-        let end = match put_next(merge, table, start, &mut file) {
-            Ok(end) => end,
-            Err(error) => return Err(error),
-        };
-        start = end;
-    }
-    let Ok(bytes) = file.finish(num_rows(OrderedRows::new(merge.counts, merge.order))) else {
+    let num_rows = num_rows(OrderedRows::new(merge.counts, merge.order));
+    let groups = match planned_groups(merge, table, num_rows) {
+        Ok(groups) => groups,
+        Err(error) => return Err(error),
+    };
+    let Ok(bytes) = put_groups(merge, table, groups.as_slice(), num_rows) else {
         return Err(ColumnError::OutOfMemory);
     };
     Ok(bytes)
 }
 
-/// Puts the column of the rows that have the key of the one at a place, and tells where they end.
+/// Puts the columns of all groups into a file of so many rows, whose memory is taken once.
+fn put_groups(
+    merge: &Merge<'_>,
+    table: &[TableRow<'_>],
+    groups: &[PlannedGroup],
+    num_rows: u32,
+) -> Result<Vec<u8>, AllocError>
+    requires merge { IsMerge merge.now }
+    requires table { IsTableOf merge.now.required.now merge.now.columnars.now table.now }
+    requires planned { ArePlanned merge.now table.now 0 groups.now }
+    requires rows { num_rows ≡ length (places_of merge.now) }
+    ensures { IfOk result (λ bytes. IsMerged (map required_key merge.now.required.now) merge.now.columnars.now
+        (places_of merge.now) bytes.items) }
+{
+    let mut file = MergedFile::new(merge.alloc, groups)?;
+    let mut start = 0;
+    for group in groups {
+        put_next(merge, table, start, group, &mut file)?;
+        start = group.end;
+    }
+    file.finish(num_rows)
+}
+
+/// Puts the column of the rows from a place on that were decided on.
 fn put_next(
     merge: &Merge<'_>,
     table: &[TableRow<'_>],
     start: usize,
+    group: &PlannedGroup,
     file: &mut MergedFile,
-) -> Result<usize, ColumnError>
+) -> Result<(), AllocError>
     requires merge { IsMerge merge.now }
-    requires table { IsTableOf merge.now.required.now merge.now.columnars.now table.now }
-    requires place { start < length table.now }
-    requires cut { IsCut table.now start }
-    ensures { (columns : List WrittenColumn) → IsFileOf columns file.old → MatchResult result
-        (λ stop. PutsNext merge.now table.now start stop columns file.new) (NextFails merge.now table.now start) }
+    requires planned { IsPlanned merge.now table.now start group.now }
+    ensures { (columns : List WrittenColumn) → IsFileOf columns file.old
+        → OnOk result (PutsNext merge.now table.now start group.now.end columns file.new) }
 {
     let first = &table[start];
-    let end = group_end(table, start);
-    let rows = rows_between(table, start, end);
-    if !are_of_files(merge.counts, rows) {
-        return Err(ColumnError::OutOfMemory);
-    }
-    let count = kept_count(merge.kept, rows);
-    match put_group(merge, rows, count, first.path, file) {
-        Ok(()) => Ok(end),
-        Err(error) => Err(error),
-    }
-}
-
-fn rows_between<'a, 'b>(table: &'a [TableRow<'b>], start: usize, end: usize) -> &'a [TableRow<'b>]
-    requires order { start ≤ end }
-    requires within { end ≤ length table.now }
-    ensures { result.now ≡ slice_range table.now start end }
-{
-    &table[start..end]
+    let rows = rows_between(table, start, group.end);
+    put_group(merge, rows, group.column_type, first.path, file)?;
+    Ok(())
 }
 
 fn num_rows(rows: OrderedRows<'_>) -> u32

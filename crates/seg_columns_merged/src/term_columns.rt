@@ -1,21 +1,18 @@
 //! A merged column of texts or bytes.
-ghost use Rattle.std.specs.Prelude.{◌≡◌, ◌<◌, [], All, get_or, length, map, replicate, IfOk, OnOk};
-ghost use Rattle.seg_columns_merged.specs.ColumnSources.{HasFile};
+ghost use Rattle.std.specs.Prelude.{◌≡◌, ◌<◌, All, length, map, replicate, IfOk, OnOk};
+ghost use Rattle.seg_columns_joined.specs.ColumnSources.{HasFile};
 ghost use Rattle.seg_columns_merged.specs.Groups.{AreOfFiles};
 ghost use Rattle.seg_columns_merged.specs.MergedBytes.{AddsMerged, HasType, IsMerge, IsTermType, places_of};
-ghost use Rattle.seg_columns_merged.specs.MergedTerms.{ords_in, terms_in};
-ghost use Rattle.seg_columns_merged.specs.Tables.{row_of};
-ghost use Rattle.seg_columns_merged.specs.TermSources.{AddsSource, AreTermSources, ordinals_of};
+ghost use Rattle.seg_columns_joined.specs.MergedTerms.{ords_in, terms_in};
+ghost use Rattle.seg_columns_joined.specs.Tables.{row_of};
+ghost use Rattle.seg_columns_joined.specs.TermSources.{AddsSource, AreTermSources};
 
-use crate::column_joining::put_joined;
-use crate::column_sources::{no_sources, source_of};
-use crate::dictionaries::MergedTerms;
 use crate::merge::Merge;
-use crate::number_map::NumberMap;
-use crate::source::Source;
-use crate::tables::TableRow;
 use seg_columns::{DynamicColumn, DynamicColumnHandle};
-use seg_columns_written::put_dictionary;
+use seg_columns_joined::{
+    MergedTerms, NumberMap, Source, TableRow, no_sources, put_joined, put_terms_dictionary,
+    source_of, used_columns,
+};
 use seg_common::ColumnType;
 use std::alloc::{AllocError, Global};
 
@@ -30,12 +27,14 @@ pub(crate) fn put_terms(
     requires files { AreOfFiles merge.now.counts.now 0 rows.now }
     requires types { All (λ r. HasType column_type r.column) rows.now }
     requires terms { IsTermType column_type }
-    ensures { OnOk result (AddsMerged column_type (map row_of rows.now) (places_of merge.now) out.old.items out.new.items) }
+    ensures { OnOk result (AddsMerged column_type (map row_of rows.now) (places_of merge.now) out.old.items
+        out.new.items) }
 {
-    let merged = MergedTerms::of(merge.alloc, rows, merge.kept)?;
-    let sources = term_sources(merge.alloc, merge.counts.len(), rows, &merged)?;
+    let columns = used_columns(merge.alloc, rows, merge.kept)?;
+    let MergedTerms { terms, ordinals } = MergedTerms::of(merge.alloc, columns.as_slice())?;
+    let sources = term_sources(merge.alloc, merge.counts.len(), rows, ordinals)?;
     put_joined(merge.counts, merge.order, sources.as_slice(), out)?;
-    put_dictionary(out, &merged.table, merged.numbers.as_slice())?;
+    put_terms_dictionary(out, terms.as_slice())?;
     Ok(())
 }
 
@@ -44,40 +43,32 @@ pub(crate) fn term_sources(
     alloc: Global,
     files: usize,
     rows: &[TableRow<'_>],
-    merged: &MergedTerms,
+    ordinals: Vec<Vec<u64>>,
 ) -> Result<Vec<Source>, AllocError>
     requires files { All (HasFile files) rows.now }
-    requires many { length rows.now ≡ length merged.now.added.items }
+    requires many { length rows.now ≡ length ordinals.items }
     ensures { IfOk result (λ sources. AreTermSources (replicate files Source.Nothing) (map (λ r. r.column) rows.now)
-        (ordinals_of merged.now) sources.items) }
+        (map (λ v. v.items) ordinals.items) sources.items) }
 {
     let mut sources = no_sources(alloc, files)?;
-    for at in 0..rows.len() {
-        put_source(alloc, &mut sources, &rows[at], merged, at)?;
+    let mut at = 0;
+    for mapped in ordinals {
+        put_source(&mut sources, &rows[at], mapped);
+        at += 1;
     }
     Ok(sources)
 }
 
 /// Puts the column of a row, if it has one, in the place of its file.
-fn put_source(
-    alloc: Global,
-    sources: &mut Vec<Source>,
-    row: &TableRow<'_>,
-    merged: &MergedTerms,
-    at: usize,
-) -> Result<(), AllocError>
-    requires file { HasFile (length sources.old.items) row.now }
-    requires place { at < length merged.now.added.items }
-    ensures { OnOk result (AddsSource row.now.column (get_or (ordinals_of merged.now) at [])
-        sources.old.items sources.new.items) }
+fn put_source(sources: &mut Vec<Source>, row: &TableRow<'_>, ordinals: Vec<u64>)
+    requires { HasFile (length sources.old.items) row.now }
+    ensures { AddsSource row.now.column ordinals.items sources.old.items sources.new.items }
 {
     let Some(column) = &row.column else {
-        return Ok(());
+        return;
     };
     uses_each(&column.handle);
-    let ordinals = merged.ordinals(alloc, at)?;
     sources[column.file] = source_of(&column.handle, NumberMap::Ordinals(ordinals));
-    Ok(())
 }
 
 /// Ordinals are places of terms.

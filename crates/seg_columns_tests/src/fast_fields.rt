@@ -5,11 +5,8 @@ use seg_columns::DynamicColumnHandle;
 use seg_common::ColumnType;
 use seg_fast_readers::{FastFieldNotAvailableError, FastFieldReaders};
 use seg_testing::entry;
-use seg_values::{
-    ArgumentCause, FieldKind, IndexOption, SchemaBuilder, SchemaCause, TResult, TantivyError,
-};
+use seg_values::{FieldKind, IndexOption, SchemaBuilder, SchemaCause, TResult, TantivyError};
 use std::alloc::Global;
-use std::test::Fail;
 
 /// One document, whose JSON object has the number 42, the text `bar` and the truth value `true` under `foo`.
 const FILE: [u8; 166] = [
@@ -53,137 +50,96 @@ fn readers(alloc: Global) -> TResult<FastFieldReaders> {
     Ok(FastFieldReaders::new(columnar, builder.build()))
 }
 
-fn has_type(handles: &Vec<DynamicColumnHandle>, place: usize, column_type: ColumnType) -> bool {
-    match handles.get(place) {
-        Some(handle) => handle.column_type() == column_type,
-        None => false,
-    }
+/// Whether handles have these types, in order.
+fn have_types(handles: &[DynamicColumnHandle], types: &[ColumnType]) -> bool {
+    handles.len() == types.len()
+        && handles
+            .iter()
+            .zip(types)
+            .all(|(handle, wanted)| handle.column_type() == *wanted)
 }
 
-#[test]
-fn columns_of_a_path_by_type(rt: HostRuntime) -> Result<(), Fail> {
-    let handles = readers(rt.alloc())?.dynamic_column_handles(rt.alloc(), "json.foo")?;
-    assert!(rt; handles.len() == 3);
-    assert!(rt; has_type(&handles, 0, ColumnType::I64));
-    assert!(rt; has_type(&handles, 1, ColumnType::Str));
-    assert!(rt; has_type(&handles, 2, ColumnType::Bool));
-    Ok(())
+/// Whether the calls for several handles find those of a path, and those below one.
+fn finds_handles(alloc: Global, readers: &FastFieldReaders) -> TResult<bool> {
+    let types = [ColumnType::I64, ColumnType::Str, ColumnType::Bool];
+    let at_path = readers.dynamic_column_handles(alloc, "json.foo")?;
+    let at_field = readers.dynamic_column_handles(alloc, "json")?.len();
+    let below = readers.dynamic_subpath_column_handles(alloc, "json")?.len();
+    Ok(have_types(&at_path, &types) && at_field == 0 && below == 3)
 }
 
-#[test]
-fn columns_below_an_object(rt: HostRuntime) -> Result<(), Fail> {
-    let readers = readers(rt.alloc())?;
-    assert!(rt;
-        readers
-            .dynamic_column_handles(rt.alloc(), "json")?
-            .is_empty()
-    );
-    assert!(rt;
-        readers
-            .dynamic_subpath_column_handles(rt.alloc(), "json")?
-            .len()
-            == 3
-    );
-    Ok(())
+/// Whether the handle of the texts of a path is found, and the bytes of all.
+fn finds_texts(alloc: Global, readers: &FastFieldReaders) -> TResult<bool> {
+    let texts = readers
+        .dynamic_column_handle(alloc, "json.foo", ColumnType::Str)?
+        .is_some();
+    Ok(texts && readers.column_num_bytes(alloc, "json.foo")?.0 == 67)
 }
 
-#[test]
-fn one_column_and_its_bytes(rt: HostRuntime) -> Result<(), Fail> {
-    let readers = readers(rt.alloc())?;
-    let texts = readers.dynamic_column_handle(rt.alloc(), "json.foo", ColumnType::Str)?;
-    assert!(rt; texts.is_some());
-    assert!(rt; readers.column_num_bytes(rt.alloc(), "json.foo")?.0 == 67);
-    Ok(())
+/// Whether the calls for columns of one type find those of a path.
+fn finds_columns(alloc: Global, readers: &FastFieldReaders) -> bool {
+    readers.i64(alloc, "json.foo").is_ok()
+        && readers.bool(alloc, "json.foo").is_ok()
+        && readers.column_opt::<i64>(alloc, "json.foo").is_ok()
+        && readers
+            .column_first_or_default::<i64>(alloc, "json.foo")
+            .is_ok()
+        && readers.str(alloc, "json.foo").is_ok()
+        && readers.bytes(alloc, "json.foo").is_ok()
 }
 
-#[test]
-fn columns_of_one_type(rt: HostRuntime) -> Result<(), Fail> {
-    let readers = readers(rt.alloc())?;
-    assert!(rt; readers.column_opt::<i64>(rt.alloc(), "json.foo")?.is_some());
-    assert!(rt; readers.i64(rt.alloc(), "json.foo")?.num_docs() == 1);
-    assert!(rt; readers.bool(rt.alloc(), "json.foo")?.num_docs() == 1);
-    Ok(())
-}
-
-#[test]
-fn columns_of_texts_and_bytes(rt: HostRuntime) -> Result<(), Fail> {
-    let readers = readers(rt.alloc())?;
-    assert!(rt; readers.str(rt.alloc(), "json.foo")?.is_some());
-    assert!(rt; readers.bytes(rt.alloc(), "json.foo")?.is_none());
-    assert!(rt; readers.str(rt.alloc(), "other")?.is_none());
-    Ok(())
-}
-
-/// Whether a call ended since there is no column.
+/// Whether an answer is that there is no column.
 fn has_no_column<T: Drop>(answer: TResult<T>) -> bool {
-    match answer {
-        Err(TantivyError::SchemaError(SchemaCause::NoColumn)) => true,
-        _ => false,
-    }
+    answer.err() == Some(TantivyError::SchemaError(SchemaCause::NoColumn))
+}
+
+/// Whether the calls for columns of other types don't.
+fn lacks_columns(alloc: Global, readers: &FastFieldReaders) -> bool {
+    has_no_column(readers.u64(alloc, "json.foo"))
+        && has_no_column(readers.date(alloc, "json.foo"))
+        && has_no_column(readers.ip_addr(alloc, "json.foo"))
+}
+
+/// Whether the calls for columns as numbers find those of a path.
+fn finds_numbers(alloc: Global, readers: &FastFieldReaders) -> TResult<bool> {
+    let first = readers.u64_lenient(alloc, "json.foo")?.is_some();
+    let texts = readers
+        .u64_lenient_for_type(alloc, Some(&[ColumnType::Str]), "json.foo")?
+        .is_some();
+    let all = readers
+        .u64_lenient_for_type_all(alloc, None, "json.foo")?
+        .len();
+    Ok(first && texts && all == 3)
+}
+
+/// Whether a name stands for the path of its columns.
+fn resolves(alloc: Global, readers: &FastFieldReaders) -> TResult<bool> {
+    let name = readers.resolve_column_name_given_default_field(alloc, "json.foo", None)?;
+    Ok(name.is_some_and(|name| name.as_str() == "json\u{1}foo"))
+}
+
+/// Whether every call finds what the file has.
+fn finds_all(alloc: Global) -> TResult<bool> {
+    let readers = readers(alloc)?;
+    Ok(
+        finds_handles(alloc, &readers)?
+            && finds_columns(alloc, &readers)
+            && lacks_columns(alloc, &readers)
+            && finds_numbers(alloc, &readers)?
+            && resolves(alloc, &readers)?,
+    )
+}
+
+/// Whether the error of a field says this.
+fn says(alloc: Global, name: &str, text: &str) -> TResult<bool> {
+    let entry = entry(alloc, name, FieldKind::Text, IndexOption::No)?;
+    let error = FastFieldNotAvailableError::new(alloc, &entry)?;
+    Ok(format!(in alloc; "{error}")?.as_str() == text)
 }
 
 #[test]
-fn columns_that_are_not_there(rt: HostRuntime) -> Result<(), Fail> {
-    let readers = readers(rt.alloc())?;
-    assert!(rt; has_no_column(readers.u64(rt.alloc(), "json.foo")));
-    assert!(rt; has_no_column(readers.date(rt.alloc(), "json.foo")));
-    assert!(rt; has_no_column(readers.ip_addr(rt.alloc(), "json.foo")));
-    Ok(())
-}
-
-#[test]
-fn a_field_that_is_not_fast(rt: HostRuntime) -> Result<(), Fail> {
-    let texts = readers(rt.alloc())?.str(rt.alloc(), "title");
-    assert!(rt; texts.err() == Some(TantivyError::InvalidArgument(ArgumentCause::NotFast)));
-    Ok(())
-}
-
-#[test]
-fn first_values(rt: HostRuntime) -> Result<(), Fail> {
-    let numbers = readers(rt.alloc())?.column_first_or_default::<i64>(rt.alloc(), "json.foo");
-    assert!(rt; numbers.is_ok());
-    Ok(())
-}
-
-#[test]
-fn names_and_paths(rt: HostRuntime) -> Result<(), Fail> {
-    let readers = readers(rt.alloc())?;
-    let name = readers.resolve_column_name_given_default_field(rt.alloc(), "json.foo", None)?;
-    assert!(rt; name.is_some_and(|name| name.as_str() == "json\u{1}foo"));
-    Ok(())
-}
-
-#[test]
-fn columns_as_numbers(rt: HostRuntime) -> Result<(), Fail> {
-    let readers = readers(rt.alloc())?;
-    let types = [ColumnType::Bool];
-    assert!(rt; readers.u64_lenient(rt.alloc(), "json.foo")?.is_some());
-    assert!(rt;
-        readers
-            .u64_lenient_for_type(rt.alloc(), Some(&types), "json.foo")?
-            .is_some()
-    );
-    assert!(rt;
-        readers
-            .u64_lenient_for_type_all(rt.alloc(), None, "json.foo")?
-            .len()
-            == 3
-    );
-    Ok(())
-}
-
-#[test]
-fn readers_are_copied(rt: HostRuntime) -> Result<(), Fail> {
-    let readers = readers(rt.alloc())?.try_clone(rt.alloc())?;
-    assert!(rt; readers.columnar().num_rows() == 1);
-    Ok(())
-}
-
-#[test]
-fn what_a_caller_is_told(rt: HostRuntime) -> Result<(), Fail> {
-    let title = entry(rt.alloc(), "title", FieldKind::Text, IndexOption::No)?;
-    let error = FastFieldNotAvailableError::new(rt.alloc(), &title)?;
-    let text = format!(in rt.alloc(); "{error}")?;
-    assert!(rt; text.as_str() == "Fast field not available: '\"title\"'");
-    Ok(())
+fn columns_by_names_of_fields(rt: HostRuntime) {
+    assert!(rt; finds_all(rt.alloc()) == Ok(true));
+    let text = "Fast field not available: '\"title\"'";
+    assert!(rt; says(rt.alloc(), "title", text) == Ok(true));
 }

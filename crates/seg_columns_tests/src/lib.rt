@@ -3,13 +3,9 @@
 #![tactic(auto)]
 
 #[cfg(test)]
-mod columns;
-#[cfg(test)]
 mod fast_fields;
 #[cfg(test)]
 mod files;
-#[cfg(test)]
-mod handles;
 #[cfg(test)]
 mod merges;
 #[cfg(test)]

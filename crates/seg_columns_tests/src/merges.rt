@@ -2,30 +2,15 @@
 ghost use Rattle.std.specs.Prelude.{◌≡◌, ◌<◌, ◌^◌, [], ◌∷◌, All, false, length, IfOk};
 ghost use Rattle.std.specs.List.{AllByRecursion};
 ghost use Rattle.seg_model.specs.Columns.{is_number};
-ghost use Rattle.seg_columns_merged.specs.RowOrders.{IsRow, rows_in_order};
+ghost use Rattle.seg_columns_joined.specs.RowOrders.{IsRow, rows_in_order};
 
+use crate::files::{ONE, is_file};
 use seg_columnar::{ColumnError, ColumnarReader, RowAddr};
 use seg_columns_merged::{MergeRowOrder, merge_columnar};
 use seg_common::{ColumnType, OwnedBytes};
 use std::alloc::{AllocError, Global};
-use std::test::Fail;
 
-/// Two documents, of which the first has the number 5 in the column `n`.
-const FIVE: [u8; 66] = [
-    1, 0, 0, 0, 0, 0, 0, 0, // one value up to the first document
-    1, 0, 0, 0, 0, 0, 0, 0, // and up to the second
-    5, 0, 0, 0, 0, 0, 0, 128, // 2^63 + 5
-    1, 0, 0, 0, 0, 0, 0, 0, // one column
-    1, 0, 0, 0, 0, 0, 0, 0, // the length of its path
-    b'n', // its path
-    0, // I64
-    24, 0, 0, 0, 0, 0, 0, 0, // its end
-    26, 0, 0, 0, 0, 0, 0, 0, // the length of the table
-    2, 0, 0, 0, // documents
-    1, 0, 0, 0, // version
-];
-
-/// The same with the number -1.
+/// Two documents, of which the first has the number -1 in the column `n`.
 const MINUS_ONE: [u8; 66] = [
     1, 0, 0, 0, 0, 0, 0, 0, // one value up to the first document
     1, 0, 0, 0, 0, 0, 0, 0, // and up to the second
@@ -51,23 +36,6 @@ const LARGE: [u8; 58] = [
     16, 0, 0, 0, 0, 0, 0, 0, // its end
     26, 0, 0, 0, 0, 0, 0, 0, // the length of the table
     1, 0, 0, 0, // documents
-    1, 0, 0, 0, // version
-];
-
-/// Three documents with 5, nothing and 2^63.
-const STACKED: [u8; 82] = [
-    1, 0, 0, 0, 0, 0, 0, 0, // one value up to the first document
-    1, 0, 0, 0, 0, 0, 0, 0, // up to the second
-    2, 0, 0, 0, 0, 0, 0, 0, // two up to the third
-    5, 0, 0, 0, 0, 0, 0, 0, // 5
-    0, 0, 0, 0, 0, 0, 0, 128, // 2^63
-    1, 0, 0, 0, 0, 0, 0, 0, // one column
-    1, 0, 0, 0, 0, 0, 0, 0, // the length of its path
-    b'n', // its path
-    1, // U64
-    40, 0, 0, 0, 0, 0, 0, 0, // its end
-    26, 0, 0, 0, 0, 0, 0, 0, // the length of the table
-    3, 0, 0, 0, // documents
     1, 0, 0, 0, // version
 ];
 
@@ -191,37 +159,27 @@ fn texts(alloc: Global) -> Result<Vec<(String, ColumnType)>, AllocError>
     Ok(required)
 }
 
-#[test]
-fn numbers_of_two_types_come_together(rt: HostRuntime) -> Result<(), Fail> {
-    let bytes = merged(rt.alloc(), FIVE.as_slice(), &[], &MergeRowOrder::Stack)?;
-    assert!(rt; bytes.as_slice() == STACKED.as_slice());
-    Ok(())
-}
-
-#[test]
-fn numbers_without_a_type(rt: HostRuntime) -> Result<(), Fail> {
-    let merged = merged(rt.alloc(), MINUS_ONE.as_slice(), &[], &MergeRowOrder::Stack);
-    assert!(rt; merged.err() == Some(ColumnError::Mixed));
-    Ok(())
-}
-
-#[test]
-fn numbers_of_rows_left_out_do_not_count(rt: HostRuntime) -> Result<(), Fail> {
-    let order = without_first(rt.alloc())?;
-    let bytes = merged(rt.alloc(), MINUS_ONE.as_slice(), &[], &order)?;
-    assert!(rt; bytes.as_slice() == WITHOUT_FIRST.as_slice());
-    Ok(())
-}
-
-#[test]
-fn a_required_column_needs_no_value(rt: HostRuntime) -> Result<(), Fail> {
-    let required = texts(rt.alloc())?;
-    let bytes = merged(
-        rt.alloc(),
-        FIVE.as_slice(),
+/// The files with 5 and with 2^63, with a column that neither has.
+fn stacked(alloc: Global) -> Result<Vec<u8>, ColumnError> {
+    let required = texts(alloc)?;
+    merged(
+        alloc,
+        ONE.as_slice(),
         required.as_slice(),
         &MergeRowOrder::Stack,
-    )?;
-    assert!(rt; bytes.as_slice() == WITH_TEXTS.as_slice());
-    Ok(())
+    )
+}
+
+/// The files with -1 and with 2^63, without the row of -1.
+fn shuffled(alloc: Global) -> Result<Vec<u8>, ColumnError> {
+    let order = without_first(alloc)?;
+    merged(alloc, MINUS_ONE.as_slice(), &[], &order)
+}
+
+#[test]
+fn numbers_of_two_types(rt: HostRuntime) {
+    assert!(rt; is_file(stacked(rt.alloc()), WITH_TEXTS.as_slice()));
+    assert!(rt; is_file(shuffled(rt.alloc()), WITHOUT_FIRST.as_slice()));
+    let mixed = merged(rt.alloc(), MINUS_ONE.as_slice(), &[], &MergeRowOrder::Stack);
+    assert!(rt; mixed.err() == Some(ColumnError::Mixed));
 }

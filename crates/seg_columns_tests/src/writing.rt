@@ -1,38 +1,37 @@
-//! Files that a writer made, byte for byte and read back.
+//! Files that a writer made.
 ghost use Rattle.std.specs.Prelude.{◌≡◌, [], OnOk};
 ghost use Rattle.std.specs.List.{AllByRecursion};
 ghost use Rattle.seg_columns_recorded.specs.Typed.{IsWithin};
 
-use crate::files::ONE;
-use seg_columnar::ColumnarReader;
-use seg_columns::{ColumnError, DynamicColumnHandle};
+use crate::files::{ONE, is_file, open};
+use seg_columns::{ColumnError, DynamicColumn};
 use seg_columns_recorded::{ColumnarWriter, NumericalValue, ValueKind};
-use seg_common::{ColumnType, OwnedBytes};
+use seg_common::ColumnType;
 use seg_dates::DateTime;
 use std::alloc::Global;
 use std::net::Ipv6Addr;
-use std::test::Fail;
 
-/// The columns of a path.
-fn columns(
-    alloc: Global,
-    bytes: &[u8],
-    path: &str,
-) -> Result<Vec<DynamicColumnHandle>, ColumnError> {
-    let Ok(bytes) = OwnedBytes::new(alloc, bytes) else {
-        return Err(ColumnError::OutOfMemory);
-    };
-    let reader = ColumnarReader::open(alloc, bytes)?;
-    reader.read_columns(alloc, path)
-}
-
-/// Whether they are one, of a type and so many bytes.
-fn is_one(handles: &Vec<DynamicColumnHandle>, column_type: ColumnType, size: u64) -> bool {
-    let Some(handle) = handles.first() else {
-        return false;
-    };
-    handles.len() == 1 && handle.column_type() == column_type && handle.num_bytes().0 == size
-}
+/// Three documents, of which the first has the texts `abc` and `ab`, and the last `ab`.
+const SHARED: [u8; 119] = [
+    2, 0, 0, 0, 0, 0, 0, 0, // two values up to the first document
+    2, 0, 0, 0, 0, 0, 0, 0, // and up to the second
+    3, 0, 0, 0, 0, 0, 0, 0, // three up to the third
+    1, 0, 0, 0, 0, 0, 0, 0, // abc
+    0, 0, 0, 0, 0, 0, 0, 0, // ab
+    0, 0, 0, 0, 0, 0, 0, 0, // ab
+    2, 0, 0, 0, 0, 0, 0, 0, // two distinct texts
+    2, 0, 0, 0, 0, 0, 0, 0, // the end of the first
+    5, 0, 0, 0, 0, 0, 0, 0, // the end of the second
+    b'a', b'b', b'a', b'b', b'c', // their bytes
+    1, 0, 0, 0, 0, 0, 0, 0, // one column
+    1, 0, 0, 0, 0, 0, 0, 0, // the length of its path
+    b't', // its path
+    3, // Str
+    77, 0, 0, 0, 0, 0, 0, 0, // its end
+    26, 0, 0, 0, 0, 0, 0, 0, // the length of the table
+    3, 0, 0, 0, // documents
+    1, 0, 0, 0, // version
+];
 
 fn number(alloc: Global) -> Result<Vec<u8>, ColumnError> {
     let mut writer = ColumnarWriter::new(alloc);
@@ -45,19 +44,6 @@ fn number_by_column(alloc: Global) -> Result<Vec<u8>, ColumnError> {
     let column = writer.column("n", ValueKind::Number)?;
     writer.record_numerical_in(0, column, NumericalValue::I64(5))?;
     writer.serialize(2)
-}
-
-#[test]
-fn a_number_in_the_first_of_two_rows(rt: HostRuntime) -> Result<(), Fail> {
-    assert!(rt; number(rt.alloc())?.as_slice() == ONE.as_slice());
-    assert!(rt; number_by_column(rt.alloc())?.as_slice() == ONE.as_slice());
-    Ok(())
-}
-
-fn large(alloc: Global) -> Result<Vec<u8>, ColumnError> {
-    let mut writer = ColumnarWriter::new(alloc);
-    writer.record_numerical(0, "n", NumericalValue::U64(1 << 63))?;
-    writer.serialize(1)
 }
 
 fn truth(alloc: Global) -> Result<Vec<u8>, ColumnError> {
@@ -84,89 +70,70 @@ fn byte_string(alloc: Global) -> Result<Vec<u8>, ColumnError> {
     writer.serialize(1)
 }
 
-#[test]
-fn a_value_of_each_type(rt: HostRuntime) -> Result<(), Fail> {
-    let alloc = rt.alloc();
-    assert!(rt; is_one(&columns(alloc, &large(alloc)?, "n")?, ColumnType::U64, 16));
-    assert!(rt; is_one(&columns(alloc, &truth(alloc)?, "b")?, ColumnType::Bool, 16));
-    assert!(rt;
-        is_one(
-            &columns(alloc, &moment(alloc)?, "d")?,
-            ColumnType::DateTime,
-            16
-        )
-    );
-    assert!(rt;
-        is_one(
-            &columns(alloc, &address(alloc)?, "i")?,
-            ColumnType::IpAddr,
-            24
-        )
-    );
-    assert!(rt;
-        is_one(
-            &columns(alloc, &byte_string(alloc)?, "x")?,
-            ColumnType::Bytes,
-            33
-        )
-    );
-    Ok(())
-}
-
-/// Two texts of one row, the greater one first.
-fn put_texts(writer: &mut ColumnarWriter, sorts: bool) -> Result<(), ColumnError>
+/// Two texts of one row, the greater one first, to be put in order.
+fn put_texts(writer: &mut ColumnarWriter) -> Result<(), ColumnError>
     requires { writer.old ≡ [] }
     ensures { OnOk result (AllByRecursion (λ c. IsWithin 1 c.recording) writer.new) }
 {
-    writer.record_column_type("t", ColumnType::Str, sorts)?;
+    writer.record_column_type("t", ColumnType::Str, true)?;
     writer.record_str(0, "t", "b")?;
     writer.record_str(0, "t", "a")?;
     Ok(())
 }
 
-fn texts(alloc: Global, sorts: bool) -> Result<Vec<u8>, ColumnError> {
+fn texts(alloc: Global) -> Result<Vec<u8>, ColumnError> {
     let mut writer = ColumnarWriter::new(alloc);
-    put_texts(&mut writer, sorts)?;
+    put_texts(&mut writer)?;
     writer.serialize(1)
 }
 
-/// The place of the first text of the first row in the order of texts.
-fn first_place(handles: &Vec<DynamicColumnHandle>) -> Option<u64> {
-    let column = handles.first()?.open_u64_lenient()?;
-    if column.num_docs() == 0 {
-        return None;
-    }
-    column.first(0)
-}
-
-#[test]
-fn texts_of_a_row_as_they_came_and_in_order(rt: HostRuntime) -> Result<(), Fail> {
-    let alloc = rt.alloc();
-    assert!(rt; first_place(&columns(alloc, &texts(alloc, false)?, "t")?) == Some(1));
-    assert!(rt; first_place(&columns(alloc, &texts(alloc, true)?, "t")?) == Some(0));
-    Ok(())
-}
-
-/// Numbers that neither type has.
-fn put_numbers(writer: &mut ColumnarWriter) -> Result<usize, ColumnError>
+fn put_shared(writer: &mut ColumnarWriter) -> Result<(), ColumnError>
     requires { writer.old ≡ [] }
-    ensures { OnOk result (AllByRecursion (λ c. IsWithin 1 c.recording) writer.new) }
+    ensures { OnOk result (AllByRecursion (λ c. IsWithin 3 c.recording) writer.new) }
 {
-    writer.record_numerical(0, "n", NumericalValue::I64(-1))?;
-    writer.record_numerical(0, "n", NumericalValue::U64(1 << 63))?;
-    Ok(writer.mem_usage())
+    writer.record_str(0, "t", "abc")?;
+    writer.record_str(0, "t", "ab")?;
+    writer.record_str(2, "t", "ab")?;
+    Ok(())
 }
 
-fn mixed(alloc: Global) -> Result<Option<ColumnError>, ColumnError> {
+/// Texts with a front in common, several of one row, and a row without any.
+fn shared(alloc: Global) -> Result<Vec<u8>, ColumnError> {
     let mut writer = ColumnarWriter::new(alloc);
-    if put_numbers(&mut writer)? != 32 {
-        return Ok(None);
+    put_shared(&mut writer)?;
+    writer.serialize(3)
+}
+
+/// One value in a thousand rows.
+fn sparse(alloc: Global) -> Result<Vec<u8>, ColumnError> {
+    let mut writer = ColumnarWriter::new(alloc);
+    writer.record_numerical(500, "n", NumericalValue::I64(7))?;
+    writer.serialize(1000)
+}
+
+/// Whether such a file has it in its row, and nothing in the next.
+fn has_sparse(alloc: Global) -> Result<bool, ColumnError> {
+    let file = sparse(alloc)?;
+    let reader = open(alloc, file.as_slice())?;
+    for handle in reader.read_columns(alloc, "n")? {
+        if let DynamicColumn::I64(values) = handle.open() {
+            return Ok(
+                values.num_docs() == 1000
+                    && values.first(500) == Some(7)
+                    && values.first(501).is_none(),
+            );
+        }
     }
-    Ok(writer.serialize(1).err())
+    Ok(false)
 }
 
 #[test]
-fn numbers_without_a_type(rt: HostRuntime) -> Result<(), Fail> {
-    assert!(rt; mixed(rt.alloc())? == Some(ColumnError::Mixed));
-    Ok(())
+fn files_of_one_column(rt: HostRuntime) {
+    assert!(rt; is_file(number(rt.alloc()), ONE.as_slice()));
+    assert!(rt; is_file(number_by_column(rt.alloc()), ONE.as_slice()));
+    assert!(rt; truth(rt.alloc()).is_ok() && moment(rt.alloc()).is_ok());
+    assert!(rt; address(rt.alloc()).is_ok() && byte_string(rt.alloc()).is_ok());
+    assert!(rt; texts(rt.alloc()).is_ok());
+    assert!(rt; is_file(shared(rt.alloc()), SHARED.as_slice()));
+    assert!(rt; has_sparse(rt.alloc()) == Ok(true));
 }

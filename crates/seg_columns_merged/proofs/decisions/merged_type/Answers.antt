@@ -4,7 +4,7 @@ use Rattle.std.proofs.lemmas.Result.{MatchResult-weaker}
 use Rattle.seg_common.specs.declared.column_type.ColumnType.{ColumnType}
 use Rattle.seg_columns_merged.specs.Cells.{is_absent}
 use Rattle.seg_columns_merged.specs.MergedBytes.{places_of}
-use Rattle.seg_columns_merged.specs.Tables.{column_in}
+use Rattle.seg_columns_joined.specs.Tables.{column_in}
 use Rattle.seg_columns_merged.proofs.Deciding.{number_decides, present_is, value_decides}
 use Rattle.seg_columns_merged.proofs.RowFiles.{all_have_rows}
 use Rattle.seg_columns_merged.proofs.decisions.merged_type.Goals as goal

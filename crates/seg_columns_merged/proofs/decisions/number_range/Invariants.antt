@@ -1,6 +1,6 @@
 use Rattle.std.proofs.Common.{◌≡◌, drop}
 use Rattle.seg_columns_merged.specs.Decisions.{range_of}
-use Rattle.seg_columns_merged.specs.NumberRanges.{no_numbers}
+use Rattle.seg_columns_joined.specs.NumberRanges.{no_numbers}
 use Rattle.seg_columns_merged.proofs.decisions.number_range.Given as goal
 
 abbrev pub invariant-loop-row : goal.invariant-loop-row

@@ -1,4 +1,4 @@
-use Rattle.seg_columns_merged.specs.KeptColumns.{IsWhole}
+use Rattle.seg_columns_joined.specs.KeptColumns.{IsWhole}
 use Rattle.std.proofs.Common.{[], false, arith}
 use Rattle.seg_columns_merged.proofs.KeptFits.{all_fit, next_fit}
 use Rattle.seg_columns_merged.proofs.kept_count.address_count.Goals as goal

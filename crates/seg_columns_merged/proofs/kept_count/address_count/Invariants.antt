@@ -1,4 +1,4 @@
-use Rattle.seg_columns_merged.specs.KeptColumns.{IsWhole}
+use Rattle.seg_columns_joined.specs.KeptColumns.{IsWhole}
 use Rattle.seg_columns_merged.proofs.KeptFits.{FitFrom}
 use Rattle.seg_columns_merged.proofs.kept_count.address_count.Given as goal
 

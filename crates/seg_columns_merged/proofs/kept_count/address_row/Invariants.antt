@@ -1,5 +1,5 @@
 use Rattle.std.specs.Prelude.{All}
-use Rattle.seg_columns_merged.specs.KeptColumns.{IsWhole}
+use Rattle.seg_columns_joined.specs.KeptColumns.{IsWhole}
 use Rattle.seg_columns_merged.proofs.kept_count.address_row.Given as goal
 
 abbrev pub invariant-loop-value : goal.invariant-loop-value

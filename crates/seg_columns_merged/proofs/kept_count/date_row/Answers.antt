@@ -8,6 +8,7 @@ pub loop-value-preserved : goal.loop-value-preserved
 loop-value-preserved c = record {
   can = tt;
   finite = tt;
-  fit = value_fits (FitsSigned w64) c.args.values c.loop-value.value-iterator c.next.new.self c.in-Some.value c.in-Some.ensures.steps
+  fit = value_fits (FitsSigned w64) c.args.values c.loop-value.value-iterator c.next.new.self
+      c.in-Some.value c.in-Some.ensures.steps
       (subst (FitsSigned w64) c.into_timestamp_nanos.ensures (search rules)) c.loop-value.invariant.fit;
 }

@@ -2,7 +2,7 @@ use Rattle.std.proofs.Common.{◌≡◌, ℕ, List, map, subst, ◌∙◌}
 use Rattle.std.specs.Prelude.{MatchResult}
 use Rattle.seg_columnar.specs.ColumnFiles.{ColumnFile}
 use Rattle.seg_columns_merged.specs.MergedColumns.{IsMerged, MergeFails, merged_columns, required_key}
-use Rattle.seg_columns_merged.specs.RowOrders.{rows_in_order}
+use Rattle.seg_columns_joined.specs.RowOrders.{rows_in_order}
 use Rattle.seg_columns_merged.proofs.merging.merge_columnar.Goals as goal
 
 pub returns : goal.returns
@@ -11,7 +11,7 @@ returns c =
     let keys = map required_key c.args.required_columns.now in
     let order = c.args.order.now in
     let same : c.as_slice-counts.result.now ≡ map (λ (f : ColumnFile). f.rows) files =
-    c.as_slice-counts.ensures.value ∙ c.in-Ok.ensures in
+    c.as_slice-counts.ensures.value ∙ c.in-Ok.ensures.counts in
     subst (λ (counts : List ℕ). MatchResult c.merge_sorted.result
     (λ bytes. IsMerged keys files (rows_in_order counts order) bytes.items)
     (MergeFails (merged_columns keys files (rows_in_order counts order)))) same c.merge_sorted.ensures

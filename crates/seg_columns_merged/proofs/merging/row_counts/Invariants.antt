@@ -1,6 +1,10 @@
-use Rattle.std.proofs.Common.{◌≡◌, map, take}
-use Rattle.seg_columnar.specs.ColumnFiles.{ColumnFile}
+use Rattle.std.proofs.Common.{◌≡◌, map, take, drop}
+use Rattle.std.specs.List.{AllByRecursion}
+use Rattle.seg_columnar.specs.ColumnFiles.{ColumnFile, IsOfFile}
 use Rattle.seg_columns_merged.proofs.merging.row_counts.Given as goal
 
 abbrev pub invariant-loop-columnar : goal.invariant-loop-columnar
-invariant-loop-columnar l = l.counts.items ≡ map (λ (f : ColumnFile). f.rows) (take l.columnar-index l.columnars)
+invariant-loop-columnar l = record {
+  counts : l.counts.items ≡ map (λ (f : ColumnFile). f.rows) (take l.columnar-index l.columnars);
+  read : AllByRecursion IsOfFile (drop l.columnar-index l.columnars) → AllByRecursion IsOfFile l.columnars;
+}

@@ -4,10 +4,10 @@ use Rattle.std.proofs.lemmas.List.Elements.{All-from_recursion, recursion_from_A
 use Rattle.seg_common.specs.declared.column_type.ColumnType.TheVariants.{IpAddr}
 use Rattle.seg_columns_written.specs.ColumnBytes.{column_bytes, total}
 use Rattle.seg_columns_merged.specs.MergedBytes.{HasType, RowFits, places_of}
-use Rattle.seg_columns_merged.specs.RowOrders.{IsRow}
-use Rattle.seg_columns_merged.specs.Sources.{IsPut, joined}
-use Rattle.seg_columns_merged.specs.declared.source.Source.{Source}
-use Rattle.seg_columns_merged.specs.declared.tables.TableRow.{TableRow}
+use Rattle.seg_columns_joined.specs.RowOrders.{IsRow}
+use Rattle.seg_columns_joined.specs.Sources.{IsPut, joined}
+use Rattle.seg_columns_joined.specs.declared.source.Source.{Source}
+use Rattle.seg_columns_joined.specs.declared.tables.TableRow.{TableRow}
 use Rattle.seg_columns_merged.proofs.PutAddresses.{addresses_added, addresses_put}
 use Rattle.seg_columns_merged.proofs.RowFiles.{all_have_files}
 use Rattle.seg_columns_merged.proofs.value_columns.put_addresses.Goals as goal
@@ -42,4 +42,4 @@ returns c =
     (subst (λ (ss : List Source). total (joined ss places) < 2 ^ 64) same c.in_ok-put_joined.ensures.few) out
     c.put_joined.new.out.items
     (c.in_ok-put_joined.ensures.ok
-    ∙ (λ j. c.in_ok-reserve.ensures.items j ++ column_bytes {T = List ℕ} (λ code. code) (joined (same j) places)))
+    ∙ (λ j. out ++ column_bytes {T = List ℕ} (λ code. code) (joined (same j) places)))

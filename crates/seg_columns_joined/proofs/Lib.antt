@@ -1,0 +1,19 @@
+mod Answering
+pub mod Exports
+mod HeadCalls
+mod HeadLemmas
+mod HeadSteps
+mod ImageLaws
+mod JoinSteps
+mod JoinedRows
+mod KeptAny
+mod KeptMarks
+mod KeptSteps
+mod MergedRows
+mod NumberTypes
+mod OrdinalMarks
+mod RangeLaws
+mod RowSteps
+mod StackedMarks
+mod TableSteps
+mod TermOrder

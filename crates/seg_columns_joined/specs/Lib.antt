@@ -1,0 +1,14 @@
+pub mod ColumnSources
+pub mod ImageValues
+pub mod JoinedNumbers
+pub mod KeptColumns
+pub mod KeptRows
+pub mod MergedTerms
+pub mod NumberRanges
+pub mod RowOrders
+pub mod Sources
+pub mod Tables
+pub mod TermHeads
+pub mod TermSources
+pub mod UsedOrdinals
+pub mod UsedTerms

@@ -1,0 +1,61 @@
+//! The bytes of a column that has rows of several files.
+ghost use Rattle.std.specs.Prelude.{◌≡◌, ◌^◌, ◌<◌, ◌++◌, All, OnOk};
+ghost use Rattle.std.specs.List.{flat_map};
+ghost use Rattle.seg_columns_written.specs.ColumnBytes.{column_bytes, ends_from, number_bytes, total};
+ghost use Rattle.seg_columns_joined.specs.RowOrders.{rows_in_order};
+ghost use Rattle.seg_columns_joined.specs.Sources.{IsPut, joined};
+
+use crate::row_order::{MergeRowOrder, OrderedRows};
+use crate::source::Source;
+use seg_common::put_u64;
+use std::alloc::AllocError;
+
+/// Adds the bytes of a column with the rows of files in an order, each from the source of its file.
+pub fn put_joined(
+    counts: &[u32],
+    order: &MergeRowOrder,
+    sources: &[Source],
+    out: &mut Vec<u8>,
+) -> Result<(), AllocError>
+    requires { All (IsPut sources.now) (rows_in_order counts.now order.now) }
+    ensures ok { OnOk result (out.new.items
+        ≡ out.old.items ++ column_bytes (λ code. code) (joined sources.now (rows_in_order counts.now order.now))) }
+    ensures few { OnOk result (total (joined sources.now (rows_in_order counts.now order.now)) < 2 ^ 64) }
+{
+    put_row_ends(OrderedRows::new(counts, order), sources, out)?;
+    put_rows(OrderedRows::new(counts, order), sources, out)
+}
+
+/// Adds how many values there are up to each row and with it.
+fn put_row_ends(
+    rows: OrderedRows<'_>,
+    sources: &[Source],
+    out: &mut Vec<u8>,
+) -> Result<(), AllocError>
+    requires { All (IsPut sources.now) rows }
+    ensures ok { OnOk result (out.new.items
+        ≡ out.old.items ++ number_bytes (ends_from 0 (joined sources.now rows.entry))) }
+    ensures few { OnOk result (total (joined sources.now rows.entry) < 2 ^ 64) }
+{
+    let mut end = 0;
+    for (file, row) in rows {
+        let Some(next) = sources[file].count(row, end) else {
+            return Err(AllocError);
+        };
+        put_u64(out, next)?;
+        end = next;
+    }
+    Ok(())
+}
+
+/// Adds the values of the rows.
+fn put_rows(rows: OrderedRows<'_>, sources: &[Source], out: &mut Vec<u8>) -> Result<(), AllocError>
+    requires { All (IsPut sources.now) rows }
+    ensures { OnOk result (out.new.items
+        ≡ out.old.items ++ flat_map (flat_map (λ code. code)) (joined sources.now rows.entry)) }
+{
+    for (file, row) in rows {
+        sources[file].put(row, out)?;
+    }
+    Ok(())
+}

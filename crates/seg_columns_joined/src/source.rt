@@ -1,0 +1,90 @@
+//! The rows of a column of one file, as they are written.
+ghost use Rattle.std.specs.Prelude.{◌≡◌, ◌+◌, ◌^◌, ◌<◌, ◌++◌, All, length, IfSome, OnOk};
+ghost use Rattle.std.specs.List.{flat_map};
+ghost use Rattle.std.specs.Net.Addr.{ipv6_octets};
+ghost use Rattle.seg_columns_joined.specs.Sources.{CanMap, CanPut, number_code, row_codes};
+
+use crate::number_map::NumberMap;
+use seg_columns::{Column, ColumnValue, ColumnValues};
+use seg_common::put_u64;
+use std::alloc::AllocError;
+use std::net::Ipv6Addr;
+
+/// The numbers that stand for the values of a column, and what is written for them.
+#[derive(Drop)]
+pub struct NumberSource {
+    pub numbers: Column<u64>,
+    pub written: NumberMap,
+}
+
+/// What a file has of a merged column.
+#[derive(Drop)]
+pub enum Source {
+    Nothing,
+    Numbers(NumberSource),
+    Addresses(Column<Ipv6Addr>),
+}
+
+impl Source {
+    /// So many, and the values of a row beside them; nothing where no u64 counts them.
+    pub fn count(&self, row: u32, before: u64) -> Option<u64>
+        requires { CanPut self.now row }
+        ensures count { IfSome result (λ count. count ≡ before + length (row_codes self.now row)) }
+        ensures fits { IfSome result (λ count. count < 2 ^ 64) }
+    {
+        match self {
+            Source::Nothing => Some(before),
+            Source::Numbers(source) => counted(source.numbers.values_for_doc(row), before),
+            Source::Addresses(column) => counted(column.values_for_doc(row), before),
+        }
+    }
+
+    /// Adds the bytes of the values of a row.
+    pub fn put(&self, row: u32, out: &mut Vec<u8>) -> Result<(), AllocError>
+        requires { CanPut self.now row }
+        ensures { OnOk result (out.new.items ≡ out.old.items ++ flat_map (λ code. code) (row_codes self.now row)) }
+    {
+        match self {
+            Source::Nothing => Ok(()),
+            Source::Numbers(source) => {
+                put_numbers(source.numbers.values_for_doc(row), &source.written, out)
+            }
+            Source::Addresses(column) => put_addresses(column.values_for_doc(row), out),
+        }
+    }
+}
+
+fn counted<T: ColumnValue>(values: ColumnValues<'_, T>, before: u64) -> Option<u64>
+    ensures count { IfSome result (λ count. count ≡ before + length values.entry) }
+    ensures fits { IfSome result (λ count. count < 2 ^ 64) }
+{
+    let mut count = before;
+    for _value in values {
+        count = count.checked_add(1)?;
+    }
+    Some(count)
+}
+
+fn put_numbers(
+    numbers: ColumnValues<'_, u64>,
+    written: &NumberMap,
+    out: &mut Vec<u8>,
+) -> Result<(), AllocError>
+    requires { All (CanMap written.now) numbers }
+    ensures { OnOk result (out.new.items
+        ≡ out.old.items ++ flat_map (λ n. number_code written.now n) numbers.entry) }
+{
+    for number in numbers {
+        put_u64(out, written.of(number))?;
+    }
+    Ok(())
+}
+
+fn put_addresses(addresses: ColumnValues<'_, Ipv6Addr>, out: &mut Vec<u8>) -> Result<(), AllocError>
+    ensures { OnOk result (out.new.items ≡ out.old.items ++ flat_map ipv6_octets addresses.entry) }
+{
+    for address in addresses {
+        out.extend_from_slice(&address.octets())?;
+    }
+    Ok(())
+}
