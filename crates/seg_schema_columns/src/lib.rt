@@ -1,0 +1,14 @@
+//! The columns of a segment by its schema: which a file of columns has to have, and which it may have.
+//!
+//! To be read in this order: `declared` (the columns that fields declare), `json_paths`, `values` (what others have),
+//! `suiting` (all columns of a file), `opening`.
+#![tactic(auto)]
+
+mod declared;
+mod json_paths;
+mod opening;
+mod suiting;
+mod values;
+
+pub use declared::declared_type;
+pub use opening::open_columns;
