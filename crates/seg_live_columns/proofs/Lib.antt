@@ -1,0 +1,4 @@
+mod Agreeing
+mod Joining
+mod LiveRows
+mod RowValues
