@@ -1,0 +1,5 @@
+pub mod FieldColumns
+pub mod FirstColumns
+pub mod FastLeaves
+pub mod Walking
+pub mod Writing

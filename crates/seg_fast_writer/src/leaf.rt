@@ -1,0 +1,167 @@
+//! A leaf of a value, recorded at its path.
+ghost use Rattle.std.specs.Prelude.{◌≡◌, ◌+◌, ◌||◌, option_map, OnOk};
+ghost use Rattle.seg_columns_recorded.specs.Documents.{with_values};
+ghost use Rattle.seg_fast_writer.specs.FastLeaves.{IsKnown, cut_at, values_of_leaf, values_under};
+ghost use Rattle.seg_columns_recorded.specs.declared.value_kind.ValueKind.TheVariants.{Str};
+ghost use Rattle.seg_fast_writer.specs.FieldColumns.{IsColumnOf, IsLeafColumn};
+ghost use Rattle.seg_fast_writer.specs.Walking.{CanRecordLeaf, CanRecordTexts};
+ghost use Rattle.seg_fast_writer.specs.Writing.{AreUnderWay};
+ghost use Rattle.seg_model.specs.Columns as model;
+ghost use Rattle.seg_model.specs.Fields as fields;
+ghost use Rattle.seg_paths.specs.NumberedLeaves.{leaf_in};
+ghost use Rattle.seg_values.specs.View.{tree_of};
+
+use crate::placed_recording::{put_address, put_bool, put_bytes, put_moment, put_number, put_text};
+use crate::row_recorder::RowRecorder;
+use seg_columns::ColumnError;
+use seg_columns_recorded::{ColumnId, ColumnarWriter, NumericalValue};
+use seg_dates::{DateTime, DateTimePrecision};
+use seg_values::{FieldEntry, FieldKind, OwnedValue};
+use seg_words::{Analyzers, Token, Tokens};
+
+impl<'a, Z: Analyzers> RowRecorder<'a, Z> {
+    /// Records a leaf at a path.
+    pub(crate) fn record_leaf(
+        &self,
+        columns: &mut ColumnarWriter,
+        entry: &FieldEntry,
+        column: Option<ColumnId>,
+        path: &str,
+        level: u32,
+        leaf: &OwnedValue,
+    ) -> Result<(), ColumnError>
+        requires can { CanRecordLeaf (Z.knows self.now.analyzers.now) self.now.schema.now self.now.row entry.now
+            path.now (leaf_in (tree_of leaf.now)) columns.old }
+        requires column { IsLeafColumn column path.now (leaf_in (tree_of leaf.now)) columns.old }
+        ensures recorded { OnOk result (columns.new ≡ with_values self.now.row
+            (values_of_leaf (Z.tokens_of self.now.analyzers.now) entry.now path.now level
+            (leaf_in (tree_of leaf.now))) columns.old) }
+        ensures under_way { AreUnderWay self.now.schema.now (self.now.row + 1) columns.new }
+    {
+        match leaf {
+            OwnedValue::Str(text) => self.record_text(columns, entry, column, path, text.as_str()),
+            OwnedValue::PreTokStr(given) => {
+                self.record_tokens(columns, column, path, given.tokens.as_slice())
+            }
+            OwnedValue::U64(number) => {
+                put_number(
+                    columns,
+                    self.row,
+                    column,
+                    path,
+                    NumericalValue::U64(*number),
+                )
+            }
+            OwnedValue::I64(number) => {
+                put_number(
+                    columns,
+                    self.row,
+                    column,
+                    path,
+                    NumericalValue::I64(*number),
+                )
+            }
+            OwnedValue::Bool(truth) => put_bool(columns, self.row, column, path, *truth),
+            OwnedValue::Date(moment) => {
+                put_moment(columns, self.row, column, path, cut(entry, level, *moment))
+            }
+            OwnedValue::Facet(facet) => put_text(
+                columns,
+                self.row,
+                column,
+                path,
+                facet.encoded_str(),
+            ),
+            OwnedValue::Bytes(bytes) => put_bytes(
+                columns,
+                self.row,
+                column,
+                path,
+                bytes.as_slice(),
+            ),
+            OwnedValue::IpAddr(address) => put_address(columns, self.row, column, path, *address),
+            OwnedValue::Null => Ok(()),
+            OwnedValue::Array(_) => Ok(()),
+            OwnedValue::Object(_) => Ok(()),
+        }
+    }
+
+    /// Records a text: whole, or its tokens where the field has a fast tokenizer.
+    fn record_text(
+        &self,
+        columns: &mut ColumnarWriter,
+        entry: &FieldEntry,
+        column: Option<ColumnId>,
+        path: &str,
+        text: &str,
+    ) -> Result<(), ColumnError>
+        requires known { IsKnown (Z.knows self.now.analyzers.now) entry.now }
+        requires texts { CanRecordTexts self.now.schema.now self.now.row path.now columns.old
+            × IsColumnOf column path.now Str columns.old }
+        ensures recorded { OnOk result (columns.new ≡ with_values self.now.row (values_under path.now (model.fast_texts
+            (Z.tokens_of self.now.analyzers.now) (model.column_tokenizer entry.now) text.now)) columns.old) }
+        ensures under_way { AreUnderWay self.now.schema.now (self.now.row + 1) columns.new }
+    {
+        let Some(tokenizer) = column_tokenizer(entry) else {
+            return put_text(columns, self.row, column, path, text);
+        };
+        let mut tokens = Tokens::new(self.alloc);
+        self.analyzers
+            .tokens(self.alloc, tokenizer, text, &mut tokens)?;
+        self.record_tokens(columns, column, path, tokens.as_slice())
+    }
+
+    /// Records the text of each token.
+    fn record_tokens(
+        &self,
+        columns: &mut ColumnarWriter,
+        column: Option<ColumnId>,
+        path: &str,
+        tokens: &[Token],
+    ) -> Result<(), ColumnError>
+        requires texts { CanRecordTexts self.now.schema.now self.now.row path.now columns.old }
+        requires column { IsColumnOf column path.now Str columns.old }
+        ensures recorded { OnOk result (columns.new ≡ with_values self.now.row (values_under path.now
+            (model.token_texts tokens.now)) columns.old) }
+        ensures under_way { AreUnderWay self.now.schema.now (self.now.row + 1) columns.new }
+    {
+        for token in tokens {
+            put_text(columns, self.row, column, path, token.text.as_str())?;
+        }
+        Ok(())
+    }
+}
+
+/// The fast tokenizer of a fast text or JSON field.
+pub(crate) fn column_tokenizer(entry: &FieldEntry) -> Option<&str>
+    ensures { option_map (λ t. t.now) result ≡ model.column_tokenizer entry.now }
+{
+    if !entry.fast || !has_texts(entry.kind) {
+        return None;
+    }
+    match &entry.fast_tokenizer {
+        Some(name) => Some(name.as_str()),
+        None => None,
+    }
+}
+
+fn has_texts(kind: FieldKind) -> bool
+    ensures { result ≡ (fields.is_text kind || fields.is_json kind) }
+{
+    match kind {
+        FieldKind::Text => true,
+        FieldKind::Json => true,
+        _ => false,
+    }
+}
+
+/// A moment cut as its field has it, at a level below the first object.
+fn cut(entry: &FieldEntry, level: u32, moment: DateTime) -> DateTime
+    ensures { result ≡ cut_at entry.now level moment }
+{
+    match entry.kind {
+        FieldKind::Json if level == 0 => moment.truncate(DateTimePrecision::Seconds),
+        FieldKind::Json => moment,
+        _ => moment.truncate(entry.precision),
+    }
+}

@@ -1,0 +1,80 @@
+//! The leaves of a value, recorded at their paths.
+ghost use Rattle.std.specs.Prelude.{◌≡◌, ◌+◌, ◌++◌, [], ◌∷◌, ◌≤◌, ℕ, List, OnOk};
+ghost use Rattle.seg_common.specs.JsonPaths.{written_key};
+ghost use Rattle.seg_model.specs.Leaves as leaves;
+ghost use Rattle.seg_values.specs.View.{tree_of};
+ghost use Rattle.seg_fast_writer.specs.FieldColumns.{IsFieldColumn};
+ghost use Rattle.seg_fast_writer.specs.FirstColumns.{first_columns};
+ghost use Rattle.seg_fast_writer.specs.Walking.{CanRecord, IsRecorded};
+ghost use Rattle.seg_fast_writer.specs.Writing.{AreUnderWay};
+
+use crate::row_recorder::RowRecorder;
+use seg_columns::ColumnError;
+use seg_columns_recorded::{ColumnId, ColumnarWriter};
+use seg_common::JsonPathWriter;
+use seg_values::{FieldEntry, OwnedValue};
+use seg_words::Analyzers;
+
+/// The deepest level below the first object at which leaves are recorded.
+const MOST_LEVELS: u32 = 20;
+
+impl<'a, Z: Analyzers> RowRecorder<'a, Z> {
+    /// Records the leaves of a value that is at a path of its field, at this level below the first object.
+    pub(crate) fn record_tree(
+        &self,
+        columns: &mut ColumnarWriter,
+        path: &mut JsonPathWriter,
+        entry: &FieldEntry,
+        column: Option<ColumnId>,
+        level: u32,
+        value: &OwnedValue,
+    ) -> Result<(), ColumnError>
+        requires can { CanRecord (Z.knows self.now.analyzers.now) self.now.schema.now self.now.row entry.now path.old
+            level (tree_of value.now) columns.old }
+        requires column { IsFieldColumn (first_columns self.now.schema.now) entry.now column }
+        ensures recorded { (keys : List (List ℕ)) → IsRecorded (Z.tokens_of self.now.analyzers.now) self.now.row
+            entry.now keys level (tree_of value.now) path.old path.new columns.old columns.new result }
+        ensures under_way { AreUnderWay self.now.schema.now (self.now.row + 1) columns.new }
+    {
+        if level > MOST_LEVELS {
+            return Ok(());
+        }
+        match value {
+            OwnedValue::Array(values) => {
+                let inner = level_in_array(level);
+                for at in 0..values.len() {
+                    self.record_tree(columns, path, entry, column, inner, values.get(at))?;
+                }
+                Ok(())
+            }
+            OwnedValue::Object(members) => {
+                for index in 0..members.len() {
+                    let (key, child) = members.get(index);
+                    push_key(path, key)?;
+                    self.record_tree(columns, path, entry, column, level + 1, child)?;
+                    path.pop();
+                }
+                Ok(())
+            }
+            _ => self.record_leaf(columns, entry, column, path.as_str(), level, value),
+        }
+    }
+}
+
+/// The level of the values of an array: those outside of objects have none.
+fn level_in_array(level: u32) -> u32
+    requires { level ≤ 20 }
+    ensures { result ≡ leaves.level_in_array level }
+{
+    if level == 0 { 0 } else { level + 1 }
+}
+
+fn push_key(path: &mut JsonPathWriter, key: &str) -> Result<(), ColumnError>
+    ensures { OnOk result
+        (path.new ≡ record path.old { keys = path.old.keys ++ written_key path.old.expand_dots key.now ∷ [] }) }
+{
+    let Ok(()) = path.push(key) else {
+        return Err(ColumnError::OutOfMemory);
+    };
+    Ok(())
+}
