@@ -1,26 +1,20 @@
-//! Tests of the crates below directories: vectors that were worked out by hand, each failing call by its number, and
-//! the calls that no program runs.
+//! Tests of the crates that a segment's writers and readers stand on: what no clause says, and the calls that no program
+//! makes.
 #![tactic(auto)]
 
 #[cfg(test)]
 mod bytes;
 #[cfg(test)]
-mod dates;
-#[cfg(test)]
 mod deletes;
 #[cfg(test)]
-mod json_terms;
+mod dictionaries;
+#[cfg(test)]
+mod folder;
 #[cfg(test)]
 mod json_values;
 #[cfg(test)]
-mod names;
+mod meta;
 #[cfg(test)]
-mod paths;
-#[cfg(test)]
-mod sets;
-#[cfg(test)]
-mod streams;
-#[cfg(test)]
-mod tokenizers;
+mod pieces;
 #[cfg(test)]
 mod values;

@@ -13,5 +13,6 @@ document_cases = record {
   stored = refl;
   stored_bytes = refl;
   tags = refl;
+  object_of_a_list = refl;
   nested = refl;
 }

@@ -1,5 +1,8 @@
+mod Bytes
+mod ColumnFiles
 mod Columns
 mod Contents
+mod Dates
 mod Dictionaries
 mod Documents
 mod Files

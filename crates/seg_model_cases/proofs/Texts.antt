@@ -28,4 +28,4 @@ long_tokens = record {
 
 pub text_cases : TextCases
 unfolding length_id
-text_cases = record { long_tokens = long_tokens; by_option = refl; lengths = refl; last_length = refl; last_id = refl; bytes = refl; truth = refl }
+text_cases = record { long_tokens = long_tokens; by_option = refl; lengths = refl; next_length = refl; last_length = refl; last_id = refl; bytes = refl; truth = refl }

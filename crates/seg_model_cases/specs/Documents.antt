@@ -55,5 +55,8 @@ pub record DocumentCases : Type 0 where
       ∷ (9 ∷ 2 ∷ 97 ∷ 98 ∷ [])
       ∷ (12 ∷ replicate 16 9)
       ∷ []
+  -- {"a": [1, null]} in field 0
+  pub object_of_a_list : stored_form (only Json No) ((0, keyed (codes "a") (array (tree (leaf (signed (pos 1))) (tree (leaf null) no_trees)))) ∷ []) ≡
+      1 ∷ 0 ∷ 11 ∷ 1 ∷ 1 ∷ 97 ∷ 10 ∷ 2 ∷ 4 ∷ 1 ∷ replicate 8 0
   -- [null, {"k": true}], and a text of one token
   pub nested : map tree_form (array (tree (leaf null) (tree (keyed (codes "k") (leaf (boolean true))) no_trees)) ∷ cut (token 5 (codes "b") ∷ []) ∷ []) ≡ (10 ∷ 2 ∷ 0 ∷ 11 ∷ 1 ∷ 1 ∷ 107 ∷ 6 ∷ 1 ∷ []) ∷ (2 ∷ 1 ∷ 97 ∷ 1 ∷ 0 ∷ 0 ∷ 5 ∷ 1 ∷ 1 ∷ 98 ∷ []) ∷ []

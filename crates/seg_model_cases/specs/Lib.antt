@@ -1,5 +1,8 @@
+pub mod Bytes
+pub mod ColumnFiles
 pub mod Columns
 pub mod Contents
+pub mod Dates
 pub mod Dictionaries
 pub mod Documents
 pub mod Files

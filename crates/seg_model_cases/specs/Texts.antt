@@ -34,6 +34,7 @@ pub record TextCases : Type 0 where
       ∷ []
   -- 41 has no id of its own
   pub lengths : field_norms analyzer (map (λ n. one (words n)) (40 ∷ 41 ∷ 42 ∷ [])) (0, entry Text Basic) ≡ 40 ∷ 40 ∷ 41 ∷ []
+  pub next_length : length_of_id 41 ≡ 42
   pub last_length : length_of_id 255 ≡ 2013265944
   pub last_id : length_id (2 ^ 64 - 1) ≡ 255
   -- fields of bytes and of truth values

@@ -1,6 +1,9 @@
 //! The cases, by what they are about.
+ghost use Rattle.seg_model_cases.specs.Bytes.{ByteCases};
+ghost use Rattle.seg_model_cases.specs.ColumnFiles.{ColumnFileCases};
 ghost use Rattle.seg_model_cases.specs.Columns.{ColumnCases};
 ghost use Rattle.seg_model_cases.specs.Contents.{ContentsCases};
+ghost use Rattle.seg_model_cases.specs.Dates.{DateCases};
 ghost use Rattle.seg_model_cases.specs.Dictionaries.{DictionaryCases};
 ghost use Rattle.seg_model_cases.specs.Documents.{DocumentCases};
 ghost use Rattle.seg_model_cases.specs.Files.{DiskCases, OpeningCases};
@@ -27,6 +30,21 @@ pub fn cases_of_documents()
 /// What columns record of values.
 pub fn cases_of_columns()
     ensures { ColumnCases }
+{}
+
+/// Which moments texts tell.
+pub fn cases_of_dates()
+    ensures { DateCases }
+{}
+
+/// Numbers, sets and names of files as bytes.
+pub fn cases_of_bytes()
+    ensures { ByteCases }
+{}
+
+/// What bytes read as columns, and as a file of them.
+pub fn cases_of_column_files()
+    ensures { ColumnFileCases }
 {}
 
 /// What deletes and filters leave, and how many tokens that is.

@@ -1,4 +1,4 @@
-//! Worked cases of the definitions of `seg_model`, as theorems.
+//! Worked cases of the definitions of `seg_model` and of formats, as theorems.
 //!
 //! Each law says what the definitions answer on small inputs that were worked out by hand. No other crate uses it.
 #![tactic(auto)]
@@ -6,6 +6,7 @@
 mod laws;
 
 pub use laws::{
-    cases_of_columns, cases_of_contents, cases_of_dictionaries, cases_of_disks, cases_of_documents,
-    cases_of_json, cases_of_opening, cases_of_operations, cases_of_refusals, cases_of_texts,
+    cases_of_bytes, cases_of_column_files, cases_of_columns, cases_of_contents, cases_of_dates,
+    cases_of_dictionaries, cases_of_disks, cases_of_documents, cases_of_json, cases_of_opening,
+    cases_of_operations, cases_of_refusals, cases_of_texts,
 };
