@@ -6,3 +6,4 @@ pub use Rattle.seg_columns_joined.proofs.KeptSteps.{last_kept, next_kept}
 pub use Rattle.seg_columns_joined.proofs.MergedRows.{rows_merged}
 pub use Rattle.seg_columns_joined.proofs.NumberTypes.{large_unsigned, negative_signed, negative_unsigned, type_of_rows}
 pub use Rattle.seg_columns_joined.proofs.RangeLaws.{signed_large, signed_negative, signed_some, unsigned_large, unsigned_negative, unsigned_some}
+pub use Rattle.seg_columns_joined.proofs.TableKeys.{key_total, less_then, row_order}

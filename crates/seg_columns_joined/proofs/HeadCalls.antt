@@ -10,7 +10,8 @@ use Rattle.std.proofs.lemmas.Bool.{cases_lt, false≢true}
 use Rattle.std.proofs.lemmas.List.{get_or_append_left, get_or_default, get_or_past, get_or_push, length-map, length_push, map-append, take_more}
 use Rattle.std.proofs.lemmas.Option.{get_or_from_slice_get, slice_get-map}
 use Rattle.std.proofs.lemmas.Slice.Eq.{bytes_eq-Decides}
-use Rattle.seg_columns_joined.specs.TermHeads.{Advances, AreLong, EndsWith, Head, IsLast, Pops, column_at, heads_at, with_ordinal}
+use Rattle.seg_columns_joined.specs.HeadHeaps.{Head, Pops}
+use Rattle.seg_columns_joined.specs.TermHeads.{Advances, AreLong, EndsWith, IsLast, column_at, heads_at, with_ordinal}
 use Rattle.seg_columns_joined.specs.UsedTerms.{IsNextUsed, MarkedTerms, NoneUsed, no_terms}
 use Rattle.seg_columns_joined.proofs.HeadSteps.{SoFar, fewer_left, is_head, measure, one_merged, ordinal_there}
 

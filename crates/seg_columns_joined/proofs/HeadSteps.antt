@@ -1,5 +1,5 @@
 -- Merged terms, head by head.
-use Rattle.std.proofs.Common.{◌≡◌, ◌⊎◌, ℕ, zero, suc, ◌+◌, ◌-◌, ◌<◌, ◌≤◌, true, false, List, [], ◌∷◌, ◌++◌, length, get_or, slice_get, set, Option, Some, None, refl, sym, ap, subst, ◌∙◌, arith, inl, inr}
+use Rattle.std.proofs.Common.{◌≡◌, ◌⊎◌, ℕ, ◌+◌, ◌-◌, ◌<◌, ◌≤◌, true, false, List, [], ◌∷◌, ◌++◌, length, get_or, slice_get, set, Option, Some, None, refl, sym, ap, subst, ◌∙◌, arith, inl, inr}
 use Rattle.std.specs.Prelude.{All, Contains, IsUtf8, MatchOption, sum_by}
 use Rattle.std.specs.Cmp.Lexicographic.{slice_cmp}
 use Rattle.std.specs.List.Sorted.{IsPermutation, IsStrictlySortedBy}
@@ -11,21 +11,11 @@ use Rattle.std.proofs.lemmas.List.Elements.{All-append, All-cons, All-tail}
 use Rattle.std.proofs.lemmas.List.Sorted.{All-permutation, Contains-permutation, sum_by-IsPermutation, sum_by_popped}
 use Rattle.std.proofs.lemmas.List.Sums.{sum_by-cons}
 use Rattle.std.proofs.lemmas.Map.Keys.{Less-from_sorted}
-use Rattle.seg_columns_joined.specs.TermHeads.{Advances, AreFirstHeads, AreLong, AreMergedTerms, EndsWith, Head, IsHead, IsLast, IsTermOf, Pops, Waits, column_at, heads_at, ordinal_of, with_ordinal}
+use Rattle.seg_columns_joined.specs.HeadHeaps.{Head, Pops}
+use Rattle.seg_columns_joined.specs.TermHeads.{Advances, AreFirstHeads, AreLong, AreMergedTerms, EndsWith, IsHead, IsLast, IsTermOf, Waits, column_at, heads_at, ordinal_of, with_ordinal}
 use Rattle.seg_columns_joined.specs.UsedTerms.{IsNextUsed, MarkedTerms, NoneUsed, no_terms}
+use Rattle.seg_columns_joined.proofs.HeadLemmas.{behind_front, least_first, there_in}
 use Rattle.seg_columns_joined.proofs.TermOrder.{Ascends, Follows, ascends_more, follows_last, last_of, stays}
-
--- ---- heads that wait
-
-there_in : {X : Type 0} (x y : X) (xs : List X) → Contains (x ∷ xs) y → (x ≡ y) ⊎ Contains xs y
-there_in x y xs (zero, lt, is) = inl is
-there_in x y xs (suc k, lt, is) = inr (k, omega (arith, lt), is)
-
-behind_front : {X : Type 0} (front xs : List X) (x : X) → Contains xs x → Contains (front ++ xs) x
-behind_front [] xs x there = there
-behind_front (y ∷ ys) xs x there =
-    let (k, lt, is) = behind_front ys xs x there in
-    (suc k, omega (arith, lt), is)
 
 module _ (columns : List MarkedTerms) where
   -- how many ordinals a head has from its own on
@@ -316,7 +306,8 @@ module _ (columns : List MarkedTerms) where
 
         low_now : All (λ y. Follows more y.0) new
         low_now = next_low h.1 (h.2 + 1) is_head.place rest new goes h.2 refl (λ y. Follows more y.0)
-            (λ k d lt. follows_last more is_more.ascend h.0 is_more.last (get_or rest k d).0 (pops.first k d lt))
+            (λ k d lt. follows_last more is_more.ascend h.0 is_more.last (get_or rest k d).0
+            (least_first h (get_or rest k d) (pops.least k d lt)))
             (λ next less. follows_last more is_more.ascend h.0 is_more.last (get_or (column_at columns h.1).terms next [])
             (ap is_gt (ap (λ (t : List ℕ). slice_cmp nat_cmp t (get_or (column_at columns h.1).terms next [])) is_head.is
             ∙ less)))

@@ -1,4 +1,5 @@
 pub mod ColumnSources
+pub mod HeadHeaps
 pub mod ImageValues
 pub mod JoinedNumbers
 pub mod KeptColumns
@@ -7,6 +8,7 @@ pub mod MergedTerms
 pub mod NumberRanges
 pub mod RowOrders
 pub mod Sources
+pub mod TableOrder
 pub mod Tables
 pub mod TermHeads
 pub mod TermSources

@@ -1,36 +1,10 @@
--- The first terms of columns that are left, and the heap that holds them.
+-- The first terms of columns that are left: each with the place of its column, and its ordinal there.
 use Rattle.std.specs.Prelude.{◌≡◌, ◌⊎◌, ℕ, ◌<◌, true, false, All, IsUtf8, List, [], ◌∷◌, ◌++◌, Option, Some, None, MatchOption, Contains, length, get_or, slice_get, ◌≤◌, ◌-◌, slice_set}
-use Rattle.std.specs.Borrow.{Bor}
 use Rattle.std.specs.Cmp.Lexicographic.{slice_cmp}
 use Rattle.std.specs.List.Sorted.{IsPermutation, IsStrictlySortedBy}
-use Rattle.std.specs.Ordering.{nat_cmp, is_gt, ordering_then}
-use Rattle.std.specs.declared.cmp.Ordering.{Ordering}
-use Rattle.std.specs.declared.cmp.Reverse.{Reverse}
+use Rattle.std.specs.Ordering.{nat_cmp}
+use Rattle.seg_columns_joined.specs.HeadHeaps.{Head}
 use Rattle.seg_columns_joined.specs.UsedTerms.{IsNextUsed, MarkedTerms, NoneUsed, no_terms}
-
--- a term, the place of its column, and its ordinal there
-abbrev pub Head : Type 0
-Head = List ℕ × ℕ × ℕ
-
-abbrev pub Entry : Type 0
-Entry = Reverse (Bor (List ℕ) × ℕ × ℕ)
-
-abbrev pub head_of : Entry → Head
-head_of e = (e.0.0.now, e.0.1, e.0.2)
-
--- the order of entries, in which the first term is the greatest
-abbrev pub greatest_first : Entry → Entry → Ordering
-greatest_first a b =
-    ordering_then (ordering_then (slice_cmp nat_cmp b.0.0.now a.0.0.now) (nat_cmp b.0.1 a.0.1)) (nat_cmp b.0.2 a.0.2)
-
--- a term isn't above those of heads
-abbrev pub IsFirst : List ℕ → List Head → Type 0
-IsFirst term heads = All (λ y. is_gt (slice_cmp nat_cmp term y.0) ≡ false) heads
-
--- a head was taken out, whose term isn't above those that are left
-pub record Pops (old new : List Head) (h : Head) : Type 0 where
-  pub moves : IsPermutation old (h ∷ new)
-  pub first : IsFirst h.0 new
 
 -- ---- heads of columns
 

@@ -3,7 +3,7 @@ ghost use Rattle.std.specs.Prelude.{◌≡◌, ◌<◌, ◌-◌, ◌+◌, ◌++�
 ghost use Rattle.std.specs.List.Sorted.{IsPermutation};
 ghost use Rattle.seg_columns_joined.specs.TermHeads.{Advances, AreFirstHeads, AreLong, AreMergedTerms, EndsWith, IsLast, heads_at, with_ordinal};
 
-use crate::term_heads::TermHeads;
+use crate::head_heap::HeadHeap;
 use crate::used_terms::UsedTerms;
 use std::alloc::{AllocError, Global};
 
@@ -51,10 +51,10 @@ fn zeros(alloc: Global, count: usize) -> Result<Vec<u64>, AllocError>
     Ok(zeros)
 }
 
-fn first_heads<'a>(alloc: Global, columns: &'a [UsedTerms]) -> Result<TermHeads<'a>, AllocError>
+fn first_heads<'a>(alloc: Global, columns: &'a [UsedTerms]) -> Result<HeadHeap<'a>, AllocError>
     ensures { IfOk result (AreFirstHeads columns.now) }
 {
-    let mut heads = TermHeads::new(alloc);
+    let mut heads = HeadHeap::new(alloc);
     for place in 0..columns.len() {
         begin(&mut heads, &columns[place], place)?;
     }
@@ -63,7 +63,7 @@ fn first_heads<'a>(alloc: Global, columns: &'a [UsedTerms]) -> Result<TermHeads<
 
 /// Puts in the first term of a column that is used.
 fn begin<'a>(
-    heads: &mut TermHeads<'a>,
+    heads: &mut HeadHeap<'a>,
     column: &'a UsedTerms,
     place: usize,
 ) -> Result<(), AllocError>
@@ -75,7 +75,7 @@ fn begin<'a>(
 
 /// Puts in the first term that is used behind one.
 fn advance<'a>(
-    heads: &mut TermHeads<'a>,
+    heads: &mut HeadHeap<'a>,
     column: &'a UsedTerms,
     place: usize,
     ord: usize,
@@ -88,7 +88,7 @@ fn advance<'a>(
 }
 
 fn push_head<'a>(
-    heads: &mut TermHeads<'a>,
+    heads: &mut HeadHeap<'a>,
     column: &'a UsedTerms,
     place: usize,
     next: Option<usize>,

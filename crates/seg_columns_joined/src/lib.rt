@@ -2,17 +2,18 @@
 //! columns, and the bytes of one column with the rows of all.
 //!
 //! To be read in this order: `row_order` (which rows are kept, and in which order), `kept_rows` (marks of them);
-//! `number_range`, `kept_values` (what the kept rows have of a column); `tables` (the columns of all files by path and
-//! kind); `used_ordinals`, `used_terms` (the terms of a column that the kept rows have), `term_heads`, `dictionaries`
-//! (those of several columns, merged), `dictionary_putting`; `number_map`, `source` (what a file has of a merged
-//! column), `column_sources` (the columns of one key, each in the place of its file), `column_joining` (the bytes of
-//! the rows of several files); `laws`.
+//! `number_range`, `kept_values` (what the kept rows have of a column); `head_heap` (the heads of sorted lists that are
+//! merged); `tables`, `table_order` (the columns of all files by path and kind); `used_ordinals`, `used_terms` (the
+//! terms of a column that the kept rows have), `dictionaries` (those of several columns, merged),
+//! `dictionary_putting`; `number_map`, `source` (what a file has of a merged column), `column_sources` (the columns of
+//! one key, each in the place of its file), `column_joining` (the bytes of the rows of several files); `laws`.
 #![tactic(auto)]
 
 mod column_joining;
 mod column_sources;
 mod dictionaries;
 mod dictionary_putting;
+mod head_heap;
 mod kept_rows;
 mod kept_values;
 mod laws;
@@ -20,8 +21,8 @@ mod number_map;
 mod number_range;
 mod row_order;
 mod source;
+mod table_order;
 mod tables;
-mod term_heads;
 mod used_ordinals;
 mod used_terms;
 
@@ -38,5 +39,6 @@ pub use number_map::NumberMap;
 pub use number_range::NumberRange;
 pub use row_order::{MergeRowOrder, OrderedRows};
 pub use source::{NumberSource, Source};
-pub use tables::{FileColumn, TableRow, sort_rows, table_rows};
+pub use table_order::rows_by_key;
+pub use tables::{FileColumn, TableRow, table_rows};
 pub use used_terms::{UsedTerms, used_columns};

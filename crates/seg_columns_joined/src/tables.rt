@@ -1,6 +1,5 @@
-//! The columns of files and those that are required, in order of path and type.
+//! The columns of files and those that are required.
 ghost use Rattle.std.specs.Prelude.{◌≡◌, ◌++◌, ◌∷◌, [], map, All, IsUtf8, IfOk, OnOk};
-ghost use Rattle.std.specs.List.Sorted.{IsPermutation, IsSortedByKey, IsStableByKey};
 ghost use Rattle.seg_columns_joined.specs.Tables as spec;
 
 use seg_columnar::ColumnarReader;
@@ -60,16 +59,6 @@ pub fn table_rows<'a>(
         push_columns(&mut table, file, &columnars[file])?;
     }
     Ok(table)
-}
-
-/// Puts rows in the order of their keys; those of one key stay in theirs.
-pub fn sort_rows(table: &mut Vec<TableRow<'_>>) -> Result<(), AllocError>
-    ensures sorted { OnOk result (IsSortedByKey spec.table_key spec.table_key_cmp table.new.items) }
-    ensures stable { OnOk result (IsStableByKey spec.table_key spec.table_key_cmp table.old.items table.new.items) }
-    ensures permutation { OnOk result (IsPermutation table.old.items table.new.items) }
-{
-    table.sort_by_key(|row| row.key())?;
-    Ok(())
 }
 
 fn required_rows<'a>(

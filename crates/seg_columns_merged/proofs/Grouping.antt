@@ -1,9 +1,8 @@
 -- Rows of a sorted table that have one key are all rows that have it.
 use Rattle.std.proofs.Common.{◌≡◌, ℕ, ◌+◌, ◌<◌, ◌≤◌, Bool, true, false, cond, List, [], ◌∷◌, ◌++◌, length, map, filter, take, drop, get_or, refl, sym, ap, ◌∙◌, append_assoc, arith, ◌⊎◌, inl, inr}
 use Rattle.std.specs.Prelude.{◌&&◌, All, nat_eq, not, slice_range}
-use Rattle.std.specs.Borrow.{Bor}
-use Rattle.std.specs.Cmp.{IsStrictWeakOrder, IsTotalOrder}
-use Rattle.std.specs.Cmp.Lexicographic.{slice_cmp, nat_list_cmp_total}
+use Rattle.std.specs.Cmp.{IsStrictWeakOrder}
+use Rattle.std.specs.Cmp.Lexicographic.{slice_cmp}
 use Rattle.std.specs.List.{AllByRecursion}
 use Rattle.std.specs.List.Sorted.{IsSortedBy, IsSortedByKey, IsStableByKey, ties}
 use Rattle.std.specs.Ordering.{is_eq, is_lt, nat_cmp, ordering_reverse, ordering_then}
@@ -12,29 +11,23 @@ use Rattle.std.specs.declared.cmp.Ordering.TheVariants.{Less, Equal, Greater}
 use Rattle.std.specs.Str.{bytes_eq}
 use Rattle.std.proofs.lemmas.Bool.{and_left, and_right, cases_lt, false≢true, true≢false}
 use Rattle.std.proofs.lemmas.Bool.Decides.{nat_tests}
-use Rattle.std.proofs.lemmas.Cmp.{nat_cmp_total, on_total, then_total}
 use Rattle.std.proofs.lemmas.List.{append-nil, get_or-drop, get_or-take, get_or_default, length-drop, length-take, take-append-drop, take-take}
 use Rattle.std.proofs.lemmas.List.Elements.{filter-append, recursion_from_All}
-use Rattle.std.proofs.lemmas.List.Sorted.{ranks_by, sorted_far}
+use Rattle.std.proofs.lemmas.List.Sorted.{sorted_far}
 use Rattle.std.proofs.lemmas.Map.Text.{is_eq-slice_cmp}
 use Rattle.std.proofs.lemmas.Slice.{between_is}
 use Rattle.seg_common.proofs.Bytes.{bytes_eq-sym}
 use Rattle.seg_common.proofs.Numbers.{nat_eq-sym}
 use Rattle.seg_columns_merged.specs.Cells.{is_of, rows_with}
 use Rattle.seg_columns_merged.specs.Groups.{IsGroup, has_key}
+use Rattle.seg_columns_joined.proofs.Exports.{key_total, less_then, row_order}
+use Rattle.seg_columns_joined.specs.TableOrder.{row_lt}
 use Rattle.seg_columns_joined.specs.Tables.{Row, kind_of, row_of, table_key, table_key_cmp}
 use Rattle.seg_columns_joined.specs.declared.tables.TableRow.{TableRow}
 
 -- ---- lists in order
 
 module _ {X : Type 0} (lt : X → X → Bool) (o : IsStrictWeakOrder lt) where
-  less_then : (x y z : X) → lt x y ≡ true → lt z y ≡ false → lt x z ≡ true
-  less_then x y z less le = by (lt x z) refl
-    where
-      by : (b : Bool) → lt x z ≡ b → lt x z ≡ true
-      by true e = e
-      by false e = absurd (false≢true (sym (o.chain x z y e le) ∙ less))
-
   then_less : (x y z : X) → lt y x ≡ false → lt y z ≡ true → lt x z ≡ true
   then_less x y z le less = by (lt x z) refl
     where
@@ -94,7 +87,7 @@ module _ {X : Type 0} (lt : X → X → Bool) (o : IsStrictWeakOrder lt) where
 
     behind : (k : ℕ) (d : X) → stop ≤ k → k < length table → lt x (get_or table k d) ≡ true
     behind k d le below =
-        less_then x (get_or table stop d) (get_or table k d) (other d (omega (arith, le, below)))
+        less_then lt o x (get_or table stop d) (get_or table k d) (other d (omega (arith, le, below)))
         (sorted_far lt o table up stop k d le below)
 
     in_back : All (λ b. lt x b ≡ true) (drop stop table)
@@ -125,7 +118,7 @@ module _ {X : Type 0} (lt : X → X → Bool) (o : IsStrictWeakOrder lt) where
       where
         by : (k < start) ⊎ (start ≤ k) → lt (get_or table k d) (get_or table stop d) ≡ true
         by (inl before) =
-            less_then (get_or table k d) x (get_or table stop d) (cut k d before)
+            less_then lt o (get_or table k d) x (get_or table stop d) (cut k d before)
             (o.one_way x (get_or table stop d) (other d more))
         by (inr le) =
             then_less (get_or table k d) x (get_or table stop d)
@@ -137,16 +130,6 @@ module _ {X : Type 0} (lt : X → X → Bool) (o : IsStrictWeakOrder lt) where
             not_less false b e = refl
 
 -- ---- by keys
-
-abbrev pub row_lt : TableRow → TableRow → Bool
-row_lt x y = is_lt (table_key_cmp (table_key x) (table_key y))
-
-key_total : IsTotalOrder table_key_cmp
-key_total = then_total (on_total (λ (k : Bor (List ℕ) × ℕ). k.0.now) nat_list_cmp_total)
-    (on_total (λ (k : Bor (List ℕ) × ℕ). k.1) nat_cmp_total)
-
-pub row_order : IsStrictWeakOrder row_lt
-row_order = ranks_by key_total table_key
 
 eq_then : (a b : Ordering) → is_eq (ordering_then a b) ≡ (is_eq a && is_eq b)
 eq_then Less b = refl

@@ -19,6 +19,7 @@ use Rattle.seg_columns_merged.specs.Groups.{IsGroup}
 use Rattle.seg_columns_merged.specs.MergedBytes.{HasType, places_of}
 use Rattle.seg_columns_merged.specs.MergedColumns.{required_key, rows_at}
 use Rattle.seg_columns_merged.specs.MergedFiles.{AddsGroup, IsFileOf, values_of}
+pub use Rattle.seg_columns_joined.specs.TableOrder.{row_lt}
 use Rattle.seg_columns_joined.specs.Tables.{all_rows, kind_of, row_of, table_key, table_key_cmp}
 use Rattle.seg_columns_merged.specs.declared.merge.Merge.{Merge}
 use Rattle.seg_columns_merged.specs.declared.merged_file.MergedFile.{MergedFile}
@@ -35,10 +36,6 @@ pub record IsTableOf (required : List (String Global × ColumnType)) (files : Li
   pub read : AllByRecursion IsOfFile files
   pub typed : All (λ r. HasType r.column_type r.column) table
   pub utf8 : All (λ r. IsUtf8 r.path.now) table
-
--- whether a row's key is below that of another one
-abbrev pub row_lt : TableRow → TableRow → Bool
-row_lt x y = is_lt (table_key_cmp (table_key x) (table_key y))
 
 -- all rows before a place are below the one there
 pub record IsCut (table : List TableRow) (start : ℕ) : Type 0 where

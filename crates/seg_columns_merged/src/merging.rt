@@ -10,7 +10,7 @@ use crate::merge::Merge;
 use crate::sorted_merge::merge_sorted;
 use seg_columnar::ColumnarReader;
 use seg_columns::ColumnError;
-use seg_columns_joined::{KeptRows, MergeRowOrder, TableRow, sort_rows, table_rows};
+use seg_columns_joined::{KeptRows, MergeRowOrder, TableRow, rows_by_key, table_rows};
 use seg_common::ColumnType;
 use std::alloc::{AllocError, Global};
 
@@ -60,9 +60,8 @@ fn sorted_table<'a>(
     requires { AllByRecursion IsOfFile columnars.now }
     ensures { IfOk result (λ table. IsTableOf required.now columnars.now table.items) }
 {
-    let mut table = table_rows(alloc, required, columnars)?;
-    sort_rows(&mut table)?;
-    Ok(table)
+    let rows = table_rows(alloc, required, columnars)?;
+    rows_by_key(alloc, rows)
 }
 
 /// How many rows each file has.

@@ -3,7 +3,7 @@ use Rattle.std.specs.Prelude.{Vec}
 use Rattle.std.specs.Borrow.{Bor}
 use Rattle.std.specs.declared.alloc.Global.{Global}
 use Rattle.std.proofs.lemmas.List.{length-map}
-use Rattle.seg_columns_joined.specs.TermHeads.{Head}
+use Rattle.seg_columns_joined.specs.HeadHeaps.{Head}
 use Rattle.seg_columns_joined.proofs.HeadCalls.{at_head, passed, seen}
 use Rattle.seg_columns_joined.proofs.HeadSteps.{SoFar, all_merged, is_head, list_there, nothing_yet}
 use Rattle.seg_columns_joined.proofs.dictionaries.MergedTerms.of.Goals as goal

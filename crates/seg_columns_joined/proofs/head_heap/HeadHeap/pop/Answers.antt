@@ -1,6 +1,6 @@
 use Rattle.seg_columns_joined.proofs.HeadLemmas.{popped}
-use Rattle.seg_columns_joined.specs.TermHeads.{Entry}
-use Rattle.seg_columns_joined.proofs.term_heads.TermHeads.pop.Goals as goal
+use Rattle.seg_columns_joined.specs.HeadHeaps.{Entry}
+use Rattle.seg_columns_joined.proofs.head_heap.HeadHeap.pop.Goals as goal
 
 pub returns-clause-some : goal.returns-clause-some
 returns-clause-some c =

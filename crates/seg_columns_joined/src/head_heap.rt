@@ -1,23 +1,24 @@
-//! Terms of columns, by a heap.
+//! Bytes with two numbers, by a heap.
 ghost use Rattle.std.specs.Prelude.{◌≡◌, ◌∷◌, [], IfNone, IfSome, OnOk};
 ghost use Rattle.std.specs.List.Sorted.{IsPermutation};
-ghost use Rattle.seg_columns_joined.specs.TermHeads.{Pops};
+ghost use Rattle.seg_columns_joined.specs.HeadHeaps.{Pops};
 
 use std::alloc::{AllocError, Global};
 use std::cmp::Reverse;
 use std::collections::BinaryHeap;
 use std::marker::Model;
 
-/// Terms, each with the place of its column and its ordinal there. It is seen as a list of them, in any order.
+/// The heads of sorted lists that are merged: each is bytes, with two numbers. It is seen as a list of them, in any
+/// order.
 #[derive(Drop)]
-pub(crate) struct TermHeads<'a> {
+pub(crate) struct HeadHeap<'a> {
     heap: BinaryHeap<Reverse<(&'a [u8], usize, usize)>>,
 }
 
-impl<'a> Model for TermHeads<'a> {
+impl<'a> Model for HeadHeap<'a> {
     ghost use Rattle.std.specs.Prelude.{map, List};
     ghost use Rattle.std.specs.BinaryHeap.{heap_items, IsHeap};
-    ghost use Rattle.seg_columns_joined.specs.TermHeads.{Head, greatest_first, head_of};
+    ghost use Rattle.seg_columns_joined.specs.HeadHeaps.{Head, greatest_first, head_of};
 
     ghost Value = { List Head };
 
@@ -26,30 +27,30 @@ impl<'a> Model for TermHeads<'a> {
     ghost invariant = { λ s. IsHeap greatest_first (heap_items s.heap) };
 }
 
-impl<'a> TermHeads<'a> {
-    pub(crate) fn new(alloc: Global) -> TermHeads<'a>
+impl<'a> HeadHeap<'a> {
+    pub(crate) fn new(alloc: Global) -> HeadHeap<'a>
         ensures { result ≡ [] }
     {
-        TermHeads {
+        HeadHeap {
             heap: BinaryHeap::new(alloc),
         }
     }
 
     pub(crate) fn push(
         &mut self,
-        term: &'a [u8],
-        place: usize,
-        ord: usize,
+        bytes: &'a [u8],
+        first: usize,
+        second: usize,
     ) -> Result<(), AllocError>
-        ensures { OnOk result (IsPermutation ((term.now, place, ord) ∷ self.old) self.new) }
+        ensures { OnOk result (IsPermutation ((bytes.now, first, second) ∷ self.old) self.new) }
     {
-        let Ok(()) = self.heap.push(Reverse((term, place, ord))) else {
+        let Ok(()) = self.heap.push(Reverse((bytes, first, second))) else {
             return Err(AllocError);
         };
         Ok(())
     }
 
-    /// Takes out the first in byte order.
+    /// Takes out the least: by its bytes, then by its first number, then by its second one.
     pub(crate) fn pop(&mut self) -> Option<(&'a [u8], usize, usize)>
         ensures some { IfSome result (λ h. Pops self.old self.new (h.0.now, h.1, h.2)) }
         ensures none { IfNone result (self.old ≡ []) }
