@@ -1,6 +1,6 @@
 -- What crates above may cite: all other modules are inner.
 pub use Rattle.seg_model.proofs.Answers.{no_other_terms}
-pub use Rattle.seg_model.proofs.Columns.{column_cmp_total}
+pub use Rattle.seg_model.proofs.Columns.{are_columns, column_cmp_total, columns_apart, covers_documents}
 pub use Rattle.seg_model.proofs.Fields.{at_place}
 pub use Rattle.seg_model.proofs.FirstAnswers.{first_none, map_none, none_map, or_both, or_first, or_none, or_second, some_none, unless_true}
 pub use Rattle.seg_model.proofs.Grouped.{length-all_recorded}

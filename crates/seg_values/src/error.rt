@@ -74,8 +74,6 @@ pub enum ArgumentCause {
     DifferentSettings,
     NotFast,
     SizeOverflow,
-    /// What is asked for is not built yet.
-    Later,
 }
 
 impl From<AllocError> for TantivyError {
