@@ -1,4 +1,5 @@
 mod Arranging
+mod Counts
 mod Facets
 mod FieldFacts
 mod Owners

@@ -7,6 +7,7 @@ use Rattle.std.proofs.lemmas.Option.{slice_get-get_or, slice_get_within}
 use Rattle.seg_common.specs.JsonPaths.{JsonPath}
 use Rattle.seg_columns.specs.declared.error.ColumnError.{ColumnError}
 use Rattle.seg_values.specs.declared.schema.FieldEntry.{FieldEntry}
+use Rattle.seg_values.specs.declared.error.TantivyError.{TantivyError}
 use Rattle.seg_values.specs.SchemaRules.{is_schema}
 use Rattle.seg_values.specs.Tree.{Document, Leaf, Tree, leaf}
 use Rattle.seg_model.specs.Checked.{document_refusal}
@@ -292,6 +293,17 @@ module _ (view given : FastWriting) (is : view ≡ given) where
   told_columns o told documents holds =
       sym (same_columns given documents holds) ∙ sym (ap (λ
       (w : FastWriting). recorded_columns w.rows w.columns) is) ∙ told
+
+-- a document is added as its pairs are
+pub pairs_added : (analyzer : Analyzer) (document pairs : Document) (old new : FastWriting)
+    (result : Result (Unit {0}) TantivyError) → pairs ≡ document
+    → OnOk result ((documents : List (List FastValue)) → Holds documents old
+    → Holds (documents ++ fast_values old.schema analyzer pairs ∷ []) new)
+    → OnOk result ((documents : List (List FastValue)) → Holds documents old
+    → Holds (documents ++ fast_values old.schema analyzer document ∷ []) new)
+pairs_added analyzer document pairs old new result same =
+    subst (λ (d : Document). OnOk result ((documents : List (List FastValue)) → Holds documents old
+    → Holds (documents ++ fast_values old.schema analyzer d ∷ []) new)) same
 
 pub started : (schema shared fields : Schema) (cs : List ColumnRecord) → is_schema schema ≡ true
     → names_fit schema ≡ true

@@ -13,4 +13,4 @@ mod row_recorder;
 mod tree;
 mod writer;
 
-pub use writer::FastFieldsWriter;
+pub use writer::{FastFieldsWriter, lack_tokenizers};

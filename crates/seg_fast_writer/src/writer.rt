@@ -1,5 +1,5 @@
 //! The writer of the fast fields of a segment.
-ghost use Rattle.std.specs.Prelude.{◌≡◌, ◌⊎◌, ◌<◌, ◌-◌, ◌^◌, ◌++◌, [], ◌∷◌, ℕ, List, None, Some, true, Err, length, IfOk, IfErr, OnOk, OnErr};
+ghost use Rattle.std.specs.Prelude.{◌≡◌, ◌⊎◌, ◌<◌, ◌*◌, ◌-◌, ◌^◌, ◌++◌, [], ◌∷◌, ℕ, List, None, Some, true, Err, length, IfOk, IfErr, OnOk, OnErr};
 ghost use Rattle.std.specs.List.{list_any};
 ghost use Rattle.seg_columnar.specs.ColumnFiles.{IsColumnFile, column_file_of, row_count};
 ghost use Rattle.seg_columns_recorded.specs.Known.{usage_of};
@@ -8,6 +8,7 @@ ghost use Rattle.seg_model.specs.Checked.{document_refusal};
 ghost use Rattle.seg_model.specs.Columns.{FastValue, columns_of, declared_columns, fast_values};
 ghost use Rattle.seg_model.specs.Valid.{has_unknown_fast_tokenizer, names_fit};
 ghost use Rattle.seg_fast_writer.specs.FastLeaves.{AreKnown};
+ghost use Rattle.seg_fast_writer.specs.Usage.{saturated, total};
 ghost use Rattle.seg_fast_writer.specs.Writing.{Holds, error_of, refusal_of};
 
 use crate::declaring::{declared_columns, field_columns};
@@ -15,7 +16,7 @@ use crate::leaf::column_tokenizer;
 use crate::row_recorder::RowRecorder;
 use seg_columns::ColumnError;
 use seg_columns_recorded::{ColumnId, ColumnarWriter};
-use seg_values::{ArgumentCause, Document, FieldEntry, Schema, TResult, TantivyError};
+use seg_values::{ArgumentCause, Document, FieldEntry, Pairs, Schema, TResult, TantivyError};
 use seg_words::Analyzers;
 use std::alloc::Global;
 use std::marker::Model;
@@ -82,7 +83,9 @@ impl FastFieldsWriter {
 
     /// The memory of the values, at 16 bytes each.
     pub fn mem_usage(&self) -> usize
-        ensures { result ≡ usage_of self.now.columns }
+        ensures recorded { result ≡ usage_of self.now.columns }
+        ensures documents { (documents : List (List FastValue)) → Holds documents self.now
+            → result ≡ saturated (16 * total length documents) }
     {
         self.columns.mem_usage()
     }
@@ -105,6 +108,19 @@ impl FastFieldsWriter {
         let Ok(pairs) = document.pairs(self.alloc) else {
             return Err(TantivyError::OutOfMemory);
         };
+        self.add_pairs(&pairs, analyzers)
+    }
+
+    /// Adds the document of these pairs, as `add_document` does.
+    pub fn add_pairs<Z: Analyzers>(&mut self, document: &Pairs<'_>, analyzers: &Z) -> TResult<()>
+        requires taken { document_refusal self.old.schema (Z.tokens_of analyzers.now) document.now ≡ None }
+        requires known { AreKnown (Z.knows analyzers.now) self.old.schema }
+        requires few { self.old.rows < 2 ^ 31 - 1 }
+        ensures ok { OnOk result ((documents : List (List FastValue)) → Holds documents self.old
+            → Holds (documents ++ fast_values self.old.schema (Z.tokens_of analyzers.now) document.now ∷ []) self.new) }
+        ensures err { IfErr result (λ e. e ≡ TantivyError.OutOfMemory) }
+        ensures same { self.new.schema ≡ self.old.schema }
+    {
         let row = self.rows;
         self.schema.fields_are_valid();
         let recorder = RowRecorder {
@@ -115,7 +131,7 @@ impl FastFieldsWriter {
             row,
         };
         self.rows = row + 1;
-        let Ok(()) = recorder.record_document(&mut self.columns, &pairs) else {
+        let Ok(()) = recorder.record_document(&mut self.columns, document) else {
             return Err(TantivyError::OutOfMemory);
         };
         Ok(())
@@ -137,7 +153,7 @@ impl FastFieldsWriter {
 }
 
 /// Whether a field names a fast tokenizer that is unknown.
-fn lack_tokenizers<Z: Analyzers>(analyzers: &Z, schema: &[FieldEntry]) -> bool
+pub fn lack_tokenizers<Z: Analyzers>(analyzers: &Z, schema: &[FieldEntry]) -> bool
     ensures { result ≡ list_any (has_unknown_fast_tokenizer (Z.knows analyzers.now)) schema.now }
 {
     schema.iter().any(|entry| lacks_tokenizer(analyzers, entry))
