@@ -13,7 +13,10 @@ use Rattle.seg_model.specs.Contents.{Contents}
 use Rattle.seg_model.specs.Fields.{Schema, is_indexed}
 use Rattle.seg_model.specs.Shape.{IsTermWith}
 use Rattle.seg_directory.specs.Composite.{Part, composite, field_of}
-use Rattle.seg_columnar.specs.Columnar.{rows_of}
+use Rattle.seg_columnar.specs.ColumnFiles.{column_file_of}
+use Rattle.seg_columns_written.specs.ModelColumns.{columns_in}
+use Rattle.seg_model.specs.Columns.{Columns}
+use Rattle.seg_schema_columns.specs.SchemaColumns.{HoldColumns, SuitColumns}
 use Rattle.seg_store.specs.Block.{Block}
 use Rattle.seg_store.specs.Store.{store_of, documents_of}
 use Rattle.seg_norms.specs.FieldNorms.{norms_parts}
@@ -59,9 +62,23 @@ module _ (schema : Schema) (documents : ℕ) (files : SegmentFiles) where
       none m.blocks (ap store_of (sym same.1.0) ∙ m.is) (ap length m.same ∙ spell.shape.stored ∙ number)
 
   -- the columns aren't those of this many documents
-  columns_disagree : rows_of files.fast_fields ≢ Some documents → Disagree schema documents files FastFields
+  columns_disagree : (HoldColumns schema documents files.fast_fields → ⊥) → Disagree schema documents files FastFields
   columns_disagree other completed contents same spell number =
-      other (ap rows_of (sym same.1.1.1.1.0) ∙ spell.rows ∙ ap (λ n. Some n) number)
+      let columns = columns_in (column_file_of completed.fast_fields) in
+      let suit : SuitColumns schema contents.documents contents.columns = record {
+        declared = spell.shape.declared;
+        free = spell.shape.free;
+        rows = spell.shape.rows;
+        one_number_type = spell.shape.one_number_type;
+      } in
+      let held : HoldColumns schema documents completed.fast_fields = record {
+        file = spell.columns.file;
+        rows = spell.columns.rows ∙ number;
+        suit =
+            subst (λ (n : ℕ). SuitColumns schema n columns) number
+            (subst (λ (cs : Columns). SuitColumns schema contents.documents cs) (sym spell.columns.are) suit);
+      } in
+      other (subst (λ (bytes : List ℕ). HoldColumns schema documents bytes) same.1.1.1.1.0 held)
 
   -- the length ids aren't those of this many documents in the fields of the schema
   norms_disagree : ((norms : List (List ℕ)) → AreNorms schema documents norms → composite files.field_norms ≢ Some (norms_parts schema norms)) → Disagree schema documents files FieldNorms
@@ -167,11 +184,11 @@ module _ (schema : Schema) (documents : ℕ) (files : SegmentFiles) where
           positions_are : SoundPositions schema documents files.terms files.postings files.positions
           positions_are = sound_positions schema documents files.terms dictionaries first files.postings both second files.positions fields third
 
-          pub columns_wrong : rows_of files.fast_fields ≢ Some documents → IsFirstWrong schema documents files FastFields
+          pub columns_wrong : (HoldColumns schema documents files.fast_fields → ⊥) → IsFirstWrong schema documents files FastFields
           columns_wrong other = record { disagree = columns_disagree other; first = (terms_are, (store_is, (postings_are, (positions_are, tt)))) }
 
-          pub norms_wrong : rows_of files.fast_fields ≡ Some documents → ((norms : List (List ℕ)) → AreNorms schema documents norms → composite files.field_norms ≢ Some (norms_parts schema norms)) → IsFirstWrong schema documents files FieldNorms
-          norms_wrong rows none = record { disagree = norms_disagree none; first = (terms_are, (store_is, (postings_are, (positions_are, (rows, tt))))) }
+          pub norms_wrong : HoldColumns schema documents files.fast_fields → ((norms : List (List ℕ)) → AreNorms schema documents norms → composite files.field_norms ≢ Some (norms_parts schema norms)) → IsFirstWrong schema documents files FieldNorms
+          norms_wrong columns none = record { disagree = norms_disagree none; first = (terms_are, (store_is, (postings_are, (positions_are, (columns, tt))))) }
 
   -- what the opening of a file tells
   pub told : (component : SegmentComponent) (Reason : Type 0) → (Reason → IsFirstWrong schema documents files component) → (e : OpenError) → IsTold component Reason e → IsWhyNotOpen schema documents files e

@@ -1,7 +1,6 @@
 -- What crates above may cite: all other modules are inner.
 pub use Rattle.seg_open.proofs.AliveRead.{as_many_read}
-pub use Rattle.seg_open.proofs.BuiltColumns.{none_declared}
 pub use Rattle.seg_open.proofs.Marks.{all_alive, all_counted, both_full, both_long, counts_both, full_set, lacking, lacking_long, some_lacks}
 pub use Rattle.seg_open.proofs.OpenLaws.{open_has, open_only, open_whole}
-pub use Rattle.seg_open.proofs.OpenedLaws.{AreBuilt, AreTold, EachRead, EndsSo, HoldsMarks, IsHeld, IsOf, RefusesLater, Whole, opens_end, opens_held, opens_holds, opens_of_schema, opens_rose, opens_so, opens_stay, opens_totals, opens_undamaged, segments_end, segments_held, segments_of_schema, segments_rose, segments_so, segments_stay, segments_totals, segments_undamaged}
+pub use Rattle.seg_open.proofs.OpenedLaws.{AreTold, EachRead, HoldsMarks, IsHeld, IsOf, Whole, opens_held, opens_holds, opens_of_schema, opens_rose, opens_so, opens_stay, opens_totals, opens_undamaged, segments_held, segments_of_schema, segments_rose, segments_so, segments_stay, segments_totals, segments_undamaged}
 pub use Rattle.seg_open.proofs.OpeningSteps.{none_yet, opens_turn, stops_turn}

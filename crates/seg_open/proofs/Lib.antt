@@ -1,7 +1,7 @@
 pub mod Exports
 mod AliveRead
-mod BuiltColumns
 mod Disagreeing
+mod FacetFields
 mod FieldsFit
 mod HeldFields
 mod Marks

@@ -11,7 +11,9 @@ use Rattle.std.proofs.lemmas.List.{length-map}
 use Rattle.std.proofs.lemmas.Option.{slice_get-map, unwrap_or-slice_get}
 use Rattle.seg_common.specs.LittleEndian.{u64_at}
 use Rattle.seg_values.specs.declared.schema.FieldEntry.{FieldEntry}
-use Rattle.seg_model.specs.Columns.{declared_columns, is_declared}
+use Rattle.seg_columnar.specs.ColumnFiles.{ColumnFile}
+use Rattle.seg_columns_written.specs.ModelColumns.{columns_in}
+use Rattle.seg_schema_columns.specs.SchemaColumns.{SuitColumns}
 use Rattle.seg_model.specs.Fields.{is_indexed}
 use Rattle.seg_model.specs.Reading.{Terms, Posting}
 use Rattle.seg_model.specs.Shape.{HasFullShape, IsTermWith}
@@ -34,9 +36,6 @@ terms_at_place : (fields : List (Option OpenField)) (i : ℕ) (o : Option OpenFi
 terms_at_place fields i o at =
     sym (unwrap_or-slice_get (map terms_in fields) i empty) ∙ ap (λ x. unwrap_or x empty) (slice_get-map terms_in fields i ∙ ap (option_map terms_in) at)
 
-none_there : {X : Type 0} (x : X) → (let o : Option X = None in o) ≡ Some x → ⊥
-none_there x e = cc e
-
 -- the field at a place is open
 record IsOpenAt (entry : FieldEntry) (field documents : ℕ) (terms postings positions : List Part) (fields : List (Option OpenField)) : Type 0 where
   opened : OpenField
@@ -52,7 +51,7 @@ open_totals files s t field opened at =
     ∙ ap (option_map (λ (part : List ℕ). u64_at part 0)) is.in_postings
     ∙ ap (λ (n : ℕ). Some n) is.by.spells.counted
 
-module _ (law : TermsReadHaveShape) (files : SegmentFiles) (s : OpenSegment) (none : declared_columns s.schema ≡ []) (has : IsOpen files s) where
+module _ (law : TermsReadHaveShape) (files : SegmentFiles) (s : OpenSegment) (has : IsOpen files s) where
   t : TermsAreOpen s.schema s.documents files.terms files.postings files.positions s.fields
   t = has.terms
 
@@ -102,6 +101,9 @@ module _ (law : TermsReadHaveShape) (files : SegmentFiles) (s : OpenSegment) (no
   has_none field entry at off term =
       ap (λ (m : Terms). get m term) (terms_at_place s.fields field None (unindexed_at field entry at off)) ∙ get-empty (slice_cmp nat_cmp) term
 
+  suit : SuitColumns s.schema s.documents (columns_in s.columns)
+  suit = subst (λ (f : ColumnFile). SuitColumns s.schema s.documents (columns_in f)) (sym has.columns_are) has.columns.suit
+
   shaped : HasFullShape s.schema (contents_of s)
   shaped = record {
     terms_per_field = length-map s.fields terms_in ∙ t.opened.per_field;
@@ -111,10 +113,10 @@ module _ (law : TermsReadHaveShape) (files : SegmentFiles) (s : OpenSegment) (no
     norms_per_field = has.fit.are.per_field;
     norms = has.fit.are.norms_are;
     no_norms = has.fit.are.no_norms;
-    declared = λ key h. absurd (false≢true (ap (λ cs. is_declared cs key) (sym none) ∙ h));
-    free = λ key rows found off. absurd (none_there rows (sym (get-empty _ key) ∙ found));
-    rows = λ key rows found. absurd (none_there rows (sym (get-empty _ key) ∙ found));
-    one_number_type = λ path i u. absurd (false≢true (ap is_some (sym (get-empty _ _)) ∙ i));
+    declared = suit.declared;
+    free = suit.free;
+    rows = suit.rows;
+    one_number_type = suit.one_number_type;
   }
 
   pub open_spells : Spell s.schema files (contents_of s)
@@ -133,7 +135,6 @@ module _ (law : TermsReadHaveShape) (files : SegmentFiles) (s : OpenSegment) (no
     };
     norm_parts = has.norms ∙ ap (λ (p : List Part). Some p) has.fit.parts_are;
     stored = ap (option_map documents_of) has.store;
-    rows = has.rows;
-    no_columns = refl;
+    columns = record { file = has.columns.file; rows = has.columns.rows; are = ap columns_in (sym has.columns_are) };
     shape = shaped;
   }

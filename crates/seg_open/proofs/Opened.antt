@@ -9,11 +9,9 @@ use Rattle.seg_directory.proofs.Exports.{broke, does_nothing, stops, then_does, 
 use Rattle.seg_directory.specs.State.{DirectoryState}
 use Rattle.seg_directory.specs.Works.{WorksFor}
 use Rattle.seg_meta.specs.Metas.{SegmentParts}
-use Rattle.seg_model.specs.Columns.{declared_columns}
 use Rattle.seg_model.specs.Fields.{Schema}
 use Rattle.seg_model.specs.Shape.{HasFullShape}
 use Rattle.seg_postings.specs.HeldTerms.{TermsReadHaveShape}
-use Rattle.seg_segment.specs.Built.{is_built_schema}
 use Rattle.seg_segment.specs.SegmentRead.{read_steps}
 use Rattle.seg_segment.specs.Spelling.{Spell}
 use Rattle.seg_segment.specs.declared.segment_files.SegmentFiles.{SegmentFiles}
@@ -24,7 +22,6 @@ use Rattle.seg_open.specs.SegmentOpening.{IsOpen}
 use Rattle.seg_open.specs.SegmentOpened.{HasFilesOf, OpensFiles, error_of}
 use Rattle.seg_open.specs.declared.open_error.OpenError.{OpenError}
 use Rattle.seg_open.specs.declared.open_error.OpenError.TheVariants.{Damaged, OutOfMemory}
-use Rattle.seg_open.proofs.BuiltColumns.{none_declared}
 use Rattle.seg_open.proofs.OpenSpells.{open_spells, open_totals}
 
 module _ (segment : SegmentParts) {a b : DirectoryState} where
@@ -48,10 +45,10 @@ module _ (segment : SegmentParts) {a b : DirectoryState} where
     unopened OutOfMemory why = record { files = files; refusal = None; works = then_does first.does (does_nothing _); damaged = tt; is = tt }
 
 -- a reader of files that are open
-pub has_files : TermsReadHaveShape → (segment : SegmentParts) (files : SegmentFiles) (s : OpenSegment) → is_built_schema segment.schema ≡ true
+pub has_files : TermsReadHaveShape → (segment : SegmentParts) (files : SegmentFiles) (s : OpenSegment)
     → s.id ≡ segment.meta.id → s.schema ≡ segment.schema → s.documents ≡ segment.meta.documents
     → s.stamp ≡ option_map (λ d. d.stamp) segment.meta.deletes → s.sizes ≡ sizes_of files → IsOpen files s → HasFilesOf segment files s
-has_files law segment files s built id schema number stamp sizes has = record {
+has_files law segment files s id schema number stamp sizes has = record {
   of_id = id;
   of_schema = schema;
   of_number = number;
@@ -59,13 +56,13 @@ has_files law segment files s built id schema number stamp sizes has = record {
   of_sizes = sizes;
   spell =
       subst (λ (t : Schema). Spell t files (contents_of s)) schema
-      (open_spells law files s (ap declared_columns schema ∙ none_declared segment.schema built) has);
+      (open_spells law files s has);
   totals = open_totals files s has.terms;
 }
 
 -- and its shape
-pub has_shape : TermsReadHaveShape → (files : SegmentFiles) (s : OpenSegment) → is_built_schema s.schema ≡ true → IsOpen files s → HasFullShape s.schema (contents_of s)
-has_shape law files s built has = (open_spells law files s (none_declared s.schema built) has).shape
+pub has_shape : TermsReadHaveShape → (files : SegmentFiles) (s : OpenSegment) → IsOpen files s → HasFullShape s.schema (contents_of s)
+has_shape law files s has = (open_spells law files s has).shape
 
 -- what the code calls the schema and the number of documents
 pub as_listed : (own schema : Schema) (number documents : ℕ) (files : SegmentFiles) → own ≡ schema → number ≡ documents

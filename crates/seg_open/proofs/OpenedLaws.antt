@@ -8,7 +8,6 @@ use Rattle.std.proofs.lemmas.Option.{none-some, same_Some}
 use Rattle.seg_common.specs.Causes.{Rose}
 use Rattle.seg_common.specs.declared.name.FileName.TheVariants.{Alive, Part}
 use Rattle.seg_common.specs.declared.name.SegmentComponent.TheVariants.{Postings}
-use Rattle.seg_values.specs.declared.error.ArgumentCause.TheVariants.{Later}
 use Rattle.seg_values.specs.declared.error.TantivyError.{TantivyError}
 use Rattle.seg_values.specs.declared.error.TantivyError.TheVariants.{DataCorruption, InvalidArgument, OpenReadError, OutOfMemory}
 use Rattle.seg_bits.specs.BitSets.{set_of}
@@ -17,14 +16,12 @@ use Rattle.seg_directory.specs.Does.{GoesOn}
 use Rattle.seg_directory.specs.Files.{NamedFiles}
 use Rattle.seg_directory.specs.State.{DirectoryState}
 use Rattle.seg_directory.specs.Works.{AllSuit, Step, StepBreaks, StepGoes, Works, passes}
-use Rattle.seg_model.specs.Checked.{unless}
 use Rattle.seg_model.specs.Fields.{Schema}
 use Rattle.seg_model.specs.Operations.{filtered_by}
 use Rattle.seg_model.specs.Shape.{HasFullShape}
 use Rattle.seg_meta.specs.IndexOfFiles as index
 use Rattle.seg_meta.specs.IndexOfFiles.{Deletes, ListedSegment}
 use Rattle.seg_meta.specs.Metas.{SegmentParts}
-use Rattle.seg_segment.specs.Built.{is_built_schema}
 use Rattle.seg_segment.specs.Forms.{segment_forms}
 use Rattle.seg_segment.specs.Holds.{Holds}
 use Rattle.seg_segment.specs.HoldsAlive.{HoldsAlive}
@@ -32,11 +29,11 @@ use Rattle.seg_segment.specs.SegmentFiles.{HasFiles}
 use Rattle.seg_segment.specs.SegmentRead.{IsNoDamage, IsReadError}
 use Rattle.seg_segment.proofs.Exports.{FindWhole, FindsDamage, OnlyReads, Unchanged, found_whole, is_there, reads_both, reads_rose, reads_so, reads_stay, suits_both, whole_both}
 use Rattle.seg_open.specs.OpenSegment.{OpenSegment, contents_of}
-use Rattle.seg_open.specs.SegmentOpened.{AreFound, AreReadersOf, Asked, Found, HaveTotals, IsFound, IsReaderOf, Opens, OpensSegments, alive_in, alive_read, alive_steps, all_steps, later, open_steps, segment_steps}
+use Rattle.seg_open.specs.SegmentOpened.{AreFound, AreReadersOf, Asked, Found, HaveTotals, IsFound, IsReaderOf, Opens, OpensSegments, alive_in, alive_read, alive_steps, all_steps, open_steps, segment_steps}
 use Rattle.seg_open.proofs.AliveRead.{agrees, is_set, undamaged}
 use Rattle.seg_open.proofs.OpenLaws.{open_has, open_only, open_whole}
 
--- ---- files are only read, once a test passed
+-- ---- states that are alike
 
 same_state : (a b : DirectoryState) → b ≡ a → Unchanged a b
 same_state a b same = record {
@@ -47,49 +44,6 @@ same_state a b same = record {
 
 then_same : (a b c : DirectoryState) → Unchanged a b → Unchanged b c → Unchanged a c
 then_same a b c h k = record { files = k.files ∙ h.files; tells = k.tells ∙ h.tells; later = omega (arith, h.later, k.later) }
-
-module _ (refusal : Option TantivyError) (steps : List Step) (only : OnlyReads steps) (a b : DirectoryState) where
-  stay_on : {T : Type 0} (r : Result T TantivyError) → GoesOn {T = T} StepGoes StepBreaks OutOfMemory (passes refusal ∷ steps) r a b → Unchanged a b
-  stay_on r (inl w) = then_same a w.0 b (same_state a w.0 w.1.1) (reads_stay only (record { on = w.2 }))
-  stay_on (Ok x) (inr no_error) = absurd no_error
-  stay_on (Err e) (inr (inl starved)) = same_state a b starved.1
-  stay_on (Err e) (inr (inr breaks)) = same_state a b breaks.1
-
-  so_on : (T : Type 0) (e : TantivyError) → GoesOn {T = T} StepGoes StepBreaks OutOfMemory (passes refusal ∷ steps) (Err e) a b
-      → IsReadError e ⊎ (refusal ≡ Some e)
-  so_on T e (inl w) = inl (reads_so {T = T} only (record { on = w.2 }))
-  so_on T e (inr (inl starved)) = inl (subst IsReadError (sym starved.0) tt)
-  so_on T e (inr (inr breaks)) = inr breaks.0
-
-  rose_on : (T : Type 0) (e : TantivyError) → e ≡ OpenReadError → (refusal ≡ Some e → ⊥)
-      → GoesOn {T = T} StepGoes StepBreaks OutOfMemory (passes refusal ∷ steps) (Err e) a b → Rose a.faults b.faults
-  rose_on T e at none (inl w) =
-      let rest : Works {T = T} steps (Err e) w.0 b = record { on = w.2 } in
-      subst (λ (s : DirectoryState). Rose s.faults b.faults) w.1.1 (reads_rose only (subst (λ d. Works {T = T} steps (Err d) w.0 b) at rest))
-  rose_on T e at none (inr (inl starved)) = absurd (cc (sym starved.0 ∙ at))
-  rose_on T e at none (inr (inr breaks)) = absurd (none breaks.0)
-
-  whole_on : (T : Type 0) (e : TantivyError) → IsTrue a.tells → FindWhole a.files steps → (refusal ≡ Some e → IsNoDamage e)
-      → GoesOn {T = T} StepGoes StepBreaks OutOfMemory (passes refusal ∷ steps) (Err e) a b → IsNoDamage e
-  whole_on T e told whole tested (inl w) =
-      let same = same_state a w.0 w.1.1 in
-      let rest : Works {T = T} steps (Err e) w.0 b = record { on = w.2 } in
-      found_whole (subst (λ t. IsTrue t) (sym same.tells) told) (subst (λ (fs : NamedFiles). FindWhole fs steps) (sym same.files) whole) rest
-  whole_on T e told whole tested (inr (inl starved)) = subst IsNoDamage (sym starved.0) tt
-  whole_on T e told whole tested (inr (inr breaks)) = tested breaks.0
-
--- ---- with which errors the test of a schema ends
-
--- the schema of a segment is refused
-abbrev pub RefusesLater : Schema → TantivyError → Type 0
-RefusesLater schema e = (is_built_schema schema ≡ false) × (e ≡ InvalidArgument Later)
-
-refused_by : (built : Bool) (schema : Schema) (e : TantivyError) → is_built_schema schema ≡ built → unless built (InvalidArgument Later) ≡ Some e → RefusesLater schema e
-refused_by true schema e is refused = absurd (none-some e refused)
-refused_by false schema e is refused = (is, sym (same_Some (InvalidArgument Later) e refused))
-
-refused : (schema : Schema) (e : TantivyError) → later schema ≡ Some e → RefusesLater schema e
-refused schema e is = refused_by (is_built_schema schema) schema e refl is
 
 -- ---- the steps of one segment
 
@@ -102,11 +56,7 @@ alive_only : (id documents : ℕ) (deletes : Option Deletes) (bytes : List ℕ)
 alive_only id documents None bytes = tt
 alive_only id documents (Some d) bytes = (damage_found id d.stamp (is_some (alive_in documents d bytes)), tt)
 
--- those after the test of its schema
-abbrev reading : SegmentParts → Found → List Step
-reading s f = open_steps s.meta.id f.files f.refusal ++ alive_steps s.meta.id s.meta.documents s.meta.deletes f.alive_file
-
-segment_only : (s : SegmentParts) (f : Found) → IsFound s f → OnlyReads (reading s f)
+segment_only : (s : SegmentParts) (f : Found) → IsFound s f → OnlyReads (segment_steps s f)
 segment_only s f found =
     reads_both (open_steps s.meta.id f.files f.refusal) (alive_steps s.meta.id s.meta.documents s.meta.deletes f.alive_file)
     (open_only s.meta.id s.schema s.meta.documents f.files f.refusal found) (alive_only s.meta.id s.meta.documents s.meta.deletes f.alive_file)
@@ -126,7 +76,7 @@ alive_whole files s (Some d) bytes agree =
           (undamaged s.id s.documents d bytes agree.0 (agrees s.documents d bytes agree.0 (ap set_of (sym same) ∙ held.set) held.counted agree.3), tt),
     )
 
-segment_whole : (files : NamedFiles) (x : Asked) (f : Found) → IsFound x.segment f → Whole files x → FindWhole files (reading x.segment f)
+segment_whole : (files : NamedFiles) (x : Asked) (f : Found) → IsFound x.segment f → Whole files x → FindWhole files (segment_steps x.segment f)
 segment_whole files x f found whole =
     let s = x.segment in
     whole_both files (open_steps s.meta.id f.files f.refusal) (alive_steps s.meta.id s.meta.documents s.meta.deletes f.alive_file)
@@ -135,23 +85,16 @@ segment_whole files x f found whole =
 
 module _ (x : Asked) (f : Found) (found : IsFound x.segment f) (a b : DirectoryState) where
   one_stays : {T : Type 0} (r : Result T TantivyError) → Works {T = T} (segment_steps x.segment f) r a b → Unchanged a b
-  one_stays r works = stay_on (later x.segment.schema) (reading x.segment f) (segment_only x.segment f found) a b r works.on
+  one_stays r works = reads_stay (segment_only x.segment f found) works
 
-  one_so : (T : Type 0) (e : TantivyError) → Works {T = T} (segment_steps x.segment f) (Err e) a b → IsReadError e ⊎ RefusesLater x.segment.schema e
-  one_so T e works = elim (so_on (later x.segment.schema) (reading x.segment f) (segment_only x.segment f found) a b T e works.on) [
-    | inl read ↦ inl read
-    | inr told ↦ inr (refused x.segment.schema e told)
-  ]
+  one_so : (T : Type 0) (e : TantivyError) → Works {T = T} (segment_steps x.segment f) (Err e) a b → IsReadError e
+  one_so T e works = reads_so {T = T} (segment_only x.segment f found) works
 
   one_rose : (T : Type 0) → Works {T = T} (segment_steps x.segment f) (Err OpenReadError) a b → Rose a.faults b.faults
-  one_rose T works =
-      rose_on (later x.segment.schema) (reading x.segment f) (segment_only x.segment f found) a b T OpenReadError refl
-      (λ told. absurd (cc (refused x.segment.schema OpenReadError told).1)) works.on
+  one_rose T works = reads_rose (segment_only x.segment f found) works
 
   one_undamaged : (T : Type 0) (e : TantivyError) → Whole a.files x → IsTrue a.tells → Works {T = T} (segment_steps x.segment f) (Err e) a b → IsNoDamage e
-  one_undamaged T e whole told works =
-      whole_on (later x.segment.schema) (reading x.segment f) (segment_only x.segment f found) a b T e told (segment_whole a.files x f found whole)
-      (λ is. subst IsNoDamage (sym (refused x.segment.schema e is).1) tt) works.on
+  one_undamaged T e whole told works = found_whole told (segment_whole a.files x f found whole) works
 
 -- ---- what was opened
 
@@ -191,7 +134,7 @@ abbrev pub AreTold : NamedFiles → Asked → OpenSegment → Type 0
 AreTold files x s = (postings : List ℕ) → get files (Part x.segment.meta.id Postings) ≡ Some postings → HaveTotals s.fields postings
 
 module _ (files : NamedFiles) (x : Asked) (f : Found) (s : OpenSegment) (found : IsFound x.segment f) (is : IsReaderOf x f s)
-    (suits : AllSuit (reading x.segment f) files) where
+    (suits : AllSuit (segment_steps x.segment f) files) where
   abbrev id : ℕ
   id = x.segment.meta.id
 
@@ -224,15 +167,8 @@ module _ (x : Asked) (a b : DirectoryState) where
   opens_stay r h = one_stays x h.found h.damaged a b r h.works
 
   -- with which errors it ends
-  pub opens_end : (e : TantivyError) → Opens x (Err e) a b → IsReadError e ⊎ RefusesLater x.segment.schema e
-  opens_end e h = one_so x h.found h.damaged a b OpenSegment e h.works
-
-  -- and where the schema is built
-  pub opens_so : (e : TantivyError) → is_built_schema x.segment.schema ≡ true → Opens x (Err e) a b → IsReadError e
-  opens_so e built h = elim (opens_end e h) [
-    | inl read ↦ read
-    | inr told ↦ absurd (false≢true (sym told.0 ∙ built))
-  ]
+  pub opens_so : (e : TantivyError) → Opens x (Err e) a b → IsReadError e
+  opens_so e h = one_so x h.found h.damaged a b OpenSegment e h.works
 
   -- a failed reading was counted
   pub opens_rose : Opens x (Err OpenReadError) a b → Rose a.faults b.faults
@@ -242,7 +178,7 @@ module _ (x : Asked) (a b : DirectoryState) where
   opens_of_schema s h = one_of x h.found s h.is
 
   pub opens_held : (s : OpenSegment) → IsTrue a.tells → Opens x (Ok s) a b → IsHeld a.files x s
-  opens_held s told h = one_held a.files x h.found s h.damaged h.is ((all_went h.works).suits told).1
+  opens_held s told h = one_held a.files x h.found s h.damaged h.is ((all_went h.works).suits told)
 
   -- also of the files as they are then
   pub opens_holds : (s : OpenSegment) → IsTrue a.tells → Opens x (Ok s) a b → Holds b.files x.segment.meta.id x.segment.schema (contents_of s)
@@ -250,21 +186,13 @@ module _ (x : Asked) (a b : DirectoryState) where
       subst (λ (files : NamedFiles). Holds files x.segment.meta.id x.segment.schema (contents_of s)) (sym (opens_stay (Ok s) h).files) (opens_held s told h).contents
 
   pub opens_totals : (s : OpenSegment) → IsTrue a.tells → Opens x (Ok s) a b → AreTold a.files x s
-  opens_totals s told h = one_told a.files x h.found s h.damaged h.is ((all_went h.works).suits told).1
+  opens_totals s told h = one_told a.files x h.found s h.damaged h.is ((all_went h.works).suits told)
 
   -- a whole segment is not found damaged
   pub opens_undamaged : (e : TantivyError) → Whole a.files x → IsTrue a.tells → Opens x (Err e) a b → IsNoDamage e
   opens_undamaged e whole told h = one_undamaged x h.found h.damaged a b OpenSegment e whole told h.works
 
 -- ---- segments, by the steps of each
-
--- the schema of each is built
-abbrev pub AreBuilt : List Asked → Type 0
-AreBuilt asked = AllByRecursion (λ (x : Asked). is_built_schema x.segment.schema ≡ true) asked
-
--- with which errors they end
-abbrev pub EndsSo : TantivyError → Type 0
-EndsSo e = IsReadError e ⊎ (e ≡ InvalidArgument Later)
 
 rose_later : (faults : ℕ) (a m : DirectoryState) → Unchanged a m → Rose m.faults faults → Rose a.faults faults
 rose_later faults a m same rose = omega (arith, same.later, rose)
@@ -276,12 +204,11 @@ module _ (T : Type 0) (x : Asked) (f : Found) (found : IsFound x.segment f) (res
   stay_more next (in_first e is first) = one_stays x f found a b (let q : Result T TantivyError = Err e in q) first
   stay_more next (in_next m first after) = then_same a m b (one_stays x f found a m (Ok tt) first) (next m after)
 
-  so_more : (AreSo : TantivyError → Type 0) → ((e : TantivyError) → IsReadError e ⊎ RefusesLater x.segment.schema e → AreSo e)
-      → ((m : DirectoryState) → Works {T = T} rest r m b → IfErr r AreSo)
-      → Parts (segment_steps x.segment f) rest r a b → IfErr r AreSo
-  so_more AreSo here next (in_first e is first) =
-      subst (λ (q : Result T TantivyError). IfErr q AreSo) (sym is) (here e (one_so x f found a b T e first))
-  so_more AreSo here next (in_next m first after) = next m after
+  so_more : ((m : DirectoryState) → Works {T = T} rest r m b → IfErr r IsReadError)
+      → Parts (segment_steps x.segment f) rest r a b → IfErr r IsReadError
+  so_more next (in_first e is first) =
+      subst (λ (q : Result T TantivyError). IfErr q IsReadError) (sym is) (one_so x f found a b T e first)
+  so_more next (in_next m first after) = next m after
 
   rose_more : ((m : DirectoryState) → Works {T = T} rest r m b → IfErr r (λ e. e ≡ OpenReadError → Rose m.faults b.faults))
       → Parts (segment_steps x.segment f) rest r a b → IfErr r (λ e. e ≡ OpenReadError → Rose a.faults b.faults)
@@ -316,29 +243,13 @@ starved_so : (T : Type 0) (AreSo : TantivyError → Type 0) → AreSo OutOfMemor
 starved_so T AreSo memory (Ok y) a b works = tt
 starved_so T AreSo memory (Err e) a b works = subst AreSo (sym works.on.1) memory
 
-all_so : (T : Type 0) (asked : List Asked) (fs : List Found) → AreFound asked fs → (r : Result T TantivyError) (a b : DirectoryState)
-    → Works {T = T} (all_steps asked fs) r a b → IfErr r EndsSo
-all_so T [] fs found r a b works = starved_so T EndsSo (inl tt) r a b works
-all_so T (x ∷ asked) [] found r a b works = absurd found
-all_so T (x ∷ asked) (f ∷ fs) found r a b works =
-    so_more T x f found.0 (all_steps asked fs) r a b EndsSo (λ e so. ends e so) (λ m next. all_so T asked fs found.1 r m b next)
-    (parts_on (segment_steps x.segment f) (all_steps asked fs) r a b works.on)
-  where
-    ends : (e : TantivyError) → IsReadError e ⊎ RefusesLater x.segment.schema e → EndsSo e
-    ends e (inl read) = inl read
-    ends e (inr told) = inr told.1
-
-all_read : (T : Type 0) (asked : List Asked) (fs : List Found) → AreBuilt asked → AreFound asked fs → (r : Result T TantivyError) (a b : DirectoryState)
+all_read : (T : Type 0) (asked : List Asked) (fs : List Found) → AreFound asked fs → (r : Result T TantivyError) (a b : DirectoryState)
     → Works {T = T} (all_steps asked fs) r a b → IfErr r IsReadError
-all_read T [] fs built found r a b works = starved_so T IsReadError tt r a b works
-all_read T (x ∷ asked) [] built found r a b works = absurd found
-all_read T (x ∷ asked) (f ∷ fs) built found r a b works =
-    so_more T x f found.0 (all_steps asked fs) r a b IsReadError (λ e so. ends built.0 e so) (λ m next. all_read T asked fs built.1 found.1 r m b next)
+all_read T [] fs found r a b works = starved_so T IsReadError tt r a b works
+all_read T (x ∷ asked) [] found r a b works = absurd found
+all_read T (x ∷ asked) (f ∷ fs) found r a b works =
+    so_more T x f found.0 (all_steps asked fs) r a b (λ m next. all_read T asked fs found.1 r m b next)
     (parts_on (segment_steps x.segment f) (all_steps asked fs) r a b works.on)
-  where
-    ends : is_built_schema x.segment.schema ≡ true → (e : TantivyError) → IsReadError e ⊎ RefusesLater x.segment.schema e → IsReadError e
-    ends on e (inl read) = read
-    ends on e (inr told) = absurd (false≢true (sym told.0 ∙ on))
 
 all_rose : (T : Type 0) (asked : List Asked) (fs : List Found) → AreFound asked fs → (r : Result T TantivyError) (a b : DirectoryState)
     → Works {T = T} (all_steps asked fs) r a b → IfErr r (λ e. e ≡ OpenReadError → Rose a.faults b.faults)
@@ -379,7 +290,7 @@ each_of (x ∷ asked) (f ∷ fs) (s ∷ opened) are = (one_of x f s are.0, each_
 module _ (files : NamedFiles) where
   -- what holds of each segment by its own files
   each_by : (P : Asked → OpenSegment → Type 0)
-      → ((x : Asked) (f : Found) (s : OpenSegment) → IsFound x.segment f → IsReaderOf x f s → AllSuit (reading x.segment f) files → P x s)
+      → ((x : Asked) (f : Found) (s : OpenSegment) → IsFound x.segment f → IsReaderOf x f s → AllSuit (segment_steps x.segment f) files → P x s)
       → (asked : List Asked) (fs : List Found) (opened : List OpenSegment) → AreFound asked fs → AreReadersOf asked fs opened
       → AllSuit (all_steps asked fs) files → EachRead P asked opened
   each_by P one [] fs [] found are suits = tt
@@ -387,7 +298,7 @@ module _ (files : NamedFiles) where
   each_by P one (x ∷ asked) [] opened found are suits = absurd are
   each_by P one (x ∷ asked) (f ∷ fs) [] found are suits = absurd are
   each_by P one (x ∷ asked) (f ∷ fs) (s ∷ opened) found are suits =
-      let both = suits_both (reading x.segment f) (all_steps asked fs) files (segment_only x.segment f found.0) suits.1 in
+      let both = suits_both (segment_steps x.segment f) (all_steps asked fs) files (segment_only x.segment f found.0) suits in
       (one x f s found.0 are.0 both.0, each_by P one asked fs opened found.1 are.1 both.1)
 
 module _ (asked : List Asked) (a b : DirectoryState) where
@@ -396,12 +307,8 @@ module _ (asked : List Asked) (a b : DirectoryState) where
   segments_stay r h = all_stay (List OpenSegment) asked h.found h.damaged r a b h.works
 
   -- with which errors they end
-  pub segments_end : (e : TantivyError) → OpensSegments asked (Err e) a b → EndsSo e
-  segments_end e h = all_so (List OpenSegment) asked h.found h.damaged (Err e) a b h.works
-
-  -- and where each schema is built
-  pub segments_so : (e : TantivyError) → AreBuilt asked → OpensSegments asked (Err e) a b → IsReadError e
-  segments_so e built h = all_read (List OpenSegment) asked h.found built h.damaged (Err e) a b h.works
+  pub segments_so : (e : TantivyError) → OpensSegments asked (Err e) a b → IsReadError e
+  segments_so e h = all_read (List OpenSegment) asked h.found h.damaged (Err e) a b h.works
 
   -- a failed reading was counted
   pub segments_rose : OpensSegments asked (Err OpenReadError) a b → Rose a.faults b.faults

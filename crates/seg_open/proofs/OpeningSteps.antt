@@ -1,24 +1,21 @@
 -- Segments that are opened: one of them, and one after another.
-use Rattle.std.proofs.Common.{◌≡◌, ℕ, zero, suc, ◌+◌, Bool, false, true, List, [], ◌∷◌, ◌++◌, length, map, take, drop, Option, Some, None, Result, Ok, Err, refl, sym, ap, ◌∙◌, subst, append_assoc, inl, inr, arith}
+use Rattle.std.proofs.Common.{◌≡◌, ℕ, zero, suc, ◌+◌, Bool, List, [], ◌∷◌, ◌++◌, length, map, take, drop, Option, Some, None, Result, Ok, Err, refl, sym, ap, ◌∙◌, subst, append_assoc, inl, inr, arith}
 use Rattle.std.specs.List.{slice_get}
 use Rattle.std.proofs.lemmas.List.{take-append-drop}
 use Rattle.std.proofs.lemmas.Option.{none-some, same_Some}
 use Rattle.seg_common.proofs.Lists.{drop-slice_get, take-slice_get}
-use Rattle.seg_values.specs.declared.error.ArgumentCause.TheVariants.{Later}
 use Rattle.seg_values.specs.declared.error.TantivyError.{TantivyError}
-use Rattle.seg_values.specs.declared.error.TantivyError.TheVariants.{InvalidArgument, OutOfMemory}
+use Rattle.seg_values.specs.declared.error.TantivyError.TheVariants.{OutOfMemory}
 use Rattle.seg_directory.proofs.Exports.{broke, does_nothing, stops, then_does, went}
 use Rattle.seg_directory.specs.Does.{GoesOn}
 use Rattle.seg_directory.specs.State.{DirectoryState}
-use Rattle.seg_directory.specs.Works.{Step, StepGoes, StepBreaks, Works, passes}
+use Rattle.seg_directory.specs.Works.{Step, StepGoes, StepBreaks, Works}
 use Rattle.seg_meta.specs.IndexOfFiles.{Deletes}
 use Rattle.seg_meta.specs.Metas.{SegmentParts}
-use Rattle.seg_model.specs.Checked.{unless}
 use Rattle.seg_model.specs.Input.{Filter}
 use Rattle.seg_model.specs.Operations.{filtered_by}
-use Rattle.seg_segment.specs.Built.{is_built_schema}
 use Rattle.seg_open.specs.OpenSegment.{OpenSegment}
-use Rattle.seg_open.specs.SegmentOpened.{AreFound, AreReadersOf, Asked, FilterFits, FiltersFit, Found, HasFilesOf, Opens, OpensFiles, OpensSegments, ReadsAlive, all_steps, asked_of, later, segment_steps}
+use Rattle.seg_open.specs.SegmentOpened.{AreFound, AreReadersOf, Asked, FilterFits, FiltersFit, Found, HasFilesOf, Opens, OpensFiles, OpensSegments, ReadsAlive, all_steps, asked_of, segment_steps}
 
 -- ---- steps that end in another way
 
@@ -58,11 +55,6 @@ answers_as : {T U : Type 0} {steps : List Step} {x : T} (y : U) {a b : Directory
     → Works {T = T} steps (Ok x) a b → Works {T = U} steps (Ok y) a b
 answers_as y works = record { on = answers_on _ _ _ _ y _ _ works.on }
 
--- a test that finds nothing
-passed : (refusal : Option TantivyError) (a : DirectoryState) → refusal ≡ None
-    → Works {T = Unit {0}} (passes refusal ∷ []) (Ok tt) a a
-passed refusal a none = went (none, refl)
-
 -- nothing is found
 abbrev nothing : Found
 nothing = record { files = record { terms = []; store = []; postings = []; positions = []; fast_fields = []; field_norms = [] }; refusal = None; alive_file = [] }
@@ -74,73 +66,56 @@ module _ (x : Asked) where
   pub starves : (a : DirectoryState) → Opens x (Err OutOfMemory) a a
   starves a = record { found = nothing; damaged = tt; works = does_nothing (segment_steps x.segment nothing); is = tt }
 
-  later_is : (built : Bool) → is_built_schema x.segment.schema ≡ built → later x.segment.schema ≡ unless built (InvalidArgument Later)
-  later_is built is = ap (λ b. unless b (InvalidArgument Later)) is
-
-  -- its schema isn't built yet
-  pub refuses : (a : DirectoryState) → is_built_schema x.segment.schema ≡ false → Opens x (Err (InvalidArgument Later)) a a
-  refuses a off = record {
-    found = nothing;
-    damaged = tt;
-    works = stops {T = Unit {0}} _ (broke (later_is false off, refl));
+  -- its six files aren't read
+  pub stops_in_files : (e : TantivyError) (a b : DirectoryState) → OpensFiles x.segment (Err e) a b → Opens x (Err e) a b
+  stops_in_files e a b h = record {
+    found = record { files = h.files; refusal = h.refusal; alive_file = [] };
+    damaged = h.damaged;
+    works = stops _ h.works;
     is = tt;
   }
 
-  -- it is
-  module _ (built : is_built_schema x.segment.schema ≡ true) where
-    begun : (a : DirectoryState) → Works {T = Unit {0}} (passes (later x.segment.schema) ∷ []) (Ok tt) a a
-    begun a = passed _ a (later_is true built)
+  -- they are
+  module _ (id documents : ℕ) (deletes : Option Deletes) (same_id : id ≡ x.segment.meta.id)
+      (counted : documents ≡ x.segment.meta.documents) (same : deletes ≡ x.segment.meta.deletes) where
+    pub alive : (r : Result (List Bool) TantivyError) (a b : DirectoryState) → ReadsAlive id documents deletes r a b
+        → ReadsAlive x.segment.meta.id x.segment.meta.documents x.segment.meta.deletes r a b
+    alive r a b h =
+        subst (λ i. ReadsAlive i x.segment.meta.documents x.segment.meta.deletes r a b) same_id
+        (subst (λ n. ReadsAlive id n x.segment.meta.deletes r a b) counted
+        (subst (λ (d : Option Deletes). ReadsAlive id documents d r a b) same h))
 
-    -- its six files aren't read
-    pub stops_in_files : (e : TantivyError) (a b : DirectoryState) → OpensFiles x.segment (Err e) a b → Opens x (Err e) a b
-    stops_in_files e a b h = record {
-      found = record { files = h.files; refusal = h.refusal; alive_file = [] };
-      damaged = h.damaged;
-      works = then_does (begun a) (stops _ h.works);
-      is = tt;
-    }
+    module _ (r : OpenSegment) (a b c : DirectoryState) (six : OpensFiles x.segment (Ok r) a b) where
+      -- and its alive file isn't
+      pub stops_in_alive : (e : TantivyError) → ReadsAlive id documents deletes (Err e) b c → Opens x (Err e) a c
+      stops_in_alive e h = let n = alive (Err e) b c h in
+          record {
+            found = record { files = six.files; refusal = six.refusal; alive_file = n.bytes };
+            damaged = six.damaged;
+            works = then_does six.works (fails_as n.works);
+            is = tt;
+          }
 
-    -- they are
-    module _ (id documents : ℕ) (deletes : Option Deletes) (same_id : id ≡ x.segment.meta.id)
-        (counted : documents ≡ x.segment.meta.documents) (same : deletes ≡ x.segment.meta.deletes) where
-      pub alive : (r : Result (List Bool) TantivyError) (a b : DirectoryState) → ReadsAlive id documents deletes r a b
-          → ReadsAlive x.segment.meta.id x.segment.meta.documents x.segment.meta.deletes r a b
-      alive r a b h =
-          subst (λ i. ReadsAlive i x.segment.meta.documents x.segment.meta.deletes r a b) same_id
-          (subst (λ n. ReadsAlive id n x.segment.meta.deletes r a b) counted
-          (subst (λ (d : Option Deletes). ReadsAlive id documents d r a b) same h))
-
-      module _ (r : OpenSegment) (a b c : DirectoryState) (six : OpensFiles x.segment (Ok r) a b) where
-        -- and its alive file isn't
-        pub stops_in_alive : (e : TantivyError) → ReadsAlive id documents deletes (Err e) b c → Opens x (Err e) a c
-        stops_in_alive e h = let n = alive (Err e) b c h in
+      module _ (marks : List Bool) (h : ReadsAlive id documents deletes (Ok marks) b c) where
+        -- and its alive file is, where there is one; but then there is no memory
+        pub stops_after_alive : Opens x (Err OutOfMemory) a c
+        stops_after_alive = let n = alive (Ok marks) b c h in
             record {
               found = record { files = six.files; refusal = six.refusal; alive_file = n.bytes };
               damaged = six.damaged;
-              works = then_does (begun a) (then_does six.works (fails_as n.works));
+              works = then_does six.works (starves_after n.works);
               is = tt;
             }
 
-        module _ (marks : List Bool) (h : ReadsAlive id documents deletes (Ok marks) b c) where
-          -- and its alive file is, where there is one; but then there is no memory
-          pub stops_after_alive : Opens x (Err OutOfMemory) a c
-          stops_after_alive = let n = alive (Ok marks) b c h in
-              record {
-                found = record { files = six.files; refusal = six.refusal; alive_file = n.bytes };
-                damaged = six.damaged;
-                works = then_does (begun a) (then_does six.works (starves_after n.works));
-                is = tt;
-              }
-
-          -- or there is
-          pub opens : (s : OpenSegment) → HasFilesOf x.segment six.files s → s.alive ≡ filtered_by x.custom marks → Opens x (Ok s) a c
-          opens s has cut = let n = alive (Ok marks) b c h in
-              record {
-                found = record { files = six.files; refusal = six.refusal; alive_file = n.bytes };
-                damaged = six.damaged;
-                works = then_does (begun a) (then_does six.works (answers_as s n.works));
-                is = record { has = has; marks = marks; marked = n.is; alive = cut };
-              }
+        -- or there is
+        pub opens : (s : OpenSegment) → HasFilesOf x.segment six.files s → s.alive ≡ filtered_by x.custom marks → Opens x (Ok s) a c
+        opens s has cut = let n = alive (Ok marks) b c h in
+            record {
+              found = record { files = six.files; refusal = six.refusal; alive_file = n.bytes };
+              damaged = six.damaged;
+              works = then_does six.works (answers_as s n.works);
+              is = record { has = has; marks = marks; marked = n.is; alive = cut };
+            }
 
 -- the same files, where other documents are alive
 pub with_marks : (segment : SegmentParts) (r : OpenSegment) (marks : List Bool) (a b : DirectoryState) (six : OpensFiles segment (Ok r) a b)

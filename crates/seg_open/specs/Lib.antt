@@ -1,6 +1,7 @@
 pub mod AliveDocuments
 pub mod Answers
 pub mod Disagreement
+pub mod FacetColumns
 pub mod FieldOpening
 pub mod FieldsOpening
 pub mod FileSizes

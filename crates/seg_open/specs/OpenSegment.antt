@@ -1,6 +1,8 @@
 -- What a reader has of a segment, and the contents that this stands for.
 use Rattle.std.specs.Prelude.{ℕ, ◌≡◌, ◌+◌, Bool, true, false, List, [], ◌∷◌, length, map, replicate, Contains, Option, Some, None}
 use Rattle.std.specs.FinMap.{empty}
+use Rattle.seg_columnar.specs.ColumnFiles.{ColumnFile}
+use Rattle.seg_columns_written.specs.ModelColumns.{columns_in}
 use Rattle.seg_bits.specs.BitSets.{member_count}
 use Rattle.seg_model.specs.Contents.{Contents}
 use Rattle.seg_model.specs.Fields.{Schema}
@@ -15,7 +17,7 @@ use Rattle.seg_postings.specs.HeldTerms.{terms_held}
 use Rattle.seg_norms.specs.NormsRead.{norms_of}
 use Rattle.seg_open.specs.declared.file_sizes.FileSizes.{FileSizes}
 
--- the id, the schema and the number of documents; for each field its terms, where it is indexed; the blocks of the store; the parts of the file of length ids; for each document whether it is alive; the stamp up to which deletes count, where there are some; and the sizes of the six files
+-- the id, the schema and the number of documents; for each field its terms, where it is indexed; the blocks of the store; the parts of the file of length ids; the columns as their file has them; for each document whether it is alive; the stamp up to which deletes count, where there are some; and the sizes of the six files
 pub record OpenSegment : Type 0 where
   pub id : ℕ
   pub schema : Schema
@@ -23,6 +25,7 @@ pub record OpenSegment : Type 0 where
   pub fields : List (Option OpenField)
   pub blocks : List Block
   pub norms : List Part
+  pub columns : ColumnFile
   pub alive : List Bool
   pub stamp : Option ℕ
   pub sizes : FileSizes
@@ -32,19 +35,19 @@ abbrev pub terms_in : Option OpenField → Terms
 terms_in None = empty
 terms_in (Some f) = terms_held (written_terms f)
 
--- contents of this many documents, which have these parts; there is no column yet
-abbrev pub contents_in : Schema → ℕ → List (Option OpenField) → List Block → List Part → Contents
-contents_in schema documents fields blocks norms = record {
+-- contents of this many documents, which have these parts
+abbrev pub contents_in : Schema → ℕ → List (Option OpenField) → List Block → List Part → ColumnFile → Contents
+contents_in schema documents fields blocks norms columns = record {
   documents = documents;
   terms = map terms_in fields;
   stored = documents_of blocks;
   norms = norms_of schema norms;
-  columns = empty;
+  columns = columns_in columns;
 }
 
 -- those of a segment
 abbrev pub contents_of : OpenSegment → Contents
-contents_of s = contents_in s.schema s.documents s.fields s.blocks s.norms
+contents_of s = contents_in s.schema s.documents s.fields s.blocks s.norms s.columns
 
 -- the contents, with the marks of the documents that are alive
 abbrev pub part_of : OpenSegment → join.Part

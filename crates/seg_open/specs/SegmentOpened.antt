@@ -4,21 +4,18 @@ use Rattle.std.specs.List.{AllByRecursion, count_by, slice_get}
 use Rattle.std.specs.Option.{option_map}
 use Rattle.seg_common.specs.declared.name.FileName.TheVariants.{Alive, Part}
 use Rattle.seg_common.specs.declared.name.SegmentComponent.{SegmentComponent}
-use Rattle.seg_values.specs.declared.error.ArgumentCause.TheVariants.{Later}
 use Rattle.seg_values.specs.declared.error.TantivyError.{TantivyError}
-use Rattle.seg_values.specs.declared.error.TantivyError.TheVariants.{DataCorruption, InvalidArgument, OutOfMemory}
+use Rattle.seg_values.specs.declared.error.TantivyError.TheVariants.{DataCorruption, OutOfMemory}
 use Rattle.seg_bits.specs.BitSets.{set_of}
 use Rattle.seg_directory.specs.Calls.{read}
 use Rattle.seg_directory.specs.State.{DirectoryState}
 use Rattle.seg_directory.specs.Works.{Step, Works, calls, passes}
-use Rattle.seg_model.specs.Checked.{unless}
 use Rattle.seg_model.specs.Fields.{Schema}
 use Rattle.seg_model.specs.Input.{Filter}
 use Rattle.seg_model.specs.Operations.{filtered_by}
 use Rattle.seg_meta.specs.IndexOfFiles.{Deletes}
 use Rattle.seg_meta.specs.Metas.{SegmentParts}
 use Rattle.seg_postings.specs.FieldReading.{OpenField}
-use Rattle.seg_segment.specs.Built.{is_built_schema}
 use Rattle.seg_segment.specs.SegmentRead.{read_steps}
 use Rattle.seg_segment.specs.Spelling.{Spell}
 use Rattle.seg_segment.specs.Totals.{token_total}
@@ -44,10 +41,6 @@ pub record IsDamageOf (id : ℕ) (schema : Schema) (documents : ℕ) (files : Se
   pub told : e ≡ DataCorruption (Part id component)
   pub disagree : Disagree schema documents files component
   pub first : AllByRecursion (IsSound schema documents files) (read_before component)
-
--- a schema that is not built yet is refused
-abbrev pub later : Schema → Option TantivyError
-later schema = unless (is_built_schema schema) (InvalidArgument Later)
 
 -- the six files of an id are read, and then they are tested
 abbrev pub open_steps : ℕ → SegmentFiles → Option TantivyError → List Step
@@ -106,11 +99,11 @@ pub record Found : Type 0 where
   pub refusal : Option TantivyError
   pub alive_file : List ℕ
 
--- its schema is tested, its six files are read and tested, and then its alive file is
+-- its six files are read and tested, and then its alive file is
 abbrev pub segment_steps : SegmentParts → Found → List Step
 segment_steps s found =
-    passes (later s.schema) ∷ (open_steps s.meta.id found.files found.refusal
-    ++ alive_steps s.meta.id s.meta.documents s.meta.deletes found.alive_file)
+    open_steps s.meta.id found.files found.refusal
+    ++ alive_steps s.meta.id s.meta.documents s.meta.deletes found.alive_file
 
 -- what the test of its files tells is damage of them
 abbrev pub IsFound : SegmentParts → Found → Type 0

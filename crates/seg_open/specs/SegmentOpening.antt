@@ -2,7 +2,8 @@
 use Rattle.std.specs.Prelude.{◌≡◌, ℕ, List, length, Option, Some}
 use Rattle.seg_model.specs.Fields.{Schema}
 use Rattle.seg_directory.specs.Composite.{Part, composite}
-use Rattle.seg_columnar.specs.Columnar.{rows_of}
+use Rattle.seg_columnar.specs.ColumnFiles.{column_file_of}
+use Rattle.seg_schema_columns.specs.SchemaColumns.{HoldColumns}
 use Rattle.seg_store.specs.Store.{store_of, documents_of}
 use Rattle.seg_postings.specs.FieldReading.{OpenField}
 use Rattle.seg_norms.specs.NormsRead.{norms_of, HoldNorms}
@@ -26,6 +27,7 @@ pub record IsOpen (files : SegmentFiles) (s : OpenSegment) : Type 0 where
   pub terms : TermsAreOpen s.schema s.documents files.terms files.postings files.positions s.fields
   pub store : store_of files.store ≡ Some s.blocks
   pub stored : length (documents_of s.blocks) ≡ s.documents
-  pub rows : rows_of files.fast_fields ≡ Some s.documents
+  pub columns : HoldColumns s.schema s.documents files.fast_fields
+  pub columns_are : s.columns ≡ column_file_of files.fast_fields
   pub norms : composite files.field_norms ≡ Some s.norms
   pub fit : HoldNorms s.schema s.documents s.norms (norms_of s.schema s.norms)

@@ -6,7 +6,7 @@ use Rattle.seg_common.specs.declared.name.SegmentComponent.TheVariants.{Terms, S
 use Rattle.seg_values.specs.declared.schema.FieldEntry.{FieldEntry}
 use Rattle.seg_model.specs.Fields.{Schema, is_indexed}
 use Rattle.seg_directory.specs.Composite.{Part, composite, field_of}
-use Rattle.seg_columnar.specs.Columnar.{rows_of}
+use Rattle.seg_schema_columns.specs.SchemaColumns.{HoldColumns}
 use Rattle.seg_store.specs.Block.{Block}
 use Rattle.seg_store.specs.Store.{store_of, documents_of}
 use Rattle.seg_postings.specs.Completing.{ArePostingsBy}
@@ -73,5 +73,5 @@ IsSound schema documents files Terms = SoundTerms schema files.terms
 IsSound schema documents files Store = SoundStore documents files.store
 IsSound schema documents files Postings = SoundPostings schema documents files.terms files.postings
 IsSound schema documents files Positions = SoundPositions schema documents files.terms files.postings files.positions
-IsSound schema documents files FastFields = rows_of files.fast_fields ≡ Some documents
+IsSound schema documents files FastFields = HoldColumns schema documents files.fast_fields
 IsSound schema documents files FieldNorms = SoundNorms schema documents files.field_norms

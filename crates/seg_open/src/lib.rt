@@ -7,13 +7,14 @@
 //! Files in reading order: `open_error`, `term_files` (a file with a part for each indexed field),
 //! `dictionaries_opening`, `postings_opening` and `fields_opening` (the three such files, one after another),
 //! `parts_opening` (the store, the columns and the length ids), `alive_reading` (the alive file, and a custom set),
-//! `file_sizes`, `segment_reader`, `alive_docs`, `space_usage` and `reader_parts` (what a reader has),
-//! `segments_opening` (one segment after another).
+//! `file_sizes`, `segment_reader`, `alive_docs`, `space_usage` and `reader_parts` (what a reader has), `facet_columns`
+//! (the facets of a field), `segments_opening` (one segment after another).
 #![tactic(auto)]
 
 mod alive_docs;
 mod alive_reading;
 mod dictionaries_opening;
+mod facet_columns;
 mod fields_opening;
 mod file_sizes;
 mod open_error;

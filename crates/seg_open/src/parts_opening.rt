@@ -1,17 +1,23 @@
 //! The store, the columns and the length ids of a segment, each checked against its number of documents.
-ghost use Rattle.std.specs.Prelude.{◌≡◌, ◌≢◌, ℕ, List, length, Some, None, MatchBool, MatchOption};
-ghost use Rattle.seg_columnar.specs.Columnar.{rows_of};
+ghost use Rattle.std.specs.Prelude.{◌≡◌, ◌≢◌, ℕ, List, length, Some, None, MatchOption, MatchResult};
+ghost use Rattle.seg_columnar.specs.ColumnFiles.{column_file_of};
+ghost use Rattle.seg_open.specs.FilesOpening.{IsTold};
+ghost use Rattle.seg_schema_columns.specs.SchemaColumns.{HoldColumns};
 ghost use Rattle.seg_directory.specs.Composite.{composite};
 ghost use Rattle.seg_norms.specs.FieldNorms.{norms_parts};
 ghost use Rattle.seg_norms.specs.NormsRead.{norms_of, AreNorms, HoldNorms};
 ghost use Rattle.seg_store.specs.Block.{Block};
 ghost use Rattle.seg_store.specs.Store.{store_of, documents_of};
 
-use seg_columnar::rows_without_columns;
-use seg_common::OwnedBytes;
+use crate::open_error::OpenError;
+use seg_columns::ColumnError;
+use seg_common::{OwnedBytes, SegmentComponent};
+use seg_fast_readers::FastFieldReaders;
 use seg_norms::FieldNormReaders;
+use seg_schema_columns::open_columns;
 use seg_store::StoreReader;
 use seg_values::Schema;
+use std::alloc::Global;
 
 /// The store of this many documents, where the bytes are one.
 pub(crate) fn open_store(bytes: OwnedBytes, max_doc: u32) -> Option<StoreReader>
@@ -28,13 +34,22 @@ pub(crate) fn open_store(bytes: OwnedBytes, max_doc: u32) -> Option<StoreReader>
     Some(store)
 }
 
-/// Whether the bytes are columns of this many documents.
-pub(crate) fn are_columns(bytes: OwnedBytes, max_doc: u32) -> bool
-    ensures { MatchBool result (rows_of bytes ≡ Some max_doc) (rows_of bytes ≢ Some max_doc) }
+/// The columns of this many documents in the fields of a schema, where the bytes are these.
+pub(crate) fn open_fast_fields(
+    alloc: Global,
+    bytes: OwnedBytes,
+    schema: &Schema,
+    max_doc: u32,
+) -> Result<FastFieldReaders, OpenError>
+    ensures { MatchResult result
+        (λ r. HoldColumns schema.now max_doc bytes
+        × (r ≡ record { schema = schema.now; file = column_file_of bytes }))
+        (IsTold SegmentComponent.FastFields (HoldColumns schema.now max_doc bytes → ⊥)) }
 {
-    match rows_without_columns(bytes.as_slice()) {
-        Some(rows) => rows == max_doc,
-        None => false,
+    match open_columns(alloc, bytes, schema, max_doc) {
+        Ok(columns) => Ok(FastFieldReaders::new(columns, schema.share())),
+        Err(ColumnError::OutOfMemory) => Err(OpenError::OutOfMemory),
+        Err(_) => Err(OpenError::Damaged(SegmentComponent::FastFields)),
     }
 }
 

@@ -6,7 +6,6 @@ ghost use Rattle.seg_directory.specs.Composite.{field_of};
 ghost use Rattle.seg_model.specs.Fields.{is_indexed};
 ghost use Rattle.seg_model.specs.Shape.{HasFullShape};
 ghost use Rattle.seg_open.specs.OpenSegment.{contents_of};
-ghost use Rattle.seg_segment.specs.Built.{is_built_schema};
 ghost use Rattle.seg_open.specs.ReaderParts.{IsIndexOf, IsSpaceOf};
 ghost use Rattle.seg_store.specs.Cache.{unused};
 
@@ -16,7 +15,9 @@ use crate::fields_opening::share_fields;
 use crate::segment_reader::SegmentReader;
 use crate::space_usage::SegmentSpaceUsage;
 use seg_bits::AliveBitSet;
+use seg_columnar::ColumnarReader;
 use seg_common::{ByteCount, SegmentId, Shared};
+use seg_fast_readers::FastFieldReaders;
 use seg_norms::{FieldNormReader, FieldNormReaders};
 use seg_postings::InvertedIndexReader;
 use seg_store::{CachedStoreReader, StoreReader};
@@ -35,6 +36,9 @@ impl SegmentReader {
         let Ok(fields) = share_fields(alloc, self.fields.as_slice()) else {
             return Err(TantivyError::OutOfMemory);
         };
+        let Ok(fast_fields) = self.fast_fields.try_clone(alloc) else {
+            return Err(TantivyError::OutOfMemory);
+        };
         let Ok(alive) = self.alive.clone() else {
             return Err(TantivyError::OutOfMemory);
         };
@@ -46,6 +50,7 @@ impl SegmentReader {
             fields,
             store: self.store.share(),
             norms: self.norms.share(),
+            fast_fields,
             alive,
             delete_opstamp: self.delete_opstamp,
             sizes: self.sizes,
@@ -144,10 +149,16 @@ impl SegmentReader {
         let _alive = &self.alive;
     }
 
-    /// What the segment holds has full shape, for a schema that is built.
+    /// The file of columns has a row for each document.
+    pub fn columns_are_of_documents(&self)
+        ensures { self.now.columns.rows ≡ self.now.documents }
+    {
+        let _fast_fields = &self.fast_fields;
+    }
+
+    /// What the segment holds has full shape.
     pub fn contents_have_full_shape(&self)
-        ensures shape { HasFullShape self.now.schema (contents_of self.now) }
-        ensures built { is_built_schema self.now.schema ≡ true }
+        ensures { HasFullShape self.now.schema (contents_of self.now) }
     {
         let _store = &self.store;
     }
@@ -230,6 +241,20 @@ impl SegmentReader {
             Some(reader) => Ok(reader),
             None => Err(TantivyError::SchemaError(SchemaCause::NoNorms)),
         }
+    }
+
+    /// The columns, by the names of fields.
+    pub fn fast_fields(&self) -> &FastFieldReaders
+        ensures { result.now ≡ record { schema = self.now.schema; file = self.now.columns } }
+    {
+        &self.fast_fields
+    }
+
+    /// The columns, by their paths.
+    pub fn columns(&self) -> &ColumnarReader
+        ensures { result.now ≡ self.now.columns }
+    {
+        self.fast_fields.columnar()
     }
 
     /// How many documents are alive, and how many bytes its files and the set of these documents have.

@@ -3,7 +3,6 @@ ghost use Rattle.std.specs.Prelude.{◌≡◌, true, length, map, is_some, None,
 ghost use Rattle.seg_directory.specs.DiskChanges.{KeepsDisk};
 ghost use Rattle.seg_meta.specs.IndexOfFiles as index;
 ghost use Rattle.seg_model.specs.Fields.{is_indexed};
-ghost use Rattle.seg_segment.specs.Built.{is_built_schema};
 ghost use Rattle.seg_segment.specs.Forms.{segment_forms};
 ghost use Rattle.seg_segment.specs.Holds.{Holds};
 ghost use Rattle.seg_open.specs.Disagreement.{IsWhyNotOpen};
@@ -15,23 +14,24 @@ use crate::dictionaries_opening::open_dictionaries;
 use crate::fields_opening::open_fields;
 use crate::file_sizes::FileSizes;
 use crate::open_error::OpenError;
-use crate::parts_opening::{are_columns, open_norms, open_store};
+use crate::parts_opening::{open_fast_fields, open_norms, open_store};
 use crate::postings_opening::open_postings;
 use seg_bits::AliveBitSet;
 use seg_common::{SegmentComponent, SegmentId, Shared};
 use seg_directory::Directory;
+use seg_fast_readers::FastFieldReaders;
 use seg_meta::Segment;
 use seg_norms::FieldNormReaders;
 use seg_postings::{InvertedIndexReader, terms_read_have_shape};
-use seg_segment::{SegmentFiles, is_built_schema};
+use seg_segment::SegmentFiles;
 use seg_store::StoreReader;
-use seg_values::{ArgumentCause, Schema, TResult, TantivyError};
+use seg_values::{Schema, TResult, TantivyError};
 use std::alloc::Global;
 use std::marker::Model;
 
 /// Reads what the files of a segment hold, out of their bytes. It is seen as its id, its schema and number of documents,
-/// the terms of its fields, the blocks of its store and its length ids, which documents are alive, the stamp of their
-/// deletes, and the sizes of its files.
+/// the terms of its fields, the blocks of its store, its length ids and columns, which documents are alive, the stamp of
+/// their deletes, and the sizes of its files.
 #[derive(Drop)]
 pub struct SegmentReader {
     pub(crate) alloc: Global,
@@ -41,6 +41,7 @@ pub struct SegmentReader {
     pub(crate) fields: Vec<Option<Shared<InvertedIndexReader>>>,
     pub(crate) store: StoreReader,
     pub(crate) norms: FieldNormReaders,
+    pub(crate) fast_fields: FastFieldReaders,
     pub(crate) alive: Option<AliveBitSet>,
     pub(crate) delete_opstamp: Option<u64>,
     pub(crate) sizes: FileSizes,
@@ -50,7 +51,6 @@ impl Model for SegmentReader {
     ghost use Rattle.std.specs.Prelude.{◌≡◌, true, map, is_some};
     ghost use Rattle.seg_model.specs.Fields.{is_indexed};
     ghost use Rattle.seg_model.specs.Shape.{HasFullShape};
-    ghost use Rattle.seg_segment.specs.Built.{is_built_schema};
     ghost use Rattle.seg_open.specs.OpenSegment.{LacksSome, OpenSegment, alive_of, contents_in};
 
     ghost Value = { OpenSegment };
@@ -62,23 +62,23 @@ impl Model for SegmentReader {
       fields = r.fields.items;
       blocks = r.store;
       norms = r.norms;
+      columns = r.fast_fields.file;
       alive = alive_of r.max_doc r.alive;
       stamp = r.delete_opstamp;
       sizes = r.sizes;
     } };
 
     ghost invariant = { λ r. (map is_some r.fields.items ≡ map is_indexed r.schema) × LacksSome r.max_doc r.alive
-        × (is_built_schema r.schema ≡ true)
-        × HasFullShape r.schema (contents_in r.schema r.max_doc r.fields.items r.store r.norms) };
+        × (r.fast_fields.schema ≡ r.schema) × (r.fast_fields.file.rows ≡ r.max_doc)
+        × HasFullShape r.schema (contents_in r.schema r.max_doc r.fields.items r.store r.norms r.fast_fields.file) };
 }
 
 impl SegmentReader {
     /// Opens a segment of a directory: reads its six files and then, where it has deletes, its alive file, each once, in
     /// the order terms, store, postings, positions, fast fields, field norms, alive. Once the six are read, each is
     /// checked whole and against those before it. `DataCorruption` names the first that is missing, or else the first
-    /// that is wrong by itself or with those before it. `Later`, before a file is read: the schema has a fast field, or
-    /// an indexed one of facets. `OpenReadError`: a file can't be read. What a crash may leave of the
-    /// directory stays.
+    /// that is wrong by itself or with those before it. `OpenReadError`: a file can't be read. What a crash may leave of
+    /// the directory stays.
     pub fn open<W: Directory>(
         alloc: Global,
         segment: &Segment,
@@ -116,9 +116,6 @@ impl SegmentReader {
         ensures disk { IsTrue (W.state directory.old).disk.told
             → KeepsDisk (W.state directory.old).disk (W.state directory.new).disk }
     {
-        if !is_built_schema(segment.schema().fields()) {
-            return Err(TantivyError::InvalidArgument(ArgumentCause::Later));
-        }
         let reader = match SegmentReader::read_files(alloc, segment, directory) {
             Ok(reader) => reader,
             Err(e) => return Err(e),
@@ -142,7 +139,6 @@ impl SegmentReader {
         segment: &Segment,
         directory: &mut W,
     ) -> TResult<SegmentReader>
-        requires built { is_built_schema segment.now.schema ≡ true }
         ensures { OpensFiles segment.now result (W.state directory.old) (W.state directory.new) }
     {
         let id = segment.id();
@@ -163,7 +159,6 @@ impl SegmentReader {
         segment: &Segment,
         files: SegmentFiles,
     ) -> Result<SegmentReader, OpenError>
-        requires built { is_built_schema segment.now.schema ≡ true }
         ensures ok { IfOk result (HasFilesOf segment.now files) }
         ensures err { IfErr result (IsWhyNotOpen segment.now.schema segment.now.meta.documents files) }
     {
@@ -185,9 +180,7 @@ impl SegmentReader {
         };
         let both = open_postings(alloc, postings, &schema, dictionaries)?;
         let fields = open_fields(alloc, positions, &schema, both)?;
-        if !are_columns(fast_fields, max_doc) {
-            return Err(OpenError::Damaged(SegmentComponent::FastFields));
-        }
+        let columns = open_fast_fields(alloc, fast_fields, &schema, max_doc)?;
         let Some(norms) = open_norms(field_norms, &schema, max_doc) else {
             return Err(OpenError::Damaged(SegmentComponent::FieldNorms));
         };
@@ -199,6 +192,7 @@ impl SegmentReader {
             fields,
             store,
             norms,
+            fast_fields: columns,
             alive: None,
             delete_opstamp: segment.meta().delete_opstamp(),
             sizes,

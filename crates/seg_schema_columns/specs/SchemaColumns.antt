@@ -27,6 +27,12 @@ pub record SuitColumns (schema : Schema) (documents : ℕ) (columns : Columns) :
       → (is_declared (declared_columns schema) (record { path = path; type = I64 }) ≡ true)
       × (is_declared (declared_columns schema) (record { path = path; type = U64 }) ≡ true)
 
+-- bytes are a file of so many rows, which has these columns
+pub record HaveColumns (documents : ℕ) (bytes : List ℕ) (columns : Columns) : Type 0 where
+  pub file : IsColumnFile bytes
+  pub rows : row_count bytes ≡ documents
+  pub are : columns_in (column_file_of bytes) ≡ columns
+
 -- bytes are a file of columns of so many documents, and its columns are such
 pub record HoldColumns (schema : Schema) (documents : ℕ) (bytes : List ℕ) : Type 0 where
   pub file : IsColumnFile bytes

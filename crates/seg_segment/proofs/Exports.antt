@@ -1,5 +1,4 @@
 -- What crates above may cite: all other modules are inner.
-pub use Rattle.seg_segment.proofs.BuiltEntries.{IsBuiltField, both_true, built_field_at, not_fast}
 pub use Rattle.seg_segment.proofs.FieldsInTurn.{AreParts, AreTermsOf, hold_terms, is_whole}
 pub use Rattle.seg_segment.proofs.FilesMade.{absent_suit, are_made, newest, others_stay, six_there}
 pub use Rattle.seg_segment.proofs.FilesOnDisk.{none_on_disk, others_on_disk}

@@ -1,5 +1,4 @@
 pub mod Exports
-mod BuiltEntries
 mod FieldsInTurn
 mod FilesMade
 mod FilesOnDisk

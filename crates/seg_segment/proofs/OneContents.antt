@@ -15,7 +15,6 @@ use Rattle.seg_model.specs.Reading.{Terms}
 use Rattle.seg_model.specs.Shape.{HasFullShape}
 use Rattle.seg_directory.specs.Composite as parts
 use Rattle.seg_directory.specs.Composite.{composite, field_of}
-use Rattle.seg_columnar.specs.Columnar.{rows_of}
 use Rattle.seg_store.specs.Store.{store_of, documents_of}
 use Rattle.seg_postings.specs.Field.{IsField}
 use Rattle.seg_norms.specs.FieldNorms.{norms_parts}
@@ -134,8 +133,8 @@ same_contents a b documents terms stored norms columns = λ j. record { document
 pub one_spelled : FilesSpellOneContents
 one_spelled schema files a b h k =
     same_contents a b
-    (one (rows_of files.fast_fields) a.documents b.documents h.rows k.rows)
+    (sym h.columns.rows ∙ k.columns.rows)
     (same_terms schema a b h.shape k.shape files.terms files.postings files.positions h.hold_terms k.hold_terms)
     (one (option_map documents_of (store_of files.store)) a.stored b.stored h.stored k.stored)
     (same_norms schema a b h.shape k.shape (one (composite files.field_norms) (norms_parts schema a.norms) (norms_parts schema b.norms) h.norm_parts k.norm_parts))
-    (h.no_columns ∙ sym k.no_columns)
+    (sym h.columns.are ∙ k.columns.are)

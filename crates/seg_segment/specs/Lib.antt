@@ -1,4 +1,3 @@
-pub mod Built
 pub mod FieldsWritten
 pub mod Forms
 pub mod HoldTerms

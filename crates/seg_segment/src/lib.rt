@@ -5,14 +5,12 @@
 //! six files under an id. Documents that are indexed, segments that are joined and segments that are read all come to this
 //! one set of files.
 //!
-//! Files in reading order: `built_fields` (the fields that are built so far); `term_writer` (the terms of one field,
-//! document by document), `fields_writing` (those of the indexed fields) and `lengths_writing` (length ids), all three for
+//! Files in reading order: `term_writer` (the terms of one field, document by document), `fields_writing` (those of the indexed fields) and `lengths_writing` (length ids), all three for
 //! documents and for segments that are joined; `segment_files` (the six files, read or just made, and written),
 //! `component_files`, `segment_serializer` (what the components are to hold, before the files are made), `laws` (files spell
 //! at most one contents).
 #![tactic(auto)]
 
-mod built_fields;
 mod component_files;
 mod fields_writing;
 mod laws;
@@ -21,7 +19,6 @@ mod segment_files;
 mod segment_serializer;
 mod term_writer;
 
-pub use built_fields::is_built_schema;
 pub use fields_writing::{TermsByField, write_fields};
 pub use laws::{files_hold_one_contents, files_spell_one_contents, held_files_spell};
 pub use lengths_writing::{LengthsByField, write_lengths};

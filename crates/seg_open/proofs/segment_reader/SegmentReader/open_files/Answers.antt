@@ -1,6 +1,6 @@
 use Rattle.std.proofs.Common.{rules, ◌≡◌, ◌∙◌, [], None, ap, true}
 use Rattle.seg_common.specs.declared.name.SegmentComponent.TheVariants.{FastFields, FieldNorms, Positions, Postings, Store, Terms}
-use Rattle.seg_segment.specs.Built.{is_built_schema}
+use Rattle.seg_fast_readers.specs.Reading.{FastFields as Readers}
 use Rattle.seg_open.specs.OpenSegment.{OpenSegment}
 use Rattle.seg_open.proofs.Disagreeing.{columns_wrong, norms_wrong, positions_wrong, postings_wrong, store_wrong, terms_wrong, told, why}
 use Rattle.seg_open.proofs.Opened.{as_listed, has_files, has_shape, told_of_listed}
@@ -49,14 +49,16 @@ returns-in_err-fields-clause-err c =
     (why schema documents c.args.files c.in_err-fields.field-0.0 c.from_residual-in_err-fields.result c.from_residual-in_err-fields.ensures.1
     (told schema documents c.args.files Positions _ wrong c.in_err-fields.field-0.0 c.in_err-fields.ensures.err))
 
-pub returns-then-not-are_columns-clause-err : goal.returns-then-not-are_columns-clause-err
-returns-then-not-are_columns-clause-err c =
+pub returns-in_err-columns-clause-err : goal.returns-in_err-columns-clause-err
+returns-in_err-columns-clause-err c =
     let schema = c.share-schema.result in
     let documents = c.max_doc-max_doc.result in
     let schema_is : schema ≡ c.args.segment.now.schema = search rules in
     let number_is : documents ≡ c.args.segment.now.meta.documents = search rules in
-    told_of_listed schema _ documents _ c.args.files FastFields schema_is number_is
-    (columns_wrong schema documents c.args.files c.in_ok-dictionaries.dictionaries.items c.in_ok-dictionaries.ensures.ok c.in-Some.store c.in-Some.ensures.0 c.in-Some.ensures.1 c.in_ok-both.both.items c.in_ok-both.ensures.ok c.in_ok-fields.fields.items c.in_ok-fields.ensures.ok c.if-not-are_columns.ensures)
+    let wrong = columns_wrong schema documents c.args.files c.in_ok-dictionaries.dictionaries.items c.in_ok-dictionaries.ensures.ok c.in-Some.store c.in-Some.ensures.0 c.in-Some.ensures.1 c.in_ok-both.both.items c.in_ok-both.ensures.ok c.in_ok-fields.fields.items c.in_ok-fields.ensures.ok in
+    as_listed schema _ documents _ c.args.files schema_is number_is _
+    (why schema documents c.args.files c.in_err-columns.field-0.0 c.from_residual-in_err-columns.result c.from_residual-in_err-columns.ensures.1
+    (told schema documents c.args.files FastFields _ wrong c.in_err-columns.field-0.0 c.in_err-columns.ensures))
 
 pub returns-in_default-open_norms-clause-err : goal.returns-in_default-open_norms-clause-err
 returns-in_default-open_norms-clause-err c =
@@ -65,25 +67,24 @@ returns-in_default-open_norms-clause-err c =
     let schema_is : schema ≡ c.args.segment.now.schema = search rules in
     let number_is : documents ≡ c.args.segment.now.meta.documents = search rules in
     told_of_listed schema _ documents _ c.args.files FieldNorms schema_is number_is
-    (norms_wrong schema documents c.args.files c.in_ok-dictionaries.dictionaries.items c.in_ok-dictionaries.ensures.ok c.in-Some.store c.in-Some.ensures.0 c.in-Some.ensures.1 c.in_ok-both.both.items c.in_ok-both.ensures.ok c.in_ok-fields.fields.items c.in_ok-fields.ensures.ok c.if-not-are_columns.ensures c.in_default-open_norms.ensures)
+    (norms_wrong schema documents c.args.files c.in_ok-dictionaries.dictionaries.items c.in_ok-dictionaries.ensures.ok c.in-Some.store c.in-Some.ensures.0 c.in-Some.ensures.1 c.in_ok-both.both.items c.in_ok-both.ensures.ok c.in_ok-fields.fields.items c.in_ok-fields.ensures.ok c.in_ok-columns.ensures.0 c.in_default-open_norms.ensures)
 
 pub returns-clause-ok : goal.returns-clause-ok
 returns-clause-ok c =
     let schema_is : c.share-schema.result ≡ c.args.segment.now.schema = search rules in
     let number_is : c.max_doc-max_doc.result ≡ c.args.segment.now.meta.documents = search rules in
-    has_files c.terms_read_have_shape.ensures c.args.segment.now c.args.files _ c.requires.built (search rules) schema_is number_is (search rules) (search rules) (record {
+    has_files c.terms_read_have_shape.ensures c.args.segment.now c.args.files _ (search rules) schema_is number_is (search rules) (search rules) (record {
       terms = terms_are_open c.share-schema.result c.max_doc-max_doc.result c.args.files.terms c.in_ok-dictionaries.dictionaries.items c.in_ok-dictionaries.ensures.ok c.args.files.postings c.in_ok-both.both.items c.in_ok-both.ensures.ok c.args.files.positions c.in_ok-fields.fields.items c.in_ok-fields.ensures.ok;
       store = c.in-Some.ensures.0;
       stored = c.in-Some.ensures.1;
-      rows = c.if-not-are_columns.ensures;
+      columns = c.in_ok-columns.ensures.0;
+      columns_are = ap (λ (f : Readers). f.file) c.in_ok-columns.ensures.1;
       norms = c.in-Some-open_norms.ensures.0;
       fit = c.in-Some-open_norms.ensures.1;
     })
 
 pub invariant_of-result : goal.invariant_of-result
 invariant_of-result c =
-    let schema_is : c.share-schema.result ≡ c.args.segment.now.schema = search rules in
-    let built : is_built_schema c.share-schema.result ≡ true = ap is_built_schema schema_is ∙ c.requires.built in
     let opened : OpenSegment = record {
       id = 0;
       schema = c.share-schema.result;
@@ -91,6 +92,7 @@ invariant_of-result c =
       fields = c.in_ok-fields.fields.items;
       blocks = c.in-Some.store;
       norms = c.in-Some-open_norms.norms;
+      columns = c.in_ok-columns.columns.file;
       alive = [];
       stamp = None;
       sizes = c.of-sizes.result;
@@ -102,12 +104,14 @@ invariant_of-result c =
     let places = open_places c.share-schema.result c.max_doc-max_doc.result first.parts second.parts third.parts c.in_ok-fields.fields.items are in (
       places,
       tt,
-      built,
-      has_shape c.terms_read_have_shape.ensures c.args.files opened built (record {
+      ap (λ (f : Readers). f.schema) c.in_ok-columns.ensures.1,
+      ap (λ (f : Readers). f.file.rows) c.in_ok-columns.ensures.1 ∙ c.in_ok-columns.ensures.0.rows,
+      has_shape c.terms_read_have_shape.ensures c.args.files opened (record {
         terms = terms_are_open c.share-schema.result c.max_doc-max_doc.result c.args.files.terms c.in_ok-dictionaries.dictionaries.items first c.args.files.postings c.in_ok-both.both.items second c.args.files.positions c.in_ok-fields.fields.items third;
         store = c.in-Some.ensures.0;
         stored = c.in-Some.ensures.1;
-        rows = c.if-not-are_columns.ensures;
+        columns = c.in_ok-columns.ensures.0;
+        columns_are = ap (λ (f : Readers). f.file) c.in_ok-columns.ensures.1;
         norms = c.in-Some-open_norms.ensures.0;
         fit = c.in-Some-open_norms.ensures.1;
       }),
