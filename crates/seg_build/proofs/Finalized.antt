@@ -16,7 +16,7 @@ use Rattle.seg_segment.specs.Forms.{segment_forms}
 use Rattle.seg_segment.specs.SegmentFiles.{HasFiles, IsOtherName, write_steps}
 use Rattle.seg_segment.proofs.Exports.{are_made, none_on_disk, one, others_on_disk, stands_there}
 use Rattle.seg_build.specs.FieldTerms.{fields_of}
-use Rattle.seg_build.specs.Finishing.{AreOfKept, Finishes, FinishesKept, IsMadeOfKept, starves, makes}
+use Rattle.seg_build.specs.Finishing.{AreOfKept, Finishes, FinishesKept, IsMadeOfKept, fails, makes}
 use Rattle.seg_build.specs.Kept.{Kept}
 use Rattle.seg_build.specs.SegmentWriting.{IsKeptOf}
 use Rattle.seg_build.specs.StoredBlocks.{HasBlocks}
@@ -48,7 +48,7 @@ module _ {T : Type 0} (schema : Schema) (id : ℕ) (r : Result T TantivyError) (
   Made kept = (analyzer : Analyzer) (size : ℕ) (documents : List Document) (stamps : List ℕ) → IsKeptOf schema analyzer size documents stamps kept → MadeOf analyzer size documents
 
   kept_made : (kept : Kept) → Finishes schema id kept r a b → OnOk r (Made kept)
-  kept_made kept (starves is same) = subst (λ (x : Result T TantivyError). OnOk x (Made kept)) (sym is) tt
+  kept_made kept (fails e why is same) = subst (λ (x : Result T TantivyError). OnOk x (Made kept)) (sym is) tt
   kept_made kept (makes files of works) = on_ok_weaker r
       (λ (has : HasFiles b.files id files) analyzer size documents stamps are. (
         stands_there schema analyzer documents files b.files id (of analyzer size documents stamps are).stand has,
@@ -66,5 +66,5 @@ module _ {T : Type 0} (schema : Schema) (id : ℕ) (r : Result T TantivyError) (
 pub finishing_on_disk : {T : Type 0} (schema : Schema) (id : ℕ) (kept : Option Kept) (r : Result T TantivyError) (a b : DirectoryState) → IsTrue a.disk.told
     → FinishesKept schema id kept r a b → KeepsOnDisk (IsOtherName id) a.disk b.disk
 finishing_on_disk schema id None r a b told done = none_on_disk id done.1
-finishing_on_disk schema id (Some kept) r a b told (starves is same) = none_on_disk id same
+finishing_on_disk schema id (Some kept) r a b told (fails e why is same) = none_on_disk id same
 finishing_on_disk schema id (Some kept) r a b told (makes files of works) = others_on_disk id files r told works

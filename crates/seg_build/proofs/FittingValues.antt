@@ -9,8 +9,6 @@ use Rattle.seg_model.specs.Checked.{field_fits}
 use Rattle.seg_model.specs.Fields.{Schema, Analyzer, is_indexed, is_field}
 use Rattle.seg_check.specs.IndexedValues.{IndexedContent, content_of, content_at, value_of}
 use Rattle.seg_check.proofs.Exports.{for_one_field}
-use Rattle.seg_segment.specs.Built.{is_built_schema}
-use Rattle.seg_segment.proofs.Exports.{built_field_at}
 use Rattle.seg_build.specs.Field.{first_starts, next_starts, length_in, start_of, TextsFit, Fits}
 use Rattle.seg_build.specs.Steps.{AllFit, indexed_part, with_pair, with_pairs}
 use Rattle.seg_build.specs.FieldSoFar.{FieldSoFar}
@@ -53,7 +51,7 @@ all_indexed schema (p ∷ ps) = elim (cases_Bool (is_field is_indexed (slice_get
   | inr off ↦ subst (AllByRecursion (IsIndexedPair schema)) (sym (part-passed schema p ps off)) (all_indexed schema ps)
 ]
 
-module _ (schema : Schema) (analyzer : Analyzer) (entries : is_built_schema schema ≡ true) (d : Document) (taken : is_taken schema analyzer d ≡ true) (before : List Document) (fields : List FieldSoFar) (have : AllHaveTerms schema analyzer entries before fields) where
+module _ (schema : Schema) (analyzer : Analyzer) (d : Document) (taken : is_taken schema analyzer d ≡ true) (before : List Document) (fields : List FieldSoFar) (have : AllHaveTerms schema analyzer before fields) where
   abbrev id : ℕ
   id = length before
 
@@ -66,7 +64,7 @@ module _ (schema : Schema) (analyzer : Analyzer) (entries : is_built_schema sche
       let v = content_of analyzer e p.1 in
       let vs = contents_of analyzer e p.0 done in
       let ws = contents_of analyzer e p.0 rest in
-      let bounds = bounded analyzer p.0 e d (built_field_at schema p.0 e entries own.at own.on) (for_one_field (field_fits analyzer d) schema (passed schema analyzer d taken).fit p.0 e own.at) in
+      let bounds = bounded analyzer p.0 e d own.on (for_one_field (field_fits analyzer d) schema (passed schema analyzer d taken).fit p.0 e own.at) in
       let all : contents_of analyzer e p.0 d ≡ vs ++ v ∷ ws =
       sym (ap (map (content_of analyzer e)) (values_kept schema p.0 e own.at d own.on))
       ∙ ap (contents_of analyzer e p.0) are

@@ -3,17 +3,21 @@ use Rattle.std.proofs.Common.{◌≡◌, ℕ, suc, ◌+◌, ◌<◌, ◌≤◌, 
 use Rattle.std.specs.Prelude.{IsSomeAnd, IfSome}
 use Rattle.std.specs.List.{AllByRecursion, list_all}
 use Rattle.std.proofs.lemmas.Bool.{and_from, and_parts}
-use Rattle.std.proofs.lemmas.List.{length-map, take_at}
+use Rattle.std.proofs.lemmas.List.{length-map, map-append, take_at}
 use Rattle.seg_values.specs.declared.schema.FieldEntry.{FieldEntry}
 use Rattle.seg_values.specs.Tree.{Tree, Document}
 use Rattle.seg_values.specs.Utf8.{IsUtf8Document}
 use Rattle.seg_model.specs.Built.{is_taken}
+use Rattle.seg_model.specs.Checked.{document_refusal}
+use Rattle.seg_model.specs.Columns.{fast_values}
 use Rattle.seg_model.specs.Fields.{Schema, Analyzer}
 use Rattle.seg_model.specs.Reading.{stored_document}
+use Rattle.seg_model.specs.Valid.{Known}
+use Rattle.seg_fast_writer.specs.FastLeaves.{AreKnown}
+use Rattle.seg_fast_writer.specs.Writing.{Holds}
 use Rattle.seg_values.specs.StoredForm.{stored_form}
 use Rattle.seg_store.specs.BlockLaw.{AreTakenLast}
 use Rattle.seg_store.specs.Writing.{taken_count}
-use Rattle.seg_segment.specs.Built.{is_built_schema}
 use Rattle.seg_check.specs.IndexedValues.{IndexedContent, IsPlainIn, value_in, value_of, document_values}
 use Rattle.seg_check.specs.declared.indexed_value.IndexedValue.{IndexedValue}
 use Rattle.seg_build.specs.Kept.{Kept}
@@ -28,7 +32,7 @@ use Rattle.seg_common.proofs.Lists.{all_push}
 use Rattle.seg_build.proofs.FittingValues.{document_fits}
 use Rattle.seg_build.proofs.KeptLengths.{fields_turn, lengths_turn}
 use Rattle.seg_build.proofs.StoringDocuments.{HasStored, shallow_taken, stored_turn}
-use Rattle.seg_build.proofs.Taken.{passed}
+use Rattle.seg_build.proofs.Taken.{none_is, passed}
 use Rattle.seg_build.proofs.ValueSteps.{values-pairs}
 use Rattle.seg_build.proofs.MemoryTaken.{total-last}
 use Rattle.seg_build.proofs.ValueCounts.{values_counted}
@@ -62,7 +66,7 @@ if_some : {X : Type 0} (P : X → Type 0) (o : Option X) → IsSomeAnd o P → I
 if_some P (Some x) h = h
 if_some P None h = absurd h
 
-module _ (schema : Schema) (analyzer : Analyzer) (entries : is_built_schema schema ≡ true) (documents : List Document) (d : Document) (taken : is_taken schema analyzer d ≡ true) (utf8 : IsUtf8Document d) (size : ℕ) (stamps : List ℕ) (stamp : ℕ) (old : Kept) (are : IsKeptOf schema analyzer size documents stamps old) (place : HasPlace old) where
+module _ (schema : Schema) (analyzer : Analyzer) (documents : List Document) (d : Document) (taken : is_taken schema analyzer d ≡ true) (utf8 : IsUtf8Document d) (size : ℕ) (stamps : List ℕ) (stamp : ℕ) (old : Kept) (are : IsKeptOf schema analyzer size documents stamps old) (place : HasPlace old) where
   abbrev all : List Document
   all = documents ++ d ∷ []
 
@@ -87,12 +91,15 @@ module _ (schema : Schema) (analyzer : Analyzer) (entries : is_built_schema sche
   few : many < 2 ^ 31 - 1
   few = omega (arith, count, place)
 
-  pub has_room : (found : List IndexedValue) → map (value_in d) found ≡ document_values schema analyzer d → AllByRecursion (IsPlainIn d) found → HasRoom d found old
-  has_room found found_are keys = record {
+  pub has_room : (known : Known) → AreKnown known schema → (found : List IndexedValue) → map (value_in d) found ≡ document_values schema analyzer d → AllByRecursion (IsPlainIn d) found → HasRoom known analyzer d found old
+  has_room known all_known found found_are keys = record {
     place = place;
+    passes = subst (λ (s : Schema). document_refusal s analyzer d ≡ None) (sym are.fast_schema) (none_is (document_refusal schema analyzer d) taken);
+    fast_tokenizers = subst (AreKnown known) (sym are.fast_schema) all_known;
+    rows = subst (λ n. n < 2 ^ 31 - 1) (sym (are.fast.rows_are ∙ length-map documents (fast_values schema analyzer))) few;
     shallow = shallow_taken d (passed schema analyzer d taken).shallow;
     fit =
-        let fit = document_fits schema analyzer entries d taken documents (with_documents schema analyzer 0 (map (λ _. fresh) schema) documents) (all_more schema analyzer entries [] (map (λ _. fresh) schema) documents (all_fresh schema analyzer entries)) in
+        let fit = document_fits schema analyzer d taken documents (with_documents schema analyzer 0 (map (λ _. fresh) schema) documents) (all_more schema analyzer [] (map (λ _. fresh) schema) documents (all_fresh schema analyzer)) in
         let values_are : map (value_in d) found ≡ map (value_of schema analyzer) (indexed_part schema d) = found_are in
         subst (λ (n : ℕ). AllFit n old.fields (map (value_in d) found)) (sym count)
         (subst (λ (fs : List FieldSoFar). AllFit many fs (map (value_in d) found)) (sym are.fields)
@@ -101,7 +108,7 @@ module _ (schema : Schema) (analyzer : Analyzer) (entries : is_built_schema sche
     store = if_some _ old.store (weaker (Stores schema size documents) (λ w. taken_count w < 2 ^ 31 - 1) old.store (λ w s. omega (arith, s.count, few)) are.store);
   }
 
-  module _ (in_order : AreTakenLast) (found : List IndexedValue) (found_are : map (value_in d) found ≡ document_values schema analyzer d) (new : Kept) (took : HasTaken schema d found stamp old new) where
+  module _ (in_order : AreTakenLast) (found : List IndexedValue) (found_are : map (value_in d) found ≡ document_values schema analyzer d) (new : Kept) (took : HasTaken schema analyzer d found stamp old new) where
     abbrev values : List (ℕ × IndexedContent)
     values = map (value_in d) found
 
@@ -133,14 +140,20 @@ module _ (schema : Schema) (analyzer : Analyzer) (entries : is_built_schema sche
         (weaker (Stores schema size documents) (HasStored schema size all many) old.store (λ w s. record { read = s.read ∙ ap (map (stored_document schema)) (sym before); taken = s.count; forms = s.forms ∙ ap (map (stored_form schema)) (sym before); cut = s.cut ∙ ap (λ ds. stored_with size (map (stored_form schema) ds)) (sym before) }) are.store)
 
     fields_now : new.fields ≡ with_documents schema analyzer 0 (map (λ _. fresh) schema) all
-    fields_now = fields_turn schema analyzer all many within entries d here (map (λ _. fresh) schema) old.fields new.fields now after ∙ ap (with_documents schema analyzer 0 (map (λ _. fresh) schema)) whole
+    fields_now = fields_turn schema analyzer all many within d here (map (λ _. fresh) schema) old.fields new.fields now after ∙ ap (with_documents schema analyzer 0 (map (λ _. fresh) schema)) whole
 
     as_many : length new.fields ≡ length schema
     as_many = ap length fields_now ∙ length-with_documents schema analyzer 0 (map (λ (e : FieldEntry). fresh) schema) all ∙ length-map schema (λ (e : FieldEntry). fresh)
 
+    -- what it has in fast fields
+    recorded : map (fast_values schema analyzer) documents ++ fast_values old.fast.schema analyzer d ∷ [] ≡ map (fast_values schema analyzer) all
+    recorded =
+        ap (λ (s : Schema). map (fast_values schema analyzer) documents ++ fast_values s analyzer d ∷ []) are.fast_schema
+        ∙ sym (map-append (fast_values schema analyzer) documents (d ∷ []))
+
     -- how often terms occur in its values
     counted_as : value_count values ≡ occurrence_count schema analyzer d
-    counted_as = ap value_count values_are ∙ values_counted schema analyzer entries d
+    counted_as = ap value_count values_are ∙ values_counted schema analyzer d
 
     pub one_more : IsKeptOf schema analyzer size (documents ++ d ∷ []) (stamps ++ stamp ∷ []) new
     one_more = record {
@@ -149,9 +162,11 @@ module _ (schema : Schema) (analyzer : Analyzer) (entries : is_built_schema sche
       utf8 = all_push IsUtf8Document documents d are.utf8 utf8;
       fields = fields_now;
       norms = subst (λ ds. IsSomeAnd new.norms (HaveLengths schema analyzer ds)) whole
-          (lengths_turn schema analyzer all many within entries d here (map (λ _. fresh) schema) old.fields new.fields refl now after as_many (map (λ (v : IndexedValue). v.field) found) places old.norms new.norms
+          (lengths_turn schema analyzer all many within d here (map (λ _. fresh) schema) old.fields new.fields refl now after as_many (map (λ (v : IndexedValue). v.field) found) places old.norms new.norms
           (subst (λ ds. IsSomeAnd old.norms (HaveLengths schema analyzer ds)) (sym before) are.norms)
           (took.norms ∙ ap (λ n. option_map (with_lengths n new.fields (map (λ (v : IndexedValue). v.field) found)) old.norms) count));
+      fast_schema = took.fast_schema ∙ are.fast_schema;
+      fast = subst (λ l. Holds l new.fast) recorded (took.fast (map (fast_values schema analyzer) documents) are.fast);
       store = weaker (HasStored schema size all (many + 1)) (Stores schema size all) new.store (λ w s. record { read = s.read ∙ ap (map (stored_document schema)) whole; count = s.taken ∙ sym more; forms = s.forms ∙ ap (map (stored_form schema)) whole; cut = s.cut ∙ ap (λ ds. stored_with size (map (stored_form schema) ds)) whole }) stored;
       stamped = took.stamps ∙ ap (λ l. l ++ stamp ∷ []) are.stamped;
       each = omega (arith, length-append stamps (stamp ∷ []), more, are.each);
@@ -166,15 +181,15 @@ of_parts P o p is h = subst (λ x. IsSomeAnd (option_map kept_of x) P) is h
 pub to_parts : (P : Kept → Type 0) (o : Option WriterParts) (p : WriterParts) → o ≡ Some p → P (kept_of p) → IsSomeAnd (option_map kept_of o) P
 to_parts P o p is h = subst (λ x. IsSomeAnd (option_map kept_of x) P) (sym is) h
 
-module _ (schema : Schema) (analyzer : Analyzer) (entries : is_built_schema schema ≡ true) (d : Document) (taken : is_taken schema analyzer d ≡ true) (utf8 : IsUtf8Document d) (stamp : ℕ) (parts : Option WriterParts) (p : WriterParts) (is : parts ≡ Some p) (place : HasPlace (kept_of p)) where
+module _ (schema : Schema) (analyzer : Analyzer) (d : Document) (taken : is_taken schema analyzer d ≡ true) (utf8 : IsUtf8Document d) (stamp : ℕ) (parts : Option WriterParts) (p : WriterParts) (is : parts ≡ Some p) (place : HasPlace (kept_of p)) where
   under : IfSome parts (λ p. IsUnderWay schema analyzer (kept_of p)) → IsUnderWay schema analyzer (kept_of p)
   under h = subst (λ x. IfSome x (λ p. IsUnderWay schema analyzer (kept_of p))) is h
 
   -- a writer under way can take one more document
-  pub room_of : (values : List IndexedValue) → map (value_in d) values ≡ document_values schema analyzer d → AllByRecursion (IsPlainIn d) values → IfSome parts (λ p. IsUnderWay schema analyzer (kept_of p)) → HasRoom d values (kept_of p)
-  room_of values values_are keys h = let u = under h in has_room schema analyzer entries u.documents d taken utf8 u.block_size u.stamps stamp (kept_of p) u.are place values values_are keys
+  pub room_of : (known : Known) → AreKnown known schema → (values : List IndexedValue) → map (value_in d) values ≡ document_values schema analyzer d → AllByRecursion (IsPlainIn d) values → IfSome parts (λ p. IsUnderWay schema analyzer (kept_of p)) → HasRoom known analyzer d values (kept_of p)
+  room_of known all_known values values_are keys h = let u = under h in has_room schema analyzer u.documents d taken utf8 u.block_size u.stamps stamp (kept_of p) u.are place known all_known values values_are keys
 
-  module _ (in_order : AreTakenLast) (values : List IndexedValue) (values_are : map (value_in d) values ≡ document_values schema analyzer d) (new : WriterParts) (took : HasTaken schema d values stamp (kept_of p) (kept_of new)) where
+  module _ (in_order : AreTakenLast) (values : List IndexedValue) (values_are : map (value_in d) values ≡ document_values schema analyzer d) (new : WriterParts) (took : HasTaken schema analyzer d values stamp (kept_of p) (kept_of new)) where
     -- is under way after it
     pub still_under_way : IfSome parts (λ p. IsUnderWay schema analyzer (kept_of p)) → IsUnderWay schema analyzer (kept_of new)
     still_under_way h =
@@ -183,7 +198,7 @@ module _ (schema : Schema) (analyzer : Analyzer) (entries : is_built_schema sche
           block_size = u.block_size;
           documents = u.documents ++ d ∷ [];
           stamps = u.stamps ++ stamp ∷ [];
-          are = one_more schema analyzer entries u.documents d taken utf8 u.block_size u.stamps stamp (kept_of p) u.are place in_order values values_are (kept_of new) took;
+          are = one_more schema analyzer u.documents d taken utf8 u.block_size u.stamps stamp (kept_of p) u.are place in_order values values_are (kept_of new) took;
         }
 
     -- and has added it
@@ -191,5 +206,5 @@ module _ (schema : Schema) (analyzer : Analyzer) (entries : is_built_schema sche
     adds id size = record {
       place = to_parts HasPlace parts p is place;
       taken = taken;
-      behind = λ documents stamps h. one_more schema analyzer entries documents d taken utf8 size stamps stamp (kept_of p) (of_parts (IsKeptOf schema analyzer size documents stamps) parts p is h) place in_order values values_are (kept_of new) took;
+      behind = λ documents stamps h. one_more schema analyzer documents d taken utf8 size stamps stamp (kept_of p) (of_parts (IsKeptOf schema analyzer size documents stamps) parts p is h) place in_order values values_are (kept_of new) took;
     }

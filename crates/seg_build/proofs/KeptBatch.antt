@@ -1,16 +1,14 @@
 -- What a writer kept of its documents makes their batch and their store.
-use Rattle.std.proofs.Common.{◌≡◌, ℕ, ◌<◌, ◌^◌, true, List, map, length, Some, None, Option, sym, ap, ◌∙◌, subst}
+use Rattle.std.proofs.Common.{◌≡◌, ℕ, ◌<◌, ◌^◌, List, map, length, Some, None, Option, refl, sym, ap, ◌∙◌, subst}
 use Rattle.std.specs.Prelude.{IsSomeAnd}
 use Rattle.std.specs.FinMap.{entries}
-use Rattle.std.specs.List.{list_all, AllByRecursion}
+use Rattle.std.specs.List.{AllByRecursion}
 use Rattle.std.specs.Option.{option_map}
-use Rattle.std.proofs.lemmas.Bool.{and_from}
 use Rattle.std.proofs.lemmas.List.{length-map}
 use Rattle.seg_common.specs.Growing.{HasGrown}
 use Rattle.seg_values.specs.declared.schema.FieldEntry.{FieldEntry}
 use Rattle.seg_values.specs.StoredForm.{stored_form}
 use Rattle.seg_values.specs.Tree.{Document}
-use Rattle.seg_model.specs.Built.{is_taken}
 use Rattle.seg_model.specs.Fields.{Schema, Analyzer}
 use Rattle.seg_model.specs.Reading.{stored_document}
 use Rattle.seg_store.specs.Block.{Block}
@@ -18,7 +16,6 @@ use Rattle.seg_store.specs.Store.{store_of, documents_of}
 use Rattle.seg_store.specs.Writing.{Taken, all_blocks}
 use Rattle.seg_norms.specs.FieldNorms.{filled}
 use Rattle.seg_build.specs.Batch.{kept_norms}
-use Rattle.seg_segment.specs.Built.{is_built_schema, are_built}
 use Rattle.seg_terms.specs.Entries.{TermEntries}
 use Rattle.seg_build.specs.FieldTerms.{FieldTerms, positional_terms, recorded_fields, fields_of}
 use Rattle.seg_build.specs.Kept.{Kept}
@@ -27,12 +24,12 @@ use Rattle.seg_build.specs.SegmentWriting.{Stores, IsKeptOf}
 use Rattle.seg_build.specs.Steps.{fresh}
 use Rattle.seg_build.specs.StoredBatch.{IsStoredBatch}
 use Rattle.seg_build.specs.StoredBlocks.{HasBlocks, stored_with}
-use Rattle.seg_build.specs.Writable.{PositionsCanBeWritten}
+use Rattle.seg_build.specs.Writable.{CanBeWritten}
 use Rattle.seg_build.specs.FieldSoFar.{FieldSoFar}
 use Rattle.seg_build.specs.declared.fields.IndexedBatch.{IndexedBatch}
 use Rattle.seg_build.proofs.RecordedTerms.{recorded_are_fields, length-recorded_fields}
 use Rattle.seg_build.proofs.Whole.{terms_of_all, length-with_documents}
-use Rattle.seg_build.proofs.WritableTerms.{built_terms_can_be_written}
+use Rattle.seg_build.proofs.WritableTerms.{taken_terms_can_be_written}
 
 -- the terms of fields, each in byte order with all its positions
 abbrev pub listed : List FieldSoFar → List TermEntries
@@ -46,15 +43,9 @@ cut_from : (schema : Schema) (size : ℕ) (documents : List Document) (o : Optio
 cut_from schema size documents (Some w) file is so = is ∙ ap (λ (t : Taken). Some (all_blocks t)) so.cut
 cut_from schema size documents None file is so = absurd so
 
-module _ (schema : Schema) (analyzer : Analyzer) (built : is_built_schema schema ≡ true) (size : ℕ) (documents : List Document) (stamps : List ℕ) (kept : Kept) (are : IsKeptOf schema analyzer size documents stamps kept) where
-  are_all_built : are_built schema analyzer documents ≡ true
-  are_all_built = and_from (is_built_schema schema) (list_all (is_taken schema analyzer) documents) built are.taken
-
+module _ (schema : Schema) (analyzer : Analyzer) (size : ℕ) (documents : List Document) (stamps : List ℕ) (kept : Kept) (are : IsKeptOf schema analyzer size documents stamps kept) where
   terms : listed kept.fields ≡ map entries (positional_terms schema analyzer documents)
-  terms = ap listed are.fields ∙ terms_of_all schema analyzer built documents
-
-  pub are_writable : AllByRecursion PositionsCanBeWritten (listed kept.fields)
-  are_writable = subst (AllByRecursion PositionsCanBeWritten) (sym terms) (built_terms_can_be_written schema analyzer documents are_all_built are.few)
+  terms = ap listed are.fields ∙ terms_of_all schema analyzer documents
 
   pub as_many_fields : length kept.fields ≡ length schema
   as_many_fields = ap length are.fields ∙ length-with_documents schema analyzer 0 (map (λ (e : FieldEntry). fresh) schema) documents ∙ length-map schema (λ (e : FieldEntry). fresh)
@@ -64,6 +55,11 @@ module _ (schema : Schema) (analyzer : Analyzer) (built : is_built_schema schema
 
   pub are_fields : (fields : List FieldTerms) → fields ≡ recorded_fields schema (listed kept.fields) → fields ≡ fields_of schema analyzer documents
   are_fields fields is = is ∙ ap (recorded_fields schema) terms ∙ recorded_are_fields schema analyzer documents
+
+  pub are_writable : AllByRecursion CanBeWritten (recorded_fields schema (listed kept.fields))
+  are_writable =
+      subst (AllByRecursion CanBeWritten) (sym (are_fields (recorded_fields schema (listed kept.fields)) refl))
+      (taken_terms_can_be_written schema analyzer documents are.taken are.few)
 
   pub few_stamps : length kept.stamps < 2 ^ 31
   few_stamps = subst (λ n. n < 2 ^ 31) (sym (ap length are.stamped ∙ are.each)) are.few
@@ -76,12 +72,11 @@ module _ (schema : Schema) (analyzer : Analyzer) (built : is_built_schema schema
       ∙ ap (λ n. Some (map (option_map (filled n)) grown.kept)) (many ∙ ap length are.stamped ∙ are.each)
       ∙ ap Some have.filled
 
-  pub is_stored_batch : (batch : IndexedBatch) (count : ℕ) (store : List ℕ) → batch.fields ≡ recorded_fields schema (listed kept.fields) → HasGrown kept.norms batch.norms (map (option_map (filled count))) → count ≡ length kept.stamps → store_of store ≡ option_map all_blocks kept.store → IsStoredBatch schema analyzer documents batch count store
+  pub is_stored_batch : (batch : IndexedBatch) (count : ℕ) (store : List ℕ) → batch.fields ≡ recorded_fields schema (listed kept.fields) → HasGrown kept.norms batch.norms (map (option_map (filled count))) → count ≡ length kept.stamps → store_of store ≡ option_map all_blocks kept.store → IsStoredBatch schema analyzer documents batch store
   is_stored_batch batch count store fields norms many file = record {
-    built = are_all_built;
+    taken = are.taken;
     utf8 = are.utf8;
     indexed = record { fields = are_fields batch.fields fields; norms = all_lengths batch.norms count norms many };
-    counted = many ∙ ap length are.stamped ∙ are.each;
     stored = read_from schema size documents kept.store (store_of store) file are.store;
   }
 

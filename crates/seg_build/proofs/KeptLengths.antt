@@ -13,7 +13,6 @@ use Rattle.seg_model.specs.Fields.{Schema, Analyzer, fields, is_indexed, has_len
 use Rattle.seg_model.specs.Norms.{field_length, length_id, field_norms}
 use Rattle.seg_norms.specs.FieldNorms.{no_norms, filled, with_length}
 use Rattle.seg_build.specs.Batch.{kept_norms}
-use Rattle.seg_segment.specs.Built.{is_built_schema}
 use Rattle.seg_build.specs.Field.{length_of}
 use Rattle.seg_build.specs.Lengths.{AreUpTo, HaveLengths, with_each_length, with_lengths}
 use Rattle.seg_build.specs.Steps.{fresh, indexed_part, with_pairs, with_documents}
@@ -152,7 +151,7 @@ no_contents analyzer e k (p ∷ ps) h = elim (eqb_tells k p.0) [
 ]
 
 module _ (schema : Schema) (analyzer : Analyzer) (ds : List Document) (i : ℕ) (within : i ≤ length ds) where
-  module _ (entries : is_built_schema schema ≡ true) (d : Document) (here : drop i ds ≡ d ∷ drop (i + 1) ds) (initial now after : List FieldSoFar) where
+  module _ (d : Document) (here : drop i ds ≡ d ∷ drop (i + 1) ds) (initial now after : List FieldSoFar) where
     -- the fields with it
     pub fields_turn : now ≡ with_documents schema analyzer 0 initial (take i ds) → after ≡ with_pairs schema analyzer i now (indexed_part schema d) → after ≡ with_documents schema analyzer 0 initial (take (i + 1) ds)
     fields_turn is more =
@@ -166,7 +165,7 @@ module _ (schema : Schema) (analyzer : Analyzer) (ds : List Document) (i : ℕ) 
     length_in_field : initial ≡ map (λ _. fresh) schema → now ≡ with_documents schema analyzer 0 initial (take i ds) → after ≡ with_pairs schema analyzer i now (indexed_part schema d) → (k : ℕ) (e : FieldEntry) → slice_get schema k ≡ Some e → HasLength i after k (length_of_values (contents_of analyzer e k (indexed_part schema d)))
     length_in_field first is more k e at_e =
         let whole : now ≡ with_documents schema analyzer 0 (map (λ _. fresh) schema) (take i ds) = is ∙ ap (λ fs. with_documents schema analyzer 0 fs (take i ds)) first in
-        let has = all_more schema analyzer entries [] (map (λ _. fresh) schema) (take i ds) (all_fresh schema analyzer entries) k e at_e in
+        let has = all_more schema analyzer [] (map (λ _. fresh) schema) (take i ds) (all_fresh schema analyzer) k e at_e in
         let qs = indexed_part schema d in
         let vs = contents_of analyzer e k qs in
         let id : length (take i ds) ≡ i = length-take-le i ds within in

@@ -6,7 +6,6 @@ use Rattle.std.proofs.lemmas.Grind.{flat_map-append}
 use Rattle.std.proofs.lemmas.List.{length-map}
 use Rattle.seg_words.specs.declared.token.Token.{Token}
 use Rattle.seg_values.specs.Tree.{Leaf, text}
-use Rattle.seg_model.specs.Leaves as model
 use Rattle.seg_model.specs.Leaves.{PlacedLeaf, joined_path}
 use Rattle.seg_model.specs.Occurrences.{Occurrence, at_zero, counted, reach, start_after, start_after_all, leaf_text, texts_at, leaf_occurrences, json_occurrences}
 use Rattle.seg_check.specs.LeafContents.{LeafContent, text_leaf, coded_leaf, leaf_content}

@@ -12,12 +12,12 @@ mod JsonLimits
 mod JsonPositions
 mod Keeping
 mod KeptBatch
+mod KeptColumns
 mod KeptLengths
 mod KeptStarts
 mod Leaves
 mod MemoryTaken
-mod NoColumns
-mod NoFast
+mod NoRefusal
 mod NormParts
 mod Places
 mod PathTokens

@@ -4,7 +4,9 @@ use Rattle.std.specs.Prelude.{IsSomeAnd}
 use Rattle.std.specs.List.{flat_map}
 use Rattle.std.proofs.lemmas.Grind.{flat_map-append}
 use Rattle.seg_values.specs.Tree.{Document}
+use Rattle.seg_model.specs.Columns.{FastValue, fast_values}
 use Rattle.seg_model.specs.Fields.{Schema, Analyzer}
+use Rattle.seg_fast_writer.specs.Writing.{Holds}
 use Rattle.seg_values.specs.StoredForm.{stored_form}
 use Rattle.seg_store.specs.Block.{Block}
 use Rattle.seg_store.specs.BlockLaw.{all_documents}
@@ -44,14 +46,20 @@ bytes-stored schema size documents None so = absurd so
 
 -- ---- the formula
 
-by_parts : (stored all occurrences most a b c r : ℕ) → occurrences ≡ saturated all → a ≡ min (occurrences * 16) (2 ^ 64 - 1) → b ≡ min (stored + a) (2 ^ 64 - 1) → c ≡ min most (2 ^ 64 - 1) → r ≡ min (b + c) (2 ^ 64 - 1) → r ≡ saturated (stored + 16 * all + most)
-by_parts stored all occurrences most a b c r o a_is b_is c_is r_is = omega (arith, o, a_is, b_is, c_is, r_is)
+by_parts : (stored all values occurrences fast most a b v c r : ℕ) → occurrences ≡ saturated all → fast ≡ saturated (16 * values)
+    → a ≡ min (occurrences * 16) (2 ^ 64 - 1) → b ≡ min (stored + a) (2 ^ 64 - 1) → v ≡ min (b + fast) (2 ^ 64 - 1)
+    → c ≡ min most (2 ^ 64 - 1) → r ≡ min (v + c) (2 ^ 64 - 1) → r ≡ saturated (stored + 16 * all + 16 * values + most)
+by_parts stored all values occurrences fast most a b v c r o f a_is b_is v_is c_is r_is = omega (arith, o, f, a_is, b_is, v_is, c_is, r_is)
 
 module _ (schema : Schema) (analyzer : Analyzer) (size : ℕ) (documents : List Document) (stamps : List ℕ) (kept : Kept) (are : IsKeptOf schema analyzer size documents stamps kept) where
   -- what is added up is the formula
-  pub usage_is : (stored count lengths a b c r : ℕ) → stored ≡ taken_bytes kept.store → count ≡ length kept.stamps → lengths ≡ length_fields schema
-      → a ≡ min (kept.occurrences * 16) (2 ^ 64 - 1) → b ≡ min (stored + a) (2 ^ 64 - 1) → c ≡ min (count * lengths) (2 ^ 64 - 1) → r ≡ min (b + c) (2 ^ 64 - 1)
+  pub usage_is : (stored fast count lengths a b v c r : ℕ) → stored ≡ taken_bytes kept.store
+      → ((values : List (List FastValue)) → Holds values kept.fast → fast ≡ saturated (16 * total length values))
+      → count ≡ length kept.stamps → lengths ≡ length_fields schema
+      → a ≡ min (kept.occurrences * 16) (2 ^ 64 - 1) → b ≡ min (stored + a) (2 ^ 64 - 1) → v ≡ min (b + fast) (2 ^ 64 - 1)
+      → c ≡ min (count * lengths) (2 ^ 64 - 1) → r ≡ min (v + c) (2 ^ 64 - 1)
       → r ≡ saturated (memory_usage schema analyzer documents)
-  usage_is stored count lengths a b c r stored_is count_is lengths_is a_is b_is c_is r_is =
-      by_parts stored (total (occurrence_count schema analyzer) documents) kept.occurrences (count * lengths) a b c r are.occurrences a_is b_is c_is r_is
-      ∙ (λ i. saturated ((stored_is ∙ bytes-stored schema size documents kept.store are.store) i + 16 * total (occurrence_count schema analyzer) documents + (count_is ∙ ap length are.stamped ∙ are.each) i * lengths_is i))
+  usage_is stored fast count lengths a b v c r stored_is fast_is count_is lengths_is a_is b_is v_is c_is r_is =
+      by_parts stored (total (occurrence_count schema analyzer) documents) (total length (map (fast_values schema analyzer) documents)) kept.occurrences fast (count * lengths) a b v c r are.occurrences
+      (fast_is (map (fast_values schema analyzer) documents) are.fast) a_is b_is v_is c_is r_is
+      ∙ (λ i. saturated ((stored_is ∙ bytes-stored schema size documents kept.store are.store) i + 16 * total (occurrence_count schema analyzer) documents + 16 * total length (map (fast_values schema analyzer) documents) + (count_is ∙ ap length are.stamped ∙ are.each) i * lengths_is i))

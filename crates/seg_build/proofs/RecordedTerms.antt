@@ -62,7 +62,7 @@ module _ (e : FieldEntry) (q : List ℕ) where
 
 -- ---- the entries of a table
 
-same_key : (k q : List ℕ) → slice_cmp nat_cmp k q ≡ Equal → k ≡ q
+pub same_key : (k q : List ℕ) → slice_cmp nat_cmp k q ≡ Equal → k ≡ q
 same_key k q h = (bytes_decides k q).0 (sym (is_eq-slice_cmp k q) ∙ ap is_eq h)
 
 put_as : (asked : AskedKind) (k : List ℕ) (v : List Posting) (es : TermEntries) → entries_as asked (put (slice_cmp nat_cmp) k v es) ≡ put (slice_cmp nat_cmp) k (postings_as (kind_in asked k) v) (entries_as asked es)

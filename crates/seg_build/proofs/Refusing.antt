@@ -12,11 +12,10 @@ use Rattle.seg_model.specs.Fields.{Schema, Analyzer}
 use Rattle.seg_model.specs.Input.{Input, Settings, input_batches}
 use Rattle.seg_model.specs.Operations.{Operation, add, delete, delete_all}
 use Rattle.seg_model.specs.Refused.{operation_refusal, count_refusal, numbers_refusal, added_by, batch_refusal, IsRefusal}
-use Rattle.seg_model.specs.Valid.{Known, cuts_fit, batches_fit, filters_fit, ids_fit, names_fit, settings_fit, unknown_tokenizer_of, has_unknown_fast_tokenizer, unindexed_delete_of, shape_refusal, schema_refusal, delete_refusal, input_refusal}
+use Rattle.seg_model.specs.Valid.{Known, cuts_fit, batches_fit, filters_fit, ids_fit, names_fit, settings_fit, unknown_tokenizer_of, has_unknown_fast_tokenizer, shape_refusal, schema_refusal}
 use Rattle.seg_meta.specs.View.{settings_of}
 use Rattle.seg_meta.specs.declared.index_settings.IndexSettings.{IndexSettings}
 use Rattle.seg_check.proofs.Exports.{EachHas, cause-has, first_each, or_each, unless_each}
-use Rattle.seg_segment.specs.Built.{is_built_schema}
 use Rattle.seg_build.specs.WriterStart.{least_budget, start_refusal}
 
 module _ {X : Type 0} (P : X → Type 0) where
@@ -72,6 +71,5 @@ schema_each known schema settings =
 pub start_is_refusal : (known : Known) (budget : ℕ) (schema : Schema) (settings : IndexSettings) (e : TantivyError) → start_refusal known budget schema settings ≡ Some e → IsRefusal e
 start_is_refusal known budget schema settings e is =
     subst (λ o. IfSome o IsRefusal) is
-    (or_each IsRefusal (unless (nat_le least_budget budget) (InvalidArgument argument.Budget)) _ (unless_each IsRefusal (nat_le least_budget budget) (InvalidArgument argument.Budget) tt)
-    (or_each IsRefusal (unless (is_built_schema schema) (InvalidArgument argument.Later)) (schema_refusal known schema (settings_of settings)) (unless_each IsRefusal (is_built_schema schema) (InvalidArgument argument.Later) tt)
-    (schema_each known schema (settings_of settings))))
+    (or_each IsRefusal (unless (nat_le least_budget budget) (InvalidArgument argument.Budget)) (schema_refusal known schema (settings_of settings)) (unless_each IsRefusal (nat_le least_budget budget) (InvalidArgument argument.Budget) tt)
+    (schema_each known schema (settings_of settings)))

@@ -1,4 +1,4 @@
--- Documents that are built are sound where their texts are UTF-8.
+-- Documents that are taken are sound where their texts are UTF-8.
 use Rattle.std.proofs.Common.{◌≡◌, true, List, [], ◌∷◌}
 use Rattle.std.specs.List.{list_all, AllByRecursion}
 use Rattle.std.proofs.lemmas.Bool.{and_parts}
@@ -7,18 +7,14 @@ use Rattle.seg_values.specs.Utf8.{IsUtf8Document}
 use Rattle.seg_model.specs.Built.{is_taken}
 use Rattle.seg_model.specs.Fields.{Schema, Analyzer}
 use Rattle.seg_model.specs.Checked.{IsSound}
-use Rattle.seg_segment.specs.Built.{is_built_schema, are_built}
 use Rattle.seg_build.proofs.Taken.{passed}
 
 module _ (schema : Schema) (analyzer : Analyzer) where
   sound_document : (d : Document) → is_taken schema analyzer d ≡ true → IsUtf8Document d → IsSound schema d
   sound_document d taken utf8 = let h = passed schema analyzer d taken in record { taken = h.taken; json = h.json; utf8 = utf8 }
 
-  all_sound : (ds : List Document) → list_all (is_taken schema analyzer) ds ≡ true → AllByRecursion IsUtf8Document ds → AllByRecursion (IsSound schema) ds
-  all_sound [] h utf8 = tt
-  all_sound (d ∷ ds) h utf8 =
+  pub taken_are_sound : (ds : List Document) → list_all (is_taken schema analyzer) ds ≡ true → AllByRecursion IsUtf8Document ds → AllByRecursion (IsSound schema) ds
+  taken_are_sound [] h utf8 = tt
+  taken_are_sound (d ∷ ds) h utf8 =
       let two = and_parts (is_taken schema analyzer d) (list_all (is_taken schema analyzer) ds) h in
-      (sound_document d two.0 utf8.0, all_sound ds two.1 utf8.1)
-
-  pub built_are_sound : (ds : List Document) → are_built schema analyzer ds ≡ true → AllByRecursion IsUtf8Document ds → AllByRecursion (IsSound schema) ds
-  built_are_sound ds h utf8 = all_sound ds (and_parts (is_built_schema schema) (list_all (is_taken schema analyzer) ds) h).1 utf8
+      (sound_document d two.0 utf8.0, taken_are_sound ds two.1 utf8.1)

@@ -7,14 +7,13 @@ use Rattle.seg_values.specs.declared.schema.FieldEntry.{FieldEntry}
 use Rattle.seg_values.specs.Tree.{levels, Document}
 use Rattle.seg_model.specs.Built.{is_taken}
 use Rattle.seg_model.specs.Checked.{Cause, past_limit, is_u32, kind_fits, field_fits, is_within_limits, fields_refusal, leaves_refusal, order_refusal, limit_refusal, document_refusal}
-use Rattle.seg_model.specs.Fields.{Schema, Analyzer, indexing_tokenizer, values_of, fields}
+use Rattle.seg_model.specs.Fields.{Schema, Analyzer, is_indexed, indexing_tokenizer, values_of, fields}
 use Rattle.seg_values.specs.StoredForm.{stored_form}
 use Rattle.seg_model.proofs.Exports.{or_first, or_second, unless_true}
-use Rattle.seg_segment.proofs.Exports.{IsBuiltField}
 use Rattle.seg_build.proofs.Contents.{AreBounded, kind_bounded}
 use Rattle.seg_build.proofs.Places.{contents_of}
 
-none_is : (o : Option Cause) → is_none o ≡ true → o ≡ None
+pub none_is : (o : Option Cause) → is_none o ≡ true → o ≡ None
 none_is None h = refl
 none_is (Some c) h = absurd (false≢true h)
 
@@ -42,10 +41,10 @@ passed schema analyzer ps h =
     }
 
 -- the values of an indexed field are within the limits
-pub values_fit : (analyzer : Analyzer) (k : ℕ) (e : FieldEntry) (ps : Document) → IsBuiltField e → field_fits analyzer ps (k, e) ≡ true → (is_u32 (length (values_of k ps)) && kind_fits e.kind e.expand_dots (analyzer (indexing_tokenizer e)) (values_of k ps)) ≡ true
-values_fit analyzer k e ps own h =
-    ap (λ b. cond b (is_u32 (length (values_of k ps)) && kind_fits e.kind e.expand_dots (analyzer (indexing_tokenizer e)) (values_of k ps)) true) (sym own.indexed) ∙ h
+pub values_fit : (analyzer : Analyzer) (k : ℕ) (e : FieldEntry) (ps : Document) → is_indexed e ≡ true → field_fits analyzer ps (k, e) ≡ true → (is_u32 (length (values_of k ps)) && kind_fits e.kind e.expand_dots (analyzer (indexing_tokenizer e)) (values_of k ps)) ≡ true
+values_fit analyzer k e ps on h =
+    ap (λ b. cond b (is_u32 (length (values_of k ps)) && kind_fits e.kind e.expand_dots (analyzer (indexing_tokenizer e)) (values_of k ps)) true) (sym on) ∙ h
 
 -- and what they give is bounded
-pub bounded : (analyzer : Analyzer) (k : ℕ) (e : FieldEntry) (ps : Document) → IsBuiltField e → field_fits analyzer ps (k, e) ≡ true → AreBounded (contents_of analyzer e k ps)
-bounded analyzer k e ps own h = kind_bounded e.expand_dots (analyzer (indexing_tokenizer e)) e.kind (values_of k ps) (values_fit analyzer k e ps own h)
+pub bounded : (analyzer : Analyzer) (k : ℕ) (e : FieldEntry) (ps : Document) → is_indexed e ≡ true → field_fits analyzer ps (k, e) ≡ true → AreBounded (contents_of analyzer e k ps)
+bounded analyzer k e ps on h = kind_bounded e.expand_dots (analyzer (indexing_tokenizer e)) e.kind (values_of k ps) (values_fit analyzer k e ps on h)

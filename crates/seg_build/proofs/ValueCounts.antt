@@ -7,19 +7,18 @@ use Rattle.std.proofs.lemmas.Bool.Decides.{eqb_tells, nat_tests}
 use Rattle.std.proofs.lemmas.Option.{slice_get_within}
 use Rattle.seg_values.specs.declared.schema.FieldEntry.{FieldEntry}
 use Rattle.seg_values.specs.Tree.{Tree, Document}
-use Rattle.seg_model.specs.Fields.{Schema, Analyzer, is_indexed, is_field, fields}
+use Rattle.seg_model.specs.Fields.{Schema, Analyzer, is_indexed, is_field}
 use Rattle.seg_model.specs.Occurrences.{occurrences}
 use Rattle.seg_check.specs.IndexedValues.{content_of, content_at, value_in, value_of}
 use Rattle.seg_check.specs.declared.indexed_value.IndexedValue.{IndexedValue}
-use Rattle.seg_segment.specs.Built.{is_built_schema}
 use Rattle.seg_build.specs.Field.{count_in, first_starts}
 use Rattle.seg_build.specs.MemoryUsage.{total, saturated, occurrence_count, value_count}
 use Rattle.seg_build.specs.Steps.{indexed_part}
 use Rattle.seg_build.proofs.Contents.{length_from}
 use Rattle.seg_build.proofs.IndexedParts.{part-kept, part-passed, indexed_pair, values_kept, values_dropped}
 use Rattle.seg_build.proofs.Places.{contents_of, contents_of-taken, contents_of-passed}
-use Rattle.seg_segment.proofs.Exports.{built_field_at, drop-item}
-use Rattle.seg_build.proofs.Whole.{occurrences-built, occurrences-unindexed}
+use Rattle.seg_segment.proofs.Exports.{drop-item}
+use Rattle.seg_build.proofs.Whole.{occurrences-indexed, occurrences-unindexed}
 
 -- ---- the loop over the values
 
@@ -137,15 +136,15 @@ module _ (schema : Schema) (analyzer : Analyzer) where
         own : k ≡ p.0 → slice_get schema p.0 ≡ Some e
         own same = ap (slice_get schema) (sym same) ∙ at_e
 
-    field_counts : is_built_schema schema ≡ true → (d : Document) → total count_of_pair (filter (λ p. nat_eq k p.0) (indexed_part schema d)) ≡ length (occurrences schema analyzer d k)
-    field_counts entries d =
+    field_counts : (d : Document) → total count_of_pair (filter (λ p. nat_eq k p.0) (indexed_part schema d)) ≡ length (occurrences schema analyzer d k)
+    field_counts d =
         of_field (indexed_part schema d) ∙ by (is_indexed e) refl
       where
         by : (b : Bool) → is_indexed e ≡ b → total count_in (contents_of analyzer e k (indexed_part schema d)) ≡ length (occurrences schema analyzer d k)
         by true on =
             ap (λ vs. total count_in (map (content_of analyzer e) vs)) (values_kept schema k e at_e d on)
             ∙ sym (length_from first_starts (contents_of analyzer e k d))
-            ∙ ap length (sym (occurrences-built schema analyzer k e at_e d (built_field_at schema k e entries at_e on)))
+            ∙ ap length (sym (occurrences-indexed schema analyzer k e at_e d on))
         by false off =
             ap (λ vs. total count_in (map (content_of analyzer e) vs)) (values_dropped schema k e at_e d off)
             ∙ ap length (sym (occurrences-unindexed schema analyzer k e at_e d off))
@@ -158,11 +157,11 @@ each_field f g n (x ∷ xs) h =
     let rest = each_field f g (n + 1) xs (λ i e at. subst (λ m. f (m, e) ≡ g (m, e)) (let z : n + suc i ≡ n + 1 + i = omega arith in z) (h (suc i) e at)) in
     λ j. first j + rest j
 
-pub values_counted : (schema : Schema) (analyzer : Analyzer) → is_built_schema schema ≡ true → (d : Document) → value_count (map (value_of schema analyzer) (indexed_part schema d)) ≡ occurrence_count schema analyzer d
-values_counted schema analyzer entries d =
+pub values_counted : (schema : Schema) (analyzer : Analyzer) (d : Document) → value_count (map (value_of schema analyzer) (indexed_part schema d)) ≡ occurrence_count schema analyzer d
+values_counted schema analyzer d =
     let qs = indexed_part schema d in
     let count = count_of_pair schema analyzer in
     each_value schema analyzer qs
     ∙ sym (by_field count 0 schema qs (within schema d))
     ∙ each_field (at_field count qs) (λ f. length (occurrences schema analyzer d f.0)) 0 schema
-    (λ i e at. subst (λ m. total count (filter (λ p. nat_eq m p.0) qs) ≡ length (occurrences schema analyzer d m)) (let z : i ≡ 0 + i = omega arith in z) (field_counts schema analyzer i e at entries d))
+    (λ i e at. subst (λ m. total count (filter (λ p. nat_eq m p.0) qs) ≡ length (occurrences schema analyzer d m)) (let z : i ≡ 0 + i = omega arith in z) (field_counts schema analyzer i e at d))

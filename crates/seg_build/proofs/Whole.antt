@@ -16,13 +16,11 @@ use Rattle.seg_model.specs.Occurrences.{Occurrence, kind_occurrences, occurrence
 use Rattle.seg_model.specs.Reading.{Terms, postings_of, if_any, terms_of}
 use Rattle.seg_common.specs.Tables.{tabulated}
 use Rattle.seg_terms.specs.Adding.{with_occurrences}
-use Rattle.seg_segment.specs.Built.{is_built_schema}
 use Rattle.seg_build.specs.Field.{first_starts, start_of, length_of}
 use Rattle.seg_build.specs.FieldTerms.{positional, positional_terms}
 use Rattle.seg_check.specs.IndexedValues.{IndexedContent, content_of, content_at}
 use Rattle.seg_build.specs.Steps.{fresh, added_at, with_pair, with_pairs, with_documents, indexed_part}
 use Rattle.seg_build.specs.FieldSoFar.{FieldSoFar}
-use Rattle.seg_segment.proofs.Exports.{IsBuiltField, built_field_at}
 use Rattle.seg_build.proofs.Contents.{occurrences_from, kind_occur}
 use Rattle.seg_build.proofs.Growing.{terms_of-push}
 use Rattle.seg_build.proofs.IndexedParts.{values_kept, values_dropped}
@@ -76,16 +74,16 @@ module _ (schema : Schema) (analyzer : Analyzer) (k : ℕ) (e : FieldEntry) (at_
   abbrev indexed_contents : Document → List IndexedContent
   indexed_contents ps = contents_of analyzer e k (indexed_part schema ps)
 
-  pub occurrences-built : (ps : Document) → IsBuiltField e → occurrences schema analyzer ps k ≡ occurrences_from first_starts (contents_of analyzer e k ps)
-  occurrences-built ps own =
+  pub occurrences-indexed : (ps : Document) → is_indexed e ≡ true → occurrences schema analyzer ps k ≡ occurrences_from first_starts (contents_of analyzer e k ps)
+  occurrences-indexed ps own =
       ap (occurrences_at analyzer ps k) at_e
-      ∙ ap (λ b. cond b (kind_occurrences e.kind e.expand_dots (analyzer (indexing_tokenizer e)) (values_of k ps)) []) own.indexed
+      ∙ ap (λ b. cond b (kind_occurrences e.kind e.expand_dots (analyzer (indexing_tokenizer e)) (values_of k ps)) []) own
       ∙ kind_occur e.expand_dots (analyzer (indexing_tokenizer e)) e.kind (values_of k ps)
 
   pub occurrences-unindexed : (ps : Document) → is_indexed e ≡ false → occurrences schema analyzer ps k ≡ []
   occurrences-unindexed ps off = ap (occurrences_at analyzer ps k) at_e ∙ ap (λ b. cond b (kind_occurrences e.kind e.expand_dots (analyzer (indexing_tokenizer e)) (values_of k ps)) []) off
 
-  module _ (entries : is_built_schema schema ≡ true) (ds : List Document) (ps : Document) where
+  module _ (ds : List Document) (ps : Document) where
     abbrev before : Terms
     before = terms_of (positional e) (map occurred ds)
 
@@ -93,7 +91,7 @@ module _ (schema : Schema) (analyzer : Analyzer) (k : ℕ) (e : FieldEntry) (at_
     terms_turn : with_occurrences before (length (map occurred ds)) (occurrences_from first_starts (indexed_contents ps)) ≡ terms_of (positional e) (map occurred (ds ++ ps ∷ []))
     terms_turn = elim (cases_Bool (is_indexed e)) [
       | inl on ↦
-          let same : occurrences_from first_starts (indexed_contents ps) ≡ occurred ps = ap (λ vs. occurrences_from first_starts (map (content_of analyzer e) vs)) (values_kept schema k e at_e ps on) ∙ sym (occurrences-built ps (built_field_at schema k e entries at_e on)) in
+          let same : occurrences_from first_starts (indexed_contents ps) ≡ occurred ps = ap (λ vs. occurrences_from first_starts (map (content_of analyzer e) vs)) (values_kept schema k e at_e ps on) ∙ sym (occurrences-indexed ps on) in
           ap (with_occurrences before (length (map occurred ds))) same
           ∙ terms_of-push (positional e) (record { kind = refl; index = refl }) (map occurred ds) (occurred ps)
           ∙ ap (terms_of (positional e)) (sym (map-append occurred ds (ps ∷ [])))
@@ -104,7 +102,7 @@ module _ (schema : Schema) (analyzer : Analyzer) (k : ℕ) (e : FieldEntry) (at_
           ∙ sym (no_terms (positional e) (ds ++ ps ∷ []) occurred nothing)
     ]
 
-module _ (schema : Schema) (analyzer : Analyzer) (entries : is_built_schema schema ≡ true) where
+module _ (schema : Schema) (analyzer : Analyzer) where
   -- a field of the schema has the terms of some documents, and is at the beginning of the next
   pub record HasTerms (before : List Document) (fields : List FieldSoFar) (k : ℕ) (e : FieldEntry) : Type 0 where
     pub field : FieldSoFar
@@ -137,7 +135,7 @@ module _ (schema : Schema) (analyzer : Analyzer) (entries : is_built_schema sche
             ∙ ap (λ s. with_occurrences has.field.terms id (occurrences_from s vs)) has.new.start
             ∙ ap (λ t. with_occurrences t id (occurrences_from first_starts vs)) has.terms
             ∙ ap (λ n. with_occurrences (terms_of (positional e) (map occurred before)) n (occurrences_from first_starts vs)) (sym many)
-            ∙ terms_turn schema analyzer k e at_e entries before ps;
+            ∙ terms_turn schema analyzer k e at_e before ps;
         new = subst (λ n. IsFresh n after) (sym next) (fresh_next id after past stamped);
         past = omega (arith, past, next);
         stamped = subst (λ n. AreStamped n after.starts) (sym next) (stamped-more id after.starts stamped);
@@ -180,12 +178,12 @@ listed_from F n (x ∷ xs) (f ∷ fs) many h =
     let rest = listed_from F (n + 1) xs fs (omega arith) (λ i e at. let s = h (suc i) e at in record { field = s.field; at = s.at; is = s.is ∙ ap (λ m. F (m, e)) (let z : n + suc i ≡ n + 1 + i = omega arith in z) }) in
     λ j. fin.entries (here j) ∷ rest j
 
-module _ (schema : Schema) (analyzer : Analyzer) (entries : is_built_schema schema ≡ true) (ds : List Document) where
+module _ (schema : Schema) (analyzer : Analyzer) (ds : List Document) where
   abbrev terms_at : ℕ × FieldEntry → Terms
   terms_at f = terms_of (positional f.1) (map (λ d. occurrences schema analyzer d f.0) ds)
 
   -- and give the terms of each field
   pub terms_of_all : map (λ f. fin.entries f.terms) (with_documents schema analyzer 0 (map (λ _. fresh) schema) ds) ≡ map fin.entries (positional_terms schema analyzer ds)
   terms_of_all = listed_from terms_at 0 schema _ (length-with_documents schema analyzer 0 (map (λ _. fresh) schema) ds ∙ length-map schema (λ (x : FieldEntry). fresh)) (λ i e at.
-      let has = all_more schema analyzer entries [] (map (λ _. fresh) schema) ds (all_fresh schema analyzer entries) i e at in
+      let has = all_more schema analyzer [] (map (λ _. fresh) schema) ds (all_fresh schema analyzer) i e at in
       record { field = has.field; at = has.at; is = has.terms ∙ ap (λ m. terms_at (m, e)) (let z : i ≡ 0 + i = omega arith in z) })

@@ -1,13 +1,14 @@
--- The terms of documents that are built can be written.
-use Rattle.std.proofs.Common.{◌≡◌, ℕ, suc, ◌+◌, ◌<◌, ◌≤◌, ◌^◌, Bool, true, false, cond, List, [], ◌∷◌, ◌++◌, map, length, Some, None, Option, Less, Equal, Greater, sym, refl, ap, ◌∙◌, subst, arith, inl, inr, eq-eqb, length-append}
+-- The terms of documents that pass the check can be written.
+use Rattle.std.proofs.Common.{◌≡◌, ℕ, suc, ◌+◌, ◌<◌, ◌≤◌, ◌^◌, Bool, true, false, cond, List, [], ◌∷◌, ◌++◌, map, length, Some, None, Option, Less, Equal, Greater, sym, refl, ap, ◌∙◌, subst, arith, inl, inr, eq-eqb}
 use Rattle.std.specs.Prelude.{filter, nat_eq, nat_le, is_some, ◌&&◌, ◌||◌}
+use Rattle.std.specs.declared.cmp.Ordering.{Ordering}
 use Rattle.std.specs.FinMap.{entries, empty, from_entries, entries_sorted, entries-insert, len-empty, len-entries}
 use Rattle.std.specs.FinMap.Entries.{put, by_order}
 use Rattle.std.specs.List.{AllByRecursion, slice_get, list_all, flat_map, enumerate_from}
 use Rattle.std.specs.Ordering.{nat_cmp}
 use Rattle.std.specs.Cmp.Lexicographic.{slice_cmp, nat_list_cmp_total}
 use Rattle.std.specs.Str.{bytes_eq}
-use Rattle.std.proofs.lemmas.Bool.{false≢true, and_parts, eqb-true, leb-true, ltb-true}
+use Rattle.std.proofs.lemmas.Bool.{false≢true, and_parts, eqb-true, leb-true}
 use Rattle.std.proofs.lemmas.Grind.{flat_map-append}
 use Rattle.seg_common.proofs.Lists.{all_back, all_both, all_front}
 use Rattle.std.proofs.lemmas.Bool.Decides.{eqb_tells}
@@ -18,24 +19,23 @@ use Rattle.seg_words.specs.declared.token.Token.{Token}
 use Rattle.seg_values.specs.declared.schema.FieldEntry.{FieldEntry}
 use Rattle.seg_values.specs.declared.schema.FieldKind.{FieldKind}
 use Rattle.seg_values.specs.declared.schema.FieldKind.TheVariants.{Text, U64, I64, Bool as Boolean, Date, Facet, Bytes, IpAddr, Json}
+use Rattle.seg_values.specs.declared.schema.IndexOption.{IndexOption}
 use Rattle.seg_values.specs.declared.schema.IndexOption.TheVariants as options
-use Rattle.seg_values.specs.Tree.{Leaf, null, text, pre_tokenized, unsigned, signed, boolean, date, facet, byte_string, ip, Tree, leaf, array, object, Document}
+use Rattle.seg_values.specs.Tree.{Tree, Document}
 use Rattle.seg_model.specs.Built.{is_taken}
-use Rattle.seg_model.specs.Checked.{wrong_value, positions_fall, unless, json_refusal, tree_refusal, leaves_refusal, value_refusal, value_texts, is_rising, is_u32, count_of, kind_fits, positions_refusal, field_fits, fields_refusal, order_refusal}
-use Rattle.seg_model.specs.Fields.{Schema, Analyzer, is_json, is_indexed, indexing_tokenizer, values_of}
-use Rattle.seg_model.specs.Occurrences.{Occurrence, at_zero, counted, reach, start_after, start_after_all, value_tokens, leaf_text, texts_at, leaf_terms, value_terms, text_occurrences, json_occurrences, kind_occurrences, occurrences_at, occurrences}
+use Rattle.seg_model.specs.Checked.{positions_fall, unless, json_refusal, tree_refusal, leaves_refusal, value_texts, is_rising, is_u32, count_of, kind_fits, positions_refusal, field_fits, order_refusal}
+use Rattle.seg_model.specs.Fields.{Schema, Analyzer, is_text, is_json, is_indexed, indexing_tokenizer, values_of}
+use Rattle.seg_model.specs.Occurrences.{Occurrence, at_zero, counted, reach, start_after, start_after_all, value_tokens, leaf_text, texts_at, value_terms, text_occurrences, json_occurrences, kind_occurrences, occurrences_at, occurrences}
 use Rattle.seg_model.specs.Shape.{path_part}
 use Rattle.seg_model.specs.Leaves.{PlacedLeaf, joined_path, leaves, leaves_of}
-use Rattle.seg_model.specs.Reading.{Recorded, Posting, Terms, type_code, positions_of, if_occurs, recorded_in, postings_from, postings_of, if_any, terms_of}
-use Rattle.seg_model.specs.Takes.{is_of_kind, is_own_leaf, is_own_array, takes}
+use Rattle.seg_model.specs.Reading.{Recorded, Posting, term_option, type_code, positions_of, if_occurs, recorded_in, postings_from, postings_of, if_any, terms_of, field_terms}
 use Rattle.seg_common.specs.Tables.{entry_of}
-use Rattle.seg_postings.specs.declared.record_kind.RecordKind.TheVariants.{Positions}
+use Rattle.seg_postings.specs.Kinds.{kind_of}
+use Rattle.seg_postings.specs.declared.record_kind.RecordKind.{RecordKind}
 use Rattle.seg_postings.specs.Written.{Rise, IsOfKind, AreWritable}
-use Rattle.seg_segment.specs.Built.{is_built_kind, is_built_entry}
 use Rattle.seg_terms.specs.Entries.{TermEntries}
-use Rattle.seg_build.specs.FieldTerms.{positional}
-use Rattle.seg_build.specs.Writable.{PositionsCanBeWritten, BuiltTermsCanBeWritten}
-use Rattle.seg_segment.proofs.Exports.{IsBuiltField, built_field_at}
+use Rattle.seg_build.specs.FieldTerms.{FieldTerms, asked_by, kind_in}
+use Rattle.seg_build.specs.Writable.{CanBeWritten, TakenTermsCanBeWritten}
 use Rattle.seg_check.proofs.Exports.{for_one_field, rises, rises_first}
 use Rattle.seg_model.proofs.Exports.{or_both, unless_true}
 use Rattle.seg_build.proofs.Contents.{length_texts, reach-ge, short_texts, start_after_all-ge}
@@ -43,7 +43,7 @@ use Rattle.seg_build.proofs.IndexedParts.{values-own, values-other}
 use Rattle.seg_build.proofs.JsonLimits.{low_at}
 use Rattle.seg_build.proofs.JsonPositions.{in_texts, in_leaves}
 use Rattle.seg_build.proofs.PlainPaths.{plain_leaves_of, value_part}
-use Rattle.seg_build.proofs.RecordedTerms.{no_terms_of}
+use Rattle.seg_build.proofs.RecordedTerms.{same_key, no_terms_of}
 use Rattle.seg_build.proofs.Taken.{HasPassed, passed, values_fit}
 
 -- ---- positions that rise
@@ -110,6 +110,26 @@ record Fit (os : List Occurrence) : Type 0 where
 fit_all : (os : List Occurrence) → Rise 0 (placed_at os) → length os < 2 ^ 32 → Fit os
 fit_all os rising few = record { rising = λ q. rise_some q 0 os rising; few = λ q. omega (arith, fewer q os, few) }
 
+-- a count that a field keeps is a u32
+abbrev CountFits : IndexOption → ℕ → Type 0
+CountFits options.Freqs n = n < 2 ^ 32
+CountFits options.Positions n = n < 2 ^ 32
+CountFits _ n = Unit {0}
+
+count_fits : (option : IndexOption) (n : ℕ) → n < 2 ^ 32 → CountFits option n
+count_fits options.No n few = tt
+count_fits options.Basic n few = tt
+count_fits options.Freqs n few = few
+count_fits options.Positions n few = few
+
+-- the positions of each term in a field of a document rise, and are few where the field keeps how many they are
+record FitIn (e : FieldEntry) (os : List Occurrence) : Type 0 where
+  rising : (q : List ℕ) → Rise 0 (positions_of q os)
+  few : (q : List ℕ) → CountFits (term_option e q) (length (positions_of q os))
+
+fit_in : (e : FieldEntry) (os : List Occurrence) → Fit os → FitIn e os
+fit_in e os fit = record { rising = fit.rising; few = λ q. count_fits (term_option e q) (length (positions_of q os)) (fit.few q) }
+
 -- ---- values that are no texts
 
 abbrev zeros : List (List ℕ) → List ℕ
@@ -118,41 +138,6 @@ zeros terms = placed_at (map at_zero terms)
 rise_zeros : (terms : List (List ℕ)) → Rise 0 (zeros terms)
 rise_zeros [] = tt
 rise_zeros (t ∷ ts) = (omega arith, omega arith, rise_zeros ts)
-
--- a leaf that is no facet gives one term
-single_leaf : (kind : FieldKind) → is_built_kind kind ≡ true → (l : Leaf) → is_of_kind kind l ≡ true → length (leaf_terms l) ≤ 1
-single_leaf kind built null own = omega arith
-single_leaf kind built (text s) own = omega arith
-single_leaf kind built (pre_tokenized p) own = omega arith
-single_leaf kind built (unsigned n) own = omega arith
-single_leaf kind built (signed z) own = omega arith
-single_leaf kind built (boolean b) own = omega arith
-single_leaf kind built (date z) own = omega arith
-single_leaf kind built (byte_string b) own = omega arith
-single_leaf kind built (ip octets) own = omega arith
-single_leaf kind built (facet encoded) own = absurd (false≢true (no_facet kind built own))
-  where
-    no_facet : (kind : FieldKind) → is_built_kind kind ≡ true → is_of_kind kind (facet encoded) ≡ true → false ≡ true
-    no_facet Text b o = o
-    no_facet U64 b o = o
-    no_facet I64 b o = o
-    no_facet Boolean b o = o
-    no_facet Date b o = o
-    no_facet Facet b o = b
-    no_facet Bytes b o = o
-    no_facet IpAddr b o = o
-    no_facet Json b o = o
-
-single_value : (kind : FieldKind) → is_built_kind kind ≡ true → (t : Tree) → is_own_leaf kind t ≡ true → length (value_terms t) ≤ 1
-single_value kind built (leaf l) own = single_leaf kind built l own
-single_value kind built (array ts) own = omega arith
-single_value kind built (object ms) own = omega arith
-
--- values give no more terms than they are
-few_terms : (kind : FieldKind) → is_built_kind kind ≡ true → (values : List Tree) → AllByRecursion (λ t. is_own_leaf kind t ≡ true) values → length (flat_map value_terms values) ≤ length values
-few_terms kind built [] own = omega arith
-few_terms kind built (t ∷ ts) own =
-    omega (arith, single_value kind built t own.0, few_terms kind built ts own.1, length-append (value_terms t) (flat_map value_terms ts))
 
 -- ---- the leaves of JSON values
 
@@ -211,7 +196,7 @@ module _ (e : Bool) (analyze : List ℕ → List Token) (values : List Tree) (li
 
 -- ---- a document that is taken
 
-module _ (schema : Schema) (analyzer : Analyzer) (k : ℕ) (e : FieldEntry) (at_e : slice_get schema k ≡ Some e) (built : IsBuiltField e) where
+module _ (schema : Schema) (analyzer : Analyzer) (k : ℕ) (e : FieldEntry) (at_e : slice_get schema k ≡ Some e) (on : is_indexed e ≡ true) where
   abbrev analyze : List ℕ → List Token
   analyze = analyzer (indexing_tokenizer e)
 
@@ -221,18 +206,18 @@ module _ (schema : Schema) (analyzer : Analyzer) (k : ℕ) (e : FieldEntry) (at_
   -- the positions of a text
   positions_refusal-text : e.kind ≡ Text → (t : Tree) → positions_refusal analyzer t (Some e) ≡ unless (is_rising (counted (value_tokens analyze t)) && true) positions_fall
   positions_refusal-text kind_is t =
-      ap (λ b. cond b (unless (list_all (λ tokens. is_rising (counted tokens)) (value_texts e.kind analyze t)) positions_fall) None) built.indexed
+      ap (λ b. cond b (unless (list_all (λ tokens. is_rising (counted tokens)) (value_texts e.kind analyze t)) positions_fall) None) on
       ∙ ap (λ kind. unless (list_all (λ tokens. is_rising (counted tokens)) (value_texts kind analyze t)) positions_fall) kind_is
 
   positions_refusal-json : e.kind ≡ Json → (t : Tree) → positions_refusal analyzer t (Some e) ≡ unless (list_all (λ tokens. is_rising (counted tokens)) (value_texts Json analyze t)) positions_fall
   positions_refusal-json kind_is t =
-      ap (λ b. cond b (unless (list_all (λ tokens. is_rising (counted tokens)) (value_texts e.kind analyze t)) positions_fall) None) built.indexed
+      ap (λ b. cond b (unless (list_all (λ tokens. is_rising (counted tokens)) (value_texts e.kind analyze t)) positions_fall) None) on
       ∙ ap (λ kind. unless (list_all (λ tokens. is_rising (counted tokens)) (value_texts kind analyze t)) positions_fall) kind_is
 
   json_refusal-checked : e.kind ≡ Json → (t : Tree) → json_refusal t (Some e) ≡ tree_refusal t
   json_refusal-checked kind_is t =
       ap (λ k. cond (is_json k && (is_indexed e || e.fast)) (tree_refusal t) None) kind_is
-      ∙ ap (λ b. cond (b || e.fast) (tree_refusal t) None) built.indexed
+      ∙ ap (λ b. cond (b || e.fast) (tree_refusal t) None) on
 
   rising_texts : e.kind ≡ Text → (ps : Document) → order_refusal schema analyzer ps ≡ None → AllRising (texts_of ps)
   rising_texts kind_is [] none = tt
@@ -274,23 +259,9 @@ module _ (schema : Schema) (analyzer : Analyzer) (k : ℕ) (e : FieldEntry) (at_
         | inr h ↦ subst (AllByRecursion (λ t. tree_refusal t ≡ None)) (sym (values-other k p ps h.0)) rest
       ]
 
-  takes_own : is_json e.kind ≡ false → (t : Tree) → takes e t ≡ is_own_leaf e.kind t
-  takes_own other t =
-      ap (λ b. cond b true (cond (is_indexed e) (is_own_leaf e.kind t) (cond e.fast (is_own_array e.kind t) true))) other
-      ∙ ap (λ b. cond b (is_own_leaf e.kind t) (cond e.fast (is_own_array e.kind t) true)) built.indexed
-
-  -- its values are of its kind
-  own_values : is_json e.kind ≡ false → (ps : Document) → fields_refusal schema ps ≡ None → AllByRecursion (λ t. is_own_leaf e.kind t ≡ true) (values_of k ps)
-  own_values other [] none = tt
-  own_values other (p ∷ ps) none =
-      let two = or_both (value_refusal p.0 p.1 (slice_get schema p.0)) (fields_refusal schema ps) none in
-      let rest = own_values other ps two.1 in
-      elim (eqb_tells k p.0) [
-        | inl h ↦
-            let refusal : unless (takes e p.1) (wrong_value p.0) ≡ None = ap (value_refusal p.0 p.1) (sym (ap (slice_get schema) (sym h.1) ∙ at_e)) ∙ two.0 in
-            subst (AllByRecursion (λ t. is_own_leaf e.kind t ≡ true)) (sym (values-own k p ps h.0)) (sym (takes_own other p.1) ∙ unless_true (takes e p.1) (wrong_value p.0) refusal, rest)
-        | inr h ↦ subst (AllByRecursion (λ t. is_own_leaf e.kind t ≡ true)) (sym (values-other k p ps h.0)) rest
-      ]
+  -- what the field would record of a term, were it of a kind
+  abbrev option_in : List ℕ → FieldKind → IndexOption
+  option_in q kind = cond (is_text kind || (is_json kind && nat_eq (type_code q) 115)) e.index options.Basic
 
   -- the occurrences of a document that has passed
   module _ (ps : Document) (h : HasPassed schema analyzer ps) where
@@ -298,48 +269,52 @@ module _ (schema : Schema) (analyzer : Analyzer) (k : ℕ) (e : FieldEntry) (at_
     values = values_of k ps
 
     abbrev IsFit : FieldKind → Type 0
-    IsFit kind = Fit (kind_occurrences kind e.expand_dots analyze values)
+    IsFit kind = FitIn e (kind_occurrences kind e.expand_dots analyze values)
 
     fits : (is_u32 (length values) && kind_fits e.kind e.expand_dots analyze values) ≡ true
-    fits = values_fit analyzer k e ps built (for_one_field (field_fits analyzer ps) schema h.fit k e at_e)
+    fits = values_fit analyzer k e ps on (for_one_field (field_fits analyzer ps) schema h.fit k e at_e)
 
-    texts_fit_in : (kind : FieldKind) → e.kind ≡ kind → kind ≡ Text → IsFit Text
-    texts_fit_in kind same kind_is =
-        let is : e.kind ≡ Text = same ∙ kind_is in
-        let short = short_texts e.expand_dots analyze values (and_parts (is_u32 (length values)) (kind_fits Text e.expand_dots analyze values) (ap (λ q. is_u32 (length values) && kind_fits q e.expand_dots analyze values) (sym is) ∙ fits)).1 in
+    limits_of : (kind : FieldKind) → e.kind ≡ kind → kind_fits kind e.expand_dots analyze values ≡ true
+    limits_of kind is = (and_parts (is_u32 (length values)) (kind_fits kind e.expand_dots analyze values) (ap (λ q. is_u32 (length values) && kind_fits q e.expand_dots analyze values) (sym is) ∙ fits)).1
+
+    texts_fit_in : e.kind ≡ Text → IsFit Text
+    texts_fit_in is =
+        let os = text_occurrences 0 (texts_of ps) in
+        let short = short_texts e.expand_dots analyze values (limits_of Text is) in
         let few : count_of (texts_of ps) < 2 ^ 32 = short.count in
-        let many : length (text_occurrences 0 (texts_of ps)) ≡ count_of (texts_of ps) = length_texts 0 (texts_of ps) in
-        fit_all (text_occurrences 0 (texts_of ps)) (rise_texts 0 0 (texts_of ps) (rising_texts is ps h.order) (omega arith) short.end) (omega (arith, few, many))
-
-    terms_fit_in : is_json e.kind ≡ false → Fit (map at_zero (flat_map value_terms values))
-    terms_fit_in other =
-        let few : length values < 2 ^ 32 = ltb-true (length values) (2 ^ 32) (and_parts (is_u32 (length values)) (kind_fits e.kind e.expand_dots analyze values) fits).0 in
-        let less = few_terms e.kind built.kind values (own_values other ps h.taken) in
-        fit_all (map at_zero (flat_map value_terms values)) (rise_zeros (flat_map value_terms values)) (omega (arith, few, less, length-map (flat_map value_terms values) at_zero))
+        let many : length os ≡ count_of (texts_of ps) = length_texts 0 (texts_of ps) in
+        fit_in e os (fit_all os (rise_texts 0 0 (texts_of ps) (rising_texts is ps h.order) (omega arith) short.end) (omega (arith, few, many)))
 
     json_fits_in : e.kind ≡ Json → IsFit Json
-    json_fits_in is =
-        let limits = (and_parts (is_u32 (length values)) (kind_fits Json e.expand_dots analyze values) (ap (λ q. is_u32 (length values) && kind_fits q e.expand_dots analyze values) (sym is) ∙ fits)).1 in
-        json_fit e.expand_dots analyze values limits (plain_values is ps h.json) (rising_leaves is ps h.order)
+    json_fits_in is = fit_in e (json_occurrences e.expand_dots analyze [] (leaves_of values)) (json_fit e.expand_dots analyze values (limits_of Json is) (plain_values is ps h.json) (rising_leaves is ps h.order))
+
+    -- a field of another kind keeps no counts
+    terms_fit_in : ((q : List ℕ) → term_option e q ≡ options.Basic) → FitIn e (map at_zero (flat_map value_terms values))
+    terms_fit_in none =
+        let os = map at_zero (flat_map value_terms values) in
+        record {
+          rising = λ q. rise_some q 0 os (rise_zeros (flat_map value_terms values));
+          few = λ q. subst (λ option. CountFits option (length (positions_of q os))) (sym (none q)) tt;
+        }
 
     by_kind : (kind : FieldKind) → e.kind ≡ kind → IsFit kind
-    by_kind Text same = texts_fit_in Text same refl
-    by_kind Json same = json_fits_in same
-    by_kind U64 same = terms_fit_in (ap is_json same)
-    by_kind I64 same = terms_fit_in (ap is_json same)
-    by_kind Boolean same = terms_fit_in (ap is_json same)
-    by_kind Date same = terms_fit_in (ap is_json same)
-    by_kind Facet same = terms_fit_in (ap is_json same)
-    by_kind Bytes same = terms_fit_in (ap is_json same)
-    by_kind IpAddr same = terms_fit_in (ap is_json same)
+    by_kind Text is = texts_fit_in is
+    by_kind Json is = json_fits_in is
+    by_kind U64 is = terms_fit_in (λ q. ap (option_in q) is)
+    by_kind I64 is = terms_fit_in (λ q. ap (option_in q) is)
+    by_kind Boolean is = terms_fit_in (λ q. ap (option_in q) is)
+    by_kind Date is = terms_fit_in (λ q. ap (option_in q) is)
+    by_kind Facet is = terms_fit_in (λ q. ap (option_in q) is)
+    by_kind Bytes is = terms_fit_in (λ q. ap (option_in q) is)
+    by_kind IpAddr is = terms_fit_in (λ q. ap (option_in q) is)
 
     occurrences_are : occurrences schema analyzer ps k ≡ kind_occurrences e.kind e.expand_dots analyze values
-    occurrences_are = ap (occurrences_at analyzer ps k) at_e ∙ ap (λ b. cond b (kind_occurrences e.kind e.expand_dots analyze values) []) built.indexed
+    occurrences_are = ap (occurrences_at analyzer ps k) at_e ∙ ap (λ b. cond b (kind_occurrences e.kind e.expand_dots analyze values) []) on
 
-    passed_fits : Fit (occurrences schema analyzer ps k)
-    passed_fits = subst Fit (sym occurrences_are) (by_kind e.kind refl)
+    passed_fits : FitIn e (occurrences schema analyzer ps k)
+    passed_fits = subst (FitIn e) (sym occurrences_are) (by_kind e.kind refl)
 
-  all_fit : (ds : List Document) → list_all (is_taken schema analyzer) ds ≡ true → AllByRecursion Fit (map (λ d. occurrences schema analyzer d k) ds)
+  all_fit : (ds : List Document) → list_all (is_taken schema analyzer) ds ≡ true → AllByRecursion (FitIn e) (map (λ d. occurrences schema analyzer d k) ds)
   all_fit [] h = tt
   all_fit (d ∷ ds) h =
       let two = and_parts (is_taken schema analyzer d) (list_all (is_taken schema analyzer) ds) h in
@@ -347,41 +322,49 @@ module _ (schema : Schema) (analyzer : Analyzer) (k : ℕ) (e : FieldEntry) (at_
 
 -- ---- the postings of a term
 
-abbrev IsKept : Option Recorded → Type 0
-IsKept None = Unit {0}
-IsKept (Some r) = IsOfKind Positions r
+abbrev IsKept : RecordKind → Option Recorded → Type 0
+IsKept kind None = Unit {0}
+IsKept kind (Some r) = IsOfKind kind r
 
-writable_from : (before least n : ℕ) (rs : List (Option Recorded)) → before + least ≤ n → n + length rs < 2 ^ 32 → AllByRecursion IsKept rs → AreWritable Positions before least (postings_from n rs)
-writable_from before least n [] le few all = tt
-writable_from before least n (None ∷ rs) le few all = writable_from before least (n + 1) rs (omega arith) (omega (arith, few)) all.1
-writable_from before least n (Some r ∷ rs) le few all = (le, omega (arith, few), all.0, writable_from n 1 (n + 1) rs (omega arith) (omega (arith, few)) all.1)
+module _ (kind : RecordKind) where
+  writable_from : (before least n : ℕ) (rs : List (Option Recorded)) → before + least ≤ n → n + length rs < 2 ^ 32 → AllByRecursion (IsKept kind) rs → AreWritable kind before least (postings_from n rs)
+  writable_from before least n [] le few all = tt
+  writable_from before least n (None ∷ rs) le few all = writable_from before least (n + 1) rs (omega arith) (omega (arith, few)) all.1
+  writable_from before least n (Some r ∷ rs) le few all = (le, omega (arith, few), all.0, writable_from n 1 (n + 1) rs (omega arith) (omega (arith, few)) all.1)
 
-kept : (ps : List ℕ) → Rise 0 ps → length ps < 2 ^ 32 → IsKept (if_occurs options.Positions ps)
-kept [] rise few = tt
-kept (p ∷ ps) rise few = (p ∷ ps, omega arith, few, rise, refl)
+kept : (option : IndexOption) (ps : List ℕ) → Rise 0 ps → CountFits option (length ps) → IsKept (kind_of option) (if_occurs option ps)
+kept option [] rise few = tt
+kept options.No (p ∷ ps) rise few = refl
+kept options.Basic (p ∷ ps) rise few = refl
+kept options.Freqs (p ∷ ps) rise few = (length (p ∷ ps), omega arith, few, refl)
+kept options.Positions (p ∷ ps) rise few = (p ∷ ps, omega arith, few, rise, refl)
 
 module _ (e : FieldEntry) where
-  all_kept : (q : List ℕ) (ds : List (List Occurrence)) → AllByRecursion Fit ds → AllByRecursion IsKept (map (recorded_in (positional e) q) ds)
-  all_kept q [] h = tt
-  all_kept q (os ∷ ds) h = (kept (positions_of q os) (h.0.rising q) (h.0.few q), all_kept q ds h.1)
+  -- what the field keeps of a term
+  abbrev kind_for : List ℕ → RecordKind
+  kind_for q = kind_in (asked_by e) q
 
-  postings_writable : (q : List ℕ) (ds : List (List Occurrence)) → AllByRecursion Fit ds → length ds < 2 ^ 31 → AreWritable Positions 0 0 (postings_of (positional e) q ds)
-  postings_writable q ds h few = writable_from 0 0 0 (map (recorded_in (positional e) q) ds) (omega arith) (omega (arith, few, length-map ds (recorded_in (positional e) q))) (all_kept q ds h)
+  all_kept : (q : List ℕ) (ds : List (List Occurrence)) → AllByRecursion (FitIn e) ds → AllByRecursion (IsKept (kind_for q)) (map (recorded_in e q) ds)
+  all_kept q [] h = tt
+  all_kept q (os ∷ ds) h = (kept (term_option e q) (positions_of q os) (h.0.rising q) (h.0.few q), all_kept q ds h.1)
+
+  postings_writable : (q : List ℕ) (ds : List (List Occurrence)) → AllByRecursion (FitIn e) ds → length ds < 2 ^ 31 → AreWritable (kind_for q) 0 0 (postings_of e q ds)
+  postings_writable q ds h few = writable_from (kind_for q) 0 0 0 (map (recorded_in e q) ds) (omega arith) (omega (arith, few, length-map ds (recorded_in e q))) (all_kept q ds h)
 
 -- ---- the entries of a table
 
-module _ {Y : Type 0} (P : Y → Type 0) where
+module _ {Y : Type 0} (P : List ℕ → Y → Type 0) where
   abbrev AllHave : List (List ℕ × Y) → Type 0
-  AllHave es = AllByRecursion (λ e. P e.1) es
+  AllHave es = AllByRecursion (λ e. P e.0 e.1) es
 
-  put_all : (k : List ℕ) (v : Y) (es : List (List ℕ × Y)) → P v → AllHave es → AllHave (put (slice_cmp nat_cmp) k v es)
+  put_all : (k : List ℕ) (v : Y) (es : List (List ℕ × Y)) → P k v → AllHave es → AllHave (put (slice_cmp nat_cmp) k v es)
   put_all k v [] h all = (h, tt)
-  put_all k v (e ∷ es) h all =
-      elim (slice_cmp nat_cmp k e.0) as (λ o. AllHave (by_order o ((k, v) ∷ e ∷ es) ((e.0, v) ∷ es) (e ∷ put (slice_cmp nat_cmp) k v es))) [
-        | Less ↦ (h, all)
-        | Equal ↦ (h, all.1)
-        | Greater ↦ (all.0, put_all k v es h all.1)
-      ]
+  put_all k v (e ∷ es) h all = by (slice_cmp nat_cmp k e.0) refl (put_all k v es h all.1)
+    where
+      by : (o : Ordering) → slice_cmp nat_cmp k e.0 ≡ o → AllHave (put (slice_cmp nat_cmp) k v es) → AllHave (by_order o ((k, v) ∷ e ∷ es) ((e.0, v) ∷ es) (e ∷ put (slice_cmp nat_cmp) k v es))
+      by Less is rest = (h, all)
+      by Equal is rest = (subst (λ q. P q v) (same_key k e.0 is) h, all.1)
+      by Greater is rest = (all.0, rest)
 
   none_have : (es : List (List ℕ × Y)) → length es ≡ 0 → AllHave es
   none_have [] h = tt
@@ -391,11 +374,11 @@ module _ {Y : Type 0} (P : Y → Type 0) where
   from_all [] h = none_have (entries (empty {X = Y} {R = slice_cmp nat_cmp})) (sym (len-entries (empty {X = Y} {R = slice_cmp nat_cmp})) ∙ len-empty (slice_cmp nat_cmp) Y)
   from_all (e ∷ es) h = subst AllHave (sym (entries-insert nat_list_cmp_total (from_entries es) e.0 e.1)) (put_all e.0 e.1 (entries (from_entries es)) h.0 (from_all es h.1))
 
-  one : (k : List ℕ) (o : Option Y) (es : List (List ℕ × Y)) → ((v : Y) → o ≡ Some v → P v) → AllHave es → AllHave (entry_of k o ++ es)
+  one : (k : List ℕ) (o : Option Y) (es : List (List ℕ × Y)) → ((v : Y) → o ≡ Some v → P k v) → AllHave es → AllHave (entry_of k o ++ es)
   one k None es h all = all
   one k (Some v) es h all = (h v refl, all)
 
-  entry_all : (f : List ℕ → Option Y) (ks : List (List ℕ)) → ((k : List ℕ) (v : Y) → f k ≡ Some v → P v) → AllHave (flat_map (λ k. entry_of k (f k)) ks)
+  entry_all : (f : List ℕ → Option Y) (ks : List (List ℕ)) → ((k : List ℕ) (v : Y) → f k ≡ Some v → P k v) → AllHave (flat_map (λ k. entry_of k (f k)) ks)
   entry_all f [] h = tt
   entry_all f (k ∷ ks) h = one k (f k) (flat_map (λ k. entry_of k (f k)) ks) (h k) (entry_all f ks h)
 
@@ -403,43 +386,46 @@ any_occurs : (ps v : List Posting) → if_any ps ≡ Some v → 0 < length v
 any_occurs [] v e = absurd (false≢true (ap is_some e))
 any_occurs (p ∷ ps) v e = subst (λ x. 0 < length x) (same_Some (p ∷ ps) v e) (omega arith)
 
-any_writable : (ps v : List Posting) → AreWritable Positions 0 0 ps → if_any ps ≡ Some v → AreWritable Positions 0 0 v
-any_writable [] v w e = absurd (false≢true (ap is_some e))
-any_writable (p ∷ ps) v w e = subst (AreWritable Positions 0 0) (same_Some (p ∷ ps) v e) w
+any_writable : (kind : RecordKind) (ps v : List Posting) → AreWritable kind 0 0 ps → if_any ps ≡ Some v → AreWritable kind 0 0 v
+any_writable kind [] v w e = absurd (false≢true (ap is_some e))
+any_writable kind (p ∷ ps) v w e = subst (AreWritable kind 0 0) (same_Some (p ∷ ps) v e) w
 
 truth : (b : _) → T b → b ≡ true
 truth true h = refl
 truth false h = absurd h
 
-can_be_written : (e : FieldEntry) (ds : List (List Occurrence)) → AllByRecursion Fit ds → length ds < 2 ^ 31 → PositionsCanBeWritten (entries (terms_of (positional e) ds))
+-- the terms of a field, by what says what their postings keep
+abbrev terms_for : FieldEntry → TermEntries → FieldTerms
+terms_for e terms = record { asked = asked_by e; terms = terms }
+
+can_be_written : (e : FieldEntry) (ds : List (List Occurrence)) → AllByRecursion (FitIn e) ds → length ds < 2 ^ 31 → CanBeWritten (terms_for e (entries (terms_of e ds)))
 can_be_written e ds h few =
     let keys = flat_map (map (λ (o : Occurrence). o.bytes)) ds in
-    let f : List ℕ → Option (List Posting) = λ q. if_any (postings_of (positional e) q ds) in
+    let f : List ℕ → Option (List Posting) = λ q. if_any (postings_of e q ds) in
     record {
-      ascend = truth _ (entries_sorted (terms_of (positional e) ds));
-      occur = from_all (λ ps. 0 < length ps) _ (entry_all (λ ps. 0 < length ps) f keys (λ q v is. any_occurs (postings_of (positional e) q ds) v is));
-      writable = from_all (AreWritable Positions 0 0) _ (entry_all (AreWritable Positions 0 0) f keys (λ q v is. any_writable (postings_of (positional e) q ds) v (postings_writable e q ds h few) is));
+      ascend = truth _ (entries_sorted (terms_of e ds));
+      occur = from_all (λ q ps. 0 < length ps) _ (entry_all (λ q ps. 0 < length ps) f keys (λ q v is. any_occurs (postings_of e q ds) v is));
+      writable = from_all (λ q ps. AreWritable (kind_for e q) 0 0 ps) _ (entry_all (λ q ps. AreWritable (kind_for e q) 0 0 ps) f keys (λ q v is. any_writable (kind_for e q) (postings_of e q ds) v (postings_writable e q ds h few) is));
     }
 
-none_can : PositionsCanBeWritten []
-none_can = record { ascend = truth _ tt; occur = tt; writable = tt }
+none_can : (e : FieldEntry) → CanBeWritten (terms_for e [])
+none_can e = record { ascend = truth _ tt; occur = tt; writable = tt }
 
 -- ---- all fields
 
-all_fields : (Q : TermEntries → Type 0) (F : ℕ × FieldEntry → Terms) (n : ℕ) (xs : List FieldEntry) → ((i : ℕ) (e : FieldEntry) → slice_get xs i ≡ Some e → Q (entries (F (n + i, e)))) → AllByRecursion Q (map entries (map F (enumerate_from n xs)))
+all_fields : (Q : FieldTerms → Type 0) (F : ℕ × FieldEntry → FieldTerms) (n : ℕ) (xs : List FieldEntry) → ((i : ℕ) (e : FieldEntry) → slice_get xs i ≡ Some e → Q (F (n + i, e))) → AllByRecursion Q (map F (enumerate_from n xs))
 all_fields Q F n [] h = tt
 all_fields Q F n (x ∷ xs) h =
-    (subst (λ m. Q (entries (F (m, x)))) (let z : n + 0 ≡ n = omega arith in z) (h 0 x refl), all_fields Q F (n + 1) xs (λ i e at. subst (λ m. Q (entries (F (m, e)))) (let z : n + suc i ≡ n + 1 + i = omega arith in z) (h (suc i) e at)))
+    (subst (λ m. Q (F (m, x))) (let z : n + 0 ≡ n = omega arith in z) (h 0 x refl), all_fields Q F (n + 1) xs (λ i e at. subst (λ m. Q (F (m, e))) (let z : n + suc i ≡ n + 1 + i = omega arith in z) (h (suc i) e at)))
 
-module _ (schema : Schema) (analyzer : Analyzer) (ds : List Document) (built : list_all is_built_entry schema ≡ true) (taken : list_all (is_taken schema analyzer) ds ≡ true) (few : length ds < 2 ^ 31) where
-  each_can : (i : ℕ) (e : FieldEntry) → slice_get schema i ≡ Some e → (b : Bool) → is_indexed e ≡ b → PositionsCanBeWritten (entries (terms_of (positional e) (map (λ d. occurrences schema analyzer d i) ds)))
+module _ (schema : Schema) (analyzer : Analyzer) (ds : List Document) (taken : list_all (is_taken schema analyzer) ds ≡ true) (few : length ds < 2 ^ 31) where
+  each_can : (i : ℕ) (e : FieldEntry) → slice_get schema i ≡ Some e → (b : Bool) → is_indexed e ≡ b → CanBeWritten (terms_for e (entries (field_terms schema analyzer ds (i, e))))
   each_can i e at true on =
       let occurred : Document → List Occurrence = λ d. occurrences schema analyzer d i in
-      can_be_written e (map occurred ds) (all_fit schema analyzer i e at (built_field_at schema i e built at on) ds taken) (omega (arith, few, length-map ds occurred))
-  each_can i e at false off = subst PositionsCanBeWritten (sym (no_terms_of schema analyzer ds i e at off (positional e))) none_can
+      can_be_written e (map occurred ds) (all_fit schema analyzer i e at on ds taken) (omega (arith, few, length-map ds occurred))
+  each_can i e at false off = subst (λ terms. CanBeWritten (terms_for e terms)) (sym (no_terms_of schema analyzer ds i e at off e)) (none_can e)
 
-pub built_terms_can_be_written : BuiltTermsCanBeWritten
-built_terms_can_be_written schema analyzer ds built few =
-    let two = and_parts (list_all is_built_entry schema) (list_all (is_taken schema analyzer) ds) built in
-    all_fields PositionsCanBeWritten (λ f. terms_of (positional f.1) (map (λ d. occurrences schema analyzer d f.0) ds)) 0 schema (λ i e at.
-    subst (λ n. PositionsCanBeWritten (entries (terms_of (positional e) (map (λ d. occurrences schema analyzer d n) ds)))) (let z : i ≡ 0 + i = omega arith in z) (each_can schema analyzer ds two.0 two.1 few i e at (is_indexed e) refl))
+pub taken_terms_can_be_written : TakenTermsCanBeWritten
+taken_terms_can_be_written schema analyzer ds taken few =
+    all_fields CanBeWritten (λ f. terms_for f.1 (entries (field_terms schema analyzer ds f))) 0 schema (λ i e at.
+    subst (λ n. CanBeWritten (terms_for e (entries (field_terms schema analyzer ds (n, e))))) (let z : i ≡ 0 + i = omega arith in z) (each_can schema analyzer ds taken few i e at (is_indexed e) refl))

@@ -1,7 +1,6 @@
 -- What fills a serializer of a segment.
 use Rattle.std.specs.Prelude.{◌≡◌, ℕ, List, map, Option, Some, IsSomeAnd}
 use Rattle.std.specs.FinMap.{entries}
-use Rattle.seg_columnar.specs.Columnar.{rows_of}
 use Rattle.seg_directory.specs.Composite.{composite}
 use Rattle.seg_meta.specs.Metas.{SegmentParts}
 use Rattle.seg_model.specs.Fields.{Schema, Analyzer}
@@ -32,10 +31,11 @@ HoldFields schema fields parts =
 abbrev pub HoldsNorms : Schema → IndexedBatch → List ℕ → Type 0
 HoldsNorms schema batch file = (analyzer : Analyzer) (documents : List Document) → batch.norms ≡ Some (kept_norms schema analyzer documents) → composite file ≡ Some (norms_parts schema (all_norms schema analyzer documents))
 
--- a serializer of a segment has a store, what a batch has, and a row for each of this many documents
-pub record IsFilled (segment : SegmentParts) (store : Option Taken) (batch : IndexedBatch) (count : ℕ) (s : Serializing) : Type 0 where
+-- a serializer of a segment has a store, the bytes of columns, and what a batch has
+pub record IsFilled (segment : SegmentParts) (store : Option Taken) (fast : List ℕ) (batch : IndexedBatch)
+    (s : Serializing) : Type 0 where
   pub segment_is : s.segment ≡ segment
   pub store_is : s.store ≡ store
   pub postings : IsSomeAnd s.postings (HoldFields segment.schema batch.fields)
   pub norms : IsSomeAnd s.norms (HoldsNorms segment.schema batch)
-  pub rows : rows_of s.fast ≡ Some count
+  pub fast_is : s.fast ≡ fast

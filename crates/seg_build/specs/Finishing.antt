@@ -1,8 +1,10 @@
 -- The six files of what a writer kept, made in a directory.
-use Rattle.std.specs.Prelude.{ℕ, ◌≡◌, List, Option, Some, None, Result, Err}
+use Rattle.std.specs.Prelude.{ℕ, ◌≡◌, ◌⊎◌, List, true, is_some, Option, Some, None, Result, Err}
 use Rattle.seg_values.specs.Tree.{Document}
+use Rattle.seg_values.specs.declared.error.ArgumentCause.TheVariants.{Numbers}
 use Rattle.seg_values.specs.declared.error.TantivyError.{TantivyError}
-use Rattle.seg_values.specs.declared.error.TantivyError.TheVariants.{SystemError, OutOfMemory}
+use Rattle.seg_values.specs.declared.error.TantivyError.TheVariants.{InvalidArgument, SystemError, OutOfMemory}
+use Rattle.seg_model.specs.Columns.{columns}
 use Rattle.seg_model.specs.Fields.{Schema, Analyzer}
 use Rattle.seg_directory.specs.State.{DirectoryState}
 use Rattle.seg_directory.specs.Works.{Works}
@@ -42,9 +44,27 @@ pub record IsMadeOfKept (schema : Schema) (kept : Kept) (made : MemorySegment) :
   pub totals : TotalsAreCounts made.files.postings made.fields
   pub stamps : made.stamps.items ≡ kept.stamps
 
--- what is kept is written: out of memory before any call, or six files of it are made under the id
+-- any documents that made what is kept have no columns
+abbrev pub AreMixed : Schema → Kept → Type 0
+AreMixed schema kept =
+    (analyzer : Analyzer) (block_size : ℕ) (documents : List Document) (stamps : List ℕ)
+    → IsKeptOf schema analyzer block_size documents stamps kept → columns schema analyzer documents ≡ None
+
+-- they have columns
+abbrev pub AreUnmixed : Schema → Kept → Type 0
+AreUnmixed schema kept =
+    (analyzer : Analyzer) (block_size : ℕ) (documents : List Document) (stamps : List ℕ)
+    → IsKeptOf schema analyzer block_size documents stamps kept → is_some (columns schema analyzer documents) ≡ true
+
+-- why no files are made of what is kept: its documents have no columns, or out of memory
+abbrev pub Fails : Schema → Kept → TantivyError → Type 0
+Fails schema kept e =
+    ((e ≡ InvalidArgument Numbers) × AreMixed schema kept) ⊎ ((e ≡ OutOfMemory) × AreUnmixed schema kept)
+
+-- what is kept is written: before any call its documents have no columns or it is out of memory, or six files of it are
+-- made under the id
 pub data Finishes {T : Type 0} (schema : Schema) (id : ℕ) (kept : Kept) (result : Result T TantivyError) (before after : DirectoryState) : Type 0 where
-  starves : result ≡ Err OutOfMemory → after ≡ before → Finishes schema id kept result before after
+  fails : (e : TantivyError) → Fails schema kept e → result ≡ Err e → after ≡ before → Finishes schema id kept result before after
   makes : (files : SegmentFiles) → AreOfKept schema kept files → Works (write_steps id files) result before after → Finishes schema id kept result before after
 
 -- where anything is kept; else there is only an error

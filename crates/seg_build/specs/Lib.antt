@@ -7,7 +7,6 @@ pub mod Filling
 pub mod Finishing
 pub mod Gathered
 pub mod Kept
-pub mod Laws
 pub mod LeafSteps
 pub mod MemoryUsage
 pub mod Lengths

@@ -1,21 +1,14 @@
 -- How much memory a writer says that it has taken: a formula over its documents, by which a budget is kept.
-use Rattle.std.specs.Prelude.{ℕ, ◌+◌, ◌*◌, ◌-◌, ◌^◌, min, List, [], ◌∷◌, map, filter, length}
+use Rattle.std.specs.Prelude.{ℕ, ◌+◌, ◌*◌, List, map, filter, length}
 use Rattle.seg_values.specs.Tree.{Document}
+use Rattle.seg_model.specs.Columns.{fast_values}
 use Rattle.seg_model.specs.Fields.{Schema, Analyzer, fields, has_lengths}
 use Rattle.seg_model.specs.Occurrences.{occurrences}
 use Rattle.seg_values.specs.StoredForm.{stored_form}
 use Rattle.seg_check.specs.IndexedValues.{IndexedContent}
+pub use Rattle.seg_fast_writer.specs.Usage.{total, saturated}
 use Rattle.seg_store.specs.Writing.{byte_count}
 use Rattle.seg_build.specs.Field.{count_in}
-
--- the sum of what each has
-abbrev pub total : {A : Type 0} → (A → ℕ) → List A → ℕ
-total count [] = 0
-total count (x ∷ xs) = count x + total count xs
-
--- no more than a usize can say
-abbrev pub saturated : ℕ → ℕ
-saturated n = min n (2 ^ 64 - 1)
 
 -- how often terms occur in a document, in all its fields
 abbrev pub occurrence_count : Schema → Analyzer → Document → ℕ
@@ -29,7 +22,9 @@ value_count values = total (λ v. count_in v.1) values
 abbrev pub length_fields : Schema → ℕ
 length_fields schema = length (filter has_lengths schema)
 
--- the bytes of the stored documents, 16 for each occurrence of a term, and one for each document and field with lengths
+-- the bytes of the stored documents, 16 for each occurrence of a term and for each value in a fast field, and one for
+-- each document and field with lengths
 abbrev pub memory_usage : Schema → Analyzer → List Document → ℕ
 memory_usage schema analyzer documents =
-    byte_count (map (stored_form schema) documents) + 16 * total (occurrence_count schema analyzer) documents + length documents * length_fields schema
+    byte_count (map (stored_form schema) documents) + 16 * total (occurrence_count schema analyzer) documents
+    + 16 * total length (map (fast_values schema analyzer) documents) + length documents * length_fields schema

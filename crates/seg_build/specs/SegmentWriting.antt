@@ -9,8 +9,12 @@ use Rattle.seg_values.specs.Tree.{Document}
 use Rattle.seg_values.specs.Utf8.{IsUtf8Document}
 use Rattle.seg_model.specs.Built.{is_taken}
 use Rattle.seg_model.specs.Checked.{at_place, document_refusal}
+use Rattle.seg_model.specs.Columns.{FastValue, fast_values}
 use Rattle.seg_model.specs.Fields.{Schema, Analyzer}
 use Rattle.seg_model.specs.Reading.{stored_document}
+use Rattle.seg_model.specs.Valid.{Known}
+use Rattle.seg_fast_writer.specs.FastLeaves.{AreKnown}
+use Rattle.seg_fast_writer.specs.Writing.{Holds}
 use Rattle.seg_values.specs.StoredForm.{stored_form}
 use Rattle.seg_check.specs.IndexedValues.{IsPlainIn, value_in}
 use Rattle.seg_check.specs.declared.indexed_value.IndexedValue.{IndexedValue}
@@ -28,7 +32,14 @@ use Rattle.seg_build.specs.declared.writer_parts.WriterParts.{WriterParts}
 
 -- what the parts of a writer keep
 abbrev pub kept_of : WriterParts → Kept
-kept_of parts = record { fields = parts.fields.items; norms = parts.norms; store = parts.store; stamps = parts.stamps.items; occurrences = parts.occurrences }
+kept_of parts = record {
+  fields = parts.fields.items;
+  norms = parts.norms;
+  fast = parts.fast;
+  store = parts.store;
+  stamps = parts.stamps.items;
+  occurrences = parts.occurrences;
+}
 
 -- the schema and the id of the segment, the size of its store's blocks, and what is kept of the documents added so far:
 -- nothing any more, once out of memory
@@ -53,6 +64,8 @@ pub record IsKeptOf (schema : Schema) (analyzer : Analyzer) (block_size : ℕ) (
   pub utf8 : AllByRecursion IsUtf8Document documents
   pub fields : kept.fields ≡ with_documents schema analyzer 0 (map (λ _. fresh) schema) documents
   pub norms : IsSomeAnd kept.norms (HaveLengths schema analyzer documents)
+  pub fast_schema : kept.fast.schema ≡ schema
+  pub fast : Holds (map (fast_values schema analyzer) documents) kept.fast
   pub store : IsSomeAnd kept.store (Stores schema block_size documents)
   pub stamped : kept.stamps ≡ stamps
   pub each : length stamps ≡ length documents
@@ -107,17 +120,25 @@ AddsNone analyzer document stamp old new OutOfMemory = IsSomeAnd old.kept HasPla
 AddsNone analyzer document stamp old new e = IsSomeAnd old.kept HasPlace × Tells old.schema analyzer document stamp e × (new ≡ old)
 
 -- one more document can be taken, of which these are the indexed values
-pub record HasRoom (document : Document) (values : List IndexedValue) (kept : Kept) : Type 0 where
+pub record HasRoom (known : Known) (analyzer : Analyzer) (document : Document) (values : List IndexedValue)
+    (kept : Kept) : Type 0 where
   pub place : HasPlace kept
+  pub passes : document_refusal kept.fast.schema analyzer document ≡ None
+  pub fast_tokenizers : AreKnown known kept.fast.schema
+  pub rows : kept.fast.rows < 2 ^ 31 - 1
   pub shallow : AreShallow document
   pub fit : AllFit (length kept.stamps) kept.fields (map (value_in document) values)
   pub keys : AllByRecursion (IsPlainIn document) values
   pub store : IfSome kept.store (λ w. taken_count w < 2 ^ 31 - 1)
 
 -- one more document was taken, of which these are the indexed values
-pub record HasTaken (schema : Schema) (document : Document) (values : List IndexedValue) (stamp : ℕ) (old new : Kept) : Type 0 where
+pub record HasTaken (schema : Schema) (analyzer : Analyzer) (document : Document) (values : List IndexedValue)
+    (stamp : ℕ) (old new : Kept) : Type 0 where
   pub fields : new.fields ≡ with_values (length old.stamps) old.fields (map (value_in document) values)
   pub norms : new.norms ≡ option_map (with_lengths (length old.stamps) new.fields (map (λ v. v.field) values)) old.norms
+  pub fast_schema : new.fast.schema ≡ old.fast.schema
+  pub fast : (documents : List (List FastValue)) → Holds documents old.fast
+      → Holds (documents ++ fast_values old.fast.schema analyzer document ∷ []) new.fast
   pub store : HasGrown old.store new.store (with_document (stored_form schema document))
   pub reads : stored_document_of (stored_form schema document) ≡ Some (stored_document schema document)
   pub stamps : new.stamps ≡ old.stamps ++ stamp ∷ []

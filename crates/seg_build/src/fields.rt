@@ -4,7 +4,7 @@ ghost use Rattle.std.specs.FinMap.{entries};
 ghost use Rattle.std.specs.List.{slice_get, AllByRecursion};
 ghost use Rattle.seg_build.specs.FieldTerms.{recorded_fields};
 ghost use Rattle.seg_build.specs.Steps.{fresh};
-ghost use Rattle.seg_build.specs.Writable.{CanBeWritten, PositionsCanBeWritten};
+ghost use Rattle.seg_build.specs.Writable.{CanBeWritten};
 
 use crate::field::FieldPostings;
 use crate::sorted::{SortedTerms, sort_terms};
@@ -45,7 +45,7 @@ impl IndexedFields {
         schema: &[FieldEntry],
         fields: Vec<FieldPostings>,
     ) -> Result<IndexedFields, AllocError>
-        requires writable { AllByRecursion PositionsCanBeWritten (map (λ f. entries f.terms) fields.items) }
+        requires writable { AllByRecursion CanBeWritten (recorded_fields schema.now (map (λ f. entries f.terms) fields.items)) }
         requires as_many { length fields.items ≡ length schema.now }
         ensures { IfOk result (λ sorted. sorted ≡ recorded_fields schema.now (map (λ f. entries f.terms) fields.items)) }
     {

@@ -1,10 +1,9 @@
 //! A segment from what its writer has.
-ghost use Rattle.std.specs.Prelude.{◌≡◌, true, map, option_map, IfOk};
+ghost use Rattle.std.specs.Prelude.{◌≡◌, map, option_map, IfOk, IfErr};
 ghost use Rattle.seg_common.specs.Growing.{HasGrown};
 ghost use Rattle.seg_model.specs.Fields.{Analyzer};
 ghost use Rattle.seg_norms.specs.FieldNorms as field_norms;
-ghost use Rattle.seg_segment.specs.Built.{is_built_schema};
-ghost use Rattle.seg_build.specs.Finishing.{Finishes, IsMadeOfKept};
+ghost use Rattle.seg_build.specs.Finishing.{Fails, Finishes, IsMadeOfKept};
 ghost use Rattle.seg_build.specs.SegmentWriting.{kept_of, IsUnderWay};
 
 use crate::add_operation::Opstamp;
@@ -25,14 +24,14 @@ pub(crate) fn finish<W: Directory>(
     parts: WriterParts,
     directory: &mut W,
 ) -> TResult<Vec<Opstamp>>
-    requires entries { is_built_schema segment.schema ≡ true }
     requires under_way { (analyzer : Analyzer) × IsUnderWay segment.schema analyzer (kept_of parts) }
     ensures does { Finishes segment.schema segment.meta.id (kept_of parts) result (W.state directory.old) (W.state directory.new) }
     ensures stamps { IfOk result (λ stamps. stamps.items ≡ parts.stamps.items) }
 {
     let id = segment.id();
-    let Ok(made) = memory_segment(alloc, segment, parts) else {
-        return Err(TantivyError::OutOfMemory);
+    let made = match memory_segment(alloc, segment, parts) {
+        Ok(made) => made,
+        Err(e) => return Err(e),
     };
     match made.files.write(alloc, id, directory) {
         Ok(()) => Ok(made.stamps),
@@ -40,36 +39,40 @@ pub(crate) fn finish<W: Directory>(
     }
 }
 
-/// Makes the segment, of which no file is made.
+/// Makes the segment, of which no file is made. Whether its documents have columns is decided first.
 pub(crate) fn memory_segment(
     alloc: Global,
     segment: Segment,
     parts: WriterParts,
-) -> Result<MemorySegment, AllocError>
-    requires entries { is_built_schema segment.schema ≡ true }
+) -> TResult<MemorySegment>
     requires under_way { (analyzer : Analyzer) × IsUnderWay segment.schema analyzer (kept_of parts) }
-    ensures { IfOk result (IsMadeOfKept segment.schema (kept_of parts)) }
+    ensures made { IfOk result (IsMadeOfKept segment.schema (kept_of parts)) }
+    ensures fails { IfErr result (Fails segment.schema (kept_of parts)) }
 {
     let WriterParts {
         fields,
         norms,
+        fast,
         store,
         stamps,
         ..
     } = parts;
-    let Ok(fields) = IndexedFields::sorted(alloc, segment.schema().fields(), fields) else {
-        return Err(AllocError);
+    let columns = match fast.serialize() {
+        Ok(columns) => columns,
+        Err(e) => return Err(e),
     };
-    let count = stamps.len() as u32;
-    let Ok(norms) = with_all_lengths(norms, count) else {
-        return Err(AllocError);
+    let Ok(fields) = IndexedFields::sorted(alloc, segment.schema().fields(), fields) else {
+        return Err(TantivyError::OutOfMemory);
+    };
+    let Ok(norms) = with_all_lengths(norms, stamps.len() as u32) else {
+        return Err(TantivyError::OutOfMemory);
     };
     let batch = IndexedBatch { fields, norms };
-    let Ok(serializer) = filled(alloc, segment, store, &batch, count) else {
-        return Err(AllocError);
+    let Ok(serializer) = filled(alloc, segment, store, columns, &batch) else {
+        return Err(TantivyError::OutOfMemory);
     };
     let Ok(files) = serializer.into_files() else {
-        return Err(AllocError);
+        return Err(TantivyError::OutOfMemory);
     };
     Ok(MemorySegment {
         files,

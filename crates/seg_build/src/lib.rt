@@ -4,8 +4,7 @@
 //! list for each field. While documents come, the terms of a field are a `TermIndex`, those of a JSON field `PathTerms`,
 //! each with all its positions; at the end they are ordered once, and what is shown and written of a term is what its
 //! field records. A `SegmentWriter`
-//! takes documents one by one. What isn't built yet, fields that are fast and indexed fields of facets, is refused when a
-//! writer is made.
+//! takes documents one by one; the values of fast fields are recorded beside the terms, and become columns at the end.
 //!
 //! To be read in this order: `path_start`, `json_terms` and `gathered_terms` (the terms of a field so far), `tokens`,
 //! `value_terms`, `coded_leaf`, `path_tokens`, `json_leaves` and `field` (what one more value adds), `ordered_field` and
@@ -45,7 +44,7 @@ mod writing;
 
 pub use add_operation::{AddOperation, Opstamp};
 pub use fields::{IndexedBatch, IndexedFields};
-pub use laws::{built_schemas_have_no_columns, built_terms_can_be_written};
+pub use laws::taken_terms_can_be_written;
 pub use memory_segment::MemorySegment;
 pub use seg_terms::{Hit, first_run};
 pub use segment_writer::SegmentWriter;

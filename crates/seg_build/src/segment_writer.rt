@@ -3,6 +3,7 @@ ghost use Rattle.std.specs.Prelude.{◌≡◌, ◌⊎◌, [], List, ℕ, Some, N
 ghost use Rattle.std.specs.FinMap.{get};
 ghost use Rattle.seg_directory.specs.DiskRuns.{KeepsOnDisk};
 ghost use Rattle.seg_values.specs.Tree.{Document};
+ghost use Rattle.seg_model.specs.Columns.{columns};
 ghost use Rattle.seg_model.specs.Fields.{Analyzer};
 ghost use Rattle.seg_meta.specs.IndexOfFiles as index;
 ghost use Rattle.seg_build.specs.FieldTerms.{fields_of};
@@ -28,7 +29,7 @@ use seg_meta::{IndexSettings, Segment};
 use seg_store::documents_stay_in_order;
 use seg_values::{ArgumentCause, Document, Pairs, TResult, TantivyError};
 use seg_words::Analyzers;
-use std::alloc::{AllocError, Global};
+use std::alloc::Global;
 use std::marker::Model;
 
 /// The most documents of a segment.
@@ -47,15 +48,16 @@ pub struct SegmentWriter<'a, Z: Analyzers> {
 impl<'a, Z: Analyzers> Model for SegmentWriter<'a, Z> {
     ghost use Rattle.std.specs.Prelude.{◌≡◌, true, option_map, IfSome, IsTrue};
     ghost use Rattle.std.specs.List.{AllByRecursion};
-    ghost use Rattle.seg_segment.specs.Built.{is_built_schema};
     ghost use Rattle.seg_model.specs.Fields.{indexing_tokenizer};
+    ghost use Rattle.seg_model.specs.Valid.{names_fit};
+    ghost use Rattle.seg_fast_writer.specs.FastLeaves.{AreKnown};
     ghost use Rattle.std.specs.Coded.{codes};
-    ghost use Rattle.seg_build.specs.Kept.{kept_code};
+    ghost use Rattle.seg_build.specs.FieldSoFar.{field_code};
     ghost use Rattle.seg_build.specs.SegmentWriting.{SegmentWriting, kept_of, IsUnderWay};
 
     ghost Value = { Z × SegmentWriting };
 
-    ghost coded = { Prim.hlevel (codes, kept_code) };
+    ghost coded = { Prim.hlevel (codes, field_code) };
 
     ghost view = { λ w. (
       w.analyzers.now,
@@ -67,8 +69,9 @@ impl<'a, Z: Analyzers> Model for SegmentWriter<'a, Z> {
       },
     ) };
 
-    ghost invariant = { λ w. (is_built_schema w.segment.schema ≡ true)
+    ghost invariant = { λ w. (names_fit w.segment.schema ≡ true)
         × AllByRecursion (λ e. IsTrue (Z.knows w.analyzers.now (indexing_tokenizer e))) w.segment.schema
+        × AreKnown (Z.knows w.analyzers.now) w.segment.schema
         × IfSome w.parts (λ parts. IsUnderWay w.segment.schema (Z.tokens_of w.analyzers.now) (kept_of parts)) };
 }
 
@@ -98,7 +101,7 @@ impl<'a, Z: Analyzers> SegmentWriter<'a, Z> {
             return Err(e);
         }
         let block_size = settings.docstore_blocksize;
-        let Ok(parts) = WriterParts::new(alloc, schema, block_size) else {
+        let Ok(parts) = WriterParts::new(alloc, schema, analyzers, block_size) else {
             return Err(TantivyError::OutOfMemory);
         };
         Ok(SegmentWriter {
@@ -128,7 +131,8 @@ impl<'a, Z: Analyzers> SegmentWriter<'a, Z> {
     }
 
     /// How much memory its documents take, by a formula: the bytes of the stored documents, 16 for each occurrence of a
-    /// term, and one for each document and field with lengths; at most `usize::MAX`. Nothing, once out of memory.
+    /// term and for each value in a fast field, and one for each document and field with lengths; at most `usize::MAX`.
+    /// Nothing, once out of memory.
     pub fn mem_usage(&self) -> usize
         ensures of { (documents : List Document) → (stamps : List ℕ) → Writes (Z.tokens_of self.now.0) documents stamps self.now.1
             → result ≡ saturated (memory_usage self.now.1.schema (Z.tokens_of self.now.0) documents) }
@@ -143,7 +147,9 @@ impl<'a, Z: Analyzers> SegmentWriter<'a, Z> {
             .saturating_mul(length_fields(self.segment.schema()));
         let occurrences = parts.occurrences.saturating_mul(16);
         let terms = parts.store.mem_usage().saturating_add(occurrences);
-        terms.saturating_add(lengths)
+        let columns = parts.fast.mem_usage();
+        let values = terms.saturating_add(columns);
+        values.saturating_add(lengths)
     }
 
     /// Adds a document after the others.
@@ -205,14 +211,17 @@ impl<'a, Z: Analyzers> SegmentWriter<'a, Z> {
         documents_stay_in_order();
         let alloc = self.alloc;
         let schema = self.segment.schema();
-        match checked_values(alloc, schema, self.analyzers, document, opstamp as usize) {
-            Ok(values) => match parts.with_document(alloc, schema, document, &values, opstamp) {
-                Ok(parts) => {
-                    self.parts = Some(parts);
-                    Ok(())
+        let analyzers = self.analyzers;
+        match checked_values(alloc, schema, analyzers, document, opstamp as usize) {
+            Ok(values) => {
+                match parts.with_document(alloc, schema, analyzers, document, &values, opstamp) {
+                    Ok(parts) => {
+                        self.parts = Some(parts);
+                        Ok(())
+                    }
+                    Err(_) => Err(TantivyError::OutOfMemory),
                 }
-                Err(_) => Err(TantivyError::OutOfMemory),
-            },
+            }
             Err(e) => match e {
                 TantivyError::OutOfMemory => Err(e),
                 _ => {
@@ -224,6 +233,7 @@ impl<'a, Z: Analyzers> SegmentWriter<'a, Z> {
     }
 
     /// Makes the six files of the segment, which then stands for the documents that were added, and answers their stamps.
+    /// Where the numbers of a path have no common type, that is told before anything is written.
     /// Of any other name a crash leaves what it might have left before.
     pub fn finalize<W: Directory>(self, directory: &mut W) -> TResult<Vec<Opstamp>>
         ensures stands { IsTrue (W.state directory.old).tells → OnOk result ((documents : List Document) (stamps : List ℕ)
@@ -269,7 +279,13 @@ impl<'a, Z: Analyzers> SegmentWriter<'a, Z> {
             → HasBlocks self.entry.1.schema self.entry.1.block_size documents made.files.store) }
         ensures stamps { IfOk result (λ made. (documents : List Document) (stamps : List ℕ) → Writes (Z.tokens_of self.entry.0) documents stamps self.entry.1 → made.stamps.items ≡ stamps) }
         ensures lacking { self.entry.1.kept ≡ None → result ≡ Err TantivyError.SystemError }
-        ensures errors { IfErr result (λ e. ((e ≡ TantivyError.SystemError) × (self.entry.1.kept ≡ None)) ⊎ (e ≡ TantivyError.OutOfMemory)) }
+        ensures mixed { (documents : List Document) (stamps : List ℕ) → Writes (Z.tokens_of self.entry.0) documents stamps self.entry.1
+            → columns self.entry.1.schema (Z.tokens_of self.entry.0) documents ≡ None
+            → result ≡ Err (TantivyError.InvalidArgument ArgumentCause.Numbers) }
+        ensures errors { IfErr result (λ e. ((e ≡ TantivyError.SystemError) × (self.entry.1.kept ≡ None))
+            ⊎ ((e ≡ TantivyError.OutOfMemory) ⊎ ((e ≡ TantivyError.InvalidArgument ArgumentCause.Numbers)
+            × ((documents : List Document) (stamps : List ℕ) → Writes (Z.tokens_of self.entry.0) documents stamps self.entry.1
+            → columns self.entry.1.schema (Z.tokens_of self.entry.0) documents ≡ None)))) }
     {
         let SegmentWriter {
             alloc,
@@ -281,9 +297,6 @@ impl<'a, Z: Analyzers> SegmentWriter<'a, Z> {
         let Some(parts) = parts else {
             return Err(TantivyError::SystemError);
         };
-        match memory_segment(alloc, segment, parts) {
-            Ok(made) => Ok(made),
-            Err(AllocError) => Err(TantivyError::OutOfMemory),
-        }
+        memory_segment(alloc, segment, parts)
     }
 }

@@ -4,19 +4,20 @@ ghost use Rattle.std.specs.List.{list_all, AllByRecursion};
 ghost use Rattle.seg_meta.specs.View.{settings_of};
 ghost use Rattle.seg_model.specs.Fields.{indexing_tokenizer};
 ghost use Rattle.seg_model.specs.Valid as valid;
-ghost use Rattle.seg_segment.specs.Built.{is_built_schema};
+ghost use Rattle.seg_fast_writer.specs.FastLeaves.{AreKnown};
 ghost use Rattle.seg_build.specs.WriterStart.{IsStartError, start_refusal};
 
 use seg_check::indexing_tokenizer;
+use seg_fast_writer::lack_tokenizers;
 use seg_meta::IndexSettings;
-use seg_segment::is_built_schema;
 use seg_values::{ArgumentCause, Compressor, Field, FieldEntry, Schema, SchemaCause, TantivyError};
 use seg_words::Analyzers;
 
 /// The fewest bytes of a budget.
 pub const LEAST_BUDGET: usize = 15_000;
 
-/// Why no writer is made, out of memory aside: the first of `Budget`, `Later`, `FieldName`, `Settings`, `Tokenizer`.
+/// Why no writer is made, out of memory aside: the first of `Budget`, `FieldName`, `Settings`, `Tokenizer`,
+/// `FastTokenizer`.
 pub fn start_refusal<Z: Analyzers>(
     analyzers: &Z,
     budget: usize,
@@ -25,16 +26,14 @@ pub fn start_refusal<Z: Analyzers>(
 ) -> Option<TantivyError>
     ensures first { result ≡ start_refusal (Z.knows analyzers.now) budget schema.now settings.now }
     ensures errors { IfSome result IsStartError }
-    ensures built { result ≡ None → is_built_schema schema.now ≡ true }
-    ensures known { result ≡ None → AllByRecursion (λ e. IsTrue (Z.knows analyzers.now (indexing_tokenizer e))) schema.now }
+    ensures names { result ≡ None → valid.names_fit schema.now ≡ true }
+    ensures known { result ≡ None → AllByRecursion (λ e. IsTrue (Z.knows analyzers.now (indexing_tokenizer e))) schema.now
+        × AreKnown (Z.knows analyzers.now) schema.now }
 {
     if budget < LEAST_BUDGET {
         return Some(TantivyError::InvalidArgument(ArgumentCause::Budget));
     }
     let entries = schema.fields();
-    if !is_built_schema(entries) {
-        return Some(TantivyError::InvalidArgument(ArgumentCause::Later));
-    }
     if !names_fit(entries) {
         return Some(TantivyError::InvalidArgument(ArgumentCause::FieldName));
     }
@@ -42,8 +41,13 @@ pub fn start_refusal<Z: Analyzers>(
         return Some(TantivyError::InvalidArgument(ArgumentCause::Settings));
     }
     schema.fields_are_valid();
-    let field = unknown_tokenizer(analyzers, entries)?;
-    Some(TantivyError::SchemaError(SchemaCause::Tokenizer { field }))
+    if let Some(field) = unknown_tokenizer(analyzers, entries) {
+        return Some(TantivyError::SchemaError(SchemaCause::Tokenizer { field }));
+    }
+    if lack_tokenizers(analyzers, entries) {
+        return Some(TantivyError::InvalidArgument(ArgumentCause::FastTokenizer));
+    }
+    None
 }
 
 /// No name holds U+0000 or U+0001.

@@ -1,14 +1,14 @@
 use Rattle.std.proofs.Common.{[], refl}
 use Rattle.seg_directory.proofs.Exports.{answers, stops}
-use Rattle.seg_build.specs.Finishing.{starves}
+use Rattle.seg_build.specs.Finishing.{fails}
 use Rattle.seg_build.proofs.Finalized.{finishes}
 use Rattle.seg_build.proofs.finishing.finish.Goals as goal
 
-pub returns-in_default-clause-does : goal.returns-in_default-clause-does
-returns-in_default-clause-does g c = starves refl refl
+pub returns-in-Err-clause-does : goal.returns-in-Err-clause-does
+returns-in-Err-clause-does g c = fails c.in-Err.e c.in-Err.ensures.fails refl refl
 
 pub returns-in-Ok-write-clause-does : goal.returns-in-Ok-write-clause-does
-returns-in-Ok-write-clause-does g c = finishes c.in-Ok.ensures c.id-id.ensures (answers c.in-Ok-write.ensures)
+returns-in-Ok-write-clause-does g c = finishes c.in-Ok.ensures.made c.id-id.ensures (answers c.in-Ok-write.ensures)
 
-pub returns-in-Err-clause-does : goal.returns-in-Err-clause-does
-returns-in-Err-clause-does g c = finishes c.in-Ok.ensures c.id-id.ensures (stops [] c.in-Err.ensures)
+pub returns-in-Err-write-clause-does : goal.returns-in-Err-write-clause-does
+returns-in-Err-write-clause-does g c = finishes c.in-Ok.ensures.made c.id-id.ensures (stops [] c.in-Err-write.ensures)

@@ -1,17 +1,27 @@
-use Rattle.std.proofs.Common.{rules, ◌≡◌, true, None, ap, sym, ◌∙◌}
-use Rattle.seg_model.specs.Valid.{names_fit, unknown_tokenizer_of}
-use Rattle.seg_segment.specs.Built.{is_built_schema}
-use Rattle.seg_build.proofs.NoFast.{none_refused}
+use Rattle.std.proofs.Common.{◌≡◌, false, refl, ap, sym, ◌∙◌, subst}
+use Rattle.std.specs.Prelude.{IsTrue}
+use Rattle.std.specs.List.{list_any, AllByRecursion}
+use Rattle.seg_values.specs.declared.schema.FieldEntry.{FieldEntry}
+use Rattle.seg_model.specs.Fields.{indexing_tokenizer}
+use Rattle.seg_model.specs.Valid.{has_unknown_fast_tokenizer, names_fit, unknown_tokenizer_of}
+use Rattle.seg_build.proofs.NoRefusal.{all_known, none_refused}
 use Rattle.seg_build.proofs.writer_start.start_refusal.Goals as goal
 
-pub returns-in_err-field-clause-first : goal.returns-in_err-field-clause-first
-returns-in_err-field-clause-first g c =
+pub returns-clause-first : goal.returns-clause-first
+returns-clause-first g c =
     let known = g.Z.Analyzers.knows c.args.analyzers.now in
-    let schema = c.args.schema.now in
-    let none : c.from_residual.result ≡ None = search rules in
-    let built : is_built_schema schema ≡ true = ap is_built_schema (sym c.fields-entries.ensures) ∙ sym c.is_built_schema.ensures ∙ c.if-not-is_built_schema.false in
-    let names : names_fit schema ≡ true = ap names_fit (sym c.fields-entries.ensures) ∙ sym c.names_fit.ensures ∙ c.if-not-names_fit.false in
-    let all_known : unknown_tokenizer_of known c.fields-entries.result.now ≡ None = sym c.in_err-field.ensures.first in
-    none
-    ∙ sym (none_refused known c.args.budget schema c.args.settings.now c.if-budget-lt-LEAST_BUDGET.false built names (sym c.settings_fit.ensures ∙ c.if-not-settings_fit.false)
-    (ap (unknown_tokenizer_of known) (sym c.fields-entries.ensures) ∙ all_known))
+    let same = sym c.fields-entries.ensures in
+    sym (none_refused known c.args.budget c.args.schema.now c.args.settings.now c.if-budget-lt-LEAST_BUDGET.false
+    (ap names_fit same ∙ sym c.names_fit.ensures ∙ c.if-not-names_fit.false)
+    (sym c.settings_fit.ensures ∙ c.if-not-settings_fit.false)
+    (ap (unknown_tokenizer_of known) same ∙ sym c.in_default.ensures.first)
+    (ap (list_any (has_unknown_fast_tokenizer known)) same ∙ sym c.lack_tokenizers.ensures ∙ c.if-lack_tokenizers.false))
+
+pub returns-clause-known : goal.returns-clause-known
+returns-clause-known g c none =
+    let known = g.Z.Analyzers.knows c.args.analyzers.now in
+    let same = sym c.fields-entries.ensures in
+    let has_all : list_any (has_unknown_fast_tokenizer known) c.args.schema.now ≡ false = ap (list_any (has_unknown_fast_tokenizer known)) same ∙ sym c.lack_tokenizers.ensures ∙ c.if-lack_tokenizers.false in (
+      subst (AllByRecursion (λ (e : FieldEntry). IsTrue (known (indexing_tokenizer e)))) c.fields-entries.ensures (c.in_default.ensures.known refl),
+      all_known known c.args.schema.now has_all,
+    )

@@ -19,7 +19,7 @@ with_document-requires g c =
     let values = c.deref.result.now in
     let are : map (value_in d) values ≡ document_values schema F d = ap (map (value_in d)) c.deref.ensures.value ∙ c.in-Ok.ensures.values ∙ ap (λ s. document_values s F d) c.schema-schema.ensures in
     let keys : AllByRecursion (IsPlainIn d) values = subst (AllByRecursion (IsPlainIn d)) (sym c.deref.ensures.value) c.in-Ok.ensures.keys in
-    record { room = room_of schema F c.self.invariant.0 d taken c.texts_are_utf8.ensures c.args.opstamp c.self.inside.parts c.in-Some.parts (sym c.take.ensures.value ∙ c.in-Some.is) place values are keys c.self.invariant.2 }
+    record { room = room_of schema F d taken c.texts_are_utf8.ensures c.args.opstamp c.self.inside.parts c.in-Some.parts (sym c.take.ensures.value ∙ c.in-Some.is) place (g.Z.Analyzers.knows c.self.inside.analyzers.now) c.self.invariant.2 values are keys c.self.invariant.3 }
 
 pub invariant_of-self-in-Ok-with_document : goal.invariant_of-self-in-Ok-with_document
 invariant_of-self-in-Ok-with_document g c =
@@ -31,8 +31,8 @@ invariant_of-self-in-Ok-with_document g c =
     let taken : is_taken schema F d ≡ true = subst (λ s. is_taken s F d ≡ true) c.schema-schema.ensures (ap is_none c.in-Ok.ensures.ok) in
     let place : length c.in-Some.parts.stamps.items < 2 ^ 31 - 1 = of_parts HasPlace c.self.inside.parts c.in-Some.parts (sym c.take.ensures.value ∙ c.in-Some.is) (subst (λ v. IsSomeAnd v.1.kept HasPlace) (sym c.self.view_is) c.requires) in
     let are : map (value_in d) values ≡ document_values schema F d = ap (map (value_in d)) c.deref.ensures.value ∙ c.in-Ok.ensures.values ∙ ap (λ s. document_values s F d) c.schema-schema.ensures in
-    let took : HasTaken schema d values c.args.opstamp (kept_of c.in-Some.parts) (kept_of new) = subst (λ s. HasTaken s d values c.args.opstamp (kept_of c.in-Some.parts) (kept_of new)) c.schema-schema.ensures c.in-Ok-with_document.ensures in
-    (c.self.invariant.0, c.self.invariant.1, still_under_way schema F c.self.invariant.0 d taken c.texts_are_utf8.ensures c.args.opstamp c.self.inside.parts c.in-Some.parts (sym c.take.ensures.value ∙ c.in-Some.is) place c.documents_stay_in_order.ensures values are new took c.self.invariant.2)
+    let took : HasTaken schema F d values c.args.opstamp (kept_of c.in-Some.parts) (kept_of new) = subst (λ s. HasTaken s F d values c.args.opstamp (kept_of c.in-Some.parts) (kept_of new)) c.schema-schema.ensures c.in-Ok-with_document.ensures in
+    (c.self.invariant.0, c.self.invariant.1, c.self.invariant.2, still_under_way schema F d taken c.texts_are_utf8.ensures c.args.opstamp c.self.inside.parts c.in-Some.parts (sym c.take.ensures.value ∙ c.in-Some.is) place c.documents_stay_in_order.ensures values are new took c.self.invariant.3)
 
 pub returns-in-Ok-with_document-clause-added : goal.returns-in-Ok-with_document-clause-added
 returns-in-Ok-with_document-clause-added g c =
@@ -44,9 +44,9 @@ returns-in-Ok-with_document-clause-added g c =
     let taken : is_taken schema F d ≡ true = subst (λ s. is_taken s F d ≡ true) c.schema-schema.ensures (ap is_none c.in-Ok.ensures.ok) in
     let place : length c.in-Some.parts.stamps.items < 2 ^ 31 - 1 = of_parts HasPlace c.self.inside.parts c.in-Some.parts (sym c.take.ensures.value ∙ c.in-Some.is) (subst (λ v. IsSomeAnd v.1.kept HasPlace) (sym c.self.view_is) c.requires) in
     let are : map (value_in d) values ≡ document_values schema F d = ap (map (value_in d)) c.deref.ensures.value ∙ c.in-Ok.ensures.values ∙ ap (λ s. document_values s F d) c.schema-schema.ensures in
-    let took : HasTaken schema d values c.args.opstamp (kept_of c.in-Some.parts) (kept_of new) = subst (λ s. HasTaken s d values c.args.opstamp (kept_of c.in-Some.parts) (kept_of new)) c.schema-schema.ensures c.in-Ok-with_document.ensures in (
+    let took : HasTaken schema F d values c.args.opstamp (kept_of c.in-Some.parts) (kept_of new) = subst (λ s. HasTaken s F d values c.args.opstamp (kept_of c.in-Some.parts) (kept_of new)) c.schema-schema.ensures c.in-Ok-with_document.ensures in (
       subst (λ v. Adds (g.Z.Analyzers.tokens_of v.0) d c.args.opstamp v.1 (record { schema = schema; id = c.self.inside.segment.meta.id; block_size = c.self.inside.block_size; kept = Some (kept_of new) })) c.self.view_is
-          (adds schema F c.self.invariant.0 d taken c.texts_are_utf8.ensures c.args.opstamp c.self.inside.parts c.in-Some.parts (sym c.take.ensures.value ∙ c.in-Some.is) place c.documents_stay_in_order.ensures values are new took c.self.inside.segment.meta.id c.self.inside.block_size),
+          (adds schema F d taken c.texts_are_utf8.ensures c.args.opstamp c.self.inside.parts c.in-Some.parts (sym c.take.ensures.value ∙ c.in-Some.is) place c.documents_stay_in_order.ensures values are new took c.self.inside.segment.meta.id c.self.inside.block_size),
       tt,
     )
 

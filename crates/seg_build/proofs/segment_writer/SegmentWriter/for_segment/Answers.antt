@@ -3,7 +3,8 @@ use Rattle.std.specs.Prelude.{IsTrue}
 use Rattle.std.specs.List.{AllByRecursion}
 use Rattle.seg_values.specs.declared.schema.FieldEntry.{FieldEntry}
 use Rattle.seg_model.specs.Fields.{indexing_tokenizer}
-use Rattle.seg_segment.specs.Built.{is_built_schema}
+use Rattle.seg_model.specs.Valid.{names_fit}
+use Rattle.seg_fast_writer.specs.FastLeaves.{AreKnown}
 use Rattle.seg_build.specs.SegmentWriting.{kept_of, IsKeptOf}
 use Rattle.seg_build.proofs.segment_writer.SegmentWriter.for_segment.Goals as goal
 
@@ -11,8 +12,9 @@ pub invariant_of-result : goal.invariant_of-result
 invariant_of-result g c =
     let F = g.Z.Analyzers.tokens_of c.args.analyzers.now in
     let knows = g.Z.Analyzers.knows c.args.analyzers.now in (
-      subst (λ s. is_built_schema s ≡ true) c.schema-schema.ensures (c.in_default.ensures.built refl),
-      subst (λ s. AllByRecursion (λ (e : FieldEntry). IsTrue (knows (indexing_tokenizer e))) s) c.schema-schema.ensures (c.in_default.ensures.known refl),
+      subst (λ s. names_fit s ≡ true) c.schema-schema.ensures (c.in_default.ensures.names refl),
+      subst (λ s. AllByRecursion (λ (e : FieldEntry). IsTrue (knows (indexing_tokenizer e))) s) c.schema-schema.ensures (c.in_default.ensures.known refl).0,
+      subst (AreKnown knows) c.schema-schema.ensures (c.in_default.ensures.known refl).1,
       record {
         block_size = c.args.settings.now.docstore_blocksize;
         documents = [];
