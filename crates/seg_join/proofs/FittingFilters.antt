@@ -1,12 +1,11 @@
 -- Filters that fit the segments that they are for.
 use Rattle.std.proofs.Common.{◌≡◌, ◌≢◌, ℕ, suc, ◌+◌, ◌<◌, Bool, true, false, List, [], ◌∷◌, map, length, replicate, drop, get_or, Some, None, Option, Ok, refl, sym, ap, subst, ◌∙◌, arith, ◌^◌, ◌≤◌}
-use Rattle.std.specs.Prelude.{◌&&◌, nat_lt}
-use Rattle.std.specs.Option.{option_or}
+use Rattle.std.specs.Prelude.{◌&&◌}
 use Rattle.std.specs.List.{AllByRecursion}
 use Rattle.std.proofs.lemmas.Bool.{false≢true, le-ltb, lt-ltb}
 use Rattle.std.proofs.lemmas.Bool.Decides.{nat_tests}
 use Rattle.std.proofs.lemmas.List.{drop_more}
-use Rattle.seg_values.specs.declared.error.ArgumentCause.TheVariants.{Documents, Filters, Later}
+use Rattle.seg_values.specs.declared.error.ArgumentCause.TheVariants.{Documents, Filters}
 use Rattle.seg_values.specs.declared.error.TantivyError.{TantivyError}
 use Rattle.seg_values.specs.declared.error.TantivyError.TheVariants.{InvalidArgument}
 use Rattle.seg_directory.specs.State.{DirectoryState}
@@ -15,9 +14,8 @@ use Rattle.seg_model.specs.Checked.{unless}
 use Rattle.seg_model.specs.Fields.{Schema}
 use Rattle.seg_model.specs.Input.{Filter}
 use Rattle.seg_model.specs.Shape.{HasFullShape}
-use Rattle.seg_segment.specs.Built.{is_built_schema}
 use Rattle.seg_open.specs.OpenSegment.{IsOfSchema, OpenSegment, contents_of}
-use Rattle.seg_open.specs.SegmentOpened.{AreReadersOf, FilterFits, FiltersFit, Found, OpensSegments, asked_of, later}
+use Rattle.seg_open.specs.SegmentOpened.{AreReadersOf, FilterFits, FiltersFit, Found, OpensSegments, asked_of}
 use Rattle.seg_join.specs.Merger.{all_fit, fits, merger_refusal, too_many}
 use Rattle.seg_join.proofs.KeptCounts.{HasShape}
 
@@ -87,39 +85,27 @@ opened_schema schema segments filters opened a b same o = of_schema schema segme
 
 -- ---- what is refused
 
-module _ (schema : Schema) (segments : List SegmentParts) (filters : List (Option Filter)) where
-  abbrev by : Bool → Bool → Option TantivyError
-  by built fit = option_or (unless built (InvalidArgument Later)) (unless fit (InvalidArgument Filters))
+module _ (segments : List SegmentParts) (filters : List (Option Filter)) where
+  abbrev by : Bool → Option TantivyError
+  by fit = unless fit (InvalidArgument Filters)
 
-  pub refused_later : is_built_schema schema ≡ false → merger_refusal schema segments filters ≡ Some (InvalidArgument Later)
-  refused_later e = ap (λ b. by b (all_fit filters segments)) e
+  pub refused_filters : all_fit filters segments ≡ false → merger_refusal segments filters ≡ Some (InvalidArgument Filters)
+  refused_filters e = ap by e
 
-  module _ (built : is_built_schema schema ≡ true) where
-    pub refused_filters : all_fit filters segments ≡ false → merger_refusal schema segments filters ≡ Some (InvalidArgument Filters)
-    refused_filters e = ap (λ b. by b (all_fit filters segments)) built ∙ ap (λ b. by true b) e
-
-    pub not_refused : all_fit filters segments ≡ true → merger_refusal schema segments filters ≡ None
-    not_refused e = ap (λ b. by b (all_fit filters segments)) built ∙ ap (λ b. by true b) e
+  pub not_refused : all_fit filters segments ≡ true → merger_refusal segments filters ≡ None
+  not_refused e = ap by e
 
 -- ---- how many documents there are
 
-module _ (schema : Schema) (documents : ℕ) where
-  abbrev told_by : Bool → Bool → Option TantivyError
-  told_by built few = option_or (unless built (InvalidArgument Later)) (unless few (InvalidArgument Documents))
+module _ (documents : ℕ) where
+  abbrev told_by : Bool → Option TantivyError
+  told_by few = unless few (InvalidArgument Documents)
 
-  pub told_later : is_built_schema schema ≡ false → option_or (later schema) (too_many documents) ≡ Some (InvalidArgument Later)
-  told_later e = ap (λ b. told_by b (nat_lt documents (2 ^ 31))) e
+  pub told_none : documents < 2 ^ 31 → too_many documents ≡ None
+  told_none few = ap told_by (lt-ltb documents 2147483648 few)
 
-  module _ (built : is_built_schema schema ≡ true) where
-    pub told_none : documents < 2 ^ 31 → option_or (later schema) (too_many documents) ≡ None
-    told_none few = ap (λ b. told_by b (nat_lt documents (2 ^ 31))) built ∙ ap (λ b. told_by true b) (lt-ltb documents 2147483648 few)
-
-    pub told_many : 2 ^ 31 ≤ documents → option_or (later schema) (too_many documents) ≡ Some (InvalidArgument Documents)
-    told_many many = ap (λ b. told_by b (nat_lt documents (2 ^ 31))) built ∙ ap (λ b. told_by true b) (le-ltb documents 2147483648 many)
-
-    -- what is told beside that the schema is built
-    pub told_number : option_or (later schema) (too_many documents) ≡ too_many documents
-    told_number = ap (λ b. told_by b (nat_lt documents (2 ^ 31))) built
+  pub told_many : 2 ^ 31 ≤ documents → too_many documents ≡ Some (InvalidArgument Documents)
+  told_many many = ap told_by (le-ltb documents 2147483648 many)
 
 -- ---- segments of full shape
 

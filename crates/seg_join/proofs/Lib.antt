@@ -1,4 +1,5 @@
 pub mod Exports
+mod ColumnsJoined
 mod CurrentPosting
 mod FieldSources
 mod JoinedField

@@ -1,6 +1,5 @@
 -- What fills a serializer of a segment that segments are joined to.
 use Rattle.std.specs.Prelude.{ℕ, ◌≡◌, List, map, Some, IsSomeAnd, option_map}
-use Rattle.seg_columnar.specs.Columnar.{rows_of}
 use Rattle.seg_directory.specs.Composite.{composite}
 use Rattle.seg_meta.specs.Metas.{SegmentParts}
 use Rattle.seg_model.specs.Fields.{Schema, fields}
@@ -10,7 +9,8 @@ use Rattle.seg_postings.specs.Files.{FieldFiles}
 use Rattle.seg_segment.specs.HoldTerms.{HoldTerms}
 use Rattle.seg_segment.specs.Serializing.{Serializing}
 use Rattle.seg_segment.specs.Totals.{TellTotals}
-use Rattle.seg_open.specs.OpenSegment.{OpenSegment, kept_count, part_of}
+use Rattle.seg_open.specs.OpenSegment.{OpenSegment, part_of}
+use Rattle.seg_join.specs.JoinedColumns.{HasJoinedColumns}
 use Rattle.seg_join.specs.JoinedStore.{joined_documents, no_documents, taken_documents, with_segments}
 use Rattle.seg_join.specs.JoinedTotals.{joined_total}
 
@@ -33,5 +33,5 @@ pub record IsJoined (segment : SegmentParts) (block_size : ℕ) (readers : List 
   pub postings : IsSomeAnd s.postings (HoldJoined segment.schema readers)
   pub store : s.store ≡ Some (with_segments readers (no_documents block_size))
   pub stored : option_map taken_documents s.store ≡ Some (joined_documents readers)
-  pub rows : rows_of s.fast ≡ Some (kept_count readers)
+  pub columns : HasJoinedColumns segment.schema readers s.fast
   pub norms : IsSomeAnd s.norms (HoldsJoinedNorms segment.schema readers)

@@ -1,10 +1,10 @@
 pub mod DocIdMapping
+pub mod JoinedColumns
 pub mod JoinedNorms
 pub mod JoinedStore
 pub mod JoinedTerms
 pub mod JoinedTotals
 pub mod Joining
-pub mod Laws
 pub mod Merger
 pub mod MovedPostings
 pub mod NewIds

@@ -62,6 +62,12 @@ impl SegmentDocIdMapping {
     {
         &self.addresses
     }
+
+    pub(crate) fn into_addresses(self) -> Vec<RowAddr>
+        ensures { result.items ≡ self.addresses }
+    {
+        self.addresses
+    }
 }
 
 /// Adds the places of the documents of a segment that are alive.

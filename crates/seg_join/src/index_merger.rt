@@ -1,30 +1,26 @@
 //! The merger of segments.
 ghost use Rattle.std.specs.Prelude.{◌≡◌, ◌≢◌, ◌<◌, ◌^◌, ℕ, length, map, None, IfOk, IfErr, OnOk};
 ghost use Rattle.std.specs.List.{AllByRecursion};
-ghost use Rattle.std.specs.Option.{option_or};
 ghost use Rattle.seg_model.specs.Telling.{Tells};
 ghost use Rattle.seg_segment.specs.Serializing.{unfilled};
 ghost use Rattle.seg_open.specs.OpenSegment.{kept_count};
-ghost use Rattle.seg_open.specs.SegmentOpened.{later};
 ghost use Rattle.seg_join.specs.DocIdMapping.{mapping_of};
-ghost use Rattle.seg_join.specs.Merger.{IsMergerOf, OpensMerger, WritesJoined, too_many};
+ghost use Rattle.seg_join.specs.Merger.{IsMergerOf, OpensMerger, WritesJoined, refusal_of, too_many};
 
 use crate::counting::num_joined_docs;
 use crate::doc_id_mapping::SegmentDocIdMapping;
 use crate::filters::{filters_fit, no_filters};
 use crate::segment_joining::join_into;
 use seg_bits::AliveBitSet;
+use seg_columns::ColumnError;
 use seg_directory::Directory;
 use seg_meta::Segment;
 use seg_model::joins_have_full_shape;
 use seg_open::{SegmentReader, open_segments};
-use seg_segment::{SegmentSerializer, is_built_schema};
+use seg_segment::SegmentSerializer;
 use seg_values::{ArgumentCause, Schema, TResult, TantivyError};
 use std::alloc::Global;
 use std::marker::Model;
-
-/// What is asked for is not built yet.
-const LATER: TantivyError = TantivyError::InvalidArgument(ArgumentCause::Later);
 
 /// Merges segments of one schema: the documents of each that are alive, one segment after another. It is seen as the
 /// schema and what the readers have.
@@ -37,9 +33,8 @@ pub struct IndexMerger {
 }
 
 impl Model for IndexMerger {
-    ghost use Rattle.std.specs.Prelude.{◌≡◌, ◌<◌, ◌^◌, true};
+    ghost use Rattle.std.specs.Prelude.{◌≡◌, ◌<◌, ◌^◌};
     ghost use Rattle.std.specs.List.{AllByRecursion};
-    ghost use Rattle.seg_segment.specs.Built.{is_built_schema};
     ghost use Rattle.seg_open.specs.OpenSegment.{IsMarked, IsOfSchema, kept_count};
     ghost use Rattle.seg_join.specs.Merger.{Merging};
 
@@ -47,7 +42,7 @@ impl Model for IndexMerger {
 
     ghost view = { λ m. record { schema = m.schema; readers = m.readers.items } };
 
-    ghost invariant = { λ m. (is_built_schema m.schema ≡ true) × AllByRecursion (IsOfSchema m.schema) m.readers.items
+    ghost invariant = { λ m. AllByRecursion (IsOfSchema m.schema) m.readers.items
         × AllByRecursion IsMarked m.readers.items × (m.max_doc ≡ kept_count m.readers.items) × (m.max_doc < 2 ^ 31) };
 }
 
@@ -71,9 +66,9 @@ impl IndexMerger {
     }
 
     /// Opens the segments, each under its filter: of the documents that are alive, it keeps those of its set.
-    /// `Filters`: there are not as many filters as segments, or a set is not of as many documents as its segment has;
-    /// before it `Later`, for a schema that is not built yet. Then come the errors of `SegmentReader::open`, segment by
-    /// segment; and last `Documents`, where 2^31 documents or more are alive.
+    /// `Filters`: there are not as many filters as segments, or a set is not of as many documents as its segment has.
+    /// Then come the errors of `SegmentReader::open`, segment by segment; and last `Documents`, where 2^31 documents or
+    /// more are alive.
     pub fn open_with_custom_alive_set<W: Directory>(
         alloc: Global,
         schema: Schema,
@@ -85,9 +80,6 @@ impl IndexMerger {
         ensures { OpensMerger schema segments.now filters.items result
             (W.state directory.old) (W.state directory.new) }
     {
-        if !is_built_schema(schema.fields()) {
-            return Err(LATER);
-        }
         if !filters_fit(segments, &filters) {
             return Err(TantivyError::InvalidArgument(ArgumentCause::Filters));
         }
@@ -97,21 +89,17 @@ impl IndexMerger {
         }
     }
 
-    /// Of segments that are open. `Documents`: 2^31 documents or more are alive; `Later`, before that: the schema is
-    /// not built yet.
+    /// Of segments that are open. `Documents`: 2^31 documents or more are alive.
     pub fn from_readers(
         alloc: Global,
         schema: Schema,
         readers: Vec<SegmentReader>,
     ) -> TResult<IndexMerger>
         requires schema { AllByRecursion (λ r. r.schema ≡ schema) readers.items }
-        ensures told { Tells (option_or (later schema) (too_many (kept_count readers.items))) result }
+        ensures told { Tells (too_many (kept_count readers.items)) result }
         ensures ok { IfOk result (IsMergerOf schema readers.items) }
         ensures err { IfErr result (λ e. e ≢ TantivyError.OutOfMemory) }
     {
-        if !is_built_schema(schema.fields()) {
-            return Err(LATER);
-        }
         match num_joined_docs(&readers) {
             Some(max_doc) => Ok(IndexMerger {
                 alloc,
@@ -151,7 +139,8 @@ impl IndexMerger {
     }
 
     /// Makes the six files of a segment of the merger's schema, whose serializer has nothing yet, in a directory, and
-    /// answers how many documents it has.
+    /// answers how many documents it has. `Numbers`, before any file is made: the documents have numbers under one path
+    /// that no type of column holds together.
     pub fn write<O: Directory>(
         &mut self,
         serializer: SegmentSerializer,
@@ -167,12 +156,23 @@ impl IndexMerger {
         ensures few { OnOk result (kept_count self.old.readers < 2 ^ 31) }
     {
         joins_have_full_shape();
-        let Ok(filled) = join_into(self.alloc, serializer, &self.readers, self.max_doc) else {
-            return Err(TantivyError::OutOfMemory);
+        let filled = match join_into(self.alloc, serializer, &self.readers) {
+            Ok(filled) => filled,
+            Err(error) => return Err(refusal(error)),
         };
         match filled.close(directory) {
             Ok(()) => Ok(self.max_doc),
             Err(e) => Err(e),
         }
+    }
+}
+
+/// Why segments are not merged, by why their columns are not.
+fn refusal(error: ColumnError) -> TantivyError
+    ensures { result ≡ refusal_of error }
+{
+    match error {
+        ColumnError::Mixed => TantivyError::InvalidArgument(ArgumentCause::Numbers),
+        _ => TantivyError::OutOfMemory,
     }
 }

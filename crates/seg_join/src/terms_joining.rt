@@ -1,7 +1,6 @@
 //! The terms of segments, joined.
-ghost use Rattle.std.specs.Prelude.{◌≡◌, ◌<◌, ◌^◌, true, map, IfOk, IsSomeAnd};
+ghost use Rattle.std.specs.Prelude.{◌≡◌, ◌<◌, ◌^◌, map, IfOk, IsSomeAnd};
 ghost use Rattle.std.specs.List.{AllByRecursion};
-ghost use Rattle.seg_segment.specs.Built.{is_built_schema};
 ghost use Rattle.seg_join.specs.JoinedTerms.{IsOpenAt, source_of};
 ghost use Rattle.seg_join.specs.JoinedTotals.{tokens_in};
 ghost use Rattle.seg_join.specs.Joining.{HoldJoined};
@@ -25,7 +24,6 @@ pub(crate) fn join_terms(
     schema: &Schema,
     parts: &[SegmentReader],
 ) -> Result<InvertedIndexSerializer, AllocError>
-    requires built { is_built_schema schema.now ≡ true }
     requires parts { AllByRecursion (IsOfSchema schema.now) parts.now }
     requires few { kept_count parts.now < 2 ^ 31 }
     ensures { IfOk result (λ files. IsSomeAnd files (HoldJoined schema.now parts.now)) }

@@ -15,7 +15,7 @@ loop-part-preserved c =
       few = omega (arith, c.if-live-count.false);
       counted = omega (arith, split, c.num_docs-live.ensures, c.loop-part.invariant.counted);
       marked = λ rest. c.loop-part.invariant.marked (all_first IsMarked parts i p c.loop-part-test.true c.part-item.is c.documents_are_marked.ensures rest);
-      shape = λ rest. c.loop-part.invariant.shape (all_first HasShape parts i p c.loop-part-test.true c.part-item.is c.contents_have_full_shape.ensures.shape rest);
+      shape = λ rest. c.loop-part.invariant.shape (all_first HasShape parts i p c.loop-part-test.true c.part-item.is c.contents_have_full_shape.ensures rest);
     }
 
 pub returns-then-live-count-clause-counted : goal.returns-then-live-count-clause-counted

@@ -10,7 +10,7 @@ use Rattle.seg_join.proofs.live_tokens.live_lengths.Goals as goal
 pub sum_of_lengths-requires : goal.sum_of_lengths-requires
 sum_of_lengths-requires c =
     let at = sym (ap (λ ps. field_of ps c.args.field) c.fieldnorms_readers.ensures) ∙ sym c.get_field.ensures ∙ c.in-Some.is in
-    ids_many c.args.part.now c.args.field c.requires c.contents_have_full_shape.ensures.shape c.in-Some.norms at
+    ids_many c.args.part.now c.args.field c.requires c.contents_have_full_shape.ensures c.in-Some.norms at
 
 pub returns-in-Some : goal.returns-in-Some
 returns-in-Some c =

@@ -12,7 +12,7 @@ returns-clause-stored c =
     let blocks = part.blocks in
     let same : c.store_reader.result.now ≡ blocks = c.store_reader.ensures in
     let all : document_count blocks ≡ length (documents_of blocks) = sym (ap document_count same) ∙ sym c.num_docs.ensures.counted ∙ c.num_docs.ensures.documents ∙ ap (λ bs. length (documents_of bs)) same in
-    let marks : length part.alive ≡ length (raw_documents blocks) = omega (arith, c.documents_are_marked.ensures, c.contents_have_full_shape.ensures.shape.stored, all, raw_counted blocks) in
+    let marks : length part.alive ≡ length (raw_documents blocks) = omega (arith, c.documents_are_marked.ensures, c.contents_have_full_shape.ensures.stored, all, raw_counted blocks) in
     record {
       reads = kept_are_read part.alive blocks all;
       whole = λ stacks. kept_all part.alive (raw_documents blocks) (and_parts (list_all (λ (b : Bool). b) part.alive) _ stacks).0 marks;

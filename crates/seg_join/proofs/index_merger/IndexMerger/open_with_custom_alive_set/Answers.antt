@@ -1,26 +1,16 @@
-use Rattle.std.proofs.Common.{◌≡◌, ◌∙◌, Err, List, Ok, Option, ap, refl, subst, sym, true}
-use Rattle.seg_values.specs.declared.error.TantivyError.{TantivyError}
+use Rattle.std.proofs.Common.{◌∙◌, Err, List, Ok, Option, ap, refl, subst, sym}
 use Rattle.seg_values.specs.declared.error.TantivyError.TheVariants.{InvalidArgument}
-use Rattle.seg_values.specs.declared.error.ArgumentCause.TheVariants.{Filters, Later}
+use Rattle.seg_values.specs.declared.error.ArgumentCause.TheVariants.{Filters}
 use Rattle.seg_model.specs.Input.{Filter}
-use Rattle.seg_model.specs.Telling.{Tells}
-use Rattle.seg_segment.specs.Built.{is_built_schema}
-use Rattle.seg_open.specs.OpenSegment.{kept_count}
 use Rattle.seg_open.specs.SegmentOpened.{OpensSegments, asked_of}
 use Rattle.seg_join.specs.Merger.{all_fit, opens, refuses, stops}
-use Rattle.seg_join.proofs.FittingFilters.{are_fitting, not_refused, opened_schema, refused_filters, refused_later, told_number}
+use Rattle.seg_join.proofs.FittingFilters.{are_fitting, not_refused, opened_schema, refused_filters}
 use Rattle.seg_join.proofs.index_merger.IndexMerger.open_with_custom_alive_set.Goals as goal
-
-pub returns-then-not-is_built_schema : goal.returns-then-not-is_built_schema
-returns-then-not-is_built_schema g c =
-    refuses (InvalidArgument Later) refl
-    (refused_later c.args.schema c.args.segments.now c.args.filters.items (ap is_built_schema (sym c.fields.ensures) ∙ sym c.is_built_schema.ensures ∙ c.if-not-is_built_schema.true)) refl
 
 pub returns-then-not-filters_fit : goal.returns-then-not-filters_fit
 returns-then-not-filters_fit g c =
-    let built : is_built_schema c.args.schema ≡ true = ap is_built_schema (sym c.fields.ensures) ∙ sym c.is_built_schema.ensures ∙ c.if-not-is_built_schema.false in
     refuses (InvalidArgument Filters) refl
-    (refused_filters c.args.schema c.args.segments.now c.args.filters.items built
+    (refused_filters c.args.segments.now c.args.filters.items
     (ap (λ (fs : List (Option Filter)). all_fit fs c.args.segments.now) (sym c.deref.ensures.value) ∙ sym c.filters_fit.ensures ∙ c.if-not-filters_fit.true)) refl
 
 pub open_segments-requires : goal.open_segments-requires
@@ -40,12 +30,11 @@ returns-in-Ok g c =
     let b = g.W.Directory.state c.open_segments.new.directory in
     let readers = c.in-Ok.readers.items in
     let segments = c.args.segments.now in
-    let built : is_built_schema c.args.schema ≡ true = ap is_built_schema (sym c.fields.ensures) ∙ sym c.is_built_schema.ensures ∙ c.if-not-is_built_schema.false in
     opens readers
-    (not_refused c.args.schema segments c.args.filters.items built
+    (not_refused segments c.args.filters.items
     (ap (λ (fs : List (Option Filter)). all_fit fs segments) (sym c.deref.ensures.value) ∙ sym c.filters_fit.ensures ∙ c.if-not-filters_fit.false))
     (subst (λ (fs : List (Option Filter)). OpensSegments (asked_of segments fs) (Ok readers) a b) c.deref-2.ensures.value c.in-Ok.ensures)
-    (subst (λ (o : Option TantivyError). Tells o c.from_readers.result) (told_number c.args.schema (kept_count readers) built) c.from_readers.ensures.told)
+    c.from_readers.ensures.told
     c.from_readers.ensures.ok
 
 pub returns-in-Err : goal.returns-in-Err
@@ -53,8 +42,7 @@ returns-in-Err g c =
     let a = g.W.Directory.state c.args.directory.now in
     let b = g.W.Directory.state c.open_segments.new.directory in
     let segments = c.args.segments.now in
-    let built : is_built_schema c.args.schema ≡ true = ap is_built_schema (sym c.fields.ensures) ∙ sym c.is_built_schema.ensures ∙ c.if-not-is_built_schema.false in
     stops c.in-Err.e refl
-    (not_refused c.args.schema segments c.args.filters.items built
+    (not_refused segments c.args.filters.items
     (ap (λ (fs : List (Option Filter)). all_fit fs segments) (sym c.deref.ensures.value) ∙ sym c.filters_fit.ensures ∙ c.if-not-filters_fit.false))
     (subst (λ (fs : List (Option Filter)). OpensSegments (asked_of segments fs) (Err c.in-Err.e) a b) c.deref-2.ensures.value c.in-Err.ensures)

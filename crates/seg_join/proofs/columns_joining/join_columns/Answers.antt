@@ -1,0 +1,31 @@
+use Rattle.std.proofs.Common.{◌∙◌, ap, map}
+use Rattle.std.proofs.lemmas.Result.{MatchResult-weaker}
+use Rattle.seg_columnar.specs.ColumnFiles.{ColumnFile}
+use Rattle.seg_columns_merged.specs.MergedColumns.{required_key}
+use Rattle.seg_open.specs.OpenSegment.{part_of}
+use Rattle.seg_join.proofs.ColumnsJoined.{fails, few_rows, has_joined, have_columns, may_merge}
+use Rattle.seg_join.proofs.columns_joining.join_columns.Goals as goal
+
+pub merge_columnar-requires : goal.merge_columnar-requires
+merge_columnar-requires c =
+    let schema = c.args.schema.now in
+    let parts = c.args.parts.now in
+    let have = have_columns schema parts c.requires.parts c.in-Ok.ensures.own in
+    may_merge schema parts _ _ _
+    (ap (map required_key) c.as_slice-2.ensures.value ∙ c.in-Ok-declared_columns.ensures)
+    (c.as_slice.ensures.value ∙ c.in-Ok.ensures.are)
+    (c.in-Ok-live_order.ensures (map (λ (f : ColumnFile). f.rows) c.as_slice.result.now))
+    (c.live_columns_join.ensures.can schema _ (map part_of parts) c.fields_are_valid.ensures have (few_rows parts c.requires.few))
+
+pub returns : goal.returns
+returns c =
+    let schema = c.args.schema.now in
+    let parts = c.args.parts.now in
+    let have = have_columns schema parts c.requires.parts c.in-Ok.ensures.own in
+    let declared = ap (map required_key) c.as_slice-2.ensures.value ∙ c.in-Ok-declared_columns.ensures in
+    let read = c.as_slice.ensures.value ∙ c.in-Ok.ensures.are in
+    let alive = c.in-Ok-live_order.ensures (map (λ (f : ColumnFile). f.rows) c.as_slice.result.now) in
+    let law = c.live_columns_join.ensures.columns schema _ (map part_of parts) have in
+    MatchResult-weaker c.merge_columnar.result c.merge_columnar.ensures
+    (λ file merged. has_joined schema parts _ _ _ declared read alive law file.items merged)
+    (λ error told. fails schema parts _ _ _ declared read alive law error told)
