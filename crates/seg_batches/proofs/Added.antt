@@ -12,6 +12,7 @@ use Rattle.seg_values.specs.declared.error.TantivyError.{TantivyError}
 use Rattle.seg_values.specs.declared.error.TantivyError.TheVariants.{SchemaError, InvalidArgument, SystemError, OutOfMemory}
 use Rattle.seg_model.specs.Built.{is_taken}
 use Rattle.seg_model.specs.Checked.{Cause, at_place, document_refusal}
+use Rattle.seg_model.specs.Columns.{columns}
 use Rattle.seg_model.specs.Fields.{Schema, Analyzer}
 use Rattle.seg_model.specs.Operations.{Operation, add, delete, delete_all, additions}
 use Rattle.seg_model.specs.Refused.{operation_refusal, batch_error}
@@ -23,6 +24,7 @@ use Rattle.seg_build.specs.Kept.{Kept}
 use Rattle.seg_build.specs.SegmentWriting.{SegmentWriting, AddsNone, IsKeptOf, IsFull, Tells, Writes}
 use Rattle.seg_build.specs.Totals.{TotalsAreCounts}
 use Rattle.seg_batches.specs.Indexing.{AreOfBatch, HasAdditions, IsNotTaken, IsTaken, IsUnused}
+use Rattle.seg_batches.proofs.BatchSteps.{mixed_refused}
 use Rattle.seg_batches.proofs.CountsTold.{counts_told}
 use Rattle.seg_batches.proofs.Refused.{refused_from, refused_at}
 use Rattle.seg_batches.proofs.SegmentTurns.{additions-append}
@@ -156,6 +158,28 @@ module _ (schema : Schema) (analyzer : Analyzer) (first : ℕ) (operations : Lis
       by None k = absurd k
       by (Some kept) k = ap (λ s. list_all (is_taken s analyzer) (additions operations)) (sym same) ∙ k.taken
 
+  writes : (given : Analyzer) → given ≡ analyzer → Writes given (additions operations) (addition_stamps first operations) writer
+  writes given is = subst (λ a. Writes a (additions operations) (addition_stamps first operations) writer) (sym is) has
+
+  -- why no segment is made of it
+  pub not_made : (given : Analyzer) → given ≡ analyzer → length (additions operations) < 2 ^ 31 → (e : TantivyError)
+      → ((e ≡ SystemError) × (writer.kept ≡ None))
+      ⊎ ((e ≡ OutOfMemory)
+      ⊎ ((e ≡ InvalidArgument argument.Numbers)
+      × ((ds : List Document) (stamps : List ℕ) → Writes given ds stamps writer → columns writer.schema given ds ≡ None)))
+      → (batch_error schema analyzer first operations ≡ Some e) ⊎ (e ≡ OutOfMemory)
+  not_made given is few e (inl (lacks, none)) =
+      absurd (subst (λ o. IsSomeAnd o (IsKeptOf writer.schema analyzer writer.block_size (additions operations) (addition_stamps first operations))) none has)
+  not_made given is few e (inr (inl memory)) = inr memory
+  not_made given is few e (inr (inr (told, mixed))) =
+      inl
+      (mixed_refused schema analyzer first operations few were_taken
+      (sym
+      (ap (λ a. columns writer.schema a (additions operations)) is
+      ∙ ap (λ s. columns s analyzer (additions operations)) same)
+      ∙ mixed (additions operations) (addition_stamps first operations) (writes given is))
+      ∙ ap (λ d. Some d) (sym told))
+
   -- the segment that is made of the writer
   pub of_batch : (given : Analyzer) (segment : MemorySegment) → given ≡ analyzer
       → length (additions operations) < 2 ^ 31
@@ -169,18 +193,15 @@ module _ (schema : Schema) (analyzer : Analyzer) (first : ℕ) (operations : Lis
     totals =
         counts_told schema analyzer (additions operations) segment.files stands
         (subst (λ (fs : List FieldTerms). TotalsAreCounts segment.files.postings fs) gathered counts);
-    stamped = stamps (additions operations) (addition_stamps first operations) writes;
+    stamped = stamps (additions operations) (addition_stamps first operations) (writes given is);
     few = few;
   }
     where
-      writes : Writes given (additions operations) (addition_stamps first operations) writer
-      writes = subst (λ a. Writes a (additions operations) (addition_stamps first operations) writer) (sym is) has
-
       stands : StandFor schema analyzer (additions operations) segment.files
-      stands = subst (λ s. StandFor s analyzer (additions operations) segment.files) same (subst (λ a. StandFor writer.schema a (additions operations) segment.files) is (stand (additions operations) (addition_stamps first operations) writes))
+      stands = subst (λ s. StandFor s analyzer (additions operations) segment.files) same (subst (λ a. StandFor writer.schema a (additions operations) segment.files) is (stand (additions operations) (addition_stamps first operations) (writes given is)))
 
       gathered : segment.fields ≡ fields_of schema analyzer (additions operations)
       gathered =
-          fields (additions operations) (addition_stamps first operations) writes
+          fields (additions operations) (addition_stamps first operations) (writes given is)
           ∙ ap (λ a. fields_of writer.schema a (additions operations)) is
           ∙ ap (λ s. fields_of s analyzer (additions operations)) same

@@ -85,16 +85,32 @@ module _ (schema : Schema) (analyzer : Analyzer) where
       by None h = absurd (none-some contents h)
       by (Some cs) h = refl
 
+  -- a batch of few documents that are taken is refused for their numbers alone
+  up_to_numbers : (first : ℕ) (operations : List Operation)
+      → length (additions operations) < 2 ^ 31 → list_all (is_taken schema analyzer) (additions operations) ≡ true
+      → batch_refusal schema analyzer (enumerate_from first operations) ≡ numbers_refusal schema analyzer (additions operations)
+  up_to_numbers first operations few taken =
+      let same : added_by (enumerate_from first operations) ≡ additions operations = ap additions (unnumbered first operations) in
+      ap (λ ds. option_or (count_refusal ds) (option_or (first_of (λ p. operation_refusal schema analyzer p.0 p.1) (enumerate_from first operations)) (numbers_refusal schema analyzer ds))) same
+      ∙ ap (λ b. option_or (unless b (InvalidArgument Documents)) (option_or (first_of (λ p. operation_refusal schema analyzer p.0 p.1) (enumerate_from first operations)) (numbers_refusal schema analyzer (additions operations)))) ((Decides-ltb (length (additions operations)) (2 ^ 31)).1 few)
+      ∙ ap (λ o. option_or o (numbers_refusal schema analyzer (additions operations))) (none_refused first operations taken)
+
+  -- one whose documents have no columns is
+  pub mixed_refused : (first : ℕ) (operations : List Operation)
+      → length (additions operations) < 2 ^ 31 → list_all (is_taken schema analyzer) (additions operations) ≡ true
+      → columns schema analyzer (additions operations) ≡ None
+      → batch_refusal schema analyzer (enumerate_from first operations) ≡ Some (InvalidArgument Numbers)
+  mixed_refused first operations few taken none =
+      up_to_numbers first operations few taken
+      ∙ ap (λ (o : Option Columns). unless (is_some o) (InvalidArgument Numbers)) none
+
   -- a batch that is made is not refused
   pub not_refused : (first : ℕ) (operations : List Operation) (files : SegmentFiles)
       → length (additions operations) < 2 ^ 31 → list_all (is_taken schema analyzer) (additions operations) ≡ true
       → StandFor schema analyzer (additions operations) files
       → batch_refusal schema analyzer (enumerate_from first operations) ≡ None
   not_refused first operations files few taken made =
-      let same : added_by (enumerate_from first operations) ≡ additions operations = ap additions (unnumbered first operations) in
-      ap (λ ds. option_or (count_refusal ds) (option_or (first_of (λ p. operation_refusal schema analyzer p.0 p.1) (enumerate_from first operations)) (numbers_refusal schema analyzer ds))) same
-      ∙ ap (λ b. option_or (unless b (InvalidArgument Documents)) (option_or (first_of (λ p. operation_refusal schema analyzer p.0 p.1) (enumerate_from first operations)) (numbers_refusal schema analyzer (additions operations)))) ((Decides-ltb (length (additions operations)) (2 ^ 31)).1 few)
-      ∙ ap (λ o. option_or o (numbers_refusal schema analyzer (additions operations))) (none_refused first operations taken)
+      up_to_numbers first operations few taken
       ∙ ap (λ b. unless b (InvalidArgument Numbers)) (have_columns (additions operations) made.contents made.read)
 
 -- ---- an error before a file is made

@@ -1,18 +1,22 @@
--- What holds of all batches where none is refused: their documents are taken, and a segment can number those of each.
-use Rattle.std.proofs.Common.{◌≡◌, ◌∙◌, ℕ, ◌-◌, ◌^◌, ◌<◌, Bool, true, List, [], ◌∷◌, ◌++◌, map, length, take, drop, None, Option, refl, sym, ap, subst}
-use Rattle.std.specs.Prelude.{◌&&◌, is_none}
+-- What holds of all batches where none is refused: their documents are taken, and a segment can hold those of each.
+use Rattle.std.proofs.Common.{◌≡◌, ◌∙◌, ℕ, ◌-◌, Bool, true, List, [], ◌∷◌, ◌++◌, map, length, take, drop, None, Option, refl, sym, ap, subst}
+use Rattle.std.specs.Prelude.{◌&&◌, is_none, is_some}
 use Rattle.std.specs.List.{AllByRecursion, enumerate_from, list_all, take-map, drop-map}
 use Rattle.std.specs.Option.{option_or}
 use Rattle.std.proofs.lemmas.List.{map-append, take-append-drop}
 use Rattle.std.proofs.lemmas.Bool.{and_parts}
 use Rattle.seg_common.proofs.Lists.{unnumbered}
+use Rattle.seg_values.specs.declared.error.ArgumentCause.TheVariants.{Numbers}
 use Rattle.seg_values.specs.declared.error.TantivyError.{TantivyError}
+use Rattle.seg_values.specs.declared.error.TantivyError.TheVariants.{InvalidArgument}
 use Rattle.seg_model.specs.Built.{is_taken}
 use Rattle.seg_model.specs.Checked.{Cause, at_place, document_refusal, first_of}
+use Rattle.seg_model.specs.Columns.{columns}
 use Rattle.seg_model.specs.Fields.{Schema, Analyzer}
-use Rattle.seg_model.specs.Operations.{Operation, add, delete, delete_all, Batch, additions, batches_from}
+use Rattle.seg_model.specs.Operations.{Operation, add, delete, delete_all, additions, batches_from}
 use Rattle.seg_model.specs.Refused.{added_by, batch_refusal, count_refusal, cut_from, numbers_refusal, operation_refusal}
-use Rattle.seg_model.proofs.Exports.{none_count, none_map, or_both}
+use Rattle.seg_model.specs.Valid.{FitsSegment}
+use Rattle.seg_model.proofs.Exports.{Fits, none_count, none_map, or_both, unless_true}
 use Rattle.seg_batches.specs.Writing.{batch_cause}
 
 -- ---- documents
@@ -31,10 +35,6 @@ all_of_both p (x ∷ xs) ys h k =
     ap (λ b. b && list_all p (xs ++ ys)) parts.0 ∙ all_of_both p xs ys parts.1 k
 
 -- ---- where no batch is refused
-
--- a segment can number the documents of a batch
-abbrev pub IsFew : Batch → Type 0
-IsFew batch = length batch.documents < 2 ^ 31
 
 module _ (schema : Schema) (analyzer : Analyzer) where
   -- operations of which none is refused add documents that are taken
@@ -59,25 +59,37 @@ module _ (schema : Schema) (analyzer : Analyzer) where
     unrefused : batch_refusal schema analyzer part ≡ None
     unrefused = (or_both start (batch_refusal schema analyzer part) none).1
 
-    part_few : length (added_by part) < 2 ^ 31
-    part_few =
-        none_count schema analyzer (added_by part) (or_both (count_refusal (added_by part)) (option_or (first_of (λ p. operation_refusal schema analyzer p.0 p.1) part) (numbers_refusal schema analyzer (added_by part))) unrefused).0
+    abbrev first_refused : Option TantivyError
+    first_refused = first_of (λ p. operation_refusal schema analyzer p.0 p.1) part
+
+    abbrev in_numbers : Option TantivyError
+    in_numbers = numbers_refusal schema analyzer (added_by part)
+
+    counted : (count_refusal (added_by part) ≡ None) × (option_or first_refused in_numbers ≡ None)
+    counted = or_both (count_refusal (added_by part)) (option_or first_refused in_numbers) unrefused
+
+    part_fits : FitsSegment schema analyzer (added_by part)
+    part_fits = record {
+      few = none_count schema analyzer (added_by part) counted.0;
+      columns =
+          unless_true (is_some (columns schema analyzer (added_by part))) (InvalidArgument Numbers)
+          (or_both first_refused in_numbers counted.1).1;
+    }
 
     part_taken : list_all (is_taken schema analyzer) (added_by part) ≡ true
-    part_taken = taken_of part
-        (or_both (first_of (λ p. operation_refusal schema analyzer p.0 p.1) part) (numbers_refusal schema analyzer (added_by part))
-        (or_both (count_refusal (added_by part)) (option_or (first_of (λ p. operation_refusal schema analyzer p.0 p.1) part) (numbers_refusal schema analyzer (added_by part))) unrefused).1).0
+    part_taken = taken_of part (or_both first_refused in_numbers counted.1).0
 
   abbrev AllNone : Option TantivyError → ℕ → List ℕ → List (ℕ × Operation) → Type 0
   AllNone start first cuts xs =
       AllByRecursion (λ cause. cause ≡ None) (map (batch_cause start schema analyzer) (cut_from first cuts xs))
 
-  few_from : (start : Option TantivyError) (first : ℕ) (cuts : List ℕ) (xs : List (ℕ × Operation))
-      → AllNone start first cuts xs → AllByRecursion IsFew (batches_from schema analyzer first cuts (map (λ p. p.1) xs))
-  few_from start first [] xs none = (part_few start xs none.0, tt)
-  few_from start first (cut ∷ cuts) xs none = (
-    subst (λ (os : List Operation). length (additions os) < 2 ^ 31) (sym (take-map (λ (p : ℕ × Operation). p.1) (cut - first) xs)) (part_few start (take (cut - first) xs) none.0),
-    subst (λ (os : List Operation). AllByRecursion IsFew (batches_from schema analyzer cut cuts os)) (sym (drop-map (λ (p : ℕ × Operation). p.1) (cut - first) xs)) (few_from start cut cuts (drop (cut - first) xs) none.1),
+  fits_from : (start : Option TantivyError) (first : ℕ) (cuts : List ℕ) (xs : List (ℕ × Operation))
+      → AllNone start first cuts xs
+      → AllByRecursion (Fits schema analyzer) (batches_from schema analyzer first cuts (map (λ p. p.1) xs))
+  fits_from start first [] xs none = (part_fits start xs none.0, tt)
+  fits_from start first (cut ∷ cuts) xs none = (
+    subst (λ (os : List Operation). FitsSegment schema analyzer (additions os)) (sym (take-map (λ (p : ℕ × Operation). p.1) (cut - first) xs)) (part_fits start (take (cut - first) xs) none.0),
+    subst (λ (os : List Operation). AllByRecursion (Fits schema analyzer) (batches_from schema analyzer cut cuts os)) (sym (drop-map (λ (p : ℕ × Operation). p.1) (cut - first) xs)) (fits_from start cut cuts (drop (cut - first) xs) none.1),
   )
 
   taken_from : (start : Option TantivyError) (first : ℕ) (cuts : List ℕ) (xs : List (ℕ × Operation))
@@ -93,9 +105,9 @@ module _ (schema : Schema) (analyzer : Analyzer) where
 
   module _ (start : Option TantivyError) (cuts : List ℕ) (operations : List Operation)
       (none : AllNone start 0 cuts (enumerate_from 0 operations)) where
-    pub all_few : AllByRecursion IsFew (batches_from schema analyzer 0 cuts operations)
-    all_few =
-        subst (λ (os : List Operation). AllByRecursion IsFew (batches_from schema analyzer 0 cuts os)) (unnumbered 0 operations) (few_from start 0 cuts (enumerate_from 0 operations) none)
+    pub all_fit : AllByRecursion (Fits schema analyzer) (batches_from schema analyzer 0 cuts operations)
+    all_fit =
+        subst (λ (os : List Operation). AllByRecursion (Fits schema analyzer) (batches_from schema analyzer 0 cuts os)) (unnumbered 0 operations) (fits_from start 0 cuts (enumerate_from 0 operations) none)
 
     pub all_taken : list_all (is_taken schema analyzer) (additions operations) ≡ true
     all_taken =

@@ -1,7 +1,6 @@
 //! Which documents of a batch deletes leave.
-ghost use Rattle.std.specs.Prelude.{◌≡◌, ◌≤◌, true, length, map, take, drop, IfOk};
+ghost use Rattle.std.specs.Prelude.{◌≡◌, ◌≤◌, length, map, take, drop, IfOk};
 ghost use Rattle.seg_deletes.specs.declared.doc_opstamp_mapping.DocToOpstampMapping.TheVariants.{WithMap};
-ghost use Rattle.seg_segment.specs.Built.{is_built_schema};
 ghost use Rattle.seg_open.specs.OpenSegment.{terms_in};
 ghost use Rattle.seg_open.specs.SegmentOpened.{HasFilesOf};
 ghost use Rattle.seg_batches.specs.Applying.{IsTold, KeepsDeletes, left_by, term_names};
@@ -33,7 +32,6 @@ pub(crate) fn alive_documents(
     queue: &mut DeleteQueue<TermTarget>,
     cursor: &mut DeleteCursor,
 ) -> TResult<Option<BitSet>>
-    requires built { is_built_schema segment.now.schema ≡ true }
     requires number { segment.now.meta.documents ≡ length stamps.now }
     requires whole { AreWhole segment.now.schema files.now segment.now.meta.documents }
     requires cursor { cursor.old ≤ queue.old.flushed }
@@ -71,7 +69,6 @@ fn open_made(
     segment: &Segment,
     files: &SegmentFiles,
 ) -> Result<SegmentReader, AllocError>
-    requires built { is_built_schema segment.now.schema ≡ true }
     requires whole { AreWhole segment.now.schema files.now segment.now.meta.documents }
     ensures { IfOk result (HasFilesOf segment.now files.now) }
 {

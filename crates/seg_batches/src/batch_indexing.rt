@@ -41,7 +41,7 @@ pub(crate) fn index_batch<Z: Analyzers>(
     }
     match writer.into_segment() {
         Ok(segment) => Ok(segment),
-        Err(_) => Err(TantivyError::OutOfMemory),
+        Err(e) => Err(e),
     }
 }
 

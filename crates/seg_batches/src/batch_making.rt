@@ -1,7 +1,6 @@
 //! The segment of a batch, and which of its documents later deletes leave.
-ghost use Rattle.std.specs.Prelude.{◌≡◌, ◌≤◌, ◌<◌, ◌+◌, ◌^◌, true, length, map, take, IfOk};
+ghost use Rattle.std.specs.Prelude.{◌≡◌, ◌≤◌, ◌<◌, ◌+◌, ◌^◌, length, map, take, IfOk};
 ghost use Rattle.std.specs.List.{enumerate_from};
-ghost use Rattle.seg_segment.specs.Built.{is_built_schema};
 ghost use Rattle.seg_input.specs.View.{operation_of};
 ghost use Rattle.seg_build.specs.WriterStart.{start_refusal};
 ghost use Rattle.seg_batches.specs.Indexing.{AreOfBatch};
@@ -36,8 +35,8 @@ pub(crate) struct MadeBatch {
 /// Makes the segment of a batch, whose first operation has the place `first`. The queue is of the deletes of all
 /// operations, in the batch and after it too, and the cursor may be handed on from batch to batch.
 ///
-/// Refusals come in the order of a writer that is started, the number of documents, and the first document that does not
-/// pass its check.
+/// Refusals come in the order of a writer that is started, the number of documents, the first document that does not pass
+/// its check, and `Numbers` of all documents, of those too that deletes remove.
 pub(crate) fn make_batch<Z: Analyzers>(
     alloc: Global,
     schema: &Schema,
@@ -49,7 +48,6 @@ pub(crate) fn make_batch<Z: Analyzers>(
     queue: &mut DeleteQueue<TermTarget>,
     cursor: &mut DeleteCursor,
 ) -> TResult<MadeBatch>
-    requires built { is_built_schema schema.now ≡ true }
     requires places { first + length operations.now < 2 ^ 64 }
     requires cursor { cursor.old ≤ queue.old.flushed }
     requires passed { passed_below first (take cursor.old queue.old.operations) }

@@ -3,7 +3,6 @@ ghost use Rattle.std.specs.Prelude.{◌≡◌, ◌+◌, ◌^◌, ◌<◌, ◌≤
 ghost use Rattle.std.specs.List.{enumerate_from};
 ghost use Rattle.seg_batches.specs.Laws.{as_operations};
 ghost use Rattle.seg_directory.specs.Works.{Works};
-ghost use Rattle.seg_segment.specs.Built.{is_built_schema};
 ghost use Rattle.seg_segment.specs.SegmentFiles.{write_steps};
 ghost use Rattle.seg_input.specs.View.{operation_of};
 ghost use Rattle.seg_build.specs.WriterStart.{start_refusal};
@@ -30,8 +29,8 @@ use std::alloc::{AllocError, Global};
 /// Writes the segment of each batch, one after another: the operations up to each cut, and those after the last. Each has
 /// all documents that its batch adds; which of them the deletes of all operations leave is told beside its files.
 ///
-/// An error ends it, with the segments of the batches before written. `SchemaError` and `InvalidArgument` tell a refusal;
-/// `IndexAlreadyExists`: a file of that name is there.
+/// An error ends it, with the segments of the batches before written. `SchemaError` and `InvalidArgument` tell a refusal,
+/// and no file of its batch is made; `IndexAlreadyExists`: a file of that name is there.
 pub fn write_batches<Z: Analyzers, W: Directory>(
     alloc: Global,
     schema: &Schema,
@@ -42,7 +41,6 @@ pub fn write_batches<Z: Analyzers, W: Directory>(
     ids: &[SegmentId],
     directory: &mut W,
 ) -> TResult<Vec<WrittenSegment>>
-    requires built { is_built_schema schema.now ≡ true }
     requires cuts { cuts_fit (map operation_of operations.now) cuts.now ≡ true }
     requires ids { length ids.now ≡ length cuts.now + 1 }
     ensures does { MakesBatches (batch_causes (start_refusal (Z.knows analyzers.now) 15000 schema.now settings.now) schema.now (Z.tokens_of analyzers.now) cuts.now (map operation_of operations.now))
@@ -113,7 +111,6 @@ fn write_batch<Z: Analyzers, W: Directory>(
     cursor: &mut DeleteCursor,
     directory: &mut W,
 ) -> TResult<WrittenSegment>
-    requires built { is_built_schema schema.now ≡ true }
     requires rises { first ≤ end }
     requires within { end ≤ length operations.now }
     requires waits { as_operations queue.old.operations ≡ stamped_deletes 0 (map operation_of operations.now) }

@@ -21,7 +21,6 @@ use Rattle.seg_segment.specs.Forms.{segment_forms}
 use Rattle.seg_segment.specs.Holds.{Holds}
 use Rattle.seg_segment.specs.Laws.{HoldsOneContents}
 use Rattle.seg_open.specs.OpenSegment.{kept_count, part_of}
-use Rattle.seg_join.specs.Laws.{BuiltPartsJoin}
 use Rattle.seg_refusals.specs.Admitted.{Fits}
 use Rattle.seg_merge.specs.AfterCrash.{AreMergeOf, MayBeBuilt, MayBeMerged}
 use Rattle.seg_merge.specs.Builds.{LeavesBuilt}
@@ -47,7 +46,7 @@ no_index files same = subst (λ (f : NamedFiles). index.OpensAsNoIndex segment_f
 -- ---- the merge of the work index is the output index
 
 module _ (analyzer : Analyzer) (input : Input) (fits : Fits analyzer input) (a n : Directories) (filled : Filled analyzer input a n.work n.output)
-    (told : IsTrue a.work.tells) (one : HoldsOneContents) (law : JoiningIsInvisible) (join_law : BuiltPartsJoin) where
+    (told : IsTrue a.work.tells) (one : HoldsOneContents) (law : JoiningIsInvisible) where
   module _ (files : NamedFiles) (meta : index.Meta) (merge : IsMergeOf (merge_of analyzer input) n.work.files (Unit {0}) files meta) where
     readings_of : AreReadingsOf input.schema analyzer (live_batches (length input.operations) input.filters (input_batches analyzer input)) (map part_of merge.opened)
     readings_of = are_readings analyzer input fits a n.work n.output filled told one merge.opened merge.held
@@ -58,17 +57,20 @@ module _ (analyzer : Analyzer) (input : Input) (fits : Fits analyzer input) (a n
         ∙ ap (merged_meta input.settings input.schema (work_ids input.ids) (output_id input.ids))
         (kept_survivors (length input.operations) analyzer input merge.opened fits.filters readings_of)
 
-    survivors : full_reading input.schema analyzer (input_survivors analyzer input) ≡ Some (joined input.schema merge.opened)
-    survivors = survivors_joined law join_law (length input.operations) analyzer input merge.opened fits.built fits.filters readings_of
+    survivors : full_reading input.schema analyzer (input_survivors analyzer input) ≡ Some merge.contents
+    survivors =
+        survivors_joined law (length input.operations) analyzer input merge.opened fits.filters readings_of
+        ∙ sym (ap (λ (s : Schema). joined s merge.opened) (work_schema analyzer input fits)) ∙ merge.joins
 
     is_output : IsOutputIndexOf analyzer input files
     is_output = record {
       index_of = merge.index_of tt ∙ ap (λ (m : index.Meta). Some m) meta_is;
       stands = record {
-        contents = joined input.schema merge.opened;
+        contents = merge.contents;
         read = survivors;
         held =
-            subst (λ (s : Schema). Holds files (output_id input.ids) s (joined s merge.opened)) (work_schema analyzer input fits) (merge.joins tt);
+            subst (λ (s : Schema). Holds files (output_id input.ids) s merge.contents) (work_schema analyzer input fits)
+            (merge.holds tt);
       };
     }
 
@@ -108,7 +110,7 @@ module _ (a : Directories) (clean : IsEmptyDisk a.output.disk) where
 -- ---- all of it
 
 module _ (analyzer : Analyzer) (input : Input) (fits : Fits analyzer input) (reads : AreReadBack input.settings input.schema)
-    (id_fits : output_id input.ids < 2 ^ 128) (one : HoldsOneContents) (law : JoiningIsInvisible) (join_law : BuiltPartsJoin)
+    (id_fits : output_id input.ids < 2 ^ 128) (one : HoldsOneContents) (law : JoiningIsInvisible)
     (a : Directories) (told : IsTrue a.work.tells) (clean : IsEmptyDisk a.output.disk) where
   abbrev May : FileDisk → Type 0
   May d = HasOnly (λ files. MayBeBuilt analyzer input files) d
@@ -131,7 +133,7 @@ module _ (analyzer : Analyzer) (input : Input) (fits : Fits analyzer input) (rea
     told_there = told_filled analyzer input fits a n.work n.output filled told
 
     built : (d : FileDisk) → HasOnly (MayBeMerged (merge_of analyzer input) n.work.files) d → May d
-    built d only files image = of_merged analyzer input fits a n filled told one law join_law files (only files image)
+    built d only files image = of_merged analyzer input fits a n filled told one law files (only files image)
 
     merging : {T : Type 0} (r : Result T TantivyError) (b : Directories) → MergesLive (merge_of analyzer input) r n b → Turns May May a.output.disk b.output.disk
     merging r b merges =
@@ -143,7 +145,7 @@ module _ (analyzer : Analyzer) (input : Input) (fits : Fits analyzer input) (rea
 
     resting : {T : Type 0} (x : T) (b : Directories) → MergesLive (merge_of analyzer input) (Ok x) n b → HasOnly (IsOutputIndexOf analyzer input) b.output.disk.now
     resting x b merges files image =
-        of_merge analyzer input fits a n filled told one law join_law files
+        of_merge analyzer input fits a n filled told one law files
         (merge_rests (merge_of analyzer input) reads_listed id_fits n told_there clean_still x b merges files image)
 
   filled_at : (u v : Unit {0}) (m n : Directories) → BeginsIndexes input.settings input.schema (Ok u) a m → FillsWork analyzer input (Ok v) m.work n.work

@@ -1,18 +1,16 @@
 -- What the building of an index comes to, from what its steps say.
 use Rattle.std.proofs.Common.{◌≡◌, ◌≢◌, ◌∙◌, Option, None, Some, Result, Err, refl, sym, ap, subst, inl, inr}
 use Rattle.std.specs.Prelude.{◌⊎◌, IfSome}
-use Rattle.seg_values.specs.declared.error.ArgumentCause.TheVariants.{Documents}
 use Rattle.seg_values.specs.declared.error.TantivyError.{TantivyError}
-use Rattle.seg_values.specs.declared.error.TantivyError.TheVariants.{IndexAlreadyExists, InvalidArgument, OutOfMemory}
+use Rattle.seg_values.specs.declared.error.TantivyError.TheVariants.{IndexAlreadyExists, OutOfMemory}
 use Rattle.seg_model.specs.Fields.{Analyzer}
 use Rattle.seg_model.specs.Input.{Input}
-use Rattle.seg_model.specs.Valid.{Known}
+use Rattle.seg_model.specs.Valid.{Known, input_refusal}
 use Rattle.seg_open.specs.SegmentOpened.{IsNoDamage}
-use Rattle.seg_refusals.specs.Refusals.{first_error, refusal_error}
-use Rattle.seg_model.specs.Refused.{IsRefusal}
+use Rattle.seg_model.specs.Refused.{IsRefusal, build_refusal}
 use Rattle.seg_refusals.proofs.Exports.{first_is_refusal}
 use Rattle.seg_batches.proofs.Exports.{refusal_weaker}
-use Rattle.seg_merge.specs.Builds.{StopsBuilding}
+use Rattle.seg_merge.specs.Builds.{IsWhyUntold, StopsBuilding}
 use Rattle.seg_merge.specs.Turns.{Directories}
 use Rattle.seg_merge.proofs.BuildOnDisk.{not_begun_leaves}
 use Rattle.seg_merge.proofs.WholeRefused.{caused_refusal, refusal_undamaged}
@@ -35,20 +33,20 @@ first_or_memory None e P p (inr starved) = tt
 first_or_memory (Some x) e P p (inr starved) = (inr starved, p)
 
 refusal_or_memory : (known : Known) (analyzer : Analyzer) (input : Input) (e : TantivyError)
-    → (first_error known analyzer input ≡ Some e) ⊎ (e ≡ OutOfMemory) → IsRefusal e ⊎ (e ≡ OutOfMemory)
+    → (input_refusal known analyzer input ≡ Some e) ⊎ (e ≡ OutOfMemory) → IsRefusal e ⊎ (e ≡ OutOfMemory)
 refusal_or_memory known analyzer input e (inl is) = inl (first_is_refusal known analyzer input e is)
 refusal_or_memory known analyzer input e (inr starved) = inr starved
 
 pub not_begun : (known : Known) (analyzer : Analyzer) (input : Input) (e : TantivyError) (state : Directories)
-    → (first_error known analyzer input ≡ Some e) ⊎ (e ≡ OutOfMemory) → StopsBuilding known analyzer input e state state
+    → (input_refusal known analyzer input ≡ Some e) ⊎ (e ≡ OutOfMemory) → StopsBuilding known analyzer input e state state
 not_begun known analyzer input e state cause =
     let kind = refusal_or_memory known analyzer input e cause in
     record {
-      first = first_or_memory (first_error known analyzer input) e _ refl cause;
+      first = first_or_memory (input_refusal known analyzer input) e _ refl cause;
       refused = λ told. caused_refusal known analyzer input e cause;
       untold =
-          refusal_weaker (λ x. refusal_error known analyzer input ≡ Some x)
-          (λ x. (refusal_error known analyzer input ≡ Some x) ⊎ (x ≡ InvalidArgument Documents)) (λ x is. inl is) e
+          refusal_weaker (λ x. build_refusal known analyzer input ≡ Some x)
+          (IsWhyUntold known analyzer input) (λ x is. inl is) e
           (caused_refusal known analyzer input e cause);
       fresh = λ empty. not_there e kind;
       whole = λ told. undamaged e kind;

@@ -19,6 +19,7 @@ use Rattle.seg_model.specs.Input.{Settings}
 use Rattle.seg_model.specs.Operations.{Operation, Batch, additions, batches}
 use Rattle.seg_model.specs.Refused.{cut_from, IfRefusal, IsRefusal, batches_error}
 use Rattle.seg_model.specs.Valid.{are_distinct}
+use Rattle.seg_model.proofs.Exports.{Fits}
 use Rattle.seg_segment.specs.Forms.{segment_forms}
 use Rattle.seg_segment.specs.SegmentFiles.{AreAbsent, KeepsAllBut, segment_names}
 use Rattle.seg_segment.specs.declared.segment_files.SegmentFiles.{SegmentFiles}
@@ -27,7 +28,7 @@ use Rattle.seg_batches.specs.AliveWriting.{WritesAlive, alive_step, alive_steps}
 use Rattle.seg_batches.specs.BatchTotals.{AllHaveTotals}
 use Rattle.seg_batches.specs.Segments.{AllStand, AllTellAlive, WrittenSegment, alive_file, alive_files, all_listed, deletes_of, six_files}
 use Rattle.seg_batches.specs.Writing.{MakesBatches, batch_cause, batch_causes, batches_steps}
-use Rattle.seg_batches.proofs.Exports.{IsFew, IsFirst, TellsRefusal, alive_fresh, all_few, all_stand, all_taken, all_tell, all_totals, batches_fresh, batches_none, batches_told, causes_tell, first_cause, refusal_weaker}
+use Rattle.seg_batches.proofs.Exports.{IsFirst, TellsRefusal, alive_fresh, all_fit, all_stand, all_taken, all_tell, all_totals, batches_fresh, batches_none, batches_told, causes_tell, first_cause, refusal_weaker}
 use Rattle.seg_merge.specs.IndexFiles.{listed_of, segments_files, written_of}
 use Rattle.seg_merge.specs.WorkIndexWriting.{FillsIndex, FinishesIndex, finish_steps, listing_meta}
 use Rattle.seg_merge.specs.WritingSteps.{publish_steps}
@@ -209,8 +210,8 @@ module _ (settings : Settings) (schema : Schema) (analyzer : Analyzer) (ids cuts
         → AllByRecursion (λ cause. cause ≡ None) causes
     none_caused x a b w = batches_none ids causes w.files x a b w.many each w.works
 
-    pub filled_small : {T : Type 0} (x : T) (a c : DirectoryState) → Fills (Ok x) a c → AllByRecursion IsFew all
-    filled_small x a c w = let p = all_filled x a c w in all_few schema analyzer None cuts operations (none_caused x a p.batches_at p.makes)
+    pub filled_fit : {T : Type 0} (x : T) (a c : DirectoryState) → Fills (Ok x) a c → AllByRecursion (Fits schema analyzer) all
+    filled_fit x a c w = let p = all_filled x a c w in all_fit schema analyzer None cuts operations (none_caused x a p.batches_at p.makes)
 
     pub filled_taken : {T : Type 0} (x : T) (a c : DirectoryState) → Fills (Ok x) a c
         → list_all (is_taken schema analyzer) (additions operations) ≡ true

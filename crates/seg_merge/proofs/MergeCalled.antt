@@ -87,7 +87,9 @@ module _ (analyzer : Analyzer) (i : Input) (fits : Fits analyzer i) (a n : Direc
           held = merge.held;
           counted = merge.counted;
           index_of = λ told_output. merge.index_of (output_told analyzer i fits a n.work n.output filled told_output);
-          joins = λ told_output. merge.joins (output_told analyzer i fits a n.work n.output filled told_output);
+          contents = merge.contents;
+          joins = merge.joins;
+          holds = λ told_output. merge.holds (output_told analyzer i fits a n.work n.output filled told_output);
           totals = λ told_output. merge.totals (output_told analyzer i fits a n.work n.output filled told_output);
         };
     index_of = λ told_output. h.index_of (output_told analyzer i fits a n.work n.output filled told_output);

@@ -2,6 +2,7 @@
 use Rattle.std.proofs.Common.{◌≡◌, ◌≤◌, ◌∙◌, ℕ, ◌+◌, ◌-◌, Bool, true, false, cond, List, [], ◌∷◌, map, length, replicate, Option, Some, None, Ok, refl, sym, ap, subst, arith}
 use Rattle.std.specs.Prelude.{◌&&◌, ◌==◌, if◌then◌else◌, not}
 use Rattle.std.specs.List.{AllByRecursion, count_by}
+use Rattle.std.specs.Option.{option_map}
 use Rattle.std.proofs.lemmas.Bool.{and_parts, eqb-true}
 use Rattle.std.proofs.lemmas.List.{length-append, length-replicate}
 use Rattle.std.proofs.lemmas.Option.{none-some, same_Some}
@@ -9,9 +10,11 @@ use Rattle.seg_bits.specs.BitSets.{member_count, set_of}
 use Rattle.seg_directory.specs.State.{DirectoryState}
 use Rattle.seg_meta.specs.IndexOfFiles.{Deletes, ListedSegment}
 use Rattle.seg_meta.specs.Metas.{SegmentParts, deleted}
+use Rattle.seg_model.specs.Columns.{Columns}
+use Rattle.seg_model.specs.Contents.{Contents}
 use Rattle.seg_model.specs.Fields.{Schema}
 use Rattle.seg_model.specs.Input.{Filter}
-use Rattle.seg_model.specs.Join.{Part, live_of}
+use Rattle.seg_model.specs.Join.{Part, join, joined_columns, joined_with, live_of}
 use Rattle.seg_model.specs.Operations.{both_marked, filtered_by, kept}
 use Rattle.seg_open.specs.OpenSegment.{OpenSegment, contents_of, kept_count, part_of}
 use Rattle.seg_open.specs.SegmentOpened.{AreReadersOf, Asked, Found, IsReaderOf, agreeing, alive_read, asked_of}
@@ -160,13 +163,22 @@ each_stored (a ∷ asked) (f ∷ found) [] are fit = absurd are
 each_stored (a ∷ asked) (f ∷ found) (s ∷ opened) are fit =
     (one_stored a f s are.0 fit.0, each_stored asked found opened are.1 fit.1)
 
-number_of : (schema : Schema) (opened : List OpenSegment) → AllByRecursion IsStored opened
-    → (joined schema opened).documents ≡ kept_count opened
-number_of schema [] all = refl
-number_of schema (s ∷ opened) all =
+number_of : (opened : List OpenSegment) → AllByRecursion IsStored opened
+    → length (live_of (λ p. p.contents.stored) (map part_of opened)) ≡ kept_count opened
+number_of [] all = refl
+number_of (s ∷ opened) all =
     length-append (kept s.alive (contents_of s).stored) (live_of (λ p. p.contents.stored) (map part_of opened))
     ∙ ap (λ n. n + length (live_of (λ p. p.contents.stored) (map part_of opened))) (sym (kept_counted s.alive (contents_of s).stored all.0))
-    ∙ ap (λ n. member_count s.alive + n) (number_of schema opened all.1)
+    ∙ ap (λ n. member_count s.alive + n) (number_of opened all.1)
+
+join_counts : (schema : Schema) (parts : List Part) (contents : Contents) → join schema parts ≡ Some contents
+    → contents.documents ≡ length (live_of (λ p. p.contents.stored) parts)
+join_counts schema parts contents is = by (joined_columns schema parts) is
+  where
+    by : (o : Option Columns) → option_map (joined_with schema parts) o ≡ Some contents
+        → contents.documents ≡ length (live_of (λ p. p.contents.stored) parts)
+    by None h = absurd (none-some contents h)
+    by (Some cs) h = ap (λ (c : Contents). c.documents) (sym (same_Some (joined_with schema parts cs) contents h))
 
 -- ---- what was opened
 
@@ -179,9 +191,11 @@ module _ (m : MergeInput) (opened : List OpenSegment) (a b : DirectoryState) (h 
       omega (arith, each, all)
 
   -- they are joined to as many
-  pub opened_number : all_fit m.filters m.segments ≡ true → (joined (first_schema m.segments) opened).documents ≡ kept_count opened
-  opened_number fit =
-      number_of (first_schema m.segments) opened
+  pub opened_number : all_fit m.filters m.segments ≡ true → (contents : Contents)
+      → joined (first_schema m.segments) opened ≡ Some contents → contents.documents ≡ kept_count opened
+  opened_number fit contents is =
+      join_counts (first_schema m.segments) (map part_of opened) contents is
+      ∙ number_of opened
       (each_stored (live_asked m.segments m.filters) h.found opened h.are
       (all_filtered (λ (a : Asked). fits a.custom a.segment ≡ true) (λ a. is_live a.segment.meta) (asked_of m.segments m.filters)
       (asked_fit m.segments m.filters fit)))

@@ -1,9 +1,12 @@
 -- With which errors the merge of segments ends.
 use Rattle.std.proofs.Common.{◌≡◌, ◌≢◌, ◌≤◌, ◌<◌, ◌^◌, ◌∙◌, ℕ, Bool, true, false, List, IsTrue, nat_lt, None, Some, Result, Err, refl, sym, ap, subst, inl, inr, arith}
 use Rattle.std.specs.FinMap.{len}
+use Rattle.std.specs.Prelude.{◌⊎◌, is_some}
+use Rattle.std.proofs.lemmas.Bool.{false≢true}
 use Rattle.std.proofs.lemmas.Bool.Decides.{nat_tests}
 use Rattle.seg_common.specs.Causes.{Rose}
-use Rattle.seg_values.specs.declared.error.ArgumentCause.TheVariants.{Documents}
+use Rattle.seg_values.specs.declared.error.ArgumentCause.{ArgumentCause}
+use Rattle.seg_values.specs.declared.error.ArgumentCause.TheVariants.{Documents, Numbers}
 use Rattle.seg_values.specs.declared.error.TantivyError.{TantivyError}
 use Rattle.seg_values.specs.declared.error.TantivyError.TheVariants.{SchemaError, InvalidArgument, IndexAlreadyExists, OpenReadError, OpenWriteError, IoError, DataCorruption, SystemError, FieldNotFound, OutOfMemory}
 use Rattle.seg_directory.proofs.Exports.{all_went, never_there}
@@ -17,11 +20,12 @@ use Rattle.seg_open.specs.SegmentOpened.{IsNoDamage, OpensSegments}
 use Rattle.seg_open.proofs.Exports.{segments_rose, segments_so, segments_undamaged}
 use Rattle.seg_join.specs.Merger.{too_many}
 use Rattle.seg_merge.specs.MergeAnswers.{CanBeMerged, IsMergeError, LiveAreWhole}
-use Rattle.seg_merge.specs.SegmentsMerged.{AreMerged, FillsOutput, MergeInput, fills, live_asked, output_meta_of, starves}
+use Rattle.seg_merge.specs.SegmentsMerged.{AreMerged, FillsOutput, MergeInput, fills, first_schema, joined, live_asked, mixes, output_meta_of, starves}
 use Rattle.seg_merge.specs.Turns.{Directories}
 use Rattle.seg_merge.proofs.IndexSteps.{tells-still}
 use Rattle.seg_merge.proofs.MergeCounts.{opened_few}
-use Rattle.seg_merge.proofs.MergeLists.{live_built, live_whole}
+use Rattle.seg_merge.proofs.MergeHeld.{opened_held}
+use Rattle.seg_merge.proofs.MergeLists.{live_whole}
 use Rattle.seg_merge.proofs.MergeTurns.{MergeExits, Opened, at_beginning, at_counting, at_filling, at_opening}
 use Rattle.seg_merge.proofs.OutputSteps.{absent-parts, one_fresh}
 use Rattle.seg_merge.proofs.WholeRefused.{read_exists, read_unrefused, refusal_undamaged}
@@ -56,8 +60,8 @@ few_passed n none = by (nat_lt n (2 ^ 31)) refl none
     by false test some = absurd (cc some)
 
 -- and that is a refusal
-pub count_refuses : (e : TantivyError) → InvalidArgument Documents ≡ e → IsRefusal e
-count_refuses e is = subst IsRefusal is tt
+pub argument_refuses : (cause : ArgumentCause) (e : TantivyError) → InvalidArgument cause ≡ e → IsRefusal e
+argument_refuses cause e is = subst IsRefusal is tt
 
 -- ---- kinds of errors
 
@@ -91,19 +95,28 @@ of_memory : (m : MergeInput) (e : TantivyError) (a b : Directories) → e ≡ Ou
 of_memory m e a b is = subst (λ (x : TantivyError). IsMergeError m a b x) (sym is) tt
 
 of_count : (m : MergeInput) (e : TantivyError) (a b : Directories) → InvalidArgument Documents ≡ e → IsMergeError m a b e
-of_count m e a b is = subst (λ (x : TantivyError). IsMergeError m a b x) is (inr refl)
+of_count m e a b is = subst (λ (x : TantivyError). IsMergeError m a b x) is (inr (inl refl))
 
--- the filling of the output
+of_numbers : (m : MergeInput) (e : TantivyError) (a b : Directories) → InvalidArgument Numbers ≡ e → IsMergeError m a b e
+of_numbers m e a b is = subst (λ (x : TantivyError). IsMergeError m a b x) is (inr (inr refl))
+
+-- segments join to nothing, which is told
+abbrev pub IsMixed : MergeInput → List OpenSegment → TantivyError → Type 0
+IsMixed m opened e = (InvalidArgument Numbers ≡ e) × (joined (first_schema m.segments) opened ≡ None)
+
+-- the filling of the output ends with that, or with an error of writing
 pub filling_so : {T : Type 0} (m : MergeInput) (opened : List OpenSegment) (e : TantivyError) (o b : DirectoryState)
-    → FillsOutput {T = T} m opened (Err e) o b → IsWriteError e o.faults b.faults
+    → FillsOutput {T = T} m opened (Err e) o b → IsMixed m opened e ⊎ IsWriteError e o.faults b.faults
 filling_so {T = T} m opened e o b (starves is same) =
-    subst (λ (x : TantivyError). IsWriteError x o.faults b.faults) (sym (same_error T e OutOfMemory is)) tt
+    inr (subst (λ (x : TantivyError). IsWriteError x o.faults b.faults) (sym (same_error T e OutOfMemory is)) tt)
+filling_so {T = T} m opened e o b (mixes is none same) =
+    inl (sym (same_error T e (InvalidArgument Numbers) is), none)
 filling_so {T = T} m opened e o b (fills files joins works) =
-    calls_so {T = T} e (tt, (tt, (tt, (tt, (tt, (tt, (tt, (tt, (tt, tt))))))))) works
+    inr (calls_so {T = T} e (tt, (tt, (tt, (tt, (tt, (tt, (tt, (tt, (tt, tt))))))))) works)
 
 module _ (m : MergeInput) (merged : AreMerged m) (e : TantivyError) (a b : Directories) where
   read_so : OpensSegments (live_asked m.segments m.filters) (Err e) a.work b.work → IsReadError e
-  read_so h = segments_so (live_asked m.segments m.filters) a.work b.work e (live_built m merged) h
+  read_so h = segments_so (live_asked m.segments m.filters) a.work b.work e h
 
   -- of each exit
   pub merge_error : MergeExits m e a b → IsMergeError m a b e
@@ -114,10 +127,10 @@ module _ (m : MergeInput) (merged : AreMerged m) (e : TantivyError) (a b : Direc
       (subst (λ (x : TantivyError). OpensSegments (live_asked m.segments m.filters) (Err x) a.work b.work) is h))
   merge_error (at_counting opened was (inl is)) = of_count m e a b (too_many_told (kept_count opened) e is).1
   merge_error (at_counting opened was (inr is)) = of_memory m e a b is
-  merge_error (at_filling opened o was h) =
-      of_output m e a b
-      (so_before e a.output.faults o.faults b.output.faults (all_went was.begins).later
-      (filling_so {T = Unit {0}} m opened e o b.output h))
+  merge_error (at_filling opened o was few h) = elim (filling_so {T = Unit {0}} m opened e o b.output h) [
+    | inl mixed ↦ of_numbers m e a b mixed.0
+    | inr so ↦ of_output m e a b (so_before e a.output.faults o.faults b.output.faults (all_went was.begins).later so)
+  ]
 
   -- no damage, where the work directory tells, and its live segments are whole
   pub merge_undamaged : IsTrue a.work.tells → LiveAreWhole a.work.files m.segments → MergeExits m e a b → IsNoDamage e
@@ -127,30 +140,37 @@ module _ (m : MergeInput) (merged : AreMerged m) (e : TantivyError) (a b : Direc
       segments_undamaged (live_asked m.segments m.filters) a.work b.work e
       (live_whole a.work.files m.segments m.filters whole) told h
   merge_undamaged told whole (at_counting opened was (inl is)) =
-      refusal_undamaged e (count_refuses e (too_many_told (kept_count opened) e is).1)
+      refusal_undamaged e (argument_refuses Documents e (too_many_told (kept_count opened) e is).1)
   merge_undamaged told whole (at_counting opened was (inr is)) = subst IsNoDamage (sym is) tt
-  merge_undamaged told whole (at_filling opened o was h) =
-      write_undamaged e _ _ (filling_so {T = Unit {0}} m opened e o b.output h)
+  merge_undamaged told whole (at_filling opened o was few h) = elim (filling_so {T = Unit {0}} m opened e o b.output h) [
+    | inl mixed ↦ refusal_undamaged e (argument_refuses Numbers e mixed.0)
+    | inr so ↦ write_undamaged e o.faults b.output.faults so
+  ]
 
-  -- a refusal is that of too many documents
+  -- a refusal is that of too many documents, or of numbers without a type
   pub merge_refused : (P : TantivyError → Type 0)
       → ((opened : List OpenSegment) → Opened m opened a b.work b.output → 2 ^ 31 ≤ kept_count opened → P (InvalidArgument Documents))
+      → ((opened : List OpenSegment) (o : DirectoryState) → Opened m opened a b.work o → kept_count opened < 2 ^ 31
+      → joined (first_schema m.segments) opened ≡ None → P (InvalidArgument Numbers))
       → MergeExits m e a b → IfRefusal P e
-  merge_refused P in_count (at_beginning h stays) =
+  merge_refused P in_count in_numbers (at_beginning h stays) =
       write_unrefused P e _ _ (calls_so {T = Unit {0}} e (tt, (tt, (tt, tt))) h)
-  merge_refused P in_count (at_opening begins h) = read_unrefused P e (read_so h)
-  merge_refused P in_count (at_counting opened was (inl is)) =
+  merge_refused P in_count in_numbers (at_opening begins h) = read_unrefused P e (read_so h)
+  merge_refused P in_count in_numbers (at_counting opened was (inl is)) =
       let told = too_many_told (kept_count opened) e is in
       subst (IfRefusal P) told.1 (in_count opened was told.0)
-  merge_refused P in_count (at_counting opened was (inr is)) = subst (IfRefusal P) (sym is) tt
-  merge_refused P in_count (at_filling opened o was h) =
-      write_unrefused P e _ _ (filling_so {T = Unit {0}} m opened e o b.output h)
+  merge_refused P in_count in_numbers (at_counting opened was (inr is)) = subst (IfRefusal P) (sym is) tt
+  merge_refused P in_count in_numbers (at_filling opened o was few h) = elim (filling_so {T = Unit {0}} m opened e o b.output h) [
+    | inl mixed ↦ subst (IfRefusal P) mixed.0 (in_numbers opened o was (few_passed (kept_count opened) few) mixed.1)
+    | inr so ↦ write_unrefused P e o.faults b.output.faults so
+  ]
 
   -- no file is found there, where the output directory has none
   module _ (told : IsTrue a.output.tells) (none : len a.output.files ≡ 0) where
     filling_fresh : (opened : List OpenSegment) (o : DirectoryState) → Opened m opened a b.work o
         → FillsOutput {T = Unit {0}} m opened (Err e) o b.output → e ≢ IndexAlreadyExists
     filling_fresh opened o was (starves is same) exists = absurd (cc (sym is ∙ ap (failing (Unit {0})) exists))
+    filling_fresh opened o was (mixes is none same) exists = absurd (cc (sym is ∙ ap (failing (Unit {0})) exists))
     filling_fresh opened o was (fills files joins works) exists =
         one_fresh (output_meta_of m (kept_count opened)) m.id files works
         (tells-still _ _ (all_went was.begins).tells told)
@@ -162,9 +182,9 @@ module _ (m : MergeInput) (merged : AreMerged m) (e : TantivyError) (a b : Direc
         never_there told (sym none, (tt, (tt, tt))) h (ap (failing (Unit {0})) is)
     merge_fresh (at_opening begins h) is = read_exists e (read_so h) is
     merge_fresh (at_counting opened was (inl told)) is =
-        subst IsRefusal is (count_refuses e (too_many_told (kept_count opened) e told).1)
+        subst IsRefusal is (argument_refuses Documents e (too_many_told (kept_count opened) e told).1)
     merge_fresh (at_counting opened was (inr starved)) is = absurd (cc (sym starved ∙ is))
-    merge_fresh (at_filling opened o was h) is = filling_fresh opened o was h is
+    merge_fresh (at_filling opened o was few h) is = filling_fresh opened o was h is
 
   -- only memory is left, where it can be merged
   memory_left : (d : TantivyError) → IsMergeError m a b d → IsNoDamage d → d ≢ IndexAlreadyExists → IfRefusal (λ _. ⊥) d
@@ -186,5 +206,8 @@ module _ (m : MergeInput) (merged : AreMerged m) (e : TantivyError) (a b : Direc
       memory_left e (merge_error exit) (merge_undamaged can.work_tells can.whole exit)
       (merge_fresh can.output_tells can.output_empty exit)
       (merge_refused (λ _. ⊥)
-      (λ opened was many. let few = opened_few m opened a.work b.work was.opens in absurd (omega (arith, few, many, can.few))) exit)
+      (λ opened was many. let few = opened_few m opened a.work b.work was.opens in absurd (omega (arith, few, many, can.few)))
+      (λ opened o was few none.
+      let held = opened_held m opened a.work b.work can.work_tells was.opens in
+      absurd (false≢true (sym (ap is_some none) ∙ can.joins opened held))) exit)
       can.work_sound can.output_sound

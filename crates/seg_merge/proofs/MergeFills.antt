@@ -2,10 +2,9 @@
 use Rattle.std.proofs.Common.{◌≡◌, ◌≤◌, ◌<◌, ◌∙◌, ℕ, Bool, true, false, List, [], ◌∷◌, ◌++◌, map, length, drop, get_or, min, Option, None, Result, Ok, Err, refl, sym, ap, subst, arith}
 use Rattle.std.specs.Prelude.{IfOk, nat_le}
 use Rattle.std.specs.List.{AllByRecursion, filter}
-use Rattle.std.specs.Option.{option_or}
 use Rattle.std.proofs.lemmas.Bool.Decides.{nat_tests}
 use Rattle.std.proofs.lemmas.List.{append-nil, drop_all}
-use Rattle.seg_values.specs.declared.error.ArgumentCause.TheVariants.{Filters, Later}
+use Rattle.seg_values.specs.declared.error.ArgumentCause.TheVariants.{Filters, Numbers}
 use Rattle.seg_values.specs.declared.error.TantivyError.{TantivyError}
 use Rattle.seg_values.specs.declared.error.TantivyError.TheVariants.{InvalidArgument, OutOfMemory}
 use Rattle.seg_directory.proofs.Exports.{does_nothing, stops_before, then_does}
@@ -17,15 +16,14 @@ use Rattle.seg_model.specs.Checked.{unless}
 use Rattle.seg_model.specs.Fields.{Schema}
 use Rattle.seg_model.specs.Input.{Filter}
 use Rattle.seg_model.specs.Input as input
-use Rattle.seg_segment.specs.Built.{is_built_schema}
 use Rattle.seg_segment.specs.SegmentFiles.{write_steps}
 use Rattle.seg_segment.specs.Serializing.{Serializing, unfilled}
 use Rattle.seg_segment.specs.declared.segment_files.SegmentFiles.{SegmentFiles}
 use Rattle.seg_open.specs.OpenSegment.{OpenSegment, kept_count}
 use Rattle.seg_open.specs.SegmentOpened.{AreFound, Asked, Found, OpensSegments}
-use Rattle.seg_join.specs.Merger.{AreJoinedFiles, IsMergerOf, Merging, OpensMerger, WritesJoined, all_fit, makes, merger_refusal, opens, refuses, runs_out, starves as merger_starves, stops as merger_stops}
+use Rattle.seg_join.specs.Merger.{AreJoinedFiles, IsMergerOf, Merging, OpensMerger, WritesJoined, all_fit, makes, merger_refusal, mixes as merger_mixes, opens, refuses, runs_out, starves as merger_starves, stops as merger_stops}
 use Rattle.seg_merge.specs.IndexFiles.{merged_meta}
-use Rattle.seg_merge.specs.SegmentsMerged.{FillsOutput, FillsTo, MergeInput, MergesTo, OpensLive, are_opened, fills, first_schema, is_live, kept_filters, live_asked, not_opened, output_meta_of, starves}
+use Rattle.seg_merge.specs.SegmentsMerged.{FillsOutput, FillsTo, MergeInput, MergesTo, OpensLive, are_opened, fills, first_schema, is_live, joined, kept_filters, live_asked, mixes, not_opened, output_meta_of, starves}
 use Rattle.seg_merge.specs.Turns.{both, goes_on, stops}
 use Rattle.seg_merge.specs.WritingSteps.{begin_steps, publish_steps}
 use Rattle.seg_merge.proofs.MergeLists.{all_filtered, live_fit, live_parts}
@@ -84,16 +82,12 @@ module _ (schema : Schema) (segments : List SegmentParts) (filters : List (Optio
       (subst (λ (x : Schema). AllByRecursion (λ (s : SegmentParts). s.schema ≡ x) (filter (λ s. is_live s.meta) segments)) (sym same)
       (all_filtered (λ (s : SegmentParts). s.schema ≡ schema) (λ s. is_live s.meta) segments all))
 
-  module _ (built : is_built_schema schema ≡ true) (fit : all_fit filters segments ≡ true) (a b : DirectoryState) where
+  module _ (fit : all_fit filters segments ≡ true) (a b : DirectoryState) where
     abbrev live_ones : List SegmentParts
     live_ones = filter (λ s. is_live s.meta) segments
 
-    unrefused : merger_refusal schema live_ones (kept_filters segments filters) ≡ None
-    unrefused =
-        ap
-        (λ t. option_or (unless t (InvalidArgument Later))
-        (unless (all_fit (kept_filters segments filters) live_ones) (InvalidArgument Filters))) built
-        ∙ ap (λ t. unless t (InvalidArgument Filters)) (live_fit segments filters fit)
+    unrefused : merger_refusal live_ones (kept_filters segments filters) ≡ None
+    unrefused = ap (λ t. unless t (InvalidArgument Filters)) (live_fit segments filters fit)
 
     abbrev asks : List Asked → Result (List OpenSegment) TantivyError → Type 0
     asks asked r = OpensSegments asked r a b
@@ -155,6 +149,9 @@ module _ (m : MergeInput) (readers : List OpenSegment) (segment : SegmentParts) 
   unwritten : (S T : Type 0) (e : TantivyError) (a b : DirectoryState)
       → WritesJoined {T = S} segment m.settings.block_size readers (Err e) a b → FillsOutput {T = T} m readers (Err e) a b
   unwritten S T e a b (runs_out is same) = starves (ap (failing T) (same_error S e OutOfMemory is)) same
+  unwritten S T e a b (merger_mixes is none same) =
+      mixes (ap (failing T) (same_error S e (InvalidArgument Numbers) is))
+      (sym (ap (λ (s : Schema). joined s readers) schema_is) ∙ none) same
   unwritten S T e a b (makes files joins works) =
       fills files (joins_as files joins)
       (stops_before (publish_steps (output_meta_of m (kept_count readers))) (works_at files (failing S e) a b works))
@@ -167,6 +164,7 @@ module _ (m : MergeInput) (readers : List OpenSegment) (segment : SegmentParts) 
       → WritesJoined segment m.settings.block_size readers (Ok x) a v
       → Works (publish_steps (output_meta_of m (kept_count readers))) r v b → FillsOutput m readers r a b
   then_saved x r a v b (runs_out is same) saves = absurd (cc is)
+  then_saved x r a v b (merger_mixes is none same) saves = absurd (cc is)
   then_saved x r a v b (makes files joins works) saves =
       fills files (joins_as files joins) (then_does (works_at files (Ok x) a v works) saves)
 

@@ -17,7 +17,7 @@ use Rattle.seg_join.specs.JoinedTotals.{joined_total}
 use Rattle.seg_batches.specs.BatchTotals.{HasTotals}
 use Rattle.seg_merge.specs.MergeAnswers.{AllHaveHeld, HasHeld, HoldsMarks, IsMergeOf, IsWholeIndex}
 use Rattle.seg_join.specs.Merger.{all_fit}
-use Rattle.seg_merge.specs.SegmentsMerged.{IsReadBack, MergeInput, first_schema, joined, live_asked, output_meta_of}
+use Rattle.seg_merge.specs.SegmentsMerged.{IsReadBack, MergeInput, first_schema, live_asked, output_meta_of}
 use Rattle.seg_merge.specs.Turns.{Directories}
 use Rattle.seg_merge.proofs.IndexSteps.{tells-still}
 use Rattle.seg_merge.proofs.MergeCounts.{opened_number}
@@ -69,7 +69,7 @@ module _ (m : MergeInput) where
   exit_stays e a b (at_opening begins h) =
       (segments_stay (live_asked m.segments m.filters) a.work b.work (Err e) h).files
   exit_stays e a b (at_counting opened was counts) = opened_stays opened a.work b.work was.opens
-  exit_stays e a b (at_filling opened o was h) = opened_stays opened a.work b.work was.opens
+  exit_stays e a b (at_filling opened o was few h) = opened_stays opened a.work b.work was.opens
 
   -- ---- the output index
 
@@ -82,7 +82,7 @@ module _ (m : MergeInput) where
     merged_index reads =
         one_index (output_meta_of m (kept_count opened)) m.id w.made.files (Ok tt) w.made.works reads told_begun
 
-    pub merged_holds : Holds b.output.files m.id (first_schema m.segments) (joined (first_schema m.segments) opened)
+    pub merged_holds : Holds b.output.files m.id (first_schema m.segments) w.made.joins.contents
     merged_holds = record {
       files = w.made.files;
       there = one_files (output_meta_of m (kept_count opened)) m.id w.made.files (Ok tt) w.made.works told_begun;
@@ -115,7 +115,9 @@ module _ (m : MergeInput) where
       held = opened_held answer.opened a.work b.work told answer.merged.was.opens;
       counted = answer.counted;
       index_of = answer_index;
-      joins = merged_holds answer.opened a b answer.merged;
+      contents = answer.merged.made.joins.contents;
+      joins = answer.merged.made.joins.joined;
+      holds = merged_holds answer.opened a b answer.merged;
       totals = merged_totals answer.opened a b answer.merged;
     }
 
@@ -123,9 +125,11 @@ module _ (m : MergeInput) where
         → index.AreWhole segment_forms b.output.files (output_meta_of m (kept_count answer.opened))
     answer_segments fit told = (
       record {
-        contents = joined (first_schema m.segments) answer.opened;
+        contents = answer.merged.made.joins.contents;
         held = merged_holds answer.opened a b answer.merged told;
-        number = opened_number m answer.opened a.work b.work answer.merged.was.opens fit;
+        number =
+            opened_number m answer.opened a.work b.work answer.merged.was.opens fit answer.merged.made.joins.contents
+            answer.merged.made.joins.joined;
         deletes_agree = tt;
       },
       tt,

@@ -9,10 +9,9 @@ use Rattle.seg_meta.specs.IndexOfFiles.{ListedSegment}
 use Rattle.seg_meta.specs.Metas.{SegmentParts}
 use Rattle.seg_model.specs.Fields.{Schema}
 use Rattle.seg_model.specs.Input.{Filter}
-use Rattle.seg_segment.specs.Built.{is_built_schema}
 use Rattle.seg_segment.specs.Forms.{segment_forms}
 use Rattle.seg_open.specs.SegmentOpened.{Asked, asked_of}
-use Rattle.seg_open.proofs.Exports.{AreBuilt, Whole}
+use Rattle.seg_open.proofs.Exports.{Whole}
 use Rattle.seg_join.specs.Merger.{all_fit, fits}
 use Rattle.seg_merge.specs.MergeAnswers.{LiveAreWhole}
 use Rattle.seg_merge.specs.SegmentsMerged.{AreMerged, MergeInput, first_schema, is_live, kept_filters, live_asked}
@@ -47,22 +46,7 @@ all_asked P [] filters h = tt
 all_asked P (s ∷ segments) [] h = tt
 all_asked P (s ∷ segments) (f ∷ filters) h = (h.0, all_asked P segments filters h.1)
 
--- what holds of a schema holds of each segment that has it
-all_of : (P : Schema → Type 0) (schema : Schema) (segments : List SegmentParts) → P schema
-    → AllByRecursion (λ (s : SegmentParts). s.schema ≡ schema) segments
-    → AllByRecursion (λ (s : SegmentParts). P s.schema) segments
-all_of P schema [] holds h = tt
-all_of P schema (s ∷ segments) holds h = (subst P (sym h.0) holds, all_of P schema segments holds h.1)
-
 -- ---- the live segments
-
--- the schema of each is built
-pub live_built : (m : MergeInput) → AreMerged m → AreBuilt (live_asked m.segments m.filters)
-live_built m merged =
-    all_filtered (λ (a : Asked). is_built_schema a.segment.schema ≡ true) (λ a. is_live a.segment.meta)
-    (asked_of m.segments m.filters)
-    (all_asked (λ s. is_built_schema s.schema ≡ true) m.segments m.filters
-    (all_of (λ schema. is_built_schema schema ≡ true) (first_schema m.segments) m.segments merged.built merged.of_one))
 
 -- each is whole
 pub live_whole : (files : NamedFiles) (segments : List SegmentParts) (filters : List (Option Filter))

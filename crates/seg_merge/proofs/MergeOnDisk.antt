@@ -33,7 +33,7 @@ use Rattle.seg_join.specs.JoinedTotals.{joined_total}
 use Rattle.seg_join.specs.Merger.{AreJoinedFiles, too_many}
 use Rattle.seg_merge.specs.AfterCrash.{AreMergeOf, MayBeMerged}
 use Rattle.seg_merge.specs.MergeAnswers.{AllHaveHeld, IsMergeOf}
-use Rattle.seg_merge.specs.SegmentsMerged.{FillsOutput, MergeInput, MergesLive, fills, first_schema, live_asked, output_meta_of, starves}
+use Rattle.seg_merge.specs.SegmentsMerged.{FillsOutput, MergeInput, MergesLive, fills, first_schema, live_asked, mixes, output_meta_of, starves}
 use Rattle.seg_merge.specs.Turns.{Directories, goes_on, stops}
 use Rattle.seg_merge.specs.WritingSteps.{begin_steps, publish_steps}
 use Rattle.seg_merge.proofs.IndexSteps.{tells-still}
@@ -122,7 +122,9 @@ module _ (m : MergeInput) (work : NamedFiles) (reads : AreReadBack m.settings (f
             index_of = λ told.
                 ap (option_and_then meta_read) (get-insert name_cmp_total v.files Meta (meta_text meta) Meta)
                 ∙ merged_back m.settings (first_schema m.segments) reads _ m.id (kept_count opened) id_fits few;
-            joins = λ told. record { files = files; there = now; spelled = joins.spell };
+            contents = joins.contents;
+            joins = joins.joined;
+            holds = λ told. record { files = files; there = now; spelled = joins.spell };
             totals = λ told.
                 subst (λ (file : Option (List ℕ)). IsSomeAnd file (TellTotals (first_schema m.segments) (joined_total opened))) (sym now.1.1.0) joins.totals;
           },
@@ -172,12 +174,14 @@ module _ (m : MergeInput) (work : NamedFiles) (reads : AreReadBack m.settings (f
       → (r : Result T TantivyError) (a b : DirectoryState) → IsTrue a.disk.told → IsTrue a.tells → Begun a.disk.now
       → FillsOutput m opened r a b → Turns May May a.disk b.disk
   fills_turns opened held few r a b told tells holds (starves is same) = begun_turns a b (turns_none same holds)
+  fills_turns opened held few r a b told tells holds (mixes is none same) = begun_turns a b (turns_none same holds)
   fills_turns opened held few r a b told tells holds (fills files joins works) =
       filling opened held few files joins r a b told tells holds (in_parts (write_steps m.id files) (publish_steps (output_meta_of m (kept_count opened))) r works)
 
   fills_whole : {T : Type 0} (opened : List OpenSegment) → AllHaveHeld work (live_asked m.segments m.filters) opened → kept_count opened < 2 ^ 31
       → (x : T) (a b : DirectoryState) → IsTrue a.disk.told → IsTrue a.tells → Begun a.disk.now → FillsOutput m opened (Ok x) a b → HasOnly (AreMergeOf m work) b.disk.now
   fills_whole opened held few x a b told tells holds (starves is same) = absurd (cc is)
+  fills_whole opened held few x a b told tells holds (mixes is none same) = absurd (cc is)
   fills_whole opened held few x a b told tells holds (fills files joins works) =
       filled_whole opened held few files joins x a b told tells holds (in_parts (write_steps m.id files) (publish_steps (output_meta_of m (kept_count opened))) (Ok x) works)
 

@@ -4,7 +4,7 @@ use Rattle.std.specs.Prelude.{◌⊎◌, IfErr, IfOk}
 use Rattle.std.specs.FinMap.{len}
 use Rattle.std.specs.Option.{option_or}
 use Rattle.seg_values.specs.declared.error.ArgumentCause.{ArgumentCause}
-use Rattle.seg_values.specs.declared.error.ArgumentCause.TheVariants.{DifferentSchemas, Filters, Later, NoSegments, Settings}
+use Rattle.seg_values.specs.declared.error.ArgumentCause.TheVariants.{DifferentSchemas, Filters, NoSegments, Settings}
 use Rattle.seg_values.specs.declared.error.TantivyError.{TantivyError}
 use Rattle.seg_values.specs.declared.error.TantivyError.TheVariants.{IndexAlreadyExists, InvalidArgument, OutOfMemory}
 use Rattle.seg_meta.specs.IndexOfFiles as index
@@ -12,13 +12,12 @@ use Rattle.seg_meta.specs.IndexOfFiles.{Meta}
 use Rattle.seg_meta.specs.Metas.{SegmentParts}
 use Rattle.seg_model.specs.Checked.{unless}
 use Rattle.seg_model.specs.Valid.{settings_fit}
-use Rattle.seg_segment.specs.Built.{is_built_schema}
 use Rattle.seg_segment.specs.Forms.{segment_forms}
 use Rattle.seg_open.specs.Answers.{seen_as}
 use Rattle.seg_open.specs.SegmentOpened.{IsNoDamage}
 use Rattle.seg_join.specs.Merger.{all_fit}
 use Rattle.seg_merge.specs.MergeAnswers.{CanBeMerged, IsMergeError, IsMergeOf, IsWholeIndex, LiveAreWhole}
-use Rattle.seg_merge.specs.SegmentsMerged.{AreMerged, AreOfOne, IsRefusal, MergeInput, MergesSegments, MergesTo, first_schema, one_refusal, output_meta_of}
+use Rattle.seg_merge.specs.SegmentsMerged.{AreMerged, AreOfOne, IsRefusal, MergeInput, MergesSegments, MergesTo, one_refusal, output_meta_of}
 use Rattle.seg_merge.specs.Turns.{Directories, goes_on, stops}
 use Rattle.seg_merge.proofs.MergeErrors.{merge_error, merge_fresh, merge_starved, merge_undamaged}
 use Rattle.seg_merge.proofs.MergeHeld.{answer_index, answer_merge, answer_stays, answer_whole, exit_stays}
@@ -53,12 +52,9 @@ abbrev IsArgument : TantivyError → Type 0
 IsArgument e = (cause : ArgumentCause) × (e ≡ InvalidArgument cause)
 
 one_cause : (m : MergeInput) (e : TantivyError) → one_refusal m ≡ Some e → IsArgument e
-one_cause m e is = elim (or_cause (is_built_schema (first_schema m.segments)) Later _ e is) [
-  | inl first ↦ (Later, sym first)
-  | inr more ↦ elim (or_cause (all_fit m.filters m.segments) Filters _ e more) [
-    | inl second ↦ (Filters, sym second)
-    | inr last ↦ (Settings, sym (unless_cause (settings_fit m.settings) Settings e last))
-  ]
+one_cause m e is = elim (or_cause (all_fit m.filters m.segments) Filters _ e is) [
+  | inl first ↦ (Filters, sym first)
+  | inr last ↦ (Settings, sym (unless_cause (settings_fit m.settings) Settings e last))
 ]
 
 some_is : (e d : TantivyError) → Some e ≡ Some d → e ≡ d
@@ -72,8 +68,7 @@ cause_of m (x ∷ segments) e (inr h) = one_cause m e (sym h.1)
 -- nothing refuses segments that are merged
 none_refused : (m : MergeInput) → AreMerged m → one_refusal m ≡ None
 none_refused m merged =
-    ap (λ b. option_or (unless b (InvalidArgument Later)) (option_or (unless (all_fit m.filters m.segments) (InvalidArgument Filters)) (unless (settings_fit m.settings) (InvalidArgument Settings)))) merged.built
-    ∙ ap (λ b. option_or (unless b (InvalidArgument Filters)) (unless (settings_fit m.settings) (InvalidArgument Settings))) merged.fit
+    ap (λ b. option_or (unless b (InvalidArgument Filters)) (unless (settings_fit m.settings) (InvalidArgument Settings))) merged.fit
     ∙ ap (λ b. unless b (InvalidArgument Settings)) merged.settings
 
 refusal_none : (m : MergeInput) (segments : List SegmentParts) → (segments ≡ [] → ⊥) → AreOfOne m.segments

@@ -1,8 +1,9 @@
 -- Where the merge of segments ends, with each directory by itself.
 use Rattle.std.proofs.Common.{◌≡◌, ◌∙◌, List, [], None, Result, Ok, Err, refl, sym, ap, subst}
 use Rattle.std.proofs.lemmas.List.{append-nil}
+use Rattle.seg_values.specs.declared.error.ArgumentCause.TheVariants.{Numbers}
 use Rattle.seg_values.specs.declared.error.TantivyError.{TantivyError}
-use Rattle.seg_values.specs.declared.error.TantivyError.TheVariants.{OutOfMemory}
+use Rattle.seg_values.specs.declared.error.TantivyError.TheVariants.{InvalidArgument, OutOfMemory}
 use Rattle.seg_directory.proofs.Exports.{answers, does_nothing, stops_before}
 use Rattle.seg_directory.specs.State.{DirectoryState}
 use Rattle.seg_directory.specs.Works.{Step, Works}
@@ -13,7 +14,7 @@ use Rattle.seg_open.specs.Answers.{seen_as}
 use Rattle.seg_open.specs.OpenSegment.{OpenSegment, kept_count}
 use Rattle.seg_open.specs.SegmentOpened.{OpensSegments}
 use Rattle.seg_join.specs.Merger.{AreJoinedFiles, too_many}
-use Rattle.seg_merge.specs.SegmentsMerged.{FillsOutput, IsReadBack, MergeInput, MergesLive, MergesTo, fills, first_schema, live_asked, output_meta_of, starves}
+use Rattle.seg_merge.specs.SegmentsMerged.{FillsOutput, IsReadBack, MergeInput, MergesLive, MergesTo, fills, first_schema, live_asked, mixes, output_meta_of, starves}
 use Rattle.seg_merge.specs.Turns.{Directories, goes_on, stops}
 use Rattle.seg_merge.specs.WritingSteps.{begin_steps, fill_one_steps}
 
@@ -62,6 +63,7 @@ module _ (m : MergeInput) where
   made_of : {T : Type 0} (opened : List OpenSegment) (x : T) (a b : DirectoryState)
       → FillsOutput m opened (Ok x) a b → Made opened a b
   made_of opened x a b (starves is same) = absurd (cc is)
+  made_of opened x a b (mixes is none same) = absurd (cc is)
   made_of opened x a b (fills files joins works) = record { files = files; joins = joins; works = answers works }
 
   opened_of : (u : Unit {0}) (opened : List OpenSegment) (a n p : Directories) → Begins (Ok u) a.output n.output
@@ -122,12 +124,14 @@ module _ (m : MergeInput) where
     at_counting : (opened : List OpenSegment) → Opened opened a b.work b.output → Counts opened (Err e)
         → MergeExits e a b
     at_filling : (opened : List OpenSegment) (o : DirectoryState) → Opened opened a b.work o
-        → FillsOutput {T = Unit {0}} m opened (Err e) o b.output → MergeExits e a b
+        → too_many (kept_count opened) ≡ None → FillsOutput {T = Unit {0}} m opened (Err e) o b.output → MergeExits e a b
 
   -- the same error of another call
   pub fails_as : (S T : Type 0) (opened : List OpenSegment) (e : TantivyError) (a b : DirectoryState)
       → FillsOutput {T = S} m opened (Err e) a b → FillsOutput {T = T} m opened (Err e) a b
   fails_as S T opened e a b (starves is same) = starves (ap (failing T) (same_error S e OutOfMemory is)) same
+  fails_as S T opened e a b (mixes is none same) =
+      mixes (ap (failing T) (same_error S e (InvalidArgument Numbers) is)) none same
   fails_as S T opened e a b (fills files joins works) = fills files joins (works_as S T _ e a b works)
 
   exit_as : (T : Type 0) (e d : TantivyError) (a b : Directories) → failing T e ≡ failing T d → MergeExits d a b
@@ -140,11 +144,11 @@ module _ (m : MergeInput) where
       subst (λ (d : Directories). MergeExits e a d) (sym same) (at_counting opened was counts)
 
   filling : (opened : List OpenSegment) (e : TantivyError) (a p q b : Directories) → Opened opened a p.work p.output
-      → q ≡ p → FillsOutput {T = Unit {0}} m opened (Err e) q.output b.output → b.work ≡ q.work → MergeExits e a b
-  filling opened e a p q b was same h stays =
+      → too_many (kept_count opened) ≡ None → q ≡ p → FillsOutput {T = Unit {0}} m opened (Err e) q.output b.output → b.work ≡ q.work → MergeExits e a b
+  filling opened e a p q b was few same h stays =
       at_filling opened p.output
       (subst (λ (s : DirectoryState). Opened opened a s p.output)
-      (sym (stays ∙ ap (λ (d : Directories). d.work) same)) was)
+      (sym (stays ∙ ap (λ (d : Directories). d.work) same)) was) few
       (subst (λ (s : DirectoryState). FillsOutput {T = Unit {0}} m opened (Err e) s b.output)
       (ap (λ (d : Directories). d.output) same) h)
 
@@ -161,7 +165,7 @@ module _ (m : MergeInput) where
   merge_exits T e a b (goes_on u n h (goes_on opened p k (stops d is l))) =
       exit_as T e d a b is (counting opened d a p b (opened_of u opened a n p h.0 h.1 k.0 k.1) l.0 l.1)
   merge_exits T e a b (goes_on u n h (goes_on opened p k (goes_on v q l f))) =
-      filling opened e a p q b (opened_of u opened a n p h.0 h.1 k.0 k.1) l.1
+      filling opened e a p q b (opened_of u opened a n p h.0 h.1 k.0 k.1) l.0 l.1
       (fails_as T (Unit {0}) opened e q.output b.output f.0) f.1
 
   -- ---- without its meta
@@ -170,6 +174,7 @@ module _ (m : MergeInput) where
   seen_fills : {T : Type 0} (f : T → Meta) (opened : List OpenSegment) (r : Result T TantivyError) (a b : DirectoryState)
       → FillsOutput m opened (seen_as f r) a b → FillsOutput m opened r a b
   seen_fills f opened (Ok x) a b (starves is same) = absurd (cc is)
+  seen_fills f opened (Ok x) a b (mixes is none same) = absurd (cc is)
   seen_fills f opened (Ok x) a b (fills files joins works) = fills files joins (answers works)
   seen_fills {T = T} f opened (Err e) a b h = fails_as Meta T opened e a b h
 

@@ -21,7 +21,7 @@ use Rattle.seg_merge.specs.MergeAnswers.{AllHaveHeld, LiveAreWhole}
 use Rattle.seg_merge.specs.SegmentsMerged.{live_asked}
 use Rattle.seg_merge.specs.Turns.{Directories}
 use Rattle.seg_merge.proofs.Exits.{Begun, Filled}
-use Rattle.seg_merge.proofs.FilledIndex.{filled_alive, filled_small, filled_stand, filled_taken, filled_tells, filled_totals}
+use Rattle.seg_merge.proofs.FilledIndex.{filled_alive, filled_fit, filled_stand, filled_taken, filled_tells, filled_totals}
 use Rattle.seg_merge.proofs.FillSteps.{length-batches}
 use Rattle.seg_merge.proofs.IndexSteps.{tells-still}
 use Rattle.seg_merge.proofs.WholeIds.{work_distinct, work_many}
@@ -64,9 +64,8 @@ module _ (analyzer : Analyzer) (input : Input) where
     module _ (a : Directories) (w o : DirectoryState) (filled : Filled analyzer input a w o) where
       pub is_written : IsWritten analyzer input
       is_written = record {
-        built = fits.built;
-        small =
-            filled_small input.settings input.schema analyzer (work_ids input.ids) input.cuts input.operations many tt
+        fit =
+            filled_fit input.settings input.schema analyzer (work_ids input.ids) input.cuts input.operations many tt
             filled.begun_at w filled.fills;
         taken =
             filled_taken input.settings input.schema analyzer (work_ids input.ids) input.cuts input.operations many tt

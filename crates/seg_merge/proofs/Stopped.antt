@@ -1,43 +1,43 @@
 -- What is known of the error with which the writing of both indexes ends.
-use Rattle.std.proofs.Common.{◌≡◌, ◌≢◌, ◌≤◌, ◌^◌, ◌∙◌, ℕ, true, List, IsTrue, length, None, Some, Result, Err, refl, sym, ap, subst, inl, inr, arith}
+use Rattle.std.proofs.Common.{◌≡◌, ◌≢◌, ◌≤◌, ◌<◌, ◌^◌, ◌∙◌, ℕ, true, List, IsTrue, map, length, None, Some, Result, Err, refl, sym, ap, subst, inl, inr, arith}
 use Rattle.std.specs.Prelude.{◌⊎◌}
 use Rattle.std.specs.FinMap.{len}
 use Rattle.seg_common.specs.Causes.{Rose}
-use Rattle.seg_values.specs.declared.error.ArgumentCause.TheVariants.{Documents}
+use Rattle.seg_values.specs.declared.error.ArgumentCause.TheVariants.{Documents, Numbers}
 use Rattle.seg_values.specs.declared.error.TantivyError.{TantivyError}
 use Rattle.seg_values.specs.declared.error.TantivyError.TheVariants.{SchemaError, InvalidArgument, IndexAlreadyExists, OpenReadError, OpenWriteError, IoError, DataCorruption, SystemError, FieldNotFound, OutOfMemory}
 use Rattle.seg_directory.proofs.Exports.{all_went, never_there}
 use Rattle.seg_directory.specs.Files.{NamedFiles}
 use Rattle.seg_directory.specs.State.{DirectoryState}
-use Rattle.seg_model.specs.Fields.{Analyzer}
-use Rattle.seg_model.specs.Input.{Input}
-use Rattle.seg_model.specs.Valid.{Known, settings_fit}
+use Rattle.seg_model.specs.Fields.{Schema, Analyzer}
+use Rattle.seg_model.specs.Input.{Input, input_batches}
+use Rattle.seg_model.specs.Laws.{AreReadingsOf, JoiningIsInvisible}
+use Rattle.seg_model.specs.Valid.{Known, input_refusal, settings_fit}
 use Rattle.seg_segment.specs.Laws.{HoldsOneContents}
 use Rattle.seg_segment.specs.SegmentRead.{IsReadError}
-use Rattle.seg_build.specs.Laws.{BuiltHaveNoColumns}
-use Rattle.seg_open.specs.OpenSegment.{OpenSegment, kept_count}
+use Rattle.seg_open.specs.OpenSegment.{OpenSegment, kept_count, part_of}
 use Rattle.seg_open.specs.SegmentOpened.{IsNoDamage, OpensSegments}
-use Rattle.seg_open.proofs.Exports.{EndsSo, segments_end, segments_rose}
+use Rattle.seg_open.proofs.Exports.{segments_rose, segments_so}
 use Rattle.seg_batches.proofs.Exports.{refusal_weaker}
 use Rattle.seg_refusals.specs.Admitted.{Fits}
-use Rattle.seg_refusals.specs.Refusals.{first_error, refusal_error}
-use Rattle.seg_model.specs.Refused.{IfRefusal, IsRefusal, batches_error}
+use Rattle.seg_model.specs.Refused.{IfRefusal, IsRefusal, batches_error, build_refusal}
 use Rattle.seg_refusals.proofs.Exports.{first_is_refusal}
 use Rattle.seg_merge.specs.Builds.{AreEmpty, IsWhyUntold}
 use Rattle.seg_merge.specs.DirectoryCalls.{BuildsIndexes, merge_of}
 use Rattle.seg_merge.specs.IndexFiles.{work_ids}
-use Rattle.seg_merge.specs.SegmentsMerged.{AreMerged, MergeInput, live_asked}
+use Rattle.seg_merge.specs.SegmentsMerged.{AreMerged, MergeInput, first_schema, joined, live_asked}
 use Rattle.seg_merge.specs.Turns.{Directories, stops, goes_on}
 use Rattle.seg_merge.proofs.Exits.{Exits, Filled, exits, in_listing, in_output_listing, in_beginning, in_filling, in_merging}
 use Rattle.seg_merge.proofs.FilledIndex.{filled_fresh, filled_refused, filled_so}
 use Rattle.seg_merge.proofs.IndexSteps.{tells-still}
-use Rattle.seg_merge.proofs.MergeErrors.{count_refuses, filling_so, merge_fresh, merge_refused, merge_undamaged, too_many_told}
+use Rattle.seg_merge.proofs.MergeErrors.{argument_refuses, filling_so, merge_fresh, merge_refused, merge_undamaged, too_many_told}
 use Rattle.seg_merge.proofs.MergeHeld.{opened_held}
 use Rattle.seg_merge.proofs.MergeTurns.{MergeExits, Opened, at_beginning, at_counting, at_filling, at_opening}
 use Rattle.seg_merge.proofs.Reached.{are_readings, begun_absent, begun_later, begun_tells, distinct, is_written, many, output_told, told_filled, work_whole}
-use Rattle.seg_merge.proofs.WholeJoined.{kept_survivors}
-use Rattle.seg_merge.proofs.WholeRefused.{by_batches, by_survivors, refusal_undamaged}
-use Rattle.seg_merge.proofs.WholeWork.{are_merged}
+use Rattle.seg_merge.proofs.WholeJoined.{kept_survivors, survivors_joined}
+use Rattle.seg_merge.proofs.WholeRead.{live_batches}
+use Rattle.seg_merge.proofs.WholeRefused.{by_batches, by_numbers, by_survivors, refusal_undamaged}
+use Rattle.seg_merge.proofs.WholeWork.{are_merged, work_schema}
 use Rattle.seg_merge.proofs.WriteErrors.{IsWriteError, calls_so, so_before, write_unrefused, write_undamaged, rose_before}
 
 abbrev failing : (T : Type 0) → TantivyError → Result T TantivyError
@@ -110,14 +110,12 @@ of_reading OutOfMemory a b so rose = tt
 of_memory : (e : TantivyError) (a b : Directories) → e ≡ OutOfMemory → IsBuildError e a b
 of_memory e a b is = subst (λ (x : TantivyError). IsBuildError x a b) (sym is) tt
 
--- a schema that is not built yet is refused, or a reading failed
-of_opening : (e : TantivyError) (a b : Directories) → EndsSo e
-    → (e ≡ OpenReadError → Rose a.work.faults b.work.faults) → IsBuildError e a b
-of_opening e a b (inl so) rose = of_reading e a b so rose
-of_opening e a b (inr is) rose = subst (λ (x : TantivyError). IsBuildError x a b) (sym is) tt
-
 module _ (m : MergeInput) (e : TantivyError) (a n b : Directories) (later : a.work.faults ≤ n.work.faults)
     (output_later : a.output.faults ≤ n.output.faults) where
+  began_later : (opened : List OpenSegment) (o : DirectoryState) → Opened m opened n b.work o
+      → a.output.faults ≤ o.faults
+  began_later opened o was = omega (arith, output_later, (all_went was.begins).later)
+
   -- of each exit of the merge
   error_of_merge : MergeExits m e n b → IsBuildError e a b
   error_of_merge (at_beginning h stays) =
@@ -125,17 +123,17 @@ module _ (m : MergeInput) (e : TantivyError) (a n b : Directories) (later : a.wo
       (so_before e a.output.faults n.output.faults b.output.faults output_later
       (calls_so {T = Unit {0}} e (tt, (tt, (tt, tt))) h))
   error_of_merge (at_opening begins h) =
-      of_opening e a b (segments_end (live_asked m.segments m.filters) n.work b.work e h)
+      of_reading e a b (segments_so (live_asked m.segments m.filters) n.work b.work e h)
       (λ is. rose_before a.work.faults n.work.faults b.work.faults later
       (segments_rose (live_asked m.segments m.filters) n.work b.work
       (subst (λ (x : TantivyError). OpensSegments (live_asked m.segments m.filters) (Err x) n.work b.work) is h)))
   error_of_merge (at_counting opened was (inl is)) =
-      of_refusal e a b (count_refuses e (too_many_told (kept_count opened) e is).1)
+      of_refusal e a b (argument_refuses Documents e (too_many_told (kept_count opened) e is).1)
   error_of_merge (at_counting opened was (inr is)) = of_memory e a b is
-  error_of_merge (at_filling opened o was h) =
-      of_output e a b
-      (so_before e a.output.faults o.faults b.output.faults (omega (arith, output_later, (all_went was.begins).later))
-      (filling_so {T = Unit {0}} m opened e o b.output h))
+  error_of_merge (at_filling opened o was few h) = elim (filling_so {T = Unit {0}} m opened e o b.output h) [
+    | inl mixed ↦ of_refusal e a b (argument_refuses Numbers e mixed.0)
+    | inr so ↦ of_output e a b (so_before e a.output.faults o.faults b.output.faults (began_later opened o was) so)
+  ]
 
 module _ (analyzer : Analyzer) (input : Input) where
   -- of each exit
@@ -206,20 +204,25 @@ module _ (analyzer : Analyzer) (input : Input) where
     module _ (P : TantivyError → Type 0)
         (in_batch : (e : TantivyError) → batches_error input.schema analyzer 0 input.cuts input.operations ≡ Some e → P e) where
       exit_refused : (e : TantivyError) (a b : Directories) → Exits analyzer input e a b
-          → ((n : Directories) (w o : DirectoryState) (opened : List OpenSegment) → Filled analyzer input a n.work n.output → Opened (merge_of analyzer input) opened n w o → 2 ^ 31 ≤ kept_count opened → P (InvalidArgument Documents))
+          → ((n : Directories) (w o : DirectoryState) (opened : List OpenSegment) → Filled analyzer input a n.work n.output
+          → Opened (merge_of analyzer input) opened n w o → 2 ^ 31 ≤ kept_count opened → P (InvalidArgument Documents))
+          → ((n : Directories) (w o : DirectoryState) (opened : List OpenSegment) → Filled analyzer input a n.work n.output
+          → Opened (merge_of analyzer input) opened n w o → kept_count opened < 2 ^ 31
+          → joined (first_schema (merge_of analyzer input).segments) opened ≡ None → P (InvalidArgument Numbers))
           → IfRefusal P e
-      exit_refused e a b (in_listing h) in_count = write_unrefused P e _ _ (calls_so {T = Unit {0}} e (tt, tt) h)
-      exit_refused e a b (in_output_listing h) in_count =
+      exit_refused e a b (in_listing h) in_count in_numbers = write_unrefused P e _ _ (calls_so {T = Unit {0}} e (tt, tt) h)
+      exit_refused e a b (in_output_listing h) in_count in_numbers =
           write_unrefused P e _ _ (calls_so {T = Unit {0}} e (tt, tt) h)
-      exit_refused e a b (in_beginning w lists h) in_count =
+      exit_refused e a b (in_beginning w lists h) in_count in_numbers =
           write_unrefused P e _ _ (calls_so {T = Unit {0}} e (tt, (tt, (tt, tt))) h)
-      exit_refused e a b (in_filling w o begun h) in_count =
+      exit_refused e a b (in_filling w o begun h) in_count in_numbers =
           refusal_weaker _ P in_batch e
           (filled_refused input.settings input.schema analyzer (work_ids input.ids) input.cuts input.operations
           (many analyzer input fits) e w b.work h)
-      exit_refused e a b (in_merging n filled h) in_count =
+      exit_refused e a b (in_merging n filled h) in_count in_numbers =
           merge_refused (merge_of analyzer input) merged e n b P
-          (λ opened was more. in_count n b.work b.output opened filled was more) h
+          (λ opened was more. in_count n b.work b.output opened filled was more)
+          (λ opened o was few none. in_numbers n b.work o opened filled was few none) h
 
 same_error : (T : Type 0) (e d : TantivyError) → failing T e ≡ failing T d → e ≡ d
 same_error T e d is = cc is
@@ -238,7 +241,7 @@ module _ (known : Known) (analyzer : Analyzer) (input : Input) where
       (error_of_exit analyzer input e m b (exits analyzer input T e m b writes))
 
   module _ (fits : Fits analyzer input) (settings : settings_fit input.settings ≡ true)
-      (none : first_error known analyzer input ≡ None) (e : TantivyError) (a b : Directories) (exit : Exits analyzer input e a b) where
+      (none : input_refusal known analyzer input ≡ None) (e : TantivyError) (a b : Directories) (exit : Exits analyzer input e a b) where
     pub stopped_fresh : AreEmpty a → e ≢ IndexAlreadyExists
     stopped_fresh empty is = exit_fresh analyzer input fits settings e a b empty exit is
 
@@ -246,19 +249,33 @@ module _ (known : Known) (analyzer : Analyzer) (input : Input) where
     stopped_whole told = exit_undamaged analyzer input fits settings e a b told exit
 
     abbrev IsWhy : TantivyError → Type 0
-    IsWhy x = refusal_error known analyzer input ≡ Some x
+    IsWhy x = build_refusal known analyzer input ≡ Some x
 
     in_batch : (x : TantivyError) → batches_error input.schema analyzer 0 input.cuts input.operations ≡ Some x → IsWhy x
-    in_batch x is = by_batches known analyzer input x fits.built none is
+    in_batch x is = by_batches known analyzer input x none is
 
-    pub stopped_refused : BuiltHaveNoColumns → HoldsOneContents → IsTrue a.work.tells → IfRefusal IsWhy e
-    stopped_refused law one told = exit_refused analyzer input fits settings IsWhy in_batch e a b exit (λ n w o opened filled was more.
-        let held = opened_held (merge_of analyzer input) opened n.work w (told_filled analyzer input fits a n.work n.output filled told) was.opens in
-        let readings = are_readings analyzer input fits a n.work n.output filled told one opened held in
-        by_survivors known analyzer input law (is_written analyzer input fits a n.work n.output filled) none
+    -- what was opened are the readings of the live batches
+    read_back : HoldsOneContents → IsTrue a.work.tells → (n : Directories) (w o : DirectoryState) (opened : List OpenSegment)
+        → Filled analyzer input a n.work n.output → Opened (merge_of analyzer input) opened n w o
+        → AreReadingsOf input.schema analyzer (live_batches (length input.operations) input.filters (input_batches analyzer input)) (map part_of opened)
+    read_back one told n w o opened filled was =
+        are_readings analyzer input fits a n.work n.output filled told one opened
+        (opened_held (merge_of analyzer input) opened n.work w (told_filled analyzer input fits a n.work n.output filled told) was.opens)
+
+    pub stopped_refused : JoiningIsInvisible → HoldsOneContents → IsTrue a.work.tells → IfRefusal IsWhy e
+    stopped_refused law one told = exit_refused analyzer input fits settings IsWhy in_batch e a b exit
+        (λ n w o opened filled was more.
+        let readings = read_back one told n w o opened filled was in
+        by_survivors known analyzer input (is_written analyzer input fits a n.work n.output filled) none
         (subst (λ (n : ℕ). 2 ^ 31 ≤ n) (kept_survivors (length input.operations) analyzer input opened fits.filters readings) more))
+        (λ n w o opened filled was few mixed.
+        let readings = read_back one told n w o opened filled was in
+        by_numbers known analyzer input (is_written analyzer input fits a n.work n.output filled) none
+        (subst (λ (n : ℕ). n < 2 ^ 31) (kept_survivors (length input.operations) analyzer input opened fits.filters readings) few)
+        (survivors_joined law (length input.operations) analyzer input opened fits.filters readings
+        ∙ sym (ap (λ (s : Schema). joined s opened) (work_schema analyzer input fits)) ∙ mixed))
 
     pub stopped_untold : IfRefusal (IsWhyUntold known analyzer input) e
     stopped_untold =
         exit_refused analyzer input fits settings (IsWhyUntold known analyzer input) (λ x is. inl (in_batch x is)) e a b exit
-        (λ n w o opened filled was more. inr refl)
+        (λ n w o opened filled was more. inr (inl refl)) (λ n w o opened filled was few mixed. inr (inr refl))

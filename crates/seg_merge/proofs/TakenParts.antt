@@ -22,6 +22,7 @@ use Rattle.seg_meta.specs.Metas.{SegmentParts, deleted}
 use Rattle.seg_model.specs.Checked.{unless}
 use Rattle.seg_model.specs.Fields.{Schema, Analyzer}
 use Rattle.seg_model.specs.Input.{Filter, Input, input_batches}
+use Rattle.seg_model.specs.Join.{join}
 use Rattle.seg_model.specs.Operations.{Batch}
 use Rattle.seg_model.specs.Valid.{Known, are_distinct, batches_fit, cuts_fit, filters_fit, input_refusal, shape_refusal}
 use Rattle.seg_model.proofs.Exports.{or_both, unless_true}
@@ -31,13 +32,11 @@ use Rattle.seg_segment.specs.Spelling.{Spell}
 use Rattle.seg_open.specs.OpenSegment.{OpenSegment, contents_of, part_of}
 use Rattle.seg_open.specs.SegmentOpened.{AreReadersOf, Asked, Found, IsReaderOf, agreeing, alive_read, asked_of}
 use Rattle.seg_refusals.specs.Admitted.{Fits}
-use Rattle.seg_refusals.specs.Inputs.{is_built_input}
-use Rattle.seg_refusals.specs.Refusals.{first_error, later_refusal}
 use Rattle.seg_batches.specs.Segments.{WrittenSegment, all_listed, deletes_of, listed, segment_of, segments_of}
 use Rattle.seg_batches.specs.Writing.{batch_causes, batches_steps}
 use Rattle.seg_merge.specs.DirectoryCalls.{BuildsIndexes, WritesIndexes, lists_none, merge_of}
 use Rattle.seg_merge.specs.IndexFiles.{output_id, work_ids, work_segments}
-use Rattle.seg_merge.specs.SegmentsMerged.{is_live, joined, live_asked}
+use Rattle.seg_merge.specs.SegmentsMerged.{is_live, live_asked}
 use Rattle.seg_merge.specs.Taken.{ArePartsOf, HoldsTaken, IsPartOf, NamedBatch, gained, last_read, named_batches, read_after_write, taken_batches, was_taken, was_written}
 use Rattle.seg_merge.specs.Turns.{Directories, goes_on, stops}
 use Rattle.seg_merge.specs.WorkIndexWriting.{finish_steps, listing_meta}
@@ -370,8 +369,12 @@ module _ (analyzer : Analyzer) (input : Input) (fits : Fits analyzer input) (a b
   output_holds told = record {
     parts = map part_of w.opened;
     taken = taken_of (gained a.work.seen b.work.seen) gained_is;
+    contents = w.merged.made.joins.contents;
+    joined =
+        sym (ap (λ (s : Schema). join s (map part_of w.opened)) (work_schema analyzer input fits))
+        ∙ w.merged.made.joins.joined;
     holds =
-        subst (λ (s : Schema). Holds b.output.files (output_id input.ids) s (joined s w.opened))
+        subst (λ (s : Schema). Holds b.output.files (output_id input.ids) s w.merged.made.joins.contents)
         (work_schema analyzer input fits)
         (merged_holds (merge_of analyzer input) w.opened w.between b w.merged
         (output_told analyzer input fits a w.between.work w.between.output w.filled told));
@@ -379,19 +382,17 @@ module _ (analyzer : Analyzer) (input : Input) (fits : Fits analyzer input) (a b
 
 -- ---- from the calls alone
 
-fits_of : (known : Known) (analyzer : Analyzer) (input : Input) → first_error known analyzer input ≡ None
+fits_of : (known : Known) (analyzer : Analyzer) (input : Input) → input_refusal known analyzer input ≡ None
     → Fits analyzer input
 fits_of known analyzer input none =
-    let tests = or_both (later_refusal input) (input_refusal known analyzer input) none in
     let shaped =
-    or_both (shape_refusal input.operations input.cuts input.filters (input_batches analyzer input) input.ids) _ tests.1 in
+    or_both (shape_refusal input.operations input.cuts input.filters (input_batches analyzer input) input.ids) _ none in
     let cuts = or_both (unless (cuts_fit input.operations input.cuts) (InvalidArgument argument.Cuts)) _ shaped.0 in
     let batches = or_both (unless (batches_fit input.cuts) (InvalidArgument argument.Batches)) _ cuts.1 in
     let filters =
     or_both (unless (filters_fit input.filters (input_batches analyzer input)) (InvalidArgument argument.Filters)) _
     batches.1 in
     record {
-      built = unless_true (is_built_input input) (InvalidArgument argument.Later) tests.0;
       cuts = unless_true _ (InvalidArgument argument.Cuts) cuts.0;
       batches = unless_true _ (InvalidArgument argument.Batches) batches.0;
       filters = unless_true _ (InvalidArgument argument.Filters) filters.0;

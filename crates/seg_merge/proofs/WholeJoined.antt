@@ -15,9 +15,7 @@ use Rattle.seg_model.specs.Laws.{AreReadingsOf, JoiningIsInvisible}
 use Rattle.seg_model.specs.Operations.{Batch, both_marked, filtered, filtered_by, kept, live}
 use Rattle.seg_model.specs.Valid.{filter_fits, filters_fit}
 use Rattle.seg_model.proofs.Exports.{was_read}
-use Rattle.seg_segment.specs.Built.{is_built_schema}
 use Rattle.seg_open.specs.OpenSegment.{OpenSegment, kept_count, part_of}
-use Rattle.seg_join.specs.Laws.{BuiltPartsJoin}
 use Rattle.seg_join.proofs.Exports.{counted_first}
 use Rattle.seg_merge.specs.SegmentsMerged.{joined}
 use Rattle.seg_merge.proofs.WholeRead.{IsCounted, batches_counted, has_live, live_batches, under}
@@ -103,19 +101,18 @@ module _ (stamp : ℕ) where
 
 -- ---- what they are joined to
 
--- the full reading of the survivors
-pub survivors_joined : JoiningIsInvisible → BuiltPartsJoin
-    → (stamp : ℕ) (analyzer : Analyzer) (input : Input) (opened : List OpenSegment) → is_built_schema input.schema ≡ true
+-- the full reading of the survivors, each undefined exactly where the other is
+pub survivors_joined : JoiningIsInvisible
+    → (stamp : ℕ) (analyzer : Analyzer) (input : Input) (opened : List OpenSegment)
     → filters_fit input.filters (input_batches analyzer input) ≡ true
     → AreReadingsOf input.schema analyzer (live_batches stamp input.filters (input_batches analyzer input)) (map part_of opened)
-    → full_reading input.schema analyzer (input_survivors analyzer input) ≡ Some (joined input.schema opened)
-survivors_joined law join_law stamp analyzer input opened built fit h =
+    → full_reading input.schema analyzer (input_survivors analyzer input) ≡ joined input.schema opened
+survivors_joined law stamp analyzer input opened fit h =
     ap (full_reading input.schema analyzer)
     (sym
     (live_survive stamp input.filters (input_batches analyzer input) fit
     (batches_counted input.schema analyzer 0 input.cuts input.operations)))
     ∙ sym (law input.schema analyzer (live_batches stamp input.filters (input_batches analyzer input)) (map part_of opened) h)
-    ∙ join_law input.schema opened built
 
 -- and it counts them
 pub counts_survivors : (analyzer : Analyzer) (input : Input) (contents : Contents)

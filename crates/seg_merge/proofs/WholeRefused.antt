@@ -3,7 +3,7 @@ use Rattle.std.proofs.Common.{◌≡◌, ◌≤◌, ◌<◌, ◌^◌, ℕ, List,
 use Rattle.std.specs.Prelude.{◌⊎◌, is_none, is_some}
 use Rattle.std.specs.List.{AllByRecursion, enumerate_from, list_all}
 use Rattle.std.specs.Option.{option_or}
-use Rattle.std.proofs.lemmas.Bool.{false≢true, and_parts, le-ltb}
+use Rattle.std.proofs.lemmas.Bool.{false≢true, and_parts, le-ltb, lt-ltb}
 use Rattle.seg_common.proofs.Lists.{unnumbered}
 use Rattle.seg_values.specs.Tree.{Document}
 use Rattle.seg_values.specs.declared.error.ArgumentCause.TheVariants as argument
@@ -13,19 +13,17 @@ use Rattle.seg_meta.specs.View.{settings_of}
 use Rattle.seg_meta.specs.declared.index_settings.IndexSettings.{IndexSettings}
 use Rattle.seg_model.specs.Built.{is_taken}
 use Rattle.seg_model.specs.Checked.{Cause, document_refusal, first_of, unless}
+use Rattle.seg_model.specs.Columns.{Columns, columns}
+use Rattle.seg_model.specs.Contents.{full_reading, reading_with}
 use Rattle.seg_model.specs.Fields.{Schema, Analyzer}
 use Rattle.seg_model.specs.Input.{Input, input_batches, input_survivors}
 use Rattle.seg_model.specs.Operations.{Operation, Batch, additions, batches_from}
 use Rattle.seg_model.specs.Refused.{cut_from, count_refusal, numbers_refusal, batch_refusal, build_refusal, IfRefusal, IsRefusal, batches_error}
-use Rattle.seg_model.specs.Valid.{Known, shape_refusal, schema_refusal, input_refusal, names_fit, settings_fit}
-use Rattle.seg_segment.specs.Built.{is_built_schema}
-use Rattle.seg_build.specs.Laws.{BuiltHaveNoColumns}
+use Rattle.seg_model.specs.Valid.{Known, FitsSegment, shape_refusal, schema_refusal, input_refusal, names_fit, settings_fit}
 use Rattle.seg_build.specs.WriterStart.{start_refusal}
 use Rattle.seg_open.specs.SegmentOpened.{IsNoDamage}
 use Rattle.seg_refusals.specs.Admitted.{IsValidIf}
-use Rattle.seg_refusals.specs.Inputs.{is_built_input}
-use Rattle.seg_refusals.specs.Refusals.{first_error, later_refusal, refusal_error}
-use Rattle.seg_model.proofs.Exports.{Fits, Taken, first_none, or_both, or_second, parts_none, taken_pass}
+use Rattle.seg_model.proofs.Exports.{Fits, Taken, first_none, none_map, or_both, parts_none, taken_pass}
 use Rattle.seg_segment.specs.SegmentRead.{IsReadError}
 use Rattle.seg_batches.proofs.Exports.{if_refusal}
 
@@ -62,39 +60,33 @@ refusal_undamaged OutOfMemory h = tt
 
 -- ---- what the first tests leave
 
-pub none_first : (known : Known) (analyzer : Analyzer) (input : Input) → first_error known analyzer input ≡ None
-    → input_refusal known analyzer input ≡ None
-none_first known analyzer input h = or_second (later_refusal input) (input_refusal known analyzer input) h
-
 -- what is refused first is refused
 pub first_is_refused : (known : Known) (analyzer : Analyzer) (input : Input) (e : TantivyError)
-    → first_error known analyzer input ≡ Some e → refusal_error known analyzer input ≡ Some e
-first_is_refused known analyzer input e h = over (later_refusal input) (input_refusal known analyzer input) _ h
+    → input_refusal known analyzer input ≡ Some e → build_refusal known analyzer input ≡ Some e
+first_is_refused known analyzer input e h = over (input_refusal known analyzer input) _ h
   where
-    over : (a b rest : Option TantivyError) → option_or a b ≡ Some e → option_or a (option_or b rest) ≡ Some e
-    over None b rest k = ap (λ o. option_or o rest) k
-    over (Some x) b rest k = k
+    over : (first rest : Option TantivyError) → first ≡ Some e → option_or first rest ≡ Some e
+    over first rest k = ap (λ o. option_or o rest) k
 
 -- a first error that the tests told, or out of memory
 pub caused_refusal : (known : Known) (analyzer : Analyzer) (input : Input) (e : TantivyError)
-    → (first_error known analyzer input ≡ Some e) ⊎ (e ≡ OutOfMemory)
-    → IfRefusal (λ x. refusal_error known analyzer input ≡ Some x) e
+    → (input_refusal known analyzer input ≡ Some e) ⊎ (e ≡ OutOfMemory)
+    → IfRefusal (λ x. build_refusal known analyzer input ≡ Some x) e
 caused_refusal known analyzer input e (inl is) =
-    if_refusal (λ x. refusal_error known analyzer input ≡ Some x) e (first_is_refused known analyzer input e is)
+    if_refusal (λ x. build_refusal known analyzer input ≡ Some x) e (first_is_refused known analyzer input e is)
 caused_refusal known analyzer input e (inr is) =
-    subst (IfRefusal (λ x. refusal_error known analyzer input ≡ Some x)) (sym is) tt
+    subst (IfRefusal (λ x. build_refusal known analyzer input ≡ Some x)) (sym is) tt
 
 -- the settings are supported
 unless_true : (b : Bool) (e : TantivyError) → unless b e ≡ None → b ≡ true
 unless_true true e h = refl
 unless_true false e h = absurd (cc h)
 
-pub settings_suit : (known : Known) (analyzer : Analyzer) (input : Input) → first_error known analyzer input ≡ None
+pub settings_suit : (known : Known) (analyzer : Analyzer) (input : Input) → input_refusal known analyzer input ≡ None
     → settings_fit input.settings ≡ true
 settings_suit known analyzer input none =
     let shaped =
-    or_both (shape_refusal input.operations input.cuts input.filters (input_batches analyzer input) input.ids) _
-    (none_first known analyzer input none) in
+    or_both (shape_refusal input.operations input.cuts input.filters (input_batches analyzer input) input.ids) _ none in
     let begun = or_both (schema_refusal known input.schema input.settings) _ shaped.1 in
     let named = or_both (unless (names_fit input.schema) (InvalidArgument argument.FieldName)) _ begun.0 in
     let fits = or_both (unless (settings_fit input.settings) (InvalidArgument argument.Settings)) _ named.1 in
@@ -103,17 +95,13 @@ settings_suit known analyzer input none =
 -- ---- a writer is made
 
 pub starts : (known : Known) (analyzer : Analyzer) (input : Input) (settings : IndexSettings)
-    → input.settings ≡ settings_of settings → is_built_input input ≡ true → first_error known analyzer input ≡ None
+    → input.settings ≡ settings_of settings → input_refusal known analyzer input ≡ None
     → start_refusal known 15000 input.schema settings ≡ None
-starts known analyzer input settings is built none =
+starts known analyzer input settings is none =
     let shaped =
-    or_both (shape_refusal input.operations input.cuts input.filters (input_batches analyzer input) input.ids) _
-    (none_first known analyzer input none) in
+    or_both (shape_refusal input.operations input.cuts input.filters (input_batches analyzer input) input.ids) _ none in
     let begun = or_both (schema_refusal known input.schema input.settings) _ shaped.1 in
-    ap
-    (λ b. option_or (unless b (InvalidArgument argument.Later))
-    (schema_refusal known input.schema (settings_of settings))) built
-    ∙ ap (schema_refusal known input.schema) (sym is) ∙ begun.0
+    ap (schema_refusal known input.schema) (sym is) ∙ begun.0
 
 -- ---- no batch is refused
 
@@ -135,26 +123,18 @@ module _ (schema : Schema) (analyzer : Analyzer) where
           (false≢true
           (sym (ap is_none is) ∙ (and_parts (is_taken schema analyzer d) (list_all (is_taken schema analyzer) ds) h).0))
 
-  -- batches that are small fit, for a schema that is built
-  each_fits : BuiltHaveNoColumns → is_built_schema schema ≡ true → (batches : List Batch)
-      → AllByRecursion (λ (b : Batch). length b.documents < 2 ^ 31) batches → AllByRecursion (Fits schema analyzer) batches
-  each_fits law built [] h = tt
-  each_fits law built (b ∷ bs) h =
-      (record { few = h.0; columns = ap is_some (law schema analyzer b.documents built) }, each_fits law built bs h.1)
-
 -- what is known of an input once its work index is written
 pub record IsWritten (analyzer : Analyzer) (input : Input) : Type 0 where
-  pub built : is_built_input input ≡ true
-  pub small : AllByRecursion (λ (b : Batch). length b.documents < 2 ^ 31) (input_batches analyzer input)
+  pub fit : AllByRecursion (Fits input.schema analyzer) (input_batches analyzer input)
   pub taken : list_all (is_taken input.schema analyzer) (additions input.operations) ≡ true
 
 module _ (known : Known) (analyzer : Analyzer) (input : Input) where
   abbrev numbered : List (ℕ × Operation)
   numbered = enumerate_from 0 input.operations
 
-  batches_unrefused : BuiltHaveNoColumns → IsWritten analyzer input
+  batches_unrefused : IsWritten analyzer input
       → first_of (batch_refusal input.schema analyzer) (cut_from 0 input.cuts numbered) ≡ None
-  batches_unrefused law w =
+  batches_unrefused w =
       first_none (batch_refusal input.schema analyzer) (cut_from 0 input.cuts numbered)
       (parts_none input.schema analyzer 0 input.cuts numbered
       (taken_pass input.schema analyzer numbered
@@ -162,8 +142,7 @@ module _ (known : Known) (analyzer : Analyzer) (input : Input) where
       (each_taken input.schema analyzer (additions input.operations) w.taken)))
       (subst
       (λ os. AllByRecursion (Fits input.schema analyzer) (batches_from input.schema analyzer 0 input.cuts os))
-      (sym (unnumbered 0 input.operations))
-      (each_fits input.schema analyzer law w.built (input_batches analyzer input) w.small)))
+      (sym (unnumbered 0 input.operations)) w.fit))
 
   -- what is after the tests of the input
   abbrev after_input : Option TantivyError → Option TantivyError
@@ -172,42 +151,53 @@ module _ (known : Known) (analyzer : Analyzer) (input : Input) where
       (option_or (count_refusal (input_survivors analyzer input))
       (numbers_refusal input.schema analyzer (input_survivors analyzer input)))
 
-  past_input : first_error known analyzer input ≡ None
-      → refusal_error known analyzer input ≡ after_input (first_of (batch_refusal input.schema analyzer) (cut_from 0 input.cuts numbered))
+  past_input : input_refusal known analyzer input ≡ None
+      → build_refusal known analyzer input ≡ after_input (first_of (batch_refusal input.schema analyzer) (cut_from 0 input.cuts numbered))
   past_input none =
-      let two = or_both (later_refusal input) (input_refusal known analyzer input) none in
-      ap (λ o. option_or o (build_refusal known analyzer input)) two.0
-      ∙ ap
+      ap
       (λ o. option_or o (after_input (first_of (batch_refusal input.schema analyzer) (cut_from 0 input.cuts numbered))))
-      two.1
+      none
 
   -- a refusal of a batch, after the input's
-  pub by_batches : (e : TantivyError) → is_built_input input ≡ true → first_error known analyzer input ≡ None
+  pub by_batches : (e : TantivyError) → input_refusal known analyzer input ≡ None
       → batches_error input.schema analyzer 0 input.cuts input.operations ≡ Some e
-      → refusal_error known analyzer input ≡ Some e
-  by_batches e built none h = past_input none ∙ ap after_input h
+      → build_refusal known analyzer input ≡ Some e
+  by_batches e none h = past_input none ∙ ap after_input h
 
   -- too many survivors, after both
-  pub by_survivors : BuiltHaveNoColumns → IsWritten analyzer input → first_error known analyzer input ≡ None
+  pub by_survivors : IsWritten analyzer input → input_refusal known analyzer input ≡ None
       → 2 ^ 31 ≤ length (input_survivors analyzer input)
-      → refusal_error known analyzer input ≡ Some (InvalidArgument argument.Documents)
-  by_survivors law w none many =
+      → build_refusal known analyzer input ≡ Some (InvalidArgument argument.Documents)
+  by_survivors w none many =
       past_input none
-      ∙ ap after_input (batches_unrefused law w)
+      ∙ ap after_input (batches_unrefused w)
       ∙ ap
       (λ b. option_or (unless b (InvalidArgument argument.Documents))
       (numbers_refusal input.schema analyzer (input_survivors analyzer input)))
       (le-ltb (length (input_survivors analyzer input)) (2 ^ 31) many)
 
+  -- and after that survivors without columns
+  pub by_numbers : IsWritten analyzer input → input_refusal known analyzer input ≡ None
+      → length (input_survivors analyzer input) < 2 ^ 31
+      → full_reading input.schema analyzer (input_survivors analyzer input) ≡ None
+      → build_refusal known analyzer input ≡ Some (InvalidArgument argument.Numbers)
+  by_numbers w none few mixed =
+      past_input none
+      ∙ ap after_input (batches_unrefused w)
+      ∙ ap
+      (λ b. option_or (unless b (InvalidArgument argument.Documents))
+      (numbers_refusal input.schema analyzer (input_survivors analyzer input)))
+      (lt-ltb (length (input_survivors analyzer input)) (2 ^ 31) few)
+      ∙ ap (λ (o : Option Columns). unless (is_some o) (InvalidArgument argument.Numbers))
+      (none_map (reading_with input.schema analyzer (input_survivors analyzer input))
+      (columns input.schema analyzer (input_survivors analyzer input)) mixed)
+
   -- an input of which both indexes are written is valid
-  pub is_valid_if : (told : Type 0) → BuiltHaveNoColumns → IsWritten analyzer input
-      → first_error known analyzer input ≡ None → (told → length (input_survivors analyzer input) < 2 ^ 31)
-      → IsValidIf told known analyzer input
-  is_valid_if told law w none few = record {
-    accepted = none_first known analyzer input none;
+  pub is_valid_if : (told : Type 0) → IsWritten analyzer input → input_refusal known analyzer input ≡ None
+      → (told → FitsSegment input.schema analyzer (input_survivors analyzer input)) → IsValidIf told known analyzer input
+  is_valid_if told w none survivors = record {
+    accepted = none;
     taken = each_taken input.schema analyzer (additions input.operations) w.taken;
-    batches = each_fits input.schema analyzer law w.built (input_batches analyzer input) w.small;
-    survivors =
-        λ t. record
-        { few = few t; columns = ap is_some (law input.schema analyzer (input_survivors analyzer input) w.built) };
+    batches = w.fit;
+    survivors = survivors;
   }

@@ -14,7 +14,6 @@ use Rattle.seg_model.specs.Fields.{Schema, Analyzer}
 use Rattle.seg_model.specs.Input.{Input}
 use Rattle.seg_model.specs.Valid.{settings_fit}
 use Rattle.seg_refusals.specs.Admitted.{Fits}
-use Rattle.seg_segment.specs.Built.{is_built_schema}
 use Rattle.seg_segment.specs.SegmentFiles.{AreAbsent, KeepsAllBut}
 use Rattle.seg_batches.specs.Segments.{alive_file, alive_files, six_files}
 use Rattle.seg_merge.specs.DirectoryCalls.{merge_of}
@@ -75,7 +74,6 @@ module _ (analyzer : Analyzer) (input : Input) (fits : Fits analyzer input) wher
         subst
         (λ (schema : Schema). AllByRecursion (λ (s : SegmentParts). s.schema ≡ schema) (map (metas.segment_of input.schema) (work_listed analyzer input)))
         (sym work_schema) (parts_of_one input.schema (work_listed analyzer input));
-    built = ap is_built_schema work_schema ∙ fits.built;
     fit =
         parts_fit input.schema (length input.operations) input.filters (work_ids input.ids) _
         (work_many input.cuts input.ids fits.ids ∙ sym (length-batches input.schema analyzer 0 input.cuts input.operations))

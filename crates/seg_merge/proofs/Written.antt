@@ -1,4 +1,5 @@
 -- What is known where both indexes are written.
+use Rattle.std.specs.Prelude.{is_some}
 use Rattle.std.proofs.Common.{◌≡◌, ◌<◌, ◌^◌, ◌∙◌, ℕ, List, IsTrue, length, map, None, Some, Ok, sym, ap, subst}
 use Rattle.seg_directory.specs.Files.{NamedFiles}
 use Rattle.seg_directory.specs.State.{DirectoryState}
@@ -10,16 +11,14 @@ use Rattle.seg_meta.specs.IndexOfFiles as index
 use Rattle.seg_model.specs.Input.{Input, input_batches, input_survivors}
 use Rattle.seg_model.specs.Operations.{Batch}
 use Rattle.seg_model.specs.Laws.{AreReadingsOf, JoiningIsInvisible}
-use Rattle.seg_model.specs.Valid.{Known}
+use Rattle.seg_model.specs.Valid.{FitsSegment, Known, input_refusal}
+use Rattle.seg_model.proofs.Exports.{was_read}
 use Rattle.seg_segment.specs.Holds.{Holds}
 use Rattle.seg_segment.specs.Laws.{HoldsOneContents}
-use Rattle.seg_build.specs.Laws.{BuiltHaveNoColumns}
 use Rattle.seg_batches.specs.BatchTotals.{HasTotals}
 use Rattle.seg_open.specs.OpenSegment.{kept_count, part_of}
 use Rattle.seg_join.specs.JoinedTotals.{joined_total}
-use Rattle.seg_join.specs.Laws.{BuiltPartsJoin}
 use Rattle.seg_refusals.specs.Admitted.{Fits}
-use Rattle.seg_refusals.specs.Refusals.{first_error}
 use Rattle.seg_merge.specs.Builds.{Builds, IsBuilt}
 use Rattle.seg_merge.specs.DirectoryCalls.{WritesIndexes, merge_of}
 use Rattle.seg_merge.specs.IndexFiles.{IsOutputIndexOf, IsWorkIndexOf, merged_meta, output_id, output_meta, work_ids}
@@ -40,7 +39,7 @@ use Rattle.seg_merge.proofs.WholeRead.{batches_counted, live_batches}
 use Rattle.seg_merge.proofs.WholeRefused.{is_valid_if}
 use Rattle.seg_merge.proofs.WholeWork.{work_merged_meta, work_schema}
 
-module _ {T : Type 0} (x : T) (known : Known) (analyzer : Analyzer) (input : Input) (fits : Fits analyzer input) (none : first_error known analyzer input ≡ None)
+module _ {T : Type 0} (x : T) (known : Known) (analyzer : Analyzer) (input : Input) (fits : Fits analyzer input) (none : input_refusal known analyzer input ≡ None)
     (meta : index.Meta) (a b : Directories) (built : IsBuilt analyzer input a b meta) (writes : WritesIndexes analyzer input (Ok x) a b) where
   abbrev w : Wrote analyzer input a b
   w = wrote analyzer input x a b writes
@@ -100,20 +99,30 @@ module _ {T : Type 0} (x : T) (known : Known) (analyzer : Analyzer) (input : Inp
           merge.counted ∙ work_merged_meta analyzer input fits (kept_count merge.opened)
           ∙ ap (merged_meta input.settings input.schema (work_ids input.ids) (output_id input.ids)) as_many
 
-      survivors : JoiningIsInvisible → BuiltPartsJoin
-          → full_reading input.schema analyzer (input_survivors analyzer input) ≡ Some (joined input.schema merge.opened)
-      survivors law join_law =
-          survivors_joined law join_law (length input.operations) analyzer input merge.opened fits.built fits.filters readings_of
+      survivors : JoiningIsInvisible
+          → full_reading input.schema analyzer (input_survivors analyzer input) ≡ Some merge.contents
+      survivors law =
+          survivors_joined law (length input.operations) analyzer input merge.opened fits.filters readings_of
+          ∙ sym (ap (λ (s : Schema). joined s merge.opened) (work_schema analyzer input fits)) ∙ merge.joins
 
-      output_index : JoiningIsInvisible → BuiltPartsJoin → IsTrue a.output.tells → IsOutputIndexOf analyzer input b.output.files
-      output_index law join_law told_output = record {
+      -- one segment can hold them
+      survivors_fit : JoiningIsInvisible → FitsSegment input.schema analyzer (input_survivors analyzer input)
+      survivors_fit law = record {
+        few = few one;
+        columns =
+            ap is_some
+            (was_read input.schema analyzer (input_survivors analyzer input) merge.contents (survivors law)).are_columns;
+      }
+
+      output_index : JoiningIsInvisible → IsTrue a.output.tells → IsOutputIndexOf analyzer input b.output.files
+      output_index law told_output = record {
         index_of = merge.index_of told_output ∙ ap (λ (m : index.Meta). Some m) meta_is;
         stands = record {
-          contents = joined input.schema merge.opened;
-          read = survivors law join_law;
+          contents = merge.contents;
+          read = survivors law;
           held =
-              subst (λ (s : Schema). Holds b.output.files (output_id input.ids) s (joined s merge.opened))
-              (work_schema analyzer input fits) (merge.joins told_output);
+              subst (λ (s : Schema). Holds b.output.files (output_id input.ids) s merge.contents)
+              (work_schema analyzer input fits) (merge.holds told_output);
         };
       }
 
@@ -143,13 +152,13 @@ module _ {T : Type 0} (x : T) (known : Known) (analyzer : Analyzer) (input : Inp
 
   -- ---- both
 
-  pub builds_both : JoiningIsInvisible → BuiltPartsJoin → BuiltHaveNoColumns → HoldsOneContents
-      → AreReadBack input.settings input.schema → output_id input.ids < 2 ^ 128 → Builds known analyzer input meta a b
-  builds_both law join_law columns one reads id_fits = record {
+  pub builds_both : JoiningIsInvisible → HoldsOneContents → AreReadBack input.settings input.schema
+      → output_id input.ids < 2 ^ 128 → Builds known analyzer input meta a b
+  builds_both law one reads id_fits = record {
     admitted = none;
     valid =
-        is_valid_if known analyzer input (IsTrue a.work.tells) columns
-        (is_written analyzer input fits a work_at output_at w.filled) none (λ told. few told one);
+        is_valid_if known analyzer input (IsTrue a.work.tells)
+        (is_written analyzer input fits a work_at output_at w.filled) none (λ told. survivors_fit told one law);
     counted = (
       built.merged.counted.0,
       built.merged.counted.1 ∙ work_merged_meta analyzer input fits built.merged.counted.0,
@@ -159,13 +168,13 @@ module _ {T : Type 0} (x : T) (known : Known) (analyzer : Analyzer) (input : Inp
       index = work_index told;
       meta_is = meta_is told one;
       totals = totals told;
-      output_index = output_index told one law join_law;
+      output_index = output_index told one law;
       output_totals = output_totals told one;
     };
     in_output = λ told. record {
       was_empty = output_empty analyzer input a w.filled.begun_at output_at w.filled.begun told;
       index_of = built.merged.index_of told;
     };
-    any_moment = λ told clean. build_leaves analyzer input fits reads id_fits one law join_law a told clean (Ok x) b writes;
-    at_rest = λ told clean. build_rests analyzer input fits reads id_fits one law join_law a told clean x b writes;
+    any_moment = λ told clean. build_leaves analyzer input fits reads id_fits one law a told clean (Ok x) b writes;
+    at_rest = λ told clean. build_rests analyzer input fits reads id_fits one law a told clean x b writes;
   }

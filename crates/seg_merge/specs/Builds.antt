@@ -1,7 +1,7 @@
 -- What the building of an index from an input comes to.
 use Rattle.std.specs.Prelude.{ℕ, ◌≡◌, ◌≢◌, ◌⊎◌, Some, None, Result, Ok, Err, IfSome, IsTrue}
 use Rattle.std.specs.FinMap.{len}
-use Rattle.seg_values.specs.declared.error.ArgumentCause.TheVariants.{Documents}
+use Rattle.seg_values.specs.declared.error.ArgumentCause.TheVariants.{Documents, Numbers}
 use Rattle.seg_values.specs.declared.error.TantivyError.{TantivyError}
 use Rattle.seg_values.specs.declared.error.TantivyError.TheVariants.{IndexAlreadyExists, InvalidArgument, OutOfMemory}
 use Rattle.seg_directory.specs.State.{HasOnly, IsEmptyDisk, LeavesOnly}
@@ -9,12 +9,11 @@ use Rattle.seg_meta.specs.IndexOfFiles as index
 use Rattle.seg_meta.specs.IndexOfFiles.{Meta}
 use Rattle.seg_model.specs.Fields.{Analyzer}
 use Rattle.seg_model.specs.Input.{Input}
-use Rattle.seg_model.specs.Valid.{Known}
+use Rattle.seg_model.specs.Valid.{Known, input_refusal}
 use Rattle.seg_segment.specs.Forms.{segment_forms}
 use Rattle.seg_open.specs.SegmentOpened.{IsNoDamage}
 use Rattle.seg_refusals.specs.Admitted.{IsValidIf}
-use Rattle.seg_refusals.specs.Refusals.{first_error, refusal_error}
-use Rattle.seg_model.specs.Refused.{IfRefusal}
+use Rattle.seg_model.specs.Refused.{IfRefusal, build_refusal}
 use Rattle.seg_merge.specs.AfterCrash.{MayBeBuilt}
 use Rattle.seg_merge.specs.DirectoryCalls.{merge_of}
 use Rattle.seg_merge.specs.IndexFiles.{IsOutputIndexOf, IsWorkIndexOf, merged_meta, output_id, output_meta, work_ids, work_meta}
@@ -51,7 +50,7 @@ LeavesBuilt analyzer input before after =
 -- both indexes are written
 pub record Builds (known : Known) (analyzer : Analyzer) (input : Input) (meta : Meta)
     (before after : Directories) : Type 0 where
-  pub admitted : first_error known analyzer input ≡ None
+  pub admitted : input_refusal known analyzer input ≡ None
   pub valid : IsValidIf (IsTrue before.work.tells) known analyzer input
   pub counted : (documents : ℕ)
       × (meta ≡ merged_meta input.settings input.schema (work_ids input.ids) (output_id input.ids) documents)
@@ -61,10 +60,10 @@ pub record Builds (known : Known) (analyzer : Analyzer) (input : Input) (meta : 
   pub at_rest : IsTrue before.work.tells → IsEmptyDisk before.output.disk
       → HasOnly (IsOutputIndexOf analyzer input) after.output.disk.now
 
--- why the input is refused, or too many documents were read back
+-- why the input is refused, or too many documents were read back, or numbers without a type
 abbrev pub IsWhyUntold : Known → Analyzer → Input → TantivyError → Type 0
 IsWhyUntold known analyzer input e =
-    (refusal_error known analyzer input ≡ Some e) ⊎ (e ≡ InvalidArgument Documents)
+    (build_refusal known analyzer input ≡ Some e) ⊎ ((e ≡ InvalidArgument Documents) ⊎ (e ≡ InvalidArgument Numbers))
 
 -- directories without files, which they tell
 pub record AreEmpty (state : Directories) : Type 0 where
@@ -76,9 +75,9 @@ pub record AreEmpty (state : Directories) : Type 0 where
 -- or it ends with an error: the first refusal, or out of memory, before a directory is called; or after that
 pub record StopsBuilding (known : Known) (analyzer : Analyzer) (input : Input) (e : TantivyError)
     (before after : Directories) : Type 0 where
-  pub first : IfSome (first_error known analyzer input)
+  pub first : IfSome (input_refusal known analyzer input)
       (λ first. ((e ≡ first) ⊎ (e ≡ OutOfMemory)) × (after ≡ before))
-  pub refused : IsTrue before.work.tells → IfRefusal (λ x. refusal_error known analyzer input ≡ Some x) e
+  pub refused : IsTrue before.work.tells → IfRefusal (λ x. build_refusal known analyzer input ≡ Some x) e
   pub untold : IfRefusal (IsWhyUntold known analyzer input) e
   pub fresh : AreEmpty before → e ≢ IndexAlreadyExists
   pub whole : IsTrue before.work.tells → IsNoDamage e

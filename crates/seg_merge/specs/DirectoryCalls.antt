@@ -8,8 +8,7 @@ use Rattle.seg_model.specs.Fields.{Schema, Analyzer}
 use Rattle.seg_meta.specs.IndexOfFiles.{ListedSegment}
 use Rattle.seg_meta.specs.Metas.{segment_of}
 use Rattle.seg_model.specs.Input.{Input, Settings}
-use Rattle.seg_model.specs.Valid.{Known}
-use Rattle.seg_refusals.specs.Refusals.{first_error}
+use Rattle.seg_model.specs.Valid.{Known, input_refusal}
 use Rattle.seg_merge.specs.IndexFiles.{output_id, work_ids, work_listed}
 use Rattle.seg_merge.specs.SegmentsMerged.{MergeInput, MergesLive}
 use Rattle.seg_merge.specs.Turns.{Directories, InOutput, InWork, Passes, Then}
@@ -63,5 +62,5 @@ WritesIndexes analyzer input result before after =
 abbrev pub BuildsIndexes : {T : Type 0} → Known → Analyzer → Input
     → Result T TantivyError → Directories → Directories → Type 0
 BuildsIndexes known analyzer input result before after =
-    Then {X = Unit {0}} (Passes (first_error known analyzer input)) (λ _.
+    Then {X = Unit {0}} (Passes (input_refusal known analyzer input)) (λ _.
     WritesIndexes analyzer input) result before after

@@ -1,17 +1,18 @@
 -- What is known of the merge of segments, by what it answers.
-use Rattle.std.specs.Prelude.{ℕ, ◌≡◌, ◌⊎◌, List, [], ◌∷◌, replicate, true, Bool, Option, Some, None, IsSomeAnd, IsTrue, ◌<◌, ◌^◌, map}
+use Rattle.std.specs.Prelude.{ℕ, ◌≡◌, ◌⊎◌, List, [], ◌∷◌, replicate, true, Bool, Option, Some, None, IsSomeAnd, IsTrue, is_some, ◌<◌, ◌^◌, map}
 use Rattle.std.specs.FinMap.{get, len}
 use Rattle.std.specs.List.{AllByRecursion}
 use Rattle.seg_common.specs.Causes.{Rose}
 use Rattle.seg_common.specs.declared.name.FileName.TheVariants.{Part}
 use Rattle.seg_common.specs.declared.name.SegmentComponent.TheVariants.{Postings}
-use Rattle.seg_values.specs.declared.error.ArgumentCause.TheVariants.{Documents}
+use Rattle.seg_values.specs.declared.error.ArgumentCause.TheVariants.{Documents, Numbers}
 use Rattle.seg_values.specs.declared.error.TantivyError.{TantivyError}
 use Rattle.seg_values.specs.declared.error.TantivyError.TheVariants.{DataCorruption, IndexAlreadyExists, InvalidArgument, IoError, OpenReadError, OpenWriteError, OutOfMemory}
 use Rattle.seg_directory.specs.Files.{NamedFiles}
 use Rattle.seg_meta.specs.IndexOfFiles as index
 use Rattle.seg_meta.specs.IndexOfFiles.{Deletes, Meta}
 use Rattle.seg_meta.specs.Metas.{SegmentParts}
+use Rattle.seg_model.specs.Contents.{Contents}
 use Rattle.seg_model.specs.Operations.{filtered_by}
 use Rattle.seg_segment.specs.Forms.{segment_forms}
 use Rattle.seg_segment.specs.Holds.{Holds}
@@ -25,11 +26,11 @@ use Rattle.seg_merge.specs.Turns.{Directories}
 
 -- ---- errors
 
--- with which errors a merge ends: a refusal, or too many documents; a file that is there, damage, or out of memory; or
--- a call failed, and then a fault of that directory was counted
+-- with which errors a merge ends: a refusal, too many documents, or numbers without a type; a file that is there, damage,
+-- or out of memory; or a call failed, and then a fault of that directory was counted
 abbrev pub IsMergeError : MergeInput → Directories → Directories → TantivyError → Type 0
 IsMergeError m before after (InvalidArgument cause) =
-    IsRefusal m m.segments (Some (InvalidArgument cause)) ⊎ (cause ≡ Documents)
+    IsRefusal m m.segments (Some (InvalidArgument cause)) ⊎ ((cause ≡ Documents) ⊎ (cause ≡ Numbers))
 IsMergeError m before after IndexAlreadyExists = Unit {0}
 IsMergeError m before after (DataCorruption name) = Unit {0}
 IsMergeError m before after OutOfMemory = Unit {0}
@@ -67,15 +68,18 @@ AllHaveHeld files [] (s ∷ opened) = ⊥
 AllHaveHeld files (a ∷ asked) [] = ⊥
 AllHaveHeld files (a ∷ asked) (s ∷ opened) = HasHeld files a s × AllHaveHeld files asked opened
 
--- segments with what the work files hold were merged: the meta counts their documents; and where the output directory
--- tells its files, these are an index with this meta, whose segment has what they join to, with the estimated totals
+-- segments with what the work files hold were merged: they join, and the meta counts their documents; and where the output
+-- directory tells its files, these are an index with this meta, whose segment has what they join to, with the estimated
+-- totals
 pub record IsMergeOf (m : MergeInput) (work : NamedFiles) (told : Type 0) (output : NamedFiles)
     (meta : Meta) : Type 0 where
   pub opened : List OpenSegment
   pub held : AllHaveHeld work (live_asked m.segments m.filters) opened
   pub counted : meta ≡ output_meta_of m (kept_count opened)
   pub index_of : told → index.index_of segment_forms output ≡ Some meta
-  pub joins : told → Holds output m.id (first_schema m.segments) (joined (first_schema m.segments) opened)
+  pub contents : Contents
+  pub joins : joined (first_schema m.segments) opened ≡ Some contents
+  pub holds : told → Holds output m.id (first_schema m.segments) contents
   pub totals : told → HasTotals output m.id (first_schema m.segments) (joined_total opened)
 
 -- files are a whole index: they say this meta, and each segment that it lists is whole
@@ -93,11 +97,14 @@ pub record IsMergedAs (m : MergeInput) (before after : Directories) (meta : Meta
 -- ---- what ends well
 
 -- nothing refuses these segments, of which each with a live document is whole, in a directory that tells its files; they have
--- fewer than 2^31 live documents by their metas; the output directory tells that it has no file; and neither directory fails
+-- fewer than 2^31 live documents by their metas, and what the files hold of them joins; the output directory tells that it
+-- has no file; and neither directory fails
 pub record CanBeMerged (m : MergeInput) (before after : Directories) : Type 0 where
   pub merged : AreMerged m
   pub whole : LiveAreWhole before.work.files m.segments
   pub few : live_documents (map (λ s. s.meta) m.segments) < 2 ^ 31
+  pub joins : (opened : List OpenSegment) → AllHaveHeld before.work.files (live_asked m.segments m.filters) opened
+      → is_some (joined (first_schema m.segments) opened) ≡ true
   pub work_tells : IsTrue before.work.tells
   pub work_sound : ¬ (Rose before.work.faults after.work.faults)
   pub output_tells : IsTrue before.output.tells

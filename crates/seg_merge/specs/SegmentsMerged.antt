@@ -1,9 +1,8 @@
 -- What the merge of segments into an index does to the two directories.
-use Rattle.std.specs.Prelude.{ℕ, ◌≡◌, ◌⊎◌, ◌+◌, ◌-◌, List, [], ◌∷◌, map, nat_lt, cond, true, Bool, Option, Some, Result, Ok, Err, IfOk}
-use Rattle.std.specs.FinMap.{empty}
+use Rattle.std.specs.Prelude.{ℕ, ◌≡◌, ◌⊎◌, ◌+◌, ◌-◌, List, [], ◌∷◌, map, nat_lt, cond, true, Bool, Option, None, Some, Result, Ok, Err, IfOk}
 use Rattle.std.specs.List.{AllByRecursion, filter}
 use Rattle.std.specs.Option.{option_or}
-use Rattle.seg_values.specs.declared.error.ArgumentCause.TheVariants.{DifferentSchemas, Filters, NoSegments, Settings}
+use Rattle.seg_values.specs.declared.error.ArgumentCause.TheVariants.{DifferentSchemas, Filters, NoSegments, Numbers, Settings}
 use Rattle.seg_values.specs.declared.error.TantivyError.{TantivyError}
 use Rattle.seg_values.specs.declared.error.TantivyError.TheVariants.{InvalidArgument, OutOfMemory}
 use Rattle.seg_directory.specs.State.{DirectoryState}
@@ -19,13 +18,12 @@ use Rattle.seg_model.specs.Contents.{Contents}
 use Rattle.seg_model.specs.Fields.{Schema}
 use Rattle.seg_model.specs.Input as input
 use Rattle.seg_model.specs.Input.{Filter}
-use Rattle.seg_model.specs.Join.{joined_with}
+use Rattle.seg_model.specs.Join.{join}
 use Rattle.seg_model.specs.Telling.{Tells}
 use Rattle.seg_model.specs.Valid.{settings_fit}
-use Rattle.seg_segment.specs.Built.{is_built_schema}
 use Rattle.seg_segment.specs.declared.segment_files.SegmentFiles.{SegmentFiles}
 use Rattle.seg_open.specs.OpenSegment.{OpenSegment, kept_count, part_of}
-use Rattle.seg_open.specs.SegmentOpened.{Asked, OpensSegments, asked_of, later}
+use Rattle.seg_open.specs.SegmentOpened.{Asked, OpensSegments, asked_of}
 use Rattle.seg_join.specs.Merger.{AreJoinedFiles, Merging, all_fit, too_many}
 use Rattle.seg_merge.specs.IndexFiles.{merged_meta}
 use Rattle.seg_merge.specs.Turns.{Directories, InOutput, InWork, Passes, Then}
@@ -50,12 +48,11 @@ abbrev pub first_schema : List SegmentParts → Schema
 first_schema [] = []
 first_schema (s ∷ segments) = s.schema
 
--- why segments of one schema are not merged: it is not built yet, a filter doesn't fit, or the settings don't
+-- why segments of one schema are not merged: a filter doesn't fit, or the settings don't
 abbrev pub one_refusal : MergeInput → Option TantivyError
 one_refusal m =
-    option_or (later (first_schema m.segments))
-    (option_or (unless (all_fit m.filters m.segments) (InvalidArgument Filters))
-    (unless (settings_fit m.settings) (InvalidArgument Settings)))
+    option_or (unless (all_fit m.filters m.segments) (InvalidArgument Filters))
+    (unless (settings_fit m.settings) (InvalidArgument Settings))
 
 -- all segments are of one schema
 abbrev pub AreOfOne : List SegmentParts → Type 0
@@ -90,9 +87,9 @@ kept_filters (s ∷ segments) [] = []
 kept_filters (s ∷ segments) (f ∷ filters) =
     cond (is_live s.meta) (f ∷ kept_filters segments filters) (kept_filters segments filters)
 
--- what open segments join to; there is no column yet
-abbrev pub joined : Schema → List OpenSegment → Contents
-joined schema opened = joined_with schema (map part_of opened) empty
+-- what open segments join to: undefined where the numbers of a path have no type
+abbrev pub joined : Schema → List OpenSegment → Option Contents
+joined schema opened = join schema (map part_of opened)
 
 -- the meta of the output index, of this many documents
 abbrev pub output_meta_of : MergeInput → ℕ → Meta
@@ -101,10 +98,13 @@ output_meta_of m documents =
 
 -- ---- what is done
 
--- the output index, which was begun, is filled with one segment, of what the open segments join to; or memory runs out
+-- the output index, which was begun, is filled with one segment, of what the open segments join to; or memory runs out; or
+-- they join to nothing, which is told before a file is made
 pub data FillsOutput {T : Type 0} (m : MergeInput) (opened : List OpenSegment)
     (result : Result T TantivyError) (before after : DirectoryState) : Type 0 where
   starves : result ≡ Err OutOfMemory → after ≡ before → FillsOutput m opened result before after
+  mixes : result ≡ Err (InvalidArgument Numbers) → joined (first_schema m.segments) opened ≡ None → after ≡ before
+      → FillsOutput m opened result before after
   fills : (files : SegmentFiles)
       → AreJoinedFiles (first_schema m.segments) m.settings.block_size opened files
       → Works (fill_one_steps (output_meta_of m (kept_count opened)) m.id files) result before after
@@ -134,11 +134,10 @@ pub record MergesSegments {T : Type 0} (m : MergeInput) (result : Result T Tanti
 
 -- ---- what is known on the way
 
--- segments that nothing refuses: there is one, all are of one schema, which is built, and the filters and settings fit
+-- segments that nothing refuses: there is one, all are of one schema, and the filters and settings fit
 pub record AreMerged (m : MergeInput) : Type 0 where
   pub some : m.segments ≡ [] → ⊥
   pub of_one : AreOfOne m.segments
-  pub built : is_built_schema (first_schema m.segments) ≡ true
   pub fit : all_fit m.filters m.segments ≡ true
   pub settings : settings_fit m.settings ≡ true
 

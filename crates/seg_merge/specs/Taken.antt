@@ -1,6 +1,5 @@
 -- What was taken of the batches of an input, as the answers of the work directory tell it.
 use Rattle.std.specs.Prelude.{ℕ, ◌≡◌, List, [], ◌∷◌, drop, length, replicate, Bool, true, false, not, ◌&&◌, ◌||◌, ◌==◌, nat_lt, is_some, if◌then◌else◌, Option, Some, None}
-use Rattle.std.specs.FinMap.{empty}
 use Rattle.std.specs.List.{AllByRecursion, filter, list_any}
 use Rattle.std.specs.Option.{option_and_then, option_or}
 use Rattle.seg_common.specs.Names.{component_number}
@@ -10,6 +9,7 @@ use Rattle.seg_bits.specs.BitSets.{set_of}
 use Rattle.seg_directory.specs.Files.{NamedFiles}
 use Rattle.seg_directory.specs.declared.answer.Answer.{Answer}
 use Rattle.seg_directory.specs.declared.answer.Answer.TheVariants as answer
+use Rattle.seg_model.specs.Contents.{Contents}
 use Rattle.seg_model.specs.Fields.{Schema, Analyzer}
 use Rattle.seg_model.specs.Input.{Filter, Input, input_batches}
 use Rattle.seg_model.specs.Join as join
@@ -116,11 +116,13 @@ taken_batches analyzer input answers =
     filter (was_taken (length input.operations) answers)
     (named_batches (work_ids input.ids) (input_batches analyzer input) input.filters)
 
--- the files hold, under the last id, what the parts that were taken of these batches join to
+-- the parts that were taken of these batches join, and the files hold under the last id what they join to
 pub record HoldsTaken (analyzer : Analyzer) (input : Input) (answers : List Answer) (output : NamedFiles) : Type 0 where
   pub parts : List join.Part
   pub taken : ArePartsOf input.schema (length input.operations) answers (taken_batches analyzer input answers) parts
-  pub holds : Holds output (output_id input.ids) input.schema (join.joined_with input.schema parts empty)
+  pub contents : Contents
+  pub joined : join.join input.schema parts ≡ Some contents
+  pub holds : Holds output (output_id input.ids) input.schema contents
 
 -- answers determine the parts that were taken of batches
 abbrev pub AnswersDetermineParts : Type 0

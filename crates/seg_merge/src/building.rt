@@ -9,8 +9,8 @@ ghost use Rattle.seg_open.specs.Answers.{seen_as};
 ghost use Rattle.seg_open.specs.SegmentOpened.{IsNoDamage};
 ghost use Rattle.seg_refusals.specs.Admitted.{IsValidIf};
 ghost use Rattle.seg_refusals.specs.Inputs.{input_of};
-ghost use Rattle.seg_refusals.specs.Refusals.{first_error, refusal_error};
-ghost use Rattle.seg_model.specs.Refused.{IfRefusal};
+ghost use Rattle.seg_model.specs.Refused.{IfRefusal, build_refusal};
+ghost use Rattle.seg_model.specs.Valid.{input_refusal};
 ghost use Rattle.seg_merge.specs.AfterCrash.{MayBeBuilt};
 ghost use Rattle.seg_merge.specs.Builds.{EndsBuilding};
 ghost use Rattle.seg_merge.specs.DirectoryCalls.{BuildsIndexes};
@@ -21,11 +21,9 @@ ghost use Rattle.seg_merge.specs.Turns.{both};
 
 use crate::indexes::write_indexes;
 use seg_bits::AliveBitSet;
-use seg_build::built_schemas_have_no_columns;
 use seg_common::SegmentId;
 use seg_directory::Directory;
 use seg_input::{BuildInputRef, UserOperation};
-use seg_join::built_parts_join;
 use seg_meta::{Index, IndexSettings, ids_fit, schema_reads_back};
 use seg_model::joining_is_invisible;
 use seg_refusals::check_input;
@@ -47,11 +45,10 @@ use std::alloc::Global;
 /// The output is saved so that a crash at any moment leaves it as no index, as the empty one, or whole; once the call
 /// answers Ok, as the whole.
 ///
-/// Refusals come in this order: what is not built yet (fields with columns, indexed fields of facets),
-/// `Cuts`, `Batches`, `Filters`, `SegmentIds`, `FieldName`, `Settings`, `Tokenizer`, `DeleteField`; then each directory
-/// that has files; then, batch by batch after the files of those before it, `Documents`, and the first document that does
-/// not pass its check; and last, when the output index is begun, `Documents`, where more are left than one segment can
-/// hold.
+/// Refusals come in this order: `Cuts`, `Batches`, `Filters`, `SegmentIds`, `FieldName`, `Settings`, `Tokenizer`,
+/// `FastTokenizer`, `DeleteField`; then each directory that has files; then, batch by batch after the files of those before
+/// it, `Documents`, the first document that does not pass its check, and `Numbers` of all its documents; and last, when the
+/// output index is begun, `Documents`, where more are left than one segment can hold, and `Numbers` of those.
 pub fn build_index<Z: Analyzers, W: Directory, O: Directory>(
     alloc: Global,
     schema: &Schema,
@@ -64,19 +61,20 @@ pub fn build_index<Z: Analyzers, W: Directory, O: Directory>(
     work: &mut W,
     output: &mut O,
 ) -> TResult<Index>
-    ensures first { IfSome (first_error (Z.knows analyzers.now) (Z.tokens_of analyzers.now)
+    ensures first { IfSome (input_refusal (Z.knows analyzers.now) (Z.tokens_of analyzers.now)
         (input_of schema.now settings.now operations.now cuts.now filters.now ids.now))
         (λ e. (result ≡ Err e) ⊎ (result ≡ Err TantivyError.OutOfMemory)) }
-    ensures untouched { IfSome (first_error (Z.knows analyzers.now) (Z.tokens_of analyzers.now)
+    ensures untouched { IfSome (input_refusal (Z.knows analyzers.now) (Z.tokens_of analyzers.now)
         (input_of schema.now settings.now operations.now cuts.now filters.now ids.now))
         (λ _. (W.state work.new ≡ W.state work.old) × (O.state output.new ≡ O.state output.old)) }
     ensures refused { IsTrue (W.state work.old).tells
-        → IfErr result (IfRefusal (λ e. refusal_error (Z.knows analyzers.now) (Z.tokens_of analyzers.now)
+        → IfErr result (IfRefusal (λ e. build_refusal (Z.knows analyzers.now) (Z.tokens_of analyzers.now)
         (input_of schema.now settings.now operations.now cuts.now filters.now ids.now) ≡ Some e)) }
     ensures refused_untold { IfErr result (IfRefusal
-        (λ e. (refusal_error (Z.knows analyzers.now) (Z.tokens_of analyzers.now)
+        (λ e. (build_refusal (Z.knows analyzers.now) (Z.tokens_of analyzers.now)
         (input_of schema.now settings.now operations.now cuts.now filters.now ids.now) ≡ Some e)
-        ⊎ (e ≡ TantivyError.InvalidArgument ArgumentCause.Documents))) }
+        ⊎ ((e ≡ TantivyError.InvalidArgument ArgumentCause.Documents)
+        ⊎ (e ≡ TantivyError.InvalidArgument ArgumentCause.Numbers)))) }
     ensures valid { OnOk result (IsValidIf (IsTrue (W.state work.old).tells) (Z.knows analyzers.now)
         (Z.tokens_of analyzers.now) (input_of schema.now settings.now operations.now cuts.now filters.now ids.now)) }
     ensures index { IsTrue (W.state work.old).tells → IfOk result (λ built. meta_of built ≡ output_meta (Z.tokens_of analyzers.now) (input_of schema.now settings.now operations.now cuts.now filters.now ids.now)) }
@@ -135,8 +133,6 @@ fn build_input<Z: Analyzers, W: Directory, O: Directory>(
         (both (W.state work.old) (O.state output.old)) (both (W.state work.new) (O.state output.new)) }
 {
     joining_is_invisible();
-    built_parts_join();
-    built_schemas_have_no_columns();
     files_hold_one_contents();
     schema_reads_back(input.schema, input.settings);
     ids_fit(input.ids);

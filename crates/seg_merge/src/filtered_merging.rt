@@ -11,7 +11,6 @@ ghost use Rattle.seg_model.specs.Valid.{settings_fit};
 ghost use Rattle.seg_open.specs.Answers.{seen_as};
 ghost use Rattle.seg_open.specs.SegmentOpened.{IsNoDamage};
 ghost use Rattle.seg_join.specs.Merger.{all_fit};
-ghost use Rattle.seg_segment.specs.Built.{is_built_schema};
 ghost use Rattle.seg_segment.specs.Forms.{segment_forms};
 ghost use Rattle.seg_merge.specs.AfterCrash.{AreMergeOf, MayBeMerged};
 ghost use Rattle.seg_merge.specs.IndexFiles.{merged_meta};
@@ -32,7 +31,7 @@ use seg_meta::{
     Index, IndexMeta, IndexSettings, Segment, SegmentMeta, id_fits, metas_read_back,
     schema_reads_back,
 };
-use seg_segment::{SegmentSerializer, is_built_schema};
+use seg_segment::SegmentSerializer;
 use seg_values::{ArgumentCause, FieldEntry, Schema, TResult, TantivyError};
 use seg_words::Text;
 use std::alloc::{AllocError, Global};
@@ -45,10 +44,10 @@ use std::alloc::{AllocError, Global};
 /// The output is saved so that a crash at any moment leaves it as no index, as the empty one, or whole; once the call
 /// answers Ok, as the whole.
 ///
-/// Refusals come in this order: `NoSegments`; `DifferentSchemas`; `Later`, for a schema that is not built yet; `Filters`,
-/// where there is not one for each segment, of as many documents; `Settings`. Then the output index is begun, which must
-/// have no file; then come the errors of `SegmentReader::open`, segment by segment; `Documents`, where 2^31 documents or
-/// more are left; and those of writing.
+/// Refusals come in this order: `NoSegments`; `DifferentSchemas`; `Filters`, where there is not one for each segment, of as
+/// many documents; `Settings`. Then the output index is begun, which must have no file; then come the errors of
+/// `SegmentReader::open`, segment by segment; `Documents`, where 2^31 documents or more are left; `Numbers`, where those of a
+/// path that are left have no type; and those of writing.
 pub fn merge_filtered_segments<W: Directory, O: Directory>(
     alloc: Global,
     segments: &[Segment],
@@ -121,9 +120,6 @@ fn check_segments(
     };
     if !are_of_schema(segments, first.schema()) {
         return Err(TantivyError::InvalidArgument(ArgumentCause::DifferentSchemas));
-    }
-    if !is_built_schema(first.schema().fields()) {
-        return Err(TantivyError::InvalidArgument(ArgumentCause::Later));
     }
     if !filters_fit(segments, filters) {
         return Err(TantivyError::InvalidArgument(ArgumentCause::Filters));
@@ -259,7 +255,6 @@ fn open_live<W: Directory>(
     work: &mut W,
 ) -> TResult<IndexMerger>
     requires schema { AllByRecursion (λ s. s.schema ≡ schema.now) segments.now }
-    requires built { is_built_schema schema.now ≡ true }
     requires fit { all_fit filters.now segments.now ≡ true }
     ensures opens { OpensLive (live_asked segments.now filters.now) result (W.state work.old) (W.state work.new) }
     ensures schema { IfOk result (λ merger. merger.schema ≡ schema.now) }

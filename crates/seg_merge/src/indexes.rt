@@ -2,8 +2,8 @@
 ghost use Rattle.std.specs.Prelude.{◌≡◌, ◌≤◌, None, length, IfOk};
 ghost use Rattle.seg_meta.specs.Saving.{IsMetaList};
 ghost use Rattle.seg_meta.specs.View.{meta_of};
+ghost use Rattle.seg_model.specs.Valid.{input_refusal};
 ghost use Rattle.seg_refusals.specs.Admitted.{Fits};
-ghost use Rattle.seg_refusals.specs.Refusals.{first_error};
 ghost use Rattle.seg_merge.specs.Builds.{IsBuilt};
 ghost use Rattle.seg_merge.specs.DirectoryCalls.{BeginsIndexes, WritesIndexes, merge_listed};
 ghost use Rattle.seg_merge.specs.IndexFiles.{output_id, work_ids};
@@ -33,7 +33,7 @@ pub(crate) fn write_indexes<Z: Analyzers, W: Directory, O: Directory>(
     work: &mut W,
     output: &mut O,
 ) -> TResult<Index>
-    requires admitted { first_error (Z.knows analyzers.now) (Z.tokens_of analyzers.now) input.now ≡ None }
+    requires admitted { input_refusal (Z.knows analyzers.now) (Z.tokens_of analyzers.now) input.now ≡ None }
     requires fits { Fits (Z.tokens_of analyzers.now) input.now }
     ensures built { IfOk result (λ built. IsBuilt (Z.tokens_of analyzers.now) input.now
         (both (W.state work.old) (O.state output.old)) (both (W.state work.new) (O.state output.new)) (meta_of built)) }

@@ -2,9 +2,8 @@
 ghost use Rattle.std.specs.Prelude.{◌≡◌, ◌<◌, ◌^◌, None, true, map, length, IfOk};
 ghost use Rattle.seg_directory.specs.Works.{Works};
 ghost use Rattle.seg_meta.specs.View.{meta_of, settings_of};
-ghost use Rattle.seg_model.specs.Valid.{are_distinct};
+ghost use Rattle.seg_model.specs.Valid.{are_distinct, input_refusal};
 ghost use Rattle.seg_refusals.specs.Admitted.{Fits};
-ghost use Rattle.seg_refusals.specs.Refusals.{first_error};
 ghost use Rattle.seg_merge.specs.DirectoryCalls.{FillsWork};
 ghost use Rattle.seg_merge.specs.IndexFiles.{work_ids, work_meta};
 ghost use Rattle.seg_merge.specs.WorkIndexWriting.{FinishesIndex, listing_meta};
@@ -30,7 +29,7 @@ pub(crate) fn fill_work_index<Z: Analyzers, W: Directory>(
     ids: &[SegmentId],
     work: &mut W,
 ) -> TResult<IndexMeta>
-    requires admitted { first_error (Z.knows analyzers.now) (Z.tokens_of analyzers.now) input.now ≡ None }
+    requires admitted { input_refusal (Z.knows analyzers.now) (Z.tokens_of analyzers.now) input.now ≡ None }
     requires fits { Fits (Z.tokens_of analyzers.now) input.now }
     requires ids { ids.now ≡ work_ids input.now.ids }
     ensures meta { IfOk result (λ metas. meta_of metas ≡ work_meta (Z.tokens_of analyzers.now) input.now) }

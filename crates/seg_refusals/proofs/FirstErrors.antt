@@ -1,8 +1,7 @@
 -- The first error of an input: of its shape, of a writer that isn't made, or of its deletes.
-use Rattle.std.proofs.Common.{◌≡◌, true, false, Some, None, Option, Result, Err, inl, inr, sym, ap, subst, ◌∙◌}
-use Rattle.std.specs.Prelude.{◌⊎◌, IsErrAnd}
+use Rattle.std.proofs.Common.{◌≡◌, Some, None, Option, inl, inr, ap, ◌∙◌}
+use Rattle.std.specs.Prelude.{◌⊎◌}
 use Rattle.std.specs.Option.{option_or}
-use Rattle.std.proofs.lemmas.Result.{err_from_is_err_and}
 use Rattle.seg_values.specs.declared.error.ArgumentCause.TheVariants as argument
 use Rattle.seg_values.specs.declared.error.TantivyError.{TantivyError}
 use Rattle.seg_values.specs.declared.error.TantivyError.TheVariants.{InvalidArgument, OutOfMemory}
@@ -12,9 +11,6 @@ use Rattle.seg_model.specs.Input.{Input, input_batches}
 use Rattle.seg_model.specs.Valid.{Known, shape_refusal, schema_refusal, delete_refusal, input_refusal, cuts_fit, batches_fit, filters_fit}
 use Rattle.seg_model.proofs.Exports.{or_both, unless_true}
 use Rattle.seg_refusals.specs.Admitted.{Fits}
-use Rattle.seg_refusals.specs.Inputs.{is_built_input}
-use Rattle.seg_refusals.specs.Refusals.{first_error}
-use Rattle.seg_model.specs.Telling.{Tells}
 
 module _ (known : Known) (analyzer : Analyzer) (input : Input) where
   abbrev pub shape : Option TantivyError
@@ -26,34 +22,28 @@ module _ (known : Known) (analyzer : Analyzer) (input : Input) where
   abbrev pub deleting : Option TantivyError
   deleting = delete_refusal input.schema input.operations
 
-  pub not_built : is_built_input input ≡ false → first_error known analyzer input ≡ Some (InvalidArgument argument.Later)
-  not_built is = ap (λ b. option_or (unless b (InvalidArgument argument.Later)) (input_refusal known analyzer input)) is
+  pub by_shape : (e : TantivyError) → (shape ≡ Some e) ⊎ (e ≡ OutOfMemory)
+      → (input_refusal known analyzer input ≡ Some e) ⊎ (e ≡ OutOfMemory)
+  by_shape e (inl is) = inl (ap (λ o. option_or o (option_or starting deleting)) is)
+  by_shape e (inr is) = inr is
 
-  module _ (built : is_built_input input ≡ true) where
-    in_turn : first_error known analyzer input ≡ option_or shape (option_or starting deleting)
-    in_turn = ap (λ b. option_or (unless b (InvalidArgument argument.Later)) (input_refusal known analyzer input)) built
+  module _ (shaped : shape ≡ None) where
+    pub by_start : (e : TantivyError) → starting ≡ Some e → input_refusal known analyzer input ≡ Some e
+    by_start e is = ap (λ o. option_or o (option_or starting deleting)) shaped ∙ ap (λ o. option_or o deleting) is
 
-    pub by_shape : (e : TantivyError) → (shape ≡ Some e) ⊎ (e ≡ OutOfMemory) → (first_error known analyzer input ≡ Some e) ⊎ (e ≡ OutOfMemory)
-    by_shape e (inl is) = inl (in_turn ∙ ap (λ o. option_or o (option_or starting deleting)) is)
-    by_shape e (inr is) = inr is
+    pub by_deletes : starting ≡ None → input_refusal known analyzer input ≡ deleting
+    by_deletes started =
+        ap (λ o. option_or o (option_or starting deleting)) shaped ∙ ap (λ o. option_or o deleting) started
 
-    module _ (shaped : shape ≡ None) where
-      pub by_start : (e : TantivyError) → starting ≡ Some e → first_error known analyzer input ≡ Some e
-      by_start e is = in_turn ∙ ap (λ o. option_or o (option_or starting deleting)) shaped ∙ ap (λ o. option_or o deleting) is
-
-      pub by_deletes : starting ≡ None → first_error known analyzer input ≡ deleting
-      by_deletes started = in_turn ∙ ap (λ o. option_or o (option_or starting deleting)) shaped ∙ ap (λ o. option_or o deleting) started
-
-      -- what holds where the shape will do
-      pub all_fit : Fits analyzer input
-      all_fit =
-          let cuts = or_both (unless (cuts_fit input.operations input.cuts) (InvalidArgument argument.Cuts)) _ shaped in
-          let batches = or_both (unless (batches_fit input.cuts) (InvalidArgument argument.Batches)) _ cuts.1 in
-          let filters = or_both (unless (filters_fit input.filters (input_batches analyzer input)) (InvalidArgument argument.Filters)) _ batches.1 in
-          record {
-            built = built;
-            cuts = unless_true _ (InvalidArgument argument.Cuts) cuts.0;
-            batches = unless_true _ (InvalidArgument argument.Batches) batches.0;
-            filters = unless_true _ (InvalidArgument argument.Filters) filters.0;
-            ids = unless_true _ (InvalidArgument argument.SegmentIds) filters.1;
-          }
+    -- what holds where the shape will do
+    pub all_fit : Fits analyzer input
+    all_fit =
+        let cuts = or_both (unless (cuts_fit input.operations input.cuts) (InvalidArgument argument.Cuts)) _ shaped in
+        let batches = or_both (unless (batches_fit input.cuts) (InvalidArgument argument.Batches)) _ cuts.1 in
+        let filters = or_both (unless (filters_fit input.filters (input_batches analyzer input)) (InvalidArgument argument.Filters)) _ batches.1 in
+        record {
+          cuts = unless_true _ (InvalidArgument argument.Cuts) cuts.0;
+          batches = unless_true _ (InvalidArgument argument.Batches) batches.0;
+          filters = unless_true _ (InvalidArgument argument.Filters) filters.0;
+          ids = unless_true _ (InvalidArgument argument.SegmentIds) filters.1;
+        }

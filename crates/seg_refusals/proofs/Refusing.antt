@@ -13,17 +13,14 @@ use Rattle.seg_model.specs.Input.{Input, Settings, input_batches}
 use Rattle.seg_model.specs.Operations.{Operation, add, delete, delete_all}
 use Rattle.seg_model.specs.Refused.{operation_refusal, count_refusal, numbers_refusal, added_by, batch_refusal, IsRefusal}
 use Rattle.seg_model.specs.Valid.{Known, cuts_fit, batches_fit, filters_fit, ids_fit, names_fit, settings_fit, unknown_tokenizer_of, has_unknown_fast_tokenizer, unindexed_delete_of, shape_refusal, schema_refusal, delete_refusal, input_refusal}
-use Rattle.seg_check.proofs.Exports.{EachHas, cause-has, first_each, or_each, unless_each}
+use Rattle.seg_check.proofs.Exports.{EachHas, cause-has, first_each, or_each}
 use Rattle.seg_build.proofs.Exports.{map_each, schema_each, shape_each}
-use Rattle.seg_refusals.specs.Inputs.{is_built_input}
-use Rattle.seg_refusals.specs.Refusals.{first_error, later_refusal}
 
-first_each_of : (known : Known) (analyzer : Analyzer) (input : Input) → IfSome (first_error known analyzer input) IsRefusal
+first_each_of : (known : Known) (analyzer : Analyzer) (input : Input) → IfSome (input_refusal known analyzer input) IsRefusal
 first_each_of known analyzer input =
-    or_each IsRefusal (later_refusal input) (input_refusal known analyzer input) (unless_each IsRefusal (is_built_input input) (InvalidArgument argument.Later) tt)
-    (or_each IsRefusal (shape_refusal input.operations input.cuts input.filters (input_batches analyzer input) input.ids) _ (shape_each analyzer input)
+    or_each IsRefusal (shape_refusal input.operations input.cuts input.filters (input_batches analyzer input) input.ids) _ (shape_each analyzer input)
     (or_each IsRefusal (schema_refusal known input.schema input.settings) (delete_refusal input.schema input.operations) (schema_each known input.schema input.settings)
-    (map_each IsRefusal (λ at. SchemaError (schema_cause.DeleteField at)) (λ at. tt) (unindexed_delete_of input.schema input.operations))))
+    (map_each IsRefusal (λ at. SchemaError (schema_cause.DeleteField at)) (λ at. tt) (unindexed_delete_of input.schema input.operations)))
 
-pub first_is_refusal : (known : Known) (analyzer : Analyzer) (input : Input) (e : TantivyError) → first_error known analyzer input ≡ Some e → IsRefusal e
+pub first_is_refusal : (known : Known) (analyzer : Analyzer) (input : Input) (e : TantivyError) → input_refusal known analyzer input ≡ Some e → IsRefusal e
 first_is_refusal known analyzer input e is = subst (λ o. IfSome o IsRefusal) is (first_each_of known analyzer input)

@@ -6,11 +6,9 @@ use Rattle.seg_model.specs.Checked.{document_refusal}
 use Rattle.seg_model.specs.Input.{Input, input_batches, input_survivors}
 use Rattle.seg_model.specs.Operations.{Batch, additions}
 use Rattle.seg_model.specs.Valid.{Known, FitsSegment, input_refusal, cuts_fit, batches_fit, filters_fit, ids_fit}
-use Rattle.seg_refusals.specs.Inputs.{is_built_input}
 
--- it is built so far, and its cuts, filters and ids fit
+-- its cuts, filters and ids fit
 pub record Fits (analyzer : Analyzer) (input : Input) : Type 0 where
-  pub built : is_built_input input ≡ true
   pub cuts : cuts_fit input.operations input.cuts ≡ true
   pub batches : batches_fit input.cuts ≡ true
   pub filters : filters_fit input.filters (input_batches analyzer input) ≡ true

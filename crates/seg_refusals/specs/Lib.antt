@@ -1,3 +1,2 @@
 pub mod Admitted
 pub mod Inputs
-pub mod Refusals

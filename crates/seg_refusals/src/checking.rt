@@ -2,10 +2,9 @@
 ghost use Rattle.std.specs.Prelude.{◌≡◌, OnOk, map};
 ghost use Rattle.seg_model.specs.Fields as model;
 ghost use Rattle.seg_model.specs.Operations.{batches};
-ghost use Rattle.seg_model.specs.Valid.{shape_refusal};
+ghost use Rattle.seg_model.specs.Valid.{input_refusal, shape_refusal};
 ghost use Rattle.seg_input.specs.View.{operation_of};
 ghost use Rattle.seg_refusals.specs.Admitted.{Fits};
-ghost use Rattle.seg_refusals.specs.Refusals.{first_error};
 ghost use Rattle.seg_model.specs.Telling.{Tells};
 
 use crate::batches::{batches_fit, cuts_fit};
@@ -16,24 +15,20 @@ use seg_bits::AliveBitSet;
 use seg_build::{LEAST_BUDGET, start_refusal};
 use seg_common::SegmentId;
 use seg_input::{BuildInputRef, UserOperation};
-use seg_segment::is_built_schema;
 use seg_values::{ArgumentCause, SchemaCause, TResult, TantivyDocument, TantivyError};
 use seg_words::Analyzers;
 use std::alloc::Global;
 
-/// Checks what an index is to be built from. The first test that fails tells, in this order: fields that are not built yet
-/// (`Later`), `Cuts`, `Batches`, `Filters`, `SegmentIds`, `FieldName`, `Settings`, `Tokenizer`, `DeleteField`.
+/// Checks what an index is to be built from. The first test that fails tells, in this order: `Cuts`, `Batches`, `Filters`,
+/// `SegmentIds`, `FieldName`, `Settings`, `Tokenizer`, `FastTokenizer`, `DeleteField`.
 pub fn check_input<Z: Analyzers>(
     alloc: Global,
     analyzers: &Z,
     input: &BuildInputRef<'_>,
 ) -> TResult<()>
-    ensures told { Tells (first_error (Z.knows analyzers.now) (Z.tokens_of analyzers.now) input.now) result }
+    ensures told { Tells (input_refusal (Z.knows analyzers.now) (Z.tokens_of analyzers.now) input.now) result }
     ensures fits { OnOk result (Fits (Z.tokens_of analyzers.now) input.now) }
 {
-    if !is_built_schema(input.schema.fields()) {
-        return Err(TantivyError::InvalidArgument(ArgumentCause::Later));
-    }
     check_shape(
         alloc,
         input.operations,

@@ -2,7 +2,7 @@ use Rattle.std.proofs.Common.{◌<◌, ◌≤◌, ◌^◌, arith, ap, inl, lengt
 use Rattle.seg_model.specs.Operations.{additions}
 use Rattle.seg_input.specs.View.{operation_of}
 use Rattle.seg_batches.specs.Indexing.{AreOfBatch}
-use Rattle.seg_batches.proofs.Added.{of_batch, were_taken}
+use Rattle.seg_batches.proofs.Added.{not_made, of_batch, were_taken}
 use Rattle.seg_batches.proofs.BatchSteps.{not_refused}
 use Rattle.seg_batches.proofs.Refused.{too_many}
 use Rattle.seg_batches.proofs.batch_indexing.index_batch.Goals as goal
@@ -31,3 +31,12 @@ returns-in-Ok-into_segment-clause-tells g c =
     let made : AreOfBatch schema F c.args.first operations c.in-Ok-into_segment.segment.files c.in-Ok-into_segment.segment.stamps.items = returns-in-Ok-into_segment-clause-segment g c in
     let taken = were_taken schema F c.args.first operations c.add_operations.new.writer.1 c.in-Ok.ensures.schema c.in-Ok.ensures.added in
     not_refused schema F c.args.first operations c.in-Ok-into_segment.segment.files made.few taken made.stand
+
+pub returns-in-Err-into_segment-clause-tells : goal.returns-in-Err-into_segment-clause-tells
+returns-in-Err-into_segment-clause-tells g c =
+    let F = g.Z.Analyzers.tokens_of in
+    let operations = map operation_of c.args.operations.now in
+    let writer = c.add_operations.new.writer in
+    let few : length (additions operations) < 2 ^ 31 = omega (arith, c.if-count_additions-gt-MAX_DOCUMENTS.false, c.count_additions.ensures) in
+    not_made c.args.writer.1.schema (F c.args.writer.0) c.args.first operations writer.1 c.in-Ok.ensures.schema c.in-Ok.ensures.added
+    (F writer.0) (ap F c.in-Ok.ensures.analyzers) few c.in-Err-into_segment.e c.in-Err-into_segment.ensures.errors

@@ -27,8 +27,7 @@ returns-in-Ok-write_indexes-clause-ends g c =
     (both (g.W.Directory.state c.args.work.now) (g.O.Directory.state c.args.output.now))
     (both (g.W.Directory.state c.write_indexes.new.work) (g.O.Directory.state c.write_indexes.new.output))
     c.in-Ok-write_indexes.ensures.built c.in-Ok-write_indexes.ensures.does
-    c.joining_is_invisible.ensures c.built_parts_join.ensures c.built_schemas_have_no_columns.ensures
-    c.files_hold_one_contents.ensures
+    c.joining_is_invisible.ensures c.files_hold_one_contents.ensures
     (subst (λ (x : Input). AreReadBack x.settings x.schema) c.input.view_is c.schema_reads_back.ensures)
     (subst (λ (x : Input). output_id x.ids < 2 ^ 128) c.input.view_is (output_fits _ c.ids_fit.ensures))
 
@@ -52,7 +51,7 @@ returns-in-Err-write_indexes-clause-ends g c =
     record {
       first = MatchOption-from_none _ _ admitted;
       refused =
-          stopped_refused knows F i fits settings admitted e before after exit c.built_schemas_have_no_columns.ensures
+          stopped_refused knows F i fits settings admitted e before after exit c.joining_is_invisible.ensures
           c.files_hold_one_contents.ensures;
       untold = stopped_untold knows F i fits settings admitted e before after exit;
       fresh = stopped_fresh knows F i fits settings admitted e before after exit;
@@ -60,7 +59,7 @@ returns-in-Err-write_indexes-clause-ends g c =
       any_moment = λ told clean.
           build_leaves F i fits (subst (λ (x : Input). AreReadBack x.settings x.schema) c.input.view_is c.schema_reads_back.ensures)
           (subst (λ (x : Input). output_id x.ids < 2 ^ 128) c.input.view_is (output_fits _ c.ids_fit.ensures))
-          c.files_hold_one_contents.ensures c.joining_is_invisible.ensures c.built_parts_join.ensures before told clean _ after
+          c.files_hold_one_contents.ensures c.joining_is_invisible.ensures before told clean _ after
           c.in-Err-write_indexes.ensures.does;
     }
 

@@ -7,5 +7,5 @@ use Rattle.seg_merge.proofs.filtered_merging.check_segments.Goals as goal
 
 pub returns-clause-reads : goal.returns-clause-reads
 returns-clause-reads c =
-    let same : c.schema-3.result.now ≡ first_schema c.args.segments.now = search rules in
+    let same : c.schema-2.result.now ≡ first_schema c.args.segments.now = search rules in
     subst (λ (s : Schema). AreReadBack (settings_of c.args.settings.now) s) same c.schema_reads_back.ensures

@@ -20,7 +20,7 @@ open_with_custom_alive_set-requires g c = record {
 pub returns-clause-opens : goal.returns-clause-opens
 returns-clause-opens g c =
     live_opened c.args.schema.now c.args.segments.now c.args.filters.now c.share.result c.deref.result.now
-    c.share.ensures (c.deref.ensures.value ∙ c.in-Ok.ensures) c.requires.built c.requires.fit
+    c.share.ensures (c.deref.ensures.value ∙ c.in-Ok.ensures) c.requires.fit
     (g.W.Directory.state c.args.work.now) (g.W.Directory.state c.open_with_custom_alive_set.new.directory)
     c.in-Ok-live_filters.kept.items c.in-Ok-live_filters.ensures c.open_with_custom_alive_set.result
     c.open_with_custom_alive_set.ensures

@@ -1,15 +1,13 @@
-use Rattle.std.proofs.Common.{◌≡◌, ◌<◌, ◌^◌, ◌+◌, ◌∙◌, Err, ℕ, List, None, length, map, refl, sym, ap, subst, true}
+use Rattle.std.proofs.Common.{◌≡◌, ◌<◌, ◌^◌, ◌+◌, ◌∙◌, Err, ℕ, List, None, length, map, refl, sym, ap, subst}
 use Rattle.std.proofs.lemmas.List.{length-map}
 use Rattle.std.proofs.lemmas.Result.{IfOk-weaker}
 use Rattle.seg_input.specs.View.{operation_of}
 use Rattle.seg_meta.specs.declared.index_meta.IndexMeta.{IndexMeta}
 use Rattle.seg_model.specs.Input.{Input}
-use Rattle.seg_model.specs.Valid.{are_distinct, cuts_fit}
-use Rattle.seg_segment.specs.Built.{is_built_schema}
+use Rattle.seg_model.specs.Valid.{are_distinct, cuts_fit, input_refusal}
 use Rattle.seg_build.specs.WriterStart.{start_refusal}
 use Rattle.seg_batches.specs.Segments.{WrittenSegment}
-use Rattle.seg_refusals.specs.Inputs.{input_of, is_built_input}
-use Rattle.seg_refusals.specs.Refusals.{first_error}
+use Rattle.seg_refusals.specs.Inputs.{input_of}
 use Rattle.seg_merge.specs.DirectoryCalls.{FillsWork}
 use Rattle.seg_merge.specs.IndexFiles.{work_ids, work_meta, written_of}
 use Rattle.seg_merge.specs.WorkIndexWriting.{FillsIndex, listing_meta}
@@ -18,10 +16,6 @@ use Rattle.seg_merge.proofs.FillSteps.{as_many, ids_are, ids_of}
 use Rattle.seg_merge.proofs.WholeIds.{work_distinct, work_few, work_many}
 use Rattle.seg_merge.proofs.WholeRefused.{starts}
 use Rattle.seg_merge.proofs.work_index.fill_work_index.Goals as goal
-
-pub write_batches-requires-clause-built : goal.write_batches-requires-clause-built
-write_batches-requires-clause-built g c =
-    ap (λ (x : Input). is_built_schema x.schema) c.input.view_is ∙ c.requires.fits.built
 
 pub write_batches-requires-clause-cuts : goal.write_batches-requires-clause-cuts
 write_batches-requires-clause-cuts g c =
@@ -40,8 +34,8 @@ returns-in-Err-clause-does g c =
     let meant = input_of i.schema.now i.settings.now i.operations.now i.cuts.now i.filters.now i.ids.now in
     let before = g.W.Directory.state c.args.work.now in
     let after = g.W.Directory.state c.write_batches.new.directory in
-    let none = starts knows F meant i.settings.now refl (subst (λ (x : Input). is_built_input x ≡ true) (sym c.input.view_is) c.requires.fits.built)
-    (subst (λ (x : Input). first_error knows F x ≡ None) (sym c.input.view_is) c.requires.admitted) in
+    let none = starts knows F meant i.settings.now refl
+    (subst (λ (x : Input). input_refusal knows F x ≡ None) (sym c.input.view_is) c.requires.admitted) in
     subst (λ (x : Input). FillsWork {T = IndexMeta} F x (Err c.in-Err.e) before after) c.input.view_is
     (subst (λ (l : List ℕ). FillsIndex {T = IndexMeta} meant.settings meant.schema F l meant.cuts meant.operations (Err c.in-Err.e) before after) (c.requires.ids ∙ ap (λ (x : Input). work_ids x.ids) (sym c.input.view_is))
     (batches_end meant.settings meant.schema F c.args.ids.now meant.cuts meant.operations
@@ -96,8 +90,8 @@ returns-clause-does g c =
     let before = g.W.Directory.state c.args.work.now in
     let made = g.W.Directory.state c.write_batches.new.directory in
     let after = g.W.Directory.state c.finish_work_index.new.work in
-    let none = starts knows F meant i.settings.now refl (subst (λ (x : Input). is_built_input x ≡ true) (sym c.input.view_is) c.requires.fits.built)
-    (subst (λ (x : Input). first_error knows F x ≡ None) (sym c.input.view_is) c.requires.admitted) in
+    let none = starts knows F meant i.settings.now refl
+    (subst (λ (x : Input). input_refusal knows F x ≡ None) (sym c.input.view_is) c.requires.admitted) in
     subst (λ (x : Input). FillsWork F x c.finish_work_index.result before after) c.input.view_is
     (subst
     (λ (l : List ℕ). FillsIndex meant.settings meant.schema F l meant.cuts meant.operations c.finish_work_index.result
