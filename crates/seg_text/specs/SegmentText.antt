@@ -4,7 +4,6 @@ use Rattle.seg_model.specs.Fields.{Schema}
 use Rattle.seg_model.specs.Contents.{Reading}
 use Rattle.seg_text.specs.HeaderText.{header_text, dead_text}
 use Rattle.seg_text.specs.FieldText.{fields_text}
-use Rattle.seg_text.specs.NormsText.{norms_text}
 use Rattle.seg_text.specs.DocumentText.{documents_text}
 
 -- what is printed of a segment: a word before its id, its id, which documents are alive, and what it holds
@@ -19,7 +18,3 @@ abbrev pub segment_text : Schema → PrintedSegment → List ℕ
 segment_text schema segment =
     header_text segment.label segment.id segment.reading.documents (count_by (λ b. b) segment.alive)
     ++ (dead_text segment.alive ++ (fields_text schema segment.reading.terms ++ documents_text schema segment.reading.stored))
-
--- its text in full: the length ids of its fields come last
-abbrev pub full_segment_text : Schema → PrintedSegment → List (List ℕ) → List ℕ
-full_segment_text schema segment norms = segment_text schema segment ++ norms_text schema norms

@@ -1,4 +1,4 @@
-//! Values with no values below them, as JSON.
+//! Values with no values below them, as JSON. After an error it is open what `out` holds.
 ghost use Rattle.std.specs.Prelude.{◌≡◌, ◌++◌, OnOk};
 ghost use Rattle.std.specs.Net.Addr.{ipv6_octets};
 ghost use Rattle.base64.specs.Engines.{standard};
@@ -17,7 +17,7 @@ use seg_values::{Facet, shown_address};
 use std::alloc::{AllocError, Global};
 use std::net::Ipv6Addr;
 
-pub(crate) fn push_bool(out: &mut Vec<u8>, bit: bool) -> Result<(), AllocError>
+pub fn push_bool(out: &mut Vec<u8>, bit: bool) -> Result<(), AllocError>
     ensures { OnOk result (out.new.items ≡ out.old.items ++ compact_text (json.boolean bit)) }
 {
     out.extend_from_slice(if bit { b"true".as_slice() } else { b"false" })
@@ -34,14 +34,14 @@ pub(crate) fn push_facet(out: &mut Vec<u8>, alloc: Global, facet: &Facet) -> Res
 }
 
 /// Bytes in base64.
-pub(crate) fn push_base64(out: &mut Vec<u8>, alloc: Global, bytes: &[u8]) -> Result<(), AllocError>
+pub fn push_base64(out: &mut Vec<u8>, alloc: Global, bytes: &[u8]) -> Result<(), AllocError>
     ensures { OnOk result (out.new.items ≡ out.old.items ++ quoted (encode_of standard bytes.now)) }
 {
     let text = STANDARD.encode(alloc, bytes)?;
     push_quoted(out, alloc, text.as_str())
 }
 
-pub(crate) fn push_date(out: &mut Vec<u8>, date: DateTime) -> Result<(), AllocError>
+pub fn push_date(out: &mut Vec<u8>, date: DateTime) -> Result<(), AllocError>
     ensures { OnOk result (out.new.items ≡ out.old.items ++ quoted (date_text date)) }
 {
     out.push(b'"')?;
@@ -50,11 +50,7 @@ pub(crate) fn push_date(out: &mut Vec<u8>, date: DateTime) -> Result<(), AllocEr
     Ok(())
 }
 
-pub(crate) fn push_address(
-    out: &mut Vec<u8>,
-    alloc: Global,
-    address: Ipv6Addr,
-) -> Result<(), AllocError>
+pub fn push_address(out: &mut Vec<u8>, alloc: Global, address: Ipv6Addr) -> Result<(), AllocError>
     ensures { OnOk result (out.new.items ≡ out.old.items ++ quoted (address_text (ipv6_octets address))) }
 {
     let text = shown_address(alloc, address)?;

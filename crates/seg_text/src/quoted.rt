@@ -9,7 +9,7 @@ use std::alloc::{AllocError, Global};
 
 /// The compact JSON text of a text.
 /// After an error it is open what `out` holds.
-pub(crate) fn push_quoted(out: &mut Vec<u8>, alloc: Global, text: &str) -> Result<(), AllocError>
+pub fn push_quoted(out: &mut Vec<u8>, alloc: Global, text: &str) -> Result<(), AllocError>
     ensures { OnOk result (out.new.items ≡ out.old.items ++ quoted text.now) }
 {
     if are_unescaped(text.as_bytes()) {

@@ -1,0 +1,2 @@
+mod FileOrder
+mod PrintedRows
