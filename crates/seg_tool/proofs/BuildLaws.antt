@@ -4,7 +4,6 @@ use Rattle.std.specs.Prelude.{◌⊎◌, IfSome}
 use Rattle.std.specs.FinMap.{len}
 use Rattle.std.proofs.lemmas.Option.{MatchOption-from_none}
 use Rattle.seg_common.specs.Causes.{Rose}
-use Rattle.seg_values.specs.declared.error.ArgumentCause.TheVariants.{Documents, Later}
 use Rattle.seg_values.specs.declared.error.TantivyError.{TantivyError}
 use Rattle.seg_values.specs.declared.error.TantivyError.TheVariants.{SchemaError, InvalidArgument, IndexAlreadyExists, OpenReadError, OpenWriteError, IoError, DataCorruption, SystemError, FieldNotFound, OutOfMemory}
 use Rattle.seg_directory.specs.Files.{NamedFiles}
@@ -12,14 +11,11 @@ use Rattle.seg_directory.specs.State.{DirectoryState}
 use Rattle.seg_meta.specs.declared.index_meta.IndexMeta.{IndexMeta}
 use Rattle.seg_model.specs.Fields.{Analyzer}
 use Rattle.seg_model.specs.Input.{Input}
-use Rattle.seg_model.specs.Refused.{IfRefusal}
+use Rattle.seg_model.specs.Refused.{IfRefusal, build_refusal}
 use Rattle.seg_model.specs.Valid.{Known, input_refusal}
-use Rattle.seg_model.proofs.Exports.{or_first, unless_true}
 use Rattle.seg_segment.specs.Laws.{HoldsOneContents}
 use Rattle.seg_segment.specs.SegmentRead.{IsNoDamage, IsReadError}
-use Rattle.seg_open.proofs.Exports.{EndsSo}
-use Rattle.seg_refusals.specs.Inputs.{is_built_input}
-use Rattle.seg_refusals.specs.Refusals.{first_error, later_refusal, refusal_error}
+use Rattle.seg_merge.specs.Builds.{IsWhyUntold}
 use Rattle.seg_merge.specs.IndexFiles.{IsMergedIndexOf, IsOutputIndexOf, IsWorkIndexOf}
 use Rattle.seg_merge.specs.Turns.{Directories, goes_on, stops}
 use Rattle.seg_merge.proofs.Exports.{IsBuildError, RoseIn, build_error}
@@ -27,13 +23,9 @@ use Rattle.seg_tool.specs.Jobs.{AreEmpty, Built, BuildsText, NotBuilt}
 use Rattle.seg_tool.specs.ReadingBack.{PrintsIndex}
 use Rattle.seg_tool.specs.Run.{build_text}
 use Rattle.seg_tool.specs.declared.words.Detail.{Detail}
-use Rattle.seg_tool.proofs.IndexLaws.{prints_end, prints_rose, prints_so, prints_stay, prints_told, prints_undamaged}
+use Rattle.seg_tool.proofs.IndexLaws.{prints_rose, prints_so, prints_stay, prints_told, prints_undamaged}
 use Rattle.seg_tool.proofs.ReadText.{both_read, output_whole, work_whole}
 use Rattle.seg_tool.proofs.Steady.{BothSteady, Steady, builds_steady, unchanged_steady}
-
--- an input that nothing refuses at once is of what is built so far
-pub admitted_built : (known : Known) (analyzer : Analyzer) (input : Input) → first_error known analyzer input ≡ None → is_built_input input ≡ true
-admitted_built known analyzer input none = unless_true (is_built_input input) (InvalidArgument Later) (or_first (later_refusal input) (input_refusal known analyzer input) none)
 
 tells_as : (a b : DirectoryState) → Steady a b → IsTrue a.tells → IsTrue b.tells
 tells_as a b h told = subst (λ t. IsTrue t) (sym h.tells) told
@@ -55,28 +47,8 @@ read_refuses P IoError h = absurd h
 read_refuses P SystemError h = absurd h
 read_refuses P FieldNotFound h = absurd h
 
-end_refuses : (P : TantivyError → Type 0) (e : TantivyError) → P (InvalidArgument Later) → EndsSo e → IfRefusal P e
-end_refuses P e later (inl read) = read_refuses P e read
-end_refuses P e later (inr is) = subst (IfRefusal P) (sym is) later
-
-read_exists : (e : TantivyError) → IsReadError e → e ≢ IndexAlreadyExists
+pub read_exists : (e : TantivyError) → IsReadError e → e ≢ IndexAlreadyExists
 read_exists e h is = subst IsReadError is h
-
-pub end_exists : (e : TantivyError) → EndsSo e → e ≢ IndexAlreadyExists
-end_exists e (inl read) is = read_exists e read is
-end_exists e (inr later) is = absurd (cc (sym later ∙ is))
-
-weaker_refusal : (P Q : TantivyError → Type 0) (e : TantivyError) → ((x : TantivyError) → P x → Q x) → IfRefusal P e → IfRefusal Q e
-weaker_refusal P Q (SchemaError cause) f h = f _ h
-weaker_refusal P Q (InvalidArgument cause) f h = f _ h
-weaker_refusal P Q (DataCorruption name) f h = tt
-weaker_refusal P Q OpenReadError f h = tt
-weaker_refusal P Q OutOfMemory f h = tt
-weaker_refusal P Q IndexAlreadyExists f h = tt
-weaker_refusal P Q OpenWriteError f h = tt
-weaker_refusal P Q IoError f h = tt
-weaker_refusal P Q SystemError f h = tt
-weaker_refusal P Q FieldNotFound f h = tt
 
 error_as : (e : TantivyError) (a b : Directories) → IsReadError e → (e ≡ OpenReadError → RoseIn a b) → IsBuildError e a b
 error_as OpenReadError a b h rose = rose refl
@@ -89,10 +61,6 @@ error_as OpenWriteError a b h rose = absurd h
 error_as IoError a b h rose = absurd h
 error_as SystemError a b h rose = absurd h
 error_as FieldNotFound a b h rose = absurd h
-
-end_as : (e : TantivyError) (a b : Directories) → EndsSo e → (e ≡ OpenReadError → RoseIn a b) → IsBuildError e a b
-end_as e a b (inl read) rose = error_as e a b read rose
-end_as e a b (inr later) rose = subst (λ (x : TantivyError). IsBuildError x a b) (sym later) tt
 
 module _ (known : Known) (analyzer : Analyzer) (input : Input) (detail : Detail) where
   -- ---- both were printed
@@ -173,18 +141,18 @@ module _ (known : Known) (analyzer : Analyzer) (input : Input) (detail : Detail)
 
   module _ (e : TantivyError) (a b : Directories) where
     -- an error of reading back
-    ends_so : NotPrinted e a b → NotBuilt known analyzer input e a b ⊎ EndsSo e
+    ends_so : NotPrinted e a b → NotBuilt known analyzer input e a b ⊎ IsReadError e
     ends_so (in_building h) = inl h
-    ends_so (in_work metas m built k same) = inr (prints_end [] (codes "work") detail m.work b.work e k)
-    ends_so (in_output metas m work built k l) = inr (prints_end work (codes "output") detail m.output b.output e l)
+    ends_so (in_work metas m built k same) = inr (prints_so [] (codes "work") detail m.work b.work e k)
+    ends_so (in_output metas m work built k l) = inr (prints_so work (codes "output") detail m.output b.output e l)
 
-    pub not_first : NotPrinted e a b → IfSome (first_error known analyzer input) (λ first. ((e ≡ first) ⊎ (e ≡ OutOfMemory)) × (b ≡ a))
+    pub not_first : NotPrinted e a b → IfSome (input_refusal known analyzer input) (λ first. ((e ≡ first) ⊎ (e ≡ OutOfMemory)) × (b ≡ a))
     not_first (in_building h) = h.first
-    not_first (in_work metas m built k same) = MatchOption-from_none (first_error known analyzer input) _ built.admitted
-    not_first (in_output metas m work built k l) = MatchOption-from_none (first_error known analyzer input) _ built.admitted
+    not_first (in_work metas m built k same) = MatchOption-from_none (input_refusal known analyzer input) _ built.admitted
+    not_first (in_output metas m work built k l) = MatchOption-from_none (input_refusal known analyzer input) _ built.admitted
 
     -- nothing refuses the input once it is built
-    pub not_admitted : NotPrinted e a b → NotBuilt known analyzer input e a b ⊎ (first_error known analyzer input ≡ None)
+    pub not_admitted : NotPrinted e a b → NotBuilt known analyzer input e a b ⊎ (input_refusal known analyzer input ≡ None)
     not_admitted (in_building h) = inl h
     not_admitted (in_work metas m built k same) = inr built.admitted
     not_admitted (in_output metas m work built k l) = inr built.admitted
@@ -196,42 +164,34 @@ module _ (known : Known) (analyzer : Analyzer) (input : Input) (detail : Detail)
         let is = built.work_index told in
         let tells = told_work a m metas built told in
         inr (
-          prints_so [] (codes "work") detail m.work b.work _ tells is.index_of e (admitted_built known analyzer input built.admitted) k,
+          prints_so [] (codes "work") detail m.work b.work e k,
           prints_undamaged [] (codes "work") detail m.work b.work _ tells is.index_of e (work_whole analyzer input m.work.files is) k,
         )
     reads_so told told_out (in_output metas m work built k l) =
         let is = built.output_index told told_out in
         let tells = told_output a m metas built told_out in
         inr (
-          prints_so work (codes "output") detail m.output b.output _ tells is.index_of e (admitted_built known analyzer input built.admitted) l,
+          prints_so work (codes "output") detail m.output b.output e l,
           prints_undamaged work (codes "output") detail m.output b.output _ tells is.index_of e (output_whole analyzer input m.output.files is) l,
         )
 
-    pub not_refused : IsTrue a.work.tells → IsTrue a.output.tells → NotPrinted e a b → IfRefusal (λ x. refusal_error known analyzer input ≡ Some x) e
+    pub not_refused : IsTrue a.work.tells → IsTrue a.output.tells → NotPrinted e a b → IfRefusal (λ x. build_refusal known analyzer input ≡ Some x) e
     not_refused told told_out h = elim (reads_so told told_out h) [
       | inl built ↦ built.refused told
-      | inr so ↦ read_refuses (λ x. refusal_error known analyzer input ≡ Some x) e so.0
+      | inr so ↦ read_refuses (λ x. build_refusal known analyzer input ≡ Some x) e so.0
     ]
 
     -- why it is refused where they need not tell
-    abbrev IsWhy : TantivyError → Type 0
-    IsWhy x = (refusal_error known analyzer input ≡ Some x) ⊎ ((x ≡ InvalidArgument Documents) ⊎ (x ≡ InvalidArgument Later))
-
-    pub not_untold : NotPrinted e a b → IfRefusal IsWhy e
+    pub not_untold : NotPrinted e a b → IfRefusal (IsWhyUntold known analyzer input) e
     not_untold h = elim (ends_so h) [
-      | inl built ↦ weaker_refusal (λ x. (refusal_error known analyzer input ≡ Some x) ⊎ (x ≡ InvalidArgument Documents)) IsWhy e (λ x. widened x) built.untold
-      | inr so ↦ end_refuses IsWhy e (inr (inr refl)) so
+      | inl built ↦ built.untold
+      | inr so ↦ read_refuses (IsWhyUntold known analyzer input) e so
     ]
-      where
-        widened : (x : TantivyError) → (refusal_error known analyzer input ≡ Some x) ⊎ (x ≡ InvalidArgument Documents)
-            → (refusal_error known analyzer input ≡ Some x) ⊎ ((x ≡ InvalidArgument Documents) ⊎ (x ≡ InvalidArgument Later))
-        widened x (inl why) = inl why
-        widened x (inr many) = inr (inl many)
 
     pub not_fresh : AreEmpty a → NotPrinted e a b → e ≢ IndexAlreadyExists
     not_fresh empty h = elim (ends_so h) [
       | inl built ↦ built.fresh empty
-      | inr so ↦ end_exists e so
+      | inr so ↦ read_exists e so
     ]
 
     pub not_damaged : IsTrue a.work.tells → IsTrue a.output.tells → NotPrinted e a b → IsNoDamage e
@@ -244,10 +204,10 @@ module _ (known : Known) (analyzer : Analyzer) (input : Input) (detail : Detail)
     pub not_error : NotPrinted e a b → IsBuildError e a b
     not_error (in_building h) = build_error known analyzer input e a b h.calls
     not_error (in_work metas m built k same) =
-        end_as e a b (prints_end [] (codes "work") detail m.work b.work e k)
+        error_as e a b (prints_so [] (codes "work") detail m.work b.work e k)
         (λ is. inl (rose_between a.work.faults m.work.faults b.work.faults b.work.faults (steady a m metas built).work.later
         (prints_rose [] (codes "work") detail m.work b.work (subst (λ (x : TantivyError). PrintsIndex [] (codes "work") detail (Err x) m.work b.work) is k)) (omega arith)))
     not_error (in_output metas m work built k l) =
-        end_as e a b (prints_end work (codes "output") detail m.output b.output e l)
+        error_as e a b (prints_so work (codes "output") detail m.output b.output e l)
         (λ is. inr (rose_between a.output.faults m.output.faults b.output.faults b.output.faults (steady a m metas built).output.later
         (prints_rose work (codes "output") detail m.output b.output (subst (λ (x : TantivyError). PrintsIndex work (codes "output") detail (Err x) m.output b.output) is l)) (omega arith)))

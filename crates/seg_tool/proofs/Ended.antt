@@ -2,14 +2,13 @@
 use Rattle.std.proofs.Common.{◌≡◌, ◌≢◌, ◌∙◌, ℕ, List, Option, None, Some, Result, Ok, Err, IsTrue, refl, sym, ap, subst, inl, inr}
 use Rattle.std.specs.Prelude.{◌⊎◌, IfSome, IsSome, is_some}
 use Rattle.std.proofs.lemmas.Option.{MatchOption-from_none}
-use Rattle.seg_values.specs.declared.error.ArgumentCause.TheVariants.{Documents, Later}
+use Rattle.seg_values.specs.declared.error.ArgumentCause.TheVariants.{Documents, Numbers}
 use Rattle.seg_values.specs.declared.error.TantivyError.{TantivyError}
 use Rattle.seg_values.specs.declared.error.TantivyError.TheVariants.{SchemaError, InvalidArgument, IndexAlreadyExists, OpenReadError, OpenWriteError, IoError, DataCorruption, SystemError, FieldNotFound, OutOfMemory}
 use Rattle.seg_model.specs.Fields.{Analyzer}
 use Rattle.seg_model.specs.Input.{Input}
 use Rattle.seg_model.specs.Refused.{IfRefusal}
-use Rattle.seg_model.specs.Valid.{Known}
-use Rattle.seg_refusals.specs.Refusals.{first_error}
+use Rattle.seg_model.specs.Valid.{Known, input_refusal}
 use Rattle.seg_merge.specs.Turns.{Directories}
 use Rattle.seg_merge.proofs.Exports.{IsBuildError, RoseIn}
 use Rattle.seg_script.specs.Script.{script}
@@ -124,20 +123,20 @@ module _ {known : Known} {analyzer : Analyzer} {detail : Detail} {bytes : List �
   ended_untold (e_input meant e says is stops h) =
       subst (λ (s : Status). IfRefused s (IsWhyRefusedUntold known analyzer bytes)) (sym is)
       (refused_as (IsWhyRefusedUntold known analyzer bytes) e
-      (subst (λ (o : Option Input). IfRefusal (λ x. (refusal_of known analyzer o ≡ Some x) ⊎ ((x ≡ InvalidArgument Documents) ⊎ (x ≡ InvalidArgument Later))) e) (sym says) (not_untold known analyzer meant detail e a b h)))
+      (subst (λ (o : Option Input). IfRefusal (λ x. (refusal_of known analyzer o ≡ Some x) ⊎ ((x ≡ InvalidArgument Documents) ⊎ (x ≡ InvalidArgument Numbers))) e) (sym says) (not_untold known analyzer meant detail e a b h)))
 
   pub ended_first : Ends known analyzer detail bytes status a b → IfSome (first_of known analyzer (script bytes)) (λ e. RefusedFor e status × (b ≡ a))
   ended_first (e_script is none same) = subst (λ (o : Option Input). IfSome (first_of known analyzer o) (λ e. RefusedFor e status × (b ≡ a))) (sym none) tt
   ended_first (e_memory is same) = if_some (first_of known analyzer (script bytes)) _ (λ e. (inr (inl is), same))
   ended_first (e_input meant e says is stops h) =
       subst (λ (o : Option Input). IfSome (first_of known analyzer o) (λ e. RefusedFor e status × (b ≡ a))) (sym says)
-      (stopped_first status a b e is (first_error known analyzer meant) (first_statuses known analyzer meant) (not_first known analyzer meant detail e a b h))
+      (stopped_first status a b e is (input_refusal known analyzer meant) (first_statuses known analyzer meant) (not_first known analyzer meant detail e a b h))
 
   pub ended_written : Ends known analyzer detail bytes status a b → IfWritten status (λ _. IsSome (script bytes) × (first_of known analyzer (script bytes) ≡ None))
   ended_written (e_script is none same) = subst (λ (s : Status). IfWritten s (λ _. IsSome (script bytes) × (first_of known analyzer (script bytes) ≡ None))) (sym is) tt
   ended_written (e_memory is same) = subst (λ (s : Status). IfWritten s (λ _. IsSome (script bytes) × (first_of known analyzer (script bytes) ≡ None))) (sym is) tt
   ended_written (e_input meant e says is stops h) =
-      stopped_written status a b e is _ (first_error known analyzer meant) (λ none. (ap is_some says, ap (first_of known analyzer) says ∙ none)) (first_statuses known analyzer meant)
+      stopped_written status a b e is _ (input_refusal known analyzer meant) (λ none. (ap is_some says, ap (first_of known analyzer) says ∙ none)) (first_statuses known analyzer meant)
       (not_first known analyzer meant detail e a b h)
 
   pub ended_fresh : AreEmpty a → Ends known analyzer detail bytes status a b → (x : TantivyError) → status ≢ Exists x

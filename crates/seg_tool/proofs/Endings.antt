@@ -1,16 +1,11 @@
 -- What ends well.
 use Rattle.std.proofs.Common.{◌≡◌, ◌≢◌, ◌≤◌, ◌⊎◌, ℕ, List, length, Option, None, Some, refl, sym, ap, subst, ◌∙◌, inl, inr, arith}
 use Rattle.std.specs.Prelude.{IfSome, is_some}
-use Rattle.std.specs.Option.{option_or}
 use mathlib.Core.Bool.{true≢false}
 use Rattle.seg_common.specs.Causes.{Rose}
-use Rattle.seg_values.specs.declared.error.ArgumentCause.TheVariants.{Later}
 use Rattle.seg_values.specs.declared.error.TantivyError.{TantivyError}
-use Rattle.seg_values.specs.declared.error.TantivyError.TheVariants.{InvalidArgument}
-use Rattle.seg_model.specs.Checked.{unless}
 use Rattle.seg_model.specs.Fields.{Analyzer}
 use Rattle.seg_model.specs.Laws.{ValidInputsAreNotRefused}
-use Rattle.seg_model.specs.Refused.{build_refusal}
 use Rattle.seg_model.specs.Input.{Input}
 use Rattle.seg_model.specs.Valid.{Known, IsValid}
 use Rattle.seg_merge.specs.Turns.{Directories}
@@ -31,8 +26,7 @@ not-refused : (known : Known) (analyzer : Analyzer) (bytes : List ℕ) (e : Tant
 not-refused known analyzer bytes e law v why =
     let none : refusal_of known analyzer (script bytes) ≡ None =
     ap (refusal_of known analyzer) v.is_script
-    ∙ ap (λ b. option_or (unless b (InvalidArgument Later)) (build_refusal known analyzer v.meant)) v.built
-    ∙ ((law known analyzer v.meant).0 (valid_told known analyzer v.meant v.valid)) in
+    ∙ (law known analyzer v.meant).0 (valid_told known analyzer v.meant v.valid) in
     true≢false (ap is_some (sym why ∙ none))
 
 not-script : (known : Known) (analyzer : Analyzer) (bytes : List ℕ) → length bytes ≤ max_script → IsValidScript (Unit {0}) known analyzer bytes → IsNoScript bytes → ⊥

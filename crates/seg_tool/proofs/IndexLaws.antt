@@ -1,5 +1,5 @@
 -- What the printing of an index says of its directory, and of what it prints.
-use Rattle.std.proofs.Common.{◌≡◌, ◌≤◌, ◌∙◌, ℕ, Bool, true, false, List, [], ◌∷◌, ◌++◌, Option, Some, None, Result, Ok, Err, IsTrue, refl, sym, ap, subst, inl, inr, map, arith}
+use Rattle.std.proofs.Common.{◌≡◌, ◌≤◌, ◌∙◌, ℕ, Bool, true, false, List, [], ◌∷◌, ◌++◌, Option, Some, None, Result, Ok, Err, IsTrue, refl, sym, ap, subst, map, arith}
 use Rattle.std.specs.Prelude.{IsSome, is_some, if◌then◌else◌}
 use Rattle.std.specs.FinMap.{get}
 use Rattle.std.specs.List.{AllByRecursion}
@@ -20,14 +20,13 @@ use Rattle.seg_meta.specs.Metas.{segment_of}
 use Rattle.seg_meta.specs.View.{meta_of}
 use Rattle.seg_meta.specs.declared.index_meta.IndexMeta.{IndexMeta}
 use Rattle.seg_model.specs.Fields.{Schema}
-use Rattle.seg_segment.specs.Built.{is_built_schema}
 use Rattle.seg_segment.specs.Forms.{segment_forms}
 use Rattle.seg_segment.specs.HoldsAlive.{HoldsAlive}
 use Rattle.seg_segment.specs.SegmentRead.{IsNoDamage, IsReadError}
 use Rattle.seg_segment.proofs.Exports.{FindWhole, FindsDamage, OnlyReads, Unchanged, found_whole, reads_rose, reads_so, reads_stay}
 use Rattle.seg_open.specs.OpenSegment.{OpenSegment}
 use Rattle.seg_open.specs.SegmentOpened.{Asked, OpensSegments}
-use Rattle.seg_open.proofs.Exports.{AreBuilt, EachRead, EndsSo, HoldsMarks as HoldsRead, IsHeld, IsOf, Whole, segments_end, segments_held, segments_of_schema, segments_rose, segments_so, segments_stay, segments_undamaged}
+use Rattle.seg_open.proofs.Exports.{EachRead, HoldsMarks as HoldsRead, IsHeld, IsOf, Whole, segments_held, segments_of_schema, segments_rose, segments_so, segments_stay, segments_undamaged}
 use Rattle.seg_merge.specs.MergeAnswers.{HoldsMarks}
 use Rattle.seg_tool.specs.Indexes.{AreReadOf, IsPrinted, IsReadOf}
 use Rattle.seg_tool.specs.Printing.{read_texts}
@@ -112,10 +111,6 @@ module _ (files : NamedFiles) (schema : Schema) where
   are_whole [] whole = tt
   are_whole (l ∷ listed) whole = (whole.0, are_whole listed whole.1)
 
-  are_built : is_built_schema schema ≡ true → (listed : List ListedSegment) → AreBuilt (all_of (map (segment_of schema) listed))
-  are_built built [] = tt
-  are_built built (l ∷ listed) = (built, are_built built listed)
-
 module _ (front label : List ℕ) (detail : Detail) (asked : List Asked) (a b : DirectoryState) where
   text_stays : (r : Result (List ℕ) TantivyError) → ReadsText front label detail asked r a b → Unchanged a b
   text_stays r (fails e is h) = segments_stay asked a b (Err e) h
@@ -145,10 +140,10 @@ module _ (front label : List ℕ) (detail : Detail) (a b : DirectoryState) where
       then_same a m b (load_stays a m (Ok metas) load) (text_stays front label detail (all_of (listed_in metas)) m b r text)
 
   -- with which errors it ends
-  pub prints_end : (e : TantivyError) → PrintsIndex front label detail (Err e) a b → EndsSo e
-  prints_end e (not_loaded d is load) = subst EndsSo (sym (cc is)) (inl (load_so a b d load))
-  prints_end e (loaded metas m load text) =
-      segments_end (all_of (listed_in metas)) m b e (text_fails front label detail (all_of (listed_in metas)) m b e text)
+  pub prints_so : (e : TantivyError) → PrintsIndex front label detail (Err e) a b → IsReadError e
+  prints_so e (not_loaded d is load) = subst IsReadError (sym (cc is)) (load_so a b d load)
+  prints_so e (loaded metas m load text) =
+      segments_so (all_of (listed_in metas)) m b e (text_fails front label detail (all_of (listed_in metas)) m b e text)
 
   -- a failed reading was counted
   pub prints_rose : PrintsIndex front label detail (Err OpenReadError) a b → Rose a.faults b.faults
@@ -191,12 +186,3 @@ module _ (front label : List ℕ) (detail : Detail) (a b : DirectoryState) where
         segments_undamaged asked m b e
         (subst (λ (files : NamedFiles). AllByRecursion (Whole files) asked) (sym same.files) (are_whole a.files metas.schema metas.segments all))
         (tells_on a m same told) (text_fails front label detail asked m b e text)
-
-    -- and can be opened, where its schema is built
-    pub prints_so : (e : TantivyError) → is_built_schema meta.schema ≡ true → PrintsIndex front label detail (Err e) a b → IsReadError e
-    prints_so e built (not_loaded d is load) = subst IsReadError (sym (cc is)) (load_so a b d load)
-    prints_so e built (loaded metas m load text) =
-        let asked = all_of (listed_in metas) in
-        segments_so asked m b e
-        (are_built a.files metas.schema (subst (λ (x : Meta). is_built_schema x.schema ≡ true) (same_meta metas m load) built) metas.segments)
-        (text_fails front label detail asked m b e text)

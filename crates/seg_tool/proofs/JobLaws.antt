@@ -187,7 +187,7 @@ module _ (a b : Directories) where
   pub show_starves : HasWholeIndex a.work b.work → (e : TantivyError) → ShowsText (Err e) a b → status_of e ≡ Memory
   show_starves whole e h =
       memory_left e
-      (prints_so [] (codes "segment") Full a.work b.work whole.meta whole.tells whole.is_index e whole.built h.0)
+      (prints_so [] (codes "segment") Full a.work b.work e h.0)
       (prints_undamaged [] (codes "segment") Full a.work b.work whole.meta whole.tells whole.is_index e whole.whole h.0)
       (λ is. whole.sound (prints_rose [] (codes "segment") Full a.work b.work (subst (λ (x : TantivyError). PrintsIndex [] (codes "segment") Full (Err x) a.work b.work) is h.0)))
 
@@ -208,7 +208,7 @@ merges_some metas merged a b h empty = by h.merges
     by (stops e is k) = cc is
     by (goes_on u n k l) = none_there k.0
 
-first_of : (metas : IndexMeta) → metas.segments ≢ [] → first_schema (listed_in metas) ≡ metas.schema
+pub first_of : (metas : IndexMeta) → metas.segments ≢ [] → first_schema (listed_in metas) ≡ metas.schema
 first_of metas some = by metas.segments some
   where
     by : (listed : List ListedSegment) → listed ≢ [] → first_schema (map (segment_of metas.schema) listed) ≡ metas.schema
@@ -216,18 +216,20 @@ first_of metas some = by metas.segments some
     by (l ∷ listed) some = refl
 
 -- the text of what segments join to
-module _ (law : HoldsOneContents) (files : NamedFiles) (schema : Schema) (opened : List OpenSegment) (holds : Holds files last_id schema (joined schema opened)) where
-  one_text : (s : OpenSegment) → s.schema ≡ schema → s.id ≡ last_id → s.alive ≡ replicate (kept_count opened) true → Holds files last_id schema (contents_of s)
-      → read_segment_text (codes "output") Brief s ≡ joined_text schema opened
+module _ (law : HoldsOneContents) (files : NamedFiles) (schema : Schema) (documents : ℕ) (contents : Contents)
+    (holds : Holds files last_id schema contents) where
+  one_text : (s : OpenSegment) → s.schema ≡ schema → s.id ≡ last_id → s.alive ≡ replicate documents true
+      → Holds files last_id schema (contents_of s)
+      → read_segment_text (codes "output") Brief s ≡ joined_text schema documents contents
   one_text s same of_id marks held =
       ap (λ (c : Schema). segment_text c (record { label = codes "output"; id = s.id; alive = s.alive; reading = reading_part (contents_of s) })) same
       ∙ ap (λ i. segment_text schema (record { label = codes "output"; id = i; alive = s.alive; reading = reading_part (contents_of s) })) of_id
       ∙ ap (λ (m : List Bool). segment_text schema (record { label = codes "output"; id = last_id; alive = m; reading = reading_part (contents_of s) })) marks
-      ∙ ap (λ (c : Contents). segment_text schema (record { label = codes "output"; id = last_id; alive = replicate (kept_count opened) true; reading = reading_part c }))
-      (law files last_id schema (contents_of s) (joined schema opened) held holds)
+      ∙ ap (λ (c : Contents). segment_text schema (record { label = codes "output"; id = last_id; alive = replicate documents true; reading = reading_part c }))
+      (law files last_id schema (contents_of s) contents held holds)
 
-  all_text : (read : List OpenSegment) → AreReadOf files schema (undeleted last_id (kept_count opened) ∷ []) read
-      → read_texts (codes "output") Brief read ≡ joined_text schema opened
+  all_text : (read : List OpenSegment) → AreReadOf files schema (undeleted last_id documents ∷ []) read
+      → read_texts (codes "output") Brief read ≡ joined_text schema documents contents
   all_text [] are = absurd are
   all_text (s ∷ t ∷ read) are = absurd are.1
   all_text (s ∷ []) are =
@@ -277,7 +279,7 @@ module _ (a b : Directories) where
       let p = prints_told [] (codes "output") Brief d.merged_at.output b.output text told_merged d.prints in
       let output_same = (prints_stay [] (codes "output") Brief d.merged_at.output b.output (Ok text) d.prints).files in
       let is_output = j.index_of told_begun ∙ ap (λ (x : Meta). Some x) j.counted in
-      let held = subst (λ (schema : Schema). Holds d.merged_at.output.files last_id schema (joined schema j.opened)) one (j.joins told_begun) in
+      let held = subst (λ (schema : Schema). Holds d.merged_at.output.files last_id schema j.contents) one (j.holds told_begun) in
       let meta_is = same_Some (meta_of p.metas) (output_meta_of (merge_of d.metas) (kept_count j.opened)) (sym p.is_index ∙ is_output) in
       let read =
       subst (λ (schema : Schema). AreReadOf d.merged_at.output.files schema (undeleted last_id (kept_count j.opened) ∷ []) p.opened) one
@@ -290,8 +292,11 @@ module _ (a b : Directories) where
         held =
             subst (λ (files : NamedFiles). AllHaveHeld files (live_asked (merge_of d.metas).segments (merge_of d.metas).filters) j.opened) same.files j.held;
         is_output = subst (λ (files : NamedFiles). index.index_of segment_forms files ≡ Some (output_meta_of (merge_of d.metas) (kept_count j.opened))) (sym output_same) is_output;
-        holds = subst (λ (files : NamedFiles). Holds files last_id d.metas.schema (joined d.metas.schema j.opened)) (sym output_same) held;
-        printed = p.printed ∙ all_text law d.merged_at.output.files d.metas.schema j.opened held p.opened read;
+        contents = j.contents;
+        joins = sym (ap (λ (schema : Schema). joined schema j.opened) one) ∙ j.joins;
+        holds = subst (λ (files : NamedFiles). Holds files last_id d.metas.schema j.contents) (sym output_same) held;
+        printed = p.printed
+            ∙ all_text law d.merged_at.output.files d.metas.schema (kept_count j.opened) j.contents held p.opened read;
       }
 
   pub is_merged : HoldsOneContents → (text : List ℕ) → MergesText (Ok text) a b → IsMergedText a b text

@@ -3,7 +3,7 @@ use Rattle.std.proofs.Common.{◌≡◌, ◌≢◌, ◌∙◌, ℕ, List, [], �
 use Rattle.std.specs.Prelude.{◌⊎◌, IfErr, IfOk, IfSome, OnOk}
 use Rattle.std.specs.FinMap.{len}
 use Rattle.std.specs.List.{AllByRecursion}
-use Rattle.seg_values.specs.declared.error.ArgumentCause.TheVariants.{Documents, NoSegments}
+use Rattle.seg_values.specs.declared.error.ArgumentCause.TheVariants.{NoSegments}
 use Rattle.seg_values.specs.declared.error.TantivyError.{TantivyError}
 use Rattle.seg_values.specs.declared.error.TantivyError.TheVariants.{IndexAlreadyExists, InvalidArgument, OutOfMemory}
 use Rattle.seg_directory.specs.State.{DirectoryState, HasOnly, IsEmptyDisk, LeavesOnly}
@@ -15,13 +15,13 @@ use Rattle.seg_meta.specs.declared.index_meta.IndexMeta.{IndexMeta}
 use Rattle.seg_meta.specs.declared.index_settings.IndexSettings.{IndexSettings}
 use Rattle.seg_model.specs.Fields.{Analyzer, Schema}
 use Rattle.seg_model.specs.Input.{Filter, Input}
-use Rattle.seg_model.specs.Refused.{IfRefusal}
-use Rattle.seg_model.specs.Valid.{Known}
+use Rattle.seg_model.specs.Refused.{IfRefusal, build_refusal}
+use Rattle.seg_model.specs.Valid.{Known, input_refusal}
 use Rattle.seg_segment.specs.Forms.{segment_forms}
 use Rattle.seg_open.specs.SegmentOpened.{IsNoDamage}
 use Rattle.seg_refusals.specs.Admitted.{IsValidIf}
-use Rattle.seg_refusals.specs.Refusals.{first_error, refusal_error}
 use Rattle.seg_merge.specs.AfterCrash.{MayBeBuilt, MayBeMerged}
+use Rattle.seg_merge.specs.Builds.{IsWhyUntold}
 use Rattle.seg_merge.specs.DirectoryCalls.{BuildsIndexes}
 use Rattle.seg_merge.specs.IndexFiles.{IsOutputIndexOf, IsWorkIndexOf, merged_meta, output_id, work_ids}
 use Rattle.seg_merge.specs.SegmentsMerged.{AreOfOne, IsRefusal, MergeInput, MergesSegments, merge_input, one_refusal}
@@ -55,10 +55,10 @@ module _ (known : Known) (analyzer : Analyzer) (input : Input) (w q v p : Direct
 
   -- what is known of it, by its result
   pub built_so : (r : Result IndexMeta TantivyError)
-      → IfSome (first_error known analyzer input) (λ e. (r ≡ Err e) ⊎ (r ≡ Err OutOfMemory))
-      → IfSome (first_error known analyzer input) (λ _. (v ≡ w) × (p ≡ q))
-      → (IsTrue w.tells → IfErr r (IfRefusal (λ e. refusal_error known analyzer input ≡ Some e)))
-      → IfErr r (IfRefusal (λ e. (refusal_error known analyzer input ≡ Some e) ⊎ (e ≡ InvalidArgument Documents)))
+      → IfSome (input_refusal known analyzer input) (λ e. (r ≡ Err e) ⊎ (r ≡ Err OutOfMemory))
+      → IfSome (input_refusal known analyzer input) (λ _. (v ≡ w) × (p ≡ q))
+      → (IsTrue w.tells → IfErr r (IfRefusal (λ e. build_refusal known analyzer input ≡ Some e)))
+      → IfErr r (IfRefusal (IsWhyUntold known analyzer input))
       → OnOk r (IsValidIf (IsTrue w.tells) known analyzer input)
       → IfOk r (λ built. (documents : ℕ) × (meta_of built ≡ merged_meta input.settings input.schema (work_ids input.ids) (output_id input.ids) documents))
       → (IsTrue w.tells → OnOk r (IsWorkIndexOf analyzer input v.files))
@@ -73,7 +73,7 @@ module _ (known : Known) (analyzer : Analyzer) (input : Input) (w q v p : Direct
       → BuildsIndexes known analyzer input r a b
       → BuildsBoth known analyzer input r a b
   built_so (Ok metas) first untouched refused untold valid meta work_index work_was_empty output_index output_meta output_was_empty fresh whole any_moment at_rest calls = record {
-    admitted = none_of (first_error known analyzer input) metas first;
+    admitted = none_of (input_refusal known analyzer input) metas first;
     valid = valid;
     work_was_empty = work_was_empty;
     work_index = work_index;
@@ -85,7 +85,7 @@ module _ (known : Known) (analyzer : Analyzer) (input : Input) (w q v p : Direct
     calls = calls;
   }
   built_so (Err e) first untouched refused untold valid meta work_index work_was_empty output_index output_meta output_was_empty fresh whole any_moment at_rest calls = record {
-    first = first_as (first_error known analyzer input) e first untouched;
+    first = first_as (input_refusal known analyzer input) e first untouched;
     refused = refused;
     untold = untold;
     fresh = λ empty is. fresh empty.work_tells empty.work empty.output_tells empty.output (ap failing is);

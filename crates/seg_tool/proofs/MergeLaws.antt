@@ -1,5 +1,6 @@
 -- What the merge of an index never ends with, and where it ends well.
 use Rattle.std.proofs.Common.{◌≡◌, ◌≢◌, ◌≤◌, ◌<◌, ◌^◌, ◌∙◌, ℕ, true, List, [], ◌∷◌, map, None, Result, Ok, Err, IsTrue, refl, sym, ap, subst, inl, codes, arith}
+use Rattle.std.specs.Prelude.{is_some}
 use Rattle.std.specs.FinMap.{len}
 use Rattle.std.specs.List.{AllByRecursion}
 use Rattle.std.proofs.lemmas.Option.{same_Some}
@@ -16,16 +17,16 @@ use Rattle.seg_meta.specs.View.{meta_of, settings_of}
 use Rattle.seg_meta.specs.declared.index_meta.IndexMeta.{IndexMeta}
 use Rattle.seg_model.specs.Fields.{Schema}
 use Rattle.seg_model.specs.Valid.{settings_fit}
-use Rattle.seg_segment.specs.Built.{is_built_schema}
 use Rattle.seg_segment.specs.Forms.{segment_forms}
 use Rattle.seg_segment.specs.SegmentRead.{IsNoDamage}
 use Rattle.seg_segment.proofs.Exports.{Unchanged}
 use Rattle.seg_join.specs.Merger.{all_fit}
-use Rattle.seg_merge.specs.MergeAnswers.{CanBeMerged, LiveAreWhole}
-use Rattle.seg_merge.specs.SegmentsMerged.{AreMerged, AreOfOne, first_schema, is_live, live_documents}
+use Rattle.seg_open.specs.OpenSegment.{OpenSegment}
+use Rattle.seg_merge.specs.MergeAnswers.{AllHaveHeld, CanBeMerged, LiveAreWhole}
+use Rattle.seg_merge.specs.SegmentsMerged.{AreMerged, AreOfOne, first_schema, is_live, joined, live_asked, live_documents}
 use Rattle.seg_merge.specs.Turns.{Directories, goes_on, stops}
 use Rattle.seg_tool.specs.DirectoryCalls.{IsReady}
-use Rattle.seg_tool.specs.Indexes.{HasMergeableIndex, HasWholeLiveSegments}
+use Rattle.seg_tool.specs.Indexes.{HasMergeableIndex, HasWholeLiveSegments, merged_of}
 use Rattle.seg_tool.specs.Jobs.{Merges, MergesText, MergesWork, WithStatus, merge_of}
 use Rattle.seg_tool.specs.ReadingBack.{PrintsIndex, listed_in}
 use Rattle.seg_tool.specs.Runs.{EndsJob, World}
@@ -33,9 +34,9 @@ use Rattle.seg_tool.specs.Statuses.{status_of}
 use Rattle.seg_tool.specs.declared.status.Status.{Status}
 use Rattle.seg_tool.specs.declared.status.Status.TheVariants.{Damaged, Exists, Memory}
 use Rattle.seg_tool.specs.declared.words.Detail.TheVariants.{Brief}
-use Rattle.seg_tool.proofs.BuildLaws.{end_exists}
-use Rattle.seg_tool.proofs.IndexLaws.{load_index, load_rose, load_so, load_stays, load_undamaged, prints_end, prints_rose, prints_so, prints_undamaged, tells_on}
-use Rattle.seg_tool.proofs.JobLaws.{job_so, memory_left}
+use Rattle.seg_tool.proofs.BuildLaws.{read_exists}
+use Rattle.seg_tool.proofs.IndexLaws.{load_index, load_rose, load_so, load_stays, load_undamaged, prints_rose, prints_so, prints_undamaged, tells_on}
+use Rattle.seg_tool.proofs.JobLaws.{first_of, job_so, memory_left}
 use Rattle.seg_tool.proofs.StatusLaws.{exists_only, undamaged_as}
 use Rattle.seg_tool.proofs.Steady.{BothSteady, merges_steady}
 
@@ -64,11 +65,6 @@ module _ (schema : Schema) where
   some_parts [] some none = some refl
   some_parts (l ∷ listed) some none = cc none
 
-  first_built : (listed : List ListedSegment) → listed ≢ [] → is_built_schema schema ≡ true
-      → is_built_schema (first_schema (parts listed)) ≡ true
-  first_built [] some built = absurd (some refl)
-  first_built (l ∷ listed) some built = built
-
   metas_back : (listed : List ListedSegment) → map (λ (s : SegmentParts). s.meta) (parts listed) ≡ listed
   metas_back [] = refl
   metas_back (l ∷ listed) = ap (λ (ls : List ListedSegment). l ∷ ls) (metas_back listed)
@@ -84,12 +80,11 @@ none_fit [] = refl
 none_fit (s ∷ segments) = none_fit segments
 
 -- nothing refuses the segments of an index
-are_merged : (metas : IndexMeta) → metas.segments ≢ [] → is_built_schema metas.schema ≡ true
-    → settings_fit (settings_of metas.index_settings) ≡ true → AreMerged (merge_of metas)
-are_merged metas some built settings = record {
+are_merged : (metas : IndexMeta) → metas.segments ≢ [] → settings_fit (settings_of metas.index_settings) ≡ true
+    → AreMerged (merge_of metas)
+are_merged metas some settings = record {
   some = some_parts metas.schema metas.segments some;
   of_one = are_of_one metas.schema metas.segments;
-  built = first_built metas.schema metas.segments some built;
   fit = none_fit (listed_in metas);
   settings = settings;
 }
@@ -169,11 +164,11 @@ rose_before a b c before rose = omega (arith, before, rose)
 
 module _ (a b : Directories) (told : IsTrue a.output.tells) (none : len a.output.files ≡ 0) where
   exit_fresh : (e : TantivyError) → Exits e a b → e ≢ IndexAlreadyExists
-  exit_fresh e (at_loading l) at = end_exists e (inl (load_so a.work b.work e l)) at
+  exit_fresh e (at_loading l) at = read_exists e (load_so a.work b.work e l) at
   exit_fresh e (at_merging metas m l same k) at =
       k.fresh (told_still a m same told) (empty_still a m same none) (ap (failing IndexMeta) at)
   exit_fresh e (at_printing metas merged m n l same k prints) at =
-      end_exists e (prints_end [] (codes "output") Brief n.output b.output e prints) at
+      read_exists e (prints_so [] (codes "output") Brief n.output b.output e prints) at
 
 pub ended_fresh : {K : Type 0} {status : Status} {sink sink_after : K} {a b : World}
     → EndsJob (WithStatus MergesText) status sink sink_after a b → IsTrue a.directories.output.tells
@@ -210,7 +205,6 @@ module _ (a b : Directories) (can : HasMergeableIndex a.work b.work) (ready : Is
   loaded_merged metas m loads =
       let is = meta_is a.work m can.tells can.has metas loads in
       are_merged metas (subst (λ (x : Meta). x.segments ≢ []) is can.some)
-      (subst (λ (x : Meta). is_built_schema x.schema ≡ true) is can.built)
       (subst (λ (x : Meta). settings_fit x.settings ≡ true) is can.fit)
 
   loaded_few : (metas : IndexMeta) (m : DirectoryState) → LoadsMetas (Ok metas) a.work m
@@ -219,12 +213,26 @@ module _ (a b : Directories) (can : HasMergeableIndex a.work b.work) (ready : Is
       subst (λ (l : List ListedSegment). live_documents l < 2 ^ 31) (sym (metas_back metas.schema metas.segments))
       (subst (λ (x : Meta). live_documents x.segments < 2 ^ 31) (meta_is a.work m can.tells can.has metas loads) can.few)
 
+  -- what is read of those that are merged joins
+  loaded_joins : (metas : IndexMeta) (m : DirectoryState) → LoadsMetas (Ok metas) a.work m → (opened : List OpenSegment)
+      → AllHaveHeld m.files (live_asked (merge_of metas).segments (merge_of metas).filters) opened
+      → is_some (joined (first_schema (listed_in metas)) opened) ≡ true
+  loaded_joins metas m loads opened held =
+      let is = meta_is a.work m can.tells can.has metas loads in
+      let same = same_files a.work m can.tells can.has metas loads in
+      ap (λ (schema : Schema). is_some (joined schema opened))
+      (first_of metas (subst (λ (x : Meta). x.segments ≢ []) is can.some))
+      ∙ subst (λ (x : Meta). (opened : List OpenSegment) → AllHaveHeld a.work.files (merged_of x) opened
+      → is_some (joined x.schema opened) ≡ true) is can.joins opened
+      (subst (λ (files : NamedFiles). AllHaveHeld files (merged_of (meta_of metas)) opened) same.files held)
+
   can_be : (metas : IndexMeta) (m : Directories) → LoadsMetas (Ok metas) a.work m.work → m.output ≡ a.output
       → CanBeMerged (merge_of metas) m b
   can_be metas m loads same = record {
     merged = loaded_merged metas m.work loads;
     whole = loaded_whole a.work m.work can.tells can.has metas loads;
     few = loaded_few metas m.work loads;
+    joins = loaded_joins metas m.work loads;
     work_tells = told_loaded a.work m.work can.tells can.has metas loads;
     work_sound = λ rose.
         can.sound
@@ -242,17 +250,12 @@ module _ (a b : Directories) (can : HasMergeableIndex a.work b.work) (ready : Is
 
   module _ (metas merged : IndexMeta) (m n : Directories) (loads : LoadsMetas (Ok metas) a.work m.work) (same : m.output ≡ a.output)
       (k : Merges (merge_of metas) (Ok merged) m n) where
-    merged_built : is_built_schema (meta_of merged).schema ≡ true
-    merged_built =
-        ap (λ (x : Meta). is_built_schema x.schema) (k.index (told_loaded a.work m.work can.tells can.has metas loads)).counted
-        ∙ (loaded_merged metas m.work loads).built
-
     print_starves : (e : TantivyError) → PrintsIndex [] (codes "output") Brief (Err e) n.output b.output → status_of e ≡ Memory
     print_starves e prints =
         let is = k.output_whole (told_still a m same ready.tells) in
         let told = told_merged a m same metas merged n k ready.tells in
         memory_left a b e
-        (prints_so [] (codes "output") Brief n.output b.output (meta_of merged) told is.is_index e merged_built prints)
+        (prints_so [] (codes "output") Brief n.output b.output e prints)
         (prints_undamaged [] (codes "output") Brief n.output b.output (meta_of merged) told is.is_index e is.whole prints)
         (λ at.
         ready.sound

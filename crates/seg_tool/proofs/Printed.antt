@@ -13,6 +13,7 @@ use Rattle.seg_common.proofs.Lists.{drop-slice_get}
 use Rattle.seg_values.specs.Tree.{Document}
 use Rattle.seg_values.specs.declared.schema.FieldEntry.{FieldEntry}
 use Rattle.seg_directory.specs.Composite.{Part, field_of}
+use Rattle.seg_model.specs.Columns.{Columns}
 use Rattle.seg_model.specs.Fields.{Schema, has_lengths, is_indexed}
 use Rattle.seg_model.specs.Reading.{Posting}
 use Rattle.seg_norms.specs.NormsRead.{norms_of}
@@ -26,9 +27,11 @@ use Rattle.seg_text.specs.DocumentText.{document_line, documents_from, documents
 use Rattle.seg_text.specs.FieldText.{field_text, fields_text, term_line}
 use Rattle.seg_text.specs.HeaderText.{dead_text, header_text}
 use Rattle.seg_text.specs.NormsText.{norms_line, norms_text}
-use Rattle.seg_text.specs.SegmentText.{PrintedSegment, full_segment_text, segment_text}
+use Rattle.seg_text.specs.SegmentText.{PrintedSegment, segment_text}
 use Rattle.seg_text.proofs.Exports.{dead_text-replicate}
-use Rattle.seg_tool.specs.Printing.{opened_text}
+use Rattle.seg_column_text.specs.ColumnText.{columns_text}
+use Rattle.seg_tool.specs.Printing.{opened_text, printed_text}
+use Rattle.seg_tool.specs.declared.words.Detail.TheVariants.{Full}
 
 -- ---- fields
 
@@ -212,9 +215,16 @@ norms_at_place parts schema i e at =
 
 -- ---- in full
 
--- the text, and then the length ids
-pub full_read : {T E : Type 0} (r : Result T E) (schema : Schema) (segment : PrintedSegment) (norms : List (List ℕ)) (out one two : List ℕ)
-    → one ≡ out ++ segment_text schema segment → OnOk r (two ≡ one ++ norms_text schema norms)
-    → OnOk r (two ≡ out ++ full_segment_text schema segment norms)
-full_read r schema segment norms out one two first =
-    on_ok_weaker r (λ e. e ∙ ap (λ xs. xs ++ norms_text schema norms) first ∙ append_assoc out (segment_text schema segment) (norms_text schema norms))
+-- the text, then the columns, and then the length ids
+pub full_read : {T E : Type 0} (r : Result T E) (schema : Schema) (segment : PrintedSegment) (columns : Columns)
+    (norms : List (List ℕ)) (out one two three : List ℕ) → one ≡ out ++ segment_text schema segment
+    → two ≡ one ++ columns_text columns → OnOk r (three ≡ two ++ norms_text schema norms)
+    → OnOk r (three ≡ out ++ printed_text Full schema segment columns norms)
+full_read r schema segment columns norms out one two three first second =
+    let text = segment_text schema segment in
+    let rest = norms_text schema norms in
+    on_ok_weaker r (λ e.
+    e
+    ∙ ap (λ xs. xs ++ rest) (second ∙ ap (λ xs. xs ++ columns_text columns) first)
+    ∙ append_assoc (out ++ text) (columns_text columns) rest
+    ∙ append_assoc out text (columns_text columns ++ rest))

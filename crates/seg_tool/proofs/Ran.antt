@@ -22,7 +22,7 @@ use Rattle.seg_tool.specs.Taken.{HasTaken, before_meta}
 use Rattle.seg_tool.specs.declared.status.Status.{Status}
 use Rattle.seg_tool.specs.declared.status.Status.TheVariants.{Done, Words, Script, Refused, Exists, Directory, Damaged, Stream, Memory}
 use Rattle.seg_tool.specs.declared.words.Detail.{Detail}
-use Rattle.seg_tool.proofs.BuildLaws.{Printed, admitted_built, printed, printed_meta, printed_output, printed_text, printed_work}
+use Rattle.seg_tool.proofs.BuildLaws.{Printed, printed, printed_meta, printed_output, printed_text, printed_work}
 use Rattle.seg_tool.proofs.Ended.{Ends, Prints, ended_does, ended_early, ended_fault, ended_first, ended_fresh, ended_read, ended_refused, ended_script, ended_untold, ended_unwritten, ended_whole, ended_written, if_some, script_ends, script_prints}
 use Rattle.seg_tool.proofs.StatusLaws.{IsEarly, refused_then, written_then}
 use Rattle.seg_tool.proofs.Taken.{printed_taken}
@@ -44,7 +44,6 @@ module _ {known : Known} {analyzer : Analyzer} {detail : Detail} {bytes text : L
   is_valid = record {
     meant = prints.meant;
     is_script = prints.is_script;
-    built = admitted_built known analyzer prints.meant what.built.admitted;
     valid = what.built.valid;
   }
 

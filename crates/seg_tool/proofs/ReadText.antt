@@ -1,8 +1,8 @@
 -- The text of the indexes of an input, where the directories tell their files.
 use Rattle.std.proofs.Common.{◌≡◌, ◌∙◌, ℕ, ◌-◌, suc, List, [], ◌∷◌, ◌++◌, take, drop, length, map, Bool, true, false, cond, Option, None, Some, refl, sym, ap, subst, codes}
-use Rattle.std.specs.Prelude.{not, replicate, is_some}
+use Rattle.std.specs.Prelude.{not, replicate, unwrap_or}
 use Rattle.std.specs.List.{AllByRecursion, count_by, list_all}
-use Rattle.std.specs.Option.{option_map}
+use Rattle.std.specs.FinMap.{empty}
 use Rattle.std.proofs.lemmas.Bool.{false≢true}
 use Rattle.std.proofs.lemmas.List.{append-nil}
 use Rattle.std.proofs.lemmas.Option.{same_Some}
@@ -13,12 +13,13 @@ use Rattle.seg_meta.specs.IndexOfFiles as index
 use Rattle.seg_meta.specs.IndexOfFiles.{Deletes, ListedSegment, Meta}
 use Rattle.seg_meta.specs.View.{meta_of}
 use Rattle.seg_meta.specs.declared.index_meta.IndexMeta.{IndexMeta}
-use Rattle.seg_model.specs.Columns.{Columns, columns}
-use Rattle.seg_model.specs.Contents.{Contents, full_reading, reading_part, reading_with}
+use Rattle.seg_model.specs.Columns.{Columns}
+use Rattle.seg_model.specs.Contents.{Contents, full_reading, reading_part}
 use Rattle.seg_model.specs.Fields.{Schema, Analyzer}
 use Rattle.seg_model.specs.Input.{Input, input_batches, input_survivors}
 use Rattle.seg_model.specs.Norms.{all_norms}
 use Rattle.seg_model.specs.Operations.{Batch, Operation, add, additions, alive_after, batches_from, delete, delete_all}
+use Rattle.seg_model.proofs.Exports.{was_read}
 use Rattle.seg_segment.specs.Forms.{segment_forms}
 use Rattle.seg_segment.specs.HoldsAlive.{HoldsAlive}
 use Rattle.seg_segment.specs.Laws.{HoldsOneContents}
@@ -28,7 +29,7 @@ use Rattle.seg_merge.specs.IndexFiles.{IsOutputIndexOf, IsWorkIndexOf, output_id
 use Rattle.seg_merge.specs.MergeAnswers.{HoldsMarks}
 use Rattle.seg_tool.specs.Indexes.{AreReadOf, IsPrinted, IsReadOf}
 use Rattle.seg_tool.specs.Printing.{printed_text, read_segment_text, read_texts}
-use Rattle.seg_tool.specs.Run.{build_text, documents_text, output_text, work_text}
+use Rattle.seg_tool.specs.Run.{build_text, documents_text, output_text, segment, work_text}
 use Rattle.seg_tool.specs.declared.words.Detail.{Detail}
 
 -- ---- one segment
@@ -37,22 +38,21 @@ module _ (detail : Detail) (label : List ℕ) where
   -- the text of contents, under an id and with marks
   abbrev text_with : Schema → ℕ → List Bool → Contents → List ℕ
   text_with schema id alive contents =
-      printed_text detail schema (record { label = label; id = id; alive = alive; reading = reading_part contents }) contents.norms
+      printed_text detail schema (record { label = label; id = id; alive = alive; reading = reading_part contents })
+      contents.columns contents.norms
 
   -- a segment with all that is read of documents
   pub segment_is : (schema : Schema) (analyzer : Analyzer) (id : ℕ) (documents : List Document) (alive : List Bool) (s : OpenSegment)
       → s.schema ≡ schema → s.id ≡ id → s.alive ≡ alive → full_reading schema analyzer documents ≡ Some (contents_of s)
       → read_segment_text label detail s ≡ documents_text detail schema analyzer label id documents alive
   segment_is schema analyzer id documents alive s same of_id marks is =
+      let read = was_read schema analyzer documents (contents_of s) is in
       ap (λ c. text_with c s.id s.alive (contents_of s)) same
       ∙ ap (λ i. text_with schema i s.alive (contents_of s)) of_id
       ∙ ap (λ (m : List Bool). text_with schema id m (contents_of s)) marks
-      ∙ by (columns schema analyzer documents) is
-    where
-      by : (o : Option Columns) → option_map (reading_with schema analyzer documents) o ≡ Some (contents_of s)
-          → text_with schema id alive (contents_of s) ≡ documents_text detail schema analyzer label id documents alive
-      by None none = absurd (false≢true (ap is_some none))
-      by (Some cs) some = ap (text_with schema id alive) (sym (same_Some (reading_with schema analyzer documents cs) (contents_of s) some))
+      ∙ ap (text_with schema id alive) read.is_reading
+      ∙ ap (λ (o : Option Columns). printed_text detail schema (segment schema analyzer label id documents alive)
+      (unwrap_or o empty) (all_norms schema analyzer documents)) (sym read.are_columns)
 
 -- ---- which documents are alive
 
@@ -176,11 +176,8 @@ module _ (law : HoldsOneContents) (detail : Detail) (analyzer : Analyzer) (input
 
 counts : (schema : Schema) (analyzer : Analyzer) (documents : List Document) (contents : Contents)
     → full_reading schema analyzer documents ≡ Some contents → contents.documents ≡ length documents
-counts schema analyzer documents contents is = by (columns schema analyzer documents) is
-  where
-    by : (o : Option Columns) → option_map (reading_with schema analyzer documents) o ≡ Some contents → contents.documents ≡ length documents
-    by None none = absurd (false≢true (ap is_some none))
-    by (Some cs) some = ap (λ (c : Contents). c.documents) (sym (same_Some (reading_with schema analyzer documents cs) contents some))
+counts schema analyzer documents contents is =
+    ap (λ (c : Contents). c.documents) (was_read schema analyzer documents contents is).is_reading
 
 module _ (schema : Schema) (analyzer : Analyzer) (files : NamedFiles) where
   agrees : (stamp id : ℕ) (batch : Batch) (t : Bool) → IsCounted batch

@@ -7,10 +7,9 @@ use Rattle.seg_values.specs.declared.error.TantivyError.TheVariants.{SchemaError
 use Rattle.seg_model.specs.Fields.{Analyzer}
 use Rattle.seg_model.specs.Input.{Input}
 use Rattle.seg_model.specs.Refused.{IfRefusal, IsRefusal}
-use Rattle.seg_model.specs.Valid.{Known}
+use Rattle.seg_model.specs.Valid.{Known, input_refusal}
 use Rattle.seg_open.specs.SegmentOpened.{IsNoDamage}
 use Rattle.seg_refusals.proofs.Exports.{first_is_refusal}
-use Rattle.seg_refusals.specs.Refusals.{first_error}
 use Rattle.seg_merge.specs.Turns.{Directories}
 use Rattle.seg_tool.specs.DirectoryCalls.{IsDamage, IsFault, JobDoes}
 use Rattle.seg_tool.specs.Jobs.{with_status}
@@ -155,10 +154,10 @@ status_is SystemError h = absurd h
 status_is FieldNotFound h = absurd h
 status_is OutOfMemory h = absurd h
 
-pub first_statuses : (known : Known) (analyzer : Analyzer) (input : Input) → IfSome (first_error known analyzer input) (λ x. status_of x ≡ Refused x)
-first_statuses known analyzer input = by (first_error known analyzer input) refl
+pub first_statuses : (known : Known) (analyzer : Analyzer) (input : Input) → IfSome (input_refusal known analyzer input) (λ x. status_of x ≡ Refused x)
+first_statuses known analyzer input = by (input_refusal known analyzer input) refl
   where
-    by : (o : Option TantivyError) → first_error known analyzer input ≡ o → IfSome o (λ x. status_of x ≡ Refused x)
+    by : (o : Option TantivyError) → input_refusal known analyzer input ≡ o → IfSome o (λ x. status_of x ≡ Refused x)
     by None is = tt
     by (Some x) is = status_is x (first_is_refusal known analyzer input x is)
 

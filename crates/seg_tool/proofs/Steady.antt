@@ -15,7 +15,7 @@ use Rattle.seg_open.specs.OpenSegment.{OpenSegment}
 use Rattle.seg_open.specs.SegmentOpened.{OpensSegments}
 use Rattle.seg_open.proofs.Exports.{segments_stay}
 use Rattle.seg_merge.specs.DirectoryCalls.{BeginsIndexes, BuildsIndexes, WritesIndexes, merge_of}
-use Rattle.seg_merge.specs.SegmentsMerged.{FillsOutput, MergeInput, MergesLive, MergesSegments, fills, live_asked, starves}
+use Rattle.seg_merge.specs.SegmentsMerged.{FillsOutput, MergeInput, MergesLive, MergesSegments, fills, live_asked, mixes, starves}
 use Rattle.seg_merge.specs.Turns.{Directories, InOutput, InWork, Passes, Then, goes_on, stops}
 
 -- ---- one directory
@@ -97,6 +97,7 @@ module _ {X T : Type 0} (first : Result X TantivyError → Directories → Direc
 module _ {T : Type 0} (m : MergeInput) where
   fills_steady : (opened : List OpenSegment) (r : Result T TantivyError) (a b : DirectoryState) → FillsOutput m opened r a b → Steady a b
   fills_steady opened r a b (starves is same) = still_there a b same
+  fills_steady opened r a b (mixes is none same) = still_there a b same
   fills_steady opened r a b (fills files joins works) = works_steady r a b works
 
   live_steady : (r : Result T TantivyError) (a b : Directories) → MergesLive m r a b → BothSteady a b

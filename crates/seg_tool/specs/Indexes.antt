@@ -1,20 +1,21 @@
 -- What `merge` and `show` leave and print, where the directories tell their files.
-use Rattle.std.specs.Prelude.{ℕ, ◌≡◌, ◌≢◌, ◌<◌, ◌^◌, List, [], ◌∷◌, ◌++◌, replicate, true, Some, Ok, IsTrue, codes}
+use Rattle.std.specs.Prelude.{ℕ, ◌≡◌, ◌≢◌, ◌<◌, ◌^◌, List, [], ◌∷◌, ◌++◌, map, replicate, true, Some, None, Ok, IsTrue, is_some, codes}
 use Rattle.std.specs.List.{AllByRecursion}
 use Rattle.seg_common.specs.Causes.{Rose}
 use Rattle.seg_directory.specs.Files.{NamedFiles}
 use Rattle.seg_directory.specs.State.{DirectoryState}
 use Rattle.seg_meta.specs.IndexOfFiles as index
 use Rattle.seg_meta.specs.IndexOfFiles.{ListedSegment, Meta}
+use Rattle.seg_meta.specs.Metas.{segment_of}
 use Rattle.seg_meta.specs.View.{meta_of}
 use Rattle.seg_meta.specs.declared.index_meta.IndexMeta.{IndexMeta}
-use Rattle.seg_model.specs.Contents.{reading_part}
+use Rattle.seg_model.specs.Contents.{Contents, reading_part}
 use Rattle.seg_model.specs.Fields.{Schema}
 use Rattle.seg_model.specs.Valid.{settings_fit}
-use Rattle.seg_segment.specs.Built.{is_built_schema}
 use Rattle.seg_segment.specs.Forms.{segment_forms}
 use Rattle.seg_segment.specs.Holds.{Holds}
 use Rattle.seg_open.specs.OpenSegment.{OpenSegment, contents_of, kept_count}
+use Rattle.seg_open.specs.SegmentOpened.{Asked}
 use Rattle.seg_merge.specs.MergeAnswers.{AllHaveHeld, HoldsMarks}
 use Rattle.seg_merge.specs.SegmentsMerged.{is_live, joined, live_asked, live_documents, output_meta_of}
 use Rattle.seg_merge.specs.Turns.{Directories}
@@ -57,13 +58,13 @@ pub record IsShownText (before after : Directories) (text : List ℕ) : Type 0 w
 
 -- ---- merge
 
--- what open segments join to is printed under the last id, with all its documents alive
-abbrev pub joined_text : Schema → List OpenSegment → List ℕ
-joined_text schema opened = segment_text schema (record {
+-- what segments join to is printed under the last id, with all its documents alive
+abbrev pub joined_text : Schema → ℕ → Contents → List ℕ
+joined_text schema documents contents = segment_text schema (record {
   label = codes "output";
   id = last_id;
-  alive = replicate (kept_count opened) true;
-  reading = reading_part (joined schema opened);
+  alive = replicate documents true;
+  reading = reading_part contents;
 })
 
 -- the work files have an index that lists segments; those that have a live document were opened, and what they join to is held
@@ -75,8 +76,10 @@ pub record IsJoined (work output : NamedFiles) (text : List ℕ) : Type 0 where
   pub opened : List OpenSegment
   pub held : AllHaveHeld work (live_asked (merge_of metas).segments (merge_of metas).filters) opened
   pub is_output : index.index_of segment_forms output ≡ Some (output_meta_of (merge_of metas) (kept_count opened))
-  pub holds : Holds output last_id metas.schema (joined metas.schema opened)
-  pub printed : text ≡ joined_text metas.schema opened
+  pub contents : Contents
+  pub joins : joined metas.schema opened ≡ Some contents
+  pub holds : Holds output last_id metas.schema contents
+  pub printed : text ≡ joined_text metas.schema (kept_count opened) contents
 
 -- it is the text that `merge` makes, and where both directories tell their files, that of what the work segments join to
 pub record IsMergedText (before after : Directories) (text : List ℕ) : Type 0 where
@@ -85,12 +88,11 @@ pub record IsMergedText (before after : Directories) (text : List ℕ) : Type 0 
 
 -- ---- what ends well
 
--- a directory that tells its files, which have an index of whole segments, of a schema that is built, and does not fail
+-- a directory that tells its files, which have an index of whole segments, and does not fail
 pub record HasWholeIndex (before after : DirectoryState) : Type 0 where
   pub tells : IsTrue before.tells
   pub meta : Meta
   pub is_index : index.index_of segment_forms before.files ≡ Some meta
-  pub built : is_built_schema meta.schema ≡ true
   pub whole : index.AreWhole segment_forms before.files meta
   pub sound : ¬ (Rose before.faults after.faults)
 
@@ -100,13 +102,18 @@ pub record HasWholeLiveSegments (files : NamedFiles) : Type 0 where
   pub is_index : index.index_of segment_forms files ≡ Some meta
   pub whole : AllByRecursion (λ s. is_live s ≡ true → index.IsWhole segment_forms files meta.schema s) meta.segments
 
--- a directory that tells its files, which have such an index, of a schema that is built and with settings that fit; it lists a
--- segment, and fewer than 2^31 live documents; and the directory does not fail
+-- the segments of an index that are merged: those with a live document, with no filter
+abbrev pub merged_of : Meta → List Asked
+merged_of meta = live_asked (map (segment_of meta.schema) meta.segments) (map (λ _. None) (map (segment_of meta.schema) meta.segments))
+
+-- a directory that tells its files, which have such an index, with settings that fit; it lists a segment, and fewer than 2^31
+-- live documents; what the files hold of those that are merged joins; and the directory does not fail
 pub record HasMergeableIndex (before after : DirectoryState) : Type 0 where
   pub tells : IsTrue before.tells
   pub has : HasWholeLiveSegments before.files
-  pub built : is_built_schema has.meta.schema ≡ true
   pub fit : settings_fit has.meta.settings ≡ true
   pub some : has.meta.segments ≢ []
   pub few : live_documents has.meta.segments < 2 ^ 31
+  pub joins : (opened : List OpenSegment) → AllHaveHeld before.files (merged_of has.meta) opened
+      → is_some (joined has.meta.schema opened) ≡ true
   pub sound : ¬ (Rose before.faults after.faults)

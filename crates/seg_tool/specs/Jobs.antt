@@ -1,22 +1,20 @@
 -- What the jobs of the program do with the two directories, in turn, and what text they make.
 use Rattle.std.specs.Prelude.{ℕ, ◌≡◌, ◌≢◌, ◌⊎◌, ◌-◌, ◌^◌, List, [], map, codes, Some, None, Result, Ok, Err, IfErr, IfOk, IfSome, IsTrue, OnOk}
 use Rattle.std.specs.FinMap.{len}
-use Rattle.seg_values.specs.declared.error.ArgumentCause.TheVariants.{Documents}
 use Rattle.seg_values.specs.declared.error.TantivyError.{TantivyError}
-use Rattle.seg_values.specs.declared.error.TantivyError.TheVariants.{IndexAlreadyExists, InvalidArgument, OutOfMemory}
+use Rattle.seg_values.specs.declared.error.TantivyError.TheVariants.{IndexAlreadyExists, OutOfMemory}
 use Rattle.seg_directory.specs.State.{HasOnly, IsEmptyDisk, LeavesOnly}
 use Rattle.seg_meta.specs.MetaSteps.{LoadsMetas}
 use Rattle.seg_meta.specs.View.{meta_of}
 use Rattle.seg_meta.specs.declared.index_meta.IndexMeta.{IndexMeta}
 use Rattle.seg_model.specs.Fields.{Analyzer}
 use Rattle.seg_model.specs.Input.{Input}
-use Rattle.seg_model.specs.Refused.{IfRefusal}
-use Rattle.seg_model.specs.Valid.{Known}
+use Rattle.seg_model.specs.Refused.{IfRefusal, build_refusal}
+use Rattle.seg_model.specs.Valid.{Known, input_refusal}
 use Rattle.seg_open.specs.SegmentOpened.{IsNoDamage}
 use Rattle.seg_refusals.specs.Admitted.{IsValidIf}
-use Rattle.seg_refusals.specs.Refusals.{first_error, refusal_error}
 use Rattle.seg_merge.specs.AfterCrash.{AreMergeOf, MayBeMerged}
-use Rattle.seg_merge.specs.Builds.{LeavesBuilt}
+use Rattle.seg_merge.specs.Builds.{IsWhyUntold, LeavesBuilt}
 use Rattle.seg_merge.specs.DirectoryCalls.{BuildsIndexes}
 use Rattle.seg_merge.specs.IndexFiles.{IsMergedIndexOf, IsOutputIndexOf, IsWorkIndexOf}
 use Rattle.seg_merge.specs.MergeAnswers.{CanBeMerged, IsMergeError, IsMergeOf, IsWholeIndex, LiveAreWhole}
@@ -41,7 +39,7 @@ pub record AreEmpty (state : Directories) : Type 0 where
 
 -- they are written
 pub record Built (known : Known) (analyzer : Analyzer) (input : Input) (metas : IndexMeta) (before after : Directories) : Type 0 where
-  pub admitted : first_error known analyzer input ≡ None
+  pub admitted : input_refusal known analyzer input ≡ None
   pub valid : IsValidIf (IsTrue before.work.tells) known analyzer input
   pub work_was_empty : IsTrue before.work.tells → len before.work.files ≡ 0
   pub work_index : IsTrue before.work.tells → IsWorkIndexOf analyzer input after.work.files
@@ -53,16 +51,11 @@ pub record Built (known : Known) (analyzer : Analyzer) (input : Input) (metas : 
       → HasOnly (IsOutputIndexOf analyzer input) after.output.disk.now
   pub calls : BuildsIndexes known analyzer input (Ok metas) before after
 
--- why an input is refused, or too many documents were read back
-abbrev pub IsWhyUntold : Known → Analyzer → Input → TantivyError → Type 0
-IsWhyUntold known analyzer input e =
-    (refusal_error known analyzer input ≡ Some e) ⊎ (e ≡ InvalidArgument Documents)
-
 -- or it ends with an error: the first refusal, or out of memory, before a directory is called; or after that
 pub record NotBuilt (known : Known) (analyzer : Analyzer) (input : Input) (e : TantivyError) (before after : Directories) : Type 0 where
-  pub first : IfSome (first_error known analyzer input)
+  pub first : IfSome (input_refusal known analyzer input)
       (λ first. ((e ≡ first) ⊎ (e ≡ OutOfMemory)) × (after ≡ before))
-  pub refused : IsTrue before.work.tells → IfRefusal (λ x. refusal_error known analyzer input ≡ Some x) e
+  pub refused : IsTrue before.work.tells → IfRefusal (λ x. build_refusal known analyzer input ≡ Some x) e
   pub untold : IfRefusal (IsWhyUntold known analyzer input) e
   pub fresh : AreEmpty before → e ≢ IndexAlreadyExists
   pub whole : IsTrue before.work.tells → IsNoDamage e

@@ -1,12 +1,15 @@
 -- The text of segments that are open.
 use Rattle.std.specs.Prelude.{List, [], ◌∷◌, ◌++◌, ℕ, Option, Some}
 use Rattle.std.specs.FinMap.{entries}
+use Rattle.seg_model.specs.Columns.{Columns}
 use Rattle.seg_model.specs.Contents.{reading_part}
 use Rattle.seg_postings.specs.FieldReading.{OpenField}
 use Rattle.seg_open.specs.OpenSegment.{OpenSegment, contents_of, terms_in}
 use Rattle.seg_model.specs.Fields.{Schema}
 use Rattle.seg_text.specs.FieldText.{field_text}
-use Rattle.seg_text.specs.SegmentText.{PrintedSegment, full_segment_text, segment_text}
+use Rattle.seg_text.specs.NormsText.{norms_text}
+use Rattle.seg_text.specs.SegmentText.{PrintedSegment, segment_text}
+use Rattle.seg_column_text.specs.ColumnText.{columns_text}
 use Rattle.seg_tool.specs.declared.words.Detail.{Detail}
 use Rattle.seg_tool.specs.declared.words.Detail.TheVariants.{Brief, Full}
 
@@ -15,10 +18,11 @@ abbrev pub opened_text : List ℕ → Option (Option OpenField) → List ℕ
 opened_text name (Some (Some f)) = field_text name (entries (terms_in (Some f)))
 opened_text name _ = []
 
--- the text of a segment with these length ids
-abbrev pub printed_text : Detail → Schema → PrintedSegment → List (List ℕ) → List ℕ
-printed_text Brief schema segment norms = segment_text schema segment
-printed_text Full schema segment norms = full_segment_text schema segment norms
+-- the text of a segment with these columns and length ids, which come last, in full alone
+abbrev pub printed_text : Detail → Schema → PrintedSegment → Columns → List (List ℕ) → List ℕ
+printed_text Brief schema segment columns norms = segment_text schema segment
+printed_text Full schema segment columns norms =
+    segment_text schema segment ++ (columns_text columns ++ norms_text schema norms)
 
 -- what an open segment reads as
 abbrev pub read_segment : List ℕ → OpenSegment → PrintedSegment
@@ -26,7 +30,8 @@ read_segment label s = record { label = label; id = s.id; alive = s.alive; readi
 
 -- its text
 abbrev pub read_segment_text : List ℕ → Detail → OpenSegment → List ℕ
-read_segment_text label detail s = printed_text detail s.schema (read_segment label s) (contents_of s).norms
+read_segment_text label detail s =
+    printed_text detail s.schema (read_segment label s) (contents_of s).columns (contents_of s).norms
 
 -- the text of open segments, one after another
 abbrev pub read_texts : List ℕ → Detail → List OpenSegment → List ℕ

@@ -1,21 +1,22 @@
 -- What a run of `build` prints, what it leaves in the directories, and why it is refused.
-use Rattle.std.specs.Prelude.{ℕ, ◌≡◌, ◌<◌, ◌≤◌, ◌⊎◌, List, [], ◌∷◌, ◌++◌, length, replicate, Bool, true, Option, Some, None, Ok, IsSome, codes, IsTrue}
+use Rattle.std.specs.Prelude.{ℕ, ◌≡◌, ◌<◌, ◌≤◌, ◌⊎◌, List, [], ◌∷◌, ◌++◌, length, replicate, Bool, true, Option, Some, None, Ok, IsSome, unwrap_or, codes, IsTrue}
+use Rattle.std.specs.FinMap.{empty}
 use Rattle.std.specs.Io.KnownBytes.{Appends}
 use Rattle.seg_common.specs.Streams.{AppendsPart}
-use Rattle.seg_values.specs.declared.error.ArgumentCause.TheVariants.{Documents, Later}
+use Rattle.seg_values.specs.declared.error.ArgumentCause.TheVariants.{Documents, Numbers}
 use Rattle.seg_values.specs.declared.error.TantivyError.{TantivyError}
 use Rattle.seg_values.specs.declared.error.TantivyError.TheVariants.{InvalidArgument}
 use Rattle.seg_values.specs.Tree.{Document}
 use Rattle.seg_directory.specs.Files.{NamedFiles}
+use Rattle.seg_model.specs.Columns.{Columns, columns}
 use Rattle.seg_model.specs.Contents.{reading}
 use Rattle.seg_model.specs.Fields.{Schema, Analyzer}
 use Rattle.seg_model.specs.Input.{Input, input_batches, input_survivors}
 use Rattle.seg_model.specs.Norms.{all_norms}
 use Rattle.seg_model.specs.Operations.{Batch}
-use Rattle.seg_model.specs.Valid.{Known}
+use Rattle.seg_model.specs.Refused.{build_refusal}
+use Rattle.seg_model.specs.Valid.{Known, input_refusal}
 use Rattle.seg_refusals.specs.Admitted.{IsValidIf}
-use Rattle.seg_refusals.specs.Inputs.{is_built_input}
-use Rattle.seg_refusals.specs.Refusals.{first_error, refusal_error}
 use Rattle.seg_merge.specs.IndexFiles.{IsMergedIndexOf, IsOutputIndexOf, IsWorkIndexOf, output_id, work_ids}
 use Rattle.seg_merge.specs.Turns.{Directories}
 use Rattle.seg_script.specs.Script.{script}
@@ -30,10 +31,15 @@ use Rattle.seg_tool.specs.declared.words.Detail.{Detail}
 abbrev pub segment : Schema → Analyzer → List ℕ → ℕ → List Document → List Bool → PrintedSegment
 segment schema analyzer label id documents alive = record { label = label; id = id; alive = alive; reading = reading schema analyzer documents }
 
+-- the columns of documents; none where the numbers of a path have no type, which no segment has
+abbrev pub columns_or_none : Schema → Analyzer → List Document → Columns
+columns_or_none schema analyzer documents = unwrap_or (columns schema analyzer documents) empty
+
 -- its text
 abbrev pub documents_text : Detail → Schema → Analyzer → List ℕ → ℕ → List Document → List Bool → List ℕ
 documents_text detail schema analyzer label id documents alive =
-    printed_text detail schema (segment schema analyzer label id documents alive) (all_norms schema analyzer documents)
+    printed_text detail schema (segment schema analyzer label id documents alive)
+    (columns_or_none schema analyzer documents) (all_norms schema analyzer documents)
 
 -- a work segment a batch
 abbrev pub work_text : Detail → Schema → Analyzer → List ℕ → List Batch → List ℕ
@@ -67,11 +73,10 @@ IsScript bytes = IsSome (script bytes) × (length bytes ≤ max_script)
 abbrev pub IsNoScript : List ℕ → Type 0
 IsNoScript bytes = (script bytes ≡ None) ⊎ (max_script < length bytes)
 
--- the bytes are a script of what is built so far, and valid, with what is asked of the survivors where it is told what they are
+-- the bytes are a valid script, with what is asked of the survivors where it is told what they are
 pub record IsValidScript (told : Type 0) (known : Known) (analyzer : Analyzer) (bytes : List ℕ) : Type 0 where
   pub meant : Input
   pub is_script : script bytes ≡ Some meant
-  pub built : is_built_input meant ≡ true
   pub valid : IsValidIf told known analyzer meant
 
 -- both indexes of an input were written, and this is the text of what was read of both then; where both directories tell, it is that of the readings of the documents
@@ -109,21 +114,21 @@ pub record HasMergedIndex (bytes : List ℕ) (files : NamedFiles) : Type 0 where
 -- a script is refused as its input is
 abbrev pub refusal_of : Known → Analyzer → Option Input → Option TantivyError
 refusal_of known analyzer None = None
-refusal_of known analyzer (Some input) = refusal_error known analyzer input
+refusal_of known analyzer (Some input) = build_refusal known analyzer input
 
 -- an error tells why these bytes are refused
 abbrev pub IsWhyRefused : Known → Analyzer → List ℕ → TantivyError → Type 0
 IsWhyRefused known analyzer bytes e = refusal_of known analyzer (script bytes) ≡ Some e
 
--- or more documents were read back than one segment can hold, or a meta with a schema that is not built yet
+-- or more documents were read back than one segment can hold, or numbers without a type
 abbrev pub IsWhyRefusedUntold : Known → Analyzer → List ℕ → TantivyError → Type 0
 IsWhyRefusedUntold known analyzer bytes e =
-    IsWhyRefused known analyzer bytes e ⊎ ((e ≡ InvalidArgument Documents) ⊎ (e ≡ InvalidArgument Later))
+    IsWhyRefused known analyzer bytes e ⊎ ((e ≡ InvalidArgument Documents) ⊎ (e ≡ InvalidArgument Numbers))
 
 -- the first of them, before a directory is called
 abbrev pub first_of : Known → Analyzer → Option Input → Option TantivyError
 first_of known analyzer None = None
-first_of known analyzer (Some input) = first_error known analyzer input
+first_of known analyzer (Some input) = input_refusal known analyzer input
 
 -- the bytes are a script, and nothing refuses it before a directory is called
 pub record IsAdmitted (known : Known) (analyzer : Analyzer) (bytes : List ℕ) : Type 0 where

@@ -87,7 +87,6 @@ argument_cause_words arguments.DifferentSchemas = record { name = codes "Differe
 argument_cause_words arguments.DifferentSettings = record { name = codes "DifferentSettings"; numbers = [] }
 argument_cause_words arguments.NotFast = record { name = codes "NotFast"; numbers = [] }
 argument_cause_words arguments.SizeOverflow = record { name = codes "SizeOverflow"; numbers = [] }
-argument_cause_words arguments.Later = record { name = codes "Later"; numbers = [] }
 
 -- an error that is no refusal has no words
 abbrev pub cause_words : TantivyError → CauseWords

@@ -11,7 +11,6 @@ ghost use Rattle.seg_merge.specs.Taken.{gained};
 ghost use Rattle.seg_merge.specs.Turns.{both};
 ghost use Rattle.seg_open.specs.Answers.{seen_as};
 ghost use Rattle.seg_script.specs.Script.{script};
-ghost use Rattle.seg_segment.specs.Built.{is_built_schema};
 ghost use Rattle.seg_tool.specs.AfterCrash.{CrashLeaves};
 ghost use Rattle.seg_tool.specs.DirectoryCalls.{BuildDoes, IsReady, JobDoes};
 ghost use Rattle.seg_tool.specs.Indexes.{HasMergeableIndex, HasWholeIndex, HasWholeLiveSegments, IsMergedText, IsShownText};
@@ -43,7 +42,8 @@ const MAX_SCRIPT: usize = 67_108_864;
 ///
 /// - `build` reads the source to its end as a script and writes an index of its documents into the directory `work`, a
 ///   segment a batch. It reads the segments of that index back, and merges what was read into the one segment of an index in
-///   the directory `output`. Then it prints both, of what the directories answer; with `--full` each segment's length ids too.
+///   the directory `output`. Then it prints both, of what the directories answer; with `--full` each segment's columns
+///   and length ids too.
 /// - `merge` merges the segments of the index in `work` that have a live document into an index of one segment, of the id of
 ///   32 digits f, in `output`, and prints it.
 /// - `show` prints the index in `work` in full.
@@ -183,7 +183,7 @@ pub fn run<S: Source, K: Sink, F: Sink, Z: Analyzers, W: Directory, O: Directory
         → ¬ (Rose (S.faults source.old) (S.faults source.new))
         → ¬ (Rose (K.faults sink.old) (K.faults sink.new))
         → (result ≡ Status.Done) ⊎ (result ≡ Status.Memory)) }
-    // An index of whole segments, of a schema that is built, where nothing fails, is shown.
+    // An index of whole segments, where nothing fails, is shown.
     ensures complete_show { IfShow (command_of words.now) (HasWholeIndex (W.state work.old) (W.state work.new)
         → ¬ (Rose (K.faults sink.old) (K.faults sink.new))
         → (result ≡ Status.Done) ⊎ (result ≡ Status.Memory)) }

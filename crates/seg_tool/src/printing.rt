@@ -18,6 +18,7 @@ ghost use Rattle.seg_tool.specs.Printing.{opened_text, read_segment, read_segmen
 
 use crate::norm_lines::push_all_norms;
 use crate::words::Detail;
+use seg_column_text::push_columns;
 use seg_open::SegmentReader;
 use seg_postings::{InvertedIndexReader, RecordKind, SegmentPostings};
 use seg_store::StoreReader;
@@ -27,7 +28,8 @@ use seg_text::{
 use seg_values::{Field, FieldEntry, Schema};
 use std::alloc::{AllocError, Global};
 
-/// Appends the text of a segment that is open, in full with its length ids. After an error it is open what `out` holds.
+/// Appends the text of a segment that is open, in full with its columns and length ids. After an error it is open what
+/// `out` holds.
 pub(crate) fn push_segment(
     out: &mut Vec<u8>,
     alloc: Global,
@@ -41,12 +43,13 @@ pub(crate) fn push_segment(
         Detail::Brief => push_contents(out, alloc, label, reader),
         Detail::Full => {
             push_contents(out, alloc, label, reader)?;
+            push_columns(out, alloc, reader.columns())?;
             push_all_norms(out, alloc, reader)
         }
     }
 }
 
-/// Appends the text of a segment without its length ids.
+/// Appends the text of a segment without its columns and length ids.
 fn push_contents(
     out: &mut Vec<u8>,
     alloc: Global,

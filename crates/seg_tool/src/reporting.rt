@@ -185,6 +185,5 @@ fn argument_name(cause: &ArgumentCause) -> &'static str
         ArgumentCause::DifferentSettings => "DifferentSettings",
         ArgumentCause::NotFast => "NotFast",
         ArgumentCause::SizeOverflow => "SizeOverflow",
-        ArgumentCause::Later => "Later",
     }
 }

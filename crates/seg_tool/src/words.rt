@@ -2,7 +2,7 @@
 ghost use Rattle.std.specs.Prelude.{◌≡◌};
 ghost use Rattle.seg_tool.specs.Words.{command_of, of_one, of_two};
 
-/// How much is printed of a segment: in full its length ids too.
+/// How much is printed of a segment: in full its columns and length ids too.
 #[derive(Clone, Copy, Debug, PartialEq, Eq)]
 pub enum Detail {
     Brief,
