@@ -1,7 +1,8 @@
-//! Tests of the public calls of `seg_open`, and of what `seg_join` answers of open segments, apart from them, so that
-//! they are proved without proving these again.
+//! Tests of the writer and the readers of a segment: what no clause says, and the calls that no program makes.
 #![tactic(auto)]
 
+#[cfg(test)]
+mod columns;
 #[cfg(test)]
 mod joining;
 #[cfg(test)]

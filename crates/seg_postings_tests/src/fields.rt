@@ -45,48 +45,6 @@ pub(crate) const WITH_POSITIONS: Parts<'static> = Parts {
     ],
 };
 
-/// The term `a` with five bytes of postings.
-pub(crate) const WITH_COUNTS: Parts<'static> = Parts {
-    terms: &[
-        1, 0, 0, 0, 0, 0, 0, 0, // terms
-        1, 0, 0, 0, 0, 0, 0, 0, // end of the key
-        97, // key
-        1, 0, 0, 0, 0, 0, 0, 0, // infos
-        0, 0, 0, 0, 0, 0, 0, 0, // start of the postings
-        0, 0, 0, 0, 0, 0, 0, 0, // start of the positions
-        2, 0, 0, 0, 6, 0, 0, 0, 0, 0, 0, 0, 0, 0, 0, 0, 0, 0, 0, 0, // a
-        44, 0, 0, 0, 0, 0, 0, 0, // length of the infos
-        1, 0, 0, 0, // version
-        3, 0, 0, 0, // type
-    ],
-    postings: &[
-        45, 1, 0, 0, 0, 0, 0, 0, // tokens
-        1, 1, 0xac, 2, 1, 1, // a: document 1 300 times, document 2 once
-    ],
-    positions: &[],
-};
-
-/// The term `a` with four bytes of postings.
-pub(crate) const WITH_DOCUMENTS: Parts<'static> = Parts {
-    terms: &[
-        1, 0, 0, 0, 0, 0, 0, 0, // terms
-        1, 0, 0, 0, 0, 0, 0, 0, // end of the key
-        97, // key
-        1, 0, 0, 0, 0, 0, 0, 0, // infos
-        0, 0, 0, 0, 0, 0, 0, 0, // start of the postings
-        0, 0, 0, 0, 0, 0, 0, 0, // start of the positions
-        3, 0, 0, 0, 4, 0, 0, 0, 0, 0, 0, 0, 0, 0, 0, 0, 0, 0, 0, 0, // a
-        44, 0, 0, 0, 0, 0, 0, 0, // length of the infos
-        1, 0, 0, 0, // version
-        3, 0, 0, 0, // type
-    ],
-    postings: &[
-        3, 0, 0, 0, 0, 0, 0, 0, // tokens
-        0, 0, 1, 1, // a: documents 0, 1 and 2
-    ],
-    positions: &[],
-};
-
 pub(crate) fn owned(alloc: Global, bytes: &[u8]) -> Result<OwnedBytes, PostingsError> {
     match OwnedBytes::new(alloc, bytes) {
         Ok(bytes) => Ok(bytes),

@@ -1,4 +1,5 @@
-//! Tests of the public calls of `seg_postings`, apart from it, so that they are proved without proving it again.
+//! Tests of the readers and writers of a segment's files: bytes that were written by hand, and the calls that no program
+//! makes.
 #![tactic(auto)]
 
 #[cfg(test)]
@@ -8,10 +9,6 @@ mod fields;
 #[cfg(test)]
 mod json_spaces;
 #[cfg(test)]
-mod norms;
-#[cfg(test)]
-mod reading;
-#[cfg(test)]
-mod walk;
+mod stores;
 #[cfg(test)]
 mod writing;

@@ -2,7 +2,6 @@
 
 use crate::streams::{NEVER, both_segments, run_over, script_of_titles, streams_over};
 use std::alloc::{AllocError, Global};
-use std::test::Fail;
 
 /// Whether bytes are the front, of this length, of the text of an index without documents.
 fn are_front(alloc: Global, bytes: &[u8], length: usize) -> Result<bool, AllocError> {
@@ -27,20 +26,15 @@ fn stream_fails(
 }
 
 #[test]
-fn says_which_stream_failed(rt: HostRuntime) -> Result<(), Fail> {
+fn says_which_stream_failed(rt: HostRuntime) {
     let line = "stream: read or write failed\n";
     for (fails, room, said, written) in [
         ((0, NEVER, NEVER), 2000, line, 0),
-        ((1, NEVER, NEVER), 2000, line, 0),
         ((NEVER, 0, NEVER), 2000, line, 0),
-        ((NEVER, NEVER, NEVER), 10, line, 10),
         ((NEVER, 1, NEVER), 50, line, 50),
         ((0, NEVER, 0), 2000, "", 0),
     ] {
-        assert!(rt;
-            stream_fails(rt.alloc(), fails, room, said, written)?,
-            "{room} {written}"
-        );
+        let fails = stream_fails(rt.alloc(), fails, room, said, written);
+        assert!(rt; fails == Ok(true), "{room} {written}");
     }
-    Ok(())
 }

@@ -1,11 +1,11 @@
-//! Tests of the public calls of `seg_tool`, apart from it, so that they are proved without proving it again.
+//! Tests of runs: streams that fail, what is read back, and what a crash leaves.
 #![tactic(auto)]
 
+#[cfg(test)]
+mod crashes;
 #[cfg(test)]
 mod failures;
 #[cfg(test)]
 mod reading_back;
-#[cfg(test)]
-mod reporting;
 #[cfg(test)]
 mod streams;

@@ -5,7 +5,7 @@ use Rattle.seg_store.specs.Block.{Block}
 use Rattle.seg_store.specs.BlockLaw.{AllAreStackedLast}
 use Rattle.seg_store.specs.Store.{document_count}
 use Rattle.seg_store.specs.Writing.{Taken, taken_count, with_stacked}
-use Rattle.seg_store_tests.proofs.stacking.stack.Goals as goal
+use Rattle.seg_postings_tests.proofs.stores.stack.Goals as goal
 
 begun : (before : Option Taken) → IfSome before (λ w. taken_count w ≤ 1) → IfSome before (λ w. taken_count w ≤ 1 + 0)
 begun None few = tt
