@@ -1,16 +1,18 @@
 #!/usr/bin/env python3
 """Runs the program and others over the same scripts, and prints a table.
 
-usage: bench.py [--program PATH] [--shape textids] [--sizes 1000,10000,100000,max] [--seed 7] [--repeat 3]
+usage: bench.py [--program PATH] [--shape textids] [--full] [--sizes 1000,10000,100000,max] [--seed 7] [--repeat 3]
                 [--only plain,program] [--limit SECONDS] [--room FOLDER] [--json FILE]
 
   plain    plain.rs, one thread, std alone: the same job, file formats and text
   nosync   the same, which asks for no file to be on the disk
-  sqlite   sqlite.py: Python's SQLite with FTS5, a transaction for each batch, and `optimize`
+  sqlite   sqlite.py: Python's SQLite with FTS5, and with a table of the columns for `catalogue`, a transaction for each
+           batch, and `optimize`
   program  crates/segments/out/segments, once it is proved and built (`rt run` in crates/segments); never a build of
            `rt try`, which is checked as it runs and some ten to two hundred times slower
 
-gen_corpus.py says what the shapes and sizes are. plain.rs stops at a batch of which no document is left, as `deleted`
+With --full, plain, nosync and program run `build --full`, which prints columns and length ids too. gen_corpus.py says what
+the shapes and sizes are. plain.rs stops at a batch of which no document is left, as `deleted`
 has some. Each run has an empty folder, reads the script on standard input and writes into a file. Of several runs, in
 turn, the one with the least processor time counts. `x plain` and `grows` go by processor time: `grows` is by how much
 it grew from the size before, over the growth of the script; 1 is linear. `peak B/B` is the most memory for each byte
@@ -35,26 +37,29 @@ HERE = Path(__file__).resolve().parent
 PROGRAM = HERE.parent / 'crates' / 'segments' / 'out' / 'segments'
 ROOM = Path(tempfile.gettempdir()) / 'segments-bench'
 ALL = 'plain', 'nosync', 'sqlite', 'program'
+PLAIN = 'plain.rs', 'plain_fast.rs', 'column_files.rs'
 
 
 # ---- what is run
 
-def command(who, room, program):
+def command(who, words):
     """The words of a command, and what its environment has beside this one's."""
+    build = ['build', '--full'] if words.full else ['build']
     if who in ('plain', 'nosync'):
-        return [room / 'plain', 'build'], {'PLAIN_NOSYNC': '1'} if who == 'nosync' else {}
+        return [words.room / 'plain', *build], {'PLAIN_NOSYNC': '1'} if who == 'nosync' else {}
     if who == 'sqlite':
         return [sys.executable, HERE / 'sqlite.py'], {}
-    return [Path(program).resolve(), 'build'], {}
+    return [Path(words.program).resolve(), *build], {}
 
 
 def prepare(room, wanted, program):
     room.mkdir(parents=True, exist_ok=True)
     if 'program' in wanted and not Path(program).exists():
         sys.exit(f'{program} is not there: `rt run` in crates/segments proves and builds it')
-    source, made = HERE / 'plain.rs', room / 'plain'
-    if {'plain', 'nosync'} & set(wanted) and (not made.exists() or made.stat().st_mtime < source.stat().st_mtime):
-        subprocess.run(['rustc', '--edition', '2024', '-C', 'opt-level=3', '-o', made, source], check=True)
+    made = room / 'plain'
+    changed = max((HERE / name).stat().st_mtime for name in PLAIN)
+    if {'plain', 'nosync'} & set(wanted) and (not made.exists() or made.stat().st_mtime < changed):
+        subprocess.run(['rustc', '--edition', '2024', '-C', 'opt-level=3', '-o', made, HERE / PLAIN[0]], check=True)
 
 
 def corpus(room, words):
@@ -154,7 +159,7 @@ def rows_of(words, wanted, size):
     for _ in range(words.repeat):
         for who in wanted:
             os.sync()
-            parts, environment = command(who, words.room, words.program)
+            parts, environment = command(who, words)
             found[who].append(run(parts, words.room, script, words.limit, environment))
     return [{'size': size, 'script': script.stat().st_size, 'who': who, **best(found[who])} for who in wanted]
 
@@ -177,6 +182,7 @@ def main():
     parser = argparse.ArgumentParser(description=__doc__, formatter_class=argparse.RawDescriptionHelpFormatter)
     parser.add_argument('--program', default=PROGRAM)
     parser.add_argument('--shape', choices=SHAPES, default=SHAPES[0])
+    parser.add_argument('--full', action='store_true')
     parser.add_argument('--sizes', default='1000,10000,100000,max')
     parser.add_argument('--seed', type=int, default=7)
     parser.add_argument('--repeat', type=int, default=3)

@@ -16,6 +16,8 @@ The shape says what differs:
   deleted    as textids, with as many deletes as documents, all after them, each of a document at random
   stored     no id and no body: one JSON object, which is only stored, with a date, a list and an object in it
   log        no id and no body: one JSON object of five keys, as a line of a log, which is stored and indexed with positions
+  catalogue  items of a shop, all of it stored and, where it may be, in columns: the id, a title of 8 words, a price, a date, one or two
+             facets and a JSON object with numbers, texts, a date, a truth value and a list; deletes as in textids
 """
 import argparse
 import bisect
@@ -29,12 +31,20 @@ VOCABULARY = 200_000
 WORDS = 50
 BATCHES = 9
 LETTERS = 'etaoinshrdlucmfwygpbvkxqjz'
-SHAPES = 'textids', 'full', 'texts', 'undeleted', 'deleted', 'stored', 'log'
+SHAPES = 'textids', 'full', 'texts', 'undeleted', 'deleted', 'stored', 'log', 'catalogue'
 LEVELS = 'debug', 'info', 'info', 'info', 'warn', 'error'
 TEXT_ID = {'name': 'id', 'kind': 'text', 'stored': True, 'index': 'basic', 'tokenizer': 'default', 'norms': False}
 NUMBER_ID = {'name': 'id', 'kind': 'u64', 'stored': True, 'index': 'basic'}
 STORED = {'name': 'record', 'kind': 'json', 'stored': True}
 LOG = {'name': 'record', 'kind': 'json', 'stored': True, 'index': 'positions'}
+CATALOGUE = [
+    {**TEXT_ID, 'fast': True},
+    {'name': 'title', 'kind': 'text', 'stored': True, 'index': 'positions', 'tokenizer': 'default', 'norms': True, 'fast': True},
+    {'name': 'price', 'kind': 'u64', 'stored': True, 'index': 'basic', 'fast': True},
+    {'name': 'added', 'kind': 'date', 'stored': True, 'fast': True},
+    {'name': 'shelf', 'kind': 'facet', 'stored': True},
+    {'name': 'attributes', 'kind': 'json', 'stored': True, 'index': 'basic', 'fast': True},
+]
 BODY = {'name': 'body', 'kind': 'text', 'stored': True, 'index': 'positions', 'tokenizer': 'default', 'norms': True}
 
 
@@ -43,8 +53,8 @@ def json_text(value):
 
 
 def schema_of(shape):
-    if shape == 'texts':
-        return [BODY]
+    if shape in ('texts', 'catalogue'):
+        return [BODY] if shape == 'texts' else CATALOGUE
     if shape in ('stored', 'log'):
         return [STORED if shape == 'stored' else LOG]
     return [NUMBER_ID if shape == 'full' else TEXT_ID, BODY]
@@ -75,12 +85,15 @@ def body(rng, words, weights):
     return ' '.join(chosen)
 
 
+def day(number):
+    return f'{2000 + number % 25}-{1 + number % 12:02}-{1 + number % 28:02}'
+
+
 def record(number, text):
     words = text.split(' ')
-    day = f'{2000 + number % 25}-{1 + number % 12:02}-{1 + number % 28:02}'
     return json_text({
         'number': number, 'balance': -number, 'live': number % 3 == 0, 'parent': None,
-        'made': f'{day}T{number % 24:02}:{number % 60:02}:00.{number % 1000:03}+01:00', 'tags': words[:4],
+        'made': f'{day(number)}T{number % 24:02}:{number % 60:02}:00.{number % 1000:03}+01:00', 'tags': words[:4],
         'author': {'name': ' '.join(words[4:6]), 'age': 20 + number % 60}, 'text': ' '.join(words[6:40])})
 
 
@@ -93,7 +106,21 @@ def log_line(number, text):
         'message': ' '.join(words[:16])})
 
 
+def item(number, text):
+    """The pairs of an item of a shop."""
+    words = text.split(' ')
+    shelves = [f'/shop-{number % 7}/aisle-{number % 41}/shelf-{number * 31 % 997}', f'/brand/{words[8].strip(".,")}']
+    attributes = {
+        'colour': words[9].strip('.,'), 'weight': number * 97 % 5000, 'change': number % 200 - 100, 'made': f'{day(number * 3)}T08:00:00.{number % 1000:03}Z',
+        'live': number % 3 == 0, 'tags': words[10:13], 'maker': {'name': ' '.join(words[13:15]), 'code': number % 3000}}
+    pairs = [['id', f'{number}'], ['title', ' '.join(words[:8])], ['price', number * 7919 % 100000],
+             ['added', f'{day(number)}T{number % 24:02}:{number % 60:02}:00.{number % 1000:03}+01:00'], ['shelf', shelves[0]]]
+    return json_text(pairs + ([['shelf', shelves[1]]] if number % 2 else []) + [['attributes', attributes]])
+
+
 def addition(shape, number, text):
+    if shape == 'catalogue':
+        return f'{{"add":{item(number, text)}}}'
     if shape == 'log':
         return f'{{"add":[["record",{log_line(number, text)}]]}}'
     if shape == 'stored':
@@ -113,7 +140,7 @@ def operations_of(rng, shape, want):
     room, size, documents = LIMIT - 1000 - len(json_text(schema_of(shape))), 0, 0
     while want is None or documents < want:
         more = [addition(shape, documents, body(rng, words, weights))]
-        if shape in ('textids', 'full') and documents % 20 == 19:
+        if shape in ('textids', 'full', 'catalogue') and documents % 20 == 19:
             gone = rng.randrange(documents) if rng.randrange(4) else documents + 1 + rng.randrange(1000)
             more.append(deletion(shape, gone))
         size += sum(len(text) + 1 for text in more)

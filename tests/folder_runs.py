@@ -1,6 +1,6 @@
 #!/usr/bin/env python3
 """Runs the program in folders, over each script of crates/seg_cases/data that ends with Done, and reads the files that it leaves by
-docs/FORMATS.md (read_segment.py): the printed texts are to be those of the files, and the token totals right.
+docs/FORMATS.md (read_segment.py): the printed texts are to be those of the files, and the columns and token totals right.
 
 usage: folder_runs.py PROGRAM
 """
@@ -18,6 +18,8 @@ from read_segment import index_in, segment_text
 DATA = Path(__file__).resolve().parent.parent / 'crates' / 'seg_cases' / 'data'
 # a title of 41 tokens is left of two documents: its length id stands for 40
 KNOWN_TOTALS = {'full/long_title_left': {0: 40}}
+# a filter drops what no column holds together with the rest, and an index has no filters
+MERGE_REFUSED = 'columns/numbers_of_a_filter',
 
 
 def expect(holds, what):
@@ -74,10 +76,11 @@ def main():
             try:
                 room.try_build(path.with_suffix('.json').read_bytes(), KNOWN_TOTALS.get(case))
                 room.try_show()
-                room.try_merge()
+                if case not in MERGE_REFUSED:
+                    room.try_merge()
             except Malformed as wrong:
                 sys.exit(f'{case}: {wrong}')
-    print(f'{len(cases)} scripts: all texts are those of the files, and the token totals are right')
+    print(f'{len(cases)} scripts: all texts are those of the files, and the columns and token totals are right')
 
 
 if __name__ == '__main__':

@@ -10,6 +10,7 @@ import formats
 import read_segment
 from columns import columns
 from formats import Malformed, check
+from reference_text import told_schema
 
 DATA = Path(__file__).resolve().parent.parent / 'crates' / 'seg_hostile' / 'data'
 MAX_DOC = 3  # of the fields that are no whole segment
@@ -26,11 +27,16 @@ def bytes_of(name, extension):
 
 # ---- what reads the files of a case: each raises Malformed with the extension of the file that is told
 
-def read_postings(terms, data, index, max_doc):
-    """The postings of a text field fill their part, and each term is read without its positions."""
-    check(len(data) == 8 + terms[-1].postings_end, 'postings of another length')
+def read_terms(entry, data):
+    terms = formats.dictionary(data)
     for term in terms:
-        term.kind = formats.term_kind({'kind': 'text', 'index': index}, term.key)
+        term.kind = formats.term_kind(entry, term.key)
+    return terms
+
+
+def read_postings(terms, data, max_doc):
+    """The postings of a field fill their part, and each term is read without its positions."""
+    check(len(data) == 8 + terms[-1].postings_end, 'postings of another length')
     formats.read_postings(terms, data, max_doc)
 
 
@@ -42,8 +48,8 @@ def read_positions(terms, data):
 
 
 def read_field(parts, index, max_doc):
-    terms = formats.dictionary(parts['term'])
-    read_postings(terms, parts['idx'], index, max_doc)
+    terms = read_terms({'kind': 'text', 'index': index}, parts['term'])
+    read_postings(terms, parts['idx'], max_doc)
     read_positions(terms, parts['pos'])
 
 
@@ -75,9 +81,9 @@ class Run:
 
     def __init__(self, files):
         script = json.loads(files['json'])
-        self.schema = script['schema']
+        self.schema = [{'index': 'no', 'fast': False, **told_schema(entry)} for entry in script['schema']]
         self.max_doc = sum('add' in operation for operation in script['operations'])
-        self.indexed = [at for at, entry in enumerate(self.schema) if entry.get('index', 'no') != 'no']
+        self.indexed = [at for at, entry in enumerate(self.schema) if entry['index'] != 'no']
         self.with_lengths = [at for at in self.indexed if self.schema[at].get('norms', True)]
         self.alive = {name: formats.alive_set(data) for name, data in files.items() if name.endswith('.del')}
 
@@ -95,15 +101,17 @@ class Run:
         parts = composite_of(data, self.indexed) if extension in ('term', 'idx', 'pos') else {}
         for at, part in parts.items():
             if extension == 'term':
-                terms[at] = formats.dictionary(part)
+                terms[at] = read_terms(self.schema[at], part)
             elif extension == 'idx':
-                read_postings(terms[at], part, self.schema[at]['index'], self.max_doc)
+                read_postings(terms[at], part, self.max_doc)
             else:
                 read_positions(terms[at], part)
         if extension == 'store':
             check(read_store(data) == self.max_doc, 'another number of documents')
         if extension == 'fast':
-            check(columns(data) == (self.max_doc, []), 'another number of rows, or columns, which no segment has yet')
+            rows, found = columns(data)
+            check(rows == self.max_doc, 'another number of rows')
+            read_segment.check_columns(self.schema, found)
         if extension == 'fieldnorm':
             read_lengths(data, self.with_lengths, self.max_doc)
         if extension in self.alive:

@@ -10,6 +10,7 @@ from contextlib import contextmanager
 from pathlib import Path
 
 import formats
+from columns import TYPES, Column
 from columns import columns as read_columns
 from formats import COUNTS, POSITIONS, Malformed, check
 
@@ -221,8 +222,10 @@ class Segment:
                     formats.check_lengths(self.schema[at], terms, self.norms[at])
 
     def check_merged_from(self, segments):
-        """What holds besides where the segment was merged from these, without filters: the blocks of the store and the
-        token totals."""
+        """What holds besides where the segment was merged from these, without filters: the columns, the blocks of the store
+        and the token totals."""
+        with reading(self.name('fast')):
+            check(self.columns == merged_columns(self.schema, segments), 'the columns are not those of the segments')
         with reading(self.name('store')):
             check(self.blocks == merged_blocks(segments, self.block_size), 'the blocks are not those of the segments')
         for at, total in self.totals.items():
@@ -243,6 +246,29 @@ def check_columns(schema, columns):
             check(any(column.rows), 'a column that is not declared has no value')
             check(column.type not in ('Bytes', 'IpAddr'), 'a column of a JSON field has a type that JSON has not')
             check(any(f'{column.path}\1'.startswith(f'{name}\1') for name in names), 'a column is of no fast field')
+
+
+def merged_columns(schema, segments):
+    """The columns of the documents of segments that are alive."""
+    declared = [(entry['name'], COLUMN_TYPES[entry['kind']]) for entry in schema if entry['fast'] and entry['kind'] != 'json']
+    found = {(*key, True): [] for key in declared}
+    rows = 0
+    for segment in segments:
+        for column in segment.columns:
+            is_declared = (column.path, column.type) in declared
+            is_number = not is_declared and column.type in ('I64', 'U64')
+            kept = found.setdefault((column.path, 'number' if is_number else column.type, is_declared), [])
+            kept += [[] for _ in range(rows - len(kept))] + [row for row, is_alive in zip(column.rows, segment.alive) if is_alive]
+        rows += sum(segment.alive)
+    for kept in found.values():
+        kept += [[] for _ in range(rows - len(kept))]
+    columns = [Column(path, type_of(word, kept), kept) for (path, word, is_declared), kept in found.items() if is_declared or any(kept)]
+    return sorted(columns, key=lambda column: (column.path.encode(), TYPES.index(column.type)))
+
+
+def type_of(word, rows):
+    """The type of a column; that of numbers by what they are."""
+    return word if word != 'number' else 'U64' if any(number >= 2 ** 63 for row in rows for number in row) else 'I64'
 
 
 class BlockWriter:
@@ -340,7 +366,7 @@ def main():
     parser.add_argument('--full', action='store_true', help='print the columns and the length ids too')
     parser.add_argument('--totals', action='store_true', help='print the token total of each field too, which the program does not')
     parser.add_argument('--from-documents', action='store_true', help='check the token totals and the lengths too, of segments that no merge made')
-    parser.add_argument('--merged-from', type=Path, metavar='WORK', help='check the blocks of the store and the token totals too, of a segment that the segments of this folder were merged into, without filters')
+    parser.add_argument('--merged-from', type=Path, metavar='WORK', help='check the columns, the blocks of the store and the token totals too, of a segment that the segments of this folder were merged into, without filters')
     parser.add_argument('--self-test', action='store_true', help='read the segment that docs/FORMATS.md gives in bytes, and damaged ones')
     words = parser.parse_args()
     if words.self_test:

@@ -2,7 +2,8 @@
 """Prints what docs/SCRIPT.md says that `build` prints of a script on standard input; or what `merge` or `show` prints over the
 folder `work` that `build` leaves of it.
 
-It was written from that document and docs/FORMATS.md, and not from the code: it knows no segment, posting list or merge.
+It was written from that document and docs/FORMATS.md, and not from the code: it knows no segment, posting list or merge. Of the refusals it
+knows FastTokenizer and Numbers, which it tells with status 4.
 """
 import argparse
 import json
@@ -10,8 +11,9 @@ import sys
 from dataclasses import dataclass
 
 from formats import length_id
+from script_columns import check_tokenizers, columns
 from script_terms import deleted_term, is_of_text, length, occurrences
-from script_values import pairs, stored
+from script_values import Refused, pairs, stored
 
 MERGED_ID = 32 * 'f'
 
@@ -64,6 +66,11 @@ def norms_line(entry, documents):
     return ' '.join([f'norms {json_text(entry["name"])}', *(str(length_id(length(entry, values_of(entry, document)))) for document in documents)])
 
 
+def column_line(column):
+    rows = [f'{row}:' + ','.join(map(json_text, values)) for row, values in enumerate(column.rows) if values]
+    return ' '.join([f'column {json_text(column.path)} {column.type}', *rows])
+
+
 def segment_lines(schema, label, segment_id, documents, alive, is_full):
     lines = [f'{label} {segment_id} docs {len(documents)} alive {sum(alive)}']
     dead = [number for number, is_alive in enumerate(alive) if not is_alive]
@@ -74,7 +81,9 @@ def segment_lines(schema, label, segment_id, documents, alive, is_full):
     names = {entry['name'] for entry in schema if entry.get('stored')}
     for number, document in enumerate(documents):
         lines.append(f'doc {number} ' + json_text([(name, stored(value)) for name, value in document if name in names]))
+    found = columns(schema, documents)
     if is_full:
+        lines += map(column_line, found)
         lines += [norms_line(entry, documents) for entry in filter(has_lengths, schema)]
     return lines
 
@@ -133,20 +142,31 @@ def merge_lines(script):
     return output_lines(script, MERGED_ID, lambda batch, number: batch.alive[number], False)
 
 
+def told_schema(entry):
+    """A field as it is built: one of facets is always indexed and fast, without norms."""
+    return {**entry, 'index': 'basic', 'fast': True, 'norms': False} if entry['kind'] == 'facet' else entry
+
+
+def text_lines(script, command, is_full):
+    script['schema'] = [told_schema(entry) for entry in script['schema']]
+    check_tokenizers(script['schema'])
+    if command == 'merge':
+        return merge_lines(script)
+    return build_lines(script, is_full) if command == 'build' else work_lines(script, 'segment', True)
+
+
 def main():
     parser = argparse.ArgumentParser(description='Prints what the program is to print of a script, which is read from standard input.')
     parser.add_argument('command', nargs='?', choices=['build', 'merge', 'show'], default='build', help='merge and show are over the folder work of a build')
-    parser.add_argument('--full', action='store_true', help='with build: the length ids too')
+    parser.add_argument('--full', action='store_true', help='with build: the columns and the length ids too')
     words = parser.parse_args()
     if words.full and words.command != 'build':
         parser.error('--full goes with build')
-    script = json.load(sys.stdin)
-    if words.command == 'build':
-        lines = build_lines(script, words.full)
-    elif words.command == 'merge':
-        lines = merge_lines(script)
-    else:
-        lines = work_lines(script, 'segment', True)
+    try:
+        lines = text_lines(json.load(sys.stdin), words.command, words.full)
+    except Refused as refused:
+        print(f'refused: {refused}', file=sys.stderr)
+        sys.exit(4)
     sys.stdout.buffer.write(''.join(line + '\n' for line in lines).encode())
 
 

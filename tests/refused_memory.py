@@ -3,8 +3,8 @@
 
 usage: refused_memory.py PROGRAM [--every K]
 
-The runs are `build` of three tiny scripts (two documents and a delete between them, one with filters, one with four batches), and `merge` and `show` over
-the work index of the last one. Each is run in a fresh folder with its first request refused, then with its second one, and so on, up
+The runs are `build` of five small scripts (two documents and a delete between them, one with filters, one with four batches, one with numbers in columns,
+and the catalogue that is the program's stored run), and `merge` and `show` over the work index of the last one. Each is run in a fresh folder with its first request refused, then with its second one, and so on, up
 to the first number that it doesn't come to; with --every K only each K-th number is tried. A run is right if it ends
 
   with status 9, no byte on standard output, and on standard error nothing or the line of Memory, or
@@ -29,6 +29,7 @@ from pathlib import Path
 from crash_kills import WHOLE, Wrong, contents, outcome, show
 
 LIBRARY = Path(__file__).resolve().parent / 'refuse_memory.c'
+CATALOGUE = Path(__file__).resolve().parent.parent / 'crates' / 'segments' / 'stdin'
 MEMORY, LINE = 9, b'memory: not enough\n'
 LONGEST = 60  # seconds of a run
 FIELD = [{'name': 'title', 'kind': 'text', 'stored': True, 'index': 'positions'}]
@@ -54,6 +55,10 @@ SCRIPTS = {
     'four batches': {
         'schema': FIELD, 'operations': [add('a b'), add('b c'), delete('c'), add('c d'), add('d e'), delete('d'), add('e f'), add('a f')],
         'cuts': [2, 4, 6]},
+    'numbers': {
+        'schema': [{'name': 'attrs', 'kind': 'json', 'fast': True}],
+        'operations': [{'add': [['attrs', {'n': 5}]]}, {'add': [['attrs', {'n': 2 ** 63}]]}], 'cuts': [1]},
+    'catalogue': json.loads(CATALOGUE.read_text()),
 }
 
 

@@ -7,6 +7,7 @@ import re
 from script_values import Facet, Moment, Tokenized, nanoseconds, value
 
 SPLITS = {'default': '[\x00-\x2f\x3a-\x40\x5b-\x60\x7b-\x7f]+', 'whitespace': '[ \t\r\n]+'}
+KNOWN = 'default', 'raw', 'whitespace'
 SECOND = 10 ** 9
 
 

@@ -11,6 +11,10 @@ MOMENT = re.compile(r'(\d{4})-(\d\d)-(\d\d)[Tt](\d\d):(\d\d):(\d\d)(?:\.(\d+))?(
 EPOCH = datetime(1970, 1, 1, tzinfo=timezone.utc)
 
 
+class Refused(Exception):
+    """What is not built, with the name of its cause."""
+
+
 @dataclass
 class Tokenized:
     text: str
@@ -43,8 +47,14 @@ def moment(text):
     seconds = (at - EPOCH) // timedelta(seconds=1)
     if not -2 ** 63 <= seconds * 10 ** 9 + int(digits) < 2 ** 63:
         return None
-    digits = digits.rstrip('0')
-    return Moment(at.strftime('%Y-%m-%dT%H:%M:%S') + (f'.{digits}' if digits else '') + 'Z')
+    return moment_at(seconds * 10 ** 9 + int(digits))
+
+
+def moment_at(nanos):
+    """The moment so many nanoseconds from 1970."""
+    seconds, rest = divmod(nanos, 10 ** 9)
+    fraction = f'.{rest:09}'.rstrip('0').rstrip('.')
+    return Moment((EPOCH + timedelta(seconds=seconds)).strftime('%Y-%m-%dT%H:%M:%S') + fraction + 'Z')
 
 
 def nanoseconds(moment):
