@@ -12,12 +12,8 @@ mod KeptSteps
 mod MergedRows
 mod NumberTypes
 mod OrdinalMarks
-mod Places
 mod RangeLaws
 mod RowSteps
 mod StackedMarks
-mod TableKeys
-mod TableMoves
-mod TableRuns
 mod TableSteps
 mod TermOrder

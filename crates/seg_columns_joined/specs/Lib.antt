@@ -8,7 +8,6 @@ pub mod MergedTerms
 pub mod NumberRanges
 pub mod RowOrders
 pub mod Sources
-pub mod TableOrder
 pub mod Tables
 pub mod TermHeads
 pub mod TermSources

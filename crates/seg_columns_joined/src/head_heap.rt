@@ -11,7 +11,7 @@ use std::marker::Model;
 /// The heads of sorted lists that are merged: each is bytes, with two numbers. It is seen as a list of them, in any
 /// order.
 #[derive(Drop)]
-pub(crate) struct HeadHeap<'a> {
+pub struct HeadHeap<'a> {
     heap: BinaryHeap<Reverse<(&'a [u8], usize, usize)>>,
 }
 
@@ -28,7 +28,7 @@ impl<'a> Model for HeadHeap<'a> {
 }
 
 impl<'a> HeadHeap<'a> {
-    pub(crate) fn new(alloc: Global) -> HeadHeap<'a>
+    pub fn new(alloc: Global) -> HeadHeap<'a>
         ensures { result ≡ [] }
     {
         HeadHeap {
@@ -36,12 +36,7 @@ impl<'a> HeadHeap<'a> {
         }
     }
 
-    pub(crate) fn push(
-        &mut self,
-        bytes: &'a [u8],
-        first: usize,
-        second: usize,
-    ) -> Result<(), AllocError>
+    pub fn push(&mut self, bytes: &'a [u8], first: usize, second: usize) -> Result<(), AllocError>
         ensures { OnOk result (IsPermutation ((bytes.now, first, second) ∷ self.old) self.new) }
     {
         let Ok(()) = self.heap.push(Reverse((bytes, first, second))) else {
@@ -51,7 +46,7 @@ impl<'a> HeadHeap<'a> {
     }
 
     /// Takes out the least: by its bytes, then by its first number, then by its second one.
-    pub(crate) fn pop(&mut self) -> Option<(&'a [u8], usize, usize)>
+    pub fn pop(&mut self) -> Option<(&'a [u8], usize, usize)>
         ensures some { IfSome result (λ h. Pops self.old self.new (h.0.now, h.1, h.2)) }
         ensures none { IfNone result (self.old ≡ []) }
     {

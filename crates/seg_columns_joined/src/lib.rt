@@ -3,10 +3,10 @@
 //!
 //! To be read in this order: `row_order` (which rows are kept, and in which order), `kept_rows` (marks of them);
 //! `number_range`, `kept_values` (what the kept rows have of a column); `head_heap` (the heads of sorted lists that are
-//! merged); `tables`, `table_order` (the columns of all files by path and kind); `used_ordinals`, `used_terms` (the
-//! terms of a column that the kept rows have), `dictionaries` (those of several columns, merged),
-//! `dictionary_putting`; `number_map`, `source` (what a file has of a merged column), `column_sources` (the columns of
-//! one key, each in the place of its file), `column_joining` (the bytes of the rows of several files); `laws`.
+//! merged); `tables` (the columns of all files); `used_ordinals`, `used_terms` (the terms of a column that the kept rows
+//! have), `dictionaries` (those of several columns, merged), `dictionary_putting`; `number_map`, `source` (what a file
+//! has of a merged column), `column_sources` (the columns of one key, each in the place of its file), `column_joining`
+//! (the bytes of the rows of several files); `laws`.
 #![tactic(auto)]
 
 mod column_joining;
@@ -21,7 +21,6 @@ mod number_map;
 mod number_range;
 mod row_order;
 mod source;
-mod table_order;
 mod tables;
 mod used_ordinals;
 mod used_terms;
@@ -30,6 +29,7 @@ pub use column_joining::put_joined;
 pub use column_sources::{no_sources, number_sources, source_of};
 pub use dictionaries::MergedTerms;
 pub use dictionary_putting::put_terms_dictionary;
+pub use head_heap::HeadHeap;
 pub use kept_rows::KeptRows;
 pub use kept_values::{has_kept_value, with_kept_numbers};
 pub use laws::{
@@ -39,6 +39,5 @@ pub use number_map::NumberMap;
 pub use number_range::NumberRange;
 pub use row_order::{MergeRowOrder, OrderedRows};
 pub use source::{NumberSource, Source};
-pub use table_order::rows_by_key;
 pub use tables::{FileColumn, TableRow, table_rows};
 pub use used_terms::{UsedTerms, used_columns};

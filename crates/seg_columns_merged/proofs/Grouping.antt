@@ -20,8 +20,8 @@ use Rattle.seg_common.proofs.Bytes.{bytes_eq-sym}
 use Rattle.seg_common.proofs.Numbers.{nat_eq-sym}
 use Rattle.seg_columns_merged.specs.Cells.{is_of, rows_with}
 use Rattle.seg_columns_merged.specs.Groups.{IsGroup, has_key}
-use Rattle.seg_columns_joined.proofs.Exports.{key_total, less_then, row_order}
-use Rattle.seg_columns_joined.specs.TableOrder.{row_lt}
+use Rattle.seg_columns_merged.proofs.TableKeys.{key_total, less_then, row_order}
+use Rattle.seg_columns_merged.specs.TableOrder.{row_lt}
 use Rattle.seg_columns_joined.specs.Tables.{Row, kind_of, row_of, table_key, table_key_cmp}
 use Rattle.seg_columns_joined.specs.declared.tables.TableRow.{TableRow}
 

@@ -15,6 +15,7 @@ mod KeyLaws
 mod KeyOrder
 mod NumberColumns
 mod OfFiles
+mod Places
 mod PutAddresses
 mod PutNumbers
 mod PutTerms
@@ -23,6 +24,9 @@ mod RequiredLaws
 mod RowFiles
 mod SourceRows
 mod Suiting
+mod TableKeys
+mod TableMoves
+mod TableRuns
 mod TableTypes
 mod TermColumns
 mod TermSourceSteps

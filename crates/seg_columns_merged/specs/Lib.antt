@@ -6,3 +6,4 @@ pub mod MergedColumns
 pub mod MergedFiles
 pub mod Merging
 pub mod Plans
+pub mod TableOrder

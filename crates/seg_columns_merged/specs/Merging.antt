@@ -19,7 +19,7 @@ use Rattle.seg_columns_merged.specs.Groups.{IsGroup}
 use Rattle.seg_columns_merged.specs.MergedBytes.{HasType, places_of}
 use Rattle.seg_columns_merged.specs.MergedColumns.{required_key, rows_at}
 use Rattle.seg_columns_merged.specs.MergedFiles.{AddsGroup, IsFileOf, values_of}
-pub use Rattle.seg_columns_joined.specs.TableOrder.{row_lt}
+pub use Rattle.seg_columns_merged.specs.TableOrder.{row_lt}
 use Rattle.seg_columns_joined.specs.Tables.{all_rows, kind_of, row_of, table_key, table_key_cmp}
 use Rattle.seg_columns_merged.specs.declared.merge.Merge.{Merge}
 use Rattle.seg_columns_merged.specs.declared.merged_file.MergedFile.{MergedFile}

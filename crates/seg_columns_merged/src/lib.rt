@@ -1,9 +1,9 @@
 //! Files of columns, merged into one with the rows that are kept, in their order.
 //!
-//! To be read in this order: `groups`; `merge`, `kept_count`, `decisions` (which column the rows of one key have, in
-//! which type), `room`, `planned_group`, `planning` (what is decided before anything is written); `value_columns`,
-//! `term_columns` (the bytes of a column), `merged_file`, `group_column`; `sorted_merge`, `merging` (the whole);
-//! `laws`.
+//! To be read in this order: `table_order` (the columns of all files by path and kind), `groups`; `merge`,
+//! `kept_count`, `decisions` (which column the rows of one key have, in which type), `room`, `planned_group`,
+//! `planning` (what is decided before anything is written); `value_columns`, `term_columns` (the bytes of a column),
+//! `merged_file`, `group_column`; `sorted_merge`, `merging` (the whole); `laws`.
 #![tactic(auto)]
 
 mod decisions;
@@ -18,6 +18,7 @@ mod planned_group;
 mod planning;
 mod room;
 mod sorted_merge;
+mod table_order;
 mod term_columns;
 mod value_columns;
 

@@ -8,9 +8,10 @@ ghost use Rattle.seg_columns_joined.specs.RowOrders.{rows_in_order};
 
 use crate::merge::Merge;
 use crate::sorted_merge::merge_sorted;
+use crate::table_order::rows_by_key;
 use seg_columnar::ColumnarReader;
 use seg_columns::ColumnError;
-use seg_columns_joined::{KeptRows, MergeRowOrder, TableRow, rows_by_key, table_rows};
+use seg_columns_joined::{KeptRows, MergeRowOrder, TableRow, table_rows};
 use seg_common::ColumnType;
 use std::alloc::{AllocError, Global};
 
