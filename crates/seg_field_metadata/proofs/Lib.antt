@@ -1,0 +1,6 @@
+mod AtKeys
+mod ByOrder
+mod Counting
+mod Grouping
+mod Keys
+mod Sums

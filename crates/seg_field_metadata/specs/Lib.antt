@@ -1,0 +1,3 @@
+pub mod Grouped
+pub mod Known
+pub mod Merged
