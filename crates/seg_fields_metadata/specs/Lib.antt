@@ -1,0 +1,4 @@
+pub mod Columns
+pub mod Indexed
+pub mod Listed
+pub mod Metadata
