@@ -1,0 +1,5 @@
+mod AllGroups
+mod Counted
+mod Made
+mod Pushed
+mod Seeds

@@ -1,0 +1,4 @@
+pub mod Documents
+pub mod Generated
+pub mod Seeds
+pub mod SummaryText

@@ -1,0 +1,2 @@
+mod TermSums
+mod Streamed
