@@ -1,10 +1,12 @@
 mod Ascending
 mod Chains
 mod Each
+mod Grammar
 mod Items
 mod Json
 mod Kept
 mod Limits
+mod OneByOne
 mod PairParts
 mod Schema
 mod WellFormed

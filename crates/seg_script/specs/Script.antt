@@ -5,7 +5,9 @@ use Rattle.std.specs.Str.{is_utf8}
 use Rattle.serde_json.specs.Data.{Data}
 use Rattle.serde_json.specs.Find.{as_str}
 use Rattle.serde_json.specs.Read.{read}
+use Rattle.seg_values.specs.declared.schema.FieldEntry.{FieldEntry}
 use Rattle.seg_model.specs.Input.{Input}
+use Rattle.seg_model.specs.Operations.{Operation}
 use Rattle.seg_meta.specs.PartsRead.{id_from}
 use Rattle.seg_meta.specs.Reads.{given, provided, required, natural, nullable, list_of, has_only}
 use Rattle.seg_script_values.specs.Reads.{optional}
@@ -33,6 +35,16 @@ script_from d =
     given (optional (range_with_len 1 (length cuts + 2)) (list_of id_of) (codes "ids") d) (λ ids.
     given (required (list_of (operation_from schema)) (codes "operations") d) (λ operations.
     Some (record { schema = schema; settings = settings; operations = operations; cuts = cuts; filters = filters; ids = ids }))))))))
+
+-- the input of a schema and operations, with what the other members of a JSON value say
+abbrev pub input_with : List FieldEntry → List Operation → Data → Option Input
+input_with schema operations d =
+    provided (has_only script_members d)
+    (given (optional default_settings settings_from (codes "settings") d) (λ settings.
+    given (optional [] (list_of natural) (codes "cuts") d) (λ cuts.
+    given (optional (replicate (length cuts + 1) None) (list_of (nullable filter_from)) (codes "filters") d) (λ filters.
+    given (optional (range_with_len 1 (length cuts + 2)) (list_of id_of) (codes "ids") d) (λ ids.
+    Some (record { schema = schema; settings = settings; operations = operations; cuts = cuts; filters = filters; ids = ids }))))))
 
 -- the JSON value that bytes are; `read` by itself does not ask that they are UTF-8
 abbrev pub json_of : List ℕ → Option Data

@@ -1,5 +1,6 @@
 //! Why bytes are no script.
 
+use json::Invalid;
 use std::alloc::AllocError;
 
 /// Why there is no script.
@@ -18,5 +19,16 @@ impl From<AllocError> for ScriptError {
 
     fn from(_e: AllocError) -> ScriptError {
         ScriptError::OutOfMemory
+    }
+}
+
+impl From<Invalid> for ScriptError {
+    ghost use Rattle.std.specs.Prelude.{◌≡◌};
+    ghost use Rattle.seg_script.specs.declared.error.ScriptError.TheVariants.{NotScript};
+
+    ghost from_gives = { λ _ e. e ≡ NotScript };
+
+    fn from(_e: Invalid) -> ScriptError {
+        ScriptError::NotScript
     }
 }

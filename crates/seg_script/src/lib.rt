@@ -6,7 +6,8 @@
 //! `script` has the one call, `read_script`, and `error` says why bytes are no script. `fields` reads the schema, `settings`
 //! the settings, `operations` the operations, of which `pairs` reads what is added, by a `reading`, and `deletes` what is
 //! deleted, both out of the `parts` of a list; `cuts`, `filters` and `ids` read the rest. `kept_documents` makes the set that
-//! a filter is, `pushing` adds to a vector. `laws` says what every script holds.
+//! a filter is, `pushing` adds to a vector. `operation_reading` reads the operations one by one off the text, each as a value of
+//! `json_reading`. `laws` says what every script holds.
 #![tactic(auto)]
 
 mod cuts;
@@ -15,8 +16,10 @@ mod error;
 mod fields;
 mod filters;
 mod ids;
+mod json_reading;
 mod kept_documents;
 mod laws;
+mod operation_reading;
 mod operations;
 mod pairs;
 mod parts;

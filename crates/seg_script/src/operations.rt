@@ -36,7 +36,7 @@ pub(crate) fn operations_from(
 }
 
 /// `{"add": [pairs]}` or `{"delete": [..]}`
-fn operation_from(
+pub(crate) fn operation_from(
     alloc: Global,
     schema: &Schema,
     json: Value,

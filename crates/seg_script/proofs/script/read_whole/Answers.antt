@@ -2,7 +2,7 @@ use Rattle.std.proofs.Common.{sym, ap, true≢false}
 use Rattle.seg_meta.specs.Reads.{given}
 use Rattle.seg_script.specs.Script.{script_from}
 use Rattle.seg_script.proofs.Json.{json_of-read, json_of-refused}
-use Rattle.seg_script.proofs.script.read_script.Goals as goal
+use Rattle.seg_script.proofs.script.read_whole.Goals as goal
 
 pub returns-in-Ok-clause-ok : goal.returns-in-Ok-clause-ok
 returns-in-Ok-clause-ok c = let e = json_of-read c.args.bytes.items _ _ c.deref.ensures.value c.in-Ok.ensures.ok in rw e c.script_from.ensures.ok
