@@ -5,6 +5,7 @@ pub mod EntryOptions
 pub mod IndexFiles
 pub mod IndexTotals
 pub mod MergeAnswers
+pub mod MergePlans
 pub mod SegmentsMerged
 pub mod Taken
 pub mod Turns

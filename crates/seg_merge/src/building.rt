@@ -19,11 +19,12 @@ ghost use Rattle.seg_merge.specs.Taken.{HoldsTaken, gained};
 ghost use Rattle.seg_merge.specs.IndexTotals.{HasOutputTotals, HasWorkTotals};
 ghost use Rattle.seg_merge.specs.Turns.{both};
 
+use crate::held_input::HeldInput;
 use crate::indexes::write_indexes;
 use seg_bits::AliveBitSet;
 use seg_common::SegmentId;
 use seg_directory::Directory;
-use seg_input::{BuildInputRef, UserOperation};
+use seg_input::{BuildInput, BuildInputRef, UserOperation};
 use seg_meta::{Index, IndexSettings, ids_fit, schema_reads_back};
 use seg_model::joining_is_invisible;
 use seg_refusals::check_input;
@@ -112,31 +113,50 @@ pub fn build_index<Z: Analyzers, W: Directory, O: Directory>(
         filters,
         ids,
     };
-    match build_input(alloc, &input, analyzers, work, output) {
+    match build_held(alloc, input, analyzers, work, output) {
         Ok(index) => Ok(index),
         Err(e) => Err(e),
     }
 }
 
-/// Builds the index of an input.
-fn build_input<Z: Analyzers, W: Directory, O: Directory>(
+/// Builds the index of an input, as `build_index` does. The operations are let go of once the work index is filled, so
+/// that they and the output segment are never in memory together.
+pub fn build_index_of<Z: Analyzers, W: Directory, O: Directory>(
     alloc: Global,
-    input: &BuildInputRef<'_>,
+    input: BuildInput,
     analyzers: &Z,
     work: &mut W,
     output: &mut O,
 ) -> TResult<Index>
-    ensures ends { EndsBuilding (Z.knows analyzers.now) (Z.tokens_of analyzers.now) input.now
+    ensures ends { EndsBuilding (Z.knows analyzers.now) (Z.tokens_of analyzers.now) input
         (seen_as (λ built. meta_of built) result)
         (both (W.state work.old) (O.state output.old)) (both (W.state work.new) (O.state output.new)) }
-    ensures calls { BuildsIndexes (Z.knows analyzers.now) (Z.tokens_of analyzers.now) input.now result
+    ensures calls { BuildsIndexes (Z.knows analyzers.now) (Z.tokens_of analyzers.now) input result
+        (both (W.state work.old) (O.state output.old)) (both (W.state work.new) (O.state output.new)) }
+{
+    build_held(alloc, input, analyzers, work, output)
+}
+
+/// Builds the index of an input that is held.
+fn build_held<Z: Analyzers, W: Directory, O: Directory, H: HeldInput>(
+    alloc: Global,
+    input: H,
+    analyzers: &Z,
+    work: &mut W,
+    output: &mut O,
+) -> TResult<Index>
+    ensures ends { EndsBuilding (Z.knows analyzers.now) (Z.tokens_of analyzers.now) (H.input input)
+        (seen_as (λ built. meta_of built) result)
+        (both (W.state work.old) (O.state output.old)) (both (W.state work.new) (O.state output.new)) }
+    ensures calls { BuildsIndexes (Z.knows analyzers.now) (Z.tokens_of analyzers.now) (H.input input) result
         (both (W.state work.old) (O.state output.old)) (both (W.state work.new) (O.state output.new)) }
 {
     joining_is_invisible();
     files_hold_one_contents();
-    schema_reads_back(input.schema, input.settings);
-    ids_fit(input.ids);
-    match check_input(alloc, analyzers, input) {
+    let parts = input.as_ref();
+    schema_reads_back(parts.schema, parts.settings);
+    ids_fit(parts.ids);
+    match check_input(alloc, analyzers, &parts) {
         Ok(()) => {}
         Err(e) => return Err(e),
     }

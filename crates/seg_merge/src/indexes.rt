@@ -6,51 +6,50 @@ ghost use Rattle.seg_model.specs.Valid.{input_refusal};
 ghost use Rattle.seg_refusals.specs.Admitted.{Fits};
 ghost use Rattle.seg_merge.specs.Builds.{IsBuilt};
 ghost use Rattle.seg_merge.specs.DirectoryCalls.{BeginsIndexes, WritesIndexes, merge_listed};
-ghost use Rattle.seg_merge.specs.IndexFiles.{output_id, work_ids};
 ghost use Rattle.seg_merge.specs.MergeAnswers.{IsMergedAs};
 ghost use Rattle.seg_merge.specs.SegmentsMerged.{AreMerged, MergesLive};
 ghost use Rattle.seg_merge.specs.Turns.{both};
 
 use crate::filtered_merging::merge_filtered_segments;
+use crate::held_input::{HeldInput, split_ids};
 use crate::index_files::begin_index;
 use crate::work_index::fill_work_index;
-use seg_bits::AliveBitSet;
-use seg_common::SegmentId;
 use seg_directory::{Directory, expect_no_files};
 use seg_input::BuildInputRef;
 use seg_meta::{Index, IndexMeta, metas_read_back};
 use seg_values::{TResult, TantivyError};
 use seg_words::Analyzers;
-use std::alloc::{AllocError, Global};
+use std::alloc::Global;
 
 /// Writes both indexes into directories that have no files: into the work directory a segment a batch; and into the
 /// output directory what these segments, as the work directory answers them, are merged into. The output index is begun
-/// before the first of them is opened.
-pub(crate) fn write_indexes<Z: Analyzers, W: Directory, O: Directory>(
+/// before the first of them is opened, and where the input is owned its operations are let go of before.
+pub(crate) fn write_indexes<Z: Analyzers, W: Directory, O: Directory, H: HeldInput>(
     alloc: Global,
-    input: &BuildInputRef<'_>,
+    input: H,
     analyzers: &Z,
     work: &mut W,
     output: &mut O,
 ) -> TResult<Index>
-    requires admitted { input_refusal (Z.knows analyzers.now) (Z.tokens_of analyzers.now) input.now ≡ None }
-    requires fits { Fits (Z.tokens_of analyzers.now) input.now }
-    ensures built { IfOk result (λ built. IsBuilt (Z.tokens_of analyzers.now) input.now
+    requires admitted { input_refusal (Z.knows analyzers.now) (Z.tokens_of analyzers.now) (H.input input) ≡ None }
+    requires fits { Fits (Z.tokens_of analyzers.now) (H.input input) }
+    ensures built { IfOk result (λ built. IsBuilt (Z.tokens_of analyzers.now) (H.input input)
         (both (W.state work.old) (O.state output.old)) (both (W.state work.new) (O.state output.new)) (meta_of built)) }
-    ensures does { WritesIndexes (Z.tokens_of analyzers.now) input.now result
+    ensures does { WritesIndexes (Z.tokens_of analyzers.now) (H.input input) result
         (both (W.state work.old) (O.state output.old)) (both (W.state work.new) (O.state output.new)) }
 {
-    match begin_indexes(alloc, input, work, output) {
+    let parts = input.as_ref();
+    match begin_indexes(alloc, &parts, work, output) {
         Ok(()) => {}
         Err(e) => return Err(e),
     }
-    let (work_ids, output_id) = split_ids(input.ids);
-    let metas = match fill_work_index(alloc, input, analyzers, work_ids, work) {
+    let (work_ids, _) = split_ids(parts.ids);
+    let metas = match fill_work_index(alloc, &parts, analyzers, work_ids, work) {
         Ok(metas) => metas,
         Err(e) => return Err(e),
     };
     metas_read_back(&metas);
-    merge_work(alloc, input, metas, output_id, work, output)
+    merge_work(alloc, input, metas, work, output)
 }
 
 /// Refuses directories that have files, and begins the work index.
@@ -74,53 +73,36 @@ fn begin_indexes<W: Directory, O: Directory>(
     begin_index(alloc, input.schema, input.settings, work)
 }
 
-/// The ids of the work segments, and the last id, of the output segment.
-fn split_ids(ids: &[SegmentId]) -> (&[SegmentId], SegmentId)
-    requires { 2 ≤ length ids.now }
-    ensures work { result.0.now ≡ work_ids ids.now }
-    ensures output { result.1 ≡ output_id ids.now }
-{
-    let last = ids.len() - 1;
-    (&ids[..last], ids[last])
-}
-
 /// Merges the segments of the work index, which was filled, into the output index.
-fn merge_work<W: Directory, O: Directory>(
+fn merge_work<W: Directory, O: Directory, H: HeldInput>(
     alloc: Global,
-    input: &BuildInputRef<'_>,
+    input: H,
     metas: IndexMeta,
-    id: SegmentId,
     work: &mut W,
     output: &mut O,
 ) -> TResult<Index>
     requires list { IsMetaList metas.segments }
-    requires schema { metas.schema ≡ input.now.schema }
-    requires id { id ≡ output_id input.now.ids }
-    requires merged { AreMerged (merge_listed input.now metas.segments) }
-    ensures built { IfOk result (λ built. IsMergedAs (merge_listed input.now metas.segments)
+    requires schema { metas.schema ≡ (H.input input).schema }
+    requires ids { 2 ≤ length (H.input input).ids }
+    requires merged { AreMerged (merge_listed (H.input input) metas.segments) }
+    ensures built { IfOk result (λ built. IsMergedAs (merge_listed (H.input input) metas.segments)
         (both (W.state work.old) (O.state output.old)) (both (W.state work.new) (O.state output.new)) (meta_of built)) }
-    ensures does { MergesLive (merge_listed input.now metas.segments) result
+    ensures does { MergesLive (merge_listed (H.input input) metas.segments) result
         (both (W.state work.old) (O.state output.old)) (both (W.state work.new) (O.state output.new)) }
 {
     let Ok(segments) = Index::from_metas(metas).searchable_segments(alloc) else {
         return Err(TantivyError::OutOfMemory);
     };
-    let Ok(filters) = copied_filters(alloc, input.filters) else {
+    let Ok(plan) = input.into_plan(alloc) else {
         return Err(TantivyError::OutOfMemory);
     };
-    merge_filtered_segments(alloc, &segments, *input.settings, filters, id, work, output)
-}
-
-/// The filters once more. They share their bytes.
-fn copied_filters(
-    alloc: Global,
-    filters: &[Option<AliveBitSet>],
-) -> Result<Vec<Option<AliveBitSet>>, AllocError>
-    ensures { IfOk result (λ copy. copy.items ≡ filters.now) }
-{
-    let mut copy = Vec::new(alloc);
-    for filter in filters {
-        copy.push(filter.clone()?)?;
-    }
-    Ok(copy)
+    merge_filtered_segments(
+        alloc,
+        &segments,
+        plan.settings,
+        plan.filters,
+        plan.id,
+        work,
+        output,
+    )
 }

@@ -5,12 +5,13 @@
 //! and merges these segments, as the work directory answers them, into an output directory.
 //!
 //! To be read in this order: `payload` and `metas` (what an index says of itself), `index_files` (an index is begun, and
-//! its meta saved), `filtered_merging` (segments, merged), `work_index` (the segments of the batches), `indexes` (both
-//! indexes in turn), `building`, `laws`.
+//! its meta saved), `filtered_merging` (segments, merged), `work_index` (the segments of the batches), `held_input`
+//! (an input, borrowed or owned), `indexes` (both indexes in turn), `building`, `laws`.
 #![tactic(auto)]
 
 mod building;
 mod filtered_merging;
+mod held_input;
 mod index_files;
 mod indexes;
 mod laws;
@@ -18,6 +19,6 @@ mod metas;
 mod payload;
 mod work_index;
 
-pub use building::build_index;
+pub use building::{build_index, build_index_of};
 pub use filtered_merging::merge_filtered_segments;
 pub use laws::answers_determine_parts;

@@ -18,10 +18,11 @@ use Rattle.seg_model.specs.Input.{Filter, Input}
 use Rattle.seg_model.specs.Refused.{IfRefusal, build_refusal}
 use Rattle.seg_model.specs.Valid.{Known, input_refusal}
 use Rattle.seg_segment.specs.Forms.{segment_forms}
+use Rattle.seg_open.specs.Answers.{seen_as}
 use Rattle.seg_open.specs.SegmentOpened.{IsNoDamage}
 use Rattle.seg_refusals.specs.Admitted.{IsValidIf}
 use Rattle.seg_merge.specs.AfterCrash.{MayBeBuilt, MayBeMerged}
-use Rattle.seg_merge.specs.Builds.{IsWhyUntold}
+use Rattle.seg_merge.specs.Builds.{EndsBuilding}
 use Rattle.seg_merge.specs.DirectoryCalls.{BuildsIndexes}
 use Rattle.seg_merge.specs.IndexFiles.{IsOutputIndexOf, IsWorkIndexOf, merged_meta, output_id, work_ids}
 use Rattle.seg_merge.specs.SegmentsMerged.{AreOfOne, IsRefusal, MergeInput, MergesSegments, merge_input, one_refusal}
@@ -32,65 +33,34 @@ use Rattle.seg_tool.proofs.OutputOnDisk.{empty_still}
 
 -- ---- both indexes are built
 
-abbrev failing : TantivyError → Result IndexMeta TantivyError
-failing e = Err e
-
-module _ (known : Known) (analyzer : Analyzer) (input : Input) (w q v p : DirectoryState) where
-  abbrev a : Directories
-  a = both w q
-
-  abbrev b : Directories
-  b = both v p
-
-  none_of : (o : Option TantivyError) (metas : IndexMeta) → IfSome o (λ e. (Ok metas ≡ failing e) ⊎ (Ok metas ≡ failing OutOfMemory)) → o ≡ None
-  none_of None metas h = refl
-  none_of (Some e) metas (inl is) = absurd (cc is)
-  none_of (Some e) metas (inr is) = absurd (cc is)
-
-  first_as : (o : Option TantivyError) (e : TantivyError) → IfSome o (λ x. (failing e ≡ failing x) ⊎ (failing e ≡ failing OutOfMemory))
-      → IfSome o (λ _. (v ≡ w) × (p ≡ q)) → IfSome o (λ x. ((e ≡ x) ⊎ (e ≡ OutOfMemory)) × (b ≡ a))
-  first_as None e h k = tt
-  first_as (Some x) e (inl is) (work, output) = (inl (cc is), λ i. both (work i) (output i))
-  first_as (Some x) e (inr is) (work, output) = (inr (cc is), λ i. both (work i) (output i))
-
+module _ (known : Known) (analyzer : Analyzer) (input : Input) (a b : Directories) where
   -- what is known of it, by its result
-  pub built_so : (r : Result IndexMeta TantivyError)
-      → IfSome (input_refusal known analyzer input) (λ e. (r ≡ Err e) ⊎ (r ≡ Err OutOfMemory))
-      → IfSome (input_refusal known analyzer input) (λ _. (v ≡ w) × (p ≡ q))
-      → (IsTrue w.tells → IfErr r (IfRefusal (λ e. build_refusal known analyzer input ≡ Some e)))
-      → IfErr r (IfRefusal (IsWhyUntold known analyzer input))
-      → OnOk r (IsValidIf (IsTrue w.tells) known analyzer input)
-      → IfOk r (λ built. (documents : ℕ) × (meta_of built ≡ merged_meta input.settings input.schema (work_ids input.ids) (output_id input.ids) documents))
-      → (IsTrue w.tells → OnOk r (IsWorkIndexOf analyzer input v.files))
-      → (IsTrue w.tells → OnOk r (len w.files ≡ 0))
-      → (IsTrue w.tells → IsTrue q.tells → OnOk r (IsOutputIndexOf analyzer input p.files))
-      → (IsTrue q.tells → IfOk r (λ built. index.index_of segment_forms p.files ≡ Some (meta_of built)))
-      → (IsTrue q.tells → OnOk r (len q.files ≡ 0))
-      → (IsTrue w.tells → len w.files ≡ 0 → IsTrue q.tells → len q.files ≡ 0 → r ≢ Err IndexAlreadyExists)
-      → (IsTrue w.tells → IfErr r IsNoDamage)
-      → (IsTrue w.tells → IsEmptyDisk q.disk → LeavesOnly (MayBeBuilt analyzer input) q.disk p.disk)
-      → (IsTrue w.tells → IsEmptyDisk q.disk → OnOk r (HasOnly (IsOutputIndexOf analyzer input) p.disk.now))
-      → BuildsIndexes known analyzer input r a b
-      → BuildsBoth known analyzer input r a b
-  built_so (Ok metas) first untouched refused untold valid meta work_index work_was_empty output_index output_meta output_was_empty fresh whole any_moment at_rest calls = record {
-    admitted = none_of (input_refusal known analyzer input) metas first;
-    valid = valid;
-    work_was_empty = work_was_empty;
-    work_index = work_index;
-    output_was_empty = output_was_empty;
-    output_meta = λ told. (meta.0, output_meta told ∙ ap Some meta.1);
-    output_index = output_index;
-    any_moment = any_moment;
-    at_rest = at_rest;
+  pub built_so : (r : Result IndexMeta TantivyError) → EndsBuilding known analyzer input (seen_as meta_of r) a b
+      → BuildsIndexes known analyzer input r a b → BuildsBoth known analyzer input r a b
+  built_so (Ok metas) ends calls = record {
+    admitted = ends.admitted;
+    valid = ends.valid;
+    work_was_empty = λ told. (ends.in_work told).was_empty;
+    work_index = λ told. (ends.in_work told).index;
+    output_was_empty = λ told. (ends.in_output told).was_empty;
+    output_meta = λ told. (ends.counted.0, (ends.in_output told).index_of ∙ ap Some ends.counted.1);
+    output_index = λ told told_output. (ends.in_work told).output_index told_output;
+    any_moment = ends.any_moment;
+    at_rest = ends.at_rest;
     calls = calls;
   }
-  built_so (Err e) first untouched refused untold valid meta work_index work_was_empty output_index output_meta output_was_empty fresh whole any_moment at_rest calls = record {
-    first = first_as (input_refusal known analyzer input) e first untouched;
-    refused = refused;
-    untold = untold;
-    fresh = λ empty is. fresh empty.work_tells empty.work empty.output_tells empty.output (ap failing is);
-    whole = whole;
-    any_moment = any_moment;
+  built_so (Err e) ends calls = record {
+    first = ends.first;
+    refused = ends.refused;
+    untold = ends.untold;
+    fresh = λ empty. ends.fresh (record {
+      work_tells = empty.work_tells;
+      work = empty.work;
+      output_tells = empty.output_tells;
+      output = empty.output;
+    });
+    whole = ends.whole;
+    any_moment = ends.any_moment;
     calls = calls;
   }
 

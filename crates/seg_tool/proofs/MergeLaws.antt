@@ -1,5 +1,5 @@
 -- What the merge of an index never ends with, and where it ends well.
-use Rattle.std.proofs.Common.{◌≡◌, ◌≢◌, ◌≤◌, ◌<◌, ◌^◌, ◌∙◌, ℕ, true, List, [], ◌∷◌, map, None, Result, Ok, Err, IsTrue, refl, sym, ap, subst, inl, codes, arith}
+use Rattle.std.proofs.Common.{◌≡◌, ◌≢◌, ◌≤◌, ◌<◌, ◌^◌, ◌∙◌, ℕ, true, List, [], ◌∷◌, map, None, Result, Ok, Err, IsTrue, refl, sym, ap, subst, codes, arith}
 use Rattle.std.specs.Prelude.{is_some}
 use Rattle.std.specs.FinMap.{len}
 use Rattle.std.specs.List.{AllByRecursion}

@@ -9,8 +9,8 @@ use crate::reading_back::print_index;
 use crate::status::Status;
 use crate::words::Detail;
 use seg_directory::Directory;
-use seg_input::{BuildInput, BuildInputRef};
-use seg_merge::build_index;
+use seg_input::BuildInput;
+use seg_merge::build_index_of;
 use seg_meta::Index;
 use seg_script::{ScriptError, read_script};
 use seg_values::{TResult, TantivyError};
@@ -40,7 +40,7 @@ pub(crate) fn build<Z: Analyzers, W: Directory, O: Directory>(
     }
 }
 
-/// Writes the indexes of an input, and answers what is then printed of them. The input is let go of before.
+/// Writes the indexes of an input, and answers what is then printed of them.
 fn build_and_print<Z: Analyzers, W: Directory, O: Directory>(
     alloc: Global,
     analyzers: &Z,
@@ -63,7 +63,7 @@ fn build_and_print<Z: Analyzers, W: Directory, O: Directory>(
     print_index(alloc, out, "output", detail, output)
 }
 
-/// Writes the indexes of an input.
+/// Writes the indexes of an input, which is let go of as soon as it may be.
 fn build_both<Z: Analyzers, W: Directory, O: Directory>(
     alloc: Global,
     analyzers: &Z,
@@ -74,17 +74,7 @@ fn build_both<Z: Analyzers, W: Directory, O: Directory>(
     ensures { BuildsBoth (Z.knows analyzers.now) (Z.tokens_of analyzers.now) input result
         (both (W.state work.old) (O.state output.old)) (both (W.state work.new) (O.state output.new)) }
 {
-    let BuildInputRef {
-        schema,
-        settings,
-        operations,
-        cuts,
-        filters,
-        ids,
-    } = input.as_ref();
-    build_index(
-        alloc, schema, settings, analyzers, operations, cuts, filters, ids, work, output,
-    )
+    build_index_of(alloc, input, analyzers, work, output)
 }
 
 /// The status of an error of an index.

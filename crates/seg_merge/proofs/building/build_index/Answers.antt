@@ -46,7 +46,7 @@ returns-in-Ok-clause-reads g c told =
     holds_taken c.in-Ok.index (g.Z.Analyzers.knows c.args.analyzers.now) (g.Z.Analyzers.tokens_of c.args.analyzers.now)
     (input_of c.args.schema.now c.args.settings.now c.args.operations.now c.args.cuts.now c.args.filters.now c.args.ids.now)
     (both (g.W.Directory.state c.args.work.now) (g.O.Directory.state c.args.output.now))
-    (both (g.W.Directory.state c.build_input.new.work) (g.O.Directory.state c.build_input.new.output))
+    (both (g.W.Directory.state c.build_held.new.work) (g.O.Directory.state c.build_held.new.output))
     c.in-Ok.ensures.calls told
 
 pub returns-in-Ok-clause-calls : goal.returns-in-Ok-clause-calls

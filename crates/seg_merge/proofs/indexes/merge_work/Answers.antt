@@ -11,23 +11,23 @@ use Rattle.seg_merge.proofs.MergeTurns.{starved}
 use Rattle.seg_merge.proofs.indexes.merge_work.Goals as goal
 
 pub returns-in_default-clause-does : goal.returns-in_default-clause-does
-returns-in_default-clause-does g c = starved (merge_listed c.args.input.now c.args.metas.segments) _ _
+returns-in_default-clause-does g c = starved (merge_listed (g.H.HeldInput.input c.args.input) c.args.metas.segments) _ _
 
-pub returns-in_default-copied_filters-clause-does : goal.returns-in_default-copied_filters-clause-does
-returns-in_default-copied_filters-clause-does g c = starved (merge_listed c.args.input.now c.args.metas.segments) _ _
+pub returns-in_default-into_plan-clause-does : goal.returns-in_default-into_plan-clause-does
+returns-in_default-into_plan-clause-does g c = starved (merge_listed (g.H.HeldInput.input c.args.input) c.args.metas.segments) _ _
 
 pub returns-clause-built : goal.returns-clause-built
 returns-clause-built g c =
-    let i = c.input.inside in
+    let i = g.H.HeldInput.input c.args.input in
     let listed = c.args.metas.segments in
+    let plan = c.in-Ok-into_plan.plan in
     let same =
-    call_is c.args.input.now listed c.deref.result.now i.settings.now c.in-Ok-copied_filters.filters.items c.args.id
+    call_is i listed c.deref.result.now plan.settings plan.filters.items plan.id
     (c.deref.ensures.value ∙ c.in-Ok.ensures.ok
     ∙ ap (λ (m : IndexMeta). map (segment_of m.schema) m.segments) c.from_metas.ensures
     ∙ ap (λ (s : Schema). map (segment_of s) listed) c.requires.schema)
-    (ap (λ (x : Input). x.settings) c.input.view_is)
-    (c.in-Ok-copied_filters.ensures ∙ ap (λ (x : Input). x.filters) c.input.view_is) c.requires.id in
-    merge_told meta_of _ (merge_listed c.args.input.now listed) same c.merge_filtered_segments.result
+    c.in-Ok-into_plan.ensures.settings c.in-Ok-into_plan.ensures.filters c.in-Ok-into_plan.ensures.id in
+    merge_told meta_of _ (merge_listed i listed) same c.merge_filtered_segments.result
     (both (g.W.Directory.state c.args.work.now) (g.O.Directory.state c.args.output.now))
     (both (g.W.Directory.state c.merge_filtered_segments.new.work) (g.O.Directory.state c.merge_filtered_segments.new.output))
     c.merge_filtered_segments.ensures.work_stays c.merge_filtered_segments.ensures.meta
@@ -35,16 +35,16 @@ returns-clause-built g c =
 
 pub returns-clause-does : goal.returns-clause-does
 returns-clause-does g c =
-    let i = c.input.inside in
+    let i = g.H.HeldInput.input c.args.input in
     let listed = c.args.metas.segments in
+    let plan = c.in-Ok-into_plan.plan in
     let same =
-    call_is c.args.input.now listed c.deref.result.now i.settings.now c.in-Ok-copied_filters.filters.items c.args.id
+    call_is i listed c.deref.result.now plan.settings plan.filters.items plan.id
     (c.deref.ensures.value ∙ c.in-Ok.ensures.ok
     ∙ ap (λ (m : IndexMeta). map (segment_of m.schema) m.segments) c.from_metas.ensures
     ∙ ap (λ (s : Schema). map (segment_of s) listed) c.requires.schema)
-    (ap (λ (x : Input). x.settings) c.input.view_is)
-    (c.in-Ok-copied_filters.ensures ∙ ap (λ (x : Input). x.filters) c.input.view_is) c.requires.id in
-    merge_called _ (merge_listed c.args.input.now listed) same c.requires.merged c.merge_filtered_segments.result
+    c.in-Ok-into_plan.ensures.settings c.in-Ok-into_plan.ensures.filters c.in-Ok-into_plan.ensures.id in
+    merge_called _ (merge_listed i listed) same c.requires.merged c.merge_filtered_segments.result
     (both (g.W.Directory.state c.args.work.now) (g.O.Directory.state c.args.output.now))
     (both (g.W.Directory.state c.merge_filtered_segments.new.work) (g.O.Directory.state c.merge_filtered_segments.new.output))
     c.merge_filtered_segments.ensures.does
