@@ -8,11 +8,11 @@ ghost use Rattle.seg_directory.specs.Log.{noted_failure};
 ghost use Rattle.seg_directory.specs.State.{untold};
 
 use crate::answer_log::AnswerLog;
-use crate::folder::{count_files, make_file, path_in, replace_file, sync_folder};
+use crate::folder::{count_files, make_file, path_in, read_whole, replace_file, sync_folder};
+use crate::last_read::LastRead;
 use crate::{Answer, CallKind, Directory, DirectoryError};
 use seg_common::{FileName, OwnedBytes};
 use std::alloc::{AllocError, Global};
-use std::fs;
 use std::io::ErrorKind;
 use std::marker::Model;
 use std::rt::Files;
@@ -22,6 +22,7 @@ use std::rt::Files;
 pub struct FileDirectory<R: Files> {
     rt: R,
     folder: String,
+    last: LastRead,
     log: AnswerLog,
 }
 
@@ -41,6 +42,7 @@ impl<R: Files + AllocGlobal + Clone + Drop> FileDirectory<R> {
         Ok(FileDirectory {
             rt,
             folder: String::from_str(alloc, folder)?,
+            last: LastRead::nothing(alloc),
             log: AnswerLog::new(alloc),
         })
     }
@@ -65,9 +67,9 @@ impl<R: Files + AllocGlobal + Clone + Drop> Directory for FileDirectory<R> {
     fn open_read(&mut self, alloc: Global, name: &FileName) -> Result<OwnedBytes, DirectoryError> {
         self.log.make_room()?;
         let path = path_of(alloc, self.folder.as_str(), name)?;
-        match fs::read(&self.rt, path.as_str()) {
+        match read_whole(&self.rt, alloc, path.as_str()) {
             Ok(bytes) => {
-                let bytes = owned(alloc, bytes)?;
+                let bytes = self.last.kept(alloc, name, bytes)?;
                 self.log.keep(Answer::Read(*name, bytes.share()));
                 Ok(bytes)
             }
@@ -131,15 +133,6 @@ impl<R: Files + AllocGlobal + Clone + Drop> Directory for FileDirectory<R> {
 fn path_of(alloc: Global, folder: &str, name: &FileName) -> Result<String, AllocError> {
     match name.text(alloc) {
         Ok(text) => path_in(alloc, folder, text.as_str()),
-        Err(_) => Err(AllocError),
-    }
-}
-
-fn owned(alloc: Global, bytes: Vec<u8>) -> Result<OwnedBytes, AllocError>
-    ensures { IfOk result (λ b. b ≡ bytes.items) }
-{
-    match OwnedBytes::from_vec(alloc, bytes) {
-        Ok(bytes) => Ok(bytes),
         Err(_) => Err(AllocError),
     }
 }

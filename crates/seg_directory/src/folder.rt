@@ -2,7 +2,7 @@
 
 use std::alloc::{AllocError, Global};
 use std::fs::{self, File, OpenFile};
-use std::io::{self, Write};
+use std::io::{self, Read, Write};
 use std::rt::Files;
 
 /// The file that becomes another one's new content. It isn't a file of the directory.
@@ -26,6 +26,16 @@ pub(crate) fn count_files<R: Files + AllocGlobal + Clone + Drop>(
         }
     }
     Ok(number)
+}
+
+/// The bytes of a file, in room for as many as it has.
+pub(crate) fn read_whole<R: Files>(rt: &R, alloc: Global, path: &str) -> io::Result<Vec<u8>> {
+    let mut file = File::open(rt, path)?;
+    let length = usize::try_from(file.metadata()?.len()).unwrap_or(0);
+    // one more, by which the end is found without more room
+    let mut bytes = Vec::with_capacity(alloc, length.saturating_add(1))?;
+    file.read_to_end(&mut bytes)?;
+    Ok(bytes)
 }
 
 /// Makes a file, which must not be there, and has its bytes reach the disk.

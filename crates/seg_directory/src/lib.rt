@@ -6,8 +6,8 @@
 //! the first that breaks off (`Works`). A composite file is seen as its parts, each a field and bytes.
 //!
 //! To be read in this order: `error`, `answer`, `directory`; `answer_log`; `failing_call`, `call_counts`, `call_record`,
-//! `stored_files`, `disk_call`, `disk_record`, `memory_directory`; `folder`, `file_directory`; `call_error`, `calls`, by which all crates above call a
-//! directory; `composite_file`, `composite_law`, `written_parts`, `composite_writer`;
+//! `stored_files`, `disk_call`, `disk_record`, `memory_directory`; `folder`, `last_read`, `file_directory`;
+//! `call_error`, `calls`, by which all crates above call a directory; `composite_file`, `composite_law`, `written_parts`, `composite_writer`;
 //! `laws`, of what a crash may leave.
 #![tactic(auto)]
 
@@ -27,6 +27,7 @@ mod error;
 mod failing_call;
 mod file_directory;
 mod folder;
+mod last_read;
 mod laws;
 mod memory_directory;
 mod stored_files;
