@@ -2,6 +2,7 @@ mod Arranging
 mod Counts
 mod Facets
 mod FieldFacts
+mod Numbering
 mod Owners
 mod Placing
 mod Steps

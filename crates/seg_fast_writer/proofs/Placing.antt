@@ -1,29 +1,27 @@
--- Values recorded by an id, and the ids of fields.
-use Rattle.std.proofs.Common.{◌≡◌, ℕ, zero, suc, ◌+◌, ◌<◌, true, false, List, [], ◌∷◌, ◌++◌, length, get_or, take, Option, None, Some, Result, Ok, Err, OnOk, OnErr, inl, refl, sym, ap, subst, ◌∙◌, arith}
+-- The ids of columns, and those of fields.
+use Rattle.std.proofs.Common.{◌≡◌, ℕ, zero, suc, ◌+◌, ◌<◌, true, false, List, [], ◌∷◌, ◌++◌, length, get_or, take, Option, None, Some, refl, sym, ap, subst, ◌∙◌, arith}
 use Rattle.std.specs.Prelude.{◌||◌}
 use Rattle.std.specs.List.{join_with_byte, slice_get}
 use Rattle.std.proofs.lemmas.List.{take_more}
 use Rattle.std.proofs.lemmas.Option.{same_Some, slice_get-get_or}
 use Rattle.seg_common.specs.declared.column_type.ColumnType.{ColumnType}
 use Rattle.seg_common.specs.declared.column_type.ColumnType.TheVariants as types
-use Rattle.seg_columns.specs.declared.error.ColumnError.{ColumnError}
 use Rattle.seg_values.specs.declared.schema.FieldEntry.{FieldEntry}
 use Rattle.seg_values.specs.declared.schema.FieldKind.{FieldKind}
 use Rattle.seg_values.specs.declared.schema.FieldKind.TheVariants as kinds
 use Rattle.seg_values.specs.SchemaRules.{is_schema}
 use Rattle.seg_values.specs.Tree.{Leaf, null, text, pre_tokenized, unsigned, signed, boolean, date, facet, byte_string, ip, Tree, leaf}
-use Rattle.seg_model.specs.Columns.{ColumnValue, declared_type, json_column_path}
+use Rattle.seg_model.specs.Columns.{declared_type, json_column_path}
 use Rattle.seg_common.specs.JsonPaths.{JsonPath}
 use Rattle.seg_model.specs.Fields.{Schema, is_json}
 use Rattle.seg_model.specs.Takes.{is_null, is_of_kind, is_own_array}
 use Rattle.seg_model.specs.Valid.{Known, names_fit}
 use Rattle.seg_columns_recorded.specs.Kinds.{kind_of}
-use Rattle.seg_columns_recorded.specs.Records.{ColumnRecord, changed_at, place_of, with_column, with_value}
-use Rattle.seg_columns_recorded.specs.RowByRow.{AreThere, has_column}
-use Rattle.seg_columns_recorded.specs.Takes.{AreKeptBut, At, CanTake, MayRecord, with_recorded}
+use Rattle.seg_columns_recorded.specs.Records.{ColumnRecord, place_of, with_column}
+use Rattle.seg_columns_recorded.specs.RowByRow.{AreThere}
 use Rattle.seg_columns_recorded.specs.declared.value_kind.ValueKind.{ValueKind}
 use Rattle.seg_columns_recorded.specs.declared.writer.ColumnId.{ColumnId}
-use Rattle.seg_columns_recorded.proofs.Exports.{takes_named, there_already}
+use Rattle.seg_columns_recorded.proofs.Exports.{there_already}
 use Rattle.seg_fast_writer.specs.FieldColumns.{AreFieldColumns, IsColumnOf, IsFieldColumn, IsLeafColumn, IsThere}
 use Rattle.seg_fast_writer.specs.FirstColumns.{first_columns}
 use Rattle.seg_fast_writer.specs.Walking.{CanRecord, IsFieldOf}
@@ -31,31 +29,6 @@ use Rattle.seg_fast_writer.specs.FastLeaves.{IsTaken}
 use Rattle.seg_fast_writer.proofs.FieldFacts.{apart_from, field_of}
 use Rattle.seg_fast_writer.proofs.Steps.{entry_at}
 use Rattle.seg_fast_writer.proofs.Walks.{own_type, path_is}
-
--- ---- by an id
-
-module _ (path : List ℕ) (kind : ValueKind) (row : ℕ) (value : ColumnValue) (id : ColumnId) (old : List ColumnRecord)
-    (column : Option ColumnId) (known : column ≡ Some id) (place : IsColumnOf column path kind old) where
-  here : (has_column path kind old ≡ true) × (id.place ≡ place_of old path kind)
-  here = subst (λ (c : Option ColumnId). IsColumnOf c path kind old) known place
-
-  pub takes_placed : MayRecord path kind row value old → At (CanTake kind row value) id.place old
-  takes_placed may = subst (λ (X : Type 0). X)
-      (λ j. At (CanTake kind row value) (sym here.1 j) (there_already path kind old here.0 j))
-      (takes_named path kind row value old may)
-
-  pub placed_ok : (new : List ColumnRecord) (result : Result (Unit {0}) ColumnError)
-      → OnOk result (new ≡ changed_at (with_value row value) id.place old)
-      → OnOk result (new ≡ with_recorded path kind row value old)
-  placed_ok new (Ok tt) made =
-      made ∙ (λ j. changed_at (with_value row value) (here.1 j) (sym (there_already path kind old here.0) j))
-  placed_ok new (Err e) made = tt
-
-pub placed_kept : (path : List ℕ) (kind : ValueKind) (old new : List ColumnRecord) (result : Result
-    (Unit {0}) ColumnError)
-    → OnErr result (new ≡ old) → OnErr result (AreKeptBut path kind old new)
-placed_kept path kind old new (Ok tt) kept = tt
-placed_kept path kind old new (Err e) kept = inl kept
 
 -- ---- a column stays where it is
 

@@ -4,6 +4,7 @@ ghost use Rattle.seg_columns_recorded.specs.Documents.{with_values};
 ghost use Rattle.seg_fast_writer.specs.FastLeaves.{IsKnown, cut_at, values_of_leaf, values_under};
 ghost use Rattle.seg_columns_recorded.specs.declared.value_kind.ValueKind.TheVariants.{Str};
 ghost use Rattle.seg_fast_writer.specs.FieldColumns.{IsColumnOf, IsLeafColumn};
+ghost use Rattle.seg_fast_writer.specs.PathNumbers.{IsKnownAt, IsKnownStill};
 ghost use Rattle.seg_fast_writer.specs.Walking.{CanRecordLeaf, CanRecordTexts};
 ghost use Rattle.seg_fast_writer.specs.Writing.{AreUnderWay};
 ghost use Rattle.seg_model.specs.Columns as model;
@@ -11,10 +12,12 @@ ghost use Rattle.seg_model.specs.Fields as fields;
 ghost use Rattle.seg_paths.specs.NumberedLeaves.{leaf_in};
 ghost use Rattle.seg_values.specs.View.{tree_of};
 
+use crate::path_columns::PathColumns;
+use crate::place::Place;
 use crate::placed_recording::{put_address, put_bool, put_bytes, put_moment, put_number, put_text};
 use crate::row_recorder::RowRecorder;
 use seg_columns::ColumnError;
-use seg_columns_recorded::{ColumnId, ColumnarWriter, NumericalValue};
+use seg_columns_recorded::{ColumnarWriter, NumericalValue};
 use seg_dates::{DateTime, DateTimePrecision};
 use seg_values::{FieldEntry, FieldKind, OwnedValue};
 use seg_words::{Analyzers, Token, Tokens};
@@ -24,30 +27,41 @@ impl<'a, Z: Analyzers> RowRecorder<'a, Z> {
     pub(crate) fn record_leaf(
         &self,
         columns: &mut ColumnarWriter,
+        known: &mut PathColumns,
         entry: &FieldEntry,
-        column: Option<ColumnId>,
+        place: Place,
         path: &str,
         level: u32,
         leaf: &OwnedValue,
     ) -> Result<(), ColumnError>
         requires can { CanRecordLeaf (Z.knows self.now.analyzers.now) self.now.schema.now self.now.row entry.now
             path.now (leaf_in (tree_of leaf.now)) columns.old }
-        requires column { IsLeafColumn column path.now (leaf_in (tree_of leaf.now)) columns.old }
+        requires column { IsLeafColumn place.column path.now (leaf_in (tree_of leaf.now)) columns.old }
+        requires known { IsKnownAt known.old place.number path.now columns.old }
         ensures recorded { OnOk result (columns.new ≡ with_values self.now.row
             (values_of_leaf (Z.tokens_of self.now.analyzers.now) entry.now path.now level
             (leaf_in (tree_of leaf.now))) columns.old) }
         ensures under_way { AreUnderWay self.now.schema.now (self.now.row + 1) columns.new }
+        ensures known { OnOk result (IsKnownStill known.old known.new columns.new) }
     {
         match leaf {
-            OwnedValue::Str(text) => self.record_text(columns, entry, column, path, text.as_str()),
+            OwnedValue::Str(text) => self.record_text(
+                columns,
+                known,
+                entry,
+                place,
+                path,
+                text.as_str(),
+            ),
             OwnedValue::PreTokStr(given) => {
-                self.record_tokens(columns, column, path, given.tokens.as_slice())
+                self.record_tokens(columns, known, place, path, given.tokens.as_slice())
             }
             OwnedValue::U64(number) => {
                 put_number(
                     columns,
+                    known,
                     self.row,
-                    column,
+                    place,
                     path,
                     NumericalValue::U64(*number),
                 )
@@ -55,31 +69,43 @@ impl<'a, Z: Analyzers> RowRecorder<'a, Z> {
             OwnedValue::I64(number) => {
                 put_number(
                     columns,
+                    known,
                     self.row,
-                    column,
+                    place,
                     path,
                     NumericalValue::I64(*number),
                 )
             }
-            OwnedValue::Bool(truth) => put_bool(columns, self.row, column, path, *truth),
+            OwnedValue::Bool(truth) => put_bool(columns, known, self.row, place, path, *truth),
             OwnedValue::Date(moment) => {
-                put_moment(columns, self.row, column, path, cut(entry, level, *moment))
+                put_moment(
+                    columns,
+                    known,
+                    self.row,
+                    place,
+                    path,
+                    cut(entry, level, *moment),
+                )
             }
             OwnedValue::Facet(facet) => put_text(
                 columns,
+                known,
                 self.row,
-                column,
+                place,
                 path,
                 facet.encoded_str(),
             ),
             OwnedValue::Bytes(bytes) => put_bytes(
                 columns,
+                known,
                 self.row,
-                column,
+                place,
                 path,
                 bytes.as_slice(),
             ),
-            OwnedValue::IpAddr(address) => put_address(columns, self.row, column, path, *address),
+            OwnedValue::IpAddr(address) => put_address(
+                columns, known, self.row, place, path, *address,
+            ),
             OwnedValue::Null => Ok(()),
             OwnedValue::Array(_) => Ok(()),
             OwnedValue::Object(_) => Ok(()),
@@ -90,43 +116,49 @@ impl<'a, Z: Analyzers> RowRecorder<'a, Z> {
     fn record_text(
         &self,
         columns: &mut ColumnarWriter,
+        known: &mut PathColumns,
         entry: &FieldEntry,
-        column: Option<ColumnId>,
+        place: Place,
         path: &str,
         text: &str,
     ) -> Result<(), ColumnError>
-        requires known { IsKnown (Z.knows self.now.analyzers.now) entry.now }
+        requires tokenizer { IsKnown (Z.knows self.now.analyzers.now) entry.now }
         requires texts { CanRecordTexts self.now.schema.now self.now.row path.now columns.old
-            × IsColumnOf column path.now Str columns.old }
+            × IsColumnOf place.column path.now Str columns.old }
+        requires known { IsKnownAt known.old place.number path.now columns.old }
         ensures recorded { OnOk result (columns.new ≡ with_values self.now.row (values_under path.now (model.fast_texts
             (Z.tokens_of self.now.analyzers.now) (model.column_tokenizer entry.now) text.now)) columns.old) }
         ensures under_way { AreUnderWay self.now.schema.now (self.now.row + 1) columns.new }
+        ensures known { OnOk result (IsKnownStill known.old known.new columns.new) }
     {
         let Some(tokenizer) = column_tokenizer(entry) else {
-            return put_text(columns, self.row, column, path, text);
+            return put_text(columns, known, self.row, place, path, text);
         };
         let mut tokens = Tokens::new(self.alloc);
         self.analyzers
             .tokens(self.alloc, tokenizer, text, &mut tokens)?;
-        self.record_tokens(columns, column, path, tokens.as_slice())
+        self.record_tokens(columns, known, place, path, tokens.as_slice())
     }
 
     /// Records the text of each token.
     fn record_tokens(
         &self,
         columns: &mut ColumnarWriter,
-        column: Option<ColumnId>,
+        known: &mut PathColumns,
+        place: Place,
         path: &str,
         tokens: &[Token],
     ) -> Result<(), ColumnError>
         requires texts { CanRecordTexts self.now.schema.now self.now.row path.now columns.old }
-        requires column { IsColumnOf column path.now Str columns.old }
+        requires column { IsColumnOf place.column path.now Str columns.old }
+        requires known { IsKnownAt known.old place.number path.now columns.old }
         ensures recorded { OnOk result (columns.new ≡ with_values self.now.row (values_under path.now
             (model.token_texts tokens.now)) columns.old) }
         ensures under_way { AreUnderWay self.now.schema.now (self.now.row + 1) columns.new }
+        ensures known { OnOk result (IsKnownStill known.old known.new columns.new) }
     {
         for token in tokens {
-            put_text(columns, self.row, column, path, token.text.as_str())?;
+            put_text(columns, known, self.row, place, path, token.text.as_str())?;
         }
         Ok(())
     }

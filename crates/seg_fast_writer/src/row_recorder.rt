@@ -1,5 +1,5 @@
 //! The values of a document, recorded in its row.
-ghost use Rattle.std.specs.Prelude.{◌≡◌, ◌+◌, true, [], OnOk};
+ghost use Rattle.std.specs.Prelude.{◌≡◌, ◌+◌, true, [], IfOk, OnOk};
 ghost use Rattle.std.specs.List.{slice_get, AllByRecursion};
 ghost use Rattle.seg_columns_recorded.specs.Documents.{with_values};
 ghost use Rattle.seg_model.specs.Valid.{names_fit};
@@ -8,8 +8,11 @@ ghost use Rattle.seg_values.specs.View.{tree_of};
 ghost use Rattle.seg_fast_writer.specs.FieldColumns.{AreFieldColumns};
 ghost use Rattle.seg_fast_writer.specs.FastLeaves.{AreKnown, IsTaken, pair_values, path_at, recorded_values};
 ghost use Rattle.seg_fast_writer.specs.FirstColumns.{first_columns};
+ghost use Rattle.seg_fast_writer.specs.PathNumbers.{AreColumnsOf};
 ghost use Rattle.seg_fast_writer.specs.Writing.{AreUnderWay};
 
+use crate::path_columns::PathColumns;
+use crate::place::Place;
 use seg_columns::ColumnError;
 use seg_columns_recorded::{ColumnId, ColumnarWriter};
 use seg_common::JsonPathWriter;
@@ -29,33 +32,39 @@ pub(crate) struct RowRecorder<'a, Z: Analyzers> {
 }
 
 impl<'a, Z: Analyzers> RowRecorder<'a, Z> {
-    /// Records all that the document has in fast fields. After an error a part of it may be recorded.
+    /// Records all that the document has in fast fields, and answers what is known of paths then. After an error a part
+    /// of it may be recorded.
     pub fn record_document(
         &self,
         columns: &mut ColumnarWriter,
+        known: PathColumns,
         document: &Pairs<'_>,
-    ) -> Result<(), ColumnError>
+    ) -> Result<PathColumns, ColumnError>
         requires schema { (is_schema self.now.schema.now ≡ true) × (names_fit self.now.schema.now ≡ true)
             × AreKnown (Z.knows self.now.analyzers.now) self.now.schema.now
             × AreFieldColumns (first_columns self.now.schema.now) self.now.schema.now self.now.fields.now }
+        requires known { AreColumnsOf known columns.old }
         requires taken { AllByRecursion (IsTaken self.now.schema.now) document.now }
         requires under_way { AreUnderWay self.now.schema.now (self.now.row + 1) columns.old }
         ensures recorded { OnOk result (columns.new ≡ with_values self.now.row
             (recorded_values self.now.schema.now (Z.tokens_of self.now.analyzers.now) document.now) columns.old) }
         ensures under_way { AreUnderWay self.now.schema.now (self.now.row + 1) columns.new }
+        ensures known { IfOk result (λ known. AreColumnsOf known columns.new) }
     {
+        let mut known = known;
         let mut path = JsonPathWriter::new(self.alloc);
         for at in 0..document.len() {
             let (field, value) = document.pair(at);
-            self.record_pair(columns, &mut path, field, value)?;
+            self.record_pair(columns, &mut known, &mut path, field, value)?;
         }
-        Ok(())
+        Ok(known)
     }
 
     /// Records a value of a field.
     fn record_pair(
         &self,
         columns: &mut ColumnarWriter,
+        known: &mut PathColumns,
         path: &mut JsonPathWriter,
         field: Field,
         value: &OwnedValue,
@@ -63,12 +72,14 @@ impl<'a, Z: Analyzers> RowRecorder<'a, Z> {
         requires schema { (is_schema self.now.schema.now ≡ true) × (names_fit self.now.schema.now ≡ true)
             × AreKnown (Z.knows self.now.analyzers.now) self.now.schema.now
             × AreFieldColumns (first_columns self.now.schema.now) self.now.schema.now self.now.fields.now }
+        requires known { AreColumnsOf known.old columns.old }
         requires taken { IsTaken self.now.schema.now (field, tree_of value.now) }
         requires under_way { AreUnderWay self.now.schema.now (self.now.row + 1) columns.old }
         ensures recorded { OnOk result (columns.new ≡ with_values self.now.row
             (pair_values (Z.tokens_of self.now.analyzers.now) (tree_of value.now)
             (slice_get self.now.schema.now field)) columns.old) }
         ensures under_way { AreUnderWay self.now.schema.now (self.now.row + 1) columns.new }
+        ensures known { OnOk result (AreColumnsOf known.new columns.new) }
     {
         let id = field.field_id() as usize;
         let entry = &self.schema[id];
@@ -77,7 +88,9 @@ impl<'a, Z: Analyzers> RowRecorder<'a, Z> {
             return Ok(());
         }
         start_path(path, entry)?;
-        self.record_tree(columns, path, entry, column, 0, value)
+        let number = known.field_number(column, entry.name.as_str())?;
+        let place = Place { column, number };
+        self.record_tree(columns, known, path, entry, place, 0, value)
     }
 }
 

@@ -1,16 +1,20 @@
 //! The leaves of a value, recorded at their paths.
 ghost use Rattle.std.specs.Prelude.{◌≡◌, ◌+◌, ◌++◌, [], ◌∷◌, ◌≤◌, ℕ, List, OnOk};
+ghost use Rattle.std.specs.List.{join_with_byte};
 ghost use Rattle.seg_common.specs.JsonPaths.{written_key};
 ghost use Rattle.seg_model.specs.Leaves as leaves;
 ghost use Rattle.seg_values.specs.View.{tree_of};
 ghost use Rattle.seg_fast_writer.specs.FieldColumns.{IsFieldColumn};
 ghost use Rattle.seg_fast_writer.specs.FirstColumns.{first_columns};
+ghost use Rattle.seg_fast_writer.specs.PathNumbers.{IsKnownAt, IsKnownStill};
 ghost use Rattle.seg_fast_writer.specs.Walking.{CanRecord, IsRecorded};
 ghost use Rattle.seg_fast_writer.specs.Writing.{AreUnderWay};
 
+use crate::path_columns::PathColumns;
+use crate::place::Place;
 use crate::row_recorder::RowRecorder;
 use seg_columns::ColumnError;
-use seg_columns_recorded::{ColumnId, ColumnarWriter};
+use seg_columns_recorded::ColumnarWriter;
 use seg_common::JsonPathWriter;
 use seg_values::{FieldEntry, OwnedValue};
 use seg_words::Analyzers;
@@ -23,18 +27,21 @@ impl<'a, Z: Analyzers> RowRecorder<'a, Z> {
     pub(crate) fn record_tree(
         &self,
         columns: &mut ColumnarWriter,
+        known: &mut PathColumns,
         path: &mut JsonPathWriter,
         entry: &FieldEntry,
-        column: Option<ColumnId>,
+        place: Place,
         level: u32,
         value: &OwnedValue,
     ) -> Result<(), ColumnError>
         requires can { CanRecord (Z.knows self.now.analyzers.now) self.now.schema.now self.now.row entry.now path.old
             level (tree_of value.now) columns.old }
-        requires column { IsFieldColumn (first_columns self.now.schema.now) entry.now column }
+        requires column { IsFieldColumn (first_columns self.now.schema.now) entry.now place.column }
+        requires known { IsKnownAt known.old place.number (join_with_byte 1 path.old.keys) columns.old }
         ensures recorded { (keys : List (List ℕ)) → IsRecorded (Z.tokens_of self.now.analyzers.now) self.now.row
             entry.now keys level (tree_of value.now) path.old path.new columns.old columns.new result }
         ensures under_way { AreUnderWay self.now.schema.now (self.now.row + 1) columns.new }
+        ensures known { OnOk result (IsKnownStill known.old known.new columns.new) }
     {
         if level > MOST_LEVELS {
             return Ok(());
@@ -43,7 +50,7 @@ impl<'a, Z: Analyzers> RowRecorder<'a, Z> {
             OwnedValue::Array(values) => {
                 let inner = level_in_array(level);
                 for at in 0..values.len() {
-                    self.record_tree(columns, path, entry, column, inner, values.get(at))?;
+                    self.record_tree(columns, known, path, entry, place, inner, values.get(at))?;
                 }
                 Ok(())
             }
@@ -51,12 +58,17 @@ impl<'a, Z: Analyzers> RowRecorder<'a, Z> {
                 for index in 0..members.len() {
                     let (key, child) = members.get(index);
                     push_key(path, key)?;
-                    self.record_tree(columns, path, entry, column, level + 1, child)?;
+                    let number = known.key_number(place.number, entry.expand_dots, key)?;
+                    let inner = Place {
+                        column: place.column,
+                        number,
+                    };
+                    self.record_tree(columns, known, path, entry, inner, level + 1, child)?;
                     path.pop();
                 }
                 Ok(())
             }
-            _ => self.record_leaf(columns, entry, column, path.as_str(), level, value),
+            _ => self.record_leaf(columns, known, entry, place, path.as_str(), level, value),
         }
     }
 }

@@ -1,18 +1,21 @@
 //! The writer of the fast fields of a segment.
-ghost use Rattle.std.specs.Prelude.{◌≡◌, ◌⊎◌, ◌<◌, ◌*◌, ◌-◌, ◌^◌, ◌++◌, [], ◌∷◌, ℕ, List, None, Some, true, Err, length, IfOk, IfErr, OnOk, OnErr};
+ghost use Rattle.std.specs.Prelude.{◌≡◌, ◌⊎◌, ◌<◌, ◌*◌, ◌-◌, ◌^◌, ◌++◌, [], ◌∷◌, ℕ, List, None, Some, true, Err, length, IfSome, IfOk, IfErr, OnOk, OnErr};
 ghost use Rattle.std.specs.List.{list_any};
 ghost use Rattle.seg_columnar.specs.ColumnFiles.{IsColumnFile, column_file_of, row_count};
 ghost use Rattle.seg_columns_recorded.specs.Known.{usage_of};
+ghost use Rattle.seg_columns_recorded.specs.Records.{ColumnRecord};
 ghost use Rattle.seg_columns_written.specs.ModelColumns.{columns_in};
 ghost use Rattle.seg_model.specs.Checked.{document_refusal};
 ghost use Rattle.seg_model.specs.Columns.{FastValue, columns_of, declared_columns, fast_values};
 ghost use Rattle.seg_model.specs.Valid.{has_unknown_fast_tokenizer, names_fit};
 ghost use Rattle.seg_fast_writer.specs.FastLeaves.{AreKnown};
+ghost use Rattle.seg_fast_writer.specs.PathNumbers.{AreColumnsOf};
 ghost use Rattle.seg_fast_writer.specs.Usage.{saturated, total};
 ghost use Rattle.seg_fast_writer.specs.Writing.{Holds, error_of, refusal_of};
 
 use crate::declaring::{declared_columns, field_columns};
 use crate::leaf::column_tokenizer;
+use crate::path_columns::PathColumns;
 use crate::row_recorder::RowRecorder;
 use seg_columns::ColumnError;
 use seg_columns_recorded::{ColumnId, ColumnarWriter};
@@ -29,14 +32,16 @@ pub struct FastFieldsWriter {
     schema: Schema,
     columns: ColumnarWriter,
     fields: Vec<Option<ColumnId>>,
+    paths: Option<PathColumns>,
     rows: u32,
 }
 
 impl Model for FastFieldsWriter {
-    ghost use Rattle.std.specs.Prelude.{◌≡◌, true};
+    ghost use Rattle.std.specs.Prelude.{◌≡◌, true, IfSome};
     ghost use Rattle.seg_model.specs.Valid.{names_fit};
     ghost use Rattle.seg_fast_writer.specs.FieldColumns.{AreFieldColumns};
     ghost use Rattle.seg_fast_writer.specs.FirstColumns.{first_columns};
+    ghost use Rattle.seg_fast_writer.specs.PathNumbers.{AreColumnsOf};
     ghost use Rattle.seg_fast_writer.specs.Writing.{AreUnderWay, FastWriting};
 
     ghost Value = { FastWriting };
@@ -44,7 +49,8 @@ impl Model for FastFieldsWriter {
     ghost view = { λ w. record { schema = w.schema; columns = w.columns; rows = w.rows } };
 
     ghost invariant = { λ w. (names_fit w.schema ≡ true) × AreUnderWay w.schema w.rows w.columns
-        × AreFieldColumns (first_columns w.schema) w.schema w.fields.items };
+        × AreFieldColumns (first_columns w.schema) w.schema w.fields.items
+        × IfSome w.paths (λ known. AreColumnsOf known w.columns) };
 }
 
 impl FastFieldsWriter {
@@ -77,6 +83,7 @@ impl FastFieldsWriter {
             schema: schema.share(),
             columns,
             fields,
+            paths: None,
             rows: 0,
         })
     }
@@ -122,6 +129,7 @@ impl FastFieldsWriter {
         ensures same { self.new.schema ≡ self.old.schema }
     {
         let row = self.rows;
+        let known = known_paths(self.alloc, self.paths.take());
         self.schema.fields_are_valid();
         let recorder = RowRecorder {
             alloc: self.alloc,
@@ -131,9 +139,10 @@ impl FastFieldsWriter {
             row,
         };
         self.rows = row + 1;
-        let Ok(()) = recorder.record_document(&mut self.columns, document) else {
+        let Ok(known) = recorder.record_document(&mut self.columns, known, document) else {
             return Err(TantivyError::OutOfMemory);
         };
+        self.paths = Some(known);
         Ok(())
     }
 
@@ -165,6 +174,17 @@ fn lacks_tokenizer<Z: Analyzers>(analyzers: &Z, entry: &FieldEntry) -> bool
     match column_tokenizer(entry) {
         Some(name) => !analyzers.known(name),
         None => false,
+    }
+}
+
+/// What is known of paths: nothing at first, and after an error.
+fn known_paths(alloc: Global, known: Option<PathColumns>) -> PathColumns
+    ensures { (columns : List ColumnRecord) → IfSome known (λ known. AreColumnsOf known columns)
+        → AreColumnsOf result columns }
+{
+    match known {
+        Some(known) => known,
+        None => PathColumns::new(alloc),
     }
 }
 

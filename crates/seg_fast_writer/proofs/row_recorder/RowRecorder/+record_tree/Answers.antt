@@ -1,5 +1,5 @@
 use Rattle.std.proofs.Common.{◌≡◌, ◌<◌, ◌∙◌, List, [], ◌∷◌, ◌++◌, ℕ, suc, refl, sym, ap, subst, arith}
-use Rattle.std.specs.List.{flat_map}
+use Rattle.std.specs.List.{flat_map, join_with_byte}
 use Rattle.seg_columns_recorded.specs.Documents.{with_values}
 use Rattle.seg_fast_writer.specs.FastLeaves.{entry_leaf}
 use Rattle.seg_common.specs.JsonPaths.{written_key}
@@ -11,6 +11,7 @@ use Rattle.seg_model.specs.Leaves.{leaves_at, level_in_array}
 use Rattle.seg_model.specs.Takes.{is_own_array}
 use Rattle.seg_paths.specs.NumberedLeaves.{leaf_in}
 use Rattle.seg_fast_writer.specs.Walking.{IsPlaceOf}
+use Rattle.seg_fast_writer.proofs.Numbering.{can_be_above, key_behind, path_number, still_then, text_number}
 use Rattle.seg_fast_writer.proofs.Placing.{leaf_column}
 use Rattle.seg_fast_writer.proofs.Steps.{can_record_leaf, in_level, popped, recorded_deep, recorded_leaf}
 use Rattle.seg_fast_writer.proofs.Turns.{is_leaf, member_turn, object_json, takes_tree, tree_turn}
@@ -50,7 +51,14 @@ record_tree-requires g t c =
                 (sym c.level_in_array-inner.ensures)
                 (place_in_array entry c.requires.can.keys c.args.level c.args.path.now c.requires.can.place));
           },
-          c.requires.column,
+          (
+            c.requires.column,
+            (
+              inv.known.0,
+              path_number c.loop-at.known.paths c.args.place.number c.args.path.now c.loop-at.path inv.path
+                  (inv.known.1 c.args.place.number (join_with_byte 1 c.args.path.now.keys) c.requires.known.1),
+            ),
+          ),
         ),
       ),
     )
@@ -76,7 +84,15 @@ loop-at-preserved g t c =
           (there keys place).1)
           ∙ inv.recorded keys place;
       under_way = c.record_tree.ensures.under_way;
+      known = still_then c.args.known.now c.loop-at.known c.record_tree.new.known c.loop-at.columns
+          c.record_tree.new.columns inv.known c.in_ok-record_tree-in-Array.ensures.known;
     }
+
+pub key_number-requires : goal.key_number-requires
+key_number-requires g t c =
+    let inv = c.loop-index.invariant in
+    can_be_above c.loop-index.known.paths c.args.place.number (join_with_byte 1 c.args.path.now.keys)
+    (inv.known.1 c.args.place.number (join_with_byte 1 c.args.path.now.keys) c.requires.known.1)
 
 pub record_tree-requires-in-loop-index : goal.record_tree-requires-in-loop-index
 record_tree-requires-in-loop-index g t c =
@@ -104,7 +120,18 @@ record_tree-requires-in-loop-index g t c =
                 (subst (IsPlaceOf entry c.requires.can.keys c.args.level) (sym inv.path) c.requires.can.place) json
                 c.in_ok-push_key-in-Object.ensures;
           },
-          c.requires.column,
+          (
+            c.requires.column,
+            (
+              c.in_ok-number-in-Object.ensures.more.known c.loop-index.columns inv.known.0,
+              key_behind entry c.requires.can.keys c.loop-index.path c.push_key.new.path key
+                  c.in_ok-number-in-Object.number c.key_number.new.self.paths
+                  (inv.path ∙ c.requires.can.place.path_is) c.in_ok-push_key-in-Object.ensures
+                  (c.in_ok-number-in-Object.ensures.number (join_with_byte 1 c.loop-index.path.keys)
+                  (path_number c.loop-index.known.paths c.args.place.number c.args.path.now c.loop-index.path inv.path
+                  (inv.known.1 c.args.place.number (join_with_byte 1 c.args.path.now.keys) c.requires.known.1))),
+            ),
+          ),
         ),
       ),
     )
@@ -136,6 +163,12 @@ loop-index-preserved g t c =
           c.record_tree-in-loop-index.new.columns (there keys place).1)
           ∙ inv.recorded keys place;
       under_way = c.record_tree-in-loop-index.ensures.under_way;
+      known = still_then c.args.known.now c.loop-index.known c.record_tree-in-loop-index.new.known c.loop-index.columns
+          c.record_tree-in-loop-index.new.columns inv.known (
+            c.in_ok-record_tree-in-Object.ensures.known.0,
+            λ number path is. c.in_ok-record_tree-in-Object.ensures.known.1 number path
+                (c.in_ok-number-in-Object.ensures.more.numbers number path is),
+          );
     }
 
 pub record_leaf-requires-clause-can : goal.record_leaf-requires-clause-can
@@ -158,6 +191,13 @@ pub record_leaf-requires-clause-column : goal.record_leaf-requires-clause-column
 record_leaf-requires-clause-column g t c =
     let t = tree_of c.args.value.now in
     leaf_column (g.Z.Analyzers.knows c.args.self.now.analyzers.now) c.args.self.now.schema.now c.args.self.now.row
-    c.args.entry.now c.args.path.now c.args.level t (leaf_in t) c.as_str.result.now c.args.columns.now c.args.column
-    c.requires.can c.requires.column (is_leaf c.args.value.now c.in_default.not-Array c.in_default.not-Object)
-    c.as_str.ensures
+    c.args.entry.now c.args.path.now c.args.level t (leaf_in t) c.as_str.result.now c.args.columns.now
+    c.args.place.column c.requires.can c.requires.column
+    (is_leaf c.args.value.now c.in_default.not-Array c.in_default.not-Object) c.as_str.ensures
+
+pub record_leaf-requires-clause-known : goal.record_leaf-requires-clause-known
+record_leaf-requires-clause-known g t c = (
+  c.requires.known.0,
+  text_number c.args.known.now.paths c.args.place.number c.args.path.now c.as_str.result.now
+      c.as_str.ensures c.requires.known.1,
+)

@@ -5,6 +5,7 @@ use Rattle.seg_values.specs.View.{tree_of}
 use Rattle.seg_model.specs.Leaves.{leaves_of_members, leaves_of_trees, level_in_array}
 use Rattle.seg_columns_recorded.specs.Documents.{with_values}
 use Rattle.seg_fast_writer.specs.FastLeaves.{entry_leaf}
+use Rattle.seg_fast_writer.specs.PathNumbers.{IsKnownStill}
 use Rattle.seg_fast_writer.specs.Walking.{IsPlaceOf}
 use Rattle.seg_fast_writer.specs.Writing.{AreUnderWay}
 use Rattle.seg_fast_writer.proofs.row_recorder.RowRecorder.+record_tree.Given as goal
@@ -22,6 +23,7 @@ invariant-loop-at g l = record {
       ≡ with_values l.self.row (flat_map (entry_leaf (g.Z.Analyzers.tokens_of l.self.analyzers.now) l.entry)
       (leaves_of_trees keys (level_in_array l.level) (trees_from l.values))) l.fn.columns;
   under_way : AreUnderWay l.self.schema.now (l.self.row + 1) l.columns;
+  known : IsKnownStill l.fn.known l.known l.columns;
 }
 
 abbrev pub invariant-loop-index : goal.invariant-loop-index
@@ -33,4 +35,5 @@ invariant-loop-index g l = record {
       ≡ with_values l.self.row (flat_map (entry_leaf (g.Z.Analyzers.tokens_of l.self.analyzers.now) l.entry)
       (leaves_of_members keys (suc l.level) (members_from l.members))) l.fn.columns;
   under_way : AreUnderWay l.self.schema.now (l.self.row + 1) l.columns;
+  known : IsKnownStill l.fn.known l.known l.columns;
 }

@@ -20,4 +20,5 @@ loop-at-preserved g c =
           c.in_ok-record_pair.ensures.recorded ∙ c.loop-at.invariant.recorded;
       taken = (pair_taken schema c.args.document.now c.loop-at.at p c.pair-field.ensures c.loop-at.invariant.taken).1;
       under_way = c.record_pair.ensures.under_way;
+      known = c.in_ok-record_pair.ensures.known;
     }

@@ -2,6 +2,7 @@ use Rattle.std.proofs.Common.{◌≡◌, ◌+◌, drop}
 use Rattle.std.specs.List.{AllByRecursion}
 use Rattle.seg_columns_recorded.specs.Documents.{with_values}
 use Rattle.seg_fast_writer.specs.FastLeaves.{IsTaken, recorded_values}
+use Rattle.seg_fast_writer.specs.PathNumbers.{AreColumnsOf}
 use Rattle.seg_fast_writer.specs.Writing.{AreUnderWay}
 use Rattle.seg_fast_writer.proofs.row_recorder.RowRecorder.record_document.Given as goal
 
@@ -14,4 +15,5 @@ invariant-loop-at g l =
           ≡ with_values l.self.row (recorded_values l.self.schema.now analyzer l.document) l.fn.columns;
       taken : AllByRecursion (IsTaken l.self.schema.now) (drop l.at l.document);
       under_way : AreUnderWay l.self.schema.now (l.self.row + 1) l.columns;
+      known : AreColumnsOf l.known l.columns;
     }

@@ -147,35 +147,35 @@ returns-in-IpAddr-clause-under_way g c =
 
 pub put_number-requires-clause-column : goal.put_number-requires-clause-column
 put_number-requires-clause-column g c =
-    subst (λ v. IsLeafColumn c.args.column c.args.path.now (leaf_in (tree_of v)) c.args.columns.now)
+    subst (λ v. IsLeafColumn c.args.place.column c.args.path.now (leaf_in (tree_of v)) c.args.columns.now)
     c.in-U64.is c.requires.column
 
 pub put_number-requires-in-I64-clause-column : goal.put_number-requires-in-I64-clause-column
 put_number-requires-in-I64-clause-column g c =
-    subst (λ v. IsLeafColumn c.args.column c.args.path.now (leaf_in (tree_of v)) c.args.columns.now)
+    subst (λ v. IsLeafColumn c.args.place.column c.args.path.now (leaf_in (tree_of v)) c.args.columns.now)
     c.in-I64.is c.requires.column
 
 pub put_bool-requires-clause-column : goal.put_bool-requires-clause-column
 put_bool-requires-clause-column g c =
-    subst (λ v. IsLeafColumn c.args.column c.args.path.now (leaf_in (tree_of v)) c.args.columns.now)
+    subst (λ v. IsLeafColumn c.args.place.column c.args.path.now (leaf_in (tree_of v)) c.args.columns.now)
     c.in-Bool.is c.requires.column
 
 pub put_moment-requires-clause-column : goal.put_moment-requires-clause-column
 put_moment-requires-clause-column g c =
-    subst (λ v. IsLeafColumn c.args.column c.args.path.now (leaf_in (tree_of v)) c.args.columns.now)
+    subst (λ v. IsLeafColumn c.args.place.column c.args.path.now (leaf_in (tree_of v)) c.args.columns.now)
     c.in-Date.is c.requires.column
 
 pub put_text-requires-clause-column : goal.put_text-requires-clause-column
 put_text-requires-clause-column g c =
-    subst (λ v. IsLeafColumn c.args.column c.args.path.now (leaf_in (tree_of v)) c.args.columns.now)
+    subst (λ v. IsLeafColumn c.args.place.column c.args.path.now (leaf_in (tree_of v)) c.args.columns.now)
     c.in-Facet.is c.requires.column
 
 pub put_bytes-requires-clause-column : goal.put_bytes-requires-clause-column
 put_bytes-requires-clause-column g c =
-    subst (λ v. IsLeafColumn c.args.column c.args.path.now (leaf_in (tree_of v)) c.args.columns.now)
+    subst (λ v. IsLeafColumn c.args.place.column c.args.path.now (leaf_in (tree_of v)) c.args.columns.now)
     c.in-Bytes.is c.requires.column
 
 pub put_address-requires-clause-column : goal.put_address-requires-clause-column
 put_address-requires-clause-column g c =
-    subst (λ v. IsLeafColumn c.args.column c.args.path.now (leaf_in (tree_of v)) c.args.columns.now)
+    subst (λ v. IsLeafColumn c.args.place.column c.args.path.now (leaf_in (tree_of v)) c.args.columns.now)
     c.in-IpAddr.is c.requires.column

@@ -1,6 +1,7 @@
 use Rattle.std.proofs.Common.{ℕ, [], get_or}
 use Rattle.seg_values.specs.Tree.{Tree}
 use Rattle.seg_values.specs.View.{tree_of}
+use Rattle.seg_fast_writer.proofs.Numbering.{field_path, only_known}
 use Rattle.seg_fast_writer.proofs.Placing.{field_column_in}
 use Rattle.seg_fast_writer.proofs.Steps.{can_record, entry_at, recorded_pair, slow_pair}
 use Rattle.seg_fast_writer.proofs.row_recorder.RowRecorder.record_pair.Goals as goal
@@ -48,3 +49,16 @@ returns-clause-recorded g c =
     c.start_path.new.path c.record_tree.new.path c.args.columns.now c.record_tree.new.columns c.record_tree.result
     (entry_at schema p c.field_id-id.result c.index-self-id.result c.requires.taken c.field_id-id.ensures)
     c.if-not-entry.false c.in_ok-start_path.ensures (c.record_tree.ensures.recorded [])
+
+pub record_tree-requires-clause-known : goal.record_tree-requires-clause-known
+record_tree-requires-clause-known g c =
+    let e = get_or c.args.self.now.schema.now c.field_id-id.result c.index-self-id.result in (
+      c.in_ok-number.ensures.more.known c.args.columns.now c.requires.known,
+      field_path e c.start_path.new.path c.as_str.result.now c.in_ok-number.number c.field_number.new.self.paths
+          c.in_ok-start_path.ensures c.as_str.ensures c.in_ok-number.ensures.number,
+    )
+
+pub returns-clause-known : goal.returns-clause-known
+returns-clause-known g c =
+    only_known c.record_tree.new.known c.field_number.new.self c.record_tree.new.columns c.record_tree.result
+    c.record_tree.ensures.known

@@ -4,6 +4,7 @@ use Rattle.seg_model.specs.Columns.{token_texts}
 use Rattle.seg_columns_recorded.specs.declared.value_kind.ValueKind.TheVariants.{Str}
 use Rattle.seg_fast_writer.specs.FieldColumns.{IsColumnOf}
 use Rattle.seg_fast_writer.specs.FastLeaves.{values_under}
+use Rattle.seg_fast_writer.specs.PathNumbers.{IsKnownStill}
 use Rattle.seg_fast_writer.specs.Writing.{AreUnderWay}
 use Rattle.seg_fast_writer.proofs.row_recorder.RowRecorder.record_tokens.Given as goal
 
@@ -12,6 +13,7 @@ abbrev pub invariant-loop-token : goal.invariant-loop-token
 invariant-loop-token g l = record {
   recorded : with_values l.self.row (values_under l.path (token_texts (drop l.token-index l.tokens))) l.columns
       ≡ with_values l.self.row (values_under l.path (token_texts l.tokens)) l.fn.columns;
-  column : IsColumnOf l.column l.path Str l.columns;
+  column : IsColumnOf l.place.column l.path Str l.columns;
   under_way : AreUnderWay l.self.schema.now (l.self.row + 1) l.columns;
+  known : IsKnownStill l.fn.known l.known l.columns;
 }

@@ -1,5 +1,7 @@
 use Rattle.std.proofs.Common.{◌+◌, refl, subst, sym}
+use Rattle.std.specs.Prelude.{IfSome}
 use Rattle.seg_model.specs.Fields.{Schema}
+use Rattle.seg_fast_writer.specs.PathNumbers.{AreColumnsOf}
 use Rattle.seg_fast_writer.specs.Writing.{AreUnderWay, FastWriting}
 use Rattle.seg_fast_writer.proofs.Steps.{document_added, document_taken, under_way_more}
 use Rattle.seg_fast_writer.proofs.writer.FastFieldsWriter.add_pairs.Goals as goal
@@ -20,6 +22,12 @@ pub record_document-requires-clause-under_way : goal.record_document-requires-cl
 record_document-requires-clause-under_way g c =
     subst (λ (s : Schema). AreUnderWay s (c.self.inside.rows + 1) c.self.inside.columns) (sym c.fields.ensures)
     (under_way_more c.self.inside.schema c.self.inside.rows c.self.inside.columns c.self.invariant.1)
+
+pub record_document-requires-clause-known : goal.record_document-requires-clause-known
+record_document-requires-clause-known g c =
+    c.known_paths-known.ensures c.self.inside.columns
+    (subst (λ paths. IfSome paths (λ known. AreColumnsOf known c.self.inside.columns)) (sym c.take.ensures.value)
+    c.self.invariant.3)
 
 pub returns-clause-ok : goal.returns-clause-ok
 returns-clause-ok g c =

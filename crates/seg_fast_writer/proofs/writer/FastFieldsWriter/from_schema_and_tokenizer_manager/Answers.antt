@@ -13,4 +13,5 @@ invariant_of-result g c =
       shared_columns c.args.schema.now c.share.result c.fields-2.result.now c.fields-3.result.now c.in-Ok.columns
           c.in-Ok-field_columns.fields.items c.share.ensures c.fields-2.ensures c.fields-3.ensures c.in-Ok.ensures
           c.in-Ok-field_columns.ensures.ids,
+      tt,
     )
