@@ -1,1 +1,2 @@
+pub mod PathStarts
 pub mod SchemaColumns

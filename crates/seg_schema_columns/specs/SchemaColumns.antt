@@ -1,7 +1,7 @@
 -- Which columns a segment has by its schema: each that is declared, and others of JSON fields alone.
-use Rattle.std.specs.Prelude.{◌≡◌, ℕ, ◌<◌, ◌≤◌, ◌&&◌, ◌||◌, not, Bool, true, false, List, [], ◌∷◌, length, get_or, Option, Some, None, is_some, nat_eq, nat_lt}
+use Rattle.std.specs.Prelude.{◌≡◌, ℕ, ◌<◌, ◌&&◌, ◌||◌, not, Bool, true, false, List, [], ◌∷◌, length, get_or, Option, Some, None, is_some, nat_eq}
 use Rattle.std.specs.FinMap.{get}
-use Rattle.std.specs.List.{AllByRecursion, list_all, list_any, slice_get}
+use Rattle.std.specs.List.{list_all, list_any, slice_get}
 use Rattle.std.specs.Str.{bytes_eq}
 use Rattle.seg_common.specs.declared.column_type.ColumnType.{ColumnType}
 use Rattle.seg_common.specs.declared.column_type.ColumnType.TheVariants.{I64, U64}
@@ -45,20 +45,9 @@ pub record HoldColumns (schema : Schema) (documents : ℕ) (bytes : List ℕ) : 
 abbrev pub is_path_of : List ℕ → FieldEntry → Bool
 is_path_of path e = bytes_eq e.name path || is_below e.name path
 
--- whether it is below a field whose name has this length, or one below this
-abbrev pub is_below_at : ℕ → List ℕ → FieldEntry → Bool
-is_below_at at path e = nat_eq (length e.name) at && is_below e.name path
-
-abbrev pub is_below_within : ℕ → List ℕ → FieldEntry → Bool
-is_below_within at path e = nat_lt (length e.name) at && is_below e.name path
-
 -- whether a field is a fast JSON field
 abbrev pub is_fast_json : FieldEntry → Bool
 is_fast_json e = e.fast && is_json e.kind
-
--- no name of a fast JSON field is longer than this
-abbrev pub AreNamesWithin : ℕ → Schema → Type 0
-AreNamesWithin longest schema = AllByRecursion (λ e. is_fast_json e ≡ true → length e.name ≤ longest) schema
 
 abbrev pub is_json_path : Schema → List ℕ → Bool
 is_json_path schema path = list_any (λ e. is_fast_json e && is_path_of path e) schema

@@ -1,10 +1,13 @@
 //! All columns of a file, by a schema.
 ghost use Rattle.std.specs.Prelude.{◌≡◌, ◌||◌, false, length, not, replicate, IfOk};
 ghost use Rattle.seg_columns.specs.DynamicColumns.{type_of};
+ghost use Rattle.seg_schema_columns.specs.PathStarts.{AreStarts};
 ghost use Rattle.seg_schema_columns.specs.SchemaColumns as spec;
 
 use crate::declared::{declaring_field, has_declared};
-use crate::json_paths::{is_json_path, longest_name};
+use crate::json_paths::is_json_path;
+use crate::path_start::PathStart;
+use crate::path_starts::path_starts;
 use crate::values::{has_value, is_json_type};
 use seg_columnar::ColumnarReader;
 use seg_columns::DynamicColumnHandle;
@@ -12,7 +15,8 @@ use seg_values::{FieldEntry, Schema};
 use std::alloc::{AllocError, Global};
 
 /// Whether a file has each column that is declared, and no others but those of JSON fields that have a value. It takes
-/// a byte for each field, and gives it back.
+/// a byte for each field and the names of fast JSON fields, and gives them back; its time is the bytes of the paths
+/// times the logarithm of the number of these fields, beside what the values cost.
 pub(crate) fn suits(
     alloc: Global,
     columnar: &ColumnarReader,
@@ -20,10 +24,23 @@ pub(crate) fn suits(
 ) -> Result<bool, AllocError>
     ensures { IfOk result (λ b. b ≡ spec.suits schema.now columnar.now.columns) }
 {
-    let longest = longest_name(schema.fields());
+    let starts = path_starts(alloc, schema.fields())?;
+    all_suit(alloc, columnar, schema, &starts)
+}
+
+/// The same, where it is known what the paths below fast JSON fields begin with.
+fn all_suit(
+    alloc: Global,
+    columnar: &ColumnarReader,
+    schema: &Schema,
+    starts: &[PathStart],
+) -> Result<bool, AllocError>
+    requires { AreStarts schema.now starts.now }
+    ensures { IfOk result (λ b. b ≡ spec.suits schema.now columnar.now.columns) }
+{
     let mut found = unmarked(alloc, schema.num_fields())?;
     for (path, handle) in columnar.iter_columns() {
-        if !suits_one(schema, longest, path, &handle, &mut found) {
+        if !suits_one(schema, starts, path, &handle, &mut found) {
             return Ok(false);
         }
     }
@@ -33,12 +50,12 @@ pub(crate) fn suits(
 /// Whether a column may be there. The field that declares it is marked, if there is one.
 fn suits_one(
     schema: &Schema,
-    longest: usize,
+    starts: &[PathStart],
     path: &str,
     handle: &DynamicColumnHandle,
     found: &mut Vec<bool>,
 ) -> bool
-    requires within { spec.AreNamesWithin longest schema.now }
+    requires starts { AreStarts schema.now starts.now }
     requires as_many { length found.old.items ≡ length schema.now }
     ensures suited { result ≡ spec.is_suited schema.now (record { path = path.now; stored = handle.now }) }
     ensures marks { spec.AreMarkedToo schema.now path.now (type_of (handle.now).column)
@@ -49,7 +66,7 @@ fn suits_one(
             found[field] = true;
             true
         }
-        None => is_free(schema, longest, path, handle),
+        None => is_free(schema, starts, path, handle),
     }
 }
 
@@ -62,12 +79,12 @@ fn unmarked(alloc: Global, count: usize) -> Result<Vec<bool>, AllocError>
 }
 
 /// Whether a column may be there that isn't declared.
-fn is_free(schema: &Schema, longest: usize, path: &str, handle: &DynamicColumnHandle) -> bool
-    requires { spec.AreNamesWithin longest schema.now }
+fn is_free(schema: &Schema, starts: &[PathStart], path: &str, handle: &DynamicColumnHandle) -> bool
+    requires { AreStarts schema.now starts.now }
     ensures { result ≡ spec.is_free schema.now (record { path = path.now; stored = handle.now }) }
 {
     is_json_type(handle.column_type())
-        && is_json_path(schema, longest, path)
+        && is_json_path(schema, starts, path)
         && has_value(&handle.open())
 }
 

@@ -1,7 +1,7 @@
 use Rattle.std.proofs.Common.{sym, ◌∙◌}
 use Rattle.seg_schema_columns.specs.SchemaColumns.{is_fast_json}
 use Rattle.seg_schema_columns.proofs.NamedFields.{alone, asked_alone, no_field}
-use Rattle.seg_schema_columns.proofs.json_paths.is_named.Goals as goal
+use Rattle.seg_schema_columns.proofs.json_fields.is_named.Goals as goal
 
 pub returns-in_default : goal.returns-in_default
 returns-in_default c = sym (no_field c.args.name.now is_fast_json c.args.schema.now c.in_default.ensures.err.1)

@@ -4,7 +4,7 @@ use Rattle.std.specs.List.{list_all}
 use Rattle.seg_columnar.specs.ColumnFiles.{NamedColumn}
 use Rattle.seg_schema_columns.specs.SchemaColumns.{all_marked, has_column, is_suited}
 use Rattle.seg_schema_columns.proofs.Marks.{all_found, fewer_left, left_suits}
-use Rattle.seg_schema_columns.proofs.suiting.suits.Goals as goal
+use Rattle.seg_schema_columns.proofs.suiting.all_suit.Goals as goal
 
 pub loop-path-preserved-else-not-suits_one : goal.loop-path-preserved-else-not-suits_one
 loop-path-preserved-else-not-suits_one c =
@@ -14,7 +14,6 @@ loop-path-preserved-else-not-suits_one c =
     record {
       can = tt;
       finite = tt;
-      within = so_far.within;
       as_many = too.as_many ∙ so_far.as_many;
       suited = left_suits c.args.schema.now column c.loop-path.path-iterator c.next.new.self c.in-Some.ensures.steps
           (sym c.if-not-suits_one.ensures.suited) ∙ so_far.suited;
@@ -32,7 +31,6 @@ loop-path-preserved c =
     record {
       can = tt;
       finite = tt;
-      within = so_far.within;
       as_many = too.as_many ∙ so_far.as_many;
       suited = left_suits c.args.schema.now column c.loop-path.path-iterator c.next.new.self c.in-Some.ensures.steps
           (sym c.if-not-suits_one.ensures.suited) ∙ so_far.suited;
@@ -46,7 +44,7 @@ pub returns : goal.returns
 returns c =
     let so_far = c.loop-path.invariant in
     c.all_there.ensures
-    ∙ (λ j. all_marked (c.fields-2.ensures j) (c.as_slice.ensures.value j))
+    ∙ (λ j. all_marked (c.fields.ensures j) (c.as_slice.ensures.value j))
     ∙ all_found c.args.schema.now c.args.columnar.now.columns c.loop-path.found.items so_far.as_many
     (ap (list_all (is_suited c.args.schema.now)) (sym c.in-None.ensures.steps.0) ∙ so_far.suited)
     (λ i e at. ap (λ (l : List NamedColumn). slice_index_or c.loop-path.found.items i false || has_column l e) (sym c.in-None.ensures.steps.0)
