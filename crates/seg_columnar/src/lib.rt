@@ -4,9 +4,11 @@
 //! type. Only the file without columns is written so far.
 //!
 //! To be read in this order: `format`; `writer`, `empty`; `entry`, `table_check`, `columns_check`, `footer`;
-//! `column_iter`, `selection`, `reader`; `row_addr` (a row of one of several files).
+//! `column_iter`, `selection`, `reader`; `row_addr` (a row of one of several files); `associated_type` (the type of the
+//! columns that have values of a Rust type).
 #![tactic(auto)]
 
+mod associated_type;
 mod column_iter;
 mod columns_check;
 mod empty;
@@ -19,6 +21,7 @@ mod selection;
 mod table_check;
 mod writer;
 
+pub use associated_type::HasAssociatedColumnType;
 pub use column_iter::ColumnIter;
 pub use empty::rows_without_columns;
 pub use reader::ColumnarReader;

@@ -1,6 +1,6 @@
 mod EndsLemmas
 mod Marking
-mod RowSteps
+pub mod RowSteps
 mod StoredNumbers
 mod TermLemmas
 mod TermOrder

@@ -59,6 +59,14 @@ impl<T: ColumnValue> Column<T> {
         self.num_docs
     }
 
+    /// The bytes that were opened.
+    pub fn as_bytes(&self) -> &[u8]
+        ensures column { IsColumn T.WIDTH T.decoded (length self.now) result.now }
+        ensures rows { rows_of T.WIDTH T.decoded (length self.now) result.now ≡ self.now }
+    {
+        self.bytes.as_slice()
+    }
+
     /// The values of a document: two ends are read, and no memory is taken.
     pub fn values_for_doc(&self, doc: u32) -> ColumnValues<'_, T>
         requires { doc < length self.now }

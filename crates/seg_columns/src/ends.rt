@@ -9,7 +9,7 @@ pub(crate) const END: usize = 8;
 
 /// Where a part begins.
 #[tactic(auto, unfolding(crate::specs::Ends::start_at))]
-pub(crate) fn start_at(ends: &[u8], part: usize) -> u64
+pub fn start_at(ends: &[u8], part: usize) -> u64
     requires { 8 * part ≤ length ends.now }
     ensures { result ≡ spec.start_at ends.now part }
 {

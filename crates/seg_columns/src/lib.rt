@@ -5,10 +5,9 @@
 //!
 //! To be read in this order: `error`; `column_value`, `ip_value`; `ends`, `column_check`, `column_values`, `column`;
 //! `first_or_default`; `terms`, `dictionary_check`, `dictionary`; `used_ordinals`, `term_column`; `bytes_column`,
-//! `str_column`; `dynamic_column`, `associated_type`; `type_check`, `lenient`, `handle`.
+//! `str_column`; `dynamic_column`; `type_check`, `lenient`, `handle`.
 #![tactic(auto)]
 
-mod associated_type;
 mod bytes_column;
 mod column;
 mod column_check;
@@ -29,7 +28,6 @@ mod terms;
 mod type_check;
 mod used_ordinals;
 
-pub use associated_type::HasAssociatedColumnType;
 pub use bytes_column::BytesColumn;
 pub use column::Column;
 pub use column_check::is_column;
@@ -37,6 +35,7 @@ pub use column_value::ColumnValue;
 pub use column_values::ColumnValues;
 pub use dictionary::Dictionary;
 pub use dynamic_column::DynamicColumn;
+pub use ends::start_at;
 pub use error::ColumnError;
 pub use first_or_default::ColumnFirstOrDefault;
 pub use handle::DynamicColumnHandle;

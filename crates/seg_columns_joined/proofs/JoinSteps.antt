@@ -1,6 +1,6 @@
 -- Bytes of values that are added one after the other.
 use Rattle.std.proofs.Common.{◌≡◌, ℕ, ◌+◌, List, [], ◌∷◌, ◌++◌, length, map, refl, sym, ap, ◌∙◌, append_assoc, arith}
-use Rattle.std.specs.Prelude.{OnOk, Result, Ok, Err}
+use Rattle.std.specs.Prelude.{OnOk, Result, Ok, Err, cond, is_ok}
 use Rattle.std.specs.List.{flat_map}
 use Rattle.std.specs.Int.{w64, to_le_bytes}
 use Rattle.seg_columns_written.specs.ColumnBytes.{ends_from, number_bytes, total}
@@ -50,3 +50,8 @@ on_ok_then (Err e) f h = tt
 pub on_ok_always : {T E : Type 0} {P : Type 0} (r : Result T E) → P → OnOk r P
 on_ok_always (Ok x) h = h
 on_ok_always (Err e) h = tt
+
+pub on_ok_cond : {T E : Type 0} (r : Result T E) (new more old : List ℕ) → new ≡ cond (is_ok r) more old
+    → OnOk r (new ≡ more)
+on_ok_cond (Ok x) new more old h = h
+on_ok_cond (Err e) new more old h = tt

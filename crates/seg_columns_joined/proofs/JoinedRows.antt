@@ -8,7 +8,7 @@ use Rattle.seg_columns.specs.Images.{value_of_image}
 use Rattle.seg_columns_written.specs.ColumnBytes.{IsReadAs, column_bytes, ends_from, number_bytes, total}
 use Rattle.seg_columns_written.proofs.ColumnLaws.{is_column, rows_read_as}
 use Rattle.seg_columns_written.proofs.TermLaws.{image_read}
-use Rattle.seg_columns_joined.specs.RowOrders.{Place}
+use Rattle.seg_row_order.specs.RowOrders.{Place}
 use Rattle.seg_columns_joined.specs.Sources.{joined, mapped, row_codes}
 use Rattle.seg_columns_joined.specs.JoinedNumbers.{IsNumeric, joined_numbers, row_numbers}
 use Rattle.seg_columns_joined.specs.declared.source.Source.{Source}

@@ -4,8 +4,8 @@ use mathlib.Core.Bool.{false≢true}
 use Rattle.std.specs.Prelude.{◌&&◌, nat_eq}
 use Rattle.std.specs.List.{list_any}
 use Rattle.std.proofs.lemmas.Bool.Decides.{nat_tests}
-use Rattle.seg_columns_joined.specs.RowOrders.{Place}
-use Rattle.seg_columns_joined.specs.KeptRows.{AreMarks, is_kept, kept_values}
+use Rattle.seg_row_order.specs.RowOrders.{Place}
+use Rattle.seg_row_order.specs.KeptRows.{AreMarks, is_kept, kept_values}
 
 same_bool : (a b : Bool) → (a ≡ true → b ≡ true) → (b ≡ true → a ≡ true) → a ≡ b
 same_bool true b f g = sym (f refl)

@@ -5,7 +5,7 @@ use Rattle.std.specs.List.{list_any}
 use Rattle.std.proofs.lemmas.List.{drop_more, drop_all}
 use Rattle.seg_columns_joined.specs.declared.number_range.NumberRange.{NumberRange}
 use Rattle.seg_columns_joined.specs.KeptColumns.{there}
-use Rattle.seg_columns_joined.specs.KeptRows.{kept_values}
+use Rattle.seg_row_order.specs.KeptRows.{kept_values}
 use Rattle.seg_columns_joined.specs.NumberRanges.{with_all}
 
 module _ {T : Type 0} (kept : List Bool) (rows : List (List T)) (i : ℕ) where

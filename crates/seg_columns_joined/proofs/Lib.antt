@@ -1,5 +1,5 @@
-mod Answering
 pub mod Exports
+mod FirstRows
 mod HeadCalls
 mod HeadLemmas
 mod HeadSteps
@@ -7,13 +7,11 @@ mod ImageLaws
 mod JoinSteps
 mod JoinedRows
 mod KeptAny
-mod KeptMarks
 mod KeptSteps
 mod MergedRows
 mod NumberTypes
 mod OrdinalMarks
 mod RangeLaws
-mod RowSteps
-mod StackedMarks
 mod TableSteps
 mod TermOrder
+mod ValueSteps

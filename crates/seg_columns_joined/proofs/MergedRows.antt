@@ -11,7 +11,7 @@ use Rattle.seg_columns.specs.DynamicColumns.{type_of}
 use Rattle.seg_columns.specs.TermColumns.{TermColumn}
 use Rattle.seg_columns.specs.declared.dynamic_column.DynamicColumn.{DynamicColumn}
 use Rattle.seg_columns.specs.declared.dynamic_column.DynamicColumn.TheVariants as columns
-use Rattle.seg_columns_joined.specs.KeptRows.{kept_values}
+use Rattle.seg_row_order.specs.KeptRows.{kept_values}
 use Rattle.seg_columns_joined.specs.MergedTerms.{AreMerged, AreRowNumbers, HasTexts, IsUsedTerm, ords_in, terms_in}
 use Rattle.seg_columns_joined.specs.TermHeads.{AreMergedTerms, IsTermOf, column_at}
 use Rattle.seg_columns_joined.specs.UsedOrdinals.{AreUsed}

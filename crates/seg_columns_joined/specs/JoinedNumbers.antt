@@ -1,6 +1,6 @@
 -- The numbers that are written for the rows of a merged column.
 use Rattle.std.specs.Prelude.{ℕ, List, [], map, get_or}
-use Rattle.seg_columns_joined.specs.RowOrders.{Place}
+use Rattle.seg_row_order.specs.RowOrders.{Place}
 use Rattle.seg_columns_joined.specs.Sources.{mapped}
 use Rattle.seg_columns_joined.specs.declared.source.Source.{Source}
 use Rattle.seg_columns_joined.specs.declared.source.Source.TheVariants.{Nothing, Numbers, Addresses}

@@ -7,7 +7,7 @@ use Rattle.std.specs.List.{list_any}
 use Rattle.seg_columns.specs.declared.dynamic_column.DynamicColumn.{DynamicColumn}
 use Rattle.seg_columns.specs.declared.dynamic_column.DynamicColumn.TheVariants as columns
 use Rattle.seg_columns_joined.specs.declared.number_range.NumberRange.{NumberRange}
-use Rattle.seg_columns_joined.specs.KeptRows.{kept_values}
+use Rattle.seg_row_order.specs.KeptRows.{kept_values}
 use Rattle.seg_columns_joined.specs.NumberRanges.{with_all, with_signed, with_unsigned}
 use Rattle.seg_columns_joined.specs.declared.tables.FileColumn.{FileColumn}
 

@@ -3,10 +3,8 @@ pub mod HeadHeaps
 pub mod ImageValues
 pub mod JoinedNumbers
 pub mod KeptColumns
-pub mod KeptRows
 pub mod MergedTerms
 pub mod NumberRanges
-pub mod RowOrders
 pub mod Sources
 pub mod Tables
 pub mod TermHeads

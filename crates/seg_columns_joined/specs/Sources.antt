@@ -1,8 +1,9 @@
 -- The rows of a column of one file, as they are written.
 use Rattle.std.specs.Prelude.{ℕ, ◌+◌, ◌-◌, ◌^◌, ◌<◌, ◌≤◌, List, [], All, length, map, get_or}
 use Rattle.std.specs.Int.{w64, to_le_bytes}
+use Rattle.std.specs.List.{range_with_len}
 use Rattle.std.specs.Net.Addr.{ipv6_octets}
-use Rattle.seg_columns_joined.specs.RowOrders.{Place}
+use Rattle.seg_row_order.specs.RowOrders.{Place}
 use Rattle.seg_columns_joined.specs.declared.number_map.NumberMap.{NumberMap}
 use Rattle.seg_columns_joined.specs.declared.number_map.NumberMap.TheVariants.{Same, Raised, Lowered, Ordinals}
 use Rattle.seg_columns_joined.specs.declared.source.Source.{Source}
@@ -37,6 +38,14 @@ abbrev pub CanPut : Source → ℕ → Type 0
 CanPut Nothing row = Unit {0}
 CanPut (Numbers source) row = (row < length source.numbers) × All (CanMap source.written) (get_or source.numbers row [])
 CanPut (Addresses rows) row = row < length rows
+
+-- so it is of so many rows from the first on
+abbrev pub CanPutFirst : Source → ℕ → Type 0
+CanPutFirst source rows = (row : ℕ) → row < rows → CanPut source row
+
+-- the bytes of each value of these rows
+abbrev pub first_rows : Source → ℕ → List (List (List ℕ))
+first_rows source rows = map (row_codes source) (range_with_len 0 rows)
 
 -- the file of a place is there, and has such a row
 pub record IsPut (sources : List Source) (place : Place) : Type 0 where

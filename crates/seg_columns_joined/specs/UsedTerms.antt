@@ -3,7 +3,7 @@ use Rattle.std.specs.Prelude.{◌≡◌, ℕ, ◌<◌, ◌≤◌, Bool, true, fa
 use Rattle.seg_columns.specs.declared.dynamic_column.DynamicColumn.{DynamicColumn}
 use Rattle.seg_columns.specs.declared.dynamic_column.DynamicColumn.TheVariants as columns
 use Rattle.seg_columns_joined.specs.MergedTerms.{HasTexts, kept_ords, ords_in, row_terms, terms_in}
-use Rattle.seg_columns_joined.specs.KeptRows.{kept_values}
+use Rattle.seg_row_order.specs.KeptRows.{kept_values}
 use Rattle.seg_columns_joined.specs.UsedOrdinals.{AreUsed}
 use Rattle.seg_columns_joined.specs.declared.tables.FileColumn.{FileColumn}
 

@@ -1,13 +1,13 @@
 //! The bytes of a column that has rows of several files.
-ghost use Rattle.std.specs.Prelude.{◌≡◌, ◌^◌, ◌<◌, ◌++◌, All, OnOk};
+ghost use Rattle.std.specs.Prelude.{◌≡◌, ◌^◌, ◌<◌, ◌++◌, ℕ, All, OnOk};
 ghost use Rattle.std.specs.List.{flat_map};
 ghost use Rattle.seg_columns_written.specs.ColumnBytes.{column_bytes, ends_from, number_bytes, total};
-ghost use Rattle.seg_columns_joined.specs.RowOrders.{rows_in_order};
+ghost use Rattle.seg_row_order.specs.RowOrders.{rows_from, rows_in_order, stacked};
 ghost use Rattle.seg_columns_joined.specs.Sources.{IsPut, joined};
 
-use crate::row_order::{MergeRowOrder, OrderedRows};
 use crate::source::Source;
 use seg_common::put_u64;
+use seg_row_order::{MergeRowOrder, OrderedRows};
 use std::alloc::AllocError;
 
 /// Adds the bytes of a column with the rows of files in an order, each from the source of its file.
@@ -23,7 +23,53 @@ pub fn put_joined(
     ensures few { OnOk result (total (joined sources.now (rows_in_order counts.now order.now)) < 2 ^ 64) }
 {
     put_row_ends(OrderedRows::new(counts, order), sources, out)?;
-    put_rows(OrderedRows::new(counts, order), sources, out)
+    put_values(counts, order, sources, out)
+}
+
+/// Adds the values of the rows of files in an order.
+fn put_values(
+    counts: &[u32],
+    order: &MergeRowOrder,
+    sources: &[Source],
+    out: &mut Vec<u8>,
+) -> Result<(), AllocError>
+    requires { All (IsPut sources.now) (rows_in_order counts.now order.now) }
+    ensures { OnOk result (out.new.items
+        ≡ out.old.items ++ flat_map (flat_map (λ code. code)) (joined sources.now (rows_in_order counts.now order.now))) }
+{
+    match order {
+        MergeRowOrder::Stack => put_stacked(counts, sources, out),
+        MergeRowOrder::Shuffled(_) => put_rows(OrderedRows::new(counts, order), sources, out),
+    }
+}
+
+/// Adds the values of all rows, file by file.
+fn put_stacked(counts: &[u32], sources: &[Source], out: &mut Vec<u8>) -> Result<(), AllocError>
+    requires { All (IsPut sources.now) (stacked 0 counts.now) }
+    ensures { OnOk result (out.new.items
+        ≡ out.old.items ++ flat_map (flat_map (λ code. code)) (joined sources.now (stacked 0 counts.now))) }
+{
+    for file in 0..counts.len() {
+        put_file(sources, file, counts[file], out)?;
+    }
+    Ok(())
+}
+
+/// Adds the values of all rows of a file, which has so many.
+fn put_file(
+    sources: &[Source],
+    file: usize,
+    count: u32,
+    out: &mut Vec<u8>,
+) -> Result<(), AllocError>
+    requires { (row : ℕ) → row < count → IsPut sources.now (file, row) }
+    ensures { OnOk result (out.new.items
+        ≡ out.old.items ++ flat_map (flat_map (λ code. code)) (joined sources.now (rows_from file 0 count))) }
+{
+    if count == 0 {
+        return Ok(());
+    }
+    sources[file].put_first(count, out)
 }
 
 /// Adds how many values there are up to each row and with it.

@@ -2,7 +2,7 @@
 ghost use Rattle.std.specs.Prelude.{◌≡◌, ◌<◌, [], get_or, if◌then◌else◌, length};
 ghost use Rattle.std.specs.List.{list_any};
 ghost use Rattle.seg_columns_joined.specs.KeptColumns.{row_count_of, range_with, any_kept_value, there};
-ghost use Rattle.seg_columns_joined.specs.KeptRows.{kept_values};
+ghost use Rattle.seg_row_order.specs.KeptRows.{kept_values};
 
 use crate::number_range::NumberRange;
 use seg_columns::{Column, ColumnValue, DynamicColumn, DynamicColumnHandle};

@@ -14,9 +14,9 @@ ghost use Rattle.seg_columns_joined.specs.ColumnSources.{number_map};
 ghost use Rattle.seg_columns_joined.specs.ImageValues.{value_in};
 ghost use Rattle.seg_columns_joined.specs.JoinedNumbers.{IsNumeric, joined_numbers};
 ghost use Rattle.seg_columns_joined.specs.KeptColumns.{there};
-ghost use Rattle.seg_columns_joined.specs.KeptRows.{AreMarks, kept_values};
+ghost use Rattle.seg_row_order.specs.KeptRows.{AreMarks, kept_values};
 ghost use Rattle.seg_columns_joined.specs.NumberRanges.{is_large, type_of_range, with_all, with_signed, with_unsigned};
-ghost use Rattle.seg_columns_joined.specs.RowOrders.{Place};
+ghost use Rattle.seg_row_order.specs.RowOrders.{Place};
 ghost use Rattle.seg_columns_joined.specs.Sources.{CanMap, joined, mapped};
 
 /// The range of numbers tells their type, as the model has it.

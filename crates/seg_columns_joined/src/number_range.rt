@@ -1,6 +1,6 @@
 //! What the numbers of a path are, so that their type is known before any is written.
 ghost use Rattle.std.specs.Prelude.{◌≡◌, ◌||◌, [], if◌then◌else◌, length};
-ghost use Rattle.seg_columns_joined.specs.KeptRows.{kept_values};
+ghost use Rattle.seg_row_order.specs.KeptRows.{kept_values};
 ghost use Rattle.seg_columns_joined.specs.NumberRanges as spec;
 
 use seg_columns::{Column, ColumnValues};

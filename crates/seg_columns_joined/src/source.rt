@@ -1,10 +1,11 @@
 //! The rows of a column of one file, as they are written.
-ghost use Rattle.std.specs.Prelude.{◌≡◌, ◌+◌, ◌^◌, ◌<◌, ◌++◌, All, length, IfSome, OnOk};
+ghost use Rattle.std.specs.Prelude.{◌≡◌, ◌+◌, ◌^◌, ◌<◌, ◌≤◌, ◌++◌, All, length, take, IfSome, OnOk};
 ghost use Rattle.std.specs.List.{flat_map};
 ghost use Rattle.std.specs.Net.Addr.{ipv6_octets};
-ghost use Rattle.seg_columns_joined.specs.Sources.{CanMap, CanPut, number_code, row_codes};
+ghost use Rattle.seg_columns_joined.specs.Sources.{CanMap, CanPut, CanPutFirst, first_rows, number_code, row_codes};
 
 use crate::number_map::NumberMap;
+use crate::value_bytes::{address_bytes, number_bytes};
 use seg_columns::{Column, ColumnValue, ColumnValues};
 use seg_common::put_u64;
 use std::alloc::AllocError;
@@ -50,6 +51,56 @@ impl Source {
                 put_numbers(source.numbers.values_for_doc(row), &source.written, out)
             }
             Source::Addresses(column) => put_addresses(column.values_for_doc(row), out),
+        }
+    }
+
+    /// Adds the bytes of the values of so many rows from the first on: as one slice, where all are written as they are.
+    pub fn put_first(&self, rows: u32, out: &mut Vec<u8>) -> Result<(), AllocError>
+        requires { CanPutFirst self.now rows }
+        ensures { OnOk result (out.new.items
+            ≡ out.old.items ++ flat_map (flat_map (λ code. code)) (first_rows self.now rows)) }
+    {
+        if let Some(bytes) = self.first_bytes(rows) {
+            return out.extend_from_slice(bytes);
+        }
+        self.put_each(rows, out)
+    }
+
+    /// These bytes, where they stand in the file.
+    fn first_bytes(&self, rows: u32) -> Option<&[u8]>
+        requires { CanPutFirst self.now rows }
+        ensures { IfSome result (λ bytes. bytes.now ≡ flat_map (flat_map (λ code. code)) (first_rows self.now rows)) }
+    {
+        match self {
+            Source::Nothing => Some(&[]),
+            Source::Numbers(source) => source.first_bytes(rows),
+            Source::Addresses(column) => Some(address_bytes(column, rows)),
+        }
+    }
+
+    /// Adds them row by row.
+    fn put_each(&self, rows: u32, out: &mut Vec<u8>) -> Result<(), AllocError>
+        requires { CanPutFirst self.now rows }
+        ensures { OnOk result (out.new.items
+            ≡ out.old.items ++ flat_map (flat_map (λ code. code)) (first_rows self.now rows)) }
+    {
+        for row in 0..rows {
+            self.put(row, out)?;
+        }
+        Ok(())
+    }
+}
+
+impl NumberSource {
+    /// The bytes of the numbers of so many rows from the first on, where they stand in the file as they are written.
+    fn first_bytes(&self, rows: u32) -> Option<&[u8]>
+        requires { rows ≤ length self.now.numbers }
+        ensures { IfSome result (λ bytes. bytes.now
+            ≡ flat_map (flat_map (λ n. number_code self.now.written n)) (take rows self.now.numbers)) }
+    {
+        match self.written {
+            NumberMap::Same => Some(number_bytes(&self.numbers, rows)),
+            _ => None,
         }
     }
 }

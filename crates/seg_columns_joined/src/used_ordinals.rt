@@ -2,7 +2,7 @@
 ghost use Rattle.std.specs.Prelude.{◌≡◌, ◌<◌, ◌||◌, ℕ, true, false, [], All, get_or, if◌then◌else◌, length, nat_eq, replicate, IfOk};
 ghost use Rattle.std.specs.List.{list_all, list_any};
 ghost use Rattle.seg_columns.specs.TermColumns.{UsesEach};
-ghost use Rattle.seg_columns_joined.specs.KeptRows.{kept_values};
+ghost use Rattle.seg_row_order.specs.KeptRows.{kept_values};
 ghost use Rattle.seg_columns_joined.specs.UsedOrdinals.{AreUsed};
 
 use seg_columns::{Column, ColumnValues};

@@ -5,15 +5,15 @@ ghost use Rattle.std.specs.List.{AllZip};
 ghost use Rattle.std.specs.List.Sorted.{IsStrictlySortedBy};
 ghost use Rattle.std.specs.Ordering.{nat_cmp};
 ghost use Rattle.seg_columns_joined.specs.KeptColumns.{HasRows, row_count_of};
-ghost use Rattle.seg_columns_joined.specs.KeptRows.{kept_values};
+ghost use Rattle.seg_row_order.specs.KeptRows.{kept_values};
 ghost use Rattle.seg_columns_joined.specs.MergedTerms.{ords_in, terms_in};
 ghost use Rattle.seg_columns_joined.specs.UsedOrdinals.{AreUsed};
 ghost use Rattle.seg_columns_joined.specs.UsedTerms.{AreColumnTerms, AreTermsOf, IsNextUsed, NoneUsed};
 
-use crate::kept_rows::KeptRows;
 use crate::tables::TableRow;
 use crate::used_ordinals::used_ordinals;
 use seg_columns::{Dictionary, DynamicColumn};
+use seg_row_order::KeptRows;
 use std::alloc::{AllocError, Global};
 use std::marker::Model;
 

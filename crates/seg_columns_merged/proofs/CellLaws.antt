@@ -13,7 +13,7 @@ use Rattle.seg_columnar.specs.ColumnFiles.{ColumnFile, NamedColumn}
 use Rattle.seg_columns_written.specs.ModelColumns.{column_key, column_rows}
 use Rattle.seg_columns_merged.specs.Cells.{cell, cells, is_of, row_cell, rows_with}
 use Rattle.seg_columns_merged.specs.MergedColumns.{columns_of_file, keys_with, rows_at, values_in_row}
-use Rattle.seg_columns_joined.specs.RowOrders.{Place}
+use Rattle.seg_row_order.specs.RowOrders.{Place}
 use Rattle.seg_columns_joined.specs.Tables.{Row, all_rows, file_row, file_rows, kind_of, required_row}
 use Rattle.seg_columns_merged.proofs.KeyLaws.{among_keys}
 

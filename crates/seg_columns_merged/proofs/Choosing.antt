@@ -11,7 +11,7 @@ use Rattle.seg_model.specs.Columns.{ColumnKey, ColumnValue, column_at, fits_i64,
 use Rattle.seg_columnar.specs.ColumnFiles.{ColumnFile}
 use Rattle.seg_columns_merged.specs.Cells.{cells, is_absent, is_required, rows_with}
 use Rattle.seg_columns_merged.specs.MergedColumns.{required_key, rows_at}
-use Rattle.seg_columns_joined.specs.RowOrders.{Place}
+use Rattle.seg_row_order.specs.RowOrders.{Place}
 use Rattle.seg_columns_joined.specs.Tables.{Row, all_rows, kind_of}
 use Rattle.seg_columns_merged.proofs.CellLaws.{rows_are}
 use Rattle.seg_columns_merged.proofs.RequiredLaws.{declared_is, first_tells}

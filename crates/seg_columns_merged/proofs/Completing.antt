@@ -21,7 +21,7 @@ use Rattle.seg_columns_written.proofs.EntryLaws.{type_read}
 use Rattle.seg_columns_written.specs.FileBytes.{code_of}
 use Rattle.seg_columns_written.specs.ModelColumns.{column_key, column_rows}
 use Rattle.seg_columns_merged.specs.MergedColumns.{columns_of_file, keys_with, merged_columns, merged_keys, required_key, rows_at, values_in_row}
-use Rattle.seg_columns_joined.specs.RowOrders.{Place}
+use Rattle.seg_row_order.specs.RowOrders.{Place}
 use Rattle.seg_columns_merged.proofs.Choosing.{all_fit, empty_rows, found, mixed}
 use Rattle.seg_columns_merged.proofs.KeyLaws.{key_is}
 

@@ -10,7 +10,7 @@ use Rattle.seg_model.specs.Columns.{ColumnKey, ColumnValue, fits_i64, free_numbe
 use Rattle.seg_columnar.specs.ColumnFiles.{ColumnFile}
 use Rattle.seg_columns_merged.specs.Cells.{is_absent, rows_with}
 use Rattle.seg_columns_merged.specs.Decisions.{as_there, merged_type}
-use Rattle.seg_columns_joined.specs.RowOrders.{Place}
+use Rattle.seg_row_order.specs.RowOrders.{Place}
 use Rattle.seg_columns_joined.specs.Tables.{Row, all_rows, kind_of}
 use Rattle.seg_columns_merged.proofs.Choosing.{all_fit, at_type, found, free_of, group_values, mixed, mixed_is, mixed_required, not_mixed, other_of, required_number, required_other, type_free}
 use Rattle.seg_columns_merged.proofs.Deciding.{same_kind_number}

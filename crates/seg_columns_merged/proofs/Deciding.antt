@@ -12,10 +12,10 @@ use Rattle.seg_columns_merged.specs.Cells.{cells, is_absent}
 use Rattle.seg_columns_merged.specs.Decisions.{AreDecidable, as_there, free_type, has_value, merged_type, range_of, range_type}
 use Rattle.seg_columns_merged.specs.Groups.{AreOfFiles, FileFits}
 use Rattle.seg_columns_joined.specs.KeptColumns.{there}
-use Rattle.seg_columns_joined.specs.KeptRows.{AreMarks}
+use Rattle.seg_row_order.specs.KeptRows.{AreMarks}
 use Rattle.seg_columns_merged.specs.MergedBytes.{HasNumbers, HasType, RowFits}
 use Rattle.seg_columns_joined.specs.NumberRanges.{no_numbers, type_of_range}
-use Rattle.seg_columns_joined.specs.RowOrders.{Place}
+use Rattle.seg_row_order.specs.RowOrders.{Place}
 use Rattle.seg_columns_joined.specs.Tables.{column_in, kind_of, row_of}
 use Rattle.seg_columns_joined.specs.declared.number_range.NumberRange.{NumberRange}
 use Rattle.seg_columns_joined.specs.declared.tables.FileColumn.{FileColumn}

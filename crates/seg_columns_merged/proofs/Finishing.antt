@@ -19,7 +19,7 @@ use Rattle.seg_columns_merged.specs.MergedBytes.{IsMerge, places_of}
 use Rattle.seg_columns_merged.specs.MergedColumns.{IsMerged, MergeFails, merged_columns, required_key, rows_at}
 use Rattle.seg_columns_merged.specs.MergedFiles.{IsFileOf}
 use Rattle.seg_columns_merged.specs.Merging.{IsCut, IsTableOf, NextFails, SoFar, covers, entries_in, found_at, mixed_at}
-use Rattle.seg_columns_joined.specs.RowOrders.{Place}
+use Rattle.seg_row_order.specs.RowOrders.{Place}
 use Rattle.seg_columns_joined.specs.Tables.{Row, all_rows, kind_of, row_of}
 use Rattle.seg_columns_merged.specs.declared.merge.Merge.{Merge}
 use Rattle.seg_columns_merged.specs.declared.merged_file.MergedFile.{MergedFile}

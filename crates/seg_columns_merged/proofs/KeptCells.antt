@@ -15,10 +15,10 @@ use Rattle.seg_columns.specs.declared.dynamic_column.DynamicColumn.TheVariants a
 use Rattle.seg_columns_written.specs.ModelColumns.{column_rows}
 use Rattle.seg_columns_merged.specs.Decisions.{has_value, range_of, with_column}
 use Rattle.seg_columns_joined.specs.KeptColumns.{any_kept_value, kept_fit, range_with, row_count_of, there}
-use Rattle.seg_columns_joined.specs.KeptRows.{AreMarks, kept_values}
+use Rattle.seg_row_order.specs.KeptRows.{AreMarks, kept_values}
 use Rattle.seg_columns_joined.specs.NumberRanges.{no_numbers}
 use Rattle.seg_columns_merged.specs.MergedBytes.{HasNumbers, RowFits}
-use Rattle.seg_columns_joined.specs.RowOrders.{Place}
+use Rattle.seg_row_order.specs.RowOrders.{Place}
 use Rattle.seg_columns_joined.specs.declared.number_range.NumberRange.{NumberRange}
 use Rattle.seg_columns_joined.specs.declared.tables.FileColumn.{FileColumn}
 use Rattle.seg_columns_joined.specs.declared.tables.TableRow.{TableRow}

@@ -2,7 +2,7 @@
 use Rattle.std.proofs.Common.{◌≡◌, ℕ, ◌+◌, ◌<◌, ◌≤◌, Bool, List, [], ◌∷◌, length, drop, get_or, cond, sym, subst}
 use Rattle.std.specs.Prelude.{All}
 use Rattle.std.proofs.lemmas.List.Elements.{All-append, All-cons, All-nil}
-use Rattle.seg_columns_joined.specs.KeptRows.{kept_values}
+use Rattle.seg_row_order.specs.KeptRows.{kept_values}
 use Rattle.seg_columns_joined.proofs.Exports.{last_kept, next_kept}
 
 module _ {T : Type 0} (F : T → Type 0) (kept : List Bool) (rows : List (List T)) where

@@ -4,8 +4,8 @@ use Rattle.std.specs.Prelude.{◌&&◌, nat_eq}
 use Rattle.std.specs.List.{AllByRecursion, list_any}
 use Rattle.std.proofs.lemmas.Bool.{false≢true, or_left, or_right}
 use Rattle.std.proofs.lemmas.Bool.Decides.{nat_tests}
-use Rattle.seg_columns_joined.specs.KeptRows.{is_kept}
-use Rattle.seg_columns_joined.specs.RowOrders.{Place, IsRow}
+use Rattle.seg_row_order.specs.KeptRows.{is_kept}
+use Rattle.seg_row_order.specs.RowOrders.{Place, IsRow}
 
 itself : (n : ℕ) → nat_eq n n ≡ true
 itself n = grind (arith, nat_tests)

@@ -18,9 +18,9 @@ use Rattle.seg_columns_written.specs.ModelColumns.{column_rows}
 use Rattle.seg_columns_joined.specs.ColumnSources.{number_map, number_source, source_of, with_maps, with_rows}
 use Rattle.seg_columns_merged.specs.Groups.{AreOfFiles}
 use Rattle.seg_columns_joined.specs.KeptColumns.{IsWhole, kept_fit, row_count_of}
-use Rattle.seg_columns_joined.specs.KeptRows.{AreMarks}
+use Rattle.seg_row_order.specs.KeptRows.{AreMarks}
 use Rattle.seg_columns_merged.specs.MergedBytes.{AddsMerged, HasType, RowFits}
-use Rattle.seg_columns_joined.specs.RowOrders.{Place, IsRow}
+use Rattle.seg_row_order.specs.RowOrders.{Place, IsRow}
 use Rattle.seg_columns_joined.specs.Sources.{CanPut, IsPut, joined, row_codes}
 use Rattle.seg_columns_joined.specs.Tables.{row_of}
 use Rattle.seg_columns_joined.specs.declared.number_map.NumberMap.{NumberMap}
@@ -28,7 +28,7 @@ use Rattle.seg_columns_joined.specs.declared.source.Source.{Source}
 use Rattle.seg_columns_joined.specs.declared.source.Source.TheVariants.{Nothing, Addresses}
 use Rattle.seg_columns_joined.specs.declared.tables.FileColumn.{FileColumn}
 use Rattle.seg_columns_joined.specs.declared.tables.TableRow.{TableRow}
-use Rattle.seg_columns_joined.proofs.Exports.{file_below}
+use Rattle.seg_row_order.proofs.Exports.{file_below}
 use Rattle.seg_columns_merged.proofs.KeptPlaces.{IsKept, all_kept}
 use Rattle.seg_columns_merged.proofs.NumberColumns.{row_of_map}
 use Rattle.seg_columns_merged.proofs.PutNumbers.{maps_of, with_rows_are}

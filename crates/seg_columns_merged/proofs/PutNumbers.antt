@@ -18,7 +18,7 @@ use Rattle.seg_columns_joined.specs.ImageValues.{value_in}
 use Rattle.seg_columns_joined.specs.JoinedNumbers.{IsNumeric, joined_numbers, row_numbers}
 use Rattle.seg_columns_joined.specs.KeptColumns.{row_count_of}
 use Rattle.seg_columns_merged.specs.MergedBytes.{AddsMerged, HasType, IsNumberType}
-use Rattle.seg_columns_joined.specs.RowOrders.{Place, IsRow}
+use Rattle.seg_row_order.specs.RowOrders.{Place, IsRow}
 use Rattle.seg_columns_joined.specs.Sources.{CanMap, CanPut, IsPut, joined, mapped}
 use Rattle.seg_columns_joined.specs.Tables.{row_of}
 use Rattle.seg_columns_joined.specs.declared.number_map.NumberMap.{NumberMap}
@@ -28,7 +28,7 @@ use Rattle.seg_columns_joined.specs.declared.source.Source.TheVariants.{Nothing,
 use Rattle.seg_columns_joined.specs.declared.tables.FileColumn.{FileColumn}
 use Rattle.seg_columns_joined.specs.declared.tables.TableRow.{TableRow}
 use Rattle.seg_columns_joined.proofs.Exports.{joined_column, joined_rows}
-use Rattle.seg_columns_joined.proofs.Exports.{file_below}
+use Rattle.seg_row_order.proofs.Exports.{file_below}
 use Rattle.seg_columns_merged.proofs.KeptPlaces.{IsKept, all_kept}
 use Rattle.seg_columns_merged.proofs.NumberColumns.{IsNumberRow, RowSuits, is_image_of, number_row}
 use Rattle.seg_columns_merged.proofs.PutTerms.{cells_are}

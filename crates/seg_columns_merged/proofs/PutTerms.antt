@@ -16,10 +16,10 @@ use Rattle.seg_columns_written.proofs.TermLaws.{is_bytes_column, is_str_column, 
 use Rattle.seg_columns_merged.specs.Cells.{cells}
 use Rattle.seg_columns_merged.specs.Groups.{AreOfFiles}
 use Rattle.seg_columns_joined.specs.JoinedNumbers.{IsNumeric, joined_numbers, row_numbers}
-use Rattle.seg_columns_joined.specs.KeptRows.{AreMarks}
+use Rattle.seg_row_order.specs.KeptRows.{AreMarks}
 use Rattle.seg_columns_merged.specs.MergedBytes.{AddsMerged, HasType, IsTermType}
 use Rattle.seg_columns_joined.specs.MergedTerms.{AreMerged, HasTexts}
-use Rattle.seg_columns_joined.specs.RowOrders.{Place, IsRow}
+use Rattle.seg_row_order.specs.RowOrders.{Place, IsRow}
 use Rattle.seg_columns_joined.specs.Sources.{IsPut, joined}
 use Rattle.seg_columns_joined.specs.Tables.{row_of}
 use Rattle.seg_columns_joined.specs.TermSources.{AreTermSources}

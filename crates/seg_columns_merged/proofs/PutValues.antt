@@ -17,9 +17,9 @@ use Rattle.seg_columns_merged.specs.Cells.{cell, cells}
 use Rattle.seg_columns_joined.specs.ColumnSources.{number_source, with_maps, with_rows}
 use Rattle.seg_columns_merged.specs.Groups.{AreOfFiles}
 use Rattle.seg_columns_joined.specs.JoinedNumbers.{IsNumeric}
-use Rattle.seg_columns_joined.specs.KeptRows.{AreMarks, is_kept}
+use Rattle.seg_row_order.specs.KeptRows.{AreMarks, is_kept}
 use Rattle.seg_columns_merged.specs.MergedBytes.{AddsMerged, HasNumbers, HasType, HoldsAll, IsNumberType, RowFits, SuitsType}
-use Rattle.seg_columns_joined.specs.RowOrders.{Place, IsRow}
+use Rattle.seg_row_order.specs.RowOrders.{Place, IsRow}
 use Rattle.seg_columns_joined.specs.Sources.{IsPut, joined}
 use Rattle.seg_columns_joined.specs.Tables.{row_of}
 use Rattle.seg_columns_joined.specs.declared.source.Source.{Source}

@@ -6,9 +6,9 @@ use Rattle.std.proofs.lemmas.List.Elements.{All-from_recursion}
 use Rattle.seg_columns_joined.specs.ColumnSources.{FileBelow, HasFile}
 use Rattle.seg_columns_joined.specs.KeptColumns.{HasRows}
 use Rattle.seg_columns_merged.specs.Groups.{AreOfFiles, FileFits}
-use Rattle.seg_columns_joined.specs.KeptRows.{AreMarks}
+use Rattle.seg_row_order.specs.KeptRows.{AreMarks}
 use Rattle.seg_columns_joined.specs.MergedTerms.{AreRowNumbers}
-use Rattle.seg_columns_joined.specs.RowOrders.{Place}
+use Rattle.seg_row_order.specs.RowOrders.{Place}
 use Rattle.seg_columns_joined.specs.declared.tables.FileColumn.{FileColumn}
 use Rattle.seg_columns_joined.specs.declared.tables.TableRow.{TableRow}
 

@@ -12,7 +12,7 @@ use Rattle.seg_columns_merged.specs.Cells.{cell, row_cell}
 use Rattle.seg_columns_joined.specs.ColumnSources.{source_of, with_maps}
 use Rattle.seg_columns_merged.specs.Groups.{AreOfFiles, FileFits}
 use Rattle.seg_columns_joined.specs.KeptColumns.{row_count_of}
-use Rattle.seg_columns_joined.specs.RowOrders.{Place}
+use Rattle.seg_row_order.specs.RowOrders.{Place}
 use Rattle.seg_columns_joined.specs.Tables.{column_in, row_of}
 use Rattle.seg_columns_joined.specs.declared.number_map.NumberMap.{NumberMap}
 use Rattle.seg_columns_joined.specs.declared.number_map.NumberMap.TheVariants.{Same}

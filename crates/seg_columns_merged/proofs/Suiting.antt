@@ -16,9 +16,9 @@ use Rattle.seg_columns.specs.declared.dynamic_column.DynamicColumn.{DynamicColum
 use Rattle.seg_columns.specs.declared.dynamic_column.DynamicColumn.TheVariants as columns
 use Rattle.seg_columns_written.specs.ModelColumns.{column_rows}
 use Rattle.seg_columns_joined.specs.KeptColumns.{kept_fit}
-use Rattle.seg_columns_joined.specs.KeptRows.{kept_values}
+use Rattle.seg_row_order.specs.KeptRows.{kept_values}
 use Rattle.seg_columns_merged.specs.MergedBytes.{IsNumberType}
-use Rattle.seg_columns_joined.specs.RowOrders.{Place}
+use Rattle.seg_row_order.specs.RowOrders.{Place}
 use Rattle.seg_columns_joined.specs.declared.tables.FileColumn.{FileColumn}
 use Rattle.seg_columns_merged.proofs.NumberColumns.{RowSuits, row_of_map}
 use Rattle.seg_columns_merged.proofs.SourceRows.{FilesRise, column_cells, later_files, values_in}

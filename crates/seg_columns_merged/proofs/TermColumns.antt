@@ -26,9 +26,9 @@ use Rattle.seg_columns.specs.TermColumns.{UsesEach}
 use Rattle.seg_columns_joined.specs.ColumnSources.{number_source, source_of}
 use Rattle.seg_columns_joined.specs.JoinedNumbers.{IsNumeric, joined_numbers, row_numbers}
 use Rattle.seg_columns_joined.specs.KeptColumns.{row_count_of}
-use Rattle.seg_columns_joined.specs.KeptRows.{AreMarks, kept_values}
+use Rattle.seg_row_order.specs.KeptRows.{AreMarks, kept_values}
 use Rattle.seg_columns_joined.specs.MergedTerms.{AreMerged, AreNumbers, AreRowNumbers, kept_ords, ords_in, row_terms, terms_in}
-use Rattle.seg_columns_joined.specs.RowOrders.{Place}
+use Rattle.seg_row_order.specs.RowOrders.{Place}
 use Rattle.seg_columns_joined.specs.Sources.{CanMap, CanPut, IsPut}
 use Rattle.seg_columns_joined.specs.TermSources.{AreTermSources, MapsTo}
 use Rattle.seg_columns_joined.specs.declared.number_map.NumberMap.{NumberMap}
@@ -38,7 +38,7 @@ use Rattle.seg_columns_joined.specs.declared.source.Source.TheVariants.{Nothing,
 use Rattle.seg_columns_joined.specs.declared.tables.FileColumn.{FileColumn}
 use Rattle.seg_columns_joined.specs.declared.tables.TableRow.{TableRow}
 use Rattle.seg_columns_joined.proofs.Exports.{any_kept, kept_at, number_itself}
-use Rattle.seg_columns_joined.proofs.Exports.{file_below}
+use Rattle.seg_row_order.proofs.Exports.{file_below}
 use Rattle.seg_columns_merged.proofs.KeptPlaces.{IsKept, any_follows, any_image, all_where, map_where}
 use Rattle.seg_columns_merged.proofs.SourceRows.{FilesRise, IsFrom, all_replicate, all_with_maps, column_cells, is_from, length-with_maps, nothing_at, source_at, values_in}
 

@@ -5,7 +5,7 @@ use Rattle.std.specs.Str.{bytes_eq}
 use Rattle.seg_common.specs.declared.column_type.ColumnType.{ColumnType}
 use Rattle.seg_model.specs.Columns.{ColumnValue, type_place}
 use Rattle.seg_columns_written.specs.ModelColumns.{column_rows}
-use Rattle.seg_columns_joined.specs.RowOrders.{Place}
+use Rattle.seg_row_order.specs.RowOrders.{Place}
 use Rattle.seg_columns_joined.specs.Tables.{PlacedColumn, Row, kind_of}
 
 -- the values of a row, where it is one of the column's file

@@ -8,9 +8,9 @@ use Rattle.seg_columns.specs.DynamicColumns.{IsColumnOf, column_of, type_of}
 use Rattle.seg_columns_written.specs.ModelColumns.{column_rows}
 use Rattle.seg_columns_merged.specs.Cells.{cells}
 use Rattle.seg_columns_joined.specs.KeptColumns.{kept_fit}
-use Rattle.seg_columns_joined.specs.KeptRows.{AreMarks}
+use Rattle.seg_row_order.specs.KeptRows.{AreMarks}
 use Rattle.seg_columns_merged.specs.MergedColumns.{CanMerge, required_key}
-use Rattle.seg_columns_joined.specs.RowOrders.{Place, IsRow, rows_in_order}
+use Rattle.seg_row_order.specs.RowOrders.{Place, IsRow, rows_in_order}
 use Rattle.seg_columns_joined.specs.Tables.{Row, row_of}
 use Rattle.seg_columns_merged.specs.declared.merge.Merge.{Merge}
 use Rattle.seg_columns_joined.specs.declared.tables.FileColumn.{FileColumn}

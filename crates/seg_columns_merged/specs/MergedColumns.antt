@@ -10,7 +10,7 @@ use Rattle.seg_columns.specs.declared.error.ColumnError.{ColumnError}
 use Rattle.seg_columns.specs.declared.error.ColumnError.TheVariants.{Mixed, Malformed, OutOfMemory}
 use Rattle.seg_columnar.specs.ColumnFiles.{ColumnFile, IsColumnFile, NamedColumn, column_file_of, row_count}
 use Rattle.seg_columns_written.specs.ModelColumns.{column_key, column_rows, columns_in}
-use Rattle.seg_columns_joined.specs.RowOrders.{Place, IsRow}
+use Rattle.seg_row_order.specs.RowOrders.{Place, IsRow}
 
 abbrev pub required_key : String Global × ColumnType → ColumnKey
 required_key r = record { path = string_bytes r.0; type = r.1 }

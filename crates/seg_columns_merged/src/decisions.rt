@@ -12,8 +12,9 @@ ghost use Rattle.seg_columns_joined.specs.Tables.{row_of};
 
 use crate::merge::Merge;
 use seg_columns::ColumnError;
-use seg_columns_joined::{KeptRows, NumberRange, TableRow, has_kept_value, with_kept_numbers};
+use seg_columns_joined::{NumberRange, TableRow, has_kept_value, with_kept_numbers};
 use seg_common::ColumnType;
+use seg_row_order::KeptRows;
 
 /// The type of the column of rows with one key: the one that is required, else the first that holds all values of kept
 /// rows. There is no column where none is required and no kept row has a value.

@@ -2,12 +2,13 @@
 ghost use Rattle.std.specs.Prelude.{◌≡◌, ◌<◌, ◌^◌, [], All, FitsSigned, if◌then◌else◌, length};
 ghost use Rattle.std.specs.Int.{w64};
 ghost use Rattle.seg_columns_joined.specs.KeptColumns.{HasRows, IsWhole, kept_fit, row_count_of};
-ghost use Rattle.seg_columns_joined.specs.KeptRows.{kept_values};
+ghost use Rattle.seg_row_order.specs.KeptRows.{kept_values};
 ghost use Rattle.seg_columns_merged.specs.MergedBytes.{RowFits};
 
 use seg_columns::{Column, ColumnValue, ColumnValues, DynamicColumn, DynamicColumnHandle};
-use seg_columns_joined::{KeptRows, TableRow};
+use seg_columns_joined::TableRow;
 use seg_dates::DateTime;
+use seg_row_order::KeptRows;
 use std::net::Ipv6Addr;
 
 /// How many values the kept rows have of the columns of rows with one key, but for those of texts and bytes.

@@ -7,7 +7,7 @@ ghost use Rattle.seg_model.specs.Columns.{ColumnKey, is_declared};
 ghost use Rattle.seg_columnar.specs.ColumnFiles.{ColumnFile};
 ghost use Rattle.seg_columns_merged.specs.Cells.{cells, is_absent, is_required, rows_with};
 ghost use Rattle.seg_columns_merged.specs.MergedColumns.{required_key, rows_at};
-ghost use Rattle.seg_columns_joined.specs.RowOrders.{Place};
+ghost use Rattle.seg_row_order.specs.RowOrders.{Place};
 ghost use Rattle.seg_columns_joined.specs.Tables.{Row, all_rows, kind_of};
 
 /// The values of merged rows at a key, and whether it is required, by the rows of all tables with its path and kind.

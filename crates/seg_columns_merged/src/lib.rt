@@ -24,4 +24,4 @@ mod value_columns;
 
 pub use laws::merged_rows_by_kind;
 pub use merging::merge_columnar;
-pub use seg_columns_joined::MergeRowOrder;
+pub use seg_row_order::MergeRowOrder;

@@ -1,8 +1,8 @@
 //! What all columns of a merge have in common.
 
 use seg_columnar::ColumnarReader;
-use seg_columns_joined::{KeptRows, MergeRowOrder};
 use seg_common::ColumnType;
+use seg_row_order::{KeptRows, MergeRowOrder};
 use std::alloc::Global;
 
 /// The files, the columns that are required, and the rows that are kept, by their order and by marks of the rows of

@@ -4,15 +4,16 @@ ghost use Rattle.std.specs.List.{AllByRecursion};
 ghost use Rattle.seg_columnar.specs.ColumnFiles.{IsOfFile};
 ghost use Rattle.seg_columns_merged.specs.MergedColumns.{CanMerge, IsMerged, MergeFails, merged_columns, required_key};
 ghost use Rattle.seg_columns_merged.specs.Merging.{IsTableOf};
-ghost use Rattle.seg_columns_joined.specs.RowOrders.{rows_in_order};
+ghost use Rattle.seg_row_order.specs.RowOrders.{rows_in_order};
 
 use crate::merge::Merge;
 use crate::sorted_merge::merge_sorted;
 use crate::table_order::rows_by_key;
 use seg_columnar::ColumnarReader;
 use seg_columns::ColumnError;
-use seg_columns_joined::{KeptRows, MergeRowOrder, TableRow, table_rows};
+use seg_columns_joined::{TableRow, table_rows};
 use seg_common::ColumnType;
+use seg_row_order::{KeptRows, MergeRowOrder};
 use std::alloc::{AllocError, Global};
 
 /// The file with the rows of some files in an order. It takes time near-linear in the files that are read and the one

@@ -13,7 +13,8 @@ use crate::merged_file::MergedFile;
 use crate::planned_group::{PlannedGroup, rows_between};
 use crate::planning::planned_groups;
 use seg_columns::ColumnError;
-use seg_columns_joined::{OrderedRows, TableRow};
+use seg_columns_joined::TableRow;
+use seg_row_order::OrderedRows;
 use std::alloc::AllocError;
 
 /// The file of a table whose rows are in the order of their keys. The types of all columns are decided before its

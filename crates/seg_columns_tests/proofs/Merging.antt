@@ -10,8 +10,8 @@ use Rattle.seg_model.specs.Columns.{is_number}
 use Rattle.seg_columnar.specs.ColumnFiles.{ColumnFile}
 use Rattle.seg_columns_written.specs.ModelColumns.{column_key}
 use Rattle.seg_columns_merged.specs.MergedColumns.{AgreesWith, CanMerge, required_key}
-use Rattle.seg_columns_joined.specs.RowOrders.{IsRow, rows_in_order}
-use Rattle.seg_columns_joined.specs.declared.row_order.MergeRowOrder.{MergeRowOrder}
+use Rattle.seg_row_order.specs.RowOrders.{IsRow, rows_in_order}
+use Rattle.seg_row_order.specs.declared.row_order.MergeRowOrder.{MergeRowOrder}
 
 -- how many rows they have
 abbrev pub counts : List ℕ

@@ -2,7 +2,7 @@
 ghost use Rattle.std.specs.Prelude.{◌≡◌, ◌<◌, ◌^◌, [], ◌∷◌, All, false, length, IfOk};
 ghost use Rattle.std.specs.List.{AllByRecursion};
 ghost use Rattle.seg_model.specs.Columns.{is_number};
-ghost use Rattle.seg_columns_joined.specs.RowOrders.{IsRow, rows_in_order};
+ghost use Rattle.seg_row_order.specs.RowOrders.{IsRow, rows_in_order};
 
 use crate::files::{ONE, is_file};
 use seg_columnar::{ColumnError, ColumnarReader, RowAddr};

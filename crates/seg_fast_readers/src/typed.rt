@@ -6,9 +6,9 @@ ghost use Rattle.seg_fast_readers.specs.Answers.{AnswersBy, Needs};
 ghost use Rattle.seg_fast_readers.specs.Reading.{bytes_column, first_of, str_column};
 
 use crate::readers::FastFieldReaders;
+use seg_columnar::HasAssociatedColumnType;
 use seg_columns::{
-    BytesColumn, Column, ColumnFirstOrDefault, DynamicColumn, DynamicColumnHandle,
-    HasAssociatedColumnType, StrColumn,
+    BytesColumn, Column, ColumnFirstOrDefault, DynamicColumn, DynamicColumnHandle, StrColumn,
 };
 use seg_dates::DateTime;
 use seg_values::{SchemaCause, TResult, TantivyError};

@@ -10,7 +10,7 @@ use Rattle.seg_columnar.specs.ColumnFiles.{ColumnFile, column_file_of}
 use Rattle.seg_columnar.specs.declared.row_addr.RowAddr.{RowAddr}
 use Rattle.seg_columns_written.specs.ModelColumns.{columns_in}
 use Rattle.seg_schema_columns.specs.SchemaColumns.{SuitColumns}
-use Rattle.seg_columns_joined.specs.RowOrders.{Place, place_of}
+use Rattle.seg_row_order.specs.RowOrders.{Place, place_of}
 use Rattle.seg_columns_merged.specs.MergedColumns.{CanMerge, IsMerged, MergeFails, merged_columns}
 use Rattle.seg_live_columns.specs.LiveColumns.{HasColumnsOf, HaveColumnsOf, live_rows}
 use Rattle.seg_model.specs.Columns.{ColumnKey, Columns, declared_columns}

@@ -1,7 +1,7 @@
 //! Columns, joined.
 ghost use Rattle.std.specs.Prelude.{◌≡◌, ◌<◌, ◌^◌, ℕ, List, map, IfOk, MatchResult, OnOk};
 ghost use Rattle.std.specs.List.{AllByRecursion};
-ghost use Rattle.seg_columns_joined.specs.RowOrders.{rows_in_order};
+ghost use Rattle.seg_row_order.specs.RowOrders.{rows_in_order};
 ghost use Rattle.seg_columns_merged.specs.MergedColumns.{MergeFails};
 ghost use Rattle.seg_live_columns.specs.LiveColumns.{live_rows};
 ghost use Rattle.seg_model.specs.Join.{joined_columns};

@@ -16,7 +16,7 @@ use Rattle.seg_common.specs.Tables.{is_among}
 use Rattle.seg_common.specs.declared.column_type.ColumnType.{ColumnType}
 use Rattle.seg_common.specs.declared.column_type.ColumnType.TheVariants.{I64, U64, Bytes, Str, Bool as Boolean, IpAddr, DateTime}
 use Rattle.seg_columnar.specs.ColumnFiles.{ColumnFile, NamedColumn}
-use Rattle.seg_columns_joined.specs.RowOrders.{IsRow, Place}
+use Rattle.seg_row_order.specs.RowOrders.{IsRow, Place}
 use Rattle.seg_columns_merged.specs.MergedColumns.{AgreesWith, CanMerge}
 use Rattle.seg_columns_written.specs.ModelColumns.{column_key, columns_in}
 use Rattle.seg_model.proofs.Exports.{column_cmp_total}

@@ -12,7 +12,7 @@ use Rattle.seg_common.specs.Marks.{kept}
 use Rattle.seg_common.specs.declared.column_type.ColumnType.{ColumnType}
 use Rattle.seg_common.specs.declared.column_type.ColumnType.TheVariants as types
 use Rattle.seg_columnar.specs.ColumnFiles.{ColumnFile, IsColumnFile, IsOfFile, NamedColumn, column_file_of, columns_from, row_count}
-use Rattle.seg_columns_joined.specs.RowOrders.{Place}
+use Rattle.seg_row_order.specs.RowOrders.{Place}
 use Rattle.seg_columns_merged.specs.MergedColumns.{columns_of_file, rows_at, values_in_row}
 use Rattle.seg_columns_written.specs.ModelColumns.{column_key, columns_in}
 use Rattle.seg_model.proofs.Exports.{column_cmp_total, kept-map}

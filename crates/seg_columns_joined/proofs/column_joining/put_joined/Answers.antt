@@ -1,7 +1,7 @@
 use Rattle.std.proofs.Common.{◌≡◌, ◌<◌, ◌^◌, ◌++◌, List, ℕ, ap, subst, ◌∙◌}
 use Rattle.std.specs.List.{flat_map}
 use Rattle.seg_columns_written.specs.ColumnBytes.{column_bytes, ends_from, number_bytes, total}
-use Rattle.seg_columns_joined.specs.RowOrders.{Place, rows_in_order}
+use Rattle.seg_row_order.specs.RowOrders.{Place, rows_in_order}
 use Rattle.seg_columns_joined.specs.Sources.{joined}
 use Rattle.seg_columns_joined.proofs.JoinSteps.{both_parts, on_ok_always, on_ok_then}
 use Rattle.seg_columns_joined.proofs.column_joining.put_joined.Goals as goal
@@ -17,11 +17,10 @@ returns c =
     let first : c.put_row_ends.new.out.items ≡ out ++ ends rows =
     c.in_ok-put_row_ends.ensures.ok ∙ ap (λ (r : List Place). out ++ ends r) c.new.ensures in
     record {
-      ok = on_ok_then c.put_rows.result (λ second.
-          both_parts out (ends rows) (values rows) c.put_row_ends.new.out.items c.put_rows.new.out.items first
-          (second ∙ ap (λ (r : List Place). c.put_row_ends.new.out.items ++ values r) c.new-2.ensures))
-          c.put_rows.ensures;
-      few = on_ok_always c.put_rows.result
+      ok = on_ok_then c.put_values.result
+          (both_parts out (ends rows) (values rows) c.put_row_ends.new.out.items c.put_values.new.out.items first)
+          c.put_values.ensures;
+      few = on_ok_always c.put_values.result
           (subst (λ (r : List Place). total (joined sources r) < 2 ^ 64) c.new.ensures
           c.in_ok-put_row_ends.ensures.few);
     }

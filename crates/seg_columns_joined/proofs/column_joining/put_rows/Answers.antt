@@ -3,7 +3,7 @@ use Rattle.std.specs.Prelude.{All}
 use Rattle.std.specs.List.{flat_map}
 use Rattle.std.proofs.lemmas.List.{get_or_default}
 use Rattle.std.proofs.lemmas.List.Elements.{All-head, All-rest}
-use Rattle.seg_columns_joined.specs.RowOrders.{Place}
+use Rattle.seg_row_order.specs.RowOrders.{Place}
 use Rattle.seg_columns_joined.specs.Sources.{IsPut, joined, row_codes}
 use Rattle.seg_columns_joined.specs.declared.source.Source.{Source}
 use Rattle.seg_columns_joined.specs.declared.source.Source.TheVariants.{Nothing}

@@ -1,5 +1,5 @@
 use Rattle.std.proofs.Common.{◌+◌, arith}
-use Rattle.seg_columns_joined.proofs.Answering.{on_ok_so}
+use Rattle.seg_row_order.proofs.Exports.{on_ok_so}
 use Rattle.seg_columns_joined.proofs.HeadCalls.{goes_on, next_within}
 use Rattle.seg_columns_joined.proofs.dictionaries.advance.Goals as goal
 

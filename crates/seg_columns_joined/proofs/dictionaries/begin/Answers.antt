@@ -1,4 +1,4 @@
-use Rattle.seg_columns_joined.proofs.Answering.{on_ok_so}
+use Rattle.seg_row_order.proofs.Exports.{on_ok_so}
 use Rattle.seg_columns_joined.proofs.HeadCalls.{goes_on, next_within}
 use Rattle.seg_columns_joined.proofs.dictionaries.begin.Goals as goal
 

@@ -2,7 +2,7 @@ use Rattle.std.proofs.Common.{ℕ, map, refl}
 use Rattle.std.specs.Prelude.{Vec}
 use Rattle.std.specs.Vec.{with_item}
 use Rattle.std.specs.declared.alloc.Global.{Global}
-use Rattle.seg_columns_joined.proofs.KeptMarks.{view_marked}
+use Rattle.seg_row_order.proofs.Exports.{view_marked}
 use Rattle.seg_columns_joined.proofs.dictionaries.put_ordinal.Goals as goal
 
 pub returns : goal.returns

@@ -1,7 +1,7 @@
 use Rattle.std.proofs.Common.{◌<◌, ◌≤◌, [], Bool, false, ◌||◌, ◌+◌, length, drop, ap, sym, ◌∙◌, arith}
 use Rattle.std.specs.List.{list_any}
 use Rattle.seg_columns_joined.specs.KeptColumns.{there}
-use Rattle.seg_columns_joined.specs.KeptRows.{kept_values}
+use Rattle.seg_row_order.specs.KeptRows.{kept_values}
 use Rattle.seg_columns_joined.proofs.KeptSteps.{last_kept, there_from}
 use Rattle.seg_columns_joined.proofs.kept_values.has_value.Goals as goal
 

@@ -1,7 +1,7 @@
 use Rattle.std.proofs.Common.{◌≡◌, drop}
 use Rattle.std.specs.List.{list_any}
 use Rattle.seg_columns_joined.specs.KeptColumns.{there}
-use Rattle.seg_columns_joined.specs.KeptRows.{kept_values}
+use Rattle.seg_row_order.specs.KeptRows.{kept_values}
 use Rattle.seg_columns_joined.proofs.kept_values.has_value.Given as goal
 
 abbrev pub invariant-loop-row : goal.invariant-loop-row

@@ -1,7 +1,7 @@
 use Rattle.std.proofs.Common.{◌≡◌, true, sym, subst, ◌∙◌, rules}
-use Rattle.seg_columns_joined.specs.KeptRows.{kept_values}
+use Rattle.seg_row_order.specs.KeptRows.{kept_values}
 use Rattle.seg_columns_joined.specs.UsedOrdinals.{AreUsed}
-use Rattle.seg_columns_joined.proofs.Answering.{if_ok_so}
+use Rattle.seg_row_order.proofs.Exports.{if_ok_so}
 use Rattle.seg_columns_joined.proofs.OrdinalMarks.{all_are_used}
 use Rattle.seg_columns_joined.proofs.used_ordinals.used_ordinals.Goals as goal
 

@@ -2,7 +2,7 @@ use Rattle.std.proofs.Common.{◌≡◌, ℕ, List, map, subst, ◌∙◌}
 use Rattle.std.specs.Prelude.{MatchResult}
 use Rattle.seg_columnar.specs.ColumnFiles.{ColumnFile}
 use Rattle.seg_columns_merged.specs.MergedColumns.{IsMerged, MergeFails, merged_columns, required_key}
-use Rattle.seg_columns_joined.specs.RowOrders.{rows_in_order}
+use Rattle.seg_row_order.specs.RowOrders.{rows_in_order}
 use Rattle.seg_columns_merged.proofs.merging.merge_columnar.Goals as goal
 
 pub returns : goal.returns

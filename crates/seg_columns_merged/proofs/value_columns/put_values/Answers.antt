@@ -3,7 +3,7 @@ use Rattle.std.specs.Prelude.{All}
 use Rattle.std.proofs.lemmas.List.Elements.{All-from_recursion, recursion_from_All}
 use Rattle.seg_columns_written.specs.ColumnBytes.{column_bytes, total}
 use Rattle.seg_columns_merged.specs.MergedBytes.{HasType, RowFits, places_of}
-use Rattle.seg_columns_joined.specs.RowOrders.{IsRow}
+use Rattle.seg_row_order.specs.RowOrders.{IsRow}
 use Rattle.seg_columns_joined.specs.Sources.{IsPut, joined}
 use Rattle.seg_columns_joined.specs.declared.source.Source.{Source}
 use Rattle.seg_columns_joined.specs.declared.tables.TableRow.{TableRow}

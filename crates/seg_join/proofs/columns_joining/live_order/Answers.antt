@@ -1,5 +1,5 @@
 use Rattle.std.proofs.Common.{ap, map, ◌∙◌}
-use Rattle.seg_columns_joined.specs.RowOrders.{place_of}
+use Rattle.seg_row_order.specs.RowOrders.{place_of}
 use Rattle.seg_join.specs.DocIdMapping.{Mapping}
 use Rattle.seg_join.proofs.ColumnsJoined.{in_order}
 use Rattle.seg_join.proofs.columns_joining.live_order.Goals as goal

@@ -1,5 +1,5 @@
 use Rattle.std.proofs.Common.{◌≡◌, drop}
-use Rattle.seg_columns_joined.specs.KeptRows.{kept_values}
+use Rattle.seg_row_order.specs.KeptRows.{kept_values}
 use Rattle.seg_columns_joined.specs.NumberRanges.{with_all, with_signed}
 use Rattle.seg_columns_joined.proofs.number_range.NumberRange.with_signed.Given as goal
 

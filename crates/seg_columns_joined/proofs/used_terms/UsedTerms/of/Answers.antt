@@ -2,7 +2,7 @@ use Rattle.std.proofs.Common.{ap, length, sym, subst}
 use Rattle.std.specs.Prelude.{Option}
 use Rattle.seg_columns_joined.specs.UsedTerms.{AreTermsOf}
 use Rattle.seg_columns_joined.specs.declared.tables.FileColumn.{FileColumn}
-use Rattle.seg_columns_joined.proofs.Answering.{if_ok_so}
+use Rattle.seg_row_order.proofs.Exports.{if_ok_so}
 use Rattle.seg_columns_joined.proofs.MergedRows.{no_terms_ascend, row_terms_are}
 use Rattle.seg_columns_joined.proofs.used_terms.UsedTerms.of.Goals as goal
 

@@ -1,0 +1,5 @@
+mod Answering
+pub mod Exports
+mod KeptMarks
+mod RowSteps
+mod StackedMarks
