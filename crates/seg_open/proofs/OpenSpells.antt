@@ -18,6 +18,7 @@ use Rattle.seg_model.specs.Fields.{is_indexed}
 use Rattle.seg_model.specs.Reading.{Terms, Posting}
 use Rattle.seg_model.specs.Shape.{HasFullShape, IsTermWith}
 use Rattle.seg_directory.specs.Composite.{Part, field_of}
+use Rattle.seg_termdict.specs.Dictionary.{Term, terms_of}
 use Rattle.seg_store.specs.Store.{documents_of}
 use Rattle.seg_postings.specs.FieldReading.{OpenField, written_terms}
 use Rattle.seg_postings.specs.HeldTerms.{TermsReadHaveShape}
@@ -26,7 +27,7 @@ use Rattle.seg_segment.specs.HoldTerms.{HoldsField}
 use Rattle.seg_open.specs.OpenSegment.{OpenSegment, terms_in, contents_of}
 use Rattle.seg_open.specs.SegmentOpening.{TermsAreOpen, IsOpen}
 use Rattle.seg_open.specs.FieldsOpening.{IsPlaceOpened}
-use Rattle.seg_open.specs.SegmentOpened.{HaveTotals}
+use Rattle.seg_open.specs.SegmentOpened.{HaveInfos, HaveTotals}
 use Rattle.seg_open.proofs.Stages.{there}
 use Rattle.seg_segment.specs.Spelling.{Spell}
 use Rattle.seg_segment.specs.declared.segment_files.SegmentFiles.{SegmentFiles}
@@ -50,6 +51,19 @@ open_totals files s t field opened at =
     ap (λ (o : Option (List Part)). option_map (λ (part : List ℕ). u64_at part 0) (option_and_then (λ (parts : List Part). field_of parts field) o)) t.posting_file.file
     ∙ ap (option_map (λ (part : List ℕ). u64_at part 0)) is.in_postings
     ∙ ap (λ (n : ℕ). Some n) is.by.spells.counted
+
+-- and its infos are those of its dictionary
+pub open_infos : (files : SegmentFiles) (s : OpenSegment)
+    → TermsAreOpen s.schema s.documents files.terms files.postings files.positions s.fields
+    → HaveInfos s.fields files.terms
+open_infos files s t field opened at =
+    let p = there s.schema s.fields field (Some opened) (sym t.opened.per_field) at in
+    let is : IsOpened p.value field s.documents t.term_parts t.posting_parts t.position_parts opened =
+    (t.opened.each field p.value (Some opened) p.at at).1 in
+    ap (λ (o : Option (List Part)). option_map terms_of (option_and_then (λ (ps : List Part). field_of ps field) o))
+    t.term_file.file
+    ∙ ap (option_map terms_of) is.in_terms
+    ∙ ap (λ (ts : List Term). Some ts) (sym is.infos)
 
 module _ (law : TermsReadHaveShape) (files : SegmentFiles) (s : OpenSegment) (has : IsOpen files s) where
   t : TermsAreOpen s.schema s.documents files.terms files.postings files.positions s.fields

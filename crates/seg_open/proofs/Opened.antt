@@ -22,7 +22,7 @@ use Rattle.seg_open.specs.SegmentOpening.{IsOpen}
 use Rattle.seg_open.specs.SegmentOpened.{HasFilesOf, OpensFiles, error_of}
 use Rattle.seg_open.specs.declared.open_error.OpenError.{OpenError}
 use Rattle.seg_open.specs.declared.open_error.OpenError.TheVariants.{Damaged, OutOfMemory}
-use Rattle.seg_open.proofs.OpenSpells.{open_spells, open_totals}
+use Rattle.seg_open.proofs.OpenSpells.{open_infos, open_spells, open_totals}
 
 module _ (segment : SegmentParts) {a b : DirectoryState} where
   -- a file can't be read
@@ -58,6 +58,7 @@ has_files law segment files s id schema number stamp sizes has = record {
       subst (λ (t : Schema). Spell t files (contents_of s)) schema
       (open_spells law files s has);
   totals = open_totals files s has.terms;
+  infos = open_infos files s has.terms;
 }
 
 -- and its shape

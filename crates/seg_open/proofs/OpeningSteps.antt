@@ -128,6 +128,7 @@ with_marks segment r marks a b six = record {
   of_sizes = six.is.of_sizes;
   spell = six.is.spell;
   totals = six.is.totals;
+  infos = six.is.infos;
 }
 
 -- ---- one after another

@@ -159,6 +159,7 @@ module _ (schema : Schema) (documents : ℕ) (terms : List ℕ) (dictionaries : 
               in_postings = b.adds.in_postings;
               in_positions = l.adds.in_positions;
               by = subst (λ (rules : FieldRules). IsFieldBy rules l.value.dictionary l.value.postings l.adds.positions_part opened.total (written_terms opened)) rules_are l.adds.by;
+              infos = l.adds.infos;
             },
           )
 

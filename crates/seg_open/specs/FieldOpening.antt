@@ -5,7 +5,8 @@ use Rattle.seg_values.specs.declared.schema.FieldEntry.{FieldEntry}
 use Rattle.seg_model.specs.Reading as reading
 use Rattle.seg_model.specs.Shape.{IsTermWith}
 use Rattle.seg_directory.specs.Composite.{Part, field_of}
-use Rattle.seg_postings.specs.FieldReading.{OpenField, IsFieldBy, rules_of, written_terms}
+use Rattle.seg_termdict.specs.Dictionary.{terms_of}
+use Rattle.seg_postings.specs.FieldReading.{OpenField, IsFieldBy, dictionary_terms, rules_of, written_terms}
 use Rattle.seg_segment.specs.HoldTerms.{HoldsField}
 
 -- the parts of a field in three composite files are these terms
@@ -17,6 +18,7 @@ pub record IsOpened (entry : FieldEntry) (field documents : ℕ) (terms postings
   pub in_postings : field_of postings field ≡ Some postings_part
   pub in_positions : field_of positions field ≡ Some positions_part
   pub by : IsFieldBy (rules_of entry documents) dictionary postings_part positions_part opened.total (written_terms opened)
+  pub infos : dictionary_terms opened ≡ terms_of dictionary
 
 -- the parts of a field hold terms in this many documents
 pub record MayHold (entry : FieldEntry) (field documents : ℕ) (terms postings positions : List Part) : Type 0 where

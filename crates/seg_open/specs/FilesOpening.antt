@@ -6,7 +6,8 @@ use Rattle.seg_values.specs.declared.schema.FieldEntry.{FieldEntry}
 use Rattle.seg_model.specs.Fields.{Schema, is_indexed}
 use Rattle.seg_directory.specs.Composite.{Part, field_of}
 use Rattle.seg_postings.specs.Completing.{ArePostingsBy, NoneComplete}
-use Rattle.seg_postings.specs.FieldReading.{FirstPart, FirstParts, IsFieldBy, OpenField, rules_of, written_terms}
+use Rattle.seg_termdict.specs.Dictionary.{terms_of}
+use Rattle.seg_postings.specs.FieldReading.{FirstPart, FirstParts, IsFieldBy, OpenField, dictionary_terms, rules_of, written_terms}
 use Rattle.seg_postings.specs.FieldWriting.{TermWritten}
 use Rattle.seg_postings.specs.TermForms.{IsDictionaryOf}
 use Rattle.seg_open.specs.IndexedParts.{HaveIndexedParts}
@@ -113,6 +114,7 @@ pub record AddsPositions (parts : List Part) (field : ℕ) (both : FirstParts) (
   pub positions_part : List ℕ
   pub in_positions : field_of parts field ≡ Some positions_part
   pub by : IsFieldBy both.rules both.dictionary both.postings positions_part opened.total (written_terms opened)
+  pub infos : dictionary_terms opened ≡ terms_of both.dictionary
 
 -- the part of a field, if there is one, completes it to none
 abbrev pub LacksPositions : List Part → ℕ → FirstParts → Type 0

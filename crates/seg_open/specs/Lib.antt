@@ -3,6 +3,7 @@ pub mod Answers
 pub mod Disagreement
 pub mod FacetColumns
 pub mod FieldOpening
+pub mod FieldParts
 pub mod FieldsOpening
 pub mod FileSizes
 pub mod FilesOpening

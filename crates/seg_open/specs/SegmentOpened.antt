@@ -15,12 +15,13 @@ use Rattle.seg_model.specs.Input.{Filter}
 use Rattle.seg_model.specs.Operations.{filtered_by}
 use Rattle.seg_meta.specs.IndexOfFiles.{Deletes}
 use Rattle.seg_meta.specs.Metas.{SegmentParts}
-use Rattle.seg_postings.specs.FieldReading.{OpenField}
+use Rattle.seg_postings.specs.FieldReading.{OpenField, dictionary_terms}
 use Rattle.seg_segment.specs.SegmentRead.{read_steps}
 use Rattle.seg_segment.specs.Spelling.{Spell}
 use Rattle.seg_segment.specs.Totals.{token_total}
 use Rattle.seg_segment.specs.declared.segment_files.SegmentFiles.{SegmentFiles}
 use Rattle.seg_open.specs.Disagreement.{Disagree, read_before}
+use Rattle.seg_open.specs.FieldParts.{dictionary_in}
 use Rattle.seg_open.specs.FileSizes.{sizes_of}
 use Rattle.seg_open.specs.OpenSegment.{OpenSegment, alive_of, contents_of}
 use Rattle.seg_open.specs.Soundness.{IsSound}
@@ -114,6 +115,12 @@ abbrev pub HaveTotals : List (Option OpenField) → List ℕ → Type 0
 HaveTotals fields postings =
     (field : ℕ) (opened : OpenField) → slice_get fields field ≡ Some (Some opened) → token_total postings field ≡ Some opened.total
 
+-- the infos of each open field are those which the file of terms has of it
+abbrev pub HaveInfos : List (Option OpenField) → List ℕ → Type 0
+HaveInfos fields terms =
+    (field : ℕ) (opened : OpenField) → slice_get fields field ≡ Some (Some opened)
+    → dictionary_in terms field ≡ Some (dictionary_terms opened)
+
 -- a reader is of a segment, and has what these files of it spell
 pub record HasFilesOf (segment : SegmentParts) (files : SegmentFiles) (s : OpenSegment) : Type 0 where
   pub of_id : s.id ≡ segment.meta.id
@@ -123,6 +130,7 @@ pub record HasFilesOf (segment : SegmentParts) (files : SegmentFiles) (s : OpenS
   pub of_sizes : s.sizes ≡ sizes_of files
   pub spell : Spell segment.schema files (contents_of s)
   pub totals : HaveTotals s.fields files.postings
+  pub infos : HaveInfos s.fields files.terms
 
 -- the six files of a segment are opened, whatever they are found to be
 pub record OpensFiles (segment : SegmentParts) (result : Result OpenSegment TantivyError)
