@@ -151,7 +151,7 @@ asked_fit (s ∷ segments) (f ∷ filters) fit =
     (parts.0, asked_fit segments filters parts.1)
 
 -- as many marks as documents that are stored
-abbrev IsStored : OpenSegment → Type 0
+abbrev pub IsStored : OpenSegment → Type 0
 IsStored s = length s.alive ≡ length (contents_of s).stored
 
 each_stored : (asked : List Asked) (found : List Found) (opened : List OpenSegment) → AreReadersOf asked found opened
@@ -180,6 +180,11 @@ join_counts schema parts contents is = by (joined_columns schema parts) is
     by None h = absurd (none-some contents h)
     by (Some cs) h = ap (λ (c : Contents). c.documents) (sym (same_Some (joined_with schema parts cs) contents h))
 
+-- they are joined to as many as are kept
+pub stored_number : (schema : Schema) (opened : List OpenSegment) → AllByRecursion IsStored opened → (contents : Contents)
+    → joined schema opened ≡ Some contents → contents.documents ≡ kept_count opened
+stored_number schema opened all contents is = join_counts schema (map part_of opened) contents is ∙ number_of opened all
+
 -- ---- what was opened
 
 module _ (m : MergeInput) (opened : List OpenSegment) (a b : DirectoryState) (h : Opens m (Ok opened) a b) where
@@ -190,12 +195,13 @@ module _ (m : MergeInput) (opened : List OpenSegment) (a b : DirectoryState) (h 
       let all = live_few m.segments m.filters in
       omega (arith, each, all)
 
+  pub opened_stored : all_fit m.filters m.segments ≡ true → AllByRecursion IsStored opened
+  opened_stored fit =
+      each_stored (live_asked m.segments m.filters) h.found opened h.are
+      (all_filtered (λ (a : Asked). fits a.custom a.segment ≡ true) (λ a. is_live a.segment.meta) (asked_of m.segments m.filters)
+      (asked_fit m.segments m.filters fit))
+
   -- they are joined to as many
   pub opened_number : all_fit m.filters m.segments ≡ true → (contents : Contents)
       → joined (first_schema m.segments) opened ≡ Some contents → contents.documents ≡ kept_count opened
-  opened_number fit contents is =
-      join_counts (first_schema m.segments) (map part_of opened) contents is
-      ∙ number_of opened
-      (each_stored (live_asked m.segments m.filters) h.found opened h.are
-      (all_filtered (λ (a : Asked). fits a.custom a.segment ≡ true) (λ a. is_live a.segment.meta) (asked_of m.segments m.filters)
-      (asked_fit m.segments m.filters fit)))
+  opened_number fit contents is = stored_number (first_schema m.segments) opened (opened_stored fit) contents is

@@ -1,5 +1,5 @@
 -- With which errors the merge of segments ends.
-use Rattle.std.proofs.Common.{◌≡◌, ◌≢◌, ◌≤◌, ◌<◌, ◌^◌, ◌∙◌, ℕ, Bool, true, false, List, IsTrue, nat_lt, None, Some, Result, Err, refl, sym, ap, subst, inl, inr, arith}
+use Rattle.std.proofs.Common.{◌≡◌, ◌≢◌, ◌≤◌, ◌<◌, ◌^◌, ◌∙◌, ℕ, Bool, true, false, List, IsTrue, nat_lt, None, Some, Result, Ok, Err, refl, sym, ap, subst, inl, inr, arith}
 use Rattle.std.specs.FinMap.{len}
 use Rattle.std.specs.Prelude.{◌⊎◌, is_some}
 use Rattle.std.proofs.lemmas.Bool.{false≢true}
@@ -26,7 +26,7 @@ use Rattle.seg_merge.proofs.IndexSteps.{tells-still}
 use Rattle.seg_merge.proofs.MergeCounts.{opened_few}
 use Rattle.seg_merge.proofs.MergeHeld.{opened_held}
 use Rattle.seg_merge.proofs.MergeLists.{live_whole}
-use Rattle.seg_merge.proofs.MergeTurns.{MergeExits, Opened, at_beginning, at_counting, at_filling, at_opening}
+use Rattle.seg_merge.proofs.MergeTurns.{Begins, MergeExits, Opened, at_beginning, at_counting, at_filling, at_opening}
 use Rattle.seg_merge.proofs.OutputSteps.{absent-parts, one_fresh}
 use Rattle.seg_merge.proofs.WholeRefused.{read_exists, read_unrefused, refusal_undamaged}
 use Rattle.seg_merge.proofs.WriteErrors.{IsWriteError, calls_so, so_before, write_undamaged, write_unrefused}
@@ -114,6 +114,16 @@ filling_so {T = T} m opened e o b (mixes is none same) =
 filling_so {T = T} m opened e o b (fills files joins works) =
     inr (calls_so {T = T} e (tt, (tt, (tt, (tt, (tt, (tt, (tt, (tt, (tt, tt))))))))) works)
 
+-- and not with a file that is there, where the directory had none before it was begun
+module _ {T : Type 0} (m : MergeInput) (e : TantivyError) (opened : List OpenSegment) (a o b : DirectoryState)
+    (told : IsTrue a.tells) (none : len a.files ≡ 0) (begins : Begins m (Ok tt) a o) where
+  pub filling_fresh : FillsOutput {T = T} m opened (Err e) o b → e ≢ IndexAlreadyExists
+  filling_fresh (starves is same) exists = absurd (cc (sym is ∙ ap (failing T) exists))
+  filling_fresh (mixes is none_joined same) exists = absurd (cc (sym is ∙ ap (failing T) exists))
+  filling_fresh (fills files joins works) exists =
+      one_fresh (output_meta_of m (kept_count opened)) m.id files works (tells-still _ _ (all_went begins).tells told)
+      (absent-parts m.id a.files o.files none (keeps_untouched begins)) (ap (failing T) exists)
+
 module _ (m : MergeInput) (merged : AreMerged m) (e : TantivyError) (a b : Directories) where
   read_so : OpensSegments (live_asked m.segments m.filters) (Err e) a.work b.work → IsReadError e
   read_so h = segments_so (live_asked m.segments m.filters) a.work b.work e h
@@ -167,16 +177,6 @@ module _ (m : MergeInput) (merged : AreMerged m) (e : TantivyError) (a b : Direc
 
   -- no file is found there, where the output directory has none
   module _ (told : IsTrue a.output.tells) (none : len a.output.files ≡ 0) where
-    filling_fresh : (opened : List OpenSegment) (o : DirectoryState) → Opened m opened a b.work o
-        → FillsOutput {T = Unit {0}} m opened (Err e) o b.output → e ≢ IndexAlreadyExists
-    filling_fresh opened o was (starves is same) exists = absurd (cc (sym is ∙ ap (failing (Unit {0})) exists))
-    filling_fresh opened o was (mixes is none same) exists = absurd (cc (sym is ∙ ap (failing (Unit {0})) exists))
-    filling_fresh opened o was (fills files joins works) exists =
-        one_fresh (output_meta_of m (kept_count opened)) m.id files works
-        (tells-still _ _ (all_went was.begins).tells told)
-        (absent-parts m.id a.output.files o.files none (keeps_untouched was.begins))
-        (ap (failing (Unit {0})) exists)
-
     pub merge_fresh : MergeExits m e a b → e ≢ IndexAlreadyExists
     merge_fresh (at_beginning h stays) is =
         never_there told (sym none, (tt, (tt, tt))) h (ap (failing (Unit {0})) is)
@@ -184,7 +184,7 @@ module _ (m : MergeInput) (merged : AreMerged m) (e : TantivyError) (a b : Direc
     merge_fresh (at_counting opened was (inl told)) is =
         subst IsRefusal is (argument_refuses Documents e (too_many_told (kept_count opened) e told).1)
     merge_fresh (at_counting opened was (inr starved)) is = absurd (cc (sym starved ∙ is))
-    merge_fresh (at_filling opened o was few h) is = filling_fresh opened o was h is
+    merge_fresh (at_filling opened o was few h) is = filling_fresh m e opened a.output o b.output told none was.begins h is
 
   -- only memory is left, where it can be merged
   memory_left : (d : TantivyError) → IsMergeError m a b d → IsNoDamage d → d ≢ IndexAlreadyExists → IfRefusal (λ _. ⊥) d

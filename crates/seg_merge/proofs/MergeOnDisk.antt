@@ -31,8 +31,8 @@ use Rattle.seg_segment.proofs.Exports.{are_made}
 use Rattle.seg_open.specs.OpenSegment.{OpenSegment, kept_count}
 use Rattle.seg_join.specs.JoinedTotals.{joined_total}
 use Rattle.seg_join.specs.Merger.{AreJoinedFiles, too_many}
-use Rattle.seg_merge.specs.AfterCrash.{AreMergeOf, MayBeMerged}
-use Rattle.seg_merge.specs.MergeAnswers.{AllHaveHeld, IsMergeOf}
+use Rattle.seg_merge.specs.AfterCrash.{AreMergeBy, AreMergeOf, MayBeMerged, MayBeMergedBy}
+use Rattle.seg_merge.specs.MergeAnswers.{AllHaveHeld}
 use Rattle.seg_merge.specs.SegmentsMerged.{FillsOutput, MergeInput, MergesLive, fills, first_schema, live_asked, mixes, output_meta_of, starves}
 use Rattle.seg_merge.specs.Turns.{Directories, goes_on, stops}
 use Rattle.seg_merge.specs.WritingSteps.{begin_steps, publish_steps}
@@ -90,26 +90,26 @@ module _ (settings : Settings) (schema : Schema) where
 
 -- ---- it is filled
 
-module _ (m : MergeInput) (work : NamedFiles) (reads : AreReadBack m.settings (first_schema m.segments)) (id_fits : m.id < 2 ^ 128) where
+module _ (m : MergeInput) (HaveHeld : List OpenSegment → Type 0) (reads : AreReadBack m.settings (first_schema m.segments)) (id_fits : m.id < 2 ^ 128) where
   abbrev pub Begun : FileDisk → Type 0
   Begun d = OnlyBegun m.settings (first_schema m.segments) d
 
   abbrev pub May : FileDisk → Type 0
-  May d = HasOnly (λ files. MayBeMerged m work files) d
+  May d = HasOnly (λ files. MayBeMergedBy m HaveHeld files) d
 
   begun_may : (d : FileDisk) → Begun d → May d
-  begun_may d begun files image = opens_begun m.settings (first_schema m.segments) reads (AreMergeOf m work) files (begun files image)
+  begun_may d begun files image = opens_begun m.settings (first_schema m.segments) reads (AreMergeBy m HaveHeld) files (begun files image)
 
-  begun_turns : (a b : DirectoryState) → Turns Begun Begun a.disk b.disk → Turns May May a.disk b.disk
+  pub begun_turns : (a b : DirectoryState) → Turns Begun Begun a.disk b.disk → Turns May May a.disk b.disk
   begun_turns a b turns = record { during = passes_weaker begun_may turns.during; after = λ told. begun_may b.disk.now (turns.after told) }
 
-  module _ (opened : List OpenSegment) (held : AllHaveHeld work (live_asked m.segments m.filters) opened) (few : kept_count opened < 2 ^ 31)
+  module _ (opened : List OpenSegment) (held : HaveHeld opened) (few : kept_count opened < 2 ^ 31)
       (files : SegmentFiles) (joins : AreJoinedFiles (first_schema m.segments) m.settings.block_size opened files) where
     abbrev meta : index.Meta
     meta = output_meta_of m (kept_count opened)
 
     -- the six files and the new meta are the merge
-    saved_whole : (v : DirectoryState) → HasFiles v.files m.id files → AreMergeOf m work (insert v.files Meta (meta_text meta))
+    saved_whole : (v : DirectoryState) → HasFiles v.files m.id files → AreMergeBy m HaveHeld (insert v.files Meta (meta_text meta))
     saved_whole v there =
         let kept : KeepsAllBut (Meta ∷ []) v.files (insert v.files Meta (meta_text meta)) =
         λ other apart. keeps_others v.files Meta (meta_text meta) other apart.0 in
@@ -134,9 +134,9 @@ module _ (m : MergeInput) (work : NamedFiles) (reads : AreReadBack m.settings (f
         → HasOnly (λ (f : NamedFiles). IsBegun m.settings (first_schema m.segments) (get f Meta) ⊎ (f ≡ insert v.files Meta (meta_text meta))) d → May d
     published_may v there d only f image = by (only f image)
       where
-        by : IsBegun m.settings (first_schema m.segments) (get f Meta) ⊎ (f ≡ insert v.files Meta (meta_text meta)) → MayBeMerged m work f
-        by (inl begun) = opens_begun m.settings (first_schema m.segments) reads (AreMergeOf m work) f begun
-        by (inr same) = inr (inr (subst (AreMergeOf m work) (sym same) (saved_whole v there)))
+        by : IsBegun m.settings (first_schema m.segments) (get f Meta) ⊎ (f ≡ insert v.files Meta (meta_text meta)) → MayBeMergedBy m HaveHeld f
+        by (inl begun) = opens_begun m.settings (first_schema m.segments) reads (AreMergeBy m HaveHeld) f begun
+        by (inr same) = inr (inr (subst (AreMergeBy m HaveHeld) (sym same) (saved_whole v there)))
 
     writes_on_disk : {T : Type 0} (r : Result T TantivyError) {a b : DirectoryState} → IsTrue a.disk.told → Begun a.disk.now → Works (write_steps m.id files) r a b
         → Turns Begun Begun a.disk b.disk
@@ -158,19 +158,19 @@ module _ (m : MergeInput) (work : NamedFiles) (reads : AreReadBack m.settings (f
         })
 
     filled_whole : {T : Type 0} (x : T) (a b : DirectoryState) → IsTrue a.disk.told → IsTrue a.tells → Begun a.disk.now
-        → Parts (write_steps m.id files) (publish_steps meta) (Ok x) a b → HasOnly (AreMergeOf m work) b.disk.now
+        → Parts (write_steps m.id files) (publish_steps meta) (Ok x) a b → HasOnly (AreMergeBy m HaveHeld) b.disk.now
     filled_whole x a b told tells holds (in_first e is works) = absurd (cc is)
     filled_whole x a b told tells holds (in_next v first next) =
         let there = are_made m.id files (Ok tt) tells first in
         let writes = writes_on_disk (Ok tt) told holds first in
         let told_then : IsTrue v.disk.told = subst (λ t. IsTrue t) (sym writes.during.told) told in
         let is = published_on_disk Meta (meta_text meta) (Ok x) told_then next in
-        λ f image. subst (AreMergeOf m work)
+        λ f image. subst (AreMergeBy m HaveHeld)
         (sym (settled_files_are_the_only_image (insert v.files Meta (meta_text meta)) f (subst (λ (d : FileDisk). IsImage d f) is image)))
         (saved_whole v there)
 
   -- the output is filled, or not
-  fills_turns : {T : Type 0} (opened : List OpenSegment) → AllHaveHeld work (live_asked m.segments m.filters) opened → kept_count opened < 2 ^ 31
+  pub fills_turns : {T : Type 0} (opened : List OpenSegment) → HaveHeld opened → kept_count opened < 2 ^ 31
       → (r : Result T TantivyError) (a b : DirectoryState) → IsTrue a.disk.told → IsTrue a.tells → Begun a.disk.now
       → FillsOutput m opened r a b → Turns May May a.disk b.disk
   fills_turns opened held few r a b told tells holds (starves is same) = begun_turns a b (turns_none same holds)
@@ -178,8 +178,8 @@ module _ (m : MergeInput) (work : NamedFiles) (reads : AreReadBack m.settings (f
   fills_turns opened held few r a b told tells holds (fills files joins works) =
       filling opened held few files joins r a b told tells holds (in_parts (write_steps m.id files) (publish_steps (output_meta_of m (kept_count opened))) r works)
 
-  fills_whole : {T : Type 0} (opened : List OpenSegment) → AllHaveHeld work (live_asked m.segments m.filters) opened → kept_count opened < 2 ^ 31
-      → (x : T) (a b : DirectoryState) → IsTrue a.disk.told → IsTrue a.tells → Begun a.disk.now → FillsOutput m opened (Ok x) a b → HasOnly (AreMergeOf m work) b.disk.now
+  pub fills_whole : {T : Type 0} (opened : List OpenSegment) → HaveHeld opened → kept_count opened < 2 ^ 31
+      → (x : T) (a b : DirectoryState) → IsTrue a.disk.told → IsTrue a.tells → Begun a.disk.now → FillsOutput m opened (Ok x) a b → HasOnly (AreMergeBy m HaveHeld) b.disk.now
   fills_whole opened held few x a b told tells holds (starves is same) = absurd (cc is)
   fills_whole opened held few x a b told tells holds (mixes is none same) = absurd (cc is)
   fills_whole opened held few x a b told tells holds (fills files joins works) =
@@ -189,25 +189,28 @@ module _ (m : MergeInput) (work : NamedFiles) (reads : AreReadBack m.settings (f
 
 module _ (m : MergeInput) (reads : AreReadBack m.settings (first_schema m.segments)) (id_fits : m.id < 2 ^ 128) (a : Directories)
     (told : IsTrue a.work.tells) (clean : IsEmptyDisk a.output.disk) where
+  abbrev HeldThere : List OpenSegment → Type 0
+  HeldThere opened = AllHaveHeld a.work.files (live_asked m.segments m.filters) opened
+
   abbrev MayTurn : DirectoryState → Type 0
-  MayTurn s = Turns (May m a.work.files reads id_fits) (May m a.work.files reads id_fits) a.output.disk s.disk
+  MayTurn s = Turns (May m HeldThere reads id_fits) (May m HeldThere reads id_fits) a.output.disk s.disk
 
   abbrev BegunTurn : DirectoryState → Type 0
-  BegunTurn s = Turns (Begun m a.work.files reads id_fits) (Begun m a.work.files reads id_fits) a.output.disk s.disk
+  BegunTurn s = Turns (Begun m HeldThere reads id_fits) (Begun m HeldThere reads id_fits) a.output.disk s.disk
 
-  at_first : Begun m a.work.files reads id_fits a.output.disk.now
+  at_first : Begun m HeldThere reads id_fits a.output.disk.now
   at_first = empty_begun m.settings (first_schema m.segments) a.output.disk.now clean.none
 
   begin : {T : Type 0} (r : Result T TantivyError) (n : DirectoryState) → Works (begin_steps m.settings (first_schema m.segments)) r a.output n → BegunTurn n
   begin r n works = begins_on_disk m.settings (first_schema m.segments) r clean.told at_first works
 
   may : (s : DirectoryState) → BegunTurn s → MayTurn s
-  may s turn = begun_turns m a.work.files reads id_fits a.output s turn
+  may s turn = begun_turns m HeldThere reads id_fits a.output s turn
 
   same_may : (s t : DirectoryState) → t ≡ s → MayTurn s → MayTurn t
   same_may s t same turn = subst MayTurn (sym same) turn
 
-  held_of : (opened : List OpenSegment) (n p : Directories) → n.work ≡ a.work → Opens m (Ok opened) n.work p.work → AllHaveHeld a.work.files (live_asked m.segments m.filters) opened
+  held_of : (opened : List OpenSegment) (n p : Directories) → n.work ≡ a.work → Opens m (Ok opened) n.work p.work → HeldThere opened
   held_of opened n p same opens =
       subst (λ (s : DirectoryState). AllHaveHeld s.files (live_asked m.segments m.filters) opened) same
       (opened_held m opened n.work p.work (subst (λ (s : DirectoryState). IsTrue s.tells) (sym same) told) opens)
@@ -224,7 +227,7 @@ module _ (m : MergeInput) (reads : AreReadBack m.settings (first_schema m.segmen
       let last : FillsOutput m opened r n.output b.output = subst (λ (s : DirectoryState). FillsOutput m opened r s b.output) same f.0 in
       turns_on clean.told (may n.output first)
       (λ told_then holds.
-      fills_turns m a.work.files reads id_fits opened (held_of opened n p h.1 k.0) (few_passed (kept_count opened) l.0) r n.output b.output told_then
+      fills_turns m HeldThere reads id_fits opened (held_of opened n p h.1 k.0) (few_passed (kept_count opened) l.0) r n.output b.output told_then
       (begun_tells m.settings (first_schema m.segments) u clean.told h.0) (first.after clean.told) last)
 
   -- and at Ok the merge
@@ -235,7 +238,7 @@ module _ (m : MergeInput) (reads : AreReadBack m.settings (first_schema m.segmen
   merge_rests x b (goes_on u n h (goes_on opened p k (goes_on v q l f))) =
       let first = begin (Ok u) n.output h.0 in
       let same : q.output ≡ n.output = ap (λ (d : Directories). d.output) l.1 ∙ k.1 in
-      fills_whole m a.work.files reads id_fits opened (held_of opened n p h.1 k.0) (few_passed (kept_count opened) l.0) x n.output b.output
+      fills_whole m HeldThere reads id_fits opened (held_of opened n p h.1 k.0) (few_passed (kept_count opened) l.0) x n.output b.output
       (subst (λ t. IsTrue t) (sym first.during.told) clean.told)
       (begun_tells m.settings (first_schema m.segments) u clean.told h.0) (first.after clean.told)
       (subst (λ (s : DirectoryState). FillsOutput m opened (Ok x) s b.output) same f.0)
@@ -252,11 +255,17 @@ module _ (m : MergeInput) (reads : AreReadBack m.settings (first_schema m.segmen
   merge_rests_so (Ok x) b merges = merge_rests x b merges
   merge_rests_so (Err e) b merges = tt
 
+-- nothing was done
+pub nothing_leaves : (m : MergeInput) (HaveHeld : List OpenSegment → Type 0) (o : DirectoryState) → IsEmptyDisk o.disk
+    → LeavesOnly (MayBeMergedBy m HaveHeld) o.disk o.disk
+nothing_leaves m HaveHeld o clean =
+    leaves_only (MayBeMergedBy m HaveHeld) o.disk o.disk (started o.disk)
+    (λ files image. inl
+    (ap (λ (f : NamedFiles). get f Meta) (settled_files_are_the_only_image empty files (subst (λ (x : FileDisk). IsImage x files) clean.none image))
+    ∙ get-empty name_cmp Meta))
+
 -- segments that are refused
 pub refused_leaves : (m : MergeInput) (a : Directories) → IsEmptyDisk a.output.disk
     → LeavesOnly (MayBeMerged m a.work.files) a.output.disk a.output.disk
 refused_leaves m a clean =
-    leaves_only (MayBeMerged m a.work.files) a.output.disk a.output.disk (started a.output.disk)
-    (λ files image. inl
-    (ap (λ (f : NamedFiles). get f Meta) (settled_files_are_the_only_image empty files (subst (λ (x : FileDisk). IsImage x files) clean.none image))
-    ∙ get-empty name_cmp Meta))
+    nothing_leaves m (λ opened. AllHaveHeld a.work.files (live_asked m.segments m.filters) opened) a.output clean

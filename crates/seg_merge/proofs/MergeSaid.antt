@@ -48,7 +48,7 @@ or_cause true cause rest e is = inr is
 or_cause false cause rest e is = inl (cc is)
 
 -- and it tells a cause
-abbrev IsArgument : TantivyError → Type 0
+abbrev pub IsArgument : TantivyError → Type 0
 IsArgument e = (cause : ArgumentCause) × (e ≡ InvalidArgument cause)
 
 one_cause : (m : MergeInput) (e : TantivyError) → one_refusal m ≡ Some e → IsArgument e
@@ -60,7 +60,7 @@ one_cause m e is = elim (or_cause (all_fit m.filters m.segments) Filters _ e is)
 some_is : (e d : TantivyError) → Some e ≡ Some d → e ≡ d
 some_is e d is = cc is
 
-cause_of : (m : MergeInput) (segments : List SegmentParts) (e : TantivyError) → IsRefusal m segments (Some e) → IsArgument e
+pub cause_of : (m : MergeInput) (segments : List SegmentParts) (e : TantivyError) → IsRefusal m segments (Some e) → IsArgument e
 cause_of m [] e h = (NoSegments, some_is e (InvalidArgument NoSegments) h)
 cause_of m (x ∷ segments) e (inl h) = (DifferentSchemas, some_is e (InvalidArgument DifferentSchemas) h.1)
 cause_of m (x ∷ segments) e (inr h) = one_cause m e (sym h.1)

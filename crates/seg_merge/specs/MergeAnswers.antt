@@ -68,19 +68,24 @@ AllHaveHeld files [] (s ∷ opened) = ⊥
 AllHaveHeld files (a ∷ asked) [] = ⊥
 AllHaveHeld files (a ∷ asked) (s ∷ opened) = HasHeld files a s × AllHaveHeld files asked opened
 
--- segments with what the work files hold were merged: they join, and the meta counts their documents; and where the output
+-- open segments with what files hold were merged: they join, and the meta counts their documents; and where the output
 -- directory tells its files, these are an index with this meta, whose segment has what they join to, with the estimated
 -- totals
-pub record IsMergeOf (m : MergeInput) (work : NamedFiles) (told : Type 0) (output : NamedFiles)
+pub record IsMergeBy (m : MergeInput) (HaveHeld : List OpenSegment → Type 0) (told : Type 0) (output : NamedFiles)
     (meta : Meta) : Type 0 where
   pub opened : List OpenSegment
-  pub held : AllHaveHeld work (live_asked m.segments m.filters) opened
+  pub held : HaveHeld opened
   pub counted : meta ≡ output_meta_of m (kept_count opened)
   pub index_of : told → index.index_of segment_forms output ≡ Some meta
   pub contents : Contents
   pub joins : joined (first_schema m.segments) opened ≡ Some contents
   pub holds : told → Holds output m.id (first_schema m.segments) contents
   pub totals : told → HasTotals output m.id (first_schema m.segments) (joined_total opened)
+
+-- the live segments, with what the work files hold, were merged
+abbrev pub IsMergeOf : MergeInput → NamedFiles → Type 0 → NamedFiles → Meta → Type 0
+IsMergeOf m work told output meta =
+    IsMergeBy m (λ opened. AllHaveHeld work (live_asked m.segments m.filters) opened) told output meta
 
 -- files are a whole index: they say this meta, and each segment that it lists is whole
 pub record IsWholeIndex (files : NamedFiles) (meta : Meta) : Type 0 where

@@ -105,7 +105,7 @@ pub fn merge_filtered_segments<W: Directory, O: Directory>(
 }
 
 /// Refuses segments that are not merged.
-fn check_segments(
+pub fn check_segments(
     segments: &[Segment],
     settings: &IndexSettings,
     filters: &[Option<AliveBitSet>],
@@ -269,7 +269,7 @@ fn open_live<W: Directory>(
 }
 
 /// The segments of which the meta counts a live document.
-fn live_segments(alloc: Global, segments: &[Segment]) -> Result<Vec<Segment>, AllocError>
+pub fn live_segments(alloc: Global, segments: &[Segment]) -> Result<Vec<Segment>, AllocError>
     ensures { IfOk result (λ live. live.items ≡ filter (λ s. is_live s.meta) segments.now) }
 {
     let mut live = Vec::new(alloc);
@@ -306,7 +306,7 @@ fn is_live(meta: &SegmentMeta) -> bool
 }
 
 /// Fills the output index, which was begun, with the merged segment.
-fn fill_output<O: Directory>(
+pub fn fill_output<O: Directory>(
     alloc: Global,
     segments: &[Segment],
     settings: &IndexSettings,

@@ -10,7 +10,7 @@ use seg_values::{Schema, TResult};
 use std::alloc::Global;
 
 /// Begins an index in a directory without files.
-pub(crate) fn begin_index<W: Directory>(
+pub fn begin_index<W: Directory>(
     alloc: Global,
     schema: &Schema,
     settings: &IndexSettings,

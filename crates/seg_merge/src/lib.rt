@@ -20,5 +20,6 @@ mod payload;
 mod work_index;
 
 pub use building::{build_index, build_index_of};
-pub use filtered_merging::merge_filtered_segments;
+pub use filtered_merging::{check_segments, fill_output, live_segments, merge_filtered_segments};
+pub use index_files::begin_index;
 pub use laws::answers_determine_parts;

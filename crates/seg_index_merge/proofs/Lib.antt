@@ -1,0 +1,7 @@
+mod Ends
+mod Listed
+mod Merging
+mod OnDisk
+mod OpenedSources
+mod Said
+mod SourceTurns

@@ -1,0 +1,3 @@
+pub mod IndicesMerged
+pub mod MergeAnswers
+pub mod Sources
