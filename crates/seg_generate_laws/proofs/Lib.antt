@@ -1,0 +1,2 @@
+mod DefaultTokens
+mod Valid
