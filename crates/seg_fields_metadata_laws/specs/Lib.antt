@@ -1,0 +1,2 @@
+pub mod FileLengths
+pub mod PartLengths
