@@ -59,6 +59,7 @@ def folders(top):
     check('no script', run(folder, ['build']), 3, 'script: not a valid script')
     assert run(folder, ['build'], script)[0] == 0
     check('full', run(folder, ['build'], script), 5, 'exists: a directory is not empty', ['work and out'])
+    check('full for generate', run(folder, ['generate', '7']), 5, 'exists: a directory is not empty', ['work and out'])
     check('full out', run(folder, ['merge']), 5, 'exists: a directory is not empty', ['in out;'])
     for part in 'term', 'idx', 'pos', 'fieldnorm', 'fast', 'store':
         file = next((folder / 'work').glob(f'*1.{part}'))
@@ -74,7 +75,8 @@ def folders(top):
     folder = top / 'no segments'
     run(folder, ['build'], first)
     check('no segments', run(folder, ['merge']), 4, 'refused: NoSegments', ['no segment'])
-    for words in ['bulid'], ['build', '--fast'], ['build', 'x.json'], ['show', '--in', 'x'], ['--full', 'build'], ['merge', 'merge']:
+    for words in (['bulid'], ['build', '--fast'], ['build', 'x.json'], ['show', '--in', 'x'], ['--full', 'build'], ['merge', 'merge'],
+                  ['generate'], ['generate', '07'], ['generate', '4294967296']):
         check(words, run(folder, words), 2, '', [' '.join(words)])
 
 

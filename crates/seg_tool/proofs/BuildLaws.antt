@@ -20,6 +20,7 @@ use Rattle.seg_merge.specs.IndexFiles.{IsMergedIndexOf, IsOutputIndexOf, IsWorkI
 use Rattle.seg_merge.specs.Turns.{Directories, goes_on, stops}
 use Rattle.seg_merge.proofs.Exports.{IsBuildError, RoseIn, build_error}
 use Rattle.seg_tool.specs.Jobs.{AreEmpty, Built, BuildsText, NotBuilt}
+use Rattle.seg_tool.specs.Printing.{opening}
 use Rattle.seg_tool.specs.ReadingBack.{PrintsIndex}
 use Rattle.seg_tool.specs.Run.{build_text}
 use Rattle.seg_tool.specs.declared.words.Detail.{Detail}
@@ -70,7 +71,7 @@ module _ (known : Known) (analyzer : Analyzer) (input : Input) (detail : Detail)
     pub between : Directories
     pub built : Built known analyzer input metas a between
     pub work : List ℕ
-    pub in_work : PrintsIndex [] (codes "work") detail (Ok work) between.work b.work
+    pub in_work : PrintsIndex (opening detail) (codes "work") detail (Ok work) between.work b.work
     pub in_output : PrintsIndex work (codes "output") detail (Ok text) between.output b.output
 
   pub printed : (text : List ℕ) (a b : Directories) → BuildsText known analyzer input detail (Ok text) a b → Printed text a b
@@ -81,7 +82,7 @@ module _ (known : Known) (analyzer : Analyzer) (input : Input) (detail : Detail)
     between = m;
     built = h;
     work = work;
-    in_work = subst (λ (s : DirectoryState). PrintsIndex [] (codes "work") detail (Ok work) m.work s) (sym l.1) k.0;
+    in_work = subst (λ (s : DirectoryState). PrintsIndex (opening detail) (codes "work") detail (Ok work) m.work s) (sym l.1) k.0;
     in_output = subst (λ (s : DirectoryState). PrintsIndex work (codes "output") detail (Ok text) s b.output) k.1 l.0;
   }
 
@@ -99,13 +100,13 @@ module _ (known : Known) (analyzer : Analyzer) (input : Input) (detail : Detail)
     pub printed_text : IsTrue a.work.tells → IsTrue a.output.tells → text ≡ build_text detail analyzer input
     printed_text told told_out =
         both_read law detail analyzer input p.between.work.files p.between.output.files p.work text
-        (prints_told [] (codes "work") detail p.between.work b.work p.work (told_work a p.between p.metas p.built told) p.in_work)
+        (prints_told (opening detail) (codes "work") detail p.between.work b.work p.work (told_work a p.between p.metas p.built told) p.in_work)
         (prints_told p.work (codes "output") detail p.between.output b.output text (told_output a p.between p.metas p.built told_out) p.in_output)
         (p.built.work_index told) (p.built.output_index told told_out)
 
   module _ (text : List ℕ) (a b : Directories) (p : Printed text a b) where
     pub work_stays : b.work.files ≡ p.between.work.files
-    work_stays = (prints_stay [] (codes "work") detail p.between.work b.work (Ok p.work) p.in_work).files
+    work_stays = (prints_stay (opening detail) (codes "work") detail p.between.work b.work (Ok p.work) p.in_work).files
 
     pub output_stays : b.output.files ≡ p.between.output.files
     output_stays = (prints_stay p.work (codes "output") detail p.between.output b.output (Ok text) p.in_output).files
@@ -125,25 +126,25 @@ module _ (known : Known) (analyzer : Analyzer) (input : Input) (detail : Detail)
   pub data NotPrinted (e : TantivyError) (a b : Directories) : Type 0 where
     in_building : NotBuilt known analyzer input e a b → NotPrinted e a b
     in_work : (metas : IndexMeta) (m : Directories) → Built known analyzer input metas a m
-        → PrintsIndex [] (codes "work") detail (Err e) m.work b.work → b.output ≡ m.output → NotPrinted e a b
+        → PrintsIndex (opening detail) (codes "work") detail (Err e) m.work b.work → b.output ≡ m.output → NotPrinted e a b
     in_output : (metas : IndexMeta) (m : Directories) (work : List ℕ) → Built known analyzer input metas a m
-        → PrintsIndex [] (codes "work") detail (Ok work) m.work b.work
+        → PrintsIndex (opening detail) (codes "work") detail (Ok work) m.work b.work
         → PrintsIndex work (codes "output") detail (Err e) m.output b.output → NotPrinted e a b
 
   pub not_printed : (e : TantivyError) (a b : Directories) → BuildsText known analyzer input detail (Err e) a b → NotPrinted e a b
   not_printed e a b (stops d is h) = in_building (subst (λ (x : TantivyError). NotBuilt known analyzer input x a b) (sym (cc is)) h)
   not_printed e a b (goes_on metas m h (stops d is k)) =
-      in_work metas m h (subst (λ (x : TantivyError). PrintsIndex [] (codes "work") detail (Err x) m.work b.work) (sym (cc is)) k.0) k.1
+      in_work metas m h (subst (λ (x : TantivyError). PrintsIndex (opening detail) (codes "work") detail (Err x) m.work b.work) (sym (cc is)) k.0) k.1
   not_printed e a b (goes_on metas m h (goes_on work n k l)) =
       in_output metas m work h
-      (subst (λ (s : DirectoryState). PrintsIndex [] (codes "work") detail (Ok work) m.work s) (sym l.1) k.0)
+      (subst (λ (s : DirectoryState). PrintsIndex (opening detail) (codes "work") detail (Ok work) m.work s) (sym l.1) k.0)
       (subst (λ (s : DirectoryState). PrintsIndex work (codes "output") detail (Err e) s b.output) k.1 l.0)
 
   module _ (e : TantivyError) (a b : Directories) where
     -- an error of reading back
     ends_so : NotPrinted e a b → NotBuilt known analyzer input e a b ⊎ IsReadError e
     ends_so (in_building h) = inl h
-    ends_so (in_work metas m built k same) = inr (prints_so [] (codes "work") detail m.work b.work e k)
+    ends_so (in_work metas m built k same) = inr (prints_so (opening detail) (codes "work") detail m.work b.work e k)
     ends_so (in_output metas m work built k l) = inr (prints_so work (codes "output") detail m.output b.output e l)
 
     pub not_first : NotPrinted e a b → IfSome (input_refusal known analyzer input) (λ first. ((e ≡ first) ⊎ (e ≡ OutOfMemory)) × (b ≡ a))
@@ -164,8 +165,8 @@ module _ (known : Known) (analyzer : Analyzer) (input : Input) (detail : Detail)
         let is = built.work_index told in
         let tells = told_work a m metas built told in
         inr (
-          prints_so [] (codes "work") detail m.work b.work e k,
-          prints_undamaged [] (codes "work") detail m.work b.work _ tells is.index_of e (work_whole analyzer input m.work.files is) k,
+          prints_so (opening detail) (codes "work") detail m.work b.work e k,
+          prints_undamaged (opening detail) (codes "work") detail m.work b.work _ tells is.index_of e (work_whole analyzer input m.work.files is) k,
         )
     reads_so told told_out (in_output metas m work built k l) =
         let is = built.output_index told told_out in
@@ -204,9 +205,9 @@ module _ (known : Known) (analyzer : Analyzer) (input : Input) (detail : Detail)
     pub not_error : NotPrinted e a b → IsBuildError e a b
     not_error (in_building h) = build_error known analyzer input e a b h.calls
     not_error (in_work metas m built k same) =
-        error_as e a b (prints_so [] (codes "work") detail m.work b.work e k)
+        error_as e a b (prints_so (opening detail) (codes "work") detail m.work b.work e k)
         (λ is. inl (rose_between a.work.faults m.work.faults b.work.faults b.work.faults (steady a m metas built).work.later
-        (prints_rose [] (codes "work") detail m.work b.work (subst (λ (x : TantivyError). PrintsIndex [] (codes "work") detail (Err x) m.work b.work) is k)) (omega arith)))
+        (prints_rose (opening detail) (codes "work") detail m.work b.work (subst (λ (x : TantivyError). PrintsIndex (opening detail) (codes "work") detail (Err x) m.work b.work) is k)) (omega arith)))
     not_error (in_output metas m work built k l) =
         error_as e a b (prints_so work (codes "output") detail m.output b.output e l)
         (λ is. inr (rose_between a.output.faults m.output.faults b.output.faults b.output.faults (steady a m metas built).output.later

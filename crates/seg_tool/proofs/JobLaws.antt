@@ -143,6 +143,17 @@ module _ {K : Type 0} {does : Result (List ℕ) TantivyError → Directories →
       by (j_failed text is h part rose later) = of (Ok text) h
       by (j_done text is h appends later) = of (Ok text) h
 
+  -- what holds of each status, by what was done
+  pub job_by : (P : Status → Type 0) → ((text : List ℕ) → does (Ok text) a.directories b.directories → P Done)
+      → ((text : List ℕ) → does (Ok text) a.directories b.directories → P Stream)
+      → ((e : TantivyError) → does (Err e) a.directories b.directories → P (status_of e)) → P status
+  job_by P done stream of = by exits
+    where
+      by : JobExits does status sink sink_after a b → P status
+      by (j_error e is h same_sink none) = subst P (sym is) (of e h)
+      by (j_failed text is h part rose later) = subst P (sym is) (stream text h)
+      by (j_done text is h appends later) = subst P (sym is) (done text h)
+
   -- what holds of each status
   pub job_so : (P : Status → Type 0) → P Done → P Stream
       → ((e : TantivyError) → does (Err e) a.directories b.directories → P (status_of e)) → P status

@@ -13,10 +13,11 @@ use Rattle.seg_segment.proofs.Exports.{Unchanged}
 use Rattle.seg_merge.specs.AfterCrash.{AreMergeOf, MayBeBuilt, MayBeMerged}
 use Rattle.seg_merge.specs.IndexFiles.{IsOutputIndexOf}
 use Rattle.seg_merge.specs.Turns.{Directories, goes_on, stops}
+use Rattle.seg_generate.specs.Generated.{generated}
 use Rattle.seg_tool.specs.AfterCrash.{HasNoIndex, IsMergeOfListed, MayBeMergeOf}
-use Rattle.seg_tool.specs.Jobs.{Built, BuildsText, Merges, MergesText, merge_of}
+use Rattle.seg_tool.specs.Jobs.{Built, BuildsText, GeneratesText, Merges, MergesText, merge_of, not_generated, of_generated}
 use Rattle.seg_tool.specs.declared.words.Detail.{Detail}
-use Rattle.seg_tool.specs.declared.words.Detail.TheVariants.{Brief}
+use Rattle.seg_tool.specs.declared.words.Detail.TheVariants.{Brief, Summary}
 use Rattle.seg_tool.proofs.BuildLaws.{printed}
 use Rattle.seg_tool.proofs.IndexLaws.{load_index, load_stays, tells_on}
 use Rattle.seg_tool.proofs.OutputOnDisk.{leaves_still, leaves_weaker, still_empty, told_on}
@@ -49,6 +50,22 @@ module _ (known : Known) (analyzer : Analyzer) (input : Input) (detail : Detail)
       let still = told_on (MayBeBuilt analyzer input) a.output.disk p.between.output.disk clean.told (p.built.any_moment told clean) in
       let keeps = prints_keep p.work (codes "output") detail (Ok text) p.between.output b.output still p.in_output in
       subst (λ (d : FileDisk). HasOnly (IsOutputIndexOf analyzer input) d) (sym (keeps.after still)) (p.built.at_rest told clean)
+
+-- ---- generate
+
+module _ (known : Known) (analyzer : Analyzer) (seed : ℕ) (a : Directories) (told : IsTrue a.work.tells)
+    (clean : IsEmptyDisk a.output.disk) where
+  pub generates_leave : (r : Result (List ℕ) TantivyError) (b : Directories) → GeneratesText known analyzer seed r a b
+      → LeavesOnly (MayBeBuilt analyzer (generated seed)) a.output.disk b.output.disk
+  generates_leave r b (not_generated is same) =
+      still_empty (MayBeBuilt analyzer (generated seed)) (λ files none. inl none) a.output.disk b.output.disk
+      (ap (λ (d : Directories). d.output.disk) same) clean
+  generates_leave r b (of_generated builds) = builds_leave known analyzer (generated seed) Summary a told clean r b builds
+
+  pub generates_rest : (text : List ℕ) (b : Directories) → GeneratesText known analyzer seed (Ok text) a b
+      → HasOnly (IsOutputIndexOf analyzer (generated seed)) b.output.disk.now
+  generates_rest text b (not_generated is same) = absurd (cc is)
+  generates_rest text b (of_generated builds) = builds_rest known analyzer (generated seed) Summary a told clean text b builds
 
 -- ---- merge
 

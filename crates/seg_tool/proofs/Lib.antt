@@ -4,6 +4,7 @@ mod Commands
 mod Ended
 mod Endings
 mod Faults
+mod Generated
 mod IndexLaws
 mod JobLaws
 mod JobSteps

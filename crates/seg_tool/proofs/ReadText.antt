@@ -28,7 +28,7 @@ use Rattle.seg_batches.specs.Segments.{AllStand, AllTellAlive, TellsAlive, all_l
 use Rattle.seg_merge.specs.IndexFiles.{IsOutputIndexOf, IsWorkIndexOf, output_id, undeleted, work_ids}
 use Rattle.seg_merge.specs.MergeAnswers.{HoldsMarks}
 use Rattle.seg_tool.specs.Indexes.{AreReadOf, IsPrinted, IsReadOf}
-use Rattle.seg_tool.specs.Printing.{printed_text, read_segment_text, read_texts}
+use Rattle.seg_tool.specs.Printing.{opening, printed_text, read_segment_text, read_texts}
 use Rattle.seg_tool.specs.Run.{build_text, documents_text, output_text, segment, work_text}
 use Rattle.seg_tool.specs.declared.words.Detail.{Detail}
 
@@ -165,12 +165,12 @@ module _ (law : HoldsOneContents) (detail : Detail) (analyzer : Analyzer) (input
       (read_as front (codes "output") detail files text p _ is.index_of))
 
   -- the text of both
-  pub both_read : (work_files output_files : NamedFiles) (work text : List ℕ) → IsPrinted [] (codes "work") detail work_files work
+  pub both_read : (work_files output_files : NamedFiles) (work text : List ℕ) → IsPrinted (opening detail) (codes "work") detail work_files work
       → IsPrinted work (codes "output") detail output_files text → IsWorkIndexOf analyzer input work_files → IsOutputIndexOf analyzer input output_files
       → text ≡ build_text detail analyzer input
   both_read work_files output_files work text p q is output_index =
       output_read work output_files text q output_index
-      ∙ ap (λ xs. xs ++ output_text detail input.schema analyzer (output_id input.ids) (input_survivors analyzer input)) (work_read [] work_files work p is)
+      ∙ ap (λ xs. xs ++ output_text detail input.schema analyzer (output_id input.ids) (input_survivors analyzer input)) (work_read (opening detail) work_files work p is)
 
 -- ---- segments that stand for documents are whole
 

@@ -10,7 +10,7 @@ use Rattle.seg_directory.proofs.Exports.{does_nothing}
 use Rattle.seg_directory.specs.Does.{GoesOn}
 use Rattle.seg_directory.specs.State.{DirectoryState}
 use Rattle.seg_directory.specs.Works.{Step, StepBreaks, StepGoes, Works}
-use Rattle.seg_meta.specs.MetaSteps.{LoadsMetas}
+use Rattle.seg_meta.specs.MetaSteps.{LoadsMetas, load_steps}
 use Rattle.seg_meta.specs.Metas.{SegmentParts}
 use Rattle.seg_meta.specs.declared.index_meta.IndexMeta.{IndexMeta}
 use Rattle.seg_open.specs.OpenSegment.{OpenSegment}
@@ -127,6 +127,17 @@ module _ (front label : List ℕ) (detail : Detail) (metas : IndexMeta) (a b : D
   pub listed : (segments : List SegmentParts) (r : Result (List ℕ) TantivyError) (c : DirectoryState) → segments ≡ listed_in metas
       → ReadsText front label detail (all_of segments) r b c → PrintsIndex front label detail r a c
   listed segments r c is read = loaded metas b load (subst (λ (l : List SegmentParts). ReadsText front label detail (all_of l) r b c) is read)
+
+-- the same front, put in another way
+pub from_front : {front other label : List ℕ} {detail : Detail} {r : Result (List ℕ) TantivyError} {a b : DirectoryState} → front ≡ other
+    → PrintsIndex front label detail r a b → PrintsIndex other label detail r a b
+from_front {label = label} {detail = detail} {r = r} {a = a} {b = b} same prints =
+    subst (λ (xs : List ℕ). PrintsIndex xs label detail r a b) same prints
+
+-- there is no memory for what comes before
+pub not_begun : (front label : List ℕ) (detail : Detail) (a : DirectoryState) → PrintsIndex front label detail (Err OutOfMemory) a a
+not_begun front label detail a =
+    not_loaded OutOfMemory refl (record { bytes = []; from_bytes = record { works = does_nothing (load_steps []); says = tt } })
 
 -- before any text
 pub from_nothing : {front label : List ℕ} {detail : Detail} {r : Result (List ℕ) TantivyError} {a b : DirectoryState} → front ≡ []

@@ -9,21 +9,23 @@ use Rattle.seg_directory.specs.State.{DirectoryState, HasOnly, IsEmptyDisk, Leav
 use Rattle.seg_model.specs.Fields.{Analyzer}
 use Rattle.seg_model.specs.Input.{Input}
 use Rattle.seg_model.specs.Valid.{Known}
+use Rattle.seg_merge.specs.IndexFiles.{IsOutputIndexOf}
 use Rattle.seg_merge.specs.Turns.{Directories}
 use Rattle.seg_script.specs.Script.{script}
+use Rattle.seg_generate.specs.Generated.{generated}
 use Rattle.seg_tool.specs.AfterCrash.{CrashLeaves, HasNoIndex, IsBuiltOf, IsMergeOfListed, MayBeBuiltOf}
-use Rattle.seg_tool.specs.Jobs.{BuildsText, MergesText, WithStatus}
+use Rattle.seg_tool.specs.Jobs.{BuildsText, GeneratesText, MergesText, WithStatus}
 use Rattle.seg_tool.specs.Runs.{EndsJob, Runs, RunsCommand, TakesAll, World}
-use Rattle.seg_tool.specs.Words.{UnlessBuild, command_of}
+use Rattle.seg_tool.specs.Words.{UnlessWritten, command_of}
 use Rattle.seg_tool.specs.declared.status.Status.{Status}
 use Rattle.seg_tool.specs.declared.status.Status.TheVariants.{Done}
 use Rattle.seg_tool.specs.declared.words.Command.{Command}
-use Rattle.seg_tool.specs.declared.words.Command.TheVariants.{Build, Merge, Show}
+use Rattle.seg_tool.specs.declared.words.Command.TheVariants.{Build, Generate, Merge, Show}
 use Rattle.seg_tool.specs.declared.words.Detail.{Detail}
 use Rattle.seg_tool.specs.declared.words.Detail.TheVariants.{Full}
 use Rattle.seg_tool.proofs.Ended.{Ends, Prints, e_input, e_memory, e_script, ended_early}
 use Rattle.seg_tool.proofs.JobLaws.{job_each, job_gains, shows_stay}
-use Rattle.seg_tool.proofs.JobsOnDisk.{builds_leave, builds_rest, merges_leave, merges_rest}
+use Rattle.seg_tool.proofs.JobsOnDisk.{builds_leave, builds_rest, generates_leave, generates_rest, merges_leave, merges_rest}
 use Rattle.seg_tool.proofs.OutputOnDisk.{still_empty}
 use Rattle.seg_tool.proofs.Ran.{Exits, exits, of_all, x_done, x_ended, x_failed, x_long, x_read, x_starved}
 use Rattle.seg_tool.proofs.ReadingOnDisk.{prints_keep}
@@ -90,10 +92,21 @@ module _ (analyzer : Analyzer) (detail : Detail) (status : Status) (a b : World)
   by_exit known sink sink_after (x_failed bytes text is takes prints part rose later) = of_prints known bytes takes text prints
   by_exit known sink sink_after (x_done bytes text is takes prints appends later) = of_prints known bytes takes text prints
 
--- ---- merge, show, and words that are no command
+-- ---- generate, merge, show, and words that are no command
 
 module _ (analyzer : Analyzer) (status : Status) (a b : World) (told : IsTrue a.directories.work.tells)
     (clean : IsEmptyDisk a.directories.output.disk) where
+  generate_leaves : {K : Type 0} {known : Known} (seed : ℕ) (sink sink_after : K)
+      → EndsJob (WithStatus (GeneratesText known analyzer seed)) status sink sink_after a b
+      → CrashLeaves analyzer (Some (Generate seed)) a.source.left status a.directories b.directories
+  generate_leaves {known = known} seed sink sink_after ends = record {
+    meant = meant_by a.source.left;
+    is_script = by_script a.source.left;
+    any_moment = job_each ends _ (λ r h. generates_leave known analyzer seed a.directories told clean r b.directories h);
+    at_rest = λ at. (job_gains ends (λ _. HasOnly (IsOutputIndexOf analyzer (generated seed)) b.directories.output.disk.now)
+        (λ text h. generates_rest known analyzer seed a.directories told clean text b.directories h) at).is_text;
+  }
+
   merge_leaves : {K : Type 0} (sink sink_after : K) → EndsJob (WithStatus MergesText) status sink sink_after a b
       → CrashLeaves analyzer (Some Merge) a.source.left status a.directories b.directories
   merge_leaves sink sink_after ends = record {
@@ -127,20 +140,22 @@ module _ {S K : Type 0} {known : Known} {analyzer : Analyzer} {words : List (Str
           → CrashLeaves analyzer o a.source.left status a.directories b.directories
       by None h = words_leave a.directories b.directories clean (ap (λ (w : World). w.directories.output) h.same) analyzer a.source.left status
       by (Some (Build detail)) h = by_exit analyzer detail status a b told clean known sink sink_after (exits h)
+      by (Some (Generate seed)) h = generate_leaves analyzer status a b told clean seed sink sink_after h.ends
       by (Some Merge) h = merge_leaves analyzer status a b told clean sink sink_after h.ends
       by (Some Show) h =
           show_leaves a.directories b.directories clean
           (job_each h.ends (b.directories.output ≡ a.directories.output) (λ q k. (shows_stay a.directories b.directories q k).1))
           analyzer a.source.left status
 
-  -- but for `build`, no image of the work directory changes
-  pub run_keeps : UnlessBuild (command_of words) (Kept a.directories.work b.directories.work)
+  -- but for `build` and `generate`, no image of the work directory changes
+  pub run_keeps : UnlessWritten (command_of words) (Kept a.directories.work b.directories.work)
   run_keeps = by (command_of words) r.runs
     where
       by : (o : Option Command) → RunsCommand known analyzer o status source source_after sink sink_after a b
-          → UnlessBuild o (Kept a.directories.work b.directories.work)
+          → UnlessWritten o (Kept a.directories.work b.directories.work)
       by None h = kept_same a.directories.work b.directories.work (ap (λ (w : World). w.directories.work) h.same)
       by (Some (Build detail)) h = tt
+      by (Some (Generate seed)) h = tt
       by (Some Merge) h = job_each h.ends (Kept a.directories.work b.directories.work) (λ q k. merges_keep q a.directories b.directories k)
       by (Some Show) h =
           job_each h.ends (Kept a.directories.work b.directories.work)

@@ -19,6 +19,7 @@ use Rattle.seg_open.specs.SegmentOpened.{Asked, Found, alive_steps, all_steps, s
 use Rattle.seg_merge.specs.Taken.{HoldsTaken, gained}
 use Rattle.seg_merge.specs.Turns.{Directories}
 use Rattle.seg_merge.proofs.Exports.{builds_seen, gained_as, holds_taken, told_both}
+use Rattle.seg_tool.specs.Printing.{opening}
 use Rattle.seg_tool.specs.ReadingBack.{PrintsIndex, all_of, fails, listed_in, loaded, not_loaded, reads}
 use Rattle.seg_tool.specs.Taken.{before_meta, reads_meta}
 use Rattle.seg_tool.specs.declared.words.Detail.{Detail}
@@ -95,7 +96,7 @@ module _ (front label : List ℕ) (detail : Detail) (a b : DirectoryState) (text
 module _ (known : Known) (analyzer : Analyzer) (input : Input) (detail : Detail) (text : List ℕ) (a b : Directories)
     (p : Printed known analyzer input detail text a b) where
   back : ReadsBack p.between.work b.work
-  back = reads_back [] (codes "work") detail p.between.work b.work p.work p.in_work
+  back = reads_back (opening detail) (codes "work") detail p.between.work b.work p.work p.in_work
 
   abbrev of_building : List Answer
   of_building = gained a.work.seen p.between.work.seen

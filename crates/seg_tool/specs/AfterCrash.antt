@@ -13,11 +13,12 @@ use Rattle.seg_merge.specs.IndexFiles.{IsOutputIndexOf}
 use Rattle.seg_merge.specs.SegmentsMerged.{MergeInput}
 use Rattle.seg_merge.specs.Turns.{Directories}
 use Rattle.seg_script.specs.Script.{script}
+use Rattle.seg_generate.specs.Generated.{generated}
 use Rattle.seg_tool.specs.Jobs.{merge_of}
 use Rattle.seg_tool.specs.declared.status.Status.{Status}
 use Rattle.seg_tool.specs.declared.status.Status.TheVariants.{Done}
 use Rattle.seg_tool.specs.declared.words.Command.{Command}
-use Rattle.seg_tool.specs.declared.words.Command.TheVariants.{Build, Merge, Show}
+use Rattle.seg_tool.specs.declared.words.Command.TheVariants.{Build, Generate, Merge, Show}
 
 -- the files have no index
 abbrev pub HasNoIndex : NamedFiles → Type 0
@@ -43,6 +44,7 @@ MayBeMergeOf work files = HasNoIndex files ⊎ OfMerge (λ m. MayBeMerged m work
 -- by the words
 abbrev pub MayBeLeft : Analyzer → Option Command → Option Input → NamedFiles → NamedFiles → Type 0
 MayBeLeft analyzer (Some (Build detail)) meant work = MayBeBuiltOf analyzer meant
+MayBeLeft analyzer (Some (Generate seed)) meant work = MayBeBuilt analyzer (generated seed)
 MayBeLeft analyzer (Some Merge) meant work = MayBeMergeOf work
 MayBeLeft analyzer (Some Show) meant work = HasNoIndex
 MayBeLeft analyzer None meant work = HasNoIndex
@@ -61,6 +63,7 @@ IsMergeOfListed work files = OfMerge (λ m. AreMergeOf m work files) work
 -- by the words
 abbrev pub IsLeft : Analyzer → Option Command → Option Input → NamedFiles → NamedFiles → Type 0
 IsLeft analyzer (Some (Build detail)) meant work = IsBuiltOf analyzer meant
+IsLeft analyzer (Some (Generate seed)) meant work = IsOutputIndexOf analyzer (generated seed)
 IsLeft analyzer (Some Merge) meant work = IsMergeOfListed work
 IsLeft analyzer (Some Show) meant work = HasNoIndex
 IsLeft analyzer None meant work = HasNoIndex

@@ -21,12 +21,14 @@ use Rattle.seg_merge.specs.MergeAnswers.{CanBeMerged, IsMergeError, IsMergeOf, I
 use Rattle.seg_merge.specs.SegmentsMerged.{MergeInput, MergesSegments, merge_input}
 use Rattle.seg_merge.specs.Turns.{Directories, InOutput, InWork, Then}
 use Rattle.seg_script.specs.Script.{script}
+use Rattle.seg_generate.specs.Generated.{generated}
+use Rattle.seg_tool.specs.Printing.{opening}
 use Rattle.seg_tool.specs.ReadingBack.{PrintsIndex, listed_in}
 use Rattle.seg_tool.specs.Statuses.{status_of}
 use Rattle.seg_tool.specs.declared.status.Status.{Status}
 use Rattle.seg_tool.specs.declared.status.Status.TheVariants.{Memory, Script}
 use Rattle.seg_tool.specs.declared.words.Detail.{Detail}
-use Rattle.seg_tool.specs.declared.words.Detail.TheVariants.{Brief, Full}
+use Rattle.seg_tool.specs.declared.words.Detail.TheVariants.{Brief, Full, Summary}
 
 -- ---- both indexes are built
 
@@ -69,14 +71,22 @@ BuildsBoth known analyzer input (Err e) before after = NotBuilt known analyzer i
 
 -- ---- texts
 
--- the index of the work directory is printed, and then that of the output directory
+-- after what comes before, the index of the work directory is printed, and then that of the output directory
 abbrev pub PrintsBoth : Detail → Result (List ℕ) TantivyError → Directories → Directories → Type 0
 PrintsBoth detail =
-    Then {X = List ℕ} (InWork (PrintsIndex [] (codes "work") detail)) (λ work. InOutput (PrintsIndex work (codes "output") detail))
+    Then {X = List ℕ} (InWork (PrintsIndex (opening detail) (codes "work") detail))
+    (λ work. InOutput (PrintsIndex work (codes "output") detail))
 
 -- both indexes of an input are written, and then printed, of what the directories answer
 abbrev pub BuildsText : Known → Analyzer → Input → Detail → Result (List ℕ) TantivyError → Directories → Directories → Type 0
 BuildsText known analyzer input detail = Then {X = IndexMeta} (BuildsBoth known analyzer input) (λ _. PrintsBoth detail)
+
+-- memory runs out before; or both indexes of the input of a number are written, and their summary is printed
+pub data GeneratesText (known : Known) (analyzer : Analyzer) (seed : ℕ) (result : Result (List ℕ) TantivyError)
+    (before after : Directories) : Type 0 where
+  not_generated : result ≡ Err OutOfMemory → after ≡ before → GeneratesText known analyzer seed result before after
+  of_generated : BuildsText known analyzer (generated seed) Summary result before after
+      → GeneratesText known analyzer seed result before after
 
 -- the id of 32 digits f
 abbrev pub last_id : ℕ

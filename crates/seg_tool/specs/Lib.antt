@@ -1,5 +1,6 @@
 pub mod AfterCrash
 pub mod DirectoryCalls
+pub mod Generating
 pub mod Indexes
 pub mod Jobs
 pub mod Printing

@@ -22,7 +22,7 @@ use Rattle.seg_merge.specs.Turns.{Directories}
 use Rattle.seg_script.specs.Script.{script}
 use Rattle.seg_text.specs.SegmentText.{PrintedSegment}
 use Rattle.seg_tool.specs.Jobs.{BuildsText}
-use Rattle.seg_tool.specs.Printing.{printed_text}
+use Rattle.seg_tool.specs.Printing.{opening, printed_text}
 use Rattle.seg_tool.specs.declared.words.Detail.{Detail}
 
 -- ---- the text
@@ -53,10 +53,10 @@ abbrev pub output_text : Detail → Schema → Analyzer → ℕ → List Documen
 output_text detail schema analyzer id survivors =
     documents_text detail schema analyzer (codes "output") id survivors (replicate (length survivors) true)
 
--- the work segments in order, and then the output segment
+-- what comes before, the work segments in order, and then the output segment
 abbrev pub build_text : Detail → Analyzer → Input → List ℕ
 build_text detail analyzer input =
-    work_text detail input.schema analyzer (work_ids input.ids) (input_batches analyzer input)
+    opening detail ++ work_text detail input.schema analyzer (work_ids input.ids) (input_batches analyzer input)
     ++ output_text detail input.schema analyzer (output_id input.ids) (input_survivors analyzer input)
 
 -- ---- the script

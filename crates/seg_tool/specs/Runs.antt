@@ -8,13 +8,13 @@ use Rattle.seg_common.specs.Streams.{AppendsPart, IsAllOf, TakesAtMost}
 use Rattle.seg_model.specs.Fields.{Analyzer}
 use Rattle.seg_model.specs.Valid.{Known}
 use Rattle.seg_merge.specs.Turns.{Directories}
-use Rattle.seg_tool.specs.Jobs.{BuildsScript, MergesText, ShowsText, WithStatus}
+use Rattle.seg_tool.specs.Jobs.{BuildsScript, GeneratesText, MergesText, ShowsText, WithStatus}
 use Rattle.seg_tool.specs.Run.{max_script}
 use Rattle.seg_tool.specs.Words.{command_of}
 use Rattle.seg_tool.specs.declared.status.Status.{Status}
 use Rattle.seg_tool.specs.declared.status.Status.TheVariants.{Done, Words, Script, Stream, Memory}
 use Rattle.seg_tool.specs.declared.words.Command.{Command}
-use Rattle.seg_tool.specs.declared.words.Command.TheVariants.{Build, Merge, Show}
+use Rattle.seg_tool.specs.declared.words.Command.TheVariants.{Build, Generate, Merge, Show}
 use Rattle.seg_tool.specs.declared.words.Detail.{Detail}
 
 -- what is told of a source, and of a sink
@@ -107,6 +107,8 @@ RunsCommand known analyzer None status source source_after sink sink_after befor
     TouchesNothing status source source_after sink sink_after before after
 RunsCommand known analyzer (Some (Build detail)) status source source_after sink sink_after before after =
     RunsBuild known analyzer detail status sink sink_after before after
+RunsCommand known analyzer (Some (Generate seed)) status source source_after sink sink_after before after =
+    RunsUnread (WithStatus (GeneratesText known analyzer seed)) status source source_after sink sink_after before after
 RunsCommand known analyzer (Some Merge) status source source_after sink sink_after before after =
     RunsUnread (WithStatus MergesText) status source source_after sink sink_after before after
 RunsCommand known analyzer (Some Show) status source source_after sink sink_after before after =

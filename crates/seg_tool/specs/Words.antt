@@ -1,9 +1,11 @@
 -- The words of the command line.
 use Rattle.std.specs.Prelude.{ℕ, List, [], ◌∷◌, if◌then◌else◌, Option, Some, None, codes, String, string_bytes}
+use Rattle.std.specs.Option.{option_map}
 use Rattle.std.specs.declared.alloc.Global.{Global}
 use Rattle.std.specs.Str.{bytes_eq}
+use Rattle.seg_generate.specs.Seeds.{seed_named}
 use Rattle.seg_tool.specs.declared.words.Command.{Command}
-use Rattle.seg_tool.specs.declared.words.Command.TheVariants.{Build, Merge, Show}
+use Rattle.seg_tool.specs.declared.words.Command.TheVariants.{Build, Generate, Merge, Show}
 use Rattle.seg_tool.specs.declared.words.Detail.{Detail}
 use Rattle.seg_tool.specs.declared.words.Detail.TheVariants.{Brief, Full}
 
@@ -16,7 +18,8 @@ of_one word =
 -- the job of two words
 abbrev pub of_two : List ℕ → List ℕ → Option Command
 of_two first second =
-    if bytes_eq first (codes "build") then (if bytes_eq second (codes "--full") then Some (Build Full) else None) else None
+    if bytes_eq first (codes "build") then (if bytes_eq second (codes "--full") then Some (Build Full) else None)
+    else (if bytes_eq first (codes "generate") then option_map Generate (seed_named second) else None)
 
 -- the job of words
 abbrev pub command_of : List (String Global) → Option Command
@@ -39,6 +42,17 @@ IfMerge _ P = Unit {0}
 abbrev pub IfShow : Option Command → Type 0 → Type 0
 IfShow (Some Show) P = P
 IfShow _ P = Unit {0}
+
+-- a fact where they ask for `generate`, of its number
+abbrev pub IfGenerate : Option Command → (ℕ → Type 0) → Type 0
+IfGenerate (Some (Generate seed)) P = P seed
+IfGenerate _ P = Unit {0}
+
+-- a fact where no work index is written
+abbrev pub UnlessWritten : Option Command → Type 0 → Type 0
+UnlessWritten (Some (Build detail)) P = Unit {0}
+UnlessWritten (Some (Generate seed)) P = Unit {0}
+UnlessWritten _ P = P
 
 -- a fact where they don't ask for `build`
 abbrev pub UnlessBuild : Option Command → Type 0 → Type 0

@@ -1,21 +1,23 @@
 //! From the bytes of a script to its indexes, and to the text of what the directories then answer.
-ghost use Rattle.std.specs.Prelude.{◌≡◌};
+ghost use Rattle.std.specs.Prelude.{◌≡◌, IfOk};
 ghost use Rattle.seg_merge.specs.Turns.{both};
 ghost use Rattle.seg_open.specs.Answers.{seen_as};
 ghost use Rattle.seg_tool.specs.Jobs.{BuildsBoth, BuildsScript, BuildsText};
+ghost use Rattle.seg_tool.specs.Printing.{opening};
 ghost use Rattle.seg_tool.specs.Statuses.{status_of};
 
 use crate::reading_back::print_index;
 use crate::status::Status;
 use crate::words::Detail;
 use seg_directory::Directory;
+use seg_generate::push_generated;
 use seg_input::BuildInput;
 use seg_merge::build_index_of;
 use seg_meta::Index;
 use seg_script::{ScriptError, read_script};
 use seg_values::{TResult, TantivyError};
 use seg_words::Analyzers;
-use std::alloc::Global;
+use std::alloc::{AllocError, Global};
 
 /// Writes the indexes of a script, and answers what is then printed of them.
 pub(crate) fn build<Z: Analyzers, W: Directory, O: Directory>(
@@ -40,8 +42,8 @@ pub(crate) fn build<Z: Analyzers, W: Directory, O: Directory>(
     }
 }
 
-/// Writes the indexes of an input, and answers what is then printed of them.
-fn build_and_print<Z: Analyzers, W: Directory, O: Directory>(
+/// Writes the indexes of an input, and answers what is then printed of them. The input is let go of before.
+pub(crate) fn build_and_print<Z: Analyzers, W: Directory, O: Directory>(
     alloc: Global,
     analyzers: &Z,
     input: BuildInput,
@@ -56,11 +58,29 @@ fn build_and_print<Z: Analyzers, W: Directory, O: Directory>(
         Ok(index) => index,
         Err(e) => return Err(e),
     };
-    let out = match print_index(alloc, Vec::new(alloc), "work", detail, work) {
+    let Ok(opening) = opening(alloc, detail) else {
+        return Err(TantivyError::OutOfMemory);
+    };
+    let out = match print_index(alloc, opening, "work", detail, work) {
         Ok(out) => out,
         Err(e) => return Err(e),
     };
     print_index(alloc, out, "output", detail, output)
+}
+
+/// What is printed before the segments.
+fn opening(alloc: Global, detail: Detail) -> Result<Vec<u8>, AllocError>
+    ensures { IfOk result (λ out. out.items ≡ opening detail) }
+{
+    let mut out = Vec::new(alloc);
+    match detail {
+        Detail::Summary => {
+            push_generated(&mut out)?;
+            Ok(out)
+        }
+        Detail::Brief => Ok(out),
+        Detail::Full => Ok(out),
+    }
 }
 
 /// Writes the indexes of an input, which is let go of as soon as it may be.

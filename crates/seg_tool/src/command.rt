@@ -7,21 +7,25 @@ ghost use Rattle.seg_common.specs.Idle.{OnlyLastIsIdle};
 ghost use Rattle.seg_common.specs.Streams.{AppendsPart, TakesAtMost};
 ghost use Rattle.seg_directory.specs.DiskChanges.{KeepsDisk};
 ghost use Rattle.seg_directory.specs.State.{DirectoryState, IsEmptyDisk};
+ghost use Rattle.seg_generate.specs.Generated.{generated};
+ghost use Rattle.seg_generate_laws.specs.Taking.{TakesTexts};
 ghost use Rattle.seg_merge.specs.Taken.{gained};
 ghost use Rattle.seg_merge.specs.Turns.{both};
 ghost use Rattle.seg_open.specs.Answers.{seen_as};
 ghost use Rattle.seg_script.specs.Script.{script};
 ghost use Rattle.seg_tool.specs.AfterCrash.{CrashLeaves};
 ghost use Rattle.seg_tool.specs.DirectoryCalls.{BuildDoes, IsReady, JobDoes};
+ghost use Rattle.seg_tool.specs.Generating.{Generates};
 ghost use Rattle.seg_tool.specs.Indexes.{HasMergeableIndex, HasWholeIndex, HasWholeLiveSegments, IsMergedText, IsShownText};
-ghost use Rattle.seg_tool.specs.Jobs.{BuildsScript, MergesText, ShowsText, WithStatus};
+ghost use Rattle.seg_tool.specs.Jobs.{BuildsScript, GeneratesText, MergesText, ShowsText, WithStatus};
 ghost use Rattle.seg_tool.specs.Run.{max_script, first_of, HasMergedIndex, HasOutputIndex, HasWorkIndex, IsAdmitted, IsNoScript, IsScript, IsTextOf, IsValidScript, IsWhyRefused, IsWhyRefusedUntold, Gains, GainsPart};
 ghost use Rattle.seg_tool.specs.Runs.{EndsJob, Runs, RunsBuild, SourceState, WritesText, sink_state, source_state, world};
 ghost use Rattle.seg_tool.specs.Statuses.{IfRefused, IfWritten, RefusedFor, status_line};
 ghost use Rattle.seg_tool.specs.Taken.{HasTaken, before_meta};
-ghost use Rattle.seg_tool.specs.Words.{IfBuild, IfMerge, IfShow, UnlessBuild, command_of};
+ghost use Rattle.seg_tool.specs.Words.{IfBuild, IfGenerate, IfMerge, IfShow, UnlessBuild, UnlessWritten, command_of};
 
 use crate::building::{build, status_of};
+use crate::generating::generate;
 use crate::merging::merge_and_print;
 use crate::reading_back::print_index;
 use crate::reporting::report;
@@ -29,6 +33,7 @@ use crate::status::Status;
 use crate::words::{Command, Detail, command_of};
 use seg_common::{FileName, ReadError, Sink, SinkFailed, Source, read_to_end, write_whole};
 use seg_directory::Directory;
+use seg_generate_laws::generated_inputs_are_valid;
 use seg_model::valid_inputs_are_not_refused;
 use seg_segment::files_hold_one_contents;
 use seg_values::{TResult, TantivyError};
@@ -44,6 +49,7 @@ const MAX_SCRIPT: usize = 67_108_864;
 ///   segment a batch. It reads the segments of that index back, and merges what was read into the one segment of an index in
 ///   the directory `output`. Then it prints both, of what the directories answer; with `--full` each segment's columns
 ///   and length ids too.
+/// - `generate` and a number do the same with the input that the number generates, and print a summary of both.
 /// - `merge` merges the segments of the index in `work` that have a live document into an index of one segment, of the id of
 ///   32 digits f, in `output`, and prints it.
 /// - `show` prints the index in `work` in full.
@@ -91,6 +97,11 @@ pub fn run<S: Source, K: Sink, F: Sink, Z: Analyzers, W: Directory, O: Directory
         × Gains (IsTextOf (Z.knows analyzers.now) (Z.tokens_of analyzers.now) detail bytes
         (both (W.state work.old) (O.state output.old)) (both (W.state work.new) (O.state output.new)))
         (K.written sink.old) (K.written sink.new))) }
+    // What `generate` prints and leaves, and why it ends otherwise, of the input that its number generates.
+    ensures generated { IfGenerate (command_of words.now) (λ seed.
+        Generates (Z.knows analyzers.now) (Z.tokens_of analyzers.now) Detail.Summary (generated seed) result
+        (sink_state (K.written sink.old) (K.faults sink.old)) (sink_state (K.written sink.new) (K.faults sink.new))
+        (both (W.state work.old) (O.state output.old)) (both (W.state work.new) (O.state output.new))) }
     ensures merged { IfMerge (command_of words.now) (result ≡ Status.Done → Gains (IsMergedText
         (both (W.state work.old) (O.state output.old)) (both (W.state work.new) (O.state output.new)))
         (K.written sink.old) (K.written sink.new)) }
@@ -140,6 +151,9 @@ pub fn run<S: Source, K: Sink, F: Sink, Z: Analyzers, W: Directory, O: Directory
         → HasWholeLiveSegments (W.state work.old).files → (e : TantivyError) → result ≢ Status.Damaged e) }
     ensures calls { IfBuild (command_of words.now) (λ detail. BuildDoes (Z.knows analyzers.now) (Z.tokens_of analyzers.now) detail result
         (both (W.state work.old) (O.state output.old)) (both (W.state work.new) (O.state output.new))) }
+    ensures generate_calls { IfGenerate (command_of words.now) (λ seed.
+        JobDoes (GeneratesText (Z.knows analyzers.now) (Z.tokens_of analyzers.now) seed) result
+        (both (W.state work.old) (O.state output.old)) (both (W.state work.new) (O.state output.new))) }
     ensures merge_calls { IfMerge (command_of words.now) (JobDoes MergesText result
         (both (W.state work.old) (O.state output.old)) (both (W.state work.new) (O.state output.new))) }
     ensures show_calls { IfShow (command_of words.now) (JobDoes ShowsText result
@@ -156,7 +170,7 @@ pub fn run<S: Source, K: Sink, F: Sink, Z: Analyzers, W: Directory, O: Directory
     ensures any_moment { IsTrue (W.state work.old).tells → IsEmptyDisk (O.state output.old).disk
         → CrashLeaves (Z.tokens_of analyzers.now) (command_of words.now) (S.left source.old) result
         (both (W.state work.old) (O.state output.old)) (both (W.state work.new) (O.state output.new)) }
-    ensures work_disk { UnlessBuild (command_of words.now) (IsTrue (W.state work.old).disk.told
+    ensures work_disk { UnlessWritten (command_of words.now) (IsTrue (W.state work.old).disk.told
         → KeepsDisk (W.state work.old).disk (W.state work.new).disk) }
 
     // What is taken of the source.
@@ -183,6 +197,14 @@ pub fn run<S: Source, K: Sink, F: Sink, Z: Analyzers, W: Directory, O: Directory
         → ¬ (Rose (S.faults source.old) (S.faults source.new))
         → ¬ (Rose (K.faults sink.old) (K.faults sink.new))
         → (result ≡ Status.Done) ⊎ (result ≡ Status.Memory)) }
+    // A generated input is built and printed by analyzers that take its texts, over empty directories that tell, where
+    // nothing fails.
+    ensures complete_generate { IfGenerate (command_of words.now) (λ _.
+        TakesTexts (Z.knows analyzers.now) (Z.tokens_of analyzers.now)
+        → IsReady (W.state work.old) (W.state work.new)
+        → IsReady (O.state output.old) (O.state output.new)
+        → ¬ (Rose (K.faults sink.old) (K.faults sink.new))
+        → (result ≡ Status.Done) ⊎ (result ≡ Status.Memory)) }
     // An index of whole segments, where nothing fails, is shown.
     ensures complete_show { IfShow (command_of words.now) (HasWholeIndex (W.state work.old) (W.state work.new)
         → ¬ (Rose (K.faults sink.old) (K.faults sink.new))
@@ -198,6 +220,7 @@ pub fn run<S: Source, K: Sink, F: Sink, Z: Analyzers, W: Directory, O: Directory
     ensures count_faults { F.faults faults.old ≤ F.faults faults.new }
 {
     valid_inputs_are_not_refused();
+    generated_inputs_are_valid();
     files_hold_one_contents();
     let status = execute(alloc, words, source, sink, analyzers, work, output);
     report_unless_done(faults, &status);
@@ -238,6 +261,7 @@ fn execute<S: Source, K: Sink, Z: Analyzers, W: Directory, O: Directory>(
         Some(Command::Build(detail)) => {
             run_build(alloc, detail, source, sink, analyzers, work, output)
         }
+        Some(Command::Generate(seed)) => run_generate(alloc, seed, sink, analyzers, work, output),
         Some(Command::Merge) => run_merge(alloc, sink, work, output),
         Some(Command::Show) => run_show(alloc, sink, work),
         None => Status::Words,
@@ -269,6 +293,27 @@ fn run_build<S: Source, K: Sink, Z: Analyzers, W: Directory, O: Directory>(
     match build(alloc, analyzers, bytes, detail, work, output) {
         Ok(text) => write_text(sink, &text),
         Err(status) => status,
+    }
+}
+
+/// Writes the indexes of the input that a number generates, and prints their summary.
+fn run_generate<K: Sink, Z: Analyzers, W: Directory, O: Directory>(
+    alloc: Global,
+    seed: u32,
+    sink: &mut K,
+    analyzers: &Z,
+    work: &mut W,
+    output: &mut O,
+) -> Status
+    ensures { (source : SourceState)
+        → EndsJob (WithStatus (GeneratesText (Z.knows analyzers.now) (Z.tokens_of analyzers.now) seed))
+        result sink.old sink.new
+        (world source (sink_state (K.written sink.old) (K.faults sink.old)) (both (W.state work.old) (O.state output.old)))
+        (world source (sink_state (K.written sink.new) (K.faults sink.new)) (both (W.state work.new) (O.state output.new))) }
+{
+    match generate(alloc, analyzers, seed, work, output) {
+        Ok(text) => write_text(sink, &text),
+        Err(e) => status_of(e),
     }
 }
 

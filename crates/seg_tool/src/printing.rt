@@ -22,14 +22,15 @@ use seg_column_text::push_columns;
 use seg_open::SegmentReader;
 use seg_postings::{InvertedIndexReader, RecordKind, SegmentPostings};
 use seg_store::StoreReader;
+use seg_summary::push_segment_summary;
 use seg_text::{
     RecordedRef, push_dead, push_document, push_field, push_header, push_posting, push_term,
 };
 use seg_values::{Field, FieldEntry, Schema};
 use std::alloc::{AllocError, Global};
 
-/// Appends the text of a segment that is open, in full with its columns and length ids. After an error it is open what
-/// `out` holds.
+/// Appends the text of a segment that is open: in a summary one line, in full its columns and length ids too. After an
+/// error it is open what `out` holds.
 pub(crate) fn push_segment(
     out: &mut Vec<u8>,
     alloc: Global,
@@ -40,6 +41,7 @@ pub(crate) fn push_segment(
     ensures { OnOk result (out.new.items ≡ out.old.items ++ read_segment_text label.now detail reader.now) }
 {
     match detail {
+        Detail::Summary => push_segment_summary(out, label, reader),
         Detail::Brief => push_contents(out, alloc, label, reader),
         Detail::Full => {
             push_contents(out, alloc, label, reader)?;

@@ -1,10 +1,15 @@
 //! The words of the command line.
-ghost use Rattle.std.specs.Prelude.{◌≡◌};
+ghost use Rattle.std.specs.Prelude.{◌≡◌, if◌then◌else◌, Some, None, codes, option_map};
+ghost use Rattle.std.specs.Str.{bytes_eq};
+ghost use Rattle.seg_generate.specs.Seeds.{seed_named};
 ghost use Rattle.seg_tool.specs.Words.{command_of, of_one, of_two};
 
-/// How much is printed of a segment: in full its columns and length ids too.
+use seg_generate::seed_named;
+
+/// How much is printed of a segment: in a summary one line, in full its columns and length ids too.
 #[derive(Clone, Copy, Debug, PartialEq, Eq)]
 pub enum Detail {
+    Summary,
     Brief,
     Full,
 }
@@ -14,6 +19,8 @@ pub enum Detail {
 pub enum Command {
     /// Writes the indexes of a script, and prints them.
     Build(Detail),
+    /// Writes the indexes of the input that a number generates, and prints a summary of them.
+    Generate(u32),
     /// Merges the segments of the work index into an output index of one segment, and prints it.
     Merge,
     /// Prints the segments of the work index in full.
@@ -51,11 +58,31 @@ fn of_one(word: &str) -> Option<Command>
 fn of_two(first: &str, second: &str) -> Option<Command>
     ensures { result ≡ of_two first.now second.now }
 {
-    if first != "build" {
-        return None;
+    if first == "build" {
+        return full_build(second);
     }
-    if second != "--full" {
+    if first == "generate" {
+        return generation(second);
+    }
+    None
+}
+
+/// The job of the word after `build`.
+fn full_build(word: &str) -> Option<Command>
+    ensures { result ≡ (if bytes_eq word.now (codes "--full") then Some (Command.Build Detail.Full) else None) }
+{
+    if word != "--full" {
         return None;
     }
     Some(Command::Build(Detail::Full))
+}
+
+/// The job of the word after `generate`.
+fn generation(word: &str) -> Option<Command>
+    ensures { result ≡ option_map (λ seed. Command.Generate seed) (seed_named word.now) }
+{
+    match seed_named(word) {
+        Some(seed) => Some(Command::Generate(seed)),
+        None => None,
+    }
 }

@@ -1,11 +1,14 @@
 //! The program: runs the words of its command line over standard input and output, and the folders `work` and `out`.
 #![tactic(auto)]
 
+ghost use Rattle.seg_generate_laws.specs.Taking.{TakesTexts};
+
 use seg_common::{ReaderSource, WriterSink};
 use seg_directory::FileDirectory;
+use seg_generate_laws::default_takes_texts;
 use seg_tool::{Status, run};
 use seg_values::TantivyError;
-use seg_words::{DefaultTokenizer, RawTokenizer, TokenizerManager, WhitespaceTokenizer};
+use seg_words::{Analyzers, DefaultTokenizer, RawTokenizer, TokenizerManager, WhitespaceTokenizer};
 use std::env::Env;
 use std::io::ErrorKind;
 use std::process::ExitCode;
@@ -13,6 +16,7 @@ use std::rt::Files;
 use std::{env, fs, io};
 
 fn main(rt: HostRuntime) -> ExitCode {
+    default_takes_texts();
     let alloc = rt.alloc();
     let mut analyzers = TokenizerManager::new(alloc);
     let Ok(default) = Box::new(alloc, DefaultTokenizer) else {
@@ -37,7 +41,9 @@ fn main(rt: HostRuntime) -> ExitCode {
 }
 
 /// Runs the words of the command line with these tokenizers, over the folders `work` and `out`.
-fn run_in_folders(rt: &HostRuntime, analyzers: &TokenizerManager) -> ExitCode {
+fn run_in_folders(rt: &HostRuntime, analyzers: &TokenizerManager) -> ExitCode
+    requires { let a = ⟦<TokenizerManager as Analyzers>⟧ in TakesTexts (a.knows analyzers.now) (a.tokens_of analyzers.now) }
+{
     let alloc = rt.alloc();
     let words = match program_words(rt) {
         Ok(words) => words,

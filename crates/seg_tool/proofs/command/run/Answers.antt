@@ -1,7 +1,8 @@
 use Rattle.std.proofs.Common.{ap}
 use Rattle.seg_merge.specs.Turns.{both}
-use Rattle.seg_tool.proofs.Commands.{first_in_both, of_build, of_merge, of_show, run_later, run_no_script, run_no_words, run_same_sink, run_script, run_sink_later, run_taken, run_turns, run_unread, run_words}
+use Rattle.seg_tool.proofs.Commands.{first_in_both, of_build, of_generate, of_merge, of_show, run_later, run_no_script, run_no_words, run_same_sink, run_script, run_sink_later, run_taken, run_turns, run_unread, run_words}
 use Rattle.seg_tool.proofs.Endings.{completes, no-stream}
+use Rattle.seg_tool.proofs.Generated.{generate_completes, generates}
 use Rattle.seg_tool.proofs.JobLaws.{is_merged, is_shown, job_completes, job_does, job_each, job_gains, job_stream, merges_stay, show_starves, shows_stay}
 use Rattle.seg_tool.proofs.MergeLaws.{ended_fresh, ended_whole, merges_starve}
 use Rattle.seg_tool.proofs.Ran.{ran_does, ran_done, ran_end, ran_end_refused, ran_end_written, ran_fault, ran_first, ran_fresh, ran_no_words, ran_output_index, ran_output_meta, ran_output_was_empty, ran_read, ran_refused, ran_script, ran_stream, ran_untold, ran_valid, ran_whole, ran_work_index, ran_work_was_empty, ran_written, ran_reads}
@@ -34,6 +35,13 @@ returns-clause-valid g c = of_build c.execute-status.ensures _ (λ detail r. ran
 
 pub returns-clause-done : goal.returns-clause-done
 returns-clause-done g c = of_build c.execute-status.ensures _ (λ detail r. ran_done r c.files_hold_one_contents.ensures)
+
+pub returns-clause-generated : goal.returns-clause-generated
+returns-clause-generated g c =
+    of_generate c.execute-status.ensures _ (λ seed r. generates r.ends c.files_hold_one_contents.ensures)
+
+pub returns-clause-generate_calls : goal.returns-clause-generate_calls
+returns-clause-generate_calls g c = of_generate c.execute-status.ensures _ (λ seed r. job_does r.ends)
 
 pub returns-clause-merged : goal.returns-clause-merged
 returns-clause-merged g c = of_merge c.execute-status.ensures _ (λ r. job_gains r.ends _ (λ text h. is_merged _ _ c.files_hold_one_contents.ensures text h))
@@ -146,6 +154,11 @@ returns-clause-complete g c =
     (λ is. no-stream source sink (ran_stream r c.files_hold_one_contents.ensures is))
     (ran_fresh r (record { work_tells = work.tells; work = work.empty; output_tells = output.tells; output = output.empty }))
     (ran_whole r work.tells output.tells) (ran_fault r) (ran_script r) (ran_refused r work.tells output.tells) work.sound output.sound)
+
+pub returns-clause-complete_generate : goal.returns-clause-complete_generate
+returns-clause-complete_generate g c =
+    of_generate c.execute-status.ensures _
+    (λ seed r takes. generate_completes r.ends c.valid_inputs_are_not_refused.ensures (c.generated_inputs_are_valid.ensures _ _ seed takes))
 
 pub returns-clause-complete_show : goal.returns-clause-complete_show
 returns-clause-complete_show g c = of_show c.execute-status.ensures _ (λ r whole sound. job_completes r.ends sound (λ e h. show_starves _ _ whole e h))
