@@ -6,8 +6,7 @@ usage: columns.py [--program PATH] [--rows 1000000] [--files 10] [--repeat 3] [-
 The program is crates/seg_bench/out/seg_bench, once it is proved and built (`rt run` in crates/seg_bench), the plain one is
 bench/plain_columns.rs. Both write a column of one number a row, one of one text a row with 1,000 distinct ones and one with
 half as many distinct ones as rows, read each file with all its checks, and stack as many such files as `--files` says. The
-files of both have to be the same bytes, and stacked numbers as many: ours are of the type I64, since no column is required
-and all fit, where the plain program keeps U64. Of several runs of each, in turn, the least processor time counts; peak is the most
+files of both have to be the same bytes. Of several runs of each, in turn, the least processor time counts; peak is the most
 memory for each value that is written or read.
 """
 import argparse
@@ -44,12 +43,6 @@ def best(commands, repeat):
     return [(min(r[at][0] for r in found), min(r[at][1] for r in found)) for at in range(len(commands))]
 
 
-def are_alike(name, ours, theirs):
-    if name.startswith('stack') and 'numbers' in name:
-        return ours.stat().st_size == theirs.stat().st_size
-    return filecmp.cmp(ours, theirs, shallow=False)
-
-
 def tasks(words):
     """What is done: a name, the words of both programs, the files that both write, and how many values there are."""
     room, rows = words.room, words.rows
@@ -78,7 +71,7 @@ def main():
     print(f'{"task":28} {"values":>9} {"CPU s":>7} {"plain":>7} {"times":>6} {"peak B/v":>9} {"plain":>7}')
     for name, ours, theirs, files, values in tasks(words):
         mine, other = best([[words.program.resolve(), *ours], [plain, *theirs]], words.repeat)
-        if files and not are_alike(name, *files):
+        if files and not filecmp.cmp(*files, shallow=False):
             sys.exit(f'{name}: the files differ')
         print(f'{name:28} {values:>9} {mine[0]:7.2f} {other[0]:7.2f} {mine[0] / other[0]:6.2f}'
               f' {mine[1] / values:9.1f} {other[1] / values:7.1f}', flush=True)

@@ -1,9 +1,14 @@
 //! Files of columns: written, read and stacked.
-ghost use Rattle.std.specs.Prelude.{◌<◌, ◌^◌, sum_by, MatchBool};
+ghost use Rattle.std.specs.Prelude.{◌≡◌, ◌<◌, ◌^◌, map, sum_by, IfOk, MatchBool};
+ghost use Rattle.std.specs.List.{AllByRecursion};
+ghost use Rattle.seg_bench.specs.Stacks.{AreUnsigned, MayRequire};
+ghost use Rattle.seg_columns.specs.DynamicColumns.{type_of};
+ghost use Rattle.seg_columns_merged.specs.MergedColumns.{required_key};
+ghost use Rattle.seg_common.specs.declared.column_type.ColumnType.TheVariants.{U64};
 
 use anyhow::{Result, bail};
 use seg_columnar::ColumnarReader;
-use seg_columns::{Column, ColumnError};
+use seg_columns::{Column, ColumnError, DynamicColumnHandle};
 use seg_columns_merged::{MergeRowOrder, merge_columnar};
 use seg_columns_recorded::{ColumnarWriter, NumericalValue};
 use seg_common::{ColumnType, OwnedBytes};
@@ -81,13 +86,61 @@ fn sum_of_column(column: &Column<u64>) -> u64 {
     sum
 }
 
-/// Stacks files, which have to have fewer than 2^32 rows together.
+/// Stacks files, which have to have fewer than 2^32 rows together. Unsigned numbers stay unsigned.
 pub(crate) fn stacked(alloc: Global, files: &[OwnedBytes]) -> Result<Vec<u8>> {
     let columnars = opened(alloc, files)?;
     if !are_few(&columnars) {
         bail!("too many rows");
     }
-    Ok(merge_columnar(alloc, &columnars, &[], &MergeRowOrder::Stack)?)
+    let required = required_columns(alloc, &columnars)?;
+    Ok(merge_columnar(alloc, &columnars, &required, &MergeRowOrder::Stack)?)
+}
+
+/// The columns that a stack has in any case: the one of `numbers`, where no file has a column of another type.
+fn required_columns(
+    alloc: Global,
+    columnars: &[ColumnarReader],
+) -> Result<Vec<(String, ColumnType)>, AllocError>
+    ensures { IfOk result (λ required. MayRequire (map required_key required.items) columnars.now) }
+{
+    let mut required = Vec::new(alloc);
+    if !all_unsigned(columnars) {
+        return Ok(required);
+    }
+    required.push((String::from_str(alloc, "number")?, ColumnType::U64))?;
+    Ok(required)
+}
+
+/// Whether files have columns of unsigned numbers alone.
+fn all_unsigned(columnars: &[ColumnarReader]) -> bool
+    ensures { MatchBool result (AllByRecursion AreUnsigned columnars.now) (Unit {0}) }
+{
+    for columnar in columnars {
+        if !are_unsigned(columnar) {
+            return false;
+        }
+    }
+    true
+}
+
+fn are_unsigned(columnar: &ColumnarReader) -> bool
+    ensures { MatchBool result (AreUnsigned columnar.now) (Unit {0}) }
+{
+    for (_path, handle) in columnar.iter_columns() {
+        if !is_unsigned(&handle) {
+            return false;
+        }
+    }
+    true
+}
+
+fn is_unsigned(handle: &DynamicColumnHandle) -> bool
+    ensures { MatchBool result (type_of handle.now.column ≡ U64) (Unit {0}) }
+{
+    match handle.column_type() {
+        ColumnType::U64 => true,
+        _ => false,
+    }
 }
 
 fn opened(alloc: Global, files: &[OwnedBytes]) -> Result<Vec<ColumnarReader>> {

@@ -30,9 +30,10 @@ mod tests;
 use anyhow::{Context, Result, bail};
 use seg_common::OwnedBytes;
 use std::alloc::Global;
-use std::env::Env;
+use std::env::{self, Env};
+use std::fs::{File, OpenFile};
+use std::io::{self, Read};
 use std::rt::Files;
-use std::{env, fs, io};
 
 fn main(rt: HostRuntime) -> Result<()> {
     let words = program_words(&rt)?;
@@ -66,10 +67,19 @@ fn program_words(rt: &(impl Env + AllocGlobal)) -> io::Result<Vec<String>> {
 pub(crate) fn files<R: Files + AllocGlobal>(rt: &R, names: &[String]) -> Result<Vec<OwnedBytes>> {
     let mut files = Vec::new(rt.alloc());
     for name in names {
-        let bytes = fs::read(rt, name.as_str())?;
+        let bytes = read_whole(rt, name.as_str())?;
         files.push(OwnedBytes::from_vec(rt.alloc(), bytes)?)?;
     }
     Ok(files)
+}
+
+/// The bytes of a file, in room for as many as it has.
+fn read_whole<R: Files + AllocGlobal>(rt: &R, name: &str) -> io::Result<Vec<u8>> {
+    let mut file = File::open(rt, name)?;
+    let length = usize::try_from(file.metadata()?.len()).unwrap_or(0);
+    let mut bytes = Vec::with_capacity(rt.alloc(), length.saturating_add(1))?;
+    file.read_to_end(&mut bytes)?;
+    Ok(bytes)
 }
 
 /// Does a task this often over these files.
