@@ -2,11 +2,15 @@
 """Runs the program over scripts that are hard by their shape and not by their size, and prints how its time grows.
 
 usage: hostile.py [PROGRAM] [--only SHAPE,SHAPE] [--seconds 2] [--repeat 3] [--most 1.2] [--limit 120] [--room FOLDER]
+                  [--instructions]
 
 Each shape is made at two sizes, the second twice the first. The first is doubled until a run takes two seconds of
 processor time, or until the second would be longer than a script may be. Of three runs of each, in turn, the least
 counts. `growth` is by how much the time grew, over the growth of the script: 1 is linear. The status is 1 where it is
 above 1.2, or where a run fails or takes more than the limit.
+
+With --instructions each shape is run once at its first size and once at twice that size, under `valgrind`, which counts
+the program's instructions: the same at each run, whatever else the machine does. What the system does isn't counted.
 
   batches    a batch for each document
   fields     many fields, without lengths, and ten documents of one pair for each field
@@ -17,14 +21,18 @@ above 1.2, or where a run fails or takes more than the limit.
   wide       as many fields without lengths as documents, each of one pair
   long-key   a JSON key of a megabyte above many leaves of one value
   paths      many paths of JSON in each of 1,000 documents
+  columns    as many fields in columns as documents, each of one number
+  distinct   100 batches of documents with a text of their own in a column
+  catalogue, log, stored, textids    those of gen_corpus.py
 """
 import argparse
 import json
 import random
+import re
 import sys
 from pathlib import Path
 
-from bench import PROGRAM, ROOM, best, run
+from bench import PROGRAM, ROOM, best, corpus, run
 from gen_corpus import LIMIT
 
 WORDS = [f'w{number}' for number in range(5000)]
@@ -99,6 +107,21 @@ def paths(rng, count):
     return json_field([addition(['j', values]) for _ in range(1000)])
 
 
+def columns(rng, count):
+    return {
+        'schema': [{'name': f'f{number}', 'kind': 'u64', 'fast': True} for number in range(count)],
+        'operations': [addition([f'f{number}', rng.randrange(100000)]) for number in range(count)],
+    }
+
+
+def distinct(rng, count):
+    return {
+        'schema': [{'name': 't', 'kind': 'text', 'fast': True}],
+        'operations': [addition(['t', f'{rng.randrange(10 ** 9)} {number}']) for number in range(count)],
+        'cuts': [count * batch // 100 for batch in range(1, 100)],
+    }
+
+
 SHAPES = {
     'batches': (batches, 1000),
     'fields': (fields, 500),
@@ -109,7 +132,16 @@ SHAPES = {
     'wide': (wide, 2000),
     'long-key': (long_key, 50000),
     'paths': (paths, 500),
+    'columns': (columns, 500),
+    'distinct': (distinct, 20000),
+    'catalogue': (None, 1000),
+    'log': (None, 1000),
+    'stored': (None, 1000),
+    'textids': (None, 1000),
 }
+# Smaller ones, for counting.
+COUNTED = {'deletes': 5000, 'deletes-over-batches': 100, 'text': 50000, 'pairs': 10000, 'paths': 10, 'batches': 200,
+           'distinct': 10000}
 
 
 # ---- runs
@@ -117,8 +149,10 @@ SHAPES = {
 HEAD = f'{"shape":21} {"size":>8} {"MB":>7} {"CPU s":>7} {"twice MB":>9} {"CPU s":>7} {"growth":>7} {"s/MB":>7}'
 
 
-def script_of(room, name, make, count):
-    script = room / f'hostile-{name}.{count}.json'
+def script_of(words, name, make, count):
+    if not make:
+        return corpus(words.room, [str(count), '7', name])
+    script = words.room / f'hostile-{name}.{count}.json'
     script.write_text(json.dumps(make(random.Random(5), count), separators=(',', ':')))
     return script
 
@@ -133,7 +167,7 @@ class Hostile:
     def first_size(self, name, make, count):
         """The first size whose run takes long enough, its script, and what that run took."""
         while True:
-            script = script_of(self.words.room, name, make, count)
+            script = script_of(self.words, name, make, count)
             got = self.run(script)
             if got['status'] != 'done' or got['cpu'] >= self.words.seconds or 4.1 * script.stat().st_size > LIMIT:
                 return count, script, got
@@ -144,7 +178,7 @@ class Hostile:
         """Prints the line of a shape, and answers whether it grows as is wanted."""
         make, count = SHAPES[name]
         count, script, got = self.first_size(name, make, count)
-        scripts = script, script_of(self.words.room, name, make, 2 * count)
+        scripts = script, script_of(self.words, name, make, 2 * count)
         found = [[got], []]
         for turn in range(self.words.repeat):
             for place in (0, 1) if turn else (1,):
@@ -166,6 +200,31 @@ class Hostile:
         return growth <= self.words.most
 
 
+class Counted:
+    """As `Hostile`, by instructions."""
+
+    def __init__(self, words):
+        self.words = words
+        self.command = ['valgrind', '--tool=cachegrind', '--cache-sim=no', '--cachegrind-out-file=/dev/null',
+                        '--log-file=counted', Path(words.program).resolve(), 'build']
+
+    def count(self, script):
+        got = run(self.command, self.words.room, script, self.words.limit)
+        if got['status'] != 'done':
+            sys.exit(f'{script.name}: {got["status"]}')
+        told = (self.words.room / 'run' / 'counted').read_text()
+        return int(re.search(r'I\s+refs:\s+([\d,]+)', told)[1].replace(',', '')), script.stat().st_size
+
+    def measure(self, name):
+        make, count = SHAPES[name]
+        count = COUNTED.get(name, count)
+        (first, size), (second, twice) = (self.count(script_of(self.words, name, make, many)) for many in (count, 2 * count))
+        growth = second / first / (twice / size)
+        print(f'{name:21} {count:8} {size / 1e6:7.2f} {first / 1e6:7.0f} {twice / 1e6:9.2f} {second / 1e6:7.0f} {growth:7.2f}'
+              f' {second / twice:7.0f}', flush=True)
+        return growth <= self.words.most
+
+
 def main():
     parser = argparse.ArgumentParser(description=__doc__, formatter_class=argparse.RawDescriptionHelpFormatter)
     parser.add_argument('program', nargs='?', default=PROGRAM)
@@ -175,10 +234,11 @@ def main():
     parser.add_argument('--most', type=float, default=1.2)
     parser.add_argument('--limit', type=float, default=120)
     parser.add_argument('--room', type=Path, default=ROOM)
+    parser.add_argument('--instructions', action='store_true')
     words = parser.parse_args()
     words.room.mkdir(parents=True, exist_ok=True)
-    hostile = Hostile(words)
-    print(HEAD, flush=True)
+    hostile = Counted(words) if words.instructions else Hostile(words)
+    print(HEAD.replace('CPU s', 'million').replace('   s/MB', '  a byte') if words.instructions else HEAD, flush=True)
     grown = [hostile.measure(name) for name in words.only.split(',')]
     sys.exit(0 if all(grown) else 1)
 
