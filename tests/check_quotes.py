@@ -1,5 +1,5 @@
 #!/usr/bin/env python3
-"""Says which functions that docs/crates quotes don't stand so in the file that is named before them.
+"""Says which functions and definitions that docs/crates quotes don't stand so in the file that is named before them.
 
 usage: check_quotes.py
 """
@@ -8,7 +8,7 @@ import sys
 from pathlib import Path
 
 TOP = Path(__file__).resolve().parent.parent
-QUOTE = re.compile(r'\(`(crates/[^`]+\.rt)`\)[^`]*?```rust\n(.*?)```', re.S)
+QUOTE = re.compile(r'\(`(crates/[^`]+\.(?:rt|antt))`\)[^`]*?```(?:rust|antt)\n(.*?)```', re.S)
 
 
 def without_indent(text):

@@ -1,5 +1,5 @@
 #!/usr/bin/env python3
-"""Draws the pictures of docs: python3 docs/pictures/draw.py writes life-cycle.svg, files.svg, columns.svg and merge.svg beside this file."""
+"""Draws the pictures of docs: python3 docs/pictures/draw.py writes life-cycle.svg, files.svg, columns.svg, merge.svg and index_merge.svg beside this file."""
 from pathlib import Path
 from xml.sax.saxutils import escape
 
@@ -148,8 +148,49 @@ def merge():
     picture.save('merge.svg')
 
 
+def index_merge():
+    """Three indexes, each in a directory of its own, merged into one; and the same in two merges."""
+    picture = Picture(780, 590)
+    dead = 'a1', 'b2'
+    indexes = [
+        ('index a', '2 segments', [['a0', 'a1'], ['a2']]),
+        ('index b', '1 segment', [['b0', 'b1', 'b2']]),
+        ('index c', '2 segments', [['c0'], ['c1', 'c2']]),
+    ]
+    for place, (name, count, segments) in enumerate(indexes):
+        x = 20 + 255 * place
+        picture.box(x, 16, 230, [name, f'in a directory, {count}'], FILE)
+        at = x + (230 - 58 * 3 - 20 * (len(segments) - 1)) / 2
+        for documents in segments:
+            for document in documents:
+                gone = document in dead
+                at = picture.cells(at, 78, [58], [document], GONE if gone else STEP, under=['dead'] if gone else ())
+            at += 20
+        picture.arrow(x + 115, 126, 390 + 110 * (place - 1), 150)
+    low = picture.box(150, 152, 480, ['merge_indices', 'settings and schemas have to be alike, else no directory is called;', 'then the segments are opened, index by index'])
+    picture.arrow(390, low, 390, low + 22)
+    kept = [document for _, _, segments in indexes for documents in segments for document in documents if document not in dead]
+    picture.cells(390 - 29 * len(kept), 241, [58] * len(kept), kept, STEP, under=[str(number) for number in range(len(kept))])
+    picture.text(390, 303, 'the documents that are alive, one segment after another, one index after another, numbered anew from 0', size=12)
+    picture.arrow(390, 312, 390, 336)
+    picture.box(200, 338, 380, ['an index of one segment', 'in the directory of the output: six files, then meta.json'], FILE)
+    picture.lead(20, 410, 760, 410)
+    picture.text(20, 434, 'in groups', weight='bold', anchor='start')
+    for x, name in (120, 'index a'), (240, 'index b'), (480, 'index c'):
+        picture.box(x, 416, 90, [name], FILE)
+    picture.arrow(165, 447, 222, 476)
+    picture.arrow(285, 447, 238, 476)
+    picture.box(165, 478, 130, ['a and b, merged'], FILE)
+    picture.arrow(230, 509, 352, 540)
+    picture.arrow(525, 447, 408, 540)
+    picture.box(300, 542, 160, ['a, b and c, merged'], FILE)
+    picture.text(472, 562, 'holds the same contents as all at once', size=12, anchor='start')
+    picture.save('index_merge.svg')
+
+
 if __name__ == '__main__':
     life_cycle()
     files()
     columns()
     merge()
+    index_merge()
