@@ -1,5 +1,5 @@
 #!/usr/bin/env python3
-"""Runs the program in folders, over each script of crates/seg_cases/data that ends with Done, and reads the files that it leaves by
+"""Runs the program in folders, over each script of crates/seg_cases/data that `build` ends with Done, and reads the files that it leaves by
 docs/FORMATS.md (read_segment.py): the printed texts are to be those of the files, and the columns and token totals right.
 
 usage: folder_runs.py PROGRAM
@@ -68,7 +68,7 @@ class Room:
 
 def main():
     program = os.path.abspath(sys.argv[1])
-    cases = [path for path in sorted(DATA.glob('*/*.txt')) if '.' not in path.stem]
+    cases = [path for path in sorted(DATA.glob('*/*.txt')) if '.' not in path.stem and not path.with_suffix('.words').exists()]
     for path in cases:
         case = f'{path.parent.name}/{path.stem}'
         with tempfile.TemporaryDirectory() as folder:
