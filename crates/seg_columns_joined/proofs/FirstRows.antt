@@ -88,7 +88,7 @@ all_back P (x ∷ xs) ys all = all_back P xs ys (All-tail P x (xs ++ ys) all)
 abbrev pub behind : List ℕ → ℕ → List Place
 behind counts file = stacked (file + 1) (drop (file + 1) counts)
 
-next_file : (counts : List ℕ) (file : ℕ) → file < length counts
+pub next_file : (counts : List ℕ) (file : ℕ) → file < length counts
     → stacked file (drop file counts) ≡ rows_from file 0 (get_or counts file 0) ++ behind counts file
 next_file counts file lt = ap (stacked file) (drop_more counts file 0 lt)
 

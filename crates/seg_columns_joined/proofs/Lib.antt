@@ -12,6 +12,7 @@ mod MergedRows
 mod NumberTypes
 mod OrdinalMarks
 mod RangeLaws
+mod RowEnds
 mod TableSteps
 mod TermOrder
 mod ValueSteps

@@ -20,20 +20,20 @@ use Rattle.seg_columns.proofs.RowSteps.{within, known}
 abbrev pub AreOctets : List ℕ → Type 0
 AreOctets bytes = (i : ℕ) → get_or bytes i 0 < 256
 
-octets_taken : (n : ℕ) (bytes : List ℕ) → AreOctets bytes → AreOctets (take n bytes)
+pub octets_taken : (n : ℕ) (bytes : List ℕ) → AreOctets bytes → AreOctets (take n bytes)
 octets_taken zero bytes small i = omega arith
 octets_taken (suc n) [] small i = omega arith
 octets_taken (suc n) (b ∷ bytes) small zero = small 0
 octets_taken (suc n) (b ∷ bytes) small (suc i) = octets_taken n bytes (λ k. small (suc k)) i
 
-octets_left : (n : ℕ) (bytes : List ℕ) → AreOctets bytes → AreOctets (drop n bytes)
+pub octets_left : (n : ℕ) (bytes : List ℕ) → AreOctets bytes → AreOctets (drop n bytes)
 octets_left n bytes small i = subst (λ (b : ℕ). b < 256) (sym (get_or-drop n bytes i 0)) (small (n + i))
 
 octets_between : (bytes : List ℕ) (start end : ℕ) → AreOctets bytes → AreOctets (slice_range bytes start end)
 octets_between bytes start end small =
     octets_taken (end - start) (drop start bytes) (octets_left start bytes small)
 
-no_start : (bytes : List ℕ) → start_at bytes 0 ≡ 0
+pub no_start : (bytes : List ℕ) → start_at bytes 0 ≡ 0
 unfolding start_at
 no_start bytes = refl
 

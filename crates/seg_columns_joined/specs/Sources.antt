@@ -1,9 +1,10 @@
 -- The rows of a column of one file, as they are written.
-use Rattle.std.specs.Prelude.{ℕ, ◌+◌, ◌-◌, ◌^◌, ◌<◌, ◌≤◌, List, [], All, length, map, get_or}
+use Rattle.std.specs.Prelude.{◌≡◌, ℕ, ◌+◌, ◌-◌, ◌^◌, ◌<◌, ◌≤◌, List, [], ◌++◌, All, length, map, get_or}
 use Rattle.std.specs.Int.{w64, to_le_bytes}
 use Rattle.std.specs.List.{range_with_len}
 use Rattle.std.specs.Net.Addr.{ipv6_octets}
 use Rattle.seg_row_order.specs.RowOrders.{Place}
+use Rattle.seg_columns_written.specs.ColumnBytes.{ends_from, number_bytes, total}
 use Rattle.seg_columns_joined.specs.declared.number_map.NumberMap.{NumberMap}
 use Rattle.seg_columns_joined.specs.declared.number_map.NumberMap.TheVariants.{Same, Raised, Lowered, Ordinals}
 use Rattle.seg_columns_joined.specs.declared.source.Source.{Source}
@@ -46,6 +47,12 @@ CanPutFirst source rows = (row : ℕ) → row < rows → CanPut source row
 -- the bytes of each value of these rows
 abbrev pub first_rows : Source → ℕ → List (List (List ℕ))
 first_rows source rows = map (row_codes source) (range_with_len 0 rows)
+
+-- the ends of rows are added behind so many values, which are then so many with their own
+pub record AddsEnds (rows : List (List (List ℕ))) (before : ℕ) (old new : List ℕ) (end : ℕ) : Type 0 where
+  pub ends : new ≡ old ++ number_bytes (ends_from before rows)
+  pub all : end ≡ before + total rows
+  pub fits : end < 2 ^ 64
 
 -- the file of a place is there, and has such a row
 pub record IsPut (sources : List Source) (place : Place) : Type 0 where

@@ -4,9 +4,9 @@
 //! To be read in this order: `number_range`, `kept_values` (what the kept rows have of a column); `head_heap` (the
 //! heads of sorted lists that are merged); `tables` (the columns of all files); `used_ordinals`, `used_terms` (the
 //! terms of a column that the kept rows have), `dictionaries` (those of several columns, merged),
-//! `dictionary_putting`; `number_map`, `value_bytes`, `source` (what a file has of a merged column), `column_sources`
-//! (the columns of one key, each in the place of its file), `column_joining` (the bytes of the rows of several files);
-//! `laws`.
+//! `dictionary_putting`; `number_map`, `value_bytes`, `row_ends`, `source` (what a file has of a merged column),
+//! `column_sources` (the columns of one key, each in the place of its file), `column_joining` (the bytes of the rows of
+//! several files); `laws`.
 #![tactic(auto)]
 
 mod column_joining;
@@ -18,6 +18,7 @@ mod kept_values;
 mod laws;
 mod number_map;
 mod number_range;
+mod row_ends;
 mod source;
 mod tables;
 mod used_ordinals;

@@ -1,10 +1,11 @@
 //! The rows of a column of one file, as they are written.
-ghost use Rattle.std.specs.Prelude.{◌≡◌, ◌+◌, ◌^◌, ◌<◌, ◌≤◌, ◌++◌, All, length, take, IfSome, OnOk};
+ghost use Rattle.std.specs.Prelude.{◌≡◌, ◌+◌, ◌^◌, ◌<◌, ◌≤◌, ◌++◌, All, length, take, IfOk, IfSome, OnOk};
 ghost use Rattle.std.specs.List.{flat_map};
 ghost use Rattle.std.specs.Net.Addr.{ipv6_octets};
-ghost use Rattle.seg_columns_joined.specs.Sources.{CanMap, CanPut, CanPutFirst, first_rows, number_code, row_codes};
+ghost use Rattle.seg_columns_joined.specs.Sources.{AddsEnds, CanMap, CanPut, CanPutFirst, first_rows, number_code, row_codes};
 
 use crate::number_map::NumberMap;
+use crate::row_ends::{put_ends_behind, put_same_ends};
 use crate::value_bytes::{address_bytes, number_bytes};
 use seg_columns::{Column, ColumnValue, ColumnValues};
 use seg_common::put_u64;
@@ -51,6 +52,28 @@ impl Source {
                 put_numbers(source.numbers.values_for_doc(row), &source.written, out)
             }
             Source::Addresses(column) => put_addresses(column.values_for_doc(row), out),
+        }
+    }
+
+    /// Adds how many values there are up to each of so many rows from the first on, behind so many; then it says how many
+    /// these are with those of all the rows.
+    pub fn put_first_ends(
+        &self,
+        rows: u32,
+        before: u64,
+        out: &mut Vec<u8>,
+    ) -> Result<u64, AllocError>
+        requires { CanPutFirst self.now rows }
+        ensures { IfOk result (AddsEnds (first_rows self.now rows) before out.old.items out.new.items) }
+    {
+        match self {
+            Source::Nothing => put_same_ends(rows, before, out),
+            Source::Numbers(source) => {
+                put_ends_behind(source.numbers.as_bytes(), rows as usize, before, out)
+            }
+            Source::Addresses(column) => {
+                put_ends_behind(column.as_bytes(), rows as usize, before, out)
+            }
         }
     }
 

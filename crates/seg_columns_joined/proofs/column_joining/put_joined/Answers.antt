@@ -1,6 +1,6 @@
-use Rattle.std.proofs.Common.{◌≡◌, ◌<◌, ◌^◌, ◌++◌, List, ℕ, ap, subst, ◌∙◌}
+use Rattle.std.proofs.Common.{List, ℕ}
 use Rattle.std.specs.List.{flat_map}
-use Rattle.seg_columns_written.specs.ColumnBytes.{column_bytes, ends_from, number_bytes, total}
+use Rattle.seg_columns_written.specs.ColumnBytes.{column_bytes, ends_from, number_bytes}
 use Rattle.seg_row_order.specs.RowOrders.{Place, rows_in_order}
 use Rattle.seg_columns_joined.specs.Sources.{joined}
 use Rattle.seg_columns_joined.proofs.JoinSteps.{both_parts, on_ok_always, on_ok_then}
@@ -14,13 +14,10 @@ returns c =
     let rows = rows_in_order c.args.counts.now c.args.order.now in
     let ends = λ (r : List Place). number_bytes (ends_from 0 (joined sources r)) in
     let values = λ (r : List Place). flat_map (flat_map {X = List ℕ} {A = ℕ} (λ code. code)) (joined sources r) in
-    let first : c.put_row_ends.new.out.items ≡ out ++ ends rows =
-    c.in_ok-put_row_ends.ensures.ok ∙ ap (λ (r : List Place). out ++ ends r) c.new.ensures in
     record {
       ok = on_ok_then c.put_values.result
-          (both_parts out (ends rows) (values rows) c.put_row_ends.new.out.items c.put_values.new.out.items first)
+          (both_parts out (ends rows) (values rows) c.put_row_ends.new.out.items c.put_values.new.out.items
+          c.in_ok-put_row_ends.ensures.ok)
           c.put_values.ensures;
-      few = on_ok_always c.put_values.result
-          (subst (λ (r : List Place). total (joined sources r) < 2 ^ 64) c.new.ensures
-          c.in_ok-put_row_ends.ensures.few);
+      few = on_ok_always c.put_values.result c.in_ok-put_row_ends.ensures.few;
     }

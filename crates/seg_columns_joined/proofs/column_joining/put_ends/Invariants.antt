@@ -2,7 +2,7 @@ use Rattle.std.proofs.Common.{◌≡◌, ◌+◌, ◌<◌, ◌^◌, ◌++◌}
 use Rattle.std.specs.Prelude.{All}
 use Rattle.seg_columns_written.specs.ColumnBytes.{ends_from, number_bytes, total}
 use Rattle.seg_columns_joined.specs.Sources.{IsPut, joined}
-use Rattle.seg_columns_joined.proofs.column_joining.put_row_ends.Given as goal
+use Rattle.seg_columns_joined.proofs.column_joining.put_ends.Given as goal
 
 abbrev pub invariant-loop-file : goal.invariant-loop-file
 invariant-loop-file l = record {

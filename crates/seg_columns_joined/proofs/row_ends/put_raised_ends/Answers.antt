@@ -1,0 +1,39 @@
+use Rattle.std.proofs.Common.{◌≡◌, ◌+◌, ◌++◌, ℕ, sym, ap, ◌∙◌, arith}
+use Rattle.std.proofs.lemmas.List.{append-nil}
+use Rattle.seg_columns.specs.Ends.{start_at}
+use Rattle.seg_columns_written.specs.ColumnBytes.{number_bytes}
+use Rattle.seg_columns_joined.proofs.RowEnds.{ends_behind, one_more_end}
+use Rattle.seg_columns_joined.proofs.ValueSteps.{no_start}
+use Rattle.seg_columns_joined.proofs.row_ends.put_raised_ends.Goals as goal
+
+pub loop-row-init : goal.loop-row-init
+loop-row-init c = record {
+  within = omega arith;
+  bytes = sym (append-nil c.args.out.now.items);
+  end = omega (arith, no_start c.args.ends.now);
+  fits = omega arith;
+}
+
+pub loop-row-preserved : goal.loop-row-preserved
+loop-row-preserved c =
+    let so_far = c.loop-row.invariant in
+    let next : c.in-Some.next ≡ c.args.before + start_at c.args.ends.now (c.loop-row.row + 1) =
+    omega (arith, c.start_at.ensures) in
+    record {
+      within = omega (arith, c.loop-row-test.true);
+      bytes = one_more_end c.args.before c.args.ends.now c.loop-row.row c.in-Some.next c.args.out.now.items
+          c.loop-row.out.items c.put_u64.new.out.items so_far.bytes next c.in_ok-put_u64.ensures.ok;
+      end = next;
+      fits = omega arith;
+    }
+
+pub returns : goal.returns
+returns c =
+    let so_far = c.loop-row.invariant in
+    let all : c.loop-row.row ≡ c.args.rows = omega (arith, c.loop-row-test.false, so_far.within) in
+    record {
+      bytes = so_far.bytes
+          ∙ ap (λ (n : ℕ). c.args.out.now.items ++ number_bytes (ends_behind c.args.before c.args.ends.now 0 n)) all;
+      end = so_far.end ∙ ap (λ (n : ℕ). c.args.before + start_at c.args.ends.now n) all;
+      fits = so_far.fits;
+    }
