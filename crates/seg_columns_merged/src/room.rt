@@ -11,8 +11,8 @@ const FOOTER: usize = 24;
 /// The bytes of an entry, besides its path.
 const ENTRY: usize = 17;
 
-/// How many bytes the column of rows with one key has in a file of so many rows, where no row is kept twice. A column
-/// of texts or bytes has so many at most: as if all values were kept, and no two files had a term in common.
+/// How many bytes the column of rows with one key has at most in a file of so many rows, where no row is kept twice: as
+/// if all values were kept, and no two files had a term in common.
 pub(crate) fn column_room(
     counts: &[u32],
     rows: &[TableRow<'_>],
