@@ -1,6 +1,8 @@
 -- The columns of segments are merged by the rows of documents that are alive.
-use Rattle.std.proofs.Common.{◌≡◌, ◌∙◌, ℕ, ◌+◌, ◌<◌, ◌^◌, List, [], ◌∷◌, ◌++◌, Option, length, map, refl, sym, ap, subst, arith, length-append}
-use Rattle.std.specs.List.{AllByRecursion, range_with_len}
+use Rattle.std.proofs.Common.{◌≡◌, ◌∙◌, ℕ, ◌+◌, ◌-◌, ◌<◌, ◌^◌, Bool, true, false, List, [], ◌∷◌, ◌++◌, Option, length, map, refl, sym, ap, subst, arith, length-append}
+use Rattle.std.specs.Prelude.{cond}
+use Rattle.std.specs.List.{AllByRecursion, list_all, range_with_len}
+use Rattle.std.proofs.lemmas.Bool.{and_parts}
 use Rattle.std.proofs.lemmas.List.{length-map, map-append}
 use Rattle.std.proofs.lemmas.List.FromFn.{length-range_with_len}
 use Rattle.std.proofs.lemmas.Simd.{map-map}
@@ -10,7 +12,8 @@ use Rattle.seg_columnar.specs.ColumnFiles.{ColumnFile, column_file_of}
 use Rattle.seg_columnar.specs.declared.row_addr.RowAddr.{RowAddr}
 use Rattle.seg_columns_written.specs.ModelColumns.{columns_in}
 use Rattle.seg_schema_columns.specs.SchemaColumns.{SuitColumns}
-use Rattle.seg_row_order.specs.RowOrders.{Place, place_of}
+use Rattle.seg_row_order.specs.RowOrders.{Place, place_of, rows_from, rows_in_order, stacked}
+use Rattle.seg_row_order.specs.declared.row_order.MergeRowOrder.{MergeRowOrder}
 use Rattle.seg_columns_merged.specs.MergedColumns.{CanMerge, IsMerged, MergeFails, merged_columns}
 use Rattle.seg_live_columns.specs.LiveColumns.{HasColumnsOf, HaveColumnsOf, live_rows}
 use Rattle.seg_model.specs.Columns.{ColumnKey, Columns, declared_columns}
@@ -18,7 +21,8 @@ use Rattle.seg_model.specs.Fields.{Schema}
 use Rattle.seg_model.specs.Join.{joined_columns}
 use Rattle.seg_model.specs.Operations.{kept}
 use Rattle.seg_open.specs.OpenSegment.{IsOfSchema, OpenSegment, kept_count, part_of}
-use Rattle.seg_join.specs.DocIdMapping.{live_places, places_in}
+use Rattle.seg_join.specs.declared.doc_id_mapping.MappingType.TheVariants.{Stacked}
+use Rattle.seg_join.specs.DocIdMapping.{all_alive, live_places, places_in, type_of}
 use Rattle.seg_join.specs.JoinedColumns.{HasJoinedColumns, HasOwnColumns}
 use Rattle.seg_join.proofs.MovedIds.{kept_counted}
 
@@ -70,6 +74,40 @@ have_columns schema (p ∷ ps) are own = (has_columns schema p are.0 own.0, have
 
 pub few_rows : (parts : List OpenSegment) → kept_count parts < 2 ^ 31 → length (live_rows 0 (map part_of parts)) < 2 ^ 32
 few_rows parts few = let many = as_many 0 parts in omega (arith, many, few)
+
+-- ---- where all are alive, their files are stacked
+
+pub is_stacked : (b : Bool) → type_of b ≡ Stacked → b ≡ true
+is_stacked true e = refl
+is_stacked false e = cc
+
+all_marked : {X : Type 0} (marks : List Bool) (xs : List X) → length marks ≡ length xs → list_all (λ b. b) marks ≡ true → kept marks xs ≡ xs
+all_marked [] [] long all = refl
+all_marked [] (x ∷ xs) long all = absurd (omega (arith, long))
+all_marked (b ∷ bs) [] long all = refl
+all_marked (b ∷ bs) (x ∷ xs) long all =
+    let parts = and_parts b (list_all (λ c. c) bs) all in
+    ap (λ c. cond c (x ∷ kept bs xs) (kept bs xs)) parts.0
+    ∙ ap (λ ys. x ∷ ys) (all_marked bs xs (omega (arith, long)) parts.1)
+
+pub all_stacked : (number : ℕ) (parts : List OpenSegment) → AllByRecursion HasOwnColumns parts → all_alive parts ≡ true → stacked number (map (λ f. f.rows) (columnars parts)) ≡ live_rows number (map part_of parts)
+all_stacked number [] own alive = refl
+all_stacked number (p ∷ ps) own alive =
+    let parts = and_parts (list_all (λ b. b) p.alive) (all_alive ps) alive in
+    let place : ℕ → Place = λ row. (number, row) in
+    let ids = range_with_len 0 (length p.alive) in
+    let rows : p.columns.rows - 0 ≡ length p.alive = omega (arith, own.0.rows, own.0.marked) in
+    let here : rows_from number 0 p.columns.rows ≡ map place (kept p.alive ids) =
+    ap (λ n. map place (range_with_len 0 n)) rows
+    ∙ ap (map place) (sym (all_marked p.alive ids (sym (length-range_with_len 0 (length p.alive))) parts.0)) in
+    λ i. here i ++ all_stacked (number + 1) ps own.1 parts.1 i
+
+-- the rows of files that are those of segments
+pub alive_rows : (parts : List OpenSegment) (files : List ColumnFile) (order : MergeRowOrder) → files ≡ columnars parts
+    → rows_in_order (map (λ f. f.rows) (columnars parts)) order ≡ live_rows 0 (map part_of parts)
+    → rows_in_order (map (λ f. f.rows) files) order ≡ live_rows 0 (map part_of parts)
+alive_rows parts files order read alive =
+    ap (λ (fs : List ColumnFile). rows_in_order (map (λ f. f.rows) fs) order) read ∙ alive
 
 -- ---- what a merge of them makes
 

@@ -8,7 +8,7 @@ ghost use Rattle.seg_model.specs.Join.{joined_columns};
 ghost use Rattle.seg_open.specs.OpenSegment.{IsOfSchema, kept_count, part_of};
 ghost use Rattle.seg_join.specs.JoinedColumns.{HasJoinedColumns, HasOwnColumns};
 
-use crate::doc_id_mapping::SegmentDocIdMapping;
+use crate::doc_id_mapping::{MappingType, SegmentDocIdMapping, type_of};
 use seg_columnar::ColumnarReader;
 use seg_columns::ColumnError;
 use seg_columns_merged::{MergeRowOrder, merge_columnar};
@@ -66,9 +66,20 @@ fn own_columns(part: &SegmentReader) -> Result<ColumnarReader, AllocError>
     columns.clone()
 }
 
-/// The rows of documents that are alive, one segment after another. Addresses have room for 2^32 segments; so many
-/// fit into no memory.
+/// The rows of documents that are alive, one segment after another. Where nothing is deleted, none of them is listed.
 fn live_order(alloc: Global, parts: &[SegmentReader]) -> Result<MergeRowOrder, AllocError>
+    requires { AllByRecursion HasOwnColumns parts.now }
+    ensures { IfOk result (λ order. rows_in_order (map (λ f. f.rows) (map (λ p. p.columns) parts.now)) order
+        ≡ live_rows 0 (map part_of parts.now)) }
+{
+    match type_of(parts) {
+        MappingType::Stacked => Ok(MergeRowOrder::Stack),
+        MappingType::StackedWithDeletes => live_addresses(alloc, parts),
+    }
+}
+
+/// Lists them. Addresses have room for 2^32 segments; so many fit into no memory.
+fn live_addresses(alloc: Global, parts: &[SegmentReader]) -> Result<MergeRowOrder, AllocError>
     ensures { IfOk result (λ order. (counts : List ℕ)
         → rows_in_order counts order ≡ live_rows 0 (map part_of parts.now)) }
 {

@@ -87,7 +87,8 @@ fn push_places(
     Ok(())
 }
 
-fn type_of(readers: &[SegmentReader]) -> MappingType
+/// How segments are put together.
+pub(crate) fn type_of(readers: &[SegmentReader]) -> MappingType
     ensures { result ≡ type_of (all_alive readers.now) }
 {
     for reader in readers {
