@@ -4,12 +4,10 @@ ghost use Rattle.std.specs.List.{range_with_len};
 ghost use Rattle.seg_columns.specs.Ends as spec;
 ghost use Rattle.seg_columns_written.specs.ColumnBytes.{number_bytes};
 
+use crate::value_bytes::END;
 use seg_columns::start_at;
 use seg_common::put_u64;
 use std::alloc::AllocError;
-
-/// The bytes of an end.
-const END: usize = 8;
 
 /// Adds the ends of so many rows without a value, behind so many values, and answers how many these are.
 pub(crate) fn put_same_ends(rows: u32, before: u64, out: &mut Vec<u8>) -> Result<u64, AllocError>
@@ -25,9 +23,9 @@ pub(crate) fn put_same_ends(rows: u32, before: u64, out: &mut Vec<u8>) -> Result
 
 /// Adds the ends of the first rows of a column, behind so many values, and answers how many these are with theirs: as one
 /// slice where they are the first.
-pub(crate) fn put_ends_behind(
+pub(crate) fn put_ends_after(
     ends: &[u8],
-    rows: usize,
+    rows: u32,
     before: u64,
     out: &mut Vec<u8>,
 ) -> Result<u64, AllocError>
@@ -37,35 +35,11 @@ pub(crate) fn put_ends_behind(
     ensures end { IfOk result (λ end. end ≡ before + spec.start_at ends.now rows) }
     ensures fits { IfOk result (λ end. end < 2 ^ 64) }
 {
+    let rows = rows as usize;
     if before == 0 {
         put_ends(ends, rows, out)?;
         return Ok(start_at(ends, rows));
     }
-    put_raised_ends(ends, rows, before, out)
-}
-
-/// Adds them as they stand in the file.
-fn put_ends(ends: &[u8], rows: usize, out: &mut Vec<u8>) -> Result<(), AllocError>
-    requires { 8 * rows ≤ length ends.now }
-    ensures bytes { OnOk result (out.new.items ≡ out.old.items ++ take (8 * rows) ends.now) }
-    ensures octets { (i : ℕ) → get_or ends.now i 0 < 256 }
-{
-    out.extend_from_slice(&ends[..END * rows])
-}
-
-/// Adds each with so many values before it.
-fn put_raised_ends(
-    ends: &[u8],
-    rows: usize,
-    before: u64,
-    out: &mut Vec<u8>,
-) -> Result<u64, AllocError>
-    requires { 8 * rows ≤ length ends.now }
-    ensures bytes { OnOk result (out.new.items
-        ≡ out.old.items ++ number_bytes (map (λ row. before + spec.start_at ends.now (row + 1)) (range_with_len 0 rows))) }
-    ensures end { IfOk result (λ end. end ≡ before + spec.start_at ends.now rows) }
-    ensures fits { IfOk result (λ end. end < 2 ^ 64) }
-{
     let mut end = before;
     for row in 0..rows {
         let Some(next) = before.checked_add(start_at(ends, row + 1)) else {
@@ -75,4 +49,13 @@ fn put_raised_ends(
         end = next;
     }
     Ok(end)
+}
+
+/// Adds them as they stand in the file.
+fn put_ends(ends: &[u8], rows: usize, out: &mut Vec<u8>) -> Result<(), AllocError>
+    requires { 8 * rows ≤ length ends.now }
+    ensures bytes { OnOk result (out.new.items ≡ out.old.items ++ take (8 * rows) ends.now) }
+    ensures octets { (i : ℕ) → get_or ends.now i 0 < 256 }
+{
+    out.extend_from_slice(&ends[..END * rows])
 }

@@ -5,7 +5,7 @@ ghost use Rattle.std.specs.Net.Addr.{ipv6_octets};
 ghost use Rattle.seg_columns_joined.specs.Sources.{AddsEnds, CanMap, CanPut, CanPutFirst, first_rows, number_code, row_codes};
 
 use crate::number_map::NumberMap;
-use crate::row_ends::{put_ends_behind, put_same_ends};
+use crate::row_ends::{put_ends_after, put_same_ends};
 use crate::value_bytes::{address_bytes, number_bytes};
 use seg_columns::{Column, ColumnValue, ColumnValues};
 use seg_common::put_u64;
@@ -68,12 +68,8 @@ impl Source {
     {
         match self {
             Source::Nothing => put_same_ends(rows, before, out),
-            Source::Numbers(source) => {
-                put_ends_behind(source.numbers.as_bytes(), rows as usize, before, out)
-            }
-            Source::Addresses(column) => {
-                put_ends_behind(column.as_bytes(), rows as usize, before, out)
-            }
+            Source::Numbers(source) => put_ends_after(source.numbers.as_bytes(), rows, before, out),
+            Source::Addresses(column) => put_ends_after(column.as_bytes(), rows, before, out),
         }
     }
 

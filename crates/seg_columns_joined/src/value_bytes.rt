@@ -9,7 +9,7 @@ use seg_columns::{Column, start_at};
 use std::net::Ipv6Addr;
 
 /// The bytes of an end.
-const END: usize = 8;
+pub(crate) const END: usize = 8;
 
 /// Those of numbers.
 pub(crate) fn number_bytes(column: &Column<u64>, rows: u32) -> &[u8]

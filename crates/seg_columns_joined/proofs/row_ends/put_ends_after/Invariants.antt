@@ -2,7 +2,7 @@ use Rattle.std.proofs.Common.{◌≡◌, ◌+◌, ◌<◌, ◌^◌, ◌≤◌, �
 use Rattle.seg_columns.specs.Ends.{start_at}
 use Rattle.seg_columns_written.specs.ColumnBytes.{number_bytes}
 use Rattle.seg_columns_joined.proofs.RowEnds.{ends_behind}
-use Rattle.seg_columns_joined.proofs.row_ends.put_raised_ends.Given as goal
+use Rattle.seg_columns_joined.proofs.row_ends.put_ends_after.Given as goal
 
 abbrev pub invariant-loop-row : goal.invariant-loop-row
 invariant-loop-row l = record {
