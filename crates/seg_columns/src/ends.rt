@@ -25,10 +25,13 @@ pub(crate) fn ends_rise(ends: &[u8], count: usize) -> bool
     requires { 8 * count ≤ length ends.now }
     ensures { MatchBool result (spec.EndsRise ends.now count) (spec.EndsRise ends.now count → ⊥) }
 {
+    let mut before = 0;
     for part in 0..count {
-        if start_at(ends, part + 1) < start_at(ends, part) {
+        let end = start_at(ends, part + 1);
+        if end < before {
             return false;
         }
+        before = end;
     }
     true
 }
