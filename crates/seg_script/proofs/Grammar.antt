@@ -1,17 +1,12 @@
 -- The grammar's loops, a turn at a time, under the conversion to data.
-use Rattle.std.proofs.Common.{◌≡◌, ℕ, ◌+◌, ◌-◌, ◌<◌, ◌≤◌, List, [], ◌∷◌, ◌++◌, length, Option, Some, None, option_map, option_and_then, append-nil, refl, sym, ap, ◌∙◌, subst, arith}
+use Rattle.std.proofs.Common.{◌≡◌, ℕ, ◌+◌, ◌-◌, ◌<◌, ◌≤◌, List, [], ◌∷◌, ◌++◌, length, Option, Some, None, option_map, option_and_then, refl, ap, ◌∙◌, arith}
 use Rattle.json.specs.Token.{Token}
 use Rattle.json.specs.Lex.{tokens}
-use Rattle.json.specs.Print.{IsNumber, IsPrintable, print_from, ArePrintable}
-use Rattle.json.specs.Reads.{token_of}
-use Rattle.json.specs.declared.token.Token.{Token as ReadToken}
-use Rattle.json.specs.declared.token.Token.TheVariants.{Bad}
 use Rattle.json.specs.Json as json
 use Rattle.json.specs.Json.{Parse, parse_map, after_end_array, read_key, items, members, if_last, value}
-use Rattle.json.proofs.Grammar.{items_end, items_more, left, members_end, members_more, read_key-shorter, skip_value-shorter, value-begin_array, value-begin_object, value_is}
-use Rattle.json.proofs.Printed.Tokens.{tokens-print}
-use Rattle.serde_json.specs.Data.{Data, number, array, object, Items, no_items, item, Members, no_members, put}
-use Rattle.serde_json.specs.Read.{of_json, of_items, of_members, converted, number_of, read, max_depth}
+use Rattle.json.proofs.Grammar.{items_end, items_more, left, members_end, members_more, read_key-shorter, skip_value-shorter, value-begin_array, value-begin_object}
+use Rattle.serde_json.specs.Data.{Data, array, object, Items, no_items, item, Members, no_members, put}
+use Rattle.serde_json.specs.Read.{of_json, of_items, of_members, converted, read, max_depth}
 use Rattle.serde_json.specs.View.{view, items_view}
 use Rattle.serde_json.specs.declared.value.Value.{Value}
 
@@ -127,26 +122,3 @@ last_member depth n old k ts s r d enough named e =
     let lesser = skip_value-shorter depth s (Token.end_object ∷ r) (ap left j.1) in
     member_read (value depth) old n k ts s (Token.end_object ∷ r) d (omega (arith, enough, less)) named e
     ∙ members_over (value depth) (put k d old) (n - 1) (Token.end_object ∷ r) r (omega (arith, enough, less, lesser)) refl
-
--- ---- a number by itself
-
-not_bad : (s : List ℕ) → Token.bad ≡ Token.number s → ⊥
-not_bad s e = cc
-
--- a token that is a number has a number's text
-pub is_number : (t : ReadToken) (s : List ℕ) → ((t ≡ Bad → ⊥) → IsPrintable (token_of t)) → token_of t ≡ Token.number s → IsNumber s
-is_number t s h e = subst IsPrintable e (h (λ b. not_bad s (sym (ap token_of b) ∙ e)))
-
-number_alone : (s : List ℕ) → IsNumber s → tokens s ≡ Token.number s ∷ []
-unfolding print_from ArePrintable
-number_alone s h = ap tokens (sym (append-nil s)) ∙ tokens-print (Token.number s ∷ []) (h, tt)
-
-number_read : (s : List ℕ) → IsNumber s → read s ≡ option_map number (number_of s)
-number_read s h = ap whole (ap (value max_depth) (number_alone s h) ∙ value_is max_depth (Token.number s ∷ []))
-
-at_number : (o p : Option Data) (d : Data) (r : List Token) → p ≡ o → p ≡ Some d → option_map {U = Data × List Token} (λ x. (x, r)) o ≡ Some (d, r)
-at_number o p d r same e = ap (option_map {U = Data × List Token} (λ x. (x, r))) (sym same ∙ e)
-
--- a number among other tokens is what its text is
-pub number_next : (depth : ℕ) (s : List ℕ) (r : List Token) (d : Data) → IsNumber s → read s ≡ Some d → converted of_json (value depth (Token.number s ∷ r)) ≡ Some (d, r)
-number_next depth s r d h e = ap (converted of_json) (value_is depth (Token.number s ∷ r)) ∙ at_number (option_map number (number_of s)) (read s) d r (number_read s h) e

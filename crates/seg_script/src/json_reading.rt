@@ -1,11 +1,12 @@
 //! JSON values, one by one off a reader.
-ghost use Rattle.std.specs.Prelude.{◌≡◌, ◌<◌, length, Some, IfOk, OnOk};
+ghost use Rattle.std.specs.Prelude.{◌≡◌, ◌<◌, length, Some, option_map, IfOk, OnOk};
 ghost use Rattle.json.specs.Json.{value, items, members};
-ghost use Rattle.serde_json.specs.Data.{no_members, put};
-ghost use Rattle.serde_json.specs.Read.{of_json, of_items, of_members, converted, read};
+ghost use Rattle.serde_json.specs.Data.{no_members, number, put};
+ghost use Rattle.serde_json.specs.Read.{of_json, of_items, of_members, converted, number_of};
 ghost use Rattle.serde_json.specs.View.{view, items_view, members_view};
 
 use crate::error::ScriptError;
+use crate::numbers::number_from;
 use crate::pushing::push;
 use json::{Reader, Token};
 use serde_json::{Map, Value};
@@ -26,7 +27,7 @@ pub(crate) fn read_value(
     };
     match token {
         Token::String(text) => Ok(Value::String(String::from_str(alloc, text)?)),
-        Token::Number(text) => number_from(alloc, text),
+        Token::Number(text) => number_value(text),
         Token::Bool(truth) => Ok(Value::Bool(truth)),
         Token::Null => Ok(Value::Null),
         Token::EndObject | Token::EndArray | Token::Key(_) | Token::Bad => {
@@ -100,12 +101,12 @@ pub(crate) fn put(
     Ok(())
 }
 
-/// The number that a text is.
-fn number_from(alloc: Global, text: &str) -> Result<Value, ScriptError>
-    ensures { IfOk result (λ v. read text.now ≡ Some (view v)) }
+/// The value that a token of a number is.
+fn number_value(text: &str) -> Result<Value, ScriptError>
+    ensures { IfOk result (λ v. option_map number (number_of text.now) ≡ Some (view v)) }
 {
-    match Value::from_str(alloc, text) {
-        Ok(number) => Ok(number),
-        Err(_) => Err(ScriptError::NotScript),
+    match number_from(text) {
+        Some(number) => Ok(Value::Number(number)),
+        None => Err(ScriptError::NotScript),
     }
 }

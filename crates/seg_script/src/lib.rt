@@ -7,7 +7,7 @@
 //! the settings, `operations` the operations, of which `pairs` reads what is added, by a `reading`, and `deletes` what is
 //! deleted, both out of the `parts` of a list; `cuts`, `filters` and `ids` read the rest. `kept_documents` makes the set that
 //! a filter is, `pushing` adds to a vector. `operation_reading` reads the operations one by one off the text, each as a value of
-//! `json_reading`. `laws` says what every script holds.
+//! `json_reading`, whose numbers `numbers` reads. `laws` says what every script holds.
 #![tactic(auto)]
 
 mod cuts;
@@ -19,6 +19,7 @@ mod ids;
 mod json_reading;
 mod kept_documents;
 mod laws;
+mod numbers;
 mod operation_reading;
 mod operations;
 mod pairs;

@@ -1,15 +1,15 @@
-use Rattle.std.proofs.Common.{◌≡◌, ◌-◌, ◌<◌, ◌∷◌, length, Some, None, sym, ap, ◌∙◌, arith, rules}
+use Rattle.std.proofs.Common.{◌≡◌, ◌-◌, ◌<◌, ◌∷◌, length, Some, None, option_map, sym, ap, ◌∙◌, arith, rules}
 use Rattle.std.proofs.lemmas.Result.{IfOk-weaker}
 use Rattle.json.specs.Token.{Token}
 use Rattle.json.specs.Json.{parse_map, after_end_array, read_key, items, members, value}
 use Rattle.json.specs.Reads.{token_of}
 use Rattle.json.proofs.Grammar.{value_is, value-begin_array, value-begin_object, read_key-shorter}
-use Rattle.serde_json.specs.Data.{null, boolean, string, array, object}
-use Rattle.serde_json.specs.Read.{of_json, of_items, of_members, converted, read}
+use Rattle.serde_json.specs.Data.{null, boolean, number, string, array, object}
+use Rattle.serde_json.specs.Read.{of_json, of_items, of_members, converted, number_of}
 use Rattle.serde_json.specs.View.{view, members_view}
 use Rattle.serde_json.specs.declared.value.Value.{String, Bool, Null, the_lemmas}
 use Rattle.serde_json.proofs.Views.{view-Array, view-Object}
-use Rattle.seg_script.proofs.Grammar.{converted-array, converted-object, item_read, items_over, member_read, members_over, items_before, items_before-no_items, one_more_item, none_before, is_number, number_next}
+use Rattle.seg_script.proofs.Grammar.{converted-array, converted-object, item_read, items_over, member_read, members_over, items_before, items_before-no_items, one_more_item, none_before}
 use Rattle.seg_script.proofs.json_reading.+reading.Goals as goal
 
 pub read_value-returns-in_ok-from_str-in-String-clause-ok : goal.read_value-returns-in_ok-from_str-in-String-clause-ok
@@ -35,9 +35,10 @@ read_value-returns-in-Null-clause-ok t c =
 
 pub read_value-returns-in-Number-clause-ok : goal.read_value-returns-in-Number-clause-ok
 read_value-returns-in-Number-clause-ok t c =
-    let is : c.args.reader.now ≡ Token.number c.in-Number.text.now ∷ c.next.new.self = c.in-Some.ensures.value ∙ ap (λ k. token_of k ∷ c.next.new.self) c.in-Number.is in
-    let whole = is_number c.in-Some.token c.in-Number.text.now c.in-Some.ensures.printable (ap token_of c.in-Number.is) in
-    IfOk-weaker c.number_from.result (λ v. read c.in-Number.text.now ≡ Some (view v)) (λ v. converted of_json (value c.args.depth c.args.reader.now) ≡ Some (view v, c.next.new.self)) (λ v said. ap (λ ts. converted of_json (value c.args.depth ts)) is ∙ number_next c.args.depth c.in-Number.text.now c.next.new.self (view v) whole said) c.number_from.ensures
+    let text = c.in-Number.text.now in
+    let first : c.args.reader.now ≡ token_of c.in-Some.token ∷ c.next.new.self = c.in-Some.ensures.value in
+    let is : c.args.reader.now ≡ Token.number text ∷ c.next.new.self = first ∙ ap (λ k. token_of k ∷ c.next.new.self) c.in-Number.is in
+    IfOk-weaker c.number_value.result (λ v. option_map number (number_of text) ≡ Some (view v)) (λ v. converted of_json (value c.args.depth c.args.reader.now) ≡ Some (view v, c.next.new.self)) (λ v said. ap (converted of_json) (ap (value c.args.depth) is ∙ value_is c.args.depth _) ∙ ap (option_map (λ d. (d, c.next.new.self))) said) c.number_value.ensures
 
 pub read_value-returns-in_ok-read_items-in-BeginArray-clause-ok : goal.read_value-returns-in_ok-read_items-in-BeginArray-clause-ok
 read_value-returns-in_ok-read_items-in-BeginArray-clause-ok t c =
