@@ -1,5 +1,5 @@
 //! JSON values, one by one off a reader.
-ghost use Rattle.std.specs.Prelude.{◌≡◌, ◌<◌, length, Some, option_map, IfOk, OnOk};
+ghost use Rattle.std.specs.Prelude.{◌≡◌, ◌<◌, length, Some, None, option_map, IfOk, OnOk, OnErr};
 ghost use Rattle.json.specs.Json.{value, items, members};
 ghost use Rattle.serde_json.specs.Data.{no_members, number, put};
 ghost use Rattle.serde_json.specs.Read.{of_json, of_items, of_members, converted, number_of};
@@ -103,7 +103,8 @@ pub(crate) fn put(
 
 /// The value that a token of a number is.
 fn number_value(text: &str) -> Result<Value, ScriptError>
-    ensures { IfOk result (λ v. option_map number (number_of text.now) ≡ Some (view v)) }
+    ensures ok { IfOk result (λ v. option_map number (number_of text.now) ≡ Some (view v)) }
+    ensures err { OnErr result (number_of text.now ≡ None) }
 {
     match number_from(text) {
         Some(number) => Ok(Value::Number(number)),

@@ -38,7 +38,7 @@ read_value-returns-in-Number-clause-ok t c =
     let text = c.in-Number.text.now in
     let first : c.args.reader.now ≡ token_of c.in-Some.token ∷ c.next.new.self = c.in-Some.ensures.value in
     let is : c.args.reader.now ≡ Token.number text ∷ c.next.new.self = first ∙ ap (λ k. token_of k ∷ c.next.new.self) c.in-Number.is in
-    IfOk-weaker c.number_value.result (λ v. option_map number (number_of text) ≡ Some (view v)) (λ v. converted of_json (value c.args.depth c.args.reader.now) ≡ Some (view v, c.next.new.self)) (λ v said. ap (converted of_json) (ap (value c.args.depth) is ∙ value_is c.args.depth _) ∙ ap (option_map (λ d. (d, c.next.new.self))) said) c.number_value.ensures
+    IfOk-weaker c.number_value.result (λ v. option_map number (number_of text) ≡ Some (view v)) (λ v. converted of_json (value c.args.depth c.args.reader.now) ≡ Some (view v, c.next.new.self)) (λ v said. ap (converted of_json) (ap (value c.args.depth) is ∙ value_is c.args.depth _) ∙ ap (option_map (λ d. (d, c.next.new.self))) said) c.number_value.ensures.ok
 
 pub read_value-returns-in_ok-read_items-in-BeginArray-clause-ok : goal.read_value-returns-in_ok-read_items-in-BeginArray-clause-ok
 read_value-returns-in_ok-read_items-in-BeginArray-clause-ok t c =
