@@ -15,9 +15,7 @@ pub(crate) fn put_same_ends(rows: u32, before: u64, out: &mut Vec<u8>) -> Result
     ensures end { IfOk result (λ end. end ≡ before) }
     ensures fits { before < 2 ^ 64 }
 {
-    for _row in 0..rows {
-        put_u64(out, before)?;
-    }
+    seg_columns_written::put_same_ends(out, rows, before)?;
     Ok(before)
 }
 

@@ -18,7 +18,7 @@ module _ {V : Type 0} (row : V → ℕ) where
   abbrev count : ℕ → List V → ℕ
   count r vs = prefix_len (here r) vs
 
-  none_of : (low r : ℕ) (vs : List V) → Rise row low vs → r < low → of_row row vs r ≡ []
+  pub none_of : (low r : ℕ) (vs : List V) → Rise row low vs → r < low → of_row row vs r ≡ []
   none_of low r [] rise lt = refl
   none_of low r (v ∷ vs) rise lt =
       let no : here r v ≡ false = ne_eqb (row v) r (λ e. omega (arith, e, lt, rise.0)) in

@@ -1,11 +1,12 @@
 //! The bytes of a column.
-ghost use Rattle.std.specs.Prelude.{◌≡◌, ◌≤◌, ◌+◌, ◌<◌, ◌^◌, ◌==◌, ◌++◌, [], drop, get_or, length, OnOk};
-ghost use Rattle.std.specs.List.{AllByRecursion, flat_map, prefix_len};
+ghost use Rattle.std.specs.Prelude.{◌≡◌, ◌<◌, ◌^◌, ◌++◌, [], get_or, length, OnOk};
+ghost use Rattle.std.specs.List.{AllByRecursion, flat_map};
 ghost use Rattle.seg_columns_written.specs.RowNumbers.{AddsBytes, eight_bytes, end_bytes, term_bytes};
 ghost use Rattle.seg_columns_written.specs.Rows.{Rise};
 ghost use Rattle.seg_columns_written.specs.Terms.{terms_at};
 
 use crate::row_number::RowNumber;
+use crate::same_ends::put_same_ends;
 use crate::term_table::TermTable;
 use seg_common::put_u64;
 use std::alloc::AllocError;
@@ -43,26 +44,16 @@ fn put_row_ends(out: &mut Vec<u8>, values: &[RowNumber], num_rows: u32) -> Resul
     ensures ok { OnOk result (out.new.items ≡ out.old.items ++ end_bytes num_rows values.now) }
     ensures few { OnOk result (length values.now < 2 ^ 64) }
 {
-    let count = values.len();
-    let mut at = 0;
-    for row in 0..num_rows {
-        at = row_end(values, at, row);
-        put_u64(out, at as u64)?;
+    let mut row = 0;
+    let mut end = 0;
+    for value in values {
+        let next = value.row.min(num_rows);
+        put_same_ends(out, next - row, end)?;
+        row = next;
+        end += 1;
     }
+    put_same_ends(out, num_rows - row, end)?;
     Ok(())
-}
-
-/// Where the values of a row end that begin at a place, if it has some.
-fn row_end(values: &[RowNumber], start: usize, row: u32) -> usize
-    requires { start ≤ length values.now }
-    ensures end { result ≡ start + prefix_len (λ v. v.row == row) (drop start values.now) }
-    ensures within { result ≤ length values.now }
-{
-    let mut at = start;
-    while at < values.len() && values[at].row == row {
-        at += 1;
-    }
-    at
 }
 
 fn put_eight_bytes(out: &mut Vec<u8>, values: &[RowNumber]) -> Result<(), AllocError>

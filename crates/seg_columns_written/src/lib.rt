@@ -4,7 +4,7 @@
 //! and `specs/ModelColumns` what a file means. `laws` has what is read back of them.
 //!
 //! To be read in this order: `laws`, `table_writing`, `room`; `term`, `term_order`, `term_table` (the distinct terms of
-//! a column, by their numbers and in byte order), `dictionary_writing`; `row_number`, `column_writing`.
+//! a column, by their numbers and in byte order), `dictionary_writing`; `row_number`, `same_ends`, `column_writing`.
 #![tactic(auto)]
 
 mod column_writing;
@@ -12,6 +12,7 @@ mod dictionary_writing;
 mod laws;
 mod room;
 mod row_number;
+mod same_ends;
 mod table_writing;
 mod term;
 mod term_order;
@@ -22,6 +23,7 @@ pub use dictionary_writing::put_dictionary;
 pub use laws::{bytes_columns_read_back, files_read_back, str_columns_read_back};
 pub use room::sum;
 pub use row_number::RowNumber;
+pub use same_ends::put_same_ends;
 pub use table_writing::{put_entry, put_table, type_code};
 pub use term_order::TermOrder;
 pub use term_table::TermTable;
