@@ -2,7 +2,7 @@
 """Runs the program over scripts that are hard by their shape and not by their size, and prints how its time grows.
 
 usage: hostile.py [PROGRAM] [--only SHAPE,SHAPE] [--seconds 2] [--repeat 3] [--most 1.2] [--limit 120] [--room FOLDER]
-                  [--instructions]
+                  [--instructions [--each-byte]]
 
 Each shape is made at two sizes, the second twice the first. The first is doubled until a run takes two seconds of
 processor time, or until the second would be longer than a script may be. Of three runs of each, in turn, the least
@@ -11,6 +11,8 @@ above 1.2, or where a run fails or takes more than the limit.
 
 With --instructions each shape is run once at its first size and once at twice that size, under `valgrind`, which counts
 the program's instructions: the same at each run, whatever else the machine does. What the system does isn't counted.
+The C library is told to clear memory without `rep stosb`, for `valgrind` counts each byte that one clears as an
+instruction of its own. With --each-byte it isn't told so.
 
   batches    a batch for each document
   fields     many fields, without lengths, and ten documents of one pair for each field
@@ -200,12 +202,17 @@ class Hostile:
         return growth <= self.words.most
 
 
+# For the C library: no `rep stosb` up to so many bytes.
+BY_WORDS = 'GLIBC_TUNABLES=glibc.cpu.x86_rep_stosb_threshold=1000000000'
+
+
 class Counted:
     """As `Hostile`, by instructions."""
 
     def __init__(self, words):
         self.words = words
-        self.command = ['valgrind', '--tool=cachegrind', '--cache-sim=no', '--cachegrind-out-file=/dev/null',
+        setting = [] if words.each_byte else [BY_WORDS]
+        self.command = ['env', *setting, 'valgrind', '--tool=cachegrind', '--cache-sim=no', '--cachegrind-out-file=/dev/null',
                         '--log-file=counted', Path(words.program).resolve(), 'build']
 
     def count(self, script):
@@ -235,6 +242,7 @@ def main():
     parser.add_argument('--limit', type=float, default=120)
     parser.add_argument('--room', type=Path, default=ROOM)
     parser.add_argument('--instructions', action='store_true')
+    parser.add_argument('--each-byte', action='store_true')
     words = parser.parse_args()
     words.room.mkdir(parents=True, exist_ok=True)
     hostile = Counted(words) if words.instructions else Hostile(words)
