@@ -2,12 +2,13 @@
 """Runs the program over scripts that are hard by their shape and not by their size, and prints how its time grows.
 
 usage: hostile.py [PROGRAM] [--only SHAPE,SHAPE] [--seconds 2] [--repeat 3] [--most 1.2] [--limit 120] [--room FOLDER]
-                  [--instructions [--each-byte]]
+                  [--sizes N,N,..] [--instructions [--each-byte]]
 
 Each shape is made at two sizes, the second twice the first. The first is doubled until a run takes two seconds of
 processor time, or until the second would be longer than a script may be. Of three runs of each, in turn, the least
 counts. `growth` is by how much the time grew, over the growth of the script: 1 is linear. The status is 1 where it is
-above 1.2, or where a run fails or takes more than the limit.
+above 1.2, or where a run fails or takes more than the limit. With --sizes a shape is made at those sizes, and each is
+printed beside the next one.
 
 With --instructions each shape is run once at its first size and once at twice that size, under `valgrind`, which counts
 the program's instructions: the same at each run, whatever else the machine does. What the system does isn't counted.
@@ -148,7 +149,7 @@ COUNTED = {'deletes': 5000, 'deletes-over-batches': 100, 'text': 50000, 'pairs':
 
 # ---- runs
 
-HEAD = f'{"shape":21} {"size":>8} {"MB":>7} {"CPU s":>7} {"twice MB":>9} {"CPU s":>7} {"growth":>7} {"s/MB":>7}'
+HEAD = f'{"shape":21} {"size":>8} {"MB":>7} {"CPU s":>7} {"next MB":>9} {"CPU s":>7} {"growth":>7} {"s/MB":>7}'
 
 
 def script_of(words, name, make, count):
@@ -177,18 +178,25 @@ class Hostile:
             count *= 2
 
     def measure(self, name):
-        """Prints the line of a shape, and answers whether it grows as is wanted."""
+        """Prints the lines of a shape, and answers whether it grows as is wanted."""
         make, count = SHAPES[name]
-        count, script, got = self.first_size(name, make, count)
-        scripts = script, script_of(self.words, name, make, 2 * count)
-        found = [[got], []]
+        if self.words.sizes:
+            counts = self.words.sizes
+            scripts = [script_of(self.words, name, make, count) for count in counts]
+            found = [[] for _ in scripts]
+        else:
+            count, script, got = self.first_size(name, make, count)
+            counts = [count, 2 * count]
+            scripts = [script, script_of(self.words, name, make, 2 * count)]
+            found = [[got], []]
         for turn in range(self.words.repeat):
-            for place in (0, 1) if turn else (1,):
-                found[place].append(self.run(scripts[place]))
+            for script, runs in zip(scripts, found):
+                if len(runs) <= turn:
+                    runs.append(self.run(script))
         sizes = [script.stat().st_size for script in scripts]
         for script in scripts:
             script.unlink()
-        return self.tell(name, count, sizes, found)
+        return all([self.tell(name, counts[at], sizes[at:at + 2], found[at:at + 2]) for at in range(len(counts) - 1)])
 
     def tell(self, name, count, sizes, found):
         start = f'{name:21} {count:8}'
@@ -197,7 +205,7 @@ class Hostile:
             return False
         first, second = best(found[0])['cpu'], best(found[1])['cpu']
         growth = second / first / (sizes[1] / sizes[0])
-        print(f'{start} {sizes[0] / 1e6:7.2f} {first:7.2f} {sizes[1] / 1e6:9.2f} {second:7.2f} {growth:7.2f}'
+        print(f'{start} {sizes[0] / 1e6:7.2f} {first:7.3f} {sizes[1] / 1e6:9.2f} {second:7.3f} {growth:7.2f}'
               f' {second / (sizes[1] / 1e6):7.2f}', flush=True)
         return growth <= self.words.most
 
@@ -225,7 +233,12 @@ class Counted:
     def measure(self, name):
         make, count = SHAPES[name]
         count = COUNTED.get(name, count)
-        (first, size), (second, twice) = (self.count(script_of(self.words, name, make, many)) for many in (count, 2 * count))
+        counts = self.words.sizes or [count, 2 * count]
+        told = [self.count(script_of(self.words, name, make, count)) for count in counts]
+        return all([self.tell(name, *pair) for pair in zip(counts, told, told[1:])])
+
+    def tell(self, name, count, before, after):
+        (first, size), (second, twice) = before, after
         growth = second / first / (twice / size)
         print(f'{name:21} {count:8} {size / 1e6:7.2f} {first / 1e6:7.0f} {twice / 1e6:9.2f} {second / 1e6:7.0f} {growth:7.2f}'
               f' {second / twice:7.0f}', flush=True)
@@ -241,6 +254,7 @@ def main():
     parser.add_argument('--most', type=float, default=1.2)
     parser.add_argument('--limit', type=float, default=120)
     parser.add_argument('--room', type=Path, default=ROOM)
+    parser.add_argument('--sizes', type=lambda text: [int(size) for size in text.split(',')])
     parser.add_argument('--instructions', action='store_true')
     parser.add_argument('--each-byte', action='store_true')
     words = parser.parse_args()
