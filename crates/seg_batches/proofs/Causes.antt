@@ -14,7 +14,7 @@ use Rattle.seg_model.specs.Valid.{Known}
 use Rattle.seg_meta.specs.declared.index_settings.IndexSettings.{IndexSettings}
 use Rattle.seg_segment.specs.SegmentFiles.{write_steps}
 use Rattle.seg_segment.specs.declared.segment_files.SegmentFiles.{SegmentFiles}
-use Rattle.seg_build.specs.WriterStart.{start_refusal}
+use Rattle.seg_check.specs.WriterStart.{start_refusal}
 use Rattle.seg_model.specs.Refused.{IsRefusal, batch_error}
 use Rattle.seg_model.specs.Telling.{Tells}
 use Rattle.seg_batches.specs.Writing.{MakesBatch, StandAndTell, batch_cause}

@@ -10,8 +10,8 @@ use Rattle.seg_model.specs.Operations.{Operation}
 use Rattle.seg_model.specs.Refused.{batch_refusal, cut_from}
 use Rattle.seg_model.specs.Valid.{Known}
 use Rattle.seg_meta.specs.declared.index_settings.IndexSettings.{IndexSettings}
-use Rattle.seg_build.specs.WriterStart.{start_refusal}
-use Rattle.seg_build.proofs.Exports.{batch_is_refusal, start_is_refusal}
+use Rattle.seg_check.specs.WriterStart.{start_refusal}
+use Rattle.seg_check.proofs.Exports.{batch_is_refusal, start_is_refusal}
 use Rattle.seg_batches.specs.Writing.{batch_cause}
 use Rattle.seg_batches.proofs.Causes.{IsFirst, TellsRefusal}
 

@@ -3,12 +3,13 @@ ghost use Rattle.std.specs.Prelude.{◌≡◌, ◌<◌, ◌+◌, ◌^◌, [], ma
 ghost use Rattle.seg_model.specs.Operations.{additions};
 ghost use Rattle.seg_build.specs.SegmentWriting.{Writes};
 ghost use Rattle.seg_input.specs.View.{operation_of};
-ghost use Rattle.seg_build.specs.WriterStart.{start_refusal};
+ghost use Rattle.seg_check.specs.WriterStart.{start_refusal};
 ghost use Rattle.seg_batches.specs.Indexing.{AddsAll, AreOfBatch, IsUnused, Takes, is_addition};
 ghost use Rattle.seg_model.specs.Refused.{batch_error};
 ghost use Rattle.seg_model.specs.Telling.{Tells};
 
-use seg_build::{LEAST_BUDGET, MemorySegment, SegmentWriter};
+use seg_build::{MemorySegment, SegmentWriter};
+use seg_check::LEAST_BUDGET;
 use seg_common::SegmentId;
 use seg_deletes::Opstamp;
 use seg_input::UserOperation;

@@ -2,7 +2,7 @@
 ghost use Rattle.std.specs.Prelude.{◌≡◌, ◌≤◌, ◌<◌, ◌+◌, ◌^◌, length, map, take, IfOk};
 ghost use Rattle.std.specs.List.{enumerate_from};
 ghost use Rattle.seg_input.specs.View.{operation_of};
-ghost use Rattle.seg_build.specs.WriterStart.{start_refusal};
+ghost use Rattle.seg_check.specs.WriterStart.{start_refusal};
 ghost use Rattle.seg_batches.specs.Indexing.{AreOfBatch};
 ghost use Rattle.seg_model.specs.Telling.{Tells};
 ghost use Rattle.seg_batches.specs.Making.{IsSegmentOf, MakesSegment};

@@ -5,7 +5,7 @@ ghost use Rattle.seg_batches.specs.Laws.{as_operations};
 ghost use Rattle.seg_directory.specs.Works.{Works};
 ghost use Rattle.seg_segment.specs.SegmentFiles.{write_steps};
 ghost use Rattle.seg_input.specs.View.{operation_of};
-ghost use Rattle.seg_build.specs.WriterStart.{start_refusal};
+ghost use Rattle.seg_check.specs.WriterStart.{start_refusal};
 ghost use Rattle.seg_model.specs.Operations.{batches};
 ghost use Rattle.seg_model.specs.Valid.{cuts_fit};
 ghost use Rattle.seg_removal.specs.Stamps.{stamped_deletes};

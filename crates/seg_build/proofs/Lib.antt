@@ -1,4 +1,3 @@
-pub mod Exports
 mod Contents
 mod Elements
 mod FacetPrefixes
@@ -17,7 +16,6 @@ mod KeptLengths
 mod KeptStarts
 mod Leaves
 mod MemoryTaken
-mod NoRefusal
 mod NormParts
 mod Places
 mod PathTokens
@@ -26,7 +24,6 @@ mod RecordedLengths
 mod RecordedTerms
 mod Recording
 mod Refused
-mod Refusing
 mod Sound
 mod Standing
 mod StartsByNumber

@@ -22,4 +22,3 @@ pub mod TermsWritten
 pub mod TokenTotal
 pub mod Totals
 pub mod Writable
-pub mod WriterStart

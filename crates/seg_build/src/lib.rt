@@ -11,7 +11,7 @@
 //! `sorted` (the terms of a field in byte order), `lengths` (the field norms of a document), `usage` (how much memory documents take), `fields` (those of all
 //! documents); `writing` (the terms of a field, into a `TermWriter`), `terms_files` and `norms_file` (the parts
 //! of files), `filling` (what the components of a segment are to hold); `add_operation`, `adding` (the values of a
-//! document that passed its check), `writer_start`, `writer_parts`, `memory_segment`, `finishing` and `segment_writer`;
+//! document that passed its check), `writer_parts`, `memory_segment`, `finishing` and `segment_writer`;
 //! `laws` (terms that were indexed can be written).
 #![tactic(auto)]
 
@@ -39,7 +39,6 @@ mod tokens;
 mod usage;
 mod value_terms;
 mod writer_parts;
-mod writer_start;
 mod writing;
 
 pub use add_operation::{AddOperation, Opstamp};
@@ -49,4 +48,3 @@ pub use memory_segment::MemorySegment;
 pub use seg_terms::{Hit, first_run};
 pub use segment_writer::SegmentWriter;
 pub use sorted::SortedTerms;
-pub use writer_start::{LEAST_BUDGET, settings_fit, start_refusal};

@@ -14,15 +14,14 @@ ghost use Rattle.seg_segment.specs.SegmentFiles.{IsOtherName};
 ghost use Rattle.seg_segment.specs.Standing.{StandFor};
 ghost use Rattle.seg_build.specs.StoredBlocks.{HasBlocks};
 ghost use Rattle.seg_build.specs.Totals.{TotalsAreCounts};
-ghost use Rattle.seg_build.specs.WriterStart.{IsStartError, start_refusal};
+ghost use Rattle.seg_check.specs.WriterStart.{IsStartError, start_refusal};
 
 use crate::add_operation::{AddOperation, Opstamp};
 use crate::finishing::{finish, memory_segment};
 use crate::memory_segment::MemorySegment;
 use crate::usage::length_fields;
 use crate::writer_parts::WriterParts;
-use crate::writer_start::start_refusal;
-use seg_check::checked_values;
+use seg_check::{checked_values, start_refusal};
 use seg_common::{FileName, SegmentComponent};
 use seg_directory::Directory;
 use seg_meta::{IndexSettings, Segment};
@@ -50,7 +49,7 @@ impl<'a, Z: Analyzers> Model for SegmentWriter<'a, Z> {
     ghost use Rattle.std.specs.List.{AllByRecursion};
     ghost use Rattle.seg_model.specs.Fields.{indexing_tokenizer};
     ghost use Rattle.seg_model.specs.Valid.{names_fit};
-    ghost use Rattle.seg_fast_writer.specs.FastLeaves.{AreKnown};
+    ghost use Rattle.seg_check.specs.FastTokenizers.{AreKnown};
     ghost use Rattle.std.specs.Coded.{codes};
     ghost use Rattle.seg_build.specs.FieldSoFar.{field_code};
     ghost use Rattle.seg_build.specs.SegmentWriting.{SegmentWriting, kept_of, IsUnderWay};

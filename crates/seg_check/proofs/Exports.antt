@@ -3,4 +3,5 @@ pub use Rattle.seg_check.proofs.Adding.{counts-add, start-from}
 pub use Rattle.seg_check.proofs.Causes.{EachHas, cause-has, first_each, or_each, unless_each}
 pub use Rattle.seg_check.proofs.FieldsFit.{for_one_field}
 pub use Rattle.seg_check.proofs.LeavesCome.{are-leaves, no_more}
+pub use Rattle.seg_check.proofs.Refusing.{batch_is_refusal, map_each, schema_each, shape_each, start_is_refusal}
 pub use Rattle.seg_check.proofs.Rising.{rises, rises_first}

@@ -9,8 +9,10 @@ mod FirstRefusals
 mod JsonTrees
 mod KeptValues
 mod LeavesCome
+mod NoRefusal
 mod OnPaths
 mod Places
+mod Refusing
 mod Rising
 mod StoredLens
 mod ValuesCome

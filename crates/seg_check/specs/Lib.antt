@@ -1,4 +1,5 @@
 pub mod AllFields
+pub mod FastTokenizers
 pub mod IndexedValues
 pub mod Known
 pub mod LeafContents
@@ -9,3 +10,4 @@ pub mod Standing
 pub mod Texts
 pub mod Totals
 pub mod Trees
+pub mod WriterStart

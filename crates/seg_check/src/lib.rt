@@ -11,6 +11,7 @@
 
 mod document;
 mod entry;
+mod fast_tokenizers;
 mod field_text;
 mod field_totals;
 mod fields;
@@ -25,9 +26,12 @@ mod size;
 mod stored_len;
 mod texts;
 mod totals;
+mod writer_start;
 
 pub use document::{check_document, checked_values};
 pub use entry::indexing_tokenizer;
+pub use fast_tokenizers::{column_tokenizer, lack_tokenizers};
 pub use field_text::given_tokens;
 pub use indexed_value::{IndexedValue, ValueForm};
 pub use size::{counted_len, text_width};
+pub use writer_start::{LEAST_BUDGET, settings_fit, start_refusal};

@@ -67,9 +67,5 @@ IsLevelOf keys level = ((keys ≡ []) × (level ≡ 0)) ⊎ ((0 < length keys) �
 abbrev pub IsTaken : Schema → ℕ × Tree → Type 0
 IsTaken schema p = IsSomeAnd (slice_get schema p.0) (λ e. takes e p.1 ≡ true)
 
--- the fast tokenizers of a schema are known
-abbrev pub AreKnown : Known → Schema → Type 0
-AreKnown known schema = AllByRecursion (λ e. has_unknown_fast_tokenizer known e ≡ false) schema
-
 abbrev pub IsKnown : Known → FieldEntry → Type 0
 IsKnown known entry = IfSome (column_tokenizer entry) (λ name. IsTrue (known name))

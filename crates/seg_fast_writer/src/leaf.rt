@@ -1,5 +1,5 @@
 //! A leaf of a value, recorded at its path.
-ghost use Rattle.std.specs.Prelude.{◌≡◌, ◌+◌, ◌||◌, option_map, OnOk};
+ghost use Rattle.std.specs.Prelude.{◌≡◌, ◌+◌, OnOk};
 ghost use Rattle.seg_columns_recorded.specs.Documents.{with_values};
 ghost use Rattle.seg_fast_writer.specs.FastLeaves.{IsKnown, cut_at, values_of_leaf, values_under};
 ghost use Rattle.seg_columns_recorded.specs.declared.value_kind.ValueKind.TheVariants.{Str};
@@ -8,7 +8,6 @@ ghost use Rattle.seg_fast_writer.specs.PathNumbers.{IsKnownAt, IsKnownStill};
 ghost use Rattle.seg_fast_writer.specs.Walking.{CanRecordLeaf, CanRecordTexts};
 ghost use Rattle.seg_fast_writer.specs.Writing.{AreUnderWay};
 ghost use Rattle.seg_model.specs.Columns as model;
-ghost use Rattle.seg_model.specs.Fields as fields;
 ghost use Rattle.seg_paths.specs.NumberedLeaves.{leaf_in};
 ghost use Rattle.seg_values.specs.View.{tree_of};
 
@@ -16,6 +15,7 @@ use crate::path_columns::PathColumns;
 use crate::place::Place;
 use crate::placed_recording::{put_address, put_bool, put_bytes, put_moment, put_number, put_text};
 use crate::row_recorder::RowRecorder;
+use seg_check::column_tokenizer;
 use seg_columns::ColumnError;
 use seg_columns_recorded::{ColumnarWriter, NumericalValue};
 use seg_dates::{DateTime, DateTimePrecision};
@@ -161,29 +161,6 @@ impl<'a, Z: Analyzers> RowRecorder<'a, Z> {
             put_text(columns, known, self.row, place, path, token.text.as_str())?;
         }
         Ok(())
-    }
-}
-
-/// The fast tokenizer of a fast text or JSON field.
-pub(crate) fn column_tokenizer(entry: &FieldEntry) -> Option<&str>
-    ensures { option_map (λ t. t.now) result ≡ model.column_tokenizer entry.now }
-{
-    if !entry.fast || !has_texts(entry.kind) {
-        return None;
-    }
-    match &entry.fast_tokenizer {
-        Some(name) => Some(name.as_str()),
-        None => None,
-    }
-}
-
-fn has_texts(kind: FieldKind) -> bool
-    ensures { result ≡ (fields.is_text kind || fields.is_json kind) }
-{
-    match kind {
-        FieldKind::Text => true,
-        FieldKind::Json => true,
-        _ => false,
     }
 }
 

@@ -17,4 +17,4 @@ mod row_recorder;
 mod tree;
 mod writer;
 
-pub use writer::{FastFieldsWriter, lack_tokenizers};
+pub use writer::FastFieldsWriter;

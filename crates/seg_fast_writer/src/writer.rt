@@ -8,15 +8,15 @@ ghost use Rattle.seg_columns_written.specs.ModelColumns.{columns_in};
 ghost use Rattle.seg_model.specs.Checked.{document_refusal};
 ghost use Rattle.seg_model.specs.Columns.{FastValue, columns_of, declared_columns, fast_values};
 ghost use Rattle.seg_model.specs.Valid.{has_unknown_fast_tokenizer, names_fit};
-ghost use Rattle.seg_fast_writer.specs.FastLeaves.{AreKnown};
+ghost use Rattle.seg_check.specs.FastTokenizers.{AreKnown};
 ghost use Rattle.seg_fast_writer.specs.PathNumbers.{AreColumnsOf};
 ghost use Rattle.seg_fast_writer.specs.Usage.{saturated, total};
 ghost use Rattle.seg_fast_writer.specs.Writing.{Holds, error_of, refusal_of};
 
 use crate::declaring::{declared_columns, field_columns};
-use crate::leaf::column_tokenizer;
 use crate::path_columns::PathColumns;
 use crate::row_recorder::RowRecorder;
+use seg_check::lack_tokenizers;
 use seg_columns::ColumnError;
 use seg_columns_recorded::{ColumnId, ColumnarWriter};
 use seg_values::{ArgumentCause, Document, FieldEntry, Pairs, Schema, TResult, TantivyError};
@@ -158,22 +158,6 @@ impl FastFieldsWriter {
             Ok(bytes) => Ok(bytes),
             Err(e) => Err(refusal(e)),
         }
-    }
-}
-
-/// Whether a field names a fast tokenizer that is unknown.
-pub fn lack_tokenizers<Z: Analyzers>(analyzers: &Z, schema: &[FieldEntry]) -> bool
-    ensures { result ≡ list_any (has_unknown_fast_tokenizer (Z.knows analyzers.now)) schema.now }
-{
-    schema.iter().any(|entry| lacks_tokenizer(analyzers, entry))
-}
-
-fn lacks_tokenizer<Z: Analyzers>(analyzers: &Z, entry: &FieldEntry) -> bool
-    ensures { result ≡ has_unknown_fast_tokenizer (Z.knows analyzers.now) entry.now }
-{
-    match column_tokenizer(entry) {
-        Some(name) => !analyzers.known(name),
-        None => false,
     }
 }
 

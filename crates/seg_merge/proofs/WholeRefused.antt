@@ -20,7 +20,7 @@ use Rattle.seg_model.specs.Input.{Input, input_batches, input_survivors}
 use Rattle.seg_model.specs.Operations.{Operation, Batch, additions, batches_from}
 use Rattle.seg_model.specs.Refused.{cut_from, count_refusal, numbers_refusal, batch_refusal, build_refusal, IfRefusal, IsRefusal, batches_error}
 use Rattle.seg_model.specs.Valid.{Known, FitsSegment, shape_refusal, schema_refusal, input_refusal, names_fit, settings_fit}
-use Rattle.seg_build.specs.WriterStart.{start_refusal}
+use Rattle.seg_check.specs.WriterStart.{start_refusal}
 use Rattle.seg_open.specs.SegmentOpened.{IsNoDamage}
 use Rattle.seg_refusals.specs.Admitted.{IsValidIf}
 use Rattle.seg_model.proofs.Exports.{Fits, Taken, first_none, none_map, or_both, parts_none, taken_pass}

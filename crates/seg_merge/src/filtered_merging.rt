@@ -23,7 +23,7 @@ use crate::index_files::{begin_index, save_index};
 use crate::metas::output_metas;
 use crate::payload::ids_of;
 use seg_bits::AliveBitSet;
-use seg_build::settings_fit;
+use seg_check::settings_fit;
 use seg_common::SegmentId;
 use seg_directory::Directory;
 use seg_join::{IndexMerger, filters_fit};

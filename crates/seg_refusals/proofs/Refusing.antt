@@ -14,7 +14,7 @@ use Rattle.seg_model.specs.Operations.{Operation, add, delete, delete_all}
 use Rattle.seg_model.specs.Refused.{operation_refusal, count_refusal, numbers_refusal, added_by, batch_refusal, IsRefusal}
 use Rattle.seg_model.specs.Valid.{Known, cuts_fit, batches_fit, filters_fit, ids_fit, names_fit, settings_fit, unknown_tokenizer_of, has_unknown_fast_tokenizer, unindexed_delete_of, shape_refusal, schema_refusal, delete_refusal, input_refusal}
 use Rattle.seg_check.proofs.Exports.{EachHas, cause-has, first_each, or_each}
-use Rattle.seg_build.proofs.Exports.{map_each, schema_each, shape_each}
+use Rattle.seg_check.proofs.Exports.{map_each, schema_each, shape_each}
 
 first_each_of : (known : Known) (analyzer : Analyzer) (input : Input) → IfSome (input_refusal known analyzer input) IsRefusal
 first_each_of known analyzer input =

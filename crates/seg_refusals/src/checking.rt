@@ -12,7 +12,7 @@ use crate::deletes::unindexed_delete;
 use crate::filters::filters_fit;
 use crate::ids::ids_fit;
 use seg_bits::AliveBitSet;
-use seg_build::{LEAST_BUDGET, start_refusal};
+use seg_check::{LEAST_BUDGET, start_refusal};
 use seg_common::SegmentId;
 use seg_input::{BuildInputRef, UserOperation};
 use seg_values::{ArgumentCause, SchemaCause, TResult, TantivyDocument, TantivyError};

@@ -11,7 +11,7 @@ ghost use Rattle.seg_build.specs.MemoryUsage.{memory_usage, saturated};
 ghost use Rattle.seg_build.specs.SegmentWriting.{Adds, AddsNone, IsOfSame, Writes, document_count};
 ghost use Rattle.seg_build.specs.StoredBlocks.{HasBlocks};
 ghost use Rattle.seg_build.specs.Totals.{TotalsAreCounts};
-ghost use Rattle.seg_build.specs.WriterStart.{IsStartError, start_refusal};
+ghost use Rattle.seg_check.specs.WriterStart.{IsStartError, start_refusal};
 ghost use Rattle.seg_single_segment.specs.IndexWriting.{FinalizesIndex, index_files, one_segment_meta};
 
 use crate::index_meta::save_one_segment;

@@ -4,7 +4,7 @@ use Rattle.std.specs.List.{enumerate_from}
 use Rattle.std.proofs.lemmas.Result.{IfOk-weaker}
 use Rattle.seg_model.specs.Operations.{Operation, additions}
 use Rattle.seg_input.specs.View.{operation_of}
-use Rattle.seg_build.specs.WriterStart.{start_refusal}
+use Rattle.seg_check.specs.WriterStart.{start_refusal}
 use Rattle.seg_model.specs.Telling.{Tells}
 use Rattle.seg_batches.specs.Writing.{StandAndTell, batch_between, batch_cause}
 use Rattle.seg_batches.proofs.BatchSteps.{range_mapped, segment_here, set_here}

@@ -3,7 +3,7 @@ use Rattle.std.proofs.lemmas.List.{drop_all, length-map}
 use Rattle.std.proofs.lemmas.Option.{slice_get_read}
 use Rattle.seg_model.specs.Operations.{batches}
 use Rattle.seg_batches.specs.Laws.{as_operations}
-use Rattle.seg_build.specs.WriterStart.{start_refusal}
+use Rattle.seg_check.specs.WriterStart.{start_refusal}
 use Rattle.seg_input.specs.View.{operation_of}
 use Rattle.seg_batches.specs.Segments.{segments_of}
 use Rattle.seg_batches.specs.Writing.{batch_causes}

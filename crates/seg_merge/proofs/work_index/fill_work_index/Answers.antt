@@ -5,7 +5,7 @@ use Rattle.seg_input.specs.View.{operation_of}
 use Rattle.seg_meta.specs.declared.index_meta.IndexMeta.{IndexMeta}
 use Rattle.seg_model.specs.Input.{Input}
 use Rattle.seg_model.specs.Valid.{are_distinct, cuts_fit, input_refusal}
-use Rattle.seg_build.specs.WriterStart.{start_refusal}
+use Rattle.seg_check.specs.WriterStart.{start_refusal}
 use Rattle.seg_batches.specs.Segments.{WrittenSegment}
 use Rattle.seg_refusals.specs.Inputs.{input_of}
 use Rattle.seg_merge.specs.DirectoryCalls.{FillsWork}

@@ -4,7 +4,7 @@ use Rattle.std.specs.List.{AllByRecursion, position_from}
 use Rattle.seg_values.specs.declared.schema.FieldEntry.{FieldEntry}
 use Rattle.seg_model.specs.Fields.{indexing_tokenizer}
 use Rattle.seg_model.specs.Valid.{unknown_tokenizer_of}
-use Rattle.seg_build.proofs.writer_start.unknown_tokenizer.Given as goal
+use Rattle.seg_check.proofs.writer_start.unknown_tokenizer.Given as goal
 
 -- what is left decides
 abbrev pub invariant-loop-place : goal.invariant-loop-place

@@ -15,8 +15,8 @@ use Rattle.seg_model.specs.Refused.{operation_refusal, count_refusal, numbers_re
 use Rattle.seg_model.specs.Valid.{Known, cuts_fit, batches_fit, filters_fit, ids_fit, names_fit, settings_fit, unknown_tokenizer_of, has_unknown_fast_tokenizer, shape_refusal, schema_refusal}
 use Rattle.seg_meta.specs.View.{settings_of}
 use Rattle.seg_meta.specs.declared.index_settings.IndexSettings.{IndexSettings}
-use Rattle.seg_check.proofs.Exports.{EachHas, cause-has, first_each, or_each, unless_each}
-use Rattle.seg_build.specs.WriterStart.{least_budget, start_refusal}
+use Rattle.seg_check.proofs.Causes.{EachHas, cause-has, first_each, or_each, unless_each}
+use Rattle.seg_check.specs.WriterStart.{least_budget, start_refusal}
 
 module _ {X : Type 0} (P : X → Type 0) where
   pub map_each : {Y : Type 0} (f : Y → X) → ((y : Y) → P (f y)) → (o : Option Y) → IfSome (option_map f o) P
