@@ -2,7 +2,5 @@
 #![tactic(auto)]
 
 mod flat_map_with_buffer;
-#[cfg(test)]
-mod tests;
 
 pub use flat_map_with_buffer::{FlatMapWithBuffer, FlatMapWithBufferIter};
