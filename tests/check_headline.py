@@ -3,7 +3,10 @@
 its definition; the clauses of `run` and the laws that the page names are there; and the numbers are right of the definitions that
 these clauses reach.
 
-A definition reaches another where its text has the other's name. One line is printed for each fault, and then the status is 1.
+usage: check_headline.py [--numbers]
+
+A definition reaches another where its text has the other's name. One line is printed for each fault, and then the status is 1. With
+--numbers the right numbers are written into the page first.
 """
 import re
 import sys
@@ -11,6 +14,7 @@ from collections import Counter
 from pathlib import Path
 
 TOP = Path(__file__).resolve().parent.parent
+PAGE = TOP / 'docs/HEADLINE.md'
 USE = re.compile(r'^(?:ghost |pub )?use ([\w.]+?)(?:\.\{(.*)\}| as (\w+))?;?$', re.M)
 HEAD = re.compile(r'^ *(?:(?:abbrev|unfoldable)(?: pub)?|pub record|pub data) (?P<name>[^\s:]+)')
 MEMBER = re.compile(r'^  pub (?P<name>[^\s:]+) :')
@@ -115,21 +119,30 @@ def quote_faults(page, specs):
             yield f'{quote.split(" {")[0].strip()}: the quote is not in {path}'
 
 
-def count_faults(page, specs, reached):
-    walked = {(f'{crate}/{stem}', name) for name, crate, stem, _ in ENTRY.findall(page)}
-    rest = reached - walked
-    for file, name in sorted(walked - reached):
-        yield f'{name}: no clause of run reaches it'
-    for words in f'{len(walked)} of the {len(reached)} definitions', f'The other {len(rest)} ':
-        if words not in page:
-            yield f'the page does not say "{words.strip()}"'
-    themes = THEME.findall(page)
-    theme_of = {place: theme for theme, places, _ in themes for place in re.findall(r'`(\S+?)`', places)}
-    counts = Counter(theme_of.get(file, theme_of.get(file.split('/')[0], file)) for file, _ in rest)
-    told = {theme: int(number) for theme, _, number in themes}
-    for theme in sorted(set(counts) | set(told)):
-        if counts[theme] != told.get(theme):
-            yield f'{theme}: {counts[theme]} definitions, and the page says {told.get(theme, "nothing")}'
+class Counts:
+    """How many definitions the clauses of `run` reach, and which of them the page walks."""
+    def __init__(self, page, reached):
+        self.reached = reached
+        self.walked = {(f'{crate}/{stem}', name) for name, crate, stem, _ in ENTRY.findall(page)}
+        self.rest = reached - self.walked
+        self.told = {theme: int(number) for theme, _, number in THEME.findall(page)}
+        theme_of = {place: theme for theme, places, _ in THEME.findall(page) for place in re.findall(r'`(\S+?)`', places)}
+        self.themes = Counter(theme_of.get(file, theme_of.get(file.split('/')[0], file)) for file, _ in self.rest)
+
+    def faults(self, page):
+        for file, name in sorted(self.walked - self.reached):
+            yield f'{name}: no clause of run reaches it'
+        for words in f'{len(self.walked)} of the {len(self.reached)} definitions', f'The other {len(self.rest)} ':
+            if words not in page:
+                yield f'the page does not say "{words.strip()}"'
+        for theme in sorted(set(self.themes) | set(self.told)):
+            if self.themes[theme] != self.told.get(theme):
+                yield f'{theme}: {self.themes[theme]} definitions, and the page says {self.told.get(theme, "nothing")}'
+
+    def put_into(self, page):
+        page = re.sub(r'\d+ of the \d+ definitions', f'{len(self.walked)} of the {len(self.reached)} definitions', page)
+        page = re.sub(r'The other \d+ ', f'The other {len(self.rest)} ', page)
+        return THEME.sub(lambda row: f'| {row[1]} | {row[2]} | {self.themes[row[1]]} |', page)
 
 
 def name_faults(page, clauses):
@@ -137,17 +150,24 @@ def name_faults(page, clauses):
     if named != clauses:
         yield f'the clauses of run are {", ".join(clauses)}'
     for crate, law in sorted(set(re.findall(r'`(seg_\w+)::(\w+)`', page))):
-        path = TOP / 'crates' / crate / 'src/laws.rt'
-        if not path.exists() or not re.search(rf'^pub fn {law}\b', path.read_text(), re.M):
+        files = (TOP / 'crates' / crate / 'src').rglob('*.rt')
+        if not any(re.search(rf'^pub fn {law}\b', file.read_text(), re.M) for file in files):
             yield f'{crate}::{law}: there is no such law'
 
 
 def main():
-    page = (TOP / 'docs/HEADLINE.md').read_text()
+    if sys.argv[1:] not in ([], ['--numbers']):
+        sys.exit(__doc__)
+    page = PAGE.read_text()
     specs = Specs()
     source, clauses, contract = run_clauses()
     reached = specs.reached(contract, source)
-    faults = [*quote_faults(page, specs), *count_faults(page, specs, reached), *name_faults(page, clauses)]
+    counts = Counts(page, reached)
+    if sys.argv[1:]:
+        page = counts.put_into(page)
+        PAGE.write_text(page)
+        counts = Counts(page, reached)
+    faults = [*quote_faults(page, specs), *counts.faults(page), *name_faults(page, clauses)]
     for fault in faults:
         print(fault)
     sys.exit(bool(faults))
