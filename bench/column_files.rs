@@ -90,8 +90,8 @@ fn take<'a>(rest: &mut &'a [u8], count: u64) -> &'a [u8] {
     if count > rest.len() as u64 {
         malformed()
     }
-    let (taken, behind) = rest.split_at(count as usize);
-    *rest = behind;
+    let (taken, after) = rest.split_at(count as usize);
+    *rest = after;
     taken
 }
 

@@ -3,7 +3,7 @@
 
 usage: columns.py [--program PATH] [--rows 1000000] [--files 10] [--repeat 3] [--room FOLDER]
 
-The program is crates/seg_bench/out/seg_bench, once it is proved and built (`rt run` in crates/seg_bench), the plain one is
+Without PATH the program is seg_bench, which scratch.py proves and builds in a scratch checkout; the plain one is
 bench/plain_columns.rs. Both write a column of one number a row, one of one text a row with 1,000 distinct ones and one with
 half as many distinct ones as rows, read each file with all its checks, and stack as many such files as `--files` says. The
 files of both have to be the same bytes. Of several runs of each, in turn, the least processor time counts; peak is the most
@@ -16,9 +16,9 @@ import sys
 from pathlib import Path
 
 from bench import ROOM, wait_for
+from scratch import program
 
 HERE = Path(__file__).resolve().parent
-PROGRAM = HERE.parent / 'crates' / 'seg_bench' / 'out' / 'seg_bench'
 
 
 def built(room):
@@ -60,17 +60,18 @@ def tasks(words):
 
 def main():
     parser = argparse.ArgumentParser(description=__doc__, formatter_class=argparse.RawDescriptionHelpFormatter)
-    parser.add_argument('--program', type=Path, default=PROGRAM)
+    parser.add_argument('--program', type=Path)
     parser.add_argument('--rows', type=int, default=1000000)
     parser.add_argument('--files', type=int, default=10)
     parser.add_argument('--repeat', type=int, default=3)
     parser.add_argument('--room', type=Path, default=ROOM)
     words = parser.parse_args()
     words.room.mkdir(parents=True, exist_ok=True)
+    tried = (words.program or program('seg_bench')).resolve()
     plain = built(words.room)
     print(f'{"task":28} {"values":>9} {"CPU s":>7} {"plain":>7} {"times":>6} {"peak B/v":>9} {"plain":>7}')
     for name, ours, theirs, files, values in tasks(words):
-        mine, other = best([[words.program.resolve(), *ours], [plain, *theirs]], words.repeat)
+        mine, other = best([[tried, *ours], [plain, *theirs]], words.repeat)
         if files and not filecmp.cmp(*files, shallow=False):
             sys.exit(f'{name}: the files differ')
         print(f'{name:28} {values:>9} {mine[0]:7.2f} {other[0]:7.2f} {mine[0] / other[0]:6.2f}'

@@ -1,4 +1,4 @@
-//! What a page of memory costs that is written to for the first time, and once more, in nanoseconds by the clock.
+//! What a page of memory costs that is written to for the first time, and again, in nanoseconds by the clock.
 //!
 //! usage: rustc --edition 2021 -O -o first_pages first_pages.rs && ./first_pages MEGABYTES..
 //!
@@ -24,6 +24,6 @@ fn main() {
         let mut memory = vec![0u8; megabytes << 20];
         let first = nanoseconds_a_page(&mut memory);
         let again = nanoseconds_a_page(&mut memory);
-        println!("{megabytes:>6} MB: {first:6.0} ns a page, once more {again:4.0}");
+        println!("{megabytes:>6} MB: {first:6.0} ns a page, again {again:4.0}");
     }
 }

@@ -210,7 +210,7 @@ class Hostile:
         return growth <= self.words.most
 
 
-# For the C library: no `rep stosb` up to so many bytes.
+# For the C library: no `rep stosb` up to that many bytes.
 BY_WORDS = 'GLIBC_TUNABLES=glibc.cpu.x86_rep_stosb_threshold=1000000000'
 
 

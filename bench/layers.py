@@ -3,9 +3,9 @@
 
 usage: layers.py [--program PATH] [--largest 1000000] [--room FOLDER] [--only look-up,open,merge,get]
 
-The program is crates/seg_bench/out/seg_bench, once it is proved and built (`rt run` in crates/seg_bench). The files are written
-here, as docs/FORMATS.md has them. valgrind counts the instructions of a run, which are the same each time; a call costs what
-the run takes above one that does it 0 times, divided by how often. The most memory is that of Debian's `time`.
+Without PATH the program is seg_bench, which scratch.py proves and builds in a scratch checkout. The files are written here, as
+docs/FORMATS.md has them. valgrind counts the instructions of a run, which are the same each time; a call costs what the run
+takes above one that does it 0 times, divided by how often. The most memory is that of Debian's `time`.
 """
 import argparse
 import math
@@ -17,8 +17,7 @@ import sys
 import tempfile
 from pathlib import Path
 
-HERE = Path(__file__).resolve().parent
-PROGRAM = HERE.parent / 'crates' / 'seg_bench' / 'out' / 'seg_bench'
+from scratch import program
 
 
 # ---- files
@@ -34,12 +33,12 @@ def dictionary(numbers):
 
 
 def postings(count):
-    """The postings of so many terms: each once, in one of 100 documents."""
+    """The postings of that many terms: each once, in one of 100 documents."""
     return struct.pack('<Q', count) + b''.join(bytes([2, at % 100, 1]) for at in range(count))
 
 
 def store(documents, in_block):
-    """A store of so many documents, each of one text of 60 bytes, so many in a block."""
+    """A store of that many documents, each of one text of 60 bytes, and that many in a block."""
     document = bytes([1, 0, 1, 60]) + b'x' * 60
     out, checkpoints, done = bytearray(), bytearray(), 0
     while done < documents:
@@ -175,13 +174,13 @@ TABLES = {'look-up': look_ups, 'open': openings, 'merge': merges, 'get': gets}
 
 def main():
     parser = argparse.ArgumentParser(description=__doc__, formatter_class=argparse.RawDescriptionHelpFormatter)
-    parser.add_argument('--program', default=PROGRAM)
+    parser.add_argument('--program', type=Path)
     parser.add_argument('--largest', type=int, default=1000000)
     parser.add_argument('--room', type=Path, default=Path(tempfile.gettempdir()) / 'segments-bench')
     parser.add_argument('--only', default=','.join(TABLES))
     words = parser.parse_args()
     words.room.mkdir(parents=True, exist_ok=True)
-    bench = Bench(words.program, words.room)
+    bench = Bench(words.program or program('seg_bench'), words.room)
     for name in words.only.split(','):
         TABLES[name](bench, words.largest)
 

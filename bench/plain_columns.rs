@@ -1,7 +1,7 @@
 // The plain Rust anchor for files of columns, in the format of the product's `.fast` files. One thread, std only.
 //
 // plain_columns u64 ROWS FILE               writes a column of one u64 a row
-// plain_columns texts ROWS DISTINCT FILE    writes a column of one text a row, of so many distinct ones
+// plain_columns texts ROWS DISTINCT FILE    writes a column of one text a row, of that many distinct ones
 // plain_columns merge FILE FILES..          stacks files into one
 // plain_columns read FILE                   opens a file, with all its checks, and adds up the first value of each row
 mod column_files;

@@ -5,8 +5,9 @@ usage: scale.py parts [--documents 80000] [--parts 1,2,4,8] ..
        scale.py copy [--indices 10] [--megabytes 40] ..
        both: [--program PATH] [--merge PATH] [--repeat 3] [--room FOLDER]
 
-`--program` is `segments`, and `--merge` is `seg_merge_bench`: `rt run` in their crates proves and builds them. Each
-figure is of the quickest of several runs: seconds by the clock, and in brackets of processor time.
+`--program` is `segments`, which any run of ./segments proves and builds, and `--merge` is `seg_merge_bench`, which
+scratch.py proves and builds in a scratch checkout where it isn't given. Each figure is of the quickest of several runs:
+seconds by the clock, and in brackets of processor time.
 
 parts: the documents and deletes of gen_corpus.py's `textids`, cut into parts. Each part is built as on a machine of its
 own: its operations, and after them the deletes of all later parts. The indices in `out` are merged at once, and by
@@ -33,9 +34,9 @@ from pathlib import Path
 
 from bench import PROGRAM, ROOM, bytes_below, wait_for
 from gen_corpus import TEXT_ID, body, json_text, operations_of, schema_of, vocabulary
+from scratch import program
 
 HERE = Path(__file__).resolve().parent
-MERGE = PROGRAM.parents[2] / 'seg_merge_bench' / 'out' / 'seg_merge_bench'
 SHAPE = 'textids'
 BATCHES = 8
 EXTENSIONS = 'term', 'idx', 'pos', 'store', 'fast', 'fieldnorm'
@@ -181,7 +182,7 @@ def measure_parts(words):
 # ---- beside a copy
 
 def stored_script(words, place):
-    """A script of one batch, of documents with an id and a text that is only stored, for an index of so many bytes."""
+    """A script of one batch, of documents with an id and a text that is only stored, for an index of that many bytes."""
     rng, words_of_texts = random.Random(place), vocabulary(random.Random(1))
     weights = list(range(1, len(words_of_texts) + 1))
     bodies = [body(rng, words_of_texts, weights) for _ in range(1000)]
@@ -237,7 +238,7 @@ def main():
     parser = argparse.ArgumentParser(description=__doc__, formatter_class=argparse.RawDescriptionHelpFormatter)
     parser.add_argument('task', choices=('parts', 'copy'))
     parser.add_argument('--program', type=Path, default=PROGRAM)
-    parser.add_argument('--merge', type=Path, default=MERGE)
+    parser.add_argument('--merge', type=Path)
     parser.add_argument('--documents', type=int, default=80_000)
     parser.add_argument('--parts', default='1,2,4,8')
     parser.add_argument('--indices', type=int, default=10)
@@ -245,7 +246,7 @@ def main():
     parser.add_argument('--repeat', type=int, default=3)
     parser.add_argument('--room', type=Path, default=ROOM / 'scale')
     words = parser.parse_args()
-    words.program, words.merge = words.program.resolve(), words.merge.resolve()
+    words.program, words.merge = words.program.resolve(), (words.merge or program('seg_merge_bench')).resolve()
     words.room = fresh(words.room / words.task).resolve()
     print(f'{os.cpu_count()} processors, load {os.getloadavg()[0]:.1f}')
     {'parts': measure_parts, 'copy': measure_copy}[words.task](words)

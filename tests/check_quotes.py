@@ -8,7 +8,7 @@ import sys
 from pathlib import Path
 
 TOP = Path(__file__).resolve().parent.parent
-QUOTE = re.compile(r'\(`(crates/[^`]+\.(?:rt|antt))`\)[^`]*?```(?:rust|antt)\n(.*?)```', re.S)
+QUOTE = re.compile(r'\(`((?:crates|bench)/[^`]+\.(?:rt|antt)(?:\.txt)?)`\)[^`]*?```(?:rust|antt)\n(.*?)```', re.S)
 
 
 def without_indent(text):

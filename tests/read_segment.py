@@ -14,7 +14,7 @@ from columns import TYPES, Column
 from columns import columns as read_columns
 from formats import COUNTS, POSITIONS, Malformed, check
 
-# so many blocks at least stay as they are in a merge, where no document is dead
+# that many blocks at least stay as they are in a merge, where no document is dead
 LEAST_STACKED = 6
 
 # the type of the column of a fast field, by its kind; JSON fields have columns by their values

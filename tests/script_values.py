@@ -51,7 +51,7 @@ def moment(text):
 
 
 def moment_at(nanos):
-    """The moment so many nanoseconds from 1970."""
+    """The moment that many nanoseconds from 1970."""
     seconds, rest = divmod(nanos, 10 ** 9)
     fraction = f'.{rest:09}'.rstrip('0').rstrip('.')
     return Moment((EPOCH + timedelta(seconds=seconds)).strftime('%Y-%m-%dT%H:%M:%S') + fraction + 'Z')

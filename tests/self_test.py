@@ -129,7 +129,7 @@ TOTALS = [
 ]
 
 
-# numbers of eight bytes, and a dictionary behind them; path and type; and the values of each of two rows
+# numbers of eight bytes, and a dictionary after them; path and type; and the values of each of two rows
 DICTIONARY = [2, 1, 2], b'ab'
 COLUMNS = [
     ([1, 1, 2 ** 63 + 5], b'', b'n', 0, [[5], []]), ([0, 2, 7, 7], b'', b'n', 1, [[], [7, 7]]), ([1, 2, 0, 1], b'', b'n', 4, [[False], [True]]),
