@@ -49,7 +49,7 @@ impl<'a, Z: Analyzers> Model for SegmentWriter<'a, Z> {
     ghost use Rattle.std.specs.List.{AllByRecursion};
     ghost use Rattle.seg_model.specs.Fields.{indexing_tokenizer};
     ghost use Rattle.seg_model.specs.Valid.{names_fit};
-    ghost use Rattle.seg_check.specs.FastTokenizers.{AreKnown};
+    ghost use Rattle.seg_schema_columns.specs.FastTokenizers.{AreKnown};
     ghost use Rattle.std.specs.Coded.{codes};
     ghost use Rattle.seg_build.specs.FieldSoFar.{field_code};
     ghost use Rattle.seg_build.specs.SegmentWriting.{SegmentWriting, kept_of, IsUnderWay};

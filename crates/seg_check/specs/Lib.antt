@@ -1,5 +1,4 @@
 pub mod AllFields
-pub mod FastTokenizers
 pub mod IndexedValues
 pub mod Known
 pub mod LeafContents

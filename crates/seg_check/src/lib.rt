@@ -11,7 +11,6 @@
 
 mod document;
 mod entry;
-mod fast_tokenizers;
 mod field_text;
 mod field_totals;
 mod fields;
@@ -30,7 +29,6 @@ mod writer_start;
 
 pub use document::{check_document, checked_values};
 pub use entry::indexing_tokenizer;
-pub use fast_tokenizers::{column_tokenizer, lack_tokenizers};
 pub use field_text::given_tokens;
 pub use indexed_value::{IndexedValue, ValueForm};
 pub use size::{counted_len, text_width};

@@ -4,12 +4,12 @@ ghost use Rattle.std.specs.List.{list_all, AllByRecursion};
 ghost use Rattle.seg_meta.specs.View.{settings_of};
 ghost use Rattle.seg_model.specs.Fields.{indexing_tokenizer};
 ghost use Rattle.seg_model.specs.Valid as valid;
-ghost use Rattle.seg_check.specs.FastTokenizers.{AreKnown};
+ghost use Rattle.seg_schema_columns.specs.FastTokenizers.{AreKnown};
 ghost use Rattle.seg_check.specs.WriterStart.{IsStartError, start_refusal};
 
 use crate::entry::indexing_tokenizer;
-use crate::fast_tokenizers::lack_tokenizers;
 use seg_meta::IndexSettings;
+use seg_schema_columns::lack_tokenizers;
 use seg_values::{ArgumentCause, Compressor, Field, FieldEntry, Schema, SchemaCause, TantivyError};
 use seg_words::Analyzers;
 

@@ -30,7 +30,7 @@ use Rattle.seg_columns_recorded.specs.declared.value_kind.ValueKind.{ValueKind}
 use Rattle.seg_columns_recorded.proofs.Exports.{AreEmpty, there_still}
 use Rattle.seg_fast_writer.specs.FirstColumns.{column_of, column_with, declared_among, declared_by, first_columns}
 use Rattle.seg_fast_writer.specs.FastLeaves.{IsKnown, IsTaken}
-use Rattle.seg_check.specs.FastTokenizers.{AreKnown}
+use Rattle.seg_schema_columns.specs.FastTokenizers.{AreKnown}
 use Rattle.seg_fast_writer.specs.Walking.{IsFieldOf}
 use Rattle.seg_fast_writer.specs.Writing.{AreUnderWay}
 use Rattle.seg_fast_writer.proofs.Arranging.{HaveTexts, flat-both}

@@ -24,7 +24,7 @@ use Rattle.seg_columns_recorded.specs.Typed.{IsWithin}
 use Rattle.seg_columns_recorded.proofs.Exports.{all_within, columns_of_documents, later}
 use Rattle.seg_common.specs.declared.column_type.ColumnType.{ColumnType}
 use Rattle.seg_fast_writer.specs.FastLeaves.{IsTaken, entry_leaf, pair_values, path_at, recorded_values, values_of_leaf}
-use Rattle.seg_check.specs.FastTokenizers.{AreKnown}
+use Rattle.seg_schema_columns.specs.FastTokenizers.{AreKnown}
 use Rattle.seg_fast_writer.specs.FirstColumns.{column_with, declared_by, first_columns}
 use Rattle.seg_fast_writer.specs.Walking.{CanRecord, CanRecordLeaf, IsPlaceOf, MayLeafCome}
 use Rattle.seg_fast_writer.specs.Writing.{AreUnderWay, FastWriting, Holds, error_of, refusal_of}

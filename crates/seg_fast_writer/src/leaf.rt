@@ -15,10 +15,10 @@ use crate::path_columns::PathColumns;
 use crate::place::Place;
 use crate::placed_recording::{put_address, put_bool, put_bytes, put_moment, put_number, put_text};
 use crate::row_recorder::RowRecorder;
-use seg_check::column_tokenizer;
 use seg_columns::ColumnError;
 use seg_columns_recorded::{ColumnarWriter, NumericalValue};
 use seg_dates::{DateTime, DateTimePrecision};
+use seg_schema_columns::column_tokenizer;
 use seg_values::{FieldEntry, FieldKind, OwnedValue};
 use seg_words::{Analyzers, Token, Tokens};
 

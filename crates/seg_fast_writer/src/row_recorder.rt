@@ -7,7 +7,7 @@ ghost use Rattle.seg_values.specs.SchemaRules.{is_schema};
 ghost use Rattle.seg_values.specs.View.{tree_of};
 ghost use Rattle.seg_fast_writer.specs.FieldColumns.{AreFieldColumns};
 ghost use Rattle.seg_fast_writer.specs.FastLeaves.{IsTaken, pair_values, path_at, recorded_values};
-ghost use Rattle.seg_check.specs.FastTokenizers.{AreKnown};
+ghost use Rattle.seg_schema_columns.specs.FastTokenizers.{AreKnown};
 ghost use Rattle.seg_fast_writer.specs.FirstColumns.{first_columns};
 ghost use Rattle.seg_fast_writer.specs.PathNumbers.{AreColumnsOf};
 ghost use Rattle.seg_fast_writer.specs.Writing.{AreUnderWay};

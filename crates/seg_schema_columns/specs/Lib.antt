@@ -1,2 +1,3 @@
+pub mod FastTokenizers
 pub mod PathStarts
 pub mod SchemaColumns

@@ -5,6 +5,7 @@
 #![tactic(auto)]
 
 mod declared;
+mod fast_tokenizers;
 mod json_fields;
 mod json_paths;
 mod opening;
@@ -14,4 +15,5 @@ mod suiting;
 mod values;
 
 pub use declared::declared_type;
+pub use fast_tokenizers::{column_tokenizer, lack_tokenizers};
 pub use opening::open_columns;
