@@ -2,7 +2,7 @@
 use Rattle.std.proofs.Common.{◌≡◌, ℕ, ℤ, ◌⊎◌, inl, inr, List, [], ◌∷◌, map, ap, ◌∙◌}
 use Rattle.seg_access.specs.declared.pieces.Piece.{Piece}
 use Rattle.seg_access.specs.declared.pieces.Piece.TheVariants.{Null, Str, PreTokStr, U64, I64, Bool, Date, Facet, Bytes, IpAddr, Array, Object, Key, FieldOf}
-use Rattle.seg_words.specs.declared.token.PreTokenizedString.{PreTokenizedString}
+use Rattle.seg_tokens.specs.declared.token.PreTokenizedString.{PreTokenizedString}
 use Rattle.std.specs.declared.net.ipv6_addr.Ipv6Addr.{Ipv6Addr}
 use Rattle.seg_values.specs.Tree.{Leaf, null, text, pre_tokenized, unsigned, signed, boolean, date, facet, byte_string, ip}
 use Rattle.seg_access.specs.Pieces.{Mark, value, values, members, key, field, unknown, mark_of, json_mark, json_value, SpellsNone, SpellsNoKey}

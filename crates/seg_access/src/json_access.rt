@@ -59,7 +59,7 @@ impl<'a> Model for JsonObjectIter<'a> {
     ghost use Rattle.std.specs.Prelude.{◌≤◌, ℕ, List, drop, length};
     ghost use Rattle.seg_values.specs.Tree.{Tree};
     ghost use Rattle.std.specs.Coded.{coded_list, coded×};
-    ghost use Rattle.seg_words.specs.Code.{key_code};
+    ghost use Rattle.seg_tokens.specs.Code.{key_code};
     ghost use Rattle.seg_values.specs.Code.{tree_code};
 
     ghost Value = { List (List ℕ × Tree) };

@@ -7,8 +7,8 @@ ghost use Rattle.seg_values.specs.Tree.{leaf, trees_from, members_from};
 ghost use Rattle.seg_access.specs.Json.{tree_of_json, number_leaf, data_tree, item_trees, member_trees};
 
 use crate::json_value::{JsonMembers, JsonValue, JsonValues};
+use seg_tokens::Text;
 use seg_values::ValueError;
-use seg_words::Text;
 use serde_json::{Map, Number, Value};
 use std::alloc::Global;
 

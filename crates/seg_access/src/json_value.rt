@@ -1,7 +1,7 @@
 //! A JSON value without floats: a leaf, a list of values, or a list of keys with values.
 ghost use Rattle.std.specs.Prelude.{◌≡◌, ◌<◌, slice_get, Some, List, ℕ, [], ◌∷◌, ◌++◌, length, OnOk, OnErr};
 
-use seg_words::Text;
+use seg_tokens::Text;
 use std::alloc::{AllocError, Global};
 use std::marker::Model;
 
@@ -68,7 +68,7 @@ impl Model for JsonMembers {
     ghost use Rattle.std.specs.Coded.{coded_list, coded×};
     ghost use Rattle.std.proofs.Common.{arith};
     ghost use Rattle.seg_values.specs.Tree.{Tree, members_from, most_member_levels};
-    ghost use Rattle.seg_words.specs.Code.{key_code};
+    ghost use Rattle.seg_tokens.specs.Code.{key_code};
     ghost use Rattle.seg_values.specs.Code.{tree_code};
 
     ghost Value = { List (List ℕ × Tree) };

@@ -5,8 +5,8 @@ ghost use Rattle.seg_values.specs.Tree.{leaf};
 ghost use Rattle.seg_values.specs.View.{tree_of};
 
 use crate::value::ReferenceValueLeaf;
+use seg_tokens::{Bytes, PreTokenizedString, Text, Token, Tokens};
 use seg_values::{Facet, OwnedValue};
-use seg_words::{Bytes, PreTokenizedString, Text, Token, Tokens};
 use std::alloc::{AllocError, Global};
 
 pub(crate) fn leaf_to_owned(

@@ -6,9 +6,9 @@ ghost use Rattle.seg_values.specs.Tree.{leaf, text, pre_tokenized, unsigned, sig
 
 use crate::no_items::NoItems;
 use crate::value::{ReferenceValue, ReferenceValueLeaf, Value};
-use seg_dates::DateTime;
+use seg_common::DateTime;
+use seg_tokens::PreTokenizedString;
 use seg_values::Facet;
-use seg_words::PreTokenizedString;
 use std::net::Ipv6Addr;
 
 impl<'a> Value<'a> for &'a str {

@@ -1,9 +1,9 @@
 //! Pieces that spell a value.
 ghost use Rattle.std.specs.Prelude.{◌≡◌, [], ◌∷◌, map, MatchOption};
 
-use seg_dates::DateTime;
+use seg_common::DateTime;
+use seg_tokens::{Bytes, PreTokenizedString, Text};
 use seg_values::{Facet, Field};
-use seg_words::{Bytes, PreTokenizedString, Text};
 use std::marker::Model;
 use std::net::Ipv6Addr;
 

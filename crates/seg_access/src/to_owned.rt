@@ -4,8 +4,8 @@ ghost use Rattle.seg_values.specs.View.{tree_of};
 
 use crate::readable::{Lent, Readable, Reading};
 use crate::value::Value;
+use seg_tokens::Text;
 use seg_values::{Members, OwnedValue, ValueError, Values};
-use seg_words::Text;
 use std::alloc::{AllocError, Global};
 use std::convert::AsStr;
 use std::marker::PhantomData;

@@ -6,8 +6,8 @@ ghost use Rattle.std.specs.Iterator.{IsFinite, YieldsFirstBy};
 ghost use Rattle.seg_access.specs.Reading.{tree_read};
 ghost use Rattle.seg_values.specs.Tree.{Tree};
 
-use seg_dates::DateTime;
-use seg_words::PreTokenizedString;
+use seg_common::DateTime;
+use seg_tokens::PreTokenizedString;
 use std::net::Ipv6Addr;
 
 /// A leaf, of which texts and bytes are lent. A facet is its encoded text.

@@ -1,6 +1,6 @@
 //! Cursors over the deletes that wait.
 
-use seg_deletes::{DeleteOperation, DeleteQueue, Opstamp};
+use seg_batches::{DeleteOperation, DeleteQueue, Opstamp};
 
 /// The first stamp, from a new cursor on, that is at least the target.
 fn first_from(queue: &mut DeleteQueue<u32>, target: Opstamp) -> Option<Opstamp> {

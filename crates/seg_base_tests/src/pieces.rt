@@ -2,8 +2,8 @@
 
 use crate::json_values::json;
 use seg_access::{DocumentDeserialize, JsonValue, Piece, Pieces, ValueDeserialize, to_owned_value};
+use seg_tokens::Text;
 use seg_values::{Field, OwnedValue, TantivyDocument, ValueError};
-use seg_words::Text;
 use std::alloc::{AllocError, Global};
 use std::collections::{BTreeMap, HashMap};
 

@@ -16,7 +16,7 @@ use Rattle.seg_model.specs.Columns.{columns}
 use Rattle.seg_model.specs.Fields.{Schema, Analyzer}
 use Rattle.seg_model.specs.Operations.{Operation, add, delete, delete_all, additions}
 use Rattle.seg_model.specs.Refused.{operation_refusal, batch_error}
-use Rattle.seg_removal.specs.Stamps.{addition_stamps}
+use Rattle.seg_model.specs.Stamps.{addition_stamps}
 use Rattle.seg_segment.specs.Standing.{StandFor}
 use Rattle.seg_build.specs.declared.memory_segment.MemorySegment.{MemorySegment}
 use Rattle.seg_build.specs.FieldTerms.{FieldTerms, fields_of}

@@ -8,12 +8,12 @@ use Rattle.std.proofs.lemmas.List.FromFn.{length-enumerate_from}
 use Rattle.seg_common.proofs.Lists.{list_any-map}
 use Rattle.seg_model.specs.Reading.{Terms, all_terms}
 use Rattle.seg_model.specs.Operations.{Operation, delete, additions, both_marked}
-use Rattle.seg_removal.specs.Cleared.{clears, is_cleared_by, uncleared_by}
-use Rattle.seg_removal.specs.Laws.{AliveByPostings, DeletesClearInTurn}
-use Rattle.seg_removal.specs.Stamps.{stamped_deletes}
-use Rattle.seg_removal.proofs.Exports.{length-additions}
-use Rattle.seg_deletes.specs.declared.doc_opstamp_mapping.DocToOpstampMapping.TheVariants.{WithMap}
-use Rattle.seg_deletes.specs.declared.operation.DeleteOperation.{DeleteOperation}
+use Rattle.seg_model.specs.Cleared.{clears, is_cleared_by, uncleared_by}
+use Rattle.seg_model.specs.RemovalLaws.{AliveByPostings, DeletesClearInTurn}
+use Rattle.seg_model.specs.Stamps.{stamped_deletes}
+use Rattle.seg_model.proofs.Exports.{length-additions}
+use Rattle.seg_batches.specs.declared.doc_opstamp_mapping.DocToOpstampMapping.TheVariants.{WithMap}
+use Rattle.seg_batches.specs.declared.operation.DeleteOperation.{DeleteOperation}
 use Rattle.seg_open.proofs.Exports.{both_full}
 use Rattle.seg_batches.specs.Applying.{is_left_by, left_by, term_names}
 use Rattle.seg_batches.specs.Laws.{as_operations, AppliedDeletesLeaveTheAlive}

@@ -2,9 +2,9 @@
 use Rattle.std.proofs.Common.{◌≡◌, suc, List, [], ◌∷◌, length, map, filter, refl, ap}
 use Rattle.seg_values.specs.Tree.{Document}
 use Rattle.seg_model.specs.Operations.{additions}
-use Rattle.seg_input.specs.View.{operation_of}
-use Rattle.seg_input.specs.declared.user_operation.UserOperation.{UserOperation}
-use Rattle.seg_input.specs.declared.user_operation.UserOperation.TheVariants.{Add, Delete}
+use Rattle.seg_check.specs.View.{operation_of}
+use Rattle.seg_check.specs.declared.user_operation.UserOperation.{UserOperation}
+use Rattle.seg_check.specs.declared.user_operation.UserOperation.TheVariants.{Add, Delete}
 use Rattle.seg_batches.specs.Indexing.{is_addition}
 
 pub counted : (operations : List (UserOperation Document))

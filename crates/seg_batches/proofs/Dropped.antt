@@ -2,7 +2,7 @@
 use Rattle.std.proofs.Common.{◌≡◌, ℕ, zero, suc, ◌<◌, Bool, true, false, List, [], ◌∷◌, map, length, drop, get_or, refl, ap, ◌∙◌, arith}
 use Rattle.std.specs.Prelude.{◌||◌, ◌&&◌, ◌==◌, not}
 use Rattle.seg_model.specs.Reading.{Posting}
-use Rattle.seg_removal.specs.Postings.{is_member}
+use Rattle.seg_model.specs.Postings.{is_member}
 use Rattle.seg_batches.specs.Applying.{staying}
 use Rattle.seg_batches.proofs.Staying.{staying_twice, staying_all}
 

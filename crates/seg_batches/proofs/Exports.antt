@@ -1,5 +1,4 @@
 -- What crates above may cite: all other modules are inner.
-pub use Rattle.seg_open.proofs.Exports.{both_full}
 pub use Rattle.seg_batches.proofs.AliveTold.{alive_fresh, all_tell}
 pub use Rattle.seg_batches.proofs.BatchSteps.{if_refusal, length-alive_after, refusal_weaker}
 pub use Rattle.seg_batches.proofs.BatchesKeep.{all_stand}
@@ -9,3 +8,4 @@ pub use Rattle.seg_batches.proofs.Left.{undamaged}
 pub use Rattle.seg_batches.proofs.SegmentTurns.{all_fit, all_taken}
 pub use Rattle.seg_batches.proofs.Started.{causes_tell, first_cause}
 pub use Rattle.seg_batches.proofs.TotalsKept.{all_totals, totals_on}
+pub use Rattle.seg_open.proofs.Exports.{both_full}

@@ -16,7 +16,7 @@ use Rattle.seg_common.specs.declared.term_info.TermInfo.{TermInfo}
 use Rattle.seg_common.proofs.Bools.{true_of}
 use Rattle.seg_common.proofs.Tables.{same_key, texts_apart}
 use Rattle.seg_model.specs.Reading.{Posting}
-use Rattle.seg_removal.specs.Postings.{terms_of_field, documents_with}
+use Rattle.seg_model.specs.Postings.{terms_of_field, documents_with}
 use Rattle.seg_termdict.specs.Dictionary.{Term}
 use Rattle.seg_termdict.specs.LookUps.{Lacks}
 use Rattle.seg_postings.specs.FieldReading.{ReadTerm, OpenField, dictionary_terms, written_terms}

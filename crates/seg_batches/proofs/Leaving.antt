@@ -6,10 +6,10 @@ use Rattle.std.proofs.lemmas.List.{drop_min, drop_all}
 use Rattle.std.proofs.lemmas.List.FromFn.{length-map-range_with_len}
 use Rattle.std.proofs.lemmas.List.Folds.{list_any-append}
 use Rattle.std.proofs.lemmas.Option.{none-some, same_Some}
-use Rattle.seg_removal.specs.Postings.{is_member}
-use Rattle.seg_deletes.specs.Deleted.{is_deleted}
-use Rattle.seg_deletes.specs.declared.doc_opstamp_mapping.DocToOpstampMapping.{DocToOpstampMapping}
-use Rattle.seg_deletes.specs.declared.operation.DeleteOperation.{DeleteOperation}
+use Rattle.seg_model.specs.Postings.{is_member}
+use Rattle.seg_batches.specs.Deleted.{is_deleted}
+use Rattle.seg_batches.specs.declared.doc_opstamp_mapping.DocToOpstampMapping.{DocToOpstampMapping}
+use Rattle.seg_batches.specs.declared.operation.DeleteOperation.{DeleteOperation}
 use Rattle.seg_batches.specs.Applying.{IsTold, removes, is_left_by, left_by, named_below, staying}
 use Rattle.seg_batches.proofs.Dropped.{passes}
 use Rattle.seg_batches.proofs.Named.{is_among}

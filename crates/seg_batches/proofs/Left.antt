@@ -15,11 +15,11 @@ use Rattle.seg_model.specs.Contents.{Contents, full_reading, reading_with}
 use Rattle.seg_model.specs.Fields.{Schema, Analyzer}
 use Rattle.seg_model.specs.Operations.{Operation, additions, alive_after}
 use Rattle.seg_model.specs.Reading.{all_terms}
-use Rattle.seg_removal.specs.Laws.{ArePassed}
-use Rattle.seg_removal.specs.Stamps.{addition_stamps, stamped_deletes}
-use Rattle.seg_removal.proofs.Exports.{length-additions}
-use Rattle.seg_deletes.specs.declared.doc_opstamp_mapping.DocToOpstampMapping.TheVariants.{WithMap}
-use Rattle.seg_deletes.specs.declared.operation.DeleteOperation.{DeleteOperation}
+use Rattle.seg_model.specs.RemovalLaws.{ArePassed}
+use Rattle.seg_model.specs.Stamps.{addition_stamps, stamped_deletes}
+use Rattle.seg_model.proofs.Exports.{length-additions}
+use Rattle.seg_batches.specs.declared.doc_opstamp_mapping.DocToOpstampMapping.TheVariants.{WithMap}
+use Rattle.seg_batches.specs.declared.operation.DeleteOperation.{DeleteOperation}
 use Rattle.seg_segment.specs.Standing.{StandFor}
 use Rattle.seg_open.specs.OpenSegment.{OpenSegment, contents_of, terms_in}
 use Rattle.seg_segment.specs.SegmentFiles.{bytes_of}

@@ -15,6 +15,7 @@ mod Causes
 mod Counted
 mod CountsTold
 mod Dropped
+mod Flushes
 mod Found
 mod Leaving
 mod Left
@@ -25,6 +26,8 @@ mod Names
 mod Passed
 mod Refused
 mod SegmentTurns
+mod Skipping
+mod Skips
 mod Started
 mod Staying
 mod TotalsKept

@@ -14,7 +14,7 @@ use Rattle.seg_values.specs.declared.schema.IndexOption.TheVariants.{Basic}
 use Rattle.seg_model.specs.Fields.{is_indexed}
 use Rattle.seg_model.specs.Reading.{Posting, term_option}
 use Rattle.seg_model.specs.Shape.{ArePostings, HasFullShape}
-use Rattle.seg_removal.specs.Postings.{documents_with, is_member, terms_of_field}
+use Rattle.seg_model.specs.Postings.{documents_with, is_member, terms_of_field}
 use Rattle.seg_open.specs.OpenSegment.{OpenSegment, contents_of, terms_in}
 use Rattle.seg_batches.specs.Applying.{named_below}
 use Rattle.seg_batches.proofs.Dropped.{documents_of}

@@ -5,10 +5,10 @@ use Rattle.std.proofs.Math.Seq.{take-add}
 use Rattle.std.proofs.lemmas.List.Elements.{All-from_recursion}
 use Rattle.std.proofs.lemmas.Bool.{ltb-true}
 use Rattle.seg_model.specs.Operations.{Operation, add, delete, delete_all}
-use Rattle.seg_removal.specs.Laws.{ArePassed}
-use Rattle.seg_removal.specs.Stamps.{addition_stamps}
-use Rattle.seg_deletes.specs.Queues.{Queue, is_below, skipped}
-use Rattle.seg_deletes.specs.declared.operation.DeleteOperation.{DeleteOperation}
+use Rattle.seg_model.specs.RemovalLaws.{ArePassed}
+use Rattle.seg_model.specs.Stamps.{addition_stamps}
+use Rattle.seg_batches.specs.Queues.{Queue, is_below, skipped}
+use Rattle.seg_batches.specs.declared.operation.DeleteOperation.{DeleteOperation}
 use Rattle.seg_batches.specs.Laws.{as_operations}
 use Rattle.seg_batches.specs.Waiting.{PassesEarlier, passed_below}
 use Rattle.seg_batches.specs.declared.term_target.TermTarget.{TermTarget}

@@ -6,7 +6,7 @@ use Rattle.std.proofs.lemmas.Bool.Decides.{nat_tests}
 use Rattle.std.proofs.lemmas.List.{length-map}
 use Rattle.std.proofs.lemmas.List.FromFn.{length-enumerate_from}
 use Rattle.std.proofs.Math.Bool.{and_assoc, and-false, and-true}
-use Rattle.seg_removal.specs.Postings.{is_member}
+use Rattle.seg_model.specs.Postings.{is_member}
 use Rattle.seg_batches.specs.Applying.{staying}
 
 -- the same, where the first number of the set is n

@@ -4,9 +4,9 @@ use Rattle.std.specs.List.{slice_get}
 use Rattle.seg_common.proofs.Lists.{drop-slice_get}
 use Rattle.seg_values.specs.Tree.{Document}
 use Rattle.seg_model.specs.Operations.{Operation, add, delete, delete_all}
-use Rattle.seg_removal.specs.Stamps.{stamped_deletes}
-use Rattle.seg_input.specs.View.{operation_of}
-use Rattle.seg_input.specs.declared.user_operation.UserOperation.{UserOperation}
+use Rattle.seg_model.specs.Stamps.{stamped_deletes}
+use Rattle.seg_check.specs.View.{operation_of}
+use Rattle.seg_check.specs.declared.user_operation.UserOperation.{UserOperation}
 
 -- an operation among those that are handed in
 pub operation_at : (operations : List (UserOperation Document)) (i : ℕ) (x : UserOperation Document)

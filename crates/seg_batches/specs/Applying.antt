@@ -2,11 +2,11 @@
 use Rattle.std.specs.Prelude.{◌≡◌, ℕ, ◌+◌, ◌<◌, ◌≤◌, ◌&&◌, ◌↔◌, Bool, true, false, not, min, List, map, replicate, Option, Some, None, Contains, IsTrue, Result, OnOk}
 use Rattle.std.specs.List.{filter, list_any, range_with_len, enumerate_from}
 use Rattle.seg_model.specs.Reading.{Terms}
-use Rattle.seg_removal.specs.Cleared.{has_posting}
-use Rattle.seg_deletes.specs.declared.doc_opstamp_mapping.DocToOpstampMapping.{DocToOpstampMapping}
-use Rattle.seg_deletes.specs.declared.operation.DeleteOperation.{DeleteOperation}
-use Rattle.seg_deletes.specs.Deleted.{IsMapped, is_deleted}
-use Rattle.seg_deletes.specs.Queues.{Queue}
+use Rattle.seg_model.specs.Cleared.{has_posting}
+use Rattle.seg_batches.specs.declared.doc_opstamp_mapping.DocToOpstampMapping.{DocToOpstampMapping}
+use Rattle.seg_batches.specs.declared.operation.DeleteOperation.{DeleteOperation}
+use Rattle.seg_batches.specs.Deleted.{IsMapped, is_deleted}
+use Rattle.seg_batches.specs.Queues.{Queue}
 use Rattle.seg_batches.specs.declared.term_target.TermTarget.{TermTarget}
 
 -- the ids below a number that are named, ascending

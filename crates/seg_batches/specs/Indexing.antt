@@ -4,7 +4,7 @@ use Rattle.seg_values.specs.declared.error.TantivyError.{TantivyError}
 use Rattle.seg_values.specs.declared.error.TantivyError.TheVariants.{OutOfMemory}
 use Rattle.seg_model.specs.Fields.{Schema, Analyzer}
 use Rattle.seg_model.specs.Operations.{Operation, add, delete, delete_all, additions}
-use Rattle.seg_removal.specs.Stamps.{addition_stamps}
+use Rattle.seg_model.specs.Stamps.{addition_stamps}
 use Rattle.seg_build.specs.SegmentWriting.{SegmentWriting, Adds, AddsNone, IsOfSame, Writes}
 use Rattle.seg_segment.specs.Standing.{StandFor}
 use Rattle.seg_segment.specs.Totals.{TellTotals}

@@ -1,9 +1,13 @@
 pub mod AliveWriting
 pub mod Applying
 pub mod BatchTotals
+pub mod Deleted
 pub mod Indexing
 pub mod Laws
 pub mod Making
+pub mod QueueEnds
+pub mod QueueLaws
+pub mod Queues
 pub mod Segments
 pub mod Waiting
 pub mod Writing

@@ -4,9 +4,9 @@ use Rattle.seg_values.specs.declared.error.TantivyError.{TantivyError}
 use Rattle.seg_model.specs.Contents.{Contents}
 use Rattle.seg_model.specs.Fields.{Schema, Analyzer}
 use Rattle.seg_model.specs.Operations.{Operation, additions, alive_after}
-use Rattle.seg_removal.specs.Stamps.{addition_stamps, stamped_deletes}
-use Rattle.seg_deletes.specs.Queues.{Queue}
-use Rattle.seg_deletes.specs.declared.operation.DeleteOperation.{DeleteOperation}
+use Rattle.seg_model.specs.Stamps.{addition_stamps, stamped_deletes}
+use Rattle.seg_batches.specs.Queues.{Queue}
+use Rattle.seg_batches.specs.declared.operation.DeleteOperation.{DeleteOperation}
 use Rattle.seg_segment.specs.Spelling.{Spell}
 use Rattle.seg_segment.specs.Standing.{StandFor}
 use Rattle.seg_segment.specs.Totals.{TellTotals}

@@ -2,9 +2,9 @@
 use Rattle.std.specs.Prelude.{ℕ, ◌≡◌, ◌≤◌, ◌<◌, ◌++◌, List, [], ◌∷◌, take, drop, Bool, false}
 use Rattle.std.specs.List.{AllByRecursion}
 use Rattle.seg_model.specs.Operations.{Operation}
-use Rattle.seg_removal.specs.Stamps.{stamped_deletes}
-use Rattle.seg_deletes.specs.Queues.{Queue}
-use Rattle.seg_deletes.specs.declared.operation.DeleteOperation.{DeleteOperation}
+use Rattle.seg_model.specs.Stamps.{stamped_deletes}
+use Rattle.seg_batches.specs.Queues.{Queue}
+use Rattle.seg_batches.specs.declared.operation.DeleteOperation.{DeleteOperation}
 use Rattle.seg_batches.specs.Laws.{as_operations}
 use Rattle.seg_batches.specs.declared.term_target.TermTarget.{TermTarget}
 

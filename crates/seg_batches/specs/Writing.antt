@@ -9,7 +9,7 @@ use Rattle.seg_model.specs.Operations.{Operation, Batch, additions, alive_after}
 use Rattle.seg_model.specs.Refused.{batch_refusal, cut_from}
 use Rattle.seg_directory.specs.State.{DirectoryState}
 use Rattle.seg_directory.specs.Works.{Step, Works, passes}
-use Rattle.seg_deletes.specs.Queues.{Queue}
+use Rattle.seg_batches.specs.Queues.{Queue}
 use Rattle.seg_segment.specs.SegmentFiles.{write_steps}
 use Rattle.seg_segment.specs.Standing.{StandFor}
 use Rattle.seg_segment.specs.Totals.{TellTotals}

@@ -3,10 +3,10 @@ ghost use Rattle.std.specs.Prelude.{◌≡◌, ◌∷◌, [], Some, IfOk};
 ghost use Rattle.seg_bits.specs.BitSets.{set_of};
 ghost use Rattle.seg_batches.specs.AliveWriting.{WritesAlive};
 
+use crate::Opstamp;
 use crate::written_segment::WrittenSegment;
 use seg_bits::{BitSet, write_alive_bitset};
 use seg_common::{FileName, MemorySink};
-use seg_deletes::Opstamp;
 use seg_directory::{Directory, write_file};
 use seg_values::{TResult, TantivyError};
 use std::alloc::{AllocError, Global};

@@ -4,8 +4,8 @@ ghost use Rattle.seg_batches.specs.Applying.{Advances, Applies, AreMapped, IsTol
 
 use crate::delete_target::DeleteTarget;
 use crate::removing::apply_delete;
+use crate::{DeleteCursor, DeleteQueue, DocToOpstampMapping};
 use seg_bits::BitSet;
-use seg_deletes::{DeleteCursor, DeleteQueue, DocToOpstampMapping};
 use seg_open::SegmentReader;
 use seg_values::{TResult, TantivyError};
 use std::alloc::{AllocError, Global};

@@ -1,6 +1,6 @@
 //! Which documents of a batch deletes leave.
 ghost use Rattle.std.specs.Prelude.{◌≡◌, ◌≤◌, length, map, take, drop, IfOk};
-ghost use Rattle.seg_deletes.specs.declared.doc_opstamp_mapping.DocToOpstampMapping.TheVariants.{WithMap};
+ghost use Rattle.seg_batches.specs.declared.doc_opstamp_mapping.DocToOpstampMapping.TheVariants.{WithMap};
 ghost use Rattle.seg_open.specs.OpenSegment.{terms_in};
 ghost use Rattle.seg_open.specs.SegmentOpened.{HasFilesOf};
 ghost use Rattle.seg_batches.specs.Applying.{IsTold, KeepsDeletes, left_by, term_names};
@@ -10,8 +10,8 @@ ghost use Rattle.seg_batches.specs.Waiting.{SkipsEarlier, passed_below};
 use crate::applying::apply_deletes;
 use crate::laws::applied_deletes_leave_the_alive;
 use crate::term_target::TermTarget;
+use crate::{DeleteCursor, DeleteQueue, DocToOpstampMapping, Opstamp};
 use seg_bits::BitSet;
-use seg_deletes::{DeleteCursor, DeleteQueue, DocToOpstampMapping, Opstamp};
 use seg_meta::Segment;
 use seg_open::{OpenError, SegmentReader};
 use seg_segment::{SegmentFiles, files_spell_one_contents};

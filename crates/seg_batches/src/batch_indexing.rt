@@ -2,20 +2,19 @@
 ghost use Rattle.std.specs.Prelude.{◌≡◌, ◌<◌, ◌+◌, ◌^◌, [], map, length, IfOk};
 ghost use Rattle.seg_model.specs.Operations.{additions};
 ghost use Rattle.seg_build.specs.SegmentWriting.{Writes};
-ghost use Rattle.seg_input.specs.View.{operation_of};
+ghost use Rattle.seg_check.specs.View.{operation_of};
 ghost use Rattle.seg_check.specs.WriterStart.{start_refusal};
 ghost use Rattle.seg_batches.specs.Indexing.{AddsAll, AreOfBatch, IsUnused, Takes, is_addition};
 ghost use Rattle.seg_model.specs.Refused.{batch_error};
 ghost use Rattle.seg_model.specs.Telling.{Tells};
 
+use crate::Opstamp;
 use seg_build::{MemorySegment, SegmentWriter};
-use seg_check::LEAST_BUDGET;
+use seg_check::{LEAST_BUDGET, UserOperation};
 use seg_common::SegmentId;
-use seg_deletes::Opstamp;
-use seg_input::UserOperation;
 use seg_meta::{IndexSettings, Segment, SegmentMeta};
+use seg_tokens::Analyzers;
 use seg_values::{ArgumentCause, Schema, TResult, TantivyDocument, TantivyError};
-use seg_words::Analyzers;
 use std::alloc::Global;
 
 /// The most documents of a segment.

@@ -1,7 +1,7 @@
 //! The segment of a batch, and which of its documents later deletes leave.
 ghost use Rattle.std.specs.Prelude.{◌≡◌, ◌≤◌, ◌<◌, ◌+◌, ◌^◌, length, map, take, IfOk};
 ghost use Rattle.std.specs.List.{enumerate_from};
-ghost use Rattle.seg_input.specs.View.{operation_of};
+ghost use Rattle.seg_check.specs.View.{operation_of};
 ghost use Rattle.seg_check.specs.WriterStart.{start_refusal};
 ghost use Rattle.seg_batches.specs.Indexing.{AreOfBatch};
 ghost use Rattle.seg_model.specs.Telling.{Tells};
@@ -12,15 +12,15 @@ ghost use Rattle.seg_batches.specs.Writing.{batch_cause};
 use crate::batch_alive::alive_documents;
 use crate::batch_indexing::{index_batch, new_writer};
 use crate::term_target::TermTarget;
+use crate::{DeleteCursor, DeleteQueue, Opstamp};
 use seg_bits::BitSet;
 use seg_build::MemorySegment;
+use seg_check::UserOperation;
 use seg_common::SegmentId;
-use seg_deletes::{DeleteCursor, DeleteQueue, Opstamp};
-use seg_input::UserOperation;
 use seg_meta::{IndexSettings, Segment, SegmentMeta};
 use seg_segment::SegmentFiles;
+use seg_tokens::Analyzers;
 use seg_values::{Schema, TResult, TantivyDocument, TantivyError};
-use seg_words::Analyzers;
 use std::alloc::Global;
 
 /// The segment of a batch, whose files aren't made yet, and which of its documents later deletes leave; `None` where they

@@ -4,26 +4,26 @@ ghost use Rattle.std.specs.List.{enumerate_from};
 ghost use Rattle.seg_batches.specs.Laws.{as_operations};
 ghost use Rattle.seg_directory.specs.Works.{Works};
 ghost use Rattle.seg_segment.specs.SegmentFiles.{write_steps};
-ghost use Rattle.seg_input.specs.View.{operation_of};
+ghost use Rattle.seg_check.specs.View.{operation_of};
 ghost use Rattle.seg_check.specs.WriterStart.{start_refusal};
 ghost use Rattle.seg_model.specs.Operations.{batches};
 ghost use Rattle.seg_model.specs.Valid.{cuts_fit};
-ghost use Rattle.seg_removal.specs.Stamps.{stamped_deletes};
+ghost use Rattle.seg_model.specs.Stamps.{stamped_deletes};
 ghost use Rattle.seg_batches.specs.Segments.{LacksSome, alive_of, segments_of};
 ghost use Rattle.seg_batches.specs.Waiting.{passed_below};
 ghost use Rattle.seg_batches.specs.Writing.{MakesBatches, WritesBatch, batch_between, batch_cause, batch_causes};
 
 use crate::batch_making::{MadeBatch, make_batch};
-use crate::delete_queue::delete_queue;
 use crate::term_target::TermTarget;
+use crate::waiting_deletes::delete_queue;
 use crate::written_segment::WrittenSegment;
+use crate::{DeleteCursor, DeleteQueue, Opstamp};
+use seg_check::UserOperation;
 use seg_common::SegmentId;
-use seg_deletes::{DeleteCursor, DeleteQueue, Opstamp};
 use seg_directory::Directory;
-use seg_input::UserOperation;
 use seg_meta::IndexSettings;
+use seg_tokens::Analyzers;
 use seg_values::{Schema, TResult, TantivyDocument, TantivyError};
-use seg_words::Analyzers;
 use std::alloc::{AllocError, Global};
 
 /// Writes the segment of each batch, one after another: the operations up to each cut, and those after the last. Each has

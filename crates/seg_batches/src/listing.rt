@@ -2,8 +2,8 @@
 ghost use Rattle.std.specs.Prelude.{◌≡◌, IfOk};
 ghost use Rattle.seg_batches.specs.Segments.{all_listed};
 
+use crate::Opstamp;
 use crate::written_segment::WrittenSegment;
-use seg_deletes::Opstamp;
 use seg_meta::SegmentMetas;
 use std::alloc::{AllocError, Global};
 

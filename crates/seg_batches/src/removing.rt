@@ -1,12 +1,12 @@
 //! One delete.
 ghost use Rattle.std.specs.Prelude.{◌≡◌, [], ◌∷◌, not, ◌&&◌, length, OnOk};
-ghost use Rattle.seg_removal.specs.Postings.{is_member};
-ghost use Rattle.seg_deletes.specs.Deleted.{is_deleted};
+ghost use Rattle.seg_model.specs.Postings.{is_member};
+ghost use Rattle.seg_batches.specs.Deleted.{is_deleted};
 ghost use Rattle.seg_batches.specs.Applying.{AreMapped, is_left_by, staying};
 
 use crate::delete_target::DeleteTarget;
+use crate::{DeleteOperation, DocToOpstampMapping, Opstamp};
 use seg_bits::BitSet;
-use seg_deletes::{DeleteOperation, DocToOpstampMapping, Opstamp};
 use seg_open::SegmentReader;
 use std::alloc::{AllocError, Global};
 

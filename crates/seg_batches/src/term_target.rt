@@ -12,7 +12,7 @@ pub struct TermTarget(pub Term);
 
 impl DeleteTarget for TermTarget {
     ghost use Rattle.std.specs.Prelude.{map};
-    ghost use Rattle.seg_removal.specs.Cleared.{has_posting};
+    ghost use Rattle.seg_model.specs.Cleared.{has_posting};
     ghost use Rattle.seg_open.specs.OpenSegment.{terms_in};
 
     ghost names = { λ target segment document. has_posting (map terms_in segment.fields) document target.0 };

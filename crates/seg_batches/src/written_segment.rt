@@ -3,9 +3,9 @@ ghost use Rattle.std.specs.Prelude.{◌≡◌, ◌<◌, ◌^◌, true, false, le
 ghost use Rattle.seg_meta.specs.Metas as metas;
 ghost use Rattle.seg_batches.specs.Segments.{LacksSome, alive_of, deletes_of, listed};
 
+use crate::Opstamp;
 use seg_bits::BitSet;
 use seg_common::SegmentId;
-use seg_deletes::Opstamp;
 use seg_meta::{DeleteMeta, SegmentMeta};
 use std::marker::Model;
 

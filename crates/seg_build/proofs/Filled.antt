@@ -2,9 +2,9 @@
 use Rattle.std.proofs.Common.{◌≡◌, ℕ, List, length, map, Some, None, Option, IsSomeAnd, sym, ap, ◌∙◌, subst}
 use Rattle.std.specs.Option.{option_map}
 use Rattle.seg_common.specs.Growing.{HasGrown}
-use Rattle.seg_columnar.specs.ColumnFiles.{column_file_of}
-use Rattle.seg_columns_written.specs.ModelColumns.{columns_in}
-use Rattle.seg_schema_columns.specs.SchemaColumns.{HaveColumns}
+use Rattle.seg_column_file.specs.ColumnFiles.{column_file_of}
+use Rattle.seg_column_format.specs.ModelColumns.{columns_in}
+use Rattle.seg_column_format.specs.SchemaColumns.{HaveColumns}
 use Rattle.seg_meta.specs.Metas.{SegmentParts}
 use Rattle.seg_model.specs.Columns.{Columns}
 use Rattle.seg_model.specs.Fields.{Analyzer}

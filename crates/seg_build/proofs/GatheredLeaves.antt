@@ -1,7 +1,7 @@
 -- The leaves of a JSON value, as they are gathered one after another.
 use Rattle.std.proofs.Common.{◌≡◌, ℕ, ◌+◌, ◌-◌, ◌^◌, min, List, [], ◌∷◌, sym, refl, ap, ◌∙◌, subst, arith}
 use Rattle.seg_values.specs.Tree.{Leaf, text}
-use Rattle.seg_words.specs.declared.token.Token.{Token}
+use Rattle.seg_tokens.specs.declared.token.Token.{Token}
 use Rattle.std.specs.List.{slice_index_or}
 use Rattle.seg_model.specs.Reading.{Terms}
 use Rattle.seg_terms.specs.Adding.{with_occurrences}

@@ -13,8 +13,8 @@ use Rattle.seg_model.specs.Columns.{fast_values}
 use Rattle.seg_model.specs.Fields.{Schema, Analyzer}
 use Rattle.seg_model.specs.Reading.{stored_document}
 use Rattle.seg_model.specs.Valid.{Known}
-use Rattle.seg_schema_columns.specs.FastTokenizers.{AreKnown}
-use Rattle.seg_fast_writer.specs.Writing.{Holds}
+use Rattle.seg_column_format.specs.FastTokenizers.{AreKnown}
+use Rattle.seg_fastfield.specs.Writing.{Holds}
 use Rattle.seg_values.specs.StoredForm.{stored_form}
 use Rattle.seg_store.specs.BlockLaw.{AreTakenLast}
 use Rattle.seg_store.specs.Writing.{taken_count}

@@ -11,10 +11,10 @@ use Rattle.seg_model.specs.Columns.{Columns, FastValue, columns, columns_of, dec
 use Rattle.seg_model.specs.Contents.{reading_with}
 use Rattle.seg_model.specs.Fields.{Schema, Analyzer}
 use Rattle.seg_model.proofs.Exports.{some_none}
-use Rattle.seg_columnar.specs.ColumnFiles.{IsColumnFile, column_file_of, row_count}
-use Rattle.seg_columns_written.specs.ModelColumns.{columns_in}
-use Rattle.seg_schema_columns.specs.SchemaColumns.{HaveColumns}
-use Rattle.seg_fast_writer.specs.Writing.{Holds, refusal_of}
+use Rattle.seg_column_file.specs.ColumnFiles.{IsColumnFile, column_file_of, row_count}
+use Rattle.seg_column_format.specs.ModelColumns.{columns_in}
+use Rattle.seg_column_format.specs.SchemaColumns.{HaveColumns}
+use Rattle.seg_fastfield.specs.Writing.{Holds, refusal_of}
 use Rattle.seg_build.specs.Finishing.{AreMixed, Fails, IsMadeOfKept}
 use Rattle.seg_build.specs.Kept.{Kept}
 use Rattle.seg_build.specs.SegmentWriting.{IsKeptOf, IsUnderWay}

@@ -1,3 +1,4 @@
+mod AddedDocuments
 mod Contents
 mod Elements
 mod FacetPrefixes
@@ -17,8 +18,8 @@ mod KeptStarts
 mod Leaves
 mod MemoryTaken
 mod NormParts
-mod Places
 mod PathTokens
+mod Places
 mod PlainPaths
 mod RecordedLengths
 mod RecordedTerms
@@ -36,4 +37,5 @@ mod Whole
 mod WritableTerms
 mod WrittenFields
 mod WrittenHits
+mod WrittenIndex
 mod WrittenTerms

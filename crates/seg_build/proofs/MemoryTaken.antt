@@ -6,7 +6,7 @@ use Rattle.std.proofs.lemmas.Grind.{flat_map-append}
 use Rattle.seg_values.specs.Tree.{Document}
 use Rattle.seg_model.specs.Columns.{FastValue, fast_values}
 use Rattle.seg_model.specs.Fields.{Schema, Analyzer}
-use Rattle.seg_fast_writer.specs.Writing.{Holds}
+use Rattle.seg_fastfield.specs.Writing.{Holds}
 use Rattle.seg_values.specs.StoredForm.{stored_form}
 use Rattle.seg_store.specs.Block.{Block}
 use Rattle.seg_store.specs.BlockLaw.{all_documents}

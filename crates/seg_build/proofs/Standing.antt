@@ -11,7 +11,7 @@ use Rattle.seg_model.specs.Contents.{reading_with, full_reading}
 use Rattle.seg_model.specs.Fields.{Schema, Analyzer}
 use Rattle.seg_model.specs.Reading.{Terms, stored_document, all_terms}
 use Rattle.seg_model.proofs.Exports.{readings_have_full_shape}
-use Rattle.seg_schema_columns.specs.SchemaColumns.{HaveColumns}
+use Rattle.seg_column_format.specs.SchemaColumns.{HaveColumns}
 use Rattle.seg_build.specs.declared.fields.IndexedBatch.{IndexedBatch}
 use Rattle.seg_segment.specs.declared.segment_files.SegmentFiles.{SegmentFiles}
 use Rattle.seg_build.specs.Batch.{IsBatchOf}

@@ -15,8 +15,8 @@ use Rattle.seg_values.specs.StoredForm.{stored_form}
 use Rattle.seg_store.specs.Block.{Block}
 use Rattle.seg_store.specs.BlockLaw.{all_documents, AreTakenLast}
 use Rattle.seg_store.specs.Store.{documents_of}
-use Rattle.seg_stored.specs.StoredDocument.{stored_document_of, most_levels_read}
-use Rattle.seg_stored.specs.StoredLaw.{AreShallow}
+use Rattle.seg_doc_bytes.specs.StoredDocument.{stored_document_of, most_levels_read}
+use Rattle.seg_doc_bytes.specs.StoredLaw.{AreShallow}
 use Rattle.seg_store.specs.Writing.{Taken, with_document, all_blocks, taken_count}
 use Rattle.seg_build.specs.StoredBlocks.{stored_with}
 

@@ -1,6 +1,6 @@
 -- What a writer of a segment keeps of the documents added so far.
 use Rattle.std.specs.Prelude.{ℕ, List, Option}
-use Rattle.seg_fast_writer.specs.Writing.{FastWriting}
+use Rattle.seg_fastfield.specs.Writing.{FastWriting}
 use Rattle.seg_store.specs.Writing.{Taken}
 use Rattle.seg_build.specs.FieldSoFar.{FieldSoFar}
 

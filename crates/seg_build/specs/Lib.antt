@@ -6,10 +6,11 @@ pub mod FieldTerms
 pub mod Filling
 pub mod Finishing
 pub mod Gathered
+pub mod IndexWriting
 pub mod Kept
 pub mod LeafSteps
-pub mod MemoryUsage
 pub mod Lengths
+pub mod MemoryUsage
 pub mod NormsFile
 pub mod OrderedFields
 pub mod PathStarts

@@ -6,7 +6,7 @@ use Rattle.seg_model.specs.Fields.{Schema, Analyzer, fields, has_lengths}
 use Rattle.seg_model.specs.Occurrences.{occurrences}
 use Rattle.seg_values.specs.StoredForm.{stored_form}
 use Rattle.seg_check.specs.IndexedValues.{IndexedContent}
-pub use Rattle.seg_fast_writer.specs.Usage.{total, saturated}
+pub use Rattle.seg_fastfield.specs.Usage.{total, saturated}
 use Rattle.seg_store.specs.Writing.{byte_count}
 use Rattle.seg_build.specs.Field.{count_in}
 

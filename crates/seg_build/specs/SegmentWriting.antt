@@ -13,15 +13,15 @@ use Rattle.seg_model.specs.Columns.{FastValue, fast_values}
 use Rattle.seg_model.specs.Fields.{Schema, Analyzer}
 use Rattle.seg_model.specs.Reading.{stored_document}
 use Rattle.seg_model.specs.Valid.{Known}
-use Rattle.seg_schema_columns.specs.FastTokenizers.{AreKnown}
-use Rattle.seg_fast_writer.specs.Writing.{Holds}
+use Rattle.seg_column_format.specs.FastTokenizers.{AreKnown}
+use Rattle.seg_fastfield.specs.Writing.{Holds}
 use Rattle.seg_values.specs.StoredForm.{stored_form}
 use Rattle.seg_check.specs.IndexedValues.{IsPlainIn, value_in}
 use Rattle.seg_check.specs.declared.indexed_value.IndexedValue.{IndexedValue}
 use Rattle.seg_store.specs.BlockLaw.{all_documents}
 use Rattle.seg_store.specs.Store.{documents_of}
-use Rattle.seg_stored.specs.StoredDocument.{stored_document_of}
-use Rattle.seg_stored.specs.StoredLaw.{AreShallow}
+use Rattle.seg_doc_bytes.specs.StoredDocument.{stored_document_of}
+use Rattle.seg_doc_bytes.specs.StoredLaw.{AreShallow}
 use Rattle.seg_store.specs.Writing.{Taken, with_document, all_blocks, taken_count}
 use Rattle.seg_build.specs.Kept.{Kept}
 use Rattle.seg_build.specs.Lengths.{HaveLengths, with_lengths}

@@ -6,8 +6,7 @@ ghost use Rattle.seg_values.specs.Tree.{unsigned};
 ghost use Rattle.seg_values.specs.View.{tree_of};
 ghost use Rattle.seg_build.specs.CodedLeaves.{codes_of};
 
-use seg_common::MonotonicallyMappableToU64;
-use seg_dates::DateTimePrecision;
+use seg_common::{DateTimePrecision, MonotonicallyMappableToU64};
 use seg_values::OwnedValue;
 
 /// A type code, and the number after it.

@@ -19,8 +19,8 @@ use crate::tokens::{add_tokens, next_start};
 use crate::value_terms::add_value_terms;
 use seg_check::counted_len;
 use seg_terms::TermIndex;
+use seg_tokens::{Token, Tokens};
 use seg_values::{FieldEntry, FieldKind, OwnedValue};
-use seg_words::{Token, Tokens};
 use std::alloc::{AllocError, Global};
 use std::marker::Model;
 

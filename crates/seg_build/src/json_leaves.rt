@@ -22,8 +22,8 @@ use crate::tokens::next_start;
 use seg_check::counted_len;
 use seg_paths::{NumberedLeaf, set_value, value_of};
 use seg_terms::Hit;
+use seg_tokens::{Token, Tokens};
 use seg_values::OwnedValue;
-use seg_words::{Token, Tokens};
 use std::alloc::{AllocError, Global};
 
 impl JsonTerms {

@@ -13,6 +13,13 @@
 //! of files), `filling` (what the components of a segment are to hold); `add_operation`, `adding` (the values of a
 //! document that passed its check), `writer_parts`, `memory_segment`, `finishing` and `segment_writer`;
 //! `laws` (terms that were indexed can be written).
+//!
+//! Writes an index of one segment, document by document, without a batch, a delete or a merge.
+//!
+//! `SingleSegmentIndexWriter` has a `SegmentWriter` and the index that its segment is to be of: at the end the six files
+//! are made, and then the meta that lists the segment is saved.
+//!
+//! To be read in this order: `index_meta` (the meta of an index of one segment is saved), `single_segment_index_writer`.
 #![tactic(auto)]
 
 mod add_operation;
@@ -23,6 +30,7 @@ mod fields;
 mod filling;
 mod finishing;
 mod gathered_terms;
+mod index_meta;
 mod json_leaves;
 mod json_terms;
 mod laws;
@@ -33,6 +41,7 @@ mod ordered_field;
 mod path_start;
 mod path_tokens;
 mod segment_writer;
+mod single_segment_index_writer;
 mod sorted;
 mod terms_files;
 mod tokens;
@@ -47,4 +56,5 @@ pub use laws::taken_terms_can_be_written;
 pub use memory_segment::MemorySegment;
 pub use seg_terms::{Hit, first_run};
 pub use segment_writer::SegmentWriter;
+pub use single_segment_index_writer::SingleSegmentIndexWriter;
 pub use sorted::SortedTerms;

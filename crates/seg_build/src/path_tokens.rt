@@ -4,7 +4,7 @@ ghost use Rattle.seg_model.specs.Occurrences.{placed_from, start_after};
 ghost use Rattle.seg_terms.specs.Adding.{with_occurrence, with_occurrences};
 
 use seg_terms::{Hit, PathTerms};
-use seg_words::{MAX_TOKEN_LEN, Token};
+use seg_tokens::{MAX_TOKEN_LEN, Token};
 use std::alloc::{AllocError, Global};
 
 /// Adds the tokens of a text at a path, which begins at the first of these places. `room` is for the bytes of a term.

@@ -26,8 +26,8 @@ use seg_common::{FileName, SegmentComponent};
 use seg_directory::Directory;
 use seg_meta::{IndexSettings, Segment};
 use seg_store::documents_stay_in_order;
+use seg_tokens::Analyzers;
 use seg_values::{ArgumentCause, Document, Pairs, TResult, TantivyError};
-use seg_words::Analyzers;
 use std::alloc::Global;
 use std::marker::Model;
 
@@ -49,7 +49,7 @@ impl<'a, Z: Analyzers> Model for SegmentWriter<'a, Z> {
     ghost use Rattle.std.specs.List.{AllByRecursion};
     ghost use Rattle.seg_model.specs.Fields.{indexing_tokenizer};
     ghost use Rattle.seg_model.specs.Valid.{names_fit};
-    ghost use Rattle.seg_schema_columns.specs.FastTokenizers.{AreKnown};
+    ghost use Rattle.seg_column_format.specs.FastTokenizers.{AreKnown};
     ghost use Rattle.std.specs.Coded.{codes};
     ghost use Rattle.seg_build.specs.FieldSoFar.{field_code};
     ghost use Rattle.seg_build.specs.SegmentWriting.{SegmentWriting, kept_of, IsUnderWay};

@@ -5,7 +5,7 @@ ghost use Rattle.seg_model.specs.Occurrences.{placed_from, start_after};
 
 use seg_check::text_width;
 use seg_terms::TermIndex;
-use seg_words::{MAX_TOKEN_LEN, Token};
+use seg_tokens::{MAX_TOKEN_LEN, Token};
 use std::alloc::{AllocError, Global};
 
 /// Adds the tokens of a text that begins at `start`.

@@ -6,8 +6,7 @@ ghost use Rattle.seg_terms.specs.Adding.{with_occurrences};
 ghost use Rattle.seg_values.specs.View.{tree_of};
 ghost use Rattle.seg_build.specs.Prefixes.{prefix_at};
 
-use seg_common::MonotonicallyMappableToU64;
-use seg_dates::DateTimePrecision;
+use seg_common::{DateTimePrecision, MonotonicallyMappableToU64};
 use seg_terms::TermIndex;
 use seg_values::OwnedValue;
 use std::alloc::{AllocError, Global};

@@ -9,11 +9,11 @@ use crate::field::FieldPostings;
 use crate::fields::new_fields;
 use crate::lengths::record_lengths;
 use seg_check::IndexedValue;
-use seg_fast_writer::FastFieldsWriter;
+use seg_fastfield::FastFieldsWriter;
 use seg_norms::FieldNormsWriter;
 use seg_store::StoreWriter;
+use seg_tokens::Analyzers;
 use seg_values::{Compressor, Pairs, Schema};
-use seg_words::Analyzers;
 use std::alloc::{AllocError, Global};
 
 /// The terms and the lengths of documents, their values in fast fields, their store, their stamps, and how often terms

@@ -4,8 +4,8 @@ use crate::step::{Start, Step};
 use anyhow::Result;
 use seg_common::{FileName, MemorySink, MemorySource};
 use seg_directory::{FailingCall, MemoryDirectory};
+use seg_tokens::{DefaultTokenizer, RawTokenizer, TokenizerManager, WhitespaceTokenizer};
 use seg_tool::{Status, run};
-use seg_words::{DefaultTokenizer, RawTokenizer, TokenizerManager, WhitespaceTokenizer};
 use std::alloc::{AllocError, Global};
 
 /// The most bytes that a step prints.

@@ -5,3 +5,4 @@ pub use Rattle.seg_check.proofs.FieldsFit.{for_one_field}
 pub use Rattle.seg_check.proofs.LeavesCome.{are-leaves, no_more}
 pub use Rattle.seg_check.proofs.Refusing.{batch_is_refusal, map_each, schema_each, shape_each, start_is_refusal}
 pub use Rattle.seg_check.proofs.Rising.{rises, rises_first}
+pub use Rattle.seg_check.proofs.InputRefusals.{first_is_refusal}

@@ -1,10 +1,9 @@
 -- The values of a document come in one after another, each in its field.
 use Rattle.std.proofs.Common.{◌≡◌, ℕ, zero, suc, ◌+◌, ◌<◌, ◌≤◌, get_or, ◌⊎◌, inl, inr, Bool, true, false, cond, List, [], ◌∷◌, ◌++◌, map, length, take, drop, Some, None, Option, refl, sym, ap, ◌∙◌, subst, append-nil, add-one, arith}
-use Rattle.std.specs.Prelude.{◌&&◌, ◌||◌, filter, nat_eq, is_some, is_none}
+use Rattle.std.specs.Prelude.{◌&&◌, ◌||◌, filter, nat_eq, is_some, is_none, IfOk, Ok, Err, Result}
 use Rattle.std.specs.HashMap.{HashMap, Updates, get}
 use Rattle.std.specs.List.{AllByRecursion, slice_get}
 use Rattle.std.specs.Option.{option_or}
-use Rattle.std.specs.Prelude.{IfOk, Ok, Err, Result}
 use Rattle.std.specs.Cmp.{nat_eq_equiv}
 use Rattle.std.proofs.lemmas.Bool.{false≢true, eqb-true}
 use Rattle.std.proofs.lemmas.List.{map-append}
@@ -13,7 +12,7 @@ use Rattle.std.proofs.lemmas.Option.{same_Some}
 use Rattle.seg_common.proofs.Lists.{drop-slice_get}
 use Rattle.seg_values.specs.Tree.{Tree, Document}
 use Rattle.seg_values.specs.declared.schema.FieldEntry.{FieldEntry}
-use Rattle.seg_words.specs.declared.token.Token.{Token}
+use Rattle.seg_tokens.specs.declared.token.Token.{Token}
 use Rattle.seg_model.specs.Checked.{Cause, unless, json_refusal, tree_refusal, positions_fall, value_texts, positions_refusal, order_refusal, fields_refusal, leaves_refusal, limit_refusal, document_refusal}
 use Rattle.seg_values.specs.declared.schema.FieldKind.TheVariants.{Json}
 use Rattle.seg_model.specs.Fields.{Schema, Analyzer, is_json, is_indexed, indexing_tokenizer, values_of}

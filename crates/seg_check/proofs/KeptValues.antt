@@ -9,8 +9,7 @@ use Rattle.seg_values.specs.Tree.{Tree, Document}
 use Rattle.seg_values.specs.declared.schema.FieldEntry.{FieldEntry}
 use Rattle.seg_model.specs.Fields.{Schema, Analyzer, is_indexed, is_field}
 use Rattle.seg_check.specs.AllFields.{AllStand, HasCut}
-use Rattle.seg_check.specs.IndexedValues.{HasPlainKeys, IsPlainIn, content_by, content_of, content_at, content_there}
-use Rattle.seg_check.specs.IndexedValues.{indexed_part, value_in, value_of, document_values}
+use Rattle.seg_check.specs.IndexedValues.{HasPlainKeys, IsPlainIn, content_by, content_of, content_at, content_there, indexed_part, value_in, value_of, document_values}
 use Rattle.seg_check.specs.declared.indexed_value.IndexedValue.{IndexedValue}
 use Rattle.seg_check.specs.declared.positions.CutDocument.{CutDocument}
 use Rattle.seg_check.proofs.FieldsCome.{not-indexed}

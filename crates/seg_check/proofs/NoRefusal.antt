@@ -13,7 +13,7 @@ use Rattle.seg_model.specs.Checked.{unless}
 use Rattle.seg_model.specs.Fields.{Schema}
 use Rattle.seg_model.specs.Valid.{Known, names_fit, settings_fit, unknown_tokenizer_of, has_unknown_fast_tokenizer}
 use Rattle.seg_model.proofs.Exports.{map_none, or_none}
-use Rattle.seg_schema_columns.specs.FastTokenizers.{AreKnown}
+use Rattle.seg_column_format.specs.FastTokenizers.{AreKnown}
 use Rattle.seg_check.specs.WriterStart.{least_budget, start_refusal}
 
 neither : (a b : Bool) → (a || b) ≡ false → (a ≡ false) × (b ≡ false)

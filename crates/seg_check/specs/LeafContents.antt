@@ -2,7 +2,7 @@
 use Rattle.std.specs.Prelude.{ℕ, List, [], ◌∷◌, map, drop, Bool}
 use Rattle.std.specs.List.{slice_index_or}
 use Rattle.seg_values.specs.Tree.{Leaf, text, Tree}
-use Rattle.seg_words.specs.declared.token.Token.{Token}
+use Rattle.seg_tokens.specs.declared.token.Token.{Token}
 use Rattle.seg_model.specs.Leaves.{leaves}
 use Rattle.seg_model.specs.Occurrences.{coded_value}
 use Rattle.seg_check.specs.Paths.{at_path}

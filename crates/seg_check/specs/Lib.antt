@@ -1,5 +1,8 @@
+pub mod Admitted
 pub mod AllFields
+pub mod Codes
 pub mod IndexedValues
+pub mod Inputs
 pub mod Known
 pub mod LeafContents
 pub mod Paths
@@ -9,4 +12,5 @@ pub mod Standing
 pub mod Texts
 pub mod Totals
 pub mod Trees
+pub mod View
 pub mod WriterStart

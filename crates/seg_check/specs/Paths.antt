@@ -4,7 +4,7 @@ use Rattle.std.specs.List.{AllByRecursion, flat_map, list_all, slice_index_or}
 use Rattle.std.specs.Str.{bytes_eq}
 use Rattle.seg_values.specs.Tree.{Leaf}
 use Rattle.seg_values.specs.View.{tree_of}
-use Rattle.seg_words.specs.declared.token.Token.{Token}
+use Rattle.seg_tokens.specs.declared.token.Token.{Token}
 use Rattle.seg_model.specs.Checked.{is_u32, texts_fit}
 use Rattle.seg_model.specs.Leaves.{PlacedLeaf, joined_path}
 use Rattle.seg_model.specs.Occurrences.{leaf_text}

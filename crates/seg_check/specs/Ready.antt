@@ -3,7 +3,7 @@ use Rattle.std.specs.Prelude.{◌≡◌, List, true, Option, None}
 use Rattle.seg_values.specs.Tree.{Tree}
 use Rattle.seg_values.specs.declared.schema.FieldEntry.{FieldEntry}
 use Rattle.seg_values.specs.declared.schema.FieldKind.TheVariants.{Json}
-use Rattle.seg_words.specs.declared.token.Token.{Token}
+use Rattle.seg_tokens.specs.declared.token.Token.{Token}
 use Rattle.seg_model.specs.Checked.{tree_refusal}
 use Rattle.seg_model.specs.Fields.{Analyzer, is_indexed}
 use Rattle.seg_model.specs.Valid.{Known}

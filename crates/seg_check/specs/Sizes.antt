@@ -1,7 +1,7 @@
 -- How much texts take of what is limited, in numbers that stay at the end of a u64.
 use Rattle.std.specs.Prelude.{ℕ, ◌+◌, ◌-◌, ◌^◌, min, List, Bool, Option, Some, None, if◌then◌else◌}
 use Rattle.std.specs.List.{list_all}
-use Rattle.seg_words.specs.declared.token.Token.{Token}
+use Rattle.seg_tokens.specs.declared.token.Token.{Token}
 use Rattle.seg_model.specs.Checked.{is_rising, count_of}
 use Rattle.seg_model.specs.Occurrences.{counted, start_after_all}
 use Rattle.seg_check.specs.declared.size.TextSize.{TextSize}

@@ -4,7 +4,7 @@ use Rattle.std.specs.List.{flat_map}
 use Rattle.seg_values.specs.Tree.{Leaf, Tree}
 use Rattle.seg_values.specs.declared.schema.FieldEntry.{FieldEntry}
 use Rattle.seg_values.specs.declared.schema.FieldKind.TheVariants.{Json}
-use Rattle.seg_words.specs.declared.token.Token.{Token}
+use Rattle.seg_tokens.specs.declared.token.Token.{Token}
 use Rattle.seg_model.specs.Checked.{value_texts}
 use Rattle.seg_model.specs.Fields.{Analyzer, indexing_tokenizer}
 use Rattle.seg_model.specs.Leaves.{leaves_of}

@@ -2,7 +2,7 @@
 use Rattle.std.specs.Prelude.{◌≡◌, List, [], Option, Some, None}
 use Rattle.seg_values.specs.declared.schema.FieldEntry.{FieldEntry}
 use Rattle.seg_values.specs.declared.schema.FieldKind.TheVariants.{Text}
-use Rattle.seg_words.specs.declared.token.Token.{Token}
+use Rattle.seg_tokens.specs.declared.token.Token.{Token}
 use Rattle.seg_values.specs.Tree.{Tree}
 use Rattle.seg_model.specs.Fields.{Analyzer, indexing_tokenizer}
 use Rattle.seg_model.specs.Occurrences.{value_tokens}

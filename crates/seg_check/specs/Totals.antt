@@ -1,6 +1,6 @@
 -- What came in a field, or at a joined path of one.
 use Rattle.std.specs.Prelude.{ℕ, ◌+◌, List, [], Bool, ◌&&◌}
-use Rattle.seg_words.specs.declared.token.Token.{Token}
+use Rattle.seg_tokens.specs.declared.token.Token.{Token}
 use Rattle.seg_model.specs.Checked.{is_u32}
 use Rattle.seg_check.specs.Sizes.{saturated, size_of, plus}
 use Rattle.seg_check.specs.declared.size.TextSize.{TextSize}

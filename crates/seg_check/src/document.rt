@@ -10,8 +10,8 @@ use crate::indexed_value::IndexedValue;
 use crate::json::leaves_refusal;
 use crate::limits::is_within_limits;
 use crate::positions::{CutDocument, cut_texts};
+use seg_tokens::Analyzers;
 use seg_values::{ArgumentCause, Document, Pairs, Schema, TResult, TantivyError};
-use seg_words::Analyzers;
 use std::alloc::Global;
 
 /// Checks a document before it is indexed; `at` is the place that an error tells.

@@ -7,8 +7,8 @@ ghost use Rattle.seg_model.specs.Occurrences.{value_tokens};
 ghost use Rattle.seg_values.specs.View.{tree_of};
 
 use crate::entry::indexing_tokenizer;
+use seg_tokens::{Analyzers, Token, Tokens};
 use seg_values::{FieldEntry, FieldKind, OwnedValue};
-use seg_words::{Analyzers, Token, Tokens};
 use std::alloc::{AllocError, Global};
 
 /// A value of a field, which is at a place of its document, as a text.

@@ -2,7 +2,7 @@
 ghost use Rattle.std.specs.Prelude.{◌≡◌, List, ℕ, [], ◌∷◌, ◌++◌, ◌&&◌, true, length, map, IfOk, IsSome, IsTrue};
 ghost use Rattle.std.specs.List.{AllByRecursion};
 ghost use Rattle.seg_values.specs.Tree.{Leaf, Tree};
-ghost use Rattle.seg_words.specs.declared.token.Token.{Token};
+ghost use Rattle.seg_tokens.specs.declared.token.Token.{Token};
 ghost use Rattle.seg_values.specs.View.{tree_of};
 ghost use Rattle.seg_model.specs.Checked as checked;
 ghost use Rattle.seg_model.specs.Fields as fields;
@@ -18,8 +18,8 @@ use crate::size::{TextSize, text_size};
 use crate::texts::cut_leaf;
 use crate::totals::{Totals, is_u32};
 use seg_paths::NumberedLeaf;
+use seg_tokens::{Analyzers, Tokens};
 use seg_values::{FieldEntry, FieldKind, OwnedValue};
-use seg_words::{Analyzers, Tokens};
 use std::alloc::{AllocError, Global};
 
 /// What came in a field: as a whole, and in a JSON field at each joined path.

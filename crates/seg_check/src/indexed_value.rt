@@ -1,8 +1,8 @@
 //! A value of a document in an indexed field.
 ghost use Rattle.seg_check.specs.IndexedValues.{IsFormOf};
 
+use seg_tokens::Tokens;
 use seg_values::{FieldEntry, FieldKind};
-use seg_words::Tokens;
 
 /// A value that is at a place of its document, in an indexed field.
 #[derive(Drop)]

@@ -2,7 +2,7 @@
 ghost use Rattle.std.specs.Prelude.{◌≡◌, List, ℕ, [], ◌∷◌, ◌++◌, None, Some, map, IfOk, OnOk};
 ghost use Rattle.seg_values.specs.Tree.{Leaf};
 ghost use Rattle.seg_values.specs.View.{tree_of};
-ghost use Rattle.seg_words.specs.declared.token.Token.{Token};
+ghost use Rattle.seg_tokens.specs.declared.token.Token.{Token};
 ghost use Rattle.seg_model.specs.Checked.{tree_refusal};
 ghost use Rattle.seg_model.specs.Leaves.{leaves};
 ghost use Rattle.seg_model.specs.Occurrences.{leaf_text};

@@ -13,8 +13,8 @@ ghost use Rattle.seg_values.specs.View.{tree_of};
 use crate::field_text::{FieldText, cut_tokens};
 use crate::field_totals::FieldTotals;
 use crate::indexed_value::{IndexedValue, value_form};
+use seg_tokens::{Analyzers, Tokens};
 use seg_values::{Field, FieldEntry, FieldKind, OwnedValue, Pairs, Schema};
-use seg_words::{Analyzers, Tokens};
 use std::alloc::{AllocError, Global};
 use std::collections::HashMap;
 

@@ -4,7 +4,7 @@ ghost use Rattle.seg_model.specs.Checked.{is_rising};
 ghost use Rattle.seg_model.specs.Occurrences.{counted, reach, start_after};
 ghost use Rattle.seg_check.specs.Sizes.{plus, measured, saturated, size_of};
 
-use seg_words::{MAX_TOKEN_LEN, Token};
+use seg_tokens::{MAX_TOKEN_LEN, Token};
 
 /// How much some texts take of what is limited. Each number stays at its type's end.
 #[derive(Clone, Copy)]

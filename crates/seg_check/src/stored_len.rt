@@ -11,8 +11,8 @@ ghost use Rattle.seg_check.specs.Sizes.{saturated};
 ghost use Rattle.seg_check.specs.Trees.{leaf_in};
 
 use seg_common::varint_len;
+use seg_tokens::{PreTokenizedString, Token};
 use seg_values::{Field, OwnedValue, Pairs, Schema};
-use seg_words::{PreTokenizedString, Token};
 
 /// How many bytes a document is stored as.
 pub(crate) fn stored_len(schema: &Schema, document: &Pairs<'_>) -> u64

@@ -7,8 +7,8 @@ ghost use Rattle.seg_values.specs.View.{tree_of};
 
 use crate::field_text::analyzed;
 use crate::size::{TextSize, text_size};
+use seg_tokens::{Analyzers, Tokens};
 use seg_values::OwnedValue;
-use seg_words::{Analyzers, Tokens};
 use std::alloc::{AllocError, Global};
 
 /// Cuts a leaf of a JSON field, where it is a text, whose tokens come behind those of the texts before it. The size of

@@ -4,14 +4,14 @@ ghost use Rattle.std.specs.List.{list_all, AllByRecursion};
 ghost use Rattle.seg_meta.specs.View.{settings_of};
 ghost use Rattle.seg_model.specs.Fields.{indexing_tokenizer};
 ghost use Rattle.seg_model.specs.Valid as valid;
-ghost use Rattle.seg_schema_columns.specs.FastTokenizers.{AreKnown};
+ghost use Rattle.seg_column_format.specs.FastTokenizers.{AreKnown};
 ghost use Rattle.seg_check.specs.WriterStart.{IsStartError, start_refusal};
 
 use crate::entry::indexing_tokenizer;
+use seg_column_format::lack_tokenizers;
 use seg_meta::IndexSettings;
-use seg_schema_columns::lack_tokenizers;
+use seg_tokens::Analyzers;
 use seg_values::{ArgumentCause, Compressor, Field, FieldEntry, Schema, SchemaCause, TantivyError};
-use seg_words::Analyzers;
 
 /// The fewest bytes of a budget.
 pub const LEAST_BUDGET: usize = 15_000;

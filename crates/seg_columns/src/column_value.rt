@@ -3,8 +3,7 @@ ghost use Rattle.std.specs.Prelude.{◌≡◌, ℕ, ◌<◌, ◌≤◌, List, Op
 ghost use Rattle.std.proofs.Common.{arith};
 ghost use Rattle.seg_columns.specs.Images.{signed, truth, unsigned, value_of_image};
 
-use seg_common::{MonotonicallyMappableToU64, u64_at};
-use seg_dates::DateTime;
+use seg_common::{DateTime, MonotonicallyMappableToU64, u64_at};
 
 /// A value that takes a fixed number of bytes in a column.
 pub trait ColumnValue: Copy + Drop {

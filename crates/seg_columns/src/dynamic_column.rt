@@ -3,7 +3,7 @@
 use crate::bytes_column::BytesColumn;
 use crate::column::Column;
 use crate::str_column::StrColumn;
-use seg_dates::DateTime;
+use seg_common::DateTime;
 use std::net::Ipv6Addr;
 
 /// A column of any type.

@@ -7,8 +7,7 @@ use crate::bytes_column::BytesColumn;
 use crate::column_check::is_column;
 use crate::error::ColumnError;
 use crate::str_column::StrColumn;
-use seg_common::{ColumnType, OwnedBytes};
-use seg_dates::DateTime;
+use seg_common::{ColumnType, DateTime, OwnedBytes};
 use std::alloc::Global;
 use std::net::Ipv6Addr;
 

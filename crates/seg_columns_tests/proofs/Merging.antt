@@ -7,11 +7,11 @@ use Rattle.std.proofs.lemmas.Bool.{true≢false}
 use Rattle.std.proofs.lemmas.List.Elements.{All-from_recursion, All-map}
 use Rattle.seg_common.specs.declared.column_type.ColumnType.{ColumnType}
 use Rattle.seg_model.specs.Columns.{is_number}
-use Rattle.seg_columnar.specs.ColumnFiles.{ColumnFile}
-use Rattle.seg_columns_written.specs.ModelColumns.{column_key}
-use Rattle.seg_columns_merged.specs.MergedColumns.{AgreesWith, CanMerge, required_key}
-use Rattle.seg_row_order.specs.RowOrders.{IsRow, rows_in_order}
-use Rattle.seg_row_order.specs.declared.row_order.MergeRowOrder.{MergeRowOrder}
+use Rattle.seg_column_file.specs.ColumnFiles.{ColumnFile}
+use Rattle.seg_column_format.specs.ModelColumns.{column_key}
+use Rattle.seg_column_merge.specs.MergedColumns.{AgreesWith, CanMerge, required_key}
+use Rattle.seg_column_file.specs.RowOrders.{IsRow, rows_in_order}
+use Rattle.seg_column_file.specs.declared.row_order.MergeRowOrder.{MergeRowOrder}
 
 -- how many rows they have
 abbrev pub counts : List ℕ

@@ -3,7 +3,7 @@
 use crate::files::open;
 use seg_columns::DynamicColumnHandle;
 use seg_common::ColumnType;
-use seg_fast_readers::{FastFieldNotAvailableError, FastFieldReaders};
+use seg_fastfield::{FastFieldNotAvailableError, FastFieldReaders};
 use seg_testing::entry;
 use seg_values::{FieldKind, IndexOption, SchemaBuilder, SchemaCause, TResult, TantivyError};
 use std::alloc::Global;

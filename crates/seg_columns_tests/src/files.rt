@@ -1,6 +1,6 @@
 //! Files of columns, from bytes that were written by hand.
 
-use seg_columnar::{ColumnError, ColumnarReader};
+use seg_column_file::{ColumnError, ColumnarReader};
 use seg_common::OwnedBytes;
 use std::alloc::Global;
 

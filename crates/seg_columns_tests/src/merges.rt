@@ -2,11 +2,11 @@
 ghost use Rattle.std.specs.Prelude.{◌≡◌, ◌<◌, ◌^◌, [], ◌∷◌, All, false, length, IfOk};
 ghost use Rattle.std.specs.List.{AllByRecursion};
 ghost use Rattle.seg_model.specs.Columns.{is_number};
-ghost use Rattle.seg_row_order.specs.RowOrders.{IsRow, rows_in_order};
+ghost use Rattle.seg_column_file.specs.RowOrders.{IsRow, rows_in_order};
 
 use crate::files::{ONE, is_file};
-use seg_columnar::{ColumnError, ColumnarReader, RowAddr};
-use seg_columns_merged::{MergeRowOrder, merge_columnar};
+use seg_column_file::{ColumnError, ColumnarReader, RowAddr};
+use seg_column_merge::{MergeRowOrder, merge_columnar};
 use seg_common::{ColumnType, OwnedBytes};
 use std::alloc::{AllocError, Global};
 

@@ -1,13 +1,12 @@
 //! Files that a writer made.
 ghost use Rattle.std.specs.Prelude.{◌≡◌, [], OnOk};
 ghost use Rattle.std.specs.List.{AllByRecursion};
-ghost use Rattle.seg_columns_recorded.specs.Typed.{IsWithin};
+ghost use Rattle.seg_column_writer.specs.Typed.{IsWithin};
 
 use crate::files::{ONE, is_file, open};
+use seg_column_writer::{ColumnarWriter, NumericalValue, ValueKind};
 use seg_columns::{ColumnError, DynamicColumn};
-use seg_columns_recorded::{ColumnarWriter, NumericalValue, ValueKind};
-use seg_common::ColumnType;
-use seg_dates::DateTime;
+use seg_common::{ColumnType, DateTime};
 use std::alloc::Global;
 use std::net::Ipv6Addr;
 

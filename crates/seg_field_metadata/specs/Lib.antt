@@ -1,3 +1,9 @@
+pub mod Columns
+pub mod FileLengths
 pub mod Grouped
+pub mod Indexed
 pub mod Known
+pub mod Listed
 pub mod Merged
+pub mod Metadata
+pub mod PartLengths

@@ -1,5 +1,7 @@
 mod AllGroups
 mod Counted
+mod DefaultTokens
 mod Made
 mod Pushed
 mod Seeds
+mod Valid

@@ -4,8 +4,8 @@ use Rattle.std.proofs.lemmas.List.{map-append}
 use Rattle.seg_values.specs.Tree.{Document, unsigned}
 use Rattle.seg_values.specs.ValueBytes.{TermKey, value_bytes}
 use Rattle.seg_model.specs.Operations.{Operation, delete}
-use Rattle.seg_input.specs.View.{operation_of}
-use Rattle.seg_input.specs.declared.user_operation.UserOperation.{UserOperation}
+use Rattle.seg_check.specs.View.{operation_of}
+use Rattle.seg_check.specs.declared.user_operation.UserOperation.{UserOperation}
 
 pub pushed : (old new : List (UserOperation Document)) (o : UserOperation Document) (meant : Operation) → new ≡ old ++ o ∷ [] → operation_of o ≡ meant
     → map operation_of new ≡ map operation_of old ++ meant ∷ []

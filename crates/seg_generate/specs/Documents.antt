@@ -1,6 +1,6 @@
 -- The schema and the documents of the generated input.
 use Rattle.std.specs.Prelude.{ℕ, ◌%◌, List, [], ◌∷◌, ◌++◌, true, false, None, pos, codes, decimal}
-use Rattle.seg_dates.specs.declared.precision.DateTimePrecision.TheVariants.{Seconds}
+use Rattle.seg_common.specs.declared.precision.DateTimePrecision.TheVariants.{Seconds}
 use Rattle.seg_values.specs.Tree.{Document, leaf, object, no_members, member, text, signed, unsigned}
 use Rattle.seg_values.specs.declared.schema.FieldEntry.{FieldEntry}
 use Rattle.seg_values.specs.declared.schema.FieldKind.TheVariants.{Text, U64, Json}

@@ -2,3 +2,4 @@ pub mod Documents
 pub mod Generated
 pub mod Seeds
 pub mod SummaryText
+pub mod Taking

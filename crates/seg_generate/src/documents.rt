@@ -6,12 +6,12 @@ ghost use Rattle.seg_values.specs.View.{tree_of};
 ghost use Rattle.seg_generate.specs.Documents.{attrs_entry, body_entry, body_text, document, id_entry, schema};
 
 use itoa::Buffer;
-use seg_dates::DateTimePrecision;
+use seg_common::DateTimePrecision;
+use seg_tokens::Text;
 use seg_values::{
     Field, FieldEntry, FieldKind, IndexOption, Members, OwnedValue, Schema, SchemaBuilder,
     TantivyDocument,
 };
-use seg_words::Text;
 use std::alloc::{AllocError, Global};
 
 pub(crate) fn schema(alloc: Global) -> Result<Schema, AllocError>

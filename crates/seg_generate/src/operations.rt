@@ -4,12 +4,12 @@ ghost use Rattle.std.specs.List.{range_with_len};
 ghost use Rattle.seg_values.specs.Tree.{unsigned};
 ghost use Rattle.seg_values.specs.ValueBytes.{value_bytes};
 ghost use Rattle.seg_model.specs.Operations.{add, delete};
-ghost use Rattle.seg_input.specs.View.{operation_of};
+ghost use Rattle.seg_check.specs.View.{operation_of};
 ghost use Rattle.seg_generate.specs.Documents.{document};
 ghost use Rattle.seg_generate.specs.Generated.{deleted_number, group_operations, operations};
 
 use crate::documents::document;
-use seg_input::UserOperation;
+use seg_check::UserOperation;
 use seg_values::{Field, TantivyDocument, Term};
 use std::alloc::{AllocError, Global};
 

@@ -2,7 +2,7 @@
 
 use anyhow::{Result, bail};
 use seg_bits::AliveBitSet;
-use seg_columnar::ColumnarReader;
+use seg_column_file::ColumnarReader;
 use seg_common::OwnedBytes;
 use seg_directory::CompositeFile;
 use seg_meta::{ReadError, read_meta};

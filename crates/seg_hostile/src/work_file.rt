@@ -5,8 +5,8 @@ use anyhow::{Result, bail, ensure};
 use seg_common::{FileName, MemorySink, MemorySource, SegmentComponent, SegmentId};
 use seg_directory::{Directory, MemoryDirectory};
 use seg_testing::OddDirectory;
+use seg_tokens::{DefaultTokenizer, RawTokenizer, TokenizerManager};
 use seg_tool::run;
-use seg_words::{DefaultTokenizer, RawTokenizer, TokenizerManager};
 use std::alloc::Global;
 
 /// The id of the work segment, as scripts give it.

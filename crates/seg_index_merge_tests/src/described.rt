@@ -3,14 +3,13 @@ ghost use Rattle.std.specs.Prelude.{◌≡◌, IfOk};
 
 use crate::indices::{StoredIndex, index_of, index_of_text, opened};
 use crate::metadata::{have_lines, together};
-use seg_field_metadata::FieldMetadata;
-use seg_fields_metadata::fields_metadata;
+use seg_field_metadata::{FieldMetadata, fields_metadata};
 use seg_testing::{document, entry};
+use seg_tokens::Text;
 use seg_values::{
     Field, FieldEntry, FieldKind, IndexOption, Members, OwnedValue, Schema, SchemaBuilder, TResult,
     TantivyDocument,
 };
-use seg_words::Text;
 use std::alloc::{AllocError, Global};
 
 /// A JSON field with terms and columns.

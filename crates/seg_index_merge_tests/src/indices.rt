@@ -1,9 +1,9 @@
 //! Indices in memory, of one segment that was written in one go.
 
+use seg_build::SingleSegmentIndexWriter;
 use seg_directory::MemoryDirectory;
 use seg_meta::Index;
 use seg_open::SegmentReader;
-use seg_single_segment::SingleSegmentIndexWriter;
 use seg_testing::{Words, document, memory, schema, segment_id, settings};
 use seg_values::{FieldKind, IndexOption, Schema, TResult, TantivyDocument, TantivyError};
 use std::alloc::{AllocError, Global};

@@ -6,7 +6,7 @@ use crate::indices::{StoredIndex, index_of_text, opened};
 use crate::work_index::work_index;
 use seg_common::SegmentId;
 use seg_directory::MemoryDirectory;
-use seg_index_merge::merge_indices;
+use seg_index_build::merge_indices;
 use seg_meta::Index;
 use seg_open::SegmentReader;
 use seg_store::StoreReader;

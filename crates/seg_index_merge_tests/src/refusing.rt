@@ -4,7 +4,7 @@ use crate::indices::{StoredIndex, index_of_text};
 use crate::merging::merged;
 use seg_common::SegmentId;
 use seg_directory::MemoryDirectory;
-use seg_index_merge::merge_indices;
+use seg_index_build::merge_indices;
 use seg_meta::Index;
 use seg_testing::{memory, schema, settings};
 use seg_values::{ArgumentCause, FieldKind, IndexOption, TResult, TantivyError};

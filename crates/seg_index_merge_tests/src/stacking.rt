@@ -3,7 +3,7 @@ ghost use Rattle.std.specs.Prelude.{◌≡◌, ◌<◌, ◌^◌};
 
 use crate::indices::{copies, index_of};
 use seg_directory::MemoryDirectory;
-use seg_join::IndexMerger;
+use seg_merger::IndexMerger;
 use seg_meta::Segment;
 use seg_open::SegmentReader;
 use seg_segment::SegmentSerializer;

@@ -1,10 +1,10 @@
 //! The work index of a small build: two segments, of which the second has a deleted document.
 
 use crate::indices::StoredIndex;
+use seg_check::UserOperation;
 use seg_common::SegmentId;
 use seg_directory::MemoryDirectory;
-use seg_input::UserOperation;
-use seg_merge::build_index;
+use seg_index_build::build_index;
 use seg_meta::Index;
 use seg_testing::{Words, document, memory, schema, settings};
 use seg_values::{Field, FieldKind, IndexOption, TResult, TantivyDocument, Term};

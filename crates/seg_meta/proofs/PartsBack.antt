@@ -3,8 +3,8 @@ use Rattle.std.proofs.Common.{◌≡◌, ℕ, ◌<◌, ◌^◌, List, true, Opti
 use Rattle.std.proofs.lemmas.Bool.Decides.{nat_tests}
 use Rattle.serde_json.specs.Data.{string}
 use Rattle.serde_json.specs.Find.{as_str}
-use Rattle.seg_dates.specs.declared.precision.DateTimePrecision.{DateTimePrecision}
-use Rattle.seg_dates.specs.declared.precision.DateTimePrecision.TheVariants as precision
+use Rattle.seg_common.specs.declared.precision.DateTimePrecision.{DateTimePrecision}
+use Rattle.seg_common.specs.declared.precision.DateTimePrecision.TheVariants as precision
 use Rattle.seg_values.specs.SchemaRules.{is_entry}
 use Rattle.seg_values.specs.declared.schema.FieldEntry.{FieldEntry}
 use Rattle.seg_values.specs.declared.schema.FieldKind.{FieldKind}

@@ -11,8 +11,8 @@ use Rattle.serde_json.specs.Read.{read, max_depth, of_json, of_items}
 use Rattle.serde_json.specs.View.{items_of}
 use Rattle.serde_json.specs.Written.{outline, items_outline}
 use Rattle.serde_json.proofs.Numbers.{number_of-decimal}
-use Rattle.seg_dates.specs.declared.precision.DateTimePrecision.{DateTimePrecision}
-use Rattle.seg_dates.specs.declared.precision.DateTimePrecision.TheVariants as precision
+use Rattle.seg_common.specs.declared.precision.DateTimePrecision.{DateTimePrecision}
+use Rattle.seg_common.specs.declared.precision.DateTimePrecision.TheVariants as precision
 use Rattle.seg_values.specs.declared.schema.FieldEntry.{FieldEntry}
 use Rattle.seg_values.specs.declared.schema.FieldKind.{FieldKind}
 use Rattle.seg_values.specs.declared.schema.FieldKind.TheVariants as kind

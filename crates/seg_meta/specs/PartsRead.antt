@@ -4,8 +4,8 @@ use Rattle.std.specs.Str.{bytes_eq}
 use Rattle.serde_json.specs.Data.{Data}
 use Rattle.serde_json.specs.Find.{as_bool, as_str}
 use Rattle.seg_common.specs.SegmentIds.{id_text}
-use Rattle.seg_dates.specs.declared.precision.DateTimePrecision.{DateTimePrecision}
-use Rattle.seg_dates.specs.declared.precision.DateTimePrecision.TheVariants as precision
+use Rattle.seg_common.specs.declared.precision.DateTimePrecision.{DateTimePrecision}
+use Rattle.seg_common.specs.declared.precision.DateTimePrecision.TheVariants as precision
 use Rattle.seg_values.specs.SchemaRules.{is_entry}
 use Rattle.seg_values.specs.declared.schema.FieldEntry.{FieldEntry}
 use Rattle.seg_values.specs.declared.schema.FieldKind.{FieldKind}

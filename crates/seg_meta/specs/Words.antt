@@ -1,7 +1,7 @@
 -- The words that a meta has for kinds, options, precisions and compressions.
 use Rattle.std.specs.Prelude.{ℕ, List, codes}
-use Rattle.seg_dates.specs.declared.precision.DateTimePrecision.{DateTimePrecision}
-use Rattle.seg_dates.specs.declared.precision.DateTimePrecision.TheVariants as precision
+use Rattle.seg_common.specs.declared.precision.DateTimePrecision.{DateTimePrecision}
+use Rattle.seg_common.specs.declared.precision.DateTimePrecision.TheVariants as precision
 use Rattle.seg_values.specs.declared.schema.FieldKind.{FieldKind}
 use Rattle.seg_values.specs.declared.schema.FieldKind.TheVariants as kind
 use Rattle.seg_values.specs.declared.schema.IndexOption.{IndexOption}

@@ -8,9 +8,9 @@ ghost use Rattle.seg_meta.specs.Reads.{required, word_of};
 use crate::ReadError;
 use crate::members::{flag_at, has_only, optional_text_at, text_at};
 use crate::words::{index_from, kind_from, precision_from};
-use seg_dates::DateTimePrecision;
+use seg_common::DateTimePrecision;
+use seg_tokens::Text;
 use seg_values::{FieldEntry, FieldKind, IndexOption};
-use seg_words::Text;
 use serde_json::Value;
 use std::alloc::Global;
 

@@ -1,8 +1,8 @@
 //! The meta of an index.
 
 use crate::{IndexSettings, SegmentMetas};
+use seg_tokens::Text;
 use seg_values::Schema;
-use seg_words::Text;
 
 /// What an index says of itself.
 #[derive(Debug, Drop)]

@@ -7,7 +7,7 @@ ghost use Rattle.serde_json.specs.View.{view};
 ghost use Rattle.seg_meta.specs.Reads.{required, natural, below, nullable, has_only};
 
 use crate::ReadError;
-use seg_words::Text;
+use seg_tokens::Text;
 use serde_json::Value;
 use std::alloc::Global;
 

@@ -9,8 +9,8 @@ ghost use Rattle.seg_meta.specs.View.{settings_of, meta_of};
 use crate::words::{compression_word, index_word, kind_word, precision_word};
 use crate::{DeleteMeta, IndexMeta, IndexSettings, SegmentMeta};
 use seg_common::SegmentId;
+use seg_tokens::Text;
 use seg_values::FieldEntry;
-use seg_words::Text;
 use serde_json::{Value, json};
 use std::alloc::{AllocError, Global};
 

@@ -12,8 +12,8 @@ ghost use Rattle.seg_meta.specs.View.{meta_of, settings_of};
 use crate::ranges::{has_32_bits, has_64_bits};
 use crate::{IndexMeta, IndexSettings, SegmentMeta};
 use seg_common::SegmentId;
+use seg_tokens::Text;
 use seg_values::{FieldEntry, Schema};
-use seg_words::Text;
 
 /// The text of a meta reads as it, where its numbers and texts are such as their types hold, its segments such as can be
 /// saved, and its fields such as a builder of schemas lets in.

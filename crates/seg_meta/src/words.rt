@@ -6,7 +6,7 @@ ghost use Rattle.seg_meta.specs.PartsRead.{kinds, index_options, precisions, com
 ghost use Rattle.seg_meta.specs.View.{compression_of};
 ghost use Rattle.seg_meta.specs.Words.{compression_word, kind_word, index_word, precision_word};
 
-use seg_dates::DateTimePrecision;
+use seg_common::DateTimePrecision;
 use seg_values::{Compressor, FieldKind, IndexOption};
 
 pub(crate) fn compression_word(compressor: Compressor) -> &'static str

@@ -12,3 +12,4 @@ pub use Rattle.seg_model.proofs.ShapedTerms.{ArePostings-from, AreRecordsOf, Are
 pub use Rattle.seg_model.proofs.Telling.{told_on}
 pub use Rattle.seg_model.proofs.Terms.{AreNone-all_recorded, AreNone-kept, complete_joined, get-terms_of, postings_from-none, unwrap_if_any}
 pub use Rattle.seg_model.proofs.Utf8.{IsUtf8-ascii}
+pub use Rattle.seg_model.proofs.Posted.{length-additions}

@@ -8,7 +8,7 @@ use Rattle.seg_values.specs.declared.error.TantivyError.TheVariants.{SchemaError
 use Rattle.seg_values.specs.declared.schema.FieldEntry.{FieldEntry}
 use Rattle.seg_values.specs.declared.schema.FieldKind.TheVariants.{Text}
 use Rattle.seg_values.specs.declared.schema.IndexOption.TheVariants.{No, Positions}
-use Rattle.seg_dates.specs.declared.precision.DateTimePrecision.TheVariants.{Seconds}
+use Rattle.seg_common.specs.declared.precision.DateTimePrecision.TheVariants.{Seconds}
 use Rattle.seg_common.specs.Varint.{varint_within}
 use Rattle.seg_values.specs.Tree.{text, leaf}
 use Rattle.seg_model.specs.Fields.{Analyzer}

@@ -1,12 +1,12 @@
 -- Worked rows: what the definitions say of small documents.
 use Rattle.std.proofs.Common.{◌≡◌, ℕ, zero, suc, ◌+◌, true, false, List, [], ◌∷◌, ◌++◌, map, Some, None, Option, refl}
 use Rattle.std.specs.Prelude.{pos, negsuc, ◌==◌, if◌then◌else◌, codes, is_some}
-use Rattle.seg_words.specs.declared.token.Token.{Token}
+use Rattle.seg_tokens.specs.declared.token.Token.{Token}
 use Rattle.seg_values.specs.declared.schema.FieldEntry.{FieldEntry}
 use Rattle.seg_values.specs.declared.schema.FieldKind.{FieldKind}
 use Rattle.seg_values.specs.declared.schema.FieldKind.TheVariants.{Text, U64, I64, Date, Facet, IpAddr, Json}
 use Rattle.seg_values.specs.declared.schema.IndexOption.TheVariants.{Positions}
-use Rattle.seg_dates.specs.declared.precision.DateTimePrecision.TheVariants.{Seconds}
+use Rattle.seg_common.specs.declared.precision.DateTimePrecision.TheVariants.{Seconds}
 use Rattle.seg_common.specs.declared.column_type.ColumnType.{ColumnType}
 use Rattle.seg_common.specs.declared.column_type.ColumnType.TheVariants as types
 use Rattle.seg_values.specs.Tree.{Leaf, null, text, unsigned, signed, date, facet, ip, Tree, leaf, array, object, no_trees, tree, no_members, member, Document}

@@ -8,7 +8,7 @@ use Rattle.std.specs.Cmp.{tied_itself}
 use Rattle.std.specs.Cmp.Lexicographic.{slice_cmp}
 use Rattle.std.proofs.lemmas.List.Folds.{list_any-append}
 use Rattle.std.proofs.lemmas.Bool.{or_right, and_parts}
-use Rattle.seg_words.specs.declared.token.Token.{Token}
+use Rattle.seg_tokens.specs.declared.token.Token.{Token}
 use Rattle.seg_values.specs.declared.schema.FieldEntry.{FieldEntry}
 use Rattle.seg_values.specs.declared.schema.FieldKind.{FieldKind}
 use Rattle.seg_values.specs.declared.schema.FieldKind.TheVariants as kinds
@@ -19,7 +19,7 @@ use Rattle.seg_model.specs.Fields.{Schema, Analyzer, is_json, is_indexed, values
 use Rattle.seg_model.specs.Leaves.{PlacedLeaf, level_in_array, leaves_at, leaves_of_trees, leaves, leaves_of, joined_path}
 use Rattle.seg_model.specs.Takes.{is_of_kind, is_null, is_own_leaf, is_own_array, are_own_arrays, takes}
 use Rattle.seg_common.specs.Tables.{is_among}
-use Rattle.seg_dates.specs.Dates.{cut_to, precision_unit}
+use Rattle.seg_common.specs.Dates.{cut_to, precision_unit}
 use Rattle.seg_common.proofs.Lists.{all_both}
 use Rattle.seg_model.specs.Columns.{ColumnValue, number, bytes_value, text_value, boolean_value, ip_value, date_value, ColumnKey, column_cmp, type_place, value_types, value_keys, FastValue, token_texts, fast_texts, leaf_values, column_tokenizer, declared_values, value_text, inserted, sorted, json_column_path, json_cut, json_leaf_values, under_name, kind_fast_values, field_fast_values, fast_values, declared_type, column_named, declared_columns, is_declared, values_at, is_filled}
 use Rattle.seg_model.specs.Checked.{is_json_leaf, IsSound}

@@ -4,11 +4,11 @@ use Rattle.std.specs.Prelude.{pos, ◌==◌, ◌&&◌, ◌||◌, nat_le, if◌th
 use Rattle.std.specs.List.{flat_map, list_all}
 use Rattle.std.specs.Ordering.{nat_cmp}
 use Rattle.std.specs.Cmp.Lexicographic.{slice_cmp}
-use Rattle.seg_words.specs.declared.token.Token.{Token}
+use Rattle.seg_tokens.specs.declared.token.Token.{Token}
 use Rattle.seg_values.specs.declared.schema.FieldEntry.{FieldEntry}
 use Rattle.seg_values.specs.declared.schema.FieldKind.TheVariants.{Text, U64, Date, Facet, Bytes, Json}
 use Rattle.seg_values.specs.declared.schema.IndexOption.TheVariants.{No, Basic, Positions}
-use Rattle.seg_dates.specs.declared.precision.DateTimePrecision.TheVariants.{Seconds}
+use Rattle.seg_common.specs.declared.precision.DateTimePrecision.TheVariants.{Seconds}
 use Rattle.seg_common.specs.declared.column_type.ColumnType.{ColumnType}
 use Rattle.seg_common.specs.declared.column_type.ColumnType.TheVariants as types
 use Rattle.seg_values.specs.Tree.{text, unsigned, signed, date, facet, byte_string, leaf, object, no_members, member, Document}

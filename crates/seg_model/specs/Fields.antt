@@ -1,7 +1,7 @@
 -- Fields of a schema, and the values that a document has in one.
 use Rattle.std.specs.Prelude.{ℕ, Bool, true, false, ◌&&◌, ◌||◌, if◌then◌else◌, List, map, filter, nat_eq, unwrap_or, codes}
 use Rattle.std.specs.List.{enumerate_from}
-use Rattle.seg_words.specs.declared.token.Token.{Token}
+use Rattle.seg_tokens.specs.declared.token.Token.{Token}
 use Rattle.seg_values.specs.declared.schema.FieldEntry.{FieldEntry}
 use Rattle.seg_values.specs.declared.schema.FieldKind.{FieldKind}
 use Rattle.seg_values.specs.declared.schema.FieldKind.TheVariants.{Text, Facet, Json}

@@ -1,5 +1,6 @@
 pub mod Built
 pub mod Checked
+pub mod Cleared
 pub mod Codes
 pub mod Columns
 pub mod Contents
@@ -9,13 +10,17 @@ pub mod Input
 pub mod Join
 pub mod Laws
 pub mod Leaves
+pub mod MergeTrees
 pub mod Norms
 pub mod Occurrences
 pub mod Operations
+pub mod Postings
 pub mod Reading
 pub mod Refused
+pub mod RemovalLaws
 pub mod SelfTold
 pub mod Shape
+pub mod Stamps
 pub mod Takes
 pub mod Telling
 pub mod Valid

@@ -4,8 +4,8 @@ use Rattle.seg_common.specs.LittleEndian.{u32_at, u64_at}
 use Rattle.seg_columns.specs.Ends.{start_at}
 use Rattle.seg_columns.specs.Columns.{value_at, row_of}
 use Rattle.seg_columns.specs.Dictionaries.{term_at, terms_of}
-use Rattle.seg_columnar.specs.ColumnTable.{next_place, path_in, code_in, end_in, place_of, column_start}
-use Rattle.seg_columnar.specs.ColumnFiles.{column_bytes, named_column, columns_from}
+use Rattle.seg_column_file.specs.ColumnTable.{next_place, path_in, code_in, end_in, place_of, column_start}
+use Rattle.seg_column_file.specs.ColumnFiles.{column_bytes, named_column, columns_from}
 use Rattle.seg_model_cases.specs.ColumnFiles.{ColumnFileCases}
 
 pub column_file_cases : ColumnFileCases

@@ -1,7 +1,7 @@
 -- Cases of texts and lengths, and of terms of other kinds.
 use Rattle.std.proofs.Common.{◌≡◌, ℕ, ◌+◌, List, [], ◌∷◌, ◌++◌, map, length, refl, ap, ◌∙◌}
 use Rattle.std.specs.Prelude.{codes}
-use Rattle.seg_words.specs.declared.token.Token.{Token}
+use Rattle.seg_tokens.specs.declared.token.Token.{Token}
 use Rattle.seg_model.specs.Occurrences.{counted, placed_from, reach}
 use Rattle.seg_model.specs.Norms.{length_id}
 use Rattle.seg_model_cases.specs.Given.{token, at}

@@ -5,8 +5,8 @@ use Rattle.seg_columns.specs.Addresses.{address_of}
 use Rattle.seg_columns.specs.Columns.{rows_of}
 use Rattle.seg_columns.specs.Images.{unsigned, signed, truth}
 use Rattle.seg_columns.specs.TermColumns.{TermColumn, term_column_of}
-use Rattle.seg_columnar.specs.ColumnTable.{are_apart}
-use Rattle.seg_columnar.specs.ColumnFiles.{ColumnFile, column_file_of}
+use Rattle.seg_column_file.specs.ColumnTable.{are_apart}
+use Rattle.seg_column_file.specs.ColumnFiles.{ColumnFile, column_file_of}
 
 -- a number below 256 in eight bytes
 abbrev pub eight : ℕ → List ℕ

@@ -1,6 +1,6 @@
 -- Cases of columns.
 use Rattle.std.specs.Prelude.{◌≡◌, pos, negsuc, List, [], ◌∷◌, map, replicate, codes, true, Some, None}
-use Rattle.seg_dates.specs.declared.precision.DateTimePrecision.TheVariants.{Seconds, Milliseconds, Microseconds, Nanoseconds}
+use Rattle.seg_common.specs.declared.precision.DateTimePrecision.TheVariants.{Seconds, Milliseconds, Microseconds, Nanoseconds}
 use Rattle.seg_common.specs.declared.column_type.ColumnType.TheVariants as types
 use Rattle.seg_values.specs.declared.schema.FieldEntry.{FieldEntry}
 use Rattle.seg_values.specs.declared.schema.FieldKind.TheVariants.{Text, Date, Facet, Json}

@@ -1,11 +1,11 @@
 -- What the cases are about: an analyzer, fields and their values.
 use Rattle.std.specs.Prelude.{ℕ, zero, suc, List, [], ◌∷◌, codes, true, false, None}
-use Rattle.seg_dates.specs.declared.precision.DateTimePrecision.TheVariants.{Seconds}
-use Rattle.seg_words.specs.declared.token.Token.{Token}
+use Rattle.seg_common.specs.declared.precision.DateTimePrecision.TheVariants.{Seconds}
+use Rattle.seg_tokens.specs.declared.token.Token.{Token}
 use Rattle.seg_values.specs.declared.schema.FieldEntry.{FieldEntry}
 use Rattle.seg_values.specs.declared.schema.FieldKind.{FieldKind}
 use Rattle.seg_values.specs.declared.schema.IndexOption.{IndexOption}
-use Rattle.seg_words.specs.Tokenizers.{default_tokens}
+use Rattle.seg_tokens.specs.Tokenizers.{default_tokens}
 use Rattle.seg_values.specs.Tree.{Tree, leaf, text, pre_tokenized, array, tree, no_trees, object, member, no_members, Document}
 use Rattle.seg_model.specs.Fields.{Schema, Analyzer}
 use Rattle.seg_model.specs.Occurrences.{Occurrence, occurrences}

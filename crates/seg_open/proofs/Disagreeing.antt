@@ -13,10 +13,10 @@ use Rattle.seg_model.specs.Contents.{Contents}
 use Rattle.seg_model.specs.Fields.{Schema, is_indexed}
 use Rattle.seg_model.specs.Shape.{IsTermWith}
 use Rattle.seg_directory.specs.Composite.{Part, composite, field_of}
-use Rattle.seg_columnar.specs.ColumnFiles.{column_file_of}
-use Rattle.seg_columns_written.specs.ModelColumns.{columns_in}
+use Rattle.seg_column_file.specs.ColumnFiles.{column_file_of}
+use Rattle.seg_column_format.specs.ModelColumns.{columns_in}
 use Rattle.seg_model.specs.Columns.{Columns}
-use Rattle.seg_schema_columns.specs.SchemaColumns.{HoldColumns, SuitColumns}
+use Rattle.seg_column_format.specs.SchemaColumns.{HoldColumns, SuitColumns}
 use Rattle.seg_store.specs.Block.{Block}
 use Rattle.seg_store.specs.Store.{store_of, documents_of}
 use Rattle.seg_norms.specs.FieldNorms.{norms_parts}

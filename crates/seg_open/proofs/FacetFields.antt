@@ -25,16 +25,16 @@ use Rattle.seg_columns.specs.DynamicColumns.{StoredColumn, type_of}
 use Rattle.seg_columns.specs.TermColumns.{TermColumn}
 use Rattle.seg_columns.specs.declared.dynamic_column.DynamicColumn.{DynamicColumn}
 use Rattle.seg_columns.specs.declared.dynamic_column.DynamicColumn.TheVariants as columns
-use Rattle.seg_columnar.specs.ColumnFiles.{ColumnFile, NamedColumn, is_selected, stored_where}
-use Rattle.seg_columns_written.specs.ModelColumns.{column_key}
-use Rattle.seg_fast_readers.specs.Answers.{GoesBy, IsRefused}
-use Rattle.seg_fast_readers.specs.ColumnNames.{FindsNotFast, IsNotFast, StandsFor, found_path, is_fast, path_in}
-use Rattle.seg_fast_readers.specs.Reading.{FastFields, columns_at, first_of, or_first, str_column}
+use Rattle.seg_column_file.specs.ColumnFiles.{ColumnFile, NamedColumn, is_selected, stored_where}
+use Rattle.seg_column_format.specs.ModelColumns.{column_key}
+use Rattle.seg_fastfield.specs.Answers.{GoesBy, IsRefused}
+use Rattle.seg_fastfield.specs.ColumnNames.{FindsNotFast, IsNotFast, StandsFor, found_path, is_fast, path_in}
+use Rattle.seg_fastfield.specs.Reading.{FastFields, columns_at, first_of, or_first, str_column}
 use Rattle.seg_model.specs.Columns.{ColumnKey, column_cmp, declared_columns, declared_type, is_declared}
 use Rattle.seg_model.specs.Fields.{Schema, is_facet}
 use Rattle.seg_model.specs.Shape.{HasFullShape}
-use Rattle.seg_schema_columns.proofs.Exports.{declared_is, is_there, same_column}
-use Rattle.seg_schema_columns.specs.SchemaColumns.{declares, is_type}
+use Rattle.seg_column_format.proofs.Exports.{declared_is, is_there, same_column}
+use Rattle.seg_column_format.specs.SchemaColumns.{declares, is_type}
 use Rattle.seg_open.specs.FacetColumns.{has_facets, has_facets_at, text_column}
 use Rattle.seg_open.specs.OpenSegment.{OpenSegment, contents_of}
 

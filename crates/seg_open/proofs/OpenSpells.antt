@@ -11,9 +11,9 @@ use Rattle.std.proofs.lemmas.List.{length-map}
 use Rattle.std.proofs.lemmas.Option.{slice_get-map, unwrap_or-slice_get}
 use Rattle.seg_common.specs.LittleEndian.{u64_at}
 use Rattle.seg_values.specs.declared.schema.FieldEntry.{FieldEntry}
-use Rattle.seg_columnar.specs.ColumnFiles.{ColumnFile}
-use Rattle.seg_columns_written.specs.ModelColumns.{columns_in}
-use Rattle.seg_schema_columns.specs.SchemaColumns.{SuitColumns}
+use Rattle.seg_column_file.specs.ColumnFiles.{ColumnFile}
+use Rattle.seg_column_format.specs.ModelColumns.{columns_in}
+use Rattle.seg_column_format.specs.SchemaColumns.{SuitColumns}
 use Rattle.seg_model.specs.Fields.{is_indexed}
 use Rattle.seg_model.specs.Reading.{Terms, Posting}
 use Rattle.seg_model.specs.Shape.{HasFullShape, IsTermWith}

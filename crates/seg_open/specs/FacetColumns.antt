@@ -7,7 +7,7 @@ use Rattle.seg_values.specs.declared.error.SchemaCause.TheVariants.{NotFacet}
 use Rattle.seg_values.specs.declared.error.TantivyError.{TantivyError}
 use Rattle.seg_values.specs.declared.error.TantivyError.TheVariants.{FieldNotFound, OutOfMemory, SchemaError}
 use Rattle.seg_columns.specs.TermColumns.{TermColumn}
-use Rattle.seg_fast_readers.specs.Reading.{columns_at, first_of, str_column}
+use Rattle.seg_fastfield.specs.Reading.{columns_at, first_of, str_column}
 use Rattle.seg_model.specs.Fields.{Schema, is_facet}
 use Rattle.seg_open.specs.OpenSegment.{OpenSegment}
 

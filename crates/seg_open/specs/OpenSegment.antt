@@ -1,8 +1,8 @@
 -- What a reader has of a segment, and the contents that this stands for.
 use Rattle.std.specs.Prelude.{ℕ, ◌≡◌, ◌+◌, Bool, true, false, List, [], ◌∷◌, length, map, replicate, Contains, Option, Some, None}
 use Rattle.std.specs.FinMap.{empty}
-use Rattle.seg_columnar.specs.ColumnFiles.{ColumnFile}
-use Rattle.seg_columns_written.specs.ModelColumns.{columns_in}
+use Rattle.seg_column_file.specs.ColumnFiles.{ColumnFile}
+use Rattle.seg_column_format.specs.ModelColumns.{columns_in}
 use Rattle.seg_bits.specs.BitSets.{member_count}
 use Rattle.seg_model.specs.Contents.{Contents}
 use Rattle.seg_model.specs.Fields.{Schema}

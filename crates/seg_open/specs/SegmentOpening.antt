@@ -2,8 +2,8 @@
 use Rattle.std.specs.Prelude.{◌≡◌, ℕ, List, length, Option, Some}
 use Rattle.seg_model.specs.Fields.{Schema}
 use Rattle.seg_directory.specs.Composite.{Part, composite}
-use Rattle.seg_columnar.specs.ColumnFiles.{column_file_of}
-use Rattle.seg_schema_columns.specs.SchemaColumns.{HoldColumns}
+use Rattle.seg_column_file.specs.ColumnFiles.{column_file_of}
+use Rattle.seg_column_format.specs.SchemaColumns.{HoldColumns}
 use Rattle.seg_store.specs.Store.{store_of, documents_of}
 use Rattle.seg_postings.specs.FieldReading.{OpenField}
 use Rattle.seg_norms.specs.NormsRead.{norms_of, HoldNorms}

@@ -6,7 +6,7 @@ use Rattle.seg_common.specs.declared.name.SegmentComponent.TheVariants.{Terms, S
 use Rattle.seg_values.specs.declared.schema.FieldEntry.{FieldEntry}
 use Rattle.seg_model.specs.Fields.{Schema, is_indexed}
 use Rattle.seg_directory.specs.Composite.{Part, composite, field_of}
-use Rattle.seg_schema_columns.specs.SchemaColumns.{HoldColumns}
+use Rattle.seg_column_format.specs.SchemaColumns.{HoldColumns}
 use Rattle.seg_store.specs.Block.{Block}
 use Rattle.seg_store.specs.Store.{store_of, documents_of}
 use Rattle.seg_postings.specs.Completing.{ArePostingsBy}

@@ -5,7 +5,7 @@ ghost use Rattle.seg_open.specs.FacetColumns.{IsFacetColumn, LacksFacets, has_fa
 
 use crate::segment_reader::SegmentReader;
 use seg_columns::StrColumn;
-use seg_fast_readers::FacetReader;
+use seg_fastfield::FacetReader;
 use seg_values::{FieldKind, Schema, SchemaCause, TResult, TantivyError};
 use std::alloc::Global;
 

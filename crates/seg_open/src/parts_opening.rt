@@ -1,8 +1,8 @@
 //! The store, the columns and the length ids of a segment, each checked against its number of documents.
 ghost use Rattle.std.specs.Prelude.{◌≡◌, ◌≢◌, ℕ, List, length, Some, None, MatchOption, MatchResult};
-ghost use Rattle.seg_columnar.specs.ColumnFiles.{column_file_of};
+ghost use Rattle.seg_column_file.specs.ColumnFiles.{column_file_of};
 ghost use Rattle.seg_open.specs.FilesOpening.{IsTold};
-ghost use Rattle.seg_schema_columns.specs.SchemaColumns.{HoldColumns};
+ghost use Rattle.seg_column_format.specs.SchemaColumns.{HoldColumns};
 ghost use Rattle.seg_directory.specs.Composite.{composite};
 ghost use Rattle.seg_norms.specs.FieldNorms.{norms_parts};
 ghost use Rattle.seg_norms.specs.NormsRead.{norms_of, AreNorms, HoldNorms};
@@ -10,11 +10,11 @@ ghost use Rattle.seg_store.specs.Block.{Block};
 ghost use Rattle.seg_store.specs.Store.{store_of, documents_of};
 
 use crate::open_error::OpenError;
+use seg_column_format::open_columns;
 use seg_columns::ColumnError;
 use seg_common::{OwnedBytes, SegmentComponent};
-use seg_fast_readers::FastFieldReaders;
+use seg_fastfield::FastFieldReaders;
 use seg_norms::FieldNormReaders;
-use seg_schema_columns::open_columns;
 use seg_store::StoreReader;
 use seg_values::Schema;
 use std::alloc::Global;

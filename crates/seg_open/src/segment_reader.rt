@@ -19,7 +19,7 @@ use crate::postings_opening::open_postings;
 use seg_bits::AliveBitSet;
 use seg_common::{SegmentComponent, SegmentId, Shared};
 use seg_directory::Directory;
-use seg_fast_readers::FastFieldReaders;
+use seg_fastfield::FastFieldReaders;
 use seg_meta::Segment;
 use seg_norms::FieldNormReaders;
 use seg_postings::{InvertedIndexReader, terms_read_have_shape};

@@ -2,7 +2,7 @@
 ghost use Rattle.std.specs.Prelude.{◌≡◌, ◌∷◌, [], IfOk};
 
 use crate::segments::opened;
-use seg_join::{IndexMerger, SegmentDocIdMapping};
+use seg_merger::{IndexMerger, SegmentDocIdMapping};
 use seg_open::SegmentReader;
 use seg_values::TResult;
 use std::alloc::{AllocError, Global};

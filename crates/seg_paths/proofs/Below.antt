@@ -1,7 +1,5 @@
 -- The paths of nodes.
-use Rattle.std.proofs.Common.{◌≡◌, ℕ, zero, suc, ◌+◌, ◌<◌, ◌≤◌, ◌^◌, Bool, true, false, cond, List, [], ◌∷◌, ◌++◌}
-use Rattle.std.proofs.Common.{length, get_or, drop, Option, Some, None, position, append_assoc, refl, sym, ap, ◌∙◌}
-use Rattle.std.proofs.Common.{subst, arith}
+use Rattle.std.proofs.Common.{◌≡◌, ℕ, zero, suc, ◌+◌, ◌<◌, ◌≤◌, ◌^◌, Bool, true, false, cond, List, [], ◌∷◌, ◌++◌, length, get_or, drop, Option, Some, None, position, append_assoc, refl, sym, ap, ◌∙◌, subst, arith}
 use Rattle.std.specs.Prelude.{◌||◌, Result, Ok, Err, IfOk, OnErr}
 use Rattle.std.specs.Cmp.Lexicographic.{bytes_decides, nat_list_eq_equiv}
 use Rattle.std.specs.List.{IsDistinct, list_any}
@@ -14,8 +12,7 @@ use Rattle.std.proofs.lemmas.Map.Keys.{IsDistinct-push}
 use Rattle.std.proofs.Math.Seq.{get_or-append_seam}
 use Rattle.std.specs.declared.alloc.AllocError.{AllocError}
 use Rattle.indexmap.specs.IndexSet.{insert_key}
-use Rattle.seg_paths.specs.Nodes.{Node, node_path, paths_with, IsPart, IsSound, AreSound, node_eq, node_eq_equiv}
-use Rattle.seg_paths.specs.Nodes.{node_same}
+use Rattle.seg_paths.specs.Nodes.{Node, node_path, paths_with, IsPart, IsSound, AreSound, node_eq, node_eq_equiv, node_same}
 use Rattle.seg_paths.specs.Paths.{number_of, Extends, IsAbove, below}
 use Rattle.seg_paths.proofs.Numbers.{number-from, same_place, extends-refl, extends-trans}
 

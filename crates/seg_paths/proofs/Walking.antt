@@ -1,14 +1,12 @@
 -- The leaves that a walk has found so far.
-use Rattle.std.proofs.Common.{◌≡◌, ℕ, suc, ◌+◌, Bool, List, [], ◌∷◌, ◌++◌, map, length, get_or, drop, Option, Some}
-use Rattle.std.proofs.Common.{append-nil, append_assoc, refl, sym, ap, ◌∙◌, arith}
+use Rattle.std.proofs.Common.{◌≡◌, ℕ, suc, ◌+◌, Bool, List, [], ◌∷◌, ◌++◌, map, length, get_or, drop, Option, Some, append-nil, append_assoc, refl, sym, ap, ◌∙◌, arith}
 use Rattle.std.specs.List.{slice_get}
 use Rattle.std.proofs.lemmas.List.{map-append}
 use Rattle.seg_common.proofs.Lists.{drop-slice_get}
 use Rattle.seg_values.specs.Tree.{Leaf, Tree, trees_from, members_from}
 use Rattle.seg_values.specs.View.{tree_of}
 use Rattle.seg_values.specs.declared.value.OwnedValue.{OwnedValue}
-use Rattle.seg_values.specs.declared.value.OwnedValue.TheVariants.{Null, Str, PreTokStr, U64, I64, Bool as Boolean}
-use Rattle.seg_values.specs.declared.value.OwnedValue.TheVariants.{Date, Facet, Bytes, Array, Object, IpAddr}
+use Rattle.seg_values.specs.declared.value.OwnedValue.TheVariants.{Null, Str, PreTokStr, U64, I64, Bool as Boolean, Date, Facet, Bytes, Array, Object, IpAddr}
 use Rattle.seg_model.specs.Leaves.{PlacedLeaf, leaves_at, leaves_of_trees, leaves_of_members, joined_path}
 use Rattle.seg_paths.specs.NumberedLeaves.{leaf_in, numbered, in_table}
 use Rattle.seg_paths.specs.Paths.{number_of, Extends}

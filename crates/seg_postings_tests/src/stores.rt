@@ -2,7 +2,7 @@
 ghost use Rattle.std.specs.Prelude.{◌≡◌, ◌≤◌, IfOk, IfErr, IfSome, slice_get};
 ghost use Rattle.seg_store.specs.Store.{document_count, documents_of};
 ghost use Rattle.seg_store.specs.Writing.{taken_count};
-ghost use Rattle.seg_stored.specs.StoredLaw.{AreShallow};
+ghost use Rattle.seg_doc_bytes.specs.StoredLaw.{AreShallow};
 
 use seg_common::OwnedBytes;
 use seg_store::{

@@ -8,7 +8,7 @@ use Rattle.std.proofs.lemmas.Option.{same_Some}
 use Rattle.std.proofs.lemmas.Bool.{and_parts}
 use Rattle.serde_json.specs.Data.{Data, null, boolean, number, string, array, object, no_members, member}
 use Rattle.serde_json.specs.Find.{get, as_bool, as_str}
-use Rattle.seg_dates.specs.declared.precision.DateTimePrecision.TheVariants.{Seconds}
+use Rattle.seg_common.specs.declared.precision.DateTimePrecision.TheVariants.{Seconds}
 use Rattle.seg_common.specs.SegmentIds.{id_text}
 use Rattle.seg_values.specs.Names.{is_allowed, kept_entry}
 use Rattle.seg_values.specs.SchemaRules.{is_entry}

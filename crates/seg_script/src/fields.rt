@@ -2,7 +2,7 @@
 ghost use Rattle.std.specs.Prelude.{◌≡◌, ◌+◌, ◌-◌, ◌<◌, ◌^◌, [], ◌∷◌, ◌++◌, ◌&&◌, length, codes, true, Some, None, Err, IfOk, OnOk, IsSome};
 ghost use Rattle.serde_json.specs.Find.{as_str};
 ghost use Rattle.serde_json.specs.View.{view};
-ghost use Rattle.seg_dates.specs.declared.precision.DateTimePrecision.TheVariants.{Seconds};
+ghost use Rattle.seg_common.specs.declared.precision.DateTimePrecision.TheVariants.{Seconds};
 ghost use Rattle.seg_values.specs.Names.{field_named, is_allowed, kept_entry};
 ghost use Rattle.seg_values.specs.declared.schema.IndexOption.TheVariants.{No};
 ghost use Rattle.seg_model.specs.Fields.{is_text, is_on};
@@ -12,13 +12,13 @@ ghost use Rattle.seg_script_values.specs.Reads.{optional};
 ghost use Rattle.seg_script.specs.Fields.{entry_from, schema_from, field_or_past};
 
 use crate::error::ScriptError;
-use seg_dates::DateTimePrecision;
+use seg_common::DateTimePrecision;
 use seg_meta::{has_only, index_from, kind_from, precision_from, text_at};
 use seg_script_values::flag_or;
+use seg_tokens::Text;
 use seg_values::{
     Field, FieldEntry, FieldKind, IndexOption, Schema, SchemaBuilder, SchemaCause, TantivyError,
 };
-use seg_words::Text;
 use serde_json::Value;
 use std::alloc::Global;
 

@@ -6,7 +6,7 @@ ghost use Rattle.serde_json.specs.Data.{Data, Items, no_members, put};
 ghost use Rattle.serde_json.specs.Read.{of_json, of_items, of_members, converted};
 ghost use Rattle.serde_json.specs.View.{members_view};
 ghost use Rattle.seg_meta.specs.Reads.{each, list_of};
-ghost use Rattle.seg_input.specs.View.{operation_of};
+ghost use Rattle.seg_check.specs.View.{operation_of};
 ghost use Rattle.seg_script.specs.Operations.{operation_from};
 
 use crate::error::ScriptError;
@@ -14,7 +14,7 @@ use crate::json_reading::{put, read_value};
 use crate::operations::operation_from;
 use crate::pushing::push;
 use json::{Reader, Token};
-use seg_input::UserOperation;
+use seg_check::UserOperation;
 use seg_values::{Schema, TantivyDocument};
 use serde_json::{Map, Value};
 use std::alloc::Global;

@@ -2,7 +2,7 @@
 ghost use Rattle.std.specs.Prelude.{◌≡◌, Some, None, Err, IfOk, map};
 ghost use Rattle.serde_json.specs.View.{view};
 ghost use Rattle.seg_meta.specs.Reads.{list_of};
-ghost use Rattle.seg_input.specs.View.{operation_of};
+ghost use Rattle.seg_check.specs.View.{operation_of};
 ghost use Rattle.seg_script.specs.Deletes.{term_from};
 ghost use Rattle.seg_script.specs.Operations.{operation_named, operation_from};
 
@@ -10,7 +10,7 @@ use crate::deletes::term_from;
 use crate::error::ScriptError;
 use crate::pairs::document_from;
 use crate::pushing::push;
-use seg_input::UserOperation;
+use seg_check::UserOperation;
 use seg_script_values::only_member;
 use seg_values::{Schema, TantivyDocument, Term};
 use serde_json::Value;

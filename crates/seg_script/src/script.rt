@@ -4,7 +4,7 @@ ghost use Rattle.json.specs.Json.{value};
 ghost use Rattle.serde_json.specs.Data.{Data};
 ghost use Rattle.serde_json.specs.Read.{of_json, converted};
 ghost use Rattle.serde_json.specs.View.{view};
-ghost use Rattle.seg_input.specs.View.{operation_of};
+ghost use Rattle.seg_check.specs.View.{operation_of};
 ghost use Rattle.seg_script.specs.Script.{input_with, script_from, script};
 
 use crate::cuts::cuts_at;
@@ -18,7 +18,7 @@ use crate::operation_reading::{
 use crate::operations::operations_from;
 use crate::settings::settings_at;
 use json::{Reader, Scratch};
-use seg_input::{BuildInput, UserOperation};
+use seg_check::{BuildInput, UserOperation};
 use seg_meta::has_only;
 use seg_script_values::take_member;
 use seg_values::{Schema, TantivyDocument};

@@ -3,8 +3,8 @@ use Rattle.std.specs.Prelude.{ℕ, ◌^◌, List, [], ◌∷◌, ◌&&◌, Optio
 use Rattle.std.specs.Str.{bytes_eq}
 use Rattle.serde_json.specs.Data.{Data, object, Members, no_members, member}
 use Rattle.serde_json.specs.Find.{as_str}
-use Rattle.seg_words.specs.declared.token.PreTokenizedString.{PreTokenizedString}
-use Rattle.seg_words.specs.declared.token.Token.{Token}
+use Rattle.seg_tokens.specs.declared.token.PreTokenizedString.{PreTokenizedString}
+use Rattle.seg_tokens.specs.declared.token.Token.{Token}
 use Rattle.seg_meta.specs.Reads.{given, provided, required, natural, below, list_of, has_only}
 
 -- the members of a token

@@ -6,7 +6,7 @@ ghost use Rattle.seg_script_values.specs.ByteTexts.{bytes_of};
 
 use base64::DecodeAllocError;
 use base64::engine::general_purpose::STANDARD;
-use seg_words::Bytes;
+use seg_tokens::Bytes;
 use std::alloc::{AllocError, Global};
 
 /// The bytes of which a text is the standard base64 with padding (RFC 4648, section 4); none where it is that of no bytes.

@@ -9,9 +9,9 @@ ghost use Rattle.seg_script_values.specs.Leaves.{told_leaf, text_leaf, signed_fi
 use crate::addresses::address_from;
 use crate::byte_texts::bytes_from;
 use crate::facet_texts::facet_from;
-use seg_dates::{DateTime, can_be_rfc3339_date_time};
+use seg_common::{DateTime, can_be_rfc3339_date_time};
+use seg_tokens::Text;
 use seg_values::{FieldKind, OwnedValue};
-use seg_words::Text;
 use serde_json::Number;
 use std::alloc::{AllocError, Global};
 

@@ -7,7 +7,7 @@ ghost use Rattle.seg_script_values.specs.Tokenized.{token_from, text_and_tokens,
 use crate::members::{small_at, take_member};
 use crate::parts::{text_of, two_members};
 use seg_meta::{has_only, number_at};
-use seg_words::{PreTokenizedString, Text, Token, Tokens};
+use seg_tokens::{PreTokenizedString, Text, Token, Tokens};
 use serde_json::{Map, Value};
 use std::alloc::{AllocError, Global};
 

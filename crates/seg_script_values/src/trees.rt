@@ -5,8 +5,8 @@ ghost use Rattle.seg_values.specs.View.{tree_of};
 ghost use Rattle.seg_script_values.specs.Trees.{tree_from, values_from, members_read};
 
 use crate::leaves::{number_leaf, text_leaf};
+use seg_tokens::Text;
 use seg_values::{FieldKind, Members, OwnedValue, Values};
-use seg_words::Text;
 use serde_json::{Map, Value};
 use std::alloc::{AllocError, Global};
 

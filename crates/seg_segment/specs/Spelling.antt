@@ -5,7 +5,7 @@ use Rattle.seg_model.specs.Fields.{Schema}
 use Rattle.seg_model.specs.Contents.{Contents}
 use Rattle.seg_model.specs.Shape.{HasFullShape}
 use Rattle.seg_directory.specs.Composite.{composite}
-use Rattle.seg_schema_columns.specs.SchemaColumns.{HaveColumns}
+use Rattle.seg_column_format.specs.SchemaColumns.{HaveColumns}
 use Rattle.seg_store.specs.Store.{store_of, documents_of}
 use Rattle.seg_norms.specs.FieldNorms.{norms_parts}
 use Rattle.seg_segment.specs.HoldTerms.{HoldTerms}

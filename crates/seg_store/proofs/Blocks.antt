@@ -8,7 +8,7 @@ use Rattle.std.proofs.lemmas.Bool.{le-leb, lt-ltb}
 use Rattle.seg_common.specs.LittleEndian.{u32_at}
 use Rattle.seg_common.proofs.Bytes.{length-numbers}
 use Rattle.seg_store.specs.Ends.{numbers_of, are_ends, cut_from, last_bytes, but_last}
-use Rattle.seg_stored.specs.StoredDocument.{is_stored_document}
+use Rattle.seg_doc_bytes.specs.StoredDocument.{is_stored_document}
 use Rattle.seg_store.specs.Block.{Block, block_count, block_ends, block_body, documents_in, is_block}
 use Rattle.seg_store.proofs.Cutting.{last-appended, but_last-appended, u32_at-alone, numbers_read, ends-below}
 

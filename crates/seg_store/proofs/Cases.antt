@@ -3,8 +3,8 @@ use Rattle.std.proofs.Common.{◌≡◌, ℕ, zero, suc, true, List, [], ◌∷�
 use Rattle.std.proofs.lemmas.Str.{is_utf8-from_IsUtf8, IsUtf8-nil}
 use Rattle.seg_common.specs.LittleEndian.{u32_at, u64_at}
 use Rattle.seg_values.specs.Tree.{leaf, boolean, null, array, tree, no_trees}
-use Rattle.seg_stored.specs.StoredTree.{stored_tree_at}
-use Rattle.seg_stored.specs.StoredDocument.{stored_document_of, is_stored_document}
+use Rattle.seg_doc_bytes.specs.StoredTree.{stored_tree_at}
+use Rattle.seg_doc_bytes.specs.StoredDocument.{stored_document_of, is_stored_document}
 use Rattle.seg_store.specs.Block.{documents_in, is_block}
 use Rattle.seg_store.specs.Store.{blocks_of, is_store, store_of}
 

@@ -5,7 +5,7 @@ use Rattle.std.specs.List.{list_all, flat_map}
 use Rattle.std.specs.Option.{option_to_list}
 use Rattle.std.proofs.lemmas.Bool.{and_parts, false≢true}
 use Rattle.seg_values.specs.Tree.{Document}
-use Rattle.seg_stored.specs.StoredDocument.{stored_document_of, is_stored_document}
+use Rattle.seg_doc_bytes.specs.StoredDocument.{stored_document_of, is_stored_document}
 use Rattle.seg_store.specs.Block.{Block, documents_in, is_block}
 use Rattle.seg_store.specs.Store.{is_store, blocks_of, store_parts, document_count, raw_documents, documents_of}
 use Rattle.seg_store.proofs.DocumentPlaces.{block_facts, store_facts, blocks_cut}

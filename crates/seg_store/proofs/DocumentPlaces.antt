@@ -12,7 +12,7 @@ use Rattle.seg_common.specs.LittleEndian.{u32_at, u64_at}
 use Rattle.seg_common.proofs.Lists.{length-range}
 use Rattle.seg_common.proofs.Bytes.{u32_at-drop}
 use Rattle.seg_store.specs.Ends.{but_last, numbers_of, are_ends, cut_from, start_of}
-use Rattle.seg_stored.specs.StoredDocument.{is_stored_document}
+use Rattle.seg_doc_bytes.specs.StoredDocument.{is_stored_document}
 use Rattle.seg_store.specs.Block.{Block, block_count, block_table, block_ends, block_body, documents_in, is_block}
 use Rattle.seg_store.specs.Store.{footer, store_count, store_table, checkpoints_of, store_checkpoints, store_body, store_parts, id_ends, document_count, raw_documents, blocks_of, is_store}
 use Rattle.seg_store.specs.Checkpoints.{stored_size}

@@ -8,7 +8,7 @@ use Rattle.std.proofs.lemmas.List.Folds.{list_all-append}
 use Rattle.std.proofs.lemmas.Bool.{eqb-true, eq-eqb, le-leb, lt-leb}
 use Rattle.seg_store.specs.declared.checkpoint.Checkpoint.{Checkpoint}
 use Rattle.seg_store.specs.Ends.{are_ends, cut_from}
-use Rattle.seg_stored.specs.StoredDocument.{is_stored_document}
+use Rattle.seg_doc_bytes.specs.StoredDocument.{is_stored_document}
 use Rattle.seg_store.specs.Block.{Block, documents_in, is_block}
 use Rattle.seg_store.specs.Store.{id_ends, document_count, store_of}
 use Rattle.seg_store.specs.Writing.{Taken, byte_count, block_bytes, taken_count, last_block, all_blocks, with_all_closed, with_closed, closed_if_full, with_document}

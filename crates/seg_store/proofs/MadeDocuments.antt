@@ -8,7 +8,7 @@ use Rattle.std.proofs.lemmas.Grind.{flat_map-append}
 use Rattle.seg_values.specs.Tree.{Document}
 use Rattle.seg_store.specs.Block.{Block}
 use Rattle.seg_store.specs.Store.{store_parts, raw_documents, documents_of, blocks_of, is_store}
-use Rattle.seg_stored.specs.StoredDocument.{stored_document_of, is_stored_document}
+use Rattle.seg_doc_bytes.specs.StoredDocument.{stored_document_of, is_stored_document}
 use Rattle.seg_store.proofs.DocumentPlaces.{all_stored, blocks_cut, store_facts}
 
 first_read : (o : Option Document) (others : List Document) → is_some o ≡ true → slice_get (option_to_list o ++ others) zero ≡ o

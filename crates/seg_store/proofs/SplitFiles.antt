@@ -5,7 +5,7 @@ use Rattle.std.proofs.lemmas.Bool.{and_left, and_right, lt-ltb, le-leb, lt-leb}
 use Rattle.std.proofs.lemmas.Bool.Decides.{nat_tests}
 use Rattle.seg_common.specs.LittleEndian.{u32_at}
 use Rattle.seg_store.specs.Ends.{last_bytes, but_last, numbers_of, cut_from}
-use Rattle.seg_stored.specs.StoredDocument.{is_stored_document}
+use Rattle.seg_doc_bytes.specs.StoredDocument.{is_stored_document}
 use Rattle.seg_store.specs.Block.{block_count, block_body, documents_in, is_block}
 use Rattle.seg_store.specs.Store.{footer, store_count, checkpoints_of, store_checkpoints, store_body, is_store, document_count}
 use Rattle.seg_store.specs.Parts.{are_parts, are_blocks}

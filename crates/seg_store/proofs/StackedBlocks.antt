@@ -15,7 +15,7 @@ use Rattle.seg_store.specs.Ends.{are_ends, cut_from}
 use Rattle.seg_store.specs.Stacking.{byte_ends, shifted, HaveBlocks}
 use Rattle.seg_store.specs.Store.{id_ends, document_count}
 use Rattle.seg_store.specs.Writing.{Taken, byte_count, block_bytes, taken_count, last_block, all_blocks, with_all_closed, with_stacked}
-use Rattle.seg_stored.specs.StoredDocument.{is_stored_document}
+use Rattle.seg_doc_bytes.specs.StoredDocument.{is_stored_document}
 use Rattle.seg_store.proofs.CheckpointLists.{shifted_ends, shifted_ids, blocks_few, blocks_size}
 use Rattle.seg_store.proofs.Cutting.{ends-go, ends-next}
 use Rattle.seg_store.proofs.KeptBlocks.{nothing_left, all_are_closed}

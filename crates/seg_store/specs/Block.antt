@@ -3,7 +3,7 @@ use Rattle.std.specs.Prelude.{ℕ, ◌+◌, ◌*◌, ◌&&◌, nat_lt, nat_le, L
 use Rattle.std.specs.List.{list_all}
 use Rattle.seg_common.specs.LittleEndian.{u32_at}
 use Rattle.seg_store.specs.Ends.{last_bytes, but_last, numbers_of, are_ends, cut_from}
-use Rattle.seg_stored.specs.StoredDocument.{is_stored_document}
+use Rattle.seg_doc_bytes.specs.StoredDocument.{is_stored_document}
 
 -- a block's documents, each as its bytes
 abbrev pub Block : Type 0

@@ -4,7 +4,7 @@ use Rattle.std.specs.List.{list_all}
 use Rattle.std.specs.Int.{w32, w64, to_le_bytes}
 use Rattle.seg_store.specs.declared.checkpoint.Checkpoint.{Checkpoint}
 use Rattle.seg_store.specs.Ends.{are_ends, cut_from}
-use Rattle.seg_stored.specs.StoredDocument.{is_stored_document}
+use Rattle.seg_doc_bytes.specs.StoredDocument.{is_stored_document}
 use Rattle.seg_store.specs.Block.{documents_in, is_block}
 use Rattle.seg_store.specs.Store.{id_ends}
 use Rattle.seg_store.specs.Writing.{Taken, taken_count, block_bytes, byte_count}

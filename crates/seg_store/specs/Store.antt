@@ -6,7 +6,7 @@ use Rattle.std.specs.Str.{bytes_eq}
 use Rattle.seg_common.specs.LittleEndian.{u32_at, u64_at}
 use Rattle.seg_values.specs.Tree.{Document}
 use Rattle.seg_store.specs.Ends.{last_bytes, but_last, are_ends, cut_from}
-use Rattle.seg_stored.specs.StoredDocument.{stored_document_of}
+use Rattle.seg_doc_bytes.specs.StoredDocument.{stored_document_of}
 use Rattle.seg_store.specs.Block.{Block, documents_in, is_block}
 
 -- the last nine bytes

@@ -3,11 +3,11 @@ ghost use Rattle.std.specs.Prelude.{◌≡◌, ◌≤◌, ◌+◌, ◌*◌, leng
 ghost use Rattle.seg_store.specs.Block as block;
 ghost use Rattle.seg_store.specs.Ends.{numbers_of};
 ghost use Rattle.seg_store.specs.Parts.{are_parts};
-ghost use Rattle.seg_stored.specs.StoredDocument as documents;
+ghost use Rattle.seg_doc_bytes.specs.StoredDocument as documents;
 
 use crate::parts::part;
 use seg_common::{u32_at, u64_at};
-use seg_stored::is_stored_document;
+use seg_doc_bytes::is_stored_document;
 
 /// How many documents a block has; nothing where bytes are no block.
 pub(crate) fn checked_len(bytes: &[u8]) -> Option<u32>

@@ -2,7 +2,7 @@
 //!
 //! A writer is seen as its closed blocks and its open one, each the list of its documents' bytes, or as nothing once
 //! out of memory; a reader as the blocks of its store, and one with a cache also as the numbers of the blocks that it
-//! keeps. The bytes of a document are those of `seg_stored`.
+//! keeps. The bytes of a document are those of `seg_doc_bytes`.
 //!
 //! To be read in this order: `error`; `checkpoint`, `written_blocks`, `store_writer`, `block_law`; `parts`, `block_check`,
 //! `store_check`; `locating`, `block_reader`; `raw_docs`, `checkpoints`, `store_reader`; `cache_stats`, `block_cache`,

@@ -3,8 +3,8 @@ ghost use Rattle.std.specs.Prelude.{◌≡◌, ◌≢◌, ◌<◌, ◌+◌, ◌-
 ghost use Rattle.seg_common.specs.Growing.{HasGrown};
 ghost use Rattle.seg_model.specs.Reading.{stored_document};
 ghost use Rattle.seg_values.specs.StoredForm.{stored_form};
-ghost use Rattle.seg_stored.specs.StoredDocument.{stored_document_of, is_stored_document};
-ghost use Rattle.seg_stored.specs.StoredLaw.{AreShallow};
+ghost use Rattle.seg_doc_bytes.specs.StoredDocument.{stored_document_of, is_stored_document};
+ghost use Rattle.seg_doc_bytes.specs.StoredLaw.{AreShallow};
 ghost use Rattle.seg_store.specs.Store.{store_of, document_count};
 ghost use Rattle.seg_store.specs.Writing.{Taken, with_document, with_stacked, all_blocks, taken_count, taken_bytes};
 

@@ -1,6 +1,6 @@
 //! Analyzers that know every name.
 
-use seg_words::{Analyzers, DefaultTokenizer, Text, Token, Tokenizer, Tokens};
+use seg_tokens::{Analyzers, DefaultTokenizer, Text, Token, Tokenizer, Tokens};
 use std::alloc::{AllocError, Global};
 
 /// An analyzer that has the words of a text under every name.
@@ -8,7 +8,7 @@ pub struct Words;
 
 impl Analyzers for Words {
     ghost use Rattle.std.specs.Prelude.{true};
-    ghost use Rattle.seg_words.specs.Tokenizers.{default_tokens};
+    ghost use Rattle.seg_tokens.specs.Tokenizers.{default_tokens};
 
     ghost knows = { λ _ _. true };
 

@@ -2,9 +2,9 @@
 ghost use Rattle.std.specs.Prelude.{◌≡◌, ◌≤◌, ◌<◌, ◌+◌, length, IfOk};
 ghost use Rattle.seg_values.specs.Names.{is_allowed};
 
-use seg_dates::DateTimePrecision;
+use seg_common::DateTimePrecision;
+use seg_tokens::Text;
 use seg_values::{FieldEntry, FieldKind, IndexOption, Schema, SchemaBuilder};
-use seg_words::Text;
 use std::alloc::{AllocError, Global};
 
 /// A field's name, kind and index option.

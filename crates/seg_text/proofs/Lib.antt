@@ -1,12 +1,14 @@
 pub mod Exports
 mod AllAlive
 mod DeadIds
+mod FileOrder
 mod KnownTexts
-mod PlainTerms
 mod Placing
+mod PlainTerms
 mod PrintedCounts
 mod PrintedFronts
 mod PrintedMembers
+mod PrintedRows
 mod PrintedStored
 mod PrintedTokens
 mod PrintedTrees

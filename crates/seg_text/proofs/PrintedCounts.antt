@@ -3,11 +3,11 @@ use Rattle.std.proofs.Common.{◌≡◌, ◌≤◌, ◌<◌, ℕ, ◌+◌, ◌-�
 use Rattle.serde_json.specs.Data.{Data, Items, no_items, item, array}
 use Rattle.serde_json.specs.Written.{comma_if, compact_text, items_text}
 use Rattle.seg_common.specs.Varint.{varint_at}
-use Rattle.seg_stored.specs.Reader.{Reader, counted_at}
-use Rattle.seg_stored.proofs.Exports.{Gathered, none_yet, one_more, all_made, counted}
+use Rattle.seg_doc_bytes.specs.Reader.{Reader, counted_at}
+use Rattle.seg_doc_bytes.proofs.Exports.{Gathered, none_yet, one_more, all_made, counted}
 use Rattle.seg_values.specs.Tree as tree
 use Rattle.seg_values.specs.Tree.{Tree, Document, trees_from}
-use Rattle.seg_words.specs.declared.token.Token.{Token}
+use Rattle.seg_tokens.specs.declared.token.Token.{Token}
 use Rattle.seg_values.specs.ValueJson.{value_json, items_json, token_json, tokens_items}
 use Rattle.seg_model.specs.Fields.{Schema}
 use Rattle.seg_text.specs.DocumentText.{pair_json, pairs_items}

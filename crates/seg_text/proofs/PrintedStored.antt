@@ -3,10 +3,10 @@ use Rattle.std.proofs.Common.{◌≡◌, ℕ, true, List, [], ◌∷◌, ◌++�
 use Rattle.std.specs.Prelude.{nat_eq, Result, OnOk, IsSomeAnd}
 use Rattle.json.specs.Print.{quoted}
 use Rattle.serde_json.specs.Written.{compact_text}
-use Rattle.seg_stored.specs.Reader.{made_of, counted_at}
-use Rattle.seg_stored.specs.StoredTree.{stored_tree_at}
-use Rattle.seg_stored.specs.StoredDocument.{most_levels_read, pair_at, stored_document_of}
-use Rattle.seg_stored.proofs.Exports.{document_whole}
+use Rattle.seg_doc_bytes.specs.Reader.{made_of, counted_at}
+use Rattle.seg_doc_bytes.specs.StoredTree.{stored_tree_at}
+use Rattle.seg_doc_bytes.specs.StoredDocument.{most_levels_read, pair_at, stored_document_of}
+use Rattle.seg_doc_bytes.proofs.Exports.{document_whole}
 use Rattle.seg_values.specs.Tree.{Document}
 use Rattle.seg_values.specs.ValueJson.{value_json}
 use Rattle.seg_model.specs.Fields.{Schema}

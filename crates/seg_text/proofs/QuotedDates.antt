@@ -4,8 +4,8 @@ use Rattle.std.specs.List.{list_all}
 use Rattle.std.proofs.lemmas.Bool.{and_parts}
 use Rattle.std.proofs.lemmas.Bool.Decides.{nat_tests}
 use Rattle.json.specs.Print.{quoted}
-use Rattle.seg_dates.specs.DateText.{date_text}
-use Rattle.seg_dates.proofs.Exports.{is_plain, plain_date}
+use Rattle.seg_common.specs.DateText.{date_text}
+use Rattle.seg_common.proofs.Exports.{is_plain, plain_date}
 use Rattle.seg_text.specs.QuotedText.{is_unescaped}
 use Rattle.seg_text.proofs.QuotedTexts.{quoted_plain}
 

@@ -1,3 +1,4 @@
+pub mod ColumnText
 pub mod DocumentText
 pub mod FieldText
 pub mod HeaderText

@@ -3,8 +3,8 @@ use Rattle.std.specs.Prelude.{◌≡◌, ◌++◌, ℕ, List, Bool, true, false,
 use Rattle.std.specs.Ordering.{nat_cmp, is_lt}
 use Rattle.std.specs.Cmp.Lexicographic.{slice_cmp}
 use Rattle.seg_values.specs.Tree.{Document}
-use Rattle.seg_stored.specs.Reader.{Reader}
-use Rattle.seg_stored.specs.StoredDocument.{stored_document_of}
+use Rattle.seg_doc_bytes.specs.Reader.{Reader}
+use Rattle.seg_doc_bytes.specs.StoredDocument.{stored_document_of}
 
 -- a text, and what came after it
 pub record HasMore (before after : List ℕ) : Type 0 where

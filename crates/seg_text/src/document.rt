@@ -1,7 +1,7 @@
 //! The line of a stored document, with pairs of any fields and values.
 ghost use Rattle.std.specs.Prelude.{◌≡◌, ◌++◌, true, IsSomeAnd, OnOk};
 ghost use Rattle.serde_json.specs.Written.{compact_text};
-ghost use Rattle.seg_stored.specs.StoredDocument.{is_stored_document, stored_document_of};
+ghost use Rattle.seg_doc_bytes.specs.StoredDocument.{is_stored_document, stored_document_of};
 ghost use Rattle.seg_text.specs.DocumentText.{document_json, document_line};
 ghost use Rattle.seg_text.specs.Printing.{IsPrinted};
 
@@ -9,7 +9,7 @@ use crate::comma::push_comma_if;
 use crate::decimal::push_decimal;
 use crate::pair::push_pair;
 use crate::stored_pairs::push_stored_pairs;
-use seg_stored::document_of;
+use seg_doc_bytes::document_of;
 use seg_values::{Schema, TantivyDocument};
 use std::alloc::{AllocError, Global};
 

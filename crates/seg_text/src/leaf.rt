@@ -6,13 +6,13 @@ ghost use Rattle.base64.specs.GeneralPurpose.{encode_of};
 ghost use Rattle.json.specs.Print.{quoted};
 ghost use Rattle.serde_json.specs.Data as json;
 ghost use Rattle.serde_json.specs.Written.{compact_text};
-ghost use Rattle.seg_dates.specs.DateText.{date_text};
+ghost use Rattle.seg_common.specs.DateText.{date_text};
 ghost use Rattle.seg_values.specs.AddressText.{address_text};
 ghost use Rattle.seg_values.specs.Facets.{path_of};
 
 use crate::quoted::push_quoted;
 use base64::engine::general_purpose::STANDARD;
-use seg_dates::{DateTime, push_rfc3339};
+use seg_common::{DateTime, push_rfc3339};
 use seg_values::{Facet, shown_address};
 use std::alloc::{AllocError, Global};
 use std::net::Ipv6Addr;

@@ -3,8 +3,19 @@
 //! Its model: `segment_text` gives the bytes that stand for what a segment holds under a schema, `norms_text` those of its length ids.
 //!
 //! In reading order: `decimal`, `hexadecimal`, `quoted` and `comma` are what lines are made of, `header` are the first lines, `term`, `posting` and `field` are the index, `norms` are the last lines. `leaf`, `pre_tokenized` and `value` are values as JSON, and `pair` is a field with one; `stored_tokens`, `stored_leaf`, `stored_tree` and `stored_pairs` are the same from the bytes of a store, and `document` is the line of a document of any values.
+//!
+//! The printed text of columns: a line for each, with the values that documents have in it.
+//!
+//! Its model: `columns_text` gives the bytes that stand for the columns of a segment.
+//!
+//! To be read in this order: `printer` (how values are printed), `plain`, `terms`; `rows`, `column_line`, `columns`.
 #![tactic(auto)]
 
+mod column_line;
+mod column_printer;
+mod column_rows;
+mod column_terms;
+mod columns;
 mod comma;
 mod decimal;
 mod document;
@@ -14,6 +25,7 @@ mod hexadecimal;
 mod leaf;
 mod norms;
 mod pair;
+mod plain_values;
 mod posting;
 mod pre_tokenized;
 mod quoted;
@@ -24,6 +36,7 @@ mod stored_tree;
 mod term;
 mod value;
 
+pub use columns::push_columns;
 pub use decimal::{push_decimal, push_signed};
 pub use document::push_document;
 pub use field::push_field;

@@ -7,7 +7,7 @@ ghost use Rattle.seg_values.specs.ValueJson.{leaf_json, token_json, tokens_items
 
 use crate::decimal::push_decimal;
 use crate::quoted::push_quoted;
-use seg_words::{PreTokenizedString, Token};
+use seg_tokens::{PreTokenizedString, Token};
 use std::alloc::{AllocError, Global};
 
 pub(crate) fn push_pre_tokenized(

@@ -2,15 +2,15 @@
 ghost use Rattle.std.specs.Prelude.{IfOk};
 ghost use Rattle.serde_json.specs.Data.{array};
 ghost use Rattle.serde_json.specs.Written.{compact_text};
-ghost use Rattle.seg_stored.specs.Reader as read;
-ghost use Rattle.seg_stored.specs.StoredTree as trees;
+ghost use Rattle.seg_doc_bytes.specs.Reader as read;
+ghost use Rattle.seg_doc_bytes.specs.StoredTree as trees;
 ghost use Rattle.seg_values.specs.ValueJson.{leaf_json, token_json, tokens_items};
 ghost use Rattle.seg_text.specs.Printing.{Prints};
 
 use crate::comma::push_comma_if;
 use crate::pre_tokenized::push_token_parts;
 use crate::quoted::push_quoted;
-use seg_stored::{take_small, take_text, take_varint};
+use seg_doc_bytes::{take_small, take_text, take_varint};
 use std::alloc::{AllocError, Global};
 
 /// A text with its tokens.

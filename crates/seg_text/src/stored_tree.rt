@@ -3,8 +3,8 @@
 //! It gives up at an object whose keys don't strictly ascend: such a one is printed in another order than it is stored.
 ghost use Rattle.std.specs.Prelude.{◌≡◌, IfOk};
 ghost use Rattle.serde_json.specs.Written.{compact_text};
-ghost use Rattle.seg_stored.specs.Reader as read;
-ghost use Rattle.seg_stored.specs.StoredTree as trees;
+ghost use Rattle.seg_doc_bytes.specs.Reader as read;
+ghost use Rattle.seg_doc_bytes.specs.StoredTree as trees;
 ghost use Rattle.seg_values.specs.Tree as tree;
 ghost use Rattle.seg_values.specs.ValueJson.{value_json};
 ghost use Rattle.seg_text.specs.Printing.{Prints, is_after};
@@ -12,7 +12,7 @@ ghost use Rattle.seg_text.specs.Printing.{Prints, is_after};
 use crate::comma::push_comma_if;
 use crate::quoted::push_quoted;
 use crate::stored_leaf::push_stored_leaf;
-use seg_stored::{take_byte, take_text, take_varint};
+use seg_doc_bytes::{take_byte, take_text, take_varint};
 use std::alloc::{AllocError, Global};
 
 /// A tree of at most this many levels.

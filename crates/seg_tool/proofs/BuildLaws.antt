@@ -15,10 +15,10 @@ use Rattle.seg_model.specs.Refused.{IfRefusal, build_refusal}
 use Rattle.seg_model.specs.Valid.{Known, input_refusal}
 use Rattle.seg_segment.specs.Laws.{HoldsOneContents}
 use Rattle.seg_segment.specs.SegmentRead.{IsNoDamage, IsReadError}
-use Rattle.seg_merge.specs.Builds.{IsWhyUntold}
-use Rattle.seg_merge.specs.IndexFiles.{IsMergedIndexOf, IsOutputIndexOf, IsWorkIndexOf}
-use Rattle.seg_merge.specs.Turns.{Directories, goes_on, stops}
-use Rattle.seg_merge.proofs.Exports.{IsBuildError, RoseIn, build_error}
+use Rattle.seg_index_build.specs.Builds.{IsWhyUntold}
+use Rattle.seg_index_build.specs.IndexFiles.{IsMergedIndexOf, IsOutputIndexOf, IsWorkIndexOf}
+use Rattle.seg_index_build.specs.Turns.{Directories, goes_on, stops}
+use Rattle.seg_index_build.proofs.Exports.{IsBuildError, RoseIn, build_error}
 use Rattle.seg_tool.specs.Jobs.{AreEmpty, Built, BuildsText, NotBuilt}
 use Rattle.seg_tool.specs.Printing.{opening}
 use Rattle.seg_tool.specs.ReadingBack.{PrintsIndex}

@@ -8,7 +8,7 @@ use Rattle.seg_common.specs.Streams.{TakesAtMost}
 use Rattle.seg_values.specs.declared.error.TantivyError.{TantivyError}
 use Rattle.seg_model.specs.Fields.{Analyzer}
 use Rattle.seg_model.specs.Valid.{Known}
-use Rattle.seg_merge.specs.Turns.{Directories}
+use Rattle.seg_index_build.specs.Turns.{Directories}
 use Rattle.seg_tool.specs.Jobs.{GeneratesText, MergesText, ShowsText, WithStatus}
 use Rattle.seg_tool.specs.Run.{IsNoScript, max_script}
 use Rattle.seg_tool.specs.Runs.{RunsBuild, RunsCommand, RunsUnread, Runs, SinkState, SourceState, Takes, TouchesNothing, World}

@@ -8,9 +8,9 @@ use Rattle.seg_model.specs.Fields.{Analyzer}
 use Rattle.seg_model.specs.Laws.{ValidInputsAreNotRefused}
 use Rattle.seg_model.specs.Input.{Input}
 use Rattle.seg_model.specs.Valid.{Known, IsValid}
-use Rattle.seg_merge.specs.Turns.{Directories}
-use Rattle.seg_merge.proofs.Exports.{RoseIn}
-use Rattle.seg_refusals.specs.Admitted.{IsValidIf}
+use Rattle.seg_index_build.specs.Turns.{Directories}
+use Rattle.seg_index_build.proofs.Exports.{RoseIn}
+use Rattle.seg_check.specs.Admitted.{IsValidIf}
 use Rattle.seg_script.specs.Script.{script}
 use Rattle.seg_tool.specs.Run.{max_script, refusal_of, IsNoScript, IsValidScript, IsWhyRefused}
 use Rattle.seg_tool.specs.Statuses.{IfRefused}

@@ -11,9 +11,9 @@ use Rattle.seg_model.specs.Refused.{IfRefusal, build_refusal}
 use Rattle.seg_model.specs.Valid.{IsValid, Known, input_refusal}
 use Rattle.seg_segment.specs.Laws.{HoldsOneContents}
 use Rattle.seg_segment.specs.SegmentRead.{IsNoDamage}
-use Rattle.seg_merge.specs.Builds.{IsWhyUntold}
-use Rattle.seg_merge.specs.Turns.{Directories}
-use Rattle.seg_merge.proofs.Exports.{IsBuildError, RoseIn}
+use Rattle.seg_index_build.specs.Builds.{IsWhyUntold}
+use Rattle.seg_index_build.specs.Turns.{Directories}
+use Rattle.seg_index_build.proofs.Exports.{IsBuildError, RoseIn}
 use Rattle.seg_generate.specs.Generated.{generated}
 use Rattle.seg_tool.specs.DirectoryCalls.{IsReady}
 use Rattle.seg_tool.specs.Generating.{BuiltIn, EndsFor, Generates}

@@ -27,7 +27,7 @@ use Rattle.seg_segment.proofs.Exports.{FindWhole, FindsDamage, OnlyReads, Unchan
 use Rattle.seg_open.specs.OpenSegment.{OpenSegment}
 use Rattle.seg_open.specs.SegmentOpened.{Asked, OpensSegments}
 use Rattle.seg_open.proofs.Exports.{EachRead, HoldsMarks as HoldsRead, IsHeld, IsOf, Whole, segments_held, segments_of_schema, segments_rose, segments_so, segments_stay, segments_undamaged}
-use Rattle.seg_merge.specs.MergeAnswers.{HoldsMarks}
+use Rattle.seg_index_build.specs.MergeAnswers.{HoldsMarks}
 use Rattle.seg_tool.specs.Indexes.{AreReadOf, IsPrinted, IsReadOf}
 use Rattle.seg_tool.specs.Printing.{read_texts}
 use Rattle.seg_tool.specs.ReadingBack.{PrintsIndex, ReadsText, all_of, fails, listed_in, loaded, not_loaded, reads}

@@ -24,10 +24,10 @@ use Rattle.seg_segment.specs.Laws.{HoldsOneContents}
 use Rattle.seg_segment.specs.SegmentRead.{IsNoDamage, IsReadError}
 use Rattle.seg_segment.proofs.Exports.{Unchanged}
 use Rattle.seg_open.specs.OpenSegment.{OpenSegment, contents_of, kept_count}
-use Rattle.seg_merge.specs.IndexFiles.{undeleted}
-use Rattle.seg_merge.specs.MergeAnswers.{AllHaveHeld, IsMergeOf}
-use Rattle.seg_merge.specs.SegmentsMerged.{IsRefusal, MergeInput, MergesLive, MergesSegments, first_schema, joined, live_asked, output_meta_of}
-use Rattle.seg_merge.specs.Turns.{Directories, Passes, Then, goes_on, stops}
+use Rattle.seg_index_build.specs.IndexFiles.{undeleted}
+use Rattle.seg_index_build.specs.MergeAnswers.{AllHaveHeld, IsMergeOf}
+use Rattle.seg_index_build.specs.SegmentsMerged.{IsRefusal, MergeInput, MergesLive, MergesSegments, first_schema, joined, live_asked, output_meta_of}
+use Rattle.seg_index_build.specs.Turns.{Directories, Passes, Then, goes_on, stops}
 use Rattle.seg_text.specs.SegmentText.{segment_text}
 use Rattle.seg_tool.specs.DirectoryCalls.{JobDoes}
 use Rattle.seg_tool.specs.Indexes.{AreReadOf, HasWholeIndex, IsJoined, IsMergedText, IsPrinted, IsShownText, joined_text}

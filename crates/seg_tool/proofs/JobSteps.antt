@@ -20,13 +20,13 @@ use Rattle.seg_model.specs.Valid.{Known, input_refusal}
 use Rattle.seg_segment.specs.Forms.{segment_forms}
 use Rattle.seg_open.specs.Answers.{seen_as}
 use Rattle.seg_open.specs.SegmentOpened.{IsNoDamage}
-use Rattle.seg_refusals.specs.Admitted.{IsValidIf}
-use Rattle.seg_merge.specs.AfterCrash.{MayBeBuilt, MayBeMerged}
-use Rattle.seg_merge.specs.Builds.{EndsBuilding}
-use Rattle.seg_merge.specs.DirectoryCalls.{BuildsIndexes}
-use Rattle.seg_merge.specs.IndexFiles.{IsOutputIndexOf, IsWorkIndexOf, merged_meta, output_id, work_ids}
-use Rattle.seg_merge.specs.SegmentsMerged.{AreOfOne, IsRefusal, MergeInput, MergesSegments, merge_input, one_refusal}
-use Rattle.seg_merge.specs.Turns.{Directories, both, stops}
+use Rattle.seg_check.specs.Admitted.{IsValidIf}
+use Rattle.seg_index_build.specs.AfterCrash.{MayBeBuilt, MayBeMerged}
+use Rattle.seg_index_build.specs.Builds.{EndsBuilding}
+use Rattle.seg_index_build.specs.DirectoryCalls.{BuildsIndexes}
+use Rattle.seg_index_build.specs.IndexFiles.{IsOutputIndexOf, IsWorkIndexOf, merged_meta, output_id, work_ids}
+use Rattle.seg_index_build.specs.SegmentsMerged.{AreOfOne, IsRefusal, MergeInput, MergesSegments, merge_input, one_refusal}
+use Rattle.seg_index_build.specs.Turns.{Directories, both, stops}
 use Rattle.seg_tool.specs.Jobs.{AreEmpty, Built, BuildsBoth, Merges, NotBuilt, last_id, merge_of}
 use Rattle.seg_tool.specs.ReadingBack.{listed_in}
 use Rattle.seg_tool.proofs.OutputOnDisk.{empty_still}

@@ -10,9 +10,9 @@ use Rattle.seg_model.specs.Fields.{Analyzer}
 use Rattle.seg_model.specs.Input.{Input}
 use Rattle.seg_model.specs.Valid.{Known}
 use Rattle.seg_segment.proofs.Exports.{Unchanged}
-use Rattle.seg_merge.specs.AfterCrash.{AreMergeOf, MayBeBuilt, MayBeMerged}
-use Rattle.seg_merge.specs.IndexFiles.{IsOutputIndexOf}
-use Rattle.seg_merge.specs.Turns.{Directories, goes_on, stops}
+use Rattle.seg_index_build.specs.AfterCrash.{AreMergeOf, MayBeBuilt, MayBeMerged}
+use Rattle.seg_index_build.specs.IndexFiles.{IsOutputIndexOf}
+use Rattle.seg_index_build.specs.Turns.{Directories, goes_on, stops}
 use Rattle.seg_generate.specs.Generated.{generated}
 use Rattle.seg_tool.specs.AfterCrash.{HasNoIndex, IsMergeOfListed, MayBeMergeOf}
 use Rattle.seg_tool.specs.Jobs.{Built, BuildsText, GeneratesText, Merges, MergesText, merge_of, not_generated, of_generated}

@@ -21,5 +21,7 @@ mod RunOnDisk
 mod RunSteps
 mod StatusLaws
 mod Steady
+mod Streamed
 mod Taken
+mod TermSums
 mod WorkOnDisk

@@ -20,11 +20,11 @@ use Rattle.seg_model.specs.Valid.{settings_fit}
 use Rattle.seg_segment.specs.Forms.{segment_forms}
 use Rattle.seg_segment.specs.SegmentRead.{IsNoDamage}
 use Rattle.seg_segment.proofs.Exports.{Unchanged}
-use Rattle.seg_join.specs.Merger.{all_fit}
+use Rattle.seg_merger.specs.Merger.{all_fit}
 use Rattle.seg_open.specs.OpenSegment.{OpenSegment}
-use Rattle.seg_merge.specs.MergeAnswers.{AllHaveHeld, CanBeMerged, LiveAreWhole}
-use Rattle.seg_merge.specs.SegmentsMerged.{AreMerged, AreOfOne, first_schema, is_live, joined, live_asked, live_documents}
-use Rattle.seg_merge.specs.Turns.{Directories, goes_on, stops}
+use Rattle.seg_index_build.specs.MergeAnswers.{AllHaveHeld, CanBeMerged, LiveAreWhole}
+use Rattle.seg_index_build.specs.SegmentsMerged.{AreMerged, AreOfOne, first_schema, is_live, joined, live_asked, live_documents}
+use Rattle.seg_index_build.specs.Turns.{Directories, goes_on, stops}
 use Rattle.seg_tool.specs.DirectoryCalls.{IsReady}
 use Rattle.seg_tool.specs.Indexes.{HasMergeableIndex, HasWholeLiveSegments, merged_of}
 use Rattle.seg_tool.specs.Jobs.{Merges, MergesText, MergesWork, WithStatus, merge_of}

@@ -29,7 +29,7 @@ use Rattle.seg_text.specs.HeaderText.{dead_text, header_text}
 use Rattle.seg_text.specs.NormsText.{norms_line, norms_text}
 use Rattle.seg_text.specs.SegmentText.{PrintedSegment, segment_text}
 use Rattle.seg_text.proofs.Exports.{dead_text-replicate}
-use Rattle.seg_column_text.specs.ColumnText.{columns_text}
+use Rattle.seg_text.specs.ColumnText.{columns_text}
 use Rattle.seg_tool.specs.Printing.{opened_text, printed_text}
 use Rattle.seg_tool.specs.declared.words.Detail.TheVariants.{Full}
 

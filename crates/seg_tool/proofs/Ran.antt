@@ -9,9 +9,9 @@ use Rattle.seg_values.specs.declared.error.TantivyError.{TantivyError}
 use Rattle.seg_model.specs.Fields.{Analyzer}
 use Rattle.seg_model.specs.Valid.{Known}
 use Rattle.seg_segment.specs.Laws.{HoldsOneContents}
-use Rattle.seg_merge.specs.Taken.{gained}
-use Rattle.seg_merge.specs.Turns.{Directories}
-use Rattle.seg_merge.proofs.Exports.{RoseIn}
+use Rattle.seg_index_build.specs.Taken.{gained}
+use Rattle.seg_index_build.specs.Turns.{Directories}
+use Rattle.seg_index_build.proofs.Exports.{RoseIn}
 use Rattle.seg_script.specs.Script.{script}
 use Rattle.seg_tool.specs.DirectoryCalls.{BuildDoes}
 use Rattle.seg_tool.specs.Jobs.{AreEmpty, BuildsScript}

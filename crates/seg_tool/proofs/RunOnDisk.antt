@@ -9,8 +9,8 @@ use Rattle.seg_directory.specs.State.{DirectoryState, HasOnly, IsEmptyDisk, Leav
 use Rattle.seg_model.specs.Fields.{Analyzer}
 use Rattle.seg_model.specs.Input.{Input}
 use Rattle.seg_model.specs.Valid.{Known}
-use Rattle.seg_merge.specs.IndexFiles.{IsOutputIndexOf}
-use Rattle.seg_merge.specs.Turns.{Directories}
+use Rattle.seg_index_build.specs.IndexFiles.{IsOutputIndexOf}
+use Rattle.seg_index_build.specs.Turns.{Directories}
 use Rattle.seg_script.specs.Script.{script}
 use Rattle.seg_generate.specs.Generated.{generated}
 use Rattle.seg_tool.specs.AfterCrash.{CrashLeaves, HasNoIndex, IsBuiltOf, IsMergeOfListed, MayBeBuiltOf}

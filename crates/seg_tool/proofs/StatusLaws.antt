@@ -9,8 +9,8 @@ use Rattle.seg_model.specs.Input.{Input}
 use Rattle.seg_model.specs.Refused.{IfRefusal, IsRefusal}
 use Rattle.seg_model.specs.Valid.{Known, input_refusal}
 use Rattle.seg_open.specs.SegmentOpened.{IsNoDamage}
-use Rattle.seg_refusals.proofs.Exports.{first_is_refusal}
-use Rattle.seg_merge.specs.Turns.{Directories}
+use Rattle.seg_check.proofs.Exports.{first_is_refusal}
+use Rattle.seg_index_build.specs.Turns.{Directories}
 use Rattle.seg_tool.specs.DirectoryCalls.{IsDamage, IsFault, JobDoes}
 use Rattle.seg_tool.specs.Jobs.{with_status}
 use Rattle.seg_tool.specs.Statuses.{IfRefused, IfWritten, status_of}

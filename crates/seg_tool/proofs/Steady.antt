@@ -14,9 +14,9 @@ use Rattle.seg_segment.proofs.Exports.{Unchanged}
 use Rattle.seg_open.specs.OpenSegment.{OpenSegment}
 use Rattle.seg_open.specs.SegmentOpened.{OpensSegments}
 use Rattle.seg_open.proofs.Exports.{segments_stay}
-use Rattle.seg_merge.specs.DirectoryCalls.{BeginsIndexes, BuildsIndexes, WritesIndexes, merge_of}
-use Rattle.seg_merge.specs.SegmentsMerged.{FillsOutput, MergeInput, MergesLive, MergesSegments, fills, live_asked, mixes, starves}
-use Rattle.seg_merge.specs.Turns.{Directories, InOutput, InWork, Passes, Then, goes_on, stops}
+use Rattle.seg_index_build.specs.DirectoryCalls.{BeginsIndexes, BuildsIndexes, WritesIndexes, merge_of}
+use Rattle.seg_index_build.specs.SegmentsMerged.{FillsOutput, MergeInput, MergesLive, MergesSegments, fills, live_asked, mixes, starves}
+use Rattle.seg_index_build.specs.Turns.{Directories, InOutput, InWork, Passes, Then, goes_on, stops}
 
 -- ---- one directory
 

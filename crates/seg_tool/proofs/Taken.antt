@@ -16,9 +16,9 @@ use Rattle.seg_model.specs.Fields.{Analyzer}
 use Rattle.seg_model.specs.Input.{Input}
 use Rattle.seg_model.specs.Valid.{Known}
 use Rattle.seg_open.specs.SegmentOpened.{Asked, Found, alive_steps, all_steps, segment_steps}
-use Rattle.seg_merge.specs.Taken.{HoldsTaken, gained}
-use Rattle.seg_merge.specs.Turns.{Directories}
-use Rattle.seg_merge.proofs.Exports.{builds_seen, gained_as, holds_taken, told_both}
+use Rattle.seg_index_build.specs.Taken.{HoldsTaken, gained}
+use Rattle.seg_index_build.specs.Turns.{Directories}
+use Rattle.seg_index_build.proofs.Exports.{builds_seen, gained_as, holds_taken, told_both}
 use Rattle.seg_tool.specs.Printing.{opening}
 use Rattle.seg_tool.specs.ReadingBack.{PrintsIndex, all_of, fails, listed_in, loaded, not_loaded, reads}
 use Rattle.seg_tool.specs.Taken.{before_meta, reads_meta}

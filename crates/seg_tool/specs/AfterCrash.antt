@@ -8,10 +8,10 @@ use Rattle.seg_meta.specs.declared.index_meta.IndexMeta.{IndexMeta}
 use Rattle.seg_model.specs.Fields.{Analyzer}
 use Rattle.seg_model.specs.Input.{Input}
 use Rattle.seg_segment.specs.Forms.{segment_forms}
-use Rattle.seg_merge.specs.AfterCrash.{AreMergeOf, MayBeBuilt, MayBeMerged}
-use Rattle.seg_merge.specs.IndexFiles.{IsOutputIndexOf}
-use Rattle.seg_merge.specs.SegmentsMerged.{MergeInput}
-use Rattle.seg_merge.specs.Turns.{Directories}
+use Rattle.seg_index_build.specs.AfterCrash.{AreMergeOf, MayBeBuilt, MayBeMerged}
+use Rattle.seg_index_build.specs.IndexFiles.{IsOutputIndexOf}
+use Rattle.seg_index_build.specs.SegmentsMerged.{MergeInput}
+use Rattle.seg_index_build.specs.Turns.{Directories}
 use Rattle.seg_script.specs.Script.{script}
 use Rattle.seg_generate.specs.Generated.{generated}
 use Rattle.seg_tool.specs.Jobs.{merge_of}

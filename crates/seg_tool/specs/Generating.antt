@@ -7,11 +7,11 @@ use Rattle.seg_model.specs.Fields.{Analyzer}
 use Rattle.seg_model.specs.Input.{Input}
 use Rattle.seg_model.specs.Refused.{build_refusal}
 use Rattle.seg_model.specs.Valid.{Known, input_refusal}
-use Rattle.seg_refusals.specs.Admitted.{IsValidIf}
-use Rattle.seg_merge.specs.Builds.{IsWhyUntold}
-use Rattle.seg_merge.specs.IndexFiles.{IsMergedIndexOf, IsOutputIndexOf, IsWorkIndexOf}
-use Rattle.seg_merge.specs.Taken.{HoldsTaken, gained}
-use Rattle.seg_merge.specs.Turns.{Directories}
+use Rattle.seg_check.specs.Admitted.{IsValidIf}
+use Rattle.seg_index_build.specs.Builds.{IsWhyUntold}
+use Rattle.seg_index_build.specs.IndexFiles.{IsMergedIndexOf, IsOutputIndexOf, IsWorkIndexOf}
+use Rattle.seg_index_build.specs.Taken.{HoldsTaken, gained}
+use Rattle.seg_index_build.specs.Turns.{Directories}
 use Rattle.seg_tool.specs.Jobs.{AreEmpty}
 use Rattle.seg_tool.specs.Run.{Gains, GainsPart, IsTextOfInput}
 use Rattle.seg_tool.specs.Runs.{SinkState}

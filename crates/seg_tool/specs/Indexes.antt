@@ -16,9 +16,9 @@ use Rattle.seg_segment.specs.Forms.{segment_forms}
 use Rattle.seg_segment.specs.Holds.{Holds}
 use Rattle.seg_open.specs.OpenSegment.{OpenSegment, contents_of, kept_count}
 use Rattle.seg_open.specs.SegmentOpened.{Asked}
-use Rattle.seg_merge.specs.MergeAnswers.{AllHaveHeld, HoldsMarks}
-use Rattle.seg_merge.specs.SegmentsMerged.{is_live, joined, live_asked, live_documents, output_meta_of}
-use Rattle.seg_merge.specs.Turns.{Directories}
+use Rattle.seg_index_build.specs.MergeAnswers.{AllHaveHeld, HoldsMarks}
+use Rattle.seg_index_build.specs.SegmentsMerged.{is_live, joined, live_asked, live_documents, output_meta_of}
+use Rattle.seg_index_build.specs.Turns.{Directories}
 use Rattle.seg_text.specs.SegmentText.{segment_text}
 use Rattle.seg_tool.specs.Jobs.{MergesText, ShowsText, last_id, merge_of}
 use Rattle.seg_tool.specs.Printing.{read_texts}

@@ -12,14 +12,14 @@ use Rattle.seg_model.specs.Input.{Input}
 use Rattle.seg_model.specs.Refused.{IfRefusal, build_refusal}
 use Rattle.seg_model.specs.Valid.{Known, input_refusal}
 use Rattle.seg_open.specs.SegmentOpened.{IsNoDamage}
-use Rattle.seg_refusals.specs.Admitted.{IsValidIf}
-use Rattle.seg_merge.specs.AfterCrash.{AreMergeOf, MayBeMerged}
-use Rattle.seg_merge.specs.Builds.{IsWhyUntold, LeavesBuilt}
-use Rattle.seg_merge.specs.DirectoryCalls.{BuildsIndexes}
-use Rattle.seg_merge.specs.IndexFiles.{IsMergedIndexOf, IsOutputIndexOf, IsWorkIndexOf}
-use Rattle.seg_merge.specs.MergeAnswers.{CanBeMerged, IsMergeError, IsMergeOf, IsWholeIndex, LiveAreWhole}
-use Rattle.seg_merge.specs.SegmentsMerged.{MergeInput, MergesSegments, merge_input}
-use Rattle.seg_merge.specs.Turns.{Directories, InOutput, InWork, Then}
+use Rattle.seg_check.specs.Admitted.{IsValidIf}
+use Rattle.seg_index_build.specs.AfterCrash.{AreMergeOf, MayBeMerged}
+use Rattle.seg_index_build.specs.Builds.{IsWhyUntold, LeavesBuilt}
+use Rattle.seg_index_build.specs.DirectoryCalls.{BuildsIndexes}
+use Rattle.seg_index_build.specs.IndexFiles.{IsMergedIndexOf, IsOutputIndexOf, IsWorkIndexOf}
+use Rattle.seg_index_build.specs.MergeAnswers.{CanBeMerged, IsMergeError, IsMergeOf, IsWholeIndex, LiveAreWhole}
+use Rattle.seg_index_build.specs.SegmentsMerged.{MergeInput, MergesSegments, merge_input}
+use Rattle.seg_index_build.specs.Turns.{Directories, InOutput, InWork, Then}
 use Rattle.seg_script.specs.Script.{script}
 use Rattle.seg_generate.specs.Generated.{generated}
 use Rattle.seg_tool.specs.Printing.{opening}

@@ -8,5 +8,6 @@ pub mod ReadingBack
 pub mod Run
 pub mod Runs
 pub mod Statuses
+pub mod Summaries
 pub mod Taken
 pub mod Words

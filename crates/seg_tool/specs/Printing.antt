@@ -9,7 +9,7 @@ use Rattle.seg_model.specs.Fields.{Schema}
 use Rattle.seg_text.specs.FieldText.{field_text}
 use Rattle.seg_text.specs.NormsText.{norms_text}
 use Rattle.seg_text.specs.SegmentText.{PrintedSegment, segment_text}
-use Rattle.seg_column_text.specs.ColumnText.{columns_text}
+use Rattle.seg_text.specs.ColumnText.{columns_text}
 use Rattle.seg_generate.specs.SummaryText.{generated_line, summary_text}
 use Rattle.seg_tool.specs.declared.words.Detail.{Detail}
 use Rattle.seg_tool.specs.declared.words.Detail.TheVariants.{Brief, Full, Summary}

@@ -7,7 +7,7 @@ use Rattle.seg_common.specs.Idle.{Idle, OnlyLastIsIdle}
 use Rattle.seg_common.specs.Streams.{AppendsPart, IsAllOf, TakesAtMost}
 use Rattle.seg_model.specs.Fields.{Analyzer}
 use Rattle.seg_model.specs.Valid.{Known}
-use Rattle.seg_merge.specs.Turns.{Directories}
+use Rattle.seg_index_build.specs.Turns.{Directories}
 use Rattle.seg_tool.specs.Jobs.{BuildsScript, GeneratesText, MergesText, ShowsText, WithStatus}
 use Rattle.seg_tool.specs.Run.{max_script}
 use Rattle.seg_tool.specs.Words.{command_of}

@@ -1,6 +1,6 @@
 //! From the bytes of a script to its indexes, and to the text of what the directories then answer.
 ghost use Rattle.std.specs.Prelude.{◌≡◌, IfOk};
-ghost use Rattle.seg_merge.specs.Turns.{both};
+ghost use Rattle.seg_index_build.specs.Turns.{both};
 ghost use Rattle.seg_open.specs.Answers.{seen_as};
 ghost use Rattle.seg_tool.specs.Jobs.{BuildsBoth, BuildsScript, BuildsText};
 ghost use Rattle.seg_tool.specs.Printing.{opening};
@@ -9,14 +9,14 @@ ghost use Rattle.seg_tool.specs.Statuses.{status_of};
 use crate::reading_back::print_index;
 use crate::status::Status;
 use crate::words::Detail;
+use seg_check::BuildInput;
 use seg_directory::Directory;
 use seg_generate::push_generated;
-use seg_input::BuildInput;
-use seg_merge::build_index_of;
+use seg_index_build::build_index_of;
 use seg_meta::Index;
 use seg_script::{ScriptError, read_script};
+use seg_tokens::Analyzers;
 use seg_values::{TResult, TantivyError};
-use seg_words::Analyzers;
 use std::alloc::{AllocError, Global};
 
 /// Writes the indexes of a script, and answers what is then printed of them.

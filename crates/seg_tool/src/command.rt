@@ -8,9 +8,9 @@ ghost use Rattle.seg_common.specs.Streams.{AppendsPart, TakesAtMost};
 ghost use Rattle.seg_directory.specs.DiskChanges.{KeepsDisk};
 ghost use Rattle.seg_directory.specs.State.{DirectoryState, IsEmptyDisk};
 ghost use Rattle.seg_generate.specs.Generated.{generated};
-ghost use Rattle.seg_generate_laws.specs.Taking.{TakesTexts};
-ghost use Rattle.seg_merge.specs.Taken.{gained};
-ghost use Rattle.seg_merge.specs.Turns.{both};
+ghost use Rattle.seg_generate.specs.Taking.{TakesTexts};
+ghost use Rattle.seg_index_build.specs.Taken.{gained};
+ghost use Rattle.seg_index_build.specs.Turns.{both};
 ghost use Rattle.seg_open.specs.Answers.{seen_as};
 ghost use Rattle.seg_script.specs.Script.{script};
 ghost use Rattle.seg_tool.specs.AfterCrash.{CrashLeaves};
@@ -33,11 +33,11 @@ use crate::status::Status;
 use crate::words::{Command, Detail, command_of};
 use seg_common::{FileName, ReadError, Sink, SinkFailed, Source, read_to_end, write_whole};
 use seg_directory::Directory;
-use seg_generate_laws::generated_inputs_are_valid;
+use seg_generate::generated_inputs_are_valid;
 use seg_model::valid_inputs_are_not_refused;
 use seg_segment::files_hold_one_contents;
+use seg_tokens::Analyzers;
 use seg_values::{TResult, TantivyError};
-use seg_words::Analyzers;
 use std::alloc::Global;
 
 /// The most bytes of a script.

@@ -1,5 +1,5 @@
 //! From a number to the indexes of the input that it generates, and to their summary.
-ghost use Rattle.seg_merge.specs.Turns.{both};
+ghost use Rattle.seg_index_build.specs.Turns.{both};
 ghost use Rattle.seg_open.specs.Answers.{seen_as};
 ghost use Rattle.seg_tool.specs.Jobs.{GeneratesText};
 
@@ -7,8 +7,8 @@ use crate::building::build_and_print;
 use crate::words::Detail;
 use seg_directory::Directory;
 use seg_generate::generated_input;
+use seg_tokens::Analyzers;
 use seg_values::{TResult, TantivyError};
-use seg_words::Analyzers;
 use std::alloc::Global;
 
 /// Writes the indexes of the generated input, and answers the summary that is then printed of them.

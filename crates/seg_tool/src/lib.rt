@@ -9,6 +9,10 @@
 //! and their text), `generating` (the same from a number), `merging` (from the segments of an index to the one of another),
 //! `reading_back` (the text of an index, of what its directory answers), `printing` and `norm_lines` (the text of a segment
 //! that is open), `status`, `reporting` (the line that is said of a status), `damage` (the name of a file, in that line).
+//!
+//! The line that a summary has of a segment that is open.
+//!
+//! Its model: `segment_summary` gives the bytes that stand for a segment. `totals` counts its terms, and `line` prints them.
 #![tactic(auto)]
 
 mod building;
@@ -21,8 +25,11 @@ mod printing;
 mod reading_back;
 mod reporting;
 mod status;
+mod summary_line;
+mod summary_totals;
 mod words;
 
 pub use command::run;
 pub use reporting::report;
 pub use status::Status;
+pub use summary_line::push_segment_summary;

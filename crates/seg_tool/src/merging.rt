@@ -1,6 +1,6 @@
 //! From the segments of the work index to an output index of one segment, and to its text.
 ghost use Rattle.std.specs.Prelude.{◌≡◌, map, None, IfOk};
-ghost use Rattle.seg_merge.specs.Turns.{both};
+ghost use Rattle.seg_index_build.specs.Turns.{both};
 ghost use Rattle.seg_open.specs.Answers.{seen_as};
 ghost use Rattle.seg_tool.specs.Jobs.{MergesText, MergesWork};
 
@@ -9,7 +9,7 @@ use crate::words::Detail;
 use seg_bits::AliveBitSet;
 use seg_common::SegmentId;
 use seg_directory::Directory;
-use seg_merge::merge_filtered_segments;
+use seg_index_build::merge_filtered_segments;
 use seg_meta::{Index, Segment};
 use seg_values::{TResult, TantivyError};
 use std::alloc::{AllocError, Global};

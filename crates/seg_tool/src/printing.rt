@@ -17,14 +17,14 @@ ghost use Rattle.seg_text.specs.SegmentText.{segment_text};
 ghost use Rattle.seg_tool.specs.Printing.{opened_text, read_segment, read_segment_text};
 
 use crate::norm_lines::push_all_norms;
+use crate::push_segment_summary;
 use crate::words::Detail;
-use seg_column_text::push_columns;
 use seg_open::SegmentReader;
 use seg_postings::{InvertedIndexReader, RecordKind, SegmentPostings};
 use seg_store::StoreReader;
-use seg_summary::push_segment_summary;
 use seg_text::{
-    RecordedRef, push_dead, push_document, push_field, push_header, push_posting, push_term,
+    RecordedRef, push_columns, push_dead, push_document, push_field, push_header, push_posting,
+    push_term,
 };
 use seg_values::{Field, FieldEntry, Schema};
 use std::alloc::{AllocError, Global};

@@ -3,10 +3,10 @@ ghost use Rattle.std.specs.Prelude.{◌≤◌};
 ghost use Rattle.seg_directory.specs.DiskCalls.{calls_of};
 
 use seg_bits::AliveBitSet;
+use seg_check::UserOperation;
 use seg_common::SegmentId;
 use seg_directory::{CallKind, FailingCall, MemoryDirectory, Pick};
-use seg_input::UserOperation;
-use seg_merge::{build_index, merge_filtered_segments};
+use seg_index_build::{build_index, merge_filtered_segments};
 use seg_meta::Index;
 use seg_open::SegmentReader;
 use seg_testing::{Words, document, failing, memory, schema, settings};

@@ -6,8 +6,8 @@ use crate::streams::{
 use seg_common::{FileName, OwnedBytes, SegmentComponent, SegmentId};
 use seg_directory::{Directory, MemoryDirectory};
 use seg_testing::OddDirectory;
+use seg_tokens::{DefaultTokenizer, TokenizerManager};
 use seg_tool::run;
-use seg_words::{DefaultTokenizer, TokenizerManager};
 use std::alloc::{AllocError, Global};
 
 /// The bytes of a file of a segment.

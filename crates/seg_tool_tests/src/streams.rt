@@ -2,8 +2,8 @@
 
 use seg_common::{MemorySink, MemorySource};
 use seg_directory::{FailingCall, MemoryDirectory};
+use seg_tokens::{DefaultTokenizer, TokenizerManager};
 use seg_tool::run;
-use seg_words::{DefaultTokenizer, TokenizerManager};
 use std::alloc::{AllocError, Global};
 
 const ENTRY: &str =

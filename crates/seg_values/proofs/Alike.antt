@@ -9,7 +9,7 @@ use Rattle.std.proofs.lemmas.Bool.Decides.{Decides-eqb, Decides-and, Decides-lik
 use Rattle.std.specs.Net.Addr.{octets_of}
 use Rattle.std.proofs.lemmas.Bool.{not-true, not-false}
 use Rattle.seg_values.specs.Code.{tree_code}
-use Rattle.seg_words.specs.Same.{same_by, same_by-decides}
+use Rattle.seg_tokens.specs.Same.{same_by, same_by-decides}
 use Rattle.seg_values.specs.Tree.{Tree, array, object, trees_from, members_from}
 
 module _ {Y : Type 0} where

@@ -6,7 +6,7 @@ use Rattle.std.specs.Ordering.{match_ordering}
 use Rattle.serde_json.specs.Data as json
 use Rattle.serde_json.specs.Data.{Data, put}
 use Rattle.serde_json.specs.Written.{has_float, items_have_float, members_have_float}
-use Rattle.seg_words.specs.declared.token.Token.{Token}
+use Rattle.seg_tokens.specs.declared.token.Token.{Token}
 use Rattle.seg_values.specs.DocumentJson.{values_of, put_values, fields_json, document_object}
 use Rattle.seg_values.specs.Schemas.{Schema}
 use Rattle.seg_values.specs.Tree.{Leaf, null, text, pre_tokenized, unsigned, signed, boolean, date, facet, byte_string, ip, Tree, leaf, array, object, Trees, no_trees, tree, trees_from, Members, no_members, member, Document}

@@ -1,15 +1,13 @@
 -- Codes of trees and of terms, by which a proof tells them apart.
-use Rattle.std.specs.Prelude.{◌≡◌, ℕ, ℤ, Bool, List, refl, ◌⊎◌}
-use Rattle.std.proofs.Common.{sym, ap, subst, inl, inr}
-use Rattle.std.specs.Prelude.{not, nat_eq, T}
+use Rattle.std.specs.Prelude.{◌≡◌, ℕ, ℤ, Bool, List, refl, ◌⊎◌, not, nat_eq, T}
+use Rattle.std.proofs.Common.{sym, ap, subst, inl, inr, arith}
 use Rattle.std.proofs.lemmas.Bool.Decides.{nat_tests}
-use Rattle.std.proofs.Common.{arith}
 use base.Stored.{Gv, gnil, gnum, gcons, Coded, coded_unit, coded_ℕ, coded_ℤ, coded_bool, coded_list, coded⊎, coded×, num}
 use Rattle.std.specs.Coded.{code_by}
 use Rattle.seg_values.specs.Tree.{Leaf, null, text, pre_tokenized, unsigned, signed, boolean, date, facet, byte_string, ip, Tree, leaf, array, object, Trees, no_trees, tree, Members, no_members, member}
 use Rattle.seg_values.specs.ValueBytes.{TermKey}
-use Rattle.seg_words.specs.declared.token.PreTokenizedString.{PreTokenizedString}
-use Rattle.seg_words.specs.Code.{pre_tokenized_code, key_code}
+use Rattle.seg_tokens.specs.declared.token.PreTokenizedString.{PreTokenizedString}
+use Rattle.seg_tokens.specs.Code.{pre_tokenized_code, key_code}
 
 abbrev pub LeafSum : Type 0
 LeafSum = Unit {0} ⊎ (List ℕ ⊎ (PreTokenizedString ⊎ (ℕ ⊎ (ℤ ⊎ (Bool ⊎ (ℤ ⊎ (List ℕ ⊎ (List ℕ ⊎ List ℕ))))))))

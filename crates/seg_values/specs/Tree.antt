@@ -1,6 +1,6 @@
 -- A tree of values: a leaf, a list of trees, or a list of keys with trees.
 use Rattle.std.specs.Prelude.{ℕ, suc, max, ℤ, Bool, List, [], ◌∷◌}
-use Rattle.seg_words.specs.declared.token.PreTokenizedString.{PreTokenizedString}
+use Rattle.seg_tokens.specs.declared.token.PreTokenizedString.{PreTokenizedString}
 
 -- texts, bytes and facets are their bytes, a moment its nanoseconds since 1970, an address its sixteen octets
 pub data Leaf : Type 0 where

@@ -2,7 +2,7 @@
 use Rattle.std.specs.Prelude.{IsUtf8}
 use Rattle.std.specs.List.{AllByRecursion}
 use Rattle.seg_values.specs.Tree.{Leaf, text, pre_tokenized, facet, Tree, leaf, array, object, Trees, no_trees, tree, Members, no_members, member, Document}
-use Rattle.seg_words.specs.Utf8.{AreUtf8Tokens}
+use Rattle.seg_tokens.specs.Utf8.{AreUtf8Tokens}
 
 -- bytes need not be a text, and what is no text is
 abbrev pub IsUtf8Leaf : Leaf → Type 0

@@ -1,7 +1,7 @@
 -- Terms, and the bytes of values.
 use Rattle.std.specs.Prelude.{ℕ, List, []}
 use Rattle.std.specs.Int.{w64, to_be_bytes}
-use Rattle.seg_dates.specs.Dates.{cut_to, nanos_in_second}
+use Rattle.seg_common.specs.Dates.{cut_to, nanos_in_second}
 pub use Rattle.seg_common.specs.Mappable.{raised, bit}
 use Rattle.seg_values.specs.Tree.{Leaf, text, unsigned, signed, boolean, date, facet, byte_string, ip}
 

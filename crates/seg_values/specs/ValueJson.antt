@@ -4,8 +4,8 @@ use Rattle.base64.specs.Engines.{standard}
 use Rattle.base64.specs.GeneralPurpose.{encode_of}
 use Rattle.serde_json.specs.Data as json
 use Rattle.serde_json.specs.Data.{Data, Items, put}
-use Rattle.seg_dates.specs.DateText.{date_text}
-use Rattle.seg_words.specs.declared.token.Token.{Token}
+use Rattle.seg_common.specs.DateText.{date_text}
+use Rattle.seg_tokens.specs.declared.token.Token.{Token}
 use Rattle.seg_values.specs.AddressText.{address_text}
 use Rattle.seg_values.specs.Facets.{path_of}
 use Rattle.seg_values.specs.Tree.{Leaf, null, text, pre_tokenized, unsigned, signed, boolean, date, facet, byte_string, ip, Tree, leaf, array, object, Trees, no_trees, tree, Members, no_members, member}

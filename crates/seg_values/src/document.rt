@@ -8,7 +8,7 @@ use crate::document_trait::Document;
 use crate::schema::Field;
 use crate::value::OwnedValue;
 use crate::value_error::ValueError;
-use seg_words::Text;
+use seg_tokens::Text;
 use std::alloc::{AllocError, Global};
 use std::fmt::{self, Debug, Formatter, Write};
 use std::marker::Model;

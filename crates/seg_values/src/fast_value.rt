@@ -8,8 +8,7 @@ ghost use Rattle.seg_values.specs.declared.field_type.FieldType.{FieldType};
 ghost use Rattle.seg_values.specs.declared.field_type.FieldType.TheVariants as types;
 
 use crate::field_type::FieldType;
-use seg_common::MonotonicallyMappableToU64;
-use seg_dates::{DateTime, DateTimePrecision};
+use seg_common::{DateTime, DateTimePrecision, MonotonicallyMappableToU64};
 
 /// A value that is kept as its number.
 pub trait FastValue: MonotonicallyMappableToU64 {

@@ -9,8 +9,8 @@ ghost use Rattle.seg_values.specs.View.{tree_of};
 use crate::reading::Reading;
 use crate::value::{Members, OwnedValue, Values};
 use crate::value_error::ValueError;
-use seg_dates::{DateTime, can_be_rfc3339_date_time};
-use seg_words::Text;
+use seg_common::{DateTime, can_be_rfc3339_date_time};
+use seg_tokens::Text;
 use serde_json::{Map, Number, Value};
 use std::alloc::Global;
 

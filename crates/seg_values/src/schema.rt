@@ -6,9 +6,8 @@ ghost use Rattle.seg_values.specs.SchemaRules.{is_schema};
 
 use crate::error::{SchemaCause, TResult, TantivyError};
 use crate::schema_fields::SchemaFields;
-use seg_common::{Room, Shared};
-use seg_dates::DateTimePrecision;
-use seg_words::Text;
+use seg_common::{DateTimePrecision, Room, Shared};
+use seg_tokens::Text;
 use std::alloc::Global;
 use std::fmt::{self, Debug, Formatter, Write};
 use std::marker::Model;

@@ -2,8 +2,8 @@
 ghost use Rattle.std.specs.Prelude.{◌≡◌, ◌<◌, slice_get, Some, List, ℕ, [], ◌∷◌, ◌++◌, length, OnOk, OnErr};
 
 use crate::facet::Facet;
-use seg_dates::DateTime;
-use seg_words::{Bytes, PreTokenizedString, Text};
+use seg_common::DateTime;
+use seg_tokens::{Bytes, PreTokenizedString, Text};
 use std::alloc::{AllocError, Global};
 use std::marker::Model;
 use std::net::Ipv6Addr;
@@ -74,7 +74,7 @@ impl Model for Members {
     ghost use Rattle.std.specs.Coded.{coded_list, coded×};
     ghost use Rattle.std.proofs.Common.{arith};
     ghost use Rattle.seg_values.specs.Tree.{Tree, members_from, most_member_levels};
-    ghost use Rattle.seg_words.specs.Code.{key_code};
+    ghost use Rattle.seg_tokens.specs.Code.{key_code};
     ghost use Rattle.seg_values.specs.Code.{tree_code};
 
     ghost Value = { List (List ℕ × Tree) };

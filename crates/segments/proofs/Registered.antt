@@ -1,10 +1,10 @@
 -- Tokenizers that were registered one after another.
 use Rattle.std.proofs.Common.{◌≡◌, ◌≢◌, ◌∙◌, ℕ, Bool, true, false, List, Result, Ok, Err, sym, refl, ap}
 use Rattle.std.specs.Prelude.{OnOk, codes, is_err}
-use Rattle.seg_words.specs.Registered.{Registers}
-use Rattle.seg_words.specs.Tokenizers.{default_tokens}
-use Rattle.seg_words.specs.declared.token.Token.{Token}
-use Rattle.seg_generate_laws.specs.Taking.{DefaultTakesTexts, TakesTexts}
+use Rattle.seg_tokens.specs.Registered.{Registers}
+use Rattle.seg_tokens.specs.Tokenizers.{default_tokens}
+use Rattle.seg_tokens.specs.declared.token.Token.{Token}
+use Rattle.seg_generate.specs.Taking.{DefaultTakesTexts, TakesTexts}
 use mathlib.Core.Bool.{true≢false}
 
 on_ok : {T E : Type 0} (r : Result T E) (P : Type 0) → is_err r ≡ false → OnOk r P → P

@@ -1,14 +1,16 @@
 //! The program: runs the words of its command line over standard input and output, and the folders `work` and `out`.
 #![tactic(auto)]
 
-ghost use Rattle.seg_generate_laws.specs.Taking.{TakesTexts};
+ghost use Rattle.seg_generate.specs.Taking.{TakesTexts};
 
 use seg_common::{ReaderSource, WriterSink};
 use seg_directory::FileDirectory;
-use seg_generate_laws::default_takes_texts;
+use seg_generate::default_takes_texts;
+use seg_tokens::{
+    Analyzers, DefaultTokenizer, RawTokenizer, TokenizerManager, WhitespaceTokenizer,
+};
 use seg_tool::{Status, run};
 use seg_values::TantivyError;
-use seg_words::{Analyzers, DefaultTokenizer, RawTokenizer, TokenizerManager, WhitespaceTokenizer};
 use std::env::Env;
 use std::io::ErrorKind;
 use std::process::ExitCode;

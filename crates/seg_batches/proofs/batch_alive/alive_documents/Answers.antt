@@ -1,6 +1,6 @@
 use Rattle.std.proofs.Common.{◌∙◌, map, drop, arith}
 use Rattle.std.proofs.lemmas.Result.{IfOk-weaker}
-use Rattle.seg_deletes.specs.declared.doc_opstamp_mapping.DocToOpstampMapping.TheVariants.{WithMap}
+use Rattle.seg_batches.specs.declared.doc_opstamp_mapping.DocToOpstampMapping.TheVariants.{WithMap}
 use Rattle.seg_open.specs.OpenSegment.{terms_in}
 use Rattle.seg_batches.specs.Applying.{IsTold, left_by, term_names}
 use Rattle.seg_batches.specs.Making.{IsLeft}

@@ -1,6 +1,6 @@
 use Rattle.std.proofs.Common.{◌+◌, map, subst, ◌∙◌, arith}
 use Rattle.std.proofs.lemmas.List.{length-map}
-use Rattle.seg_input.specs.View.{operation_of}
+use Rattle.seg_check.specs.View.{operation_of}
 use Rattle.seg_batches.specs.Indexing.{IsTaken, IsNotTaken}
 use Rattle.seg_batches.proofs.Added.{all_added, one_more, not_taken, taken_unrefused}
 use Rattle.seg_batches.proofs.Refused.{still_none}

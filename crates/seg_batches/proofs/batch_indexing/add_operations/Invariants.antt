@@ -1,5 +1,5 @@
 use Rattle.std.proofs.Common.{◌≡◌, ◌+◌, map, take, drop}
-use Rattle.seg_input.specs.View.{operation_of}
+use Rattle.seg_check.specs.View.{operation_of}
 use Rattle.seg_batches.specs.Indexing.{HasAdditions}
 use Rattle.seg_batches.proofs.Refused.{refused_from}
 use Rattle.seg_batches.proofs.batch_indexing.add_operations.Given as goal

@@ -1,6 +1,6 @@
 use Rattle.std.proofs.Common.{◌<◌, ◌≤◌, ◌^◌, arith, ap, inl, length, map}
 use Rattle.seg_model.specs.Operations.{additions}
-use Rattle.seg_input.specs.View.{operation_of}
+use Rattle.seg_check.specs.View.{operation_of}
 use Rattle.seg_batches.specs.Indexing.{AreOfBatch}
 use Rattle.seg_batches.proofs.Added.{not_made, of_batch, were_taken}
 use Rattle.seg_batches.proofs.BatchSteps.{not_refused}

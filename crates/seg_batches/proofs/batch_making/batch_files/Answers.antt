@@ -1,5 +1,5 @@
 use Rattle.std.proofs.Common.{ap, map, sym, subst, []}
-use Rattle.seg_input.specs.View.{operation_of}
+use Rattle.seg_check.specs.View.{operation_of}
 use Rattle.seg_build.specs.SegmentWriting.{Writes}
 use Rattle.seg_check.specs.WriterStart.{start_refusal}
 use Rattle.seg_batches.proofs.Causes.{no_cause, tells_batch, tells_start}

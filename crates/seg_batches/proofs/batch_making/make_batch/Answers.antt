@@ -1,8 +1,7 @@
 use Rattle.std.proofs.Common.{inr, ◌≡◌, refl, ap, subst, ◌∙◌, arith, length, map}
 use Rattle.seg_model.specs.Operations.{additions, alive_after}
-use Rattle.seg_removal.proofs.Exports.{length-additions}
-use Rattle.seg_input.specs.View.{operation_of}
-use Rattle.seg_model.proofs.Exports.{told_on}
+use Rattle.seg_model.proofs.Exports.{length-additions, told_on}
+use Rattle.seg_check.specs.View.{operation_of}
 use Rattle.seg_batches.specs.Applying.{IsTold}
 use Rattle.seg_batches.specs.Making.{IsLeft}
 use Rattle.seg_batches.proofs.Left.{made_whole, whole_for}

@@ -3,7 +3,7 @@ use Rattle.std.specs.Prelude.{slice_range}
 use Rattle.std.specs.List.{enumerate_from}
 use Rattle.std.proofs.lemmas.Result.{IfOk-weaker}
 use Rattle.seg_model.specs.Operations.{Operation, additions}
-use Rattle.seg_input.specs.View.{operation_of}
+use Rattle.seg_check.specs.View.{operation_of}
 use Rattle.seg_check.specs.WriterStart.{start_refusal}
 use Rattle.seg_model.specs.Telling.{Tells}
 use Rattle.seg_batches.specs.Writing.{StandAndTell, batch_between, batch_cause}

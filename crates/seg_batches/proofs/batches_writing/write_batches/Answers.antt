@@ -4,7 +4,7 @@ use Rattle.std.proofs.lemmas.Option.{slice_get_read}
 use Rattle.seg_model.specs.Operations.{batches}
 use Rattle.seg_batches.specs.Laws.{as_operations}
 use Rattle.seg_check.specs.WriterStart.{start_refusal}
-use Rattle.seg_input.specs.View.{operation_of}
+use Rattle.seg_check.specs.View.{operation_of}
 use Rattle.seg_batches.specs.Segments.{segments_of}
 use Rattle.seg_batches.specs.Writing.{batch_causes}
 use Rattle.seg_batches.proofs.BatchSteps.{ends_here}

@@ -1,9 +1,9 @@
 use Rattle.std.proofs.Common.{◌≡◌, ◌≤◌, ◌++◌, map, take, drop}
 use Rattle.seg_model.specs.Operations.{batches}
-use Rattle.seg_removal.specs.Stamps.{stamped_deletes}
+use Rattle.seg_model.specs.Stamps.{stamped_deletes}
 use Rattle.seg_batches.specs.Laws.{as_operations}
 use Rattle.seg_check.specs.WriterStart.{start_refusal}
-use Rattle.seg_input.specs.View.{operation_of}
+use Rattle.seg_check.specs.View.{operation_of}
 use Rattle.seg_batches.specs.Segments.{segments_of}
 use Rattle.seg_batches.specs.Waiting.{passed_below}
 use Rattle.seg_batches.specs.Writing.{batch_cause, batch_causes}

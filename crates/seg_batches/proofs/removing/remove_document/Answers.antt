@@ -1,5 +1,5 @@
 use Rattle.std.proofs.Common.{sym, ◌∙◌, arith}
-use Rattle.seg_deletes.specs.Deleted.{is_deleted}
+use Rattle.seg_batches.specs.Deleted.{is_deleted}
 use Rattle.seg_batches.proofs.Staying.{loses_one, keeps_one}
 use Rattle.seg_batches.proofs.removing.remove_document.Goals as goal
 

@@ -1,6 +1,6 @@
 use Rattle.std.proofs.Common.{◌<◌, ℕ, Bool, drop, length, sym, ap, ◌∙◌, arith, drop-drop}
 use Rattle.std.proofs.lemmas.List.{drop_all}
-use Rattle.seg_deletes.specs.Deleted.{is_deleted}
+use Rattle.seg_batches.specs.Deleted.{is_deleted}
 use Rattle.seg_batches.specs.Applying.{staying}
 use Rattle.seg_batches.proofs.Dropped.{dropped_more, none_dropped, passes}
 use Rattle.seg_batches.proofs.Staying.{length-staying}

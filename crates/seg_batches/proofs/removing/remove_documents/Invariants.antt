@@ -1,5 +1,5 @@
 use Rattle.std.proofs.Common.{◌≡◌, drop, length}
-use Rattle.seg_deletes.specs.Deleted.{is_deleted}
+use Rattle.seg_batches.specs.Deleted.{is_deleted}
 use Rattle.seg_batches.specs.Applying.{staying}
 use Rattle.seg_batches.proofs.Dropped.{passes}
 use Rattle.seg_batches.proofs.removing.remove_documents.Given as goal

@@ -1,6 +1,6 @@
 use Rattle.std.proofs.Common.{◌≡◌, map, sym, ◌∙◌}
 use Rattle.std.proofs.lemmas.Result.{IfOk-weaker}
-use Rattle.seg_removal.specs.Cleared.{has_posting}
+use Rattle.seg_model.specs.Cleared.{has_posting}
 use Rattle.seg_open.specs.OpenSegment.{terms_in}
 use Rattle.seg_batches.specs.Applying.{named_below}
 use Rattle.seg_batches.proofs.Dropped.{documents_of}

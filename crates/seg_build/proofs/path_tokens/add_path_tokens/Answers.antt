@@ -1,6 +1,5 @@
-use Rattle.std.proofs.Common.{◌<◌, length, refl, sym, ap, ◌∙◌, subst}
+use Rattle.std.proofs.Common.{◌<◌, length, refl, sym, ap, ◌∙◌, subst, [], ◌∷◌, ◌++◌}
 use Rattle.std.specs.List.{slice_index_or}
-use Rattle.std.proofs.Common.{[], ◌∷◌, ◌++◌}
 use Rattle.seg_model.specs.Occurrences.{placed_from}
 use Rattle.seg_terms.specs.Adding.{with_occurrences}
 use Rattle.seg_segment.proofs.Exports.{drop-item}

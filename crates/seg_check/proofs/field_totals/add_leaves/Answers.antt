@@ -7,8 +7,7 @@ use Rattle.seg_paths.specs.Paths.{number_of}
 use Rattle.seg_paths.specs.declared.leaves.NumberedLeaf.{NumberedLeaf}
 use Rattle.seg_check.specs.Paths.{IsNumbered, path_leaf, texts_of, PathsStand}
 use Rattle.seg_check.specs.Sizes.{measured}
-use Rattle.seg_check.proofs.LeavesCome.{next-cut, next-sized, next-standing, all-sized, all-stand, no_more, starts-sized}
-use Rattle.seg_check.proofs.LeavesCome.{starts-standing, SizedWith}
+use Rattle.seg_check.proofs.LeavesCome.{next-cut, next-sized, next-standing, all-sized, all-stand, no_more, starts-sized, starts-standing, SizedWith}
 use Rattle.seg_check.proofs.ValuesCome.{measured-some}
 use Rattle.seg_check.proofs.field_totals.add_leaves.Goals as goal
 

@@ -1,5 +1,5 @@
 use Rattle.std.proofs.Common.{◌≡◌, ◌∙◌, map, arith}
-use Rattle.seg_input.specs.View.{operation_of}
+use Rattle.seg_check.specs.View.{operation_of}
 use Rattle.seg_generate.specs.Generated.{group_operations}
 use Rattle.seg_generate.proofs.AllGroups.{all_groups}
 use Rattle.seg_generate.proofs.Counted.{group_more}

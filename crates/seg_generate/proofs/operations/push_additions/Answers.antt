@@ -1,6 +1,6 @@
 use Rattle.std.proofs.Common.{◌+◌, ◌*◌, map}
 use Rattle.seg_model.specs.Operations.{add}
-use Rattle.seg_input.specs.View.{operation_of}
+use Rattle.seg_check.specs.View.{operation_of}
 use Rattle.seg_generate.specs.Documents.{document}
 use Rattle.seg_generate.proofs.Counted.{item_more}
 use Rattle.seg_generate.proofs.operations.push_additions.Goals as goal

@@ -1,4 +1,4 @@
-use Rattle.seg_words.proofs.Exports.{all_passed, one_more}
+use Rattle.seg_tokens.proofs.Exports.{all_passed, one_more}
 use Rattle.seg_meta.specs.Fits.{HasTexts}
 use Rattle.seg_meta.proofs.meta_law.have_texts.Goals as goal
 

@@ -1,5 +1,5 @@
 use Rattle.std.proofs.Common.{◌<◌, ◌^◌}
-use Rattle.seg_words.proofs.Exports.{all_passed, one_more}
+use Rattle.seg_tokens.proofs.Exports.{all_passed, one_more}
 use Rattle.seg_meta.proofs.meta_law.ids_fit.Goals as goal
 
 pub loop-id-preserved : goal.loop-id-preserved

@@ -9,7 +9,7 @@ use Rattle.serde_json.specs.View.{view, members_view}
 use Rattle.serde_json.specs.declared.value.Value.{Object}
 use Rattle.serde_json.proofs.Views.{view-Object}
 use Rattle.seg_meta.specs.Reads.{required}
-use Rattle.seg_input.specs.View.{operation_of}
+use Rattle.seg_check.specs.View.{operation_of}
 use Rattle.seg_script.specs.Fields.{schema_from}
 use Rattle.seg_script.specs.Script.{input_with, script_from}
 use Rattle.seg_script.proofs.OneByOne.{script_of}

@@ -1,6 +1,6 @@
 use Rattle.std.proofs.Common.{◌≡◌, false, sym, ap, ◌∙◌, arith}
 use Rattle.std.proofs.lemmas.Bool.{true≢false}
-use Rattle.seg_stored.specs.StoredDocument as documents
+use Rattle.seg_doc_bytes.specs.StoredDocument as documents
 use Rattle.seg_store.proofs.CutParts.{part_turn, part_stops, parts_end}
 use Rattle.seg_store.proofs.block_check.are_documents.Goals as goal
 

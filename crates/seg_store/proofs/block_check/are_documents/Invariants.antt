@@ -1,4 +1,4 @@
-use Rattle.seg_stored.specs.StoredDocument as documents
+use Rattle.seg_doc_bytes.specs.StoredDocument as documents
 use Rattle.seg_store.proofs.CutParts.{PartsPassed}
 use Rattle.seg_store.proofs.block_check.are_documents.Given as goal
 

@@ -1,7 +1,7 @@
 use Rattle.std.proofs.Common.{◌≡◌, None, Some, subst, slice_range}
 use Rattle.std.specs.Prelude.{MatchOption}
 use Rattle.seg_store.specs.Block.{documents_in}
-use Rattle.seg_stored.specs.StoredDocument.{is_stored_document, stored_document_of}
+use Rattle.seg_doc_bytes.specs.StoredDocument.{is_stored_document, stored_document_of}
 use Rattle.seg_store.proofs.DocumentPlaces.{block_facts}
 use Rattle.seg_store.proofs.MadeDocuments.{not_stored}
 use Rattle.seg_store.proofs.PartPlaces.{passes_at}

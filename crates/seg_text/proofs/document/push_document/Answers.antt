@@ -1,4 +1,4 @@
-use Rattle.seg_stored.specs.StoredDocument.{stored_document_of}
+use Rattle.seg_doc_bytes.specs.StoredDocument.{stored_document_of}
 use Rattle.seg_text.proofs.PrintedStored.{line_printed}
 use Rattle.seg_text.proofs.document.push_document.Goals as goal
 

@@ -1,7 +1,7 @@
 use Rattle.std.proofs.Common.{◌≡◌, None, Some, subst}
 use Rattle.std.specs.Prelude.{MatchOption}
 use Rattle.serde_json.specs.Written.{compact_text}
-use Rattle.seg_stored.specs.StoredDocument.{stored_document_of}
+use Rattle.seg_doc_bytes.specs.StoredDocument.{stored_document_of}
 use Rattle.seg_text.specs.DocumentText.{document_json}
 use Rattle.seg_text.proofs.PrintedStored.{read_printed}
 use Rattle.seg_text.proofs.document.push_read_pairs.Goals as goal

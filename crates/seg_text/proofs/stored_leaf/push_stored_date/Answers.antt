@@ -1,7 +1,7 @@
 use Rattle.std.proofs.Common.{◌++◌, ap, ◌∙◌, w64, FitsSigned, rules}
 use Rattle.std.proofs.lemmas.Int.{to_z-of_z}
 use Rattle.json.specs.Print.{quoted}
-use Rattle.seg_dates.specs.DateText.{date_text}
+use Rattle.seg_common.specs.DateText.{date_text}
 use Rattle.seg_text.proofs.PrintedFronts.{not_more}
 use Rattle.seg_text.proofs.stored_leaf.push_stored_date.Goals as goal
 

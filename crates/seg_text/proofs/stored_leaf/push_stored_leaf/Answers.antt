@@ -7,9 +7,9 @@ use Rattle.serde_json.specs.Data as json
 use Rattle.serde_json.specs.Written.{compact_text}
 use Rattle.base64.specs.Engines.{standard}
 use Rattle.base64.specs.GeneralPurpose.{encode_of}
-use Rattle.seg_dates.specs.DateText.{date_text}
-use Rattle.seg_stored.specs.Reader as read
-use Rattle.seg_stored.specs.StoredTree as trees
+use Rattle.seg_common.specs.DateText.{date_text}
+use Rattle.seg_doc_bytes.specs.Reader as read
+use Rattle.seg_doc_bytes.specs.StoredTree as trees
 use Rattle.seg_values.specs.AddressText.{address_text}
 use Rattle.seg_values.specs.Facets.{path_of}
 use Rattle.seg_values.specs.Tree.{null, text, unsigned, signed, boolean, date, facet, byte_string, ip}

@@ -1,7 +1,7 @@
 use Rattle.std.proofs.Common.{◌∷◌, [], subst}
 use Rattle.serde_json.specs.Written.{comma_if, compact_text}
-use Rattle.seg_stored.specs.Reader as read
-use Rattle.seg_stored.specs.StoredDocument.{pair_at}
+use Rattle.seg_doc_bytes.specs.Reader as read
+use Rattle.seg_doc_bytes.specs.StoredDocument.{pair_at}
 use Rattle.seg_text.specs.DocumentText.{document_json, pair_json}
 use Rattle.seg_text.specs.Printing.{Prints}
 use Rattle.seg_text.proofs.PrintedFronts.{not_more, printed_text}

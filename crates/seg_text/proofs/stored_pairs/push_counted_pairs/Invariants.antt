@@ -1,5 +1,5 @@
 use Rattle.std.proofs.Common.{◌-◌}
-use Rattle.seg_stored.specs.StoredDocument.{pair_at}
+use Rattle.seg_doc_bytes.specs.StoredDocument.{pair_at}
 use Rattle.seg_text.specs.DocumentText.{pair_json}
 use Rattle.seg_text.proofs.PrintedCounts.{ItemsPrinted}
 use Rattle.seg_text.proofs.stored_pairs.push_counted_pairs.Given as goal

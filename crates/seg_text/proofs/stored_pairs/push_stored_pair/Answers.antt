@@ -1,7 +1,7 @@
 use Rattle.std.proofs.Common.{◌∷◌, [], subst}
 use Rattle.json.specs.Print.{quoted}
-use Rattle.seg_stored.specs.StoredDocument.{most_levels_read}
-use Rattle.seg_stored.specs.StoredTree as trees
+use Rattle.seg_doc_bytes.specs.StoredDocument.{most_levels_read}
+use Rattle.seg_doc_bytes.specs.StoredTree as trees
 use Rattle.seg_text.specs.DocumentText.{name_at}
 use Rattle.seg_text.specs.Printing.{Prints}
 use Rattle.seg_text.proofs.PrintedFronts.{not_more, more_by, more_then, tree_text}

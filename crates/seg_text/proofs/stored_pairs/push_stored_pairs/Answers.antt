@@ -1,7 +1,7 @@
 use Rattle.std.proofs.Common.{ℕ, List, sym, subst, ◌∙◌}
 use Rattle.serde_json.specs.Written.{compact_text}
-use Rattle.seg_stored.specs.Reader as read
-use Rattle.seg_stored.specs.StoredDocument.{pair_at}
+use Rattle.seg_doc_bytes.specs.Reader as read
+use Rattle.seg_doc_bytes.specs.StoredDocument.{pair_at}
 use Rattle.seg_values.specs.Tree.{Document}
 use Rattle.seg_text.specs.DocumentText.{document_json}
 use Rattle.seg_text.specs.Printing.{Prints}

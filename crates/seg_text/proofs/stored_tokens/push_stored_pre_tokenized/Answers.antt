@@ -2,8 +2,8 @@ use Rattle.std.proofs.Common.{codes, refl, subst}
 use Rattle.json.specs.Print.{quoted}
 use Rattle.serde_json.specs.Data.{array}
 use Rattle.serde_json.specs.Written.{compact_text}
-use Rattle.seg_stored.specs.Reader as read
-use Rattle.seg_stored.specs.StoredTree as trees
+use Rattle.seg_doc_bytes.specs.Reader as read
+use Rattle.seg_doc_bytes.specs.StoredTree as trees
 use Rattle.seg_values.specs.Tree.{pre_tokenized}
 use Rattle.seg_values.specs.ValueJson.{tokens_items}
 use Rattle.seg_text.specs.Printing.{Prints}

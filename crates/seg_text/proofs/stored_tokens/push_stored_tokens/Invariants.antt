@@ -1,5 +1,5 @@
 use Rattle.std.proofs.Common.{◌-◌}
-use Rattle.seg_stored.specs.StoredTree as trees
+use Rattle.seg_doc_bytes.specs.StoredTree as trees
 use Rattle.seg_values.specs.ValueJson.{token_json}
 use Rattle.seg_text.proofs.PrintedCounts.{ItemsPrinted}
 use Rattle.seg_text.proofs.stored_tokens.push_stored_tokens.Given as goal

@@ -1,9 +1,9 @@
 use Rattle.std.proofs.Common.{rules, ◌∷◌, [], ◌-◌, refl, sym, subst, ◌∙◌, arith}
 use Rattle.json.specs.Print.{quoted}
 use Rattle.serde_json.specs.Written.{comma_if, compact_text}
-use Rattle.seg_stored.specs.Reader as read
-use Rattle.seg_stored.specs.StoredTree as trees
-use Rattle.seg_stored.proofs.Exports.{array_front, object_front, leaf_front}
+use Rattle.seg_doc_bytes.specs.Reader as read
+use Rattle.seg_doc_bytes.specs.StoredTree as trees
+use Rattle.seg_doc_bytes.proofs.Exports.{array_front, object_front, leaf_front}
 use Rattle.seg_values.specs.Tree.{leaf, array, object, trees_from, members_from}
 use Rattle.seg_values.specs.ValueJson.{value_json}
 use Rattle.seg_text.specs.Printing.{Prints}

@@ -1,7 +1,7 @@
 use Rattle.std.proofs.Common.{◌+◌, ◌-◌, ◌*◌}
 use denote.Shadow.{shadow}
 use denote.Text.{Utf8}
-use Rattle.seg_stored.specs.StoredTree as trees
+use Rattle.seg_doc_bytes.specs.StoredTree as trees
 use Rattle.seg_values.specs.ValueJson.{value_json}
 use Rattle.seg_text.proofs.PrintedCounts.{ItemsPrinted}
 use Rattle.seg_text.proofs.PrintedMembers.{MembersPrinted}

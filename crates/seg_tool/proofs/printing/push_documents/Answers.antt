@@ -1,6 +1,6 @@
 use Rattle.std.proofs.Common.{◌∙◌, ap, sym}
 use Rattle.seg_store.specs.Store.{documents_of}
-use Rattle.seg_stored.specs.StoredDocument.{is_stored_document, stored_document_of}
+use Rattle.seg_doc_bytes.specs.StoredDocument.{is_stored_document, stored_document_of}
 use Rattle.seg_tool.proofs.Printed.{document_more}
 use Rattle.seg_tool.proofs.printing.push_documents.Goals as goal
 

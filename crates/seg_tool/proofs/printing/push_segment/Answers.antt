@@ -1,8 +1,8 @@
 use Rattle.std.proofs.Common.{◌≡◌, ◌++◌, ap, sym, subst, ◌∙◌}
 use Rattle.std.specs.Prelude.{OnOk}
-use Rattle.seg_columnar.specs.ColumnFiles.{ColumnFile}
-use Rattle.seg_columns_written.specs.ModelColumns.{columns_in}
-use Rattle.seg_column_text.specs.ColumnText.{columns_text}
+use Rattle.seg_column_file.specs.ColumnFiles.{ColumnFile}
+use Rattle.seg_column_format.specs.ModelColumns.{columns_in}
+use Rattle.seg_text.specs.ColumnText.{columns_text}
 use Rattle.seg_open.specs.OpenSegment.{contents_of}
 use Rattle.seg_tool.specs.Printing.{read_segment, read_segment_text}
 use Rattle.seg_tool.specs.declared.words.Detail.{Detail}

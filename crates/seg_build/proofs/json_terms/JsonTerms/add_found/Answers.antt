@@ -5,7 +5,7 @@ use Rattle.seg_values.specs.View.{tree_of}
 use Rattle.seg_paths.specs.NumberedLeaves.{leaf_in}
 use Rattle.seg_paths.specs.Paths.{number_of}
 use Rattle.seg_paths.specs.declared.leaves.NumberedLeaf.{NumberedLeaf}
-use Rattle.seg_words.specs.declared.token.Token.{Token}
+use Rattle.seg_tokens.specs.declared.token.Token.{Token}
 use Rattle.seg_check.specs.LeafContents.{leaf_with, with_texts}
 use Rattle.seg_check.specs.Paths.{IsNumbered, path_leaf}
 use Rattle.seg_check.proofs.Exports.{no_more}

@@ -1,6 +1,6 @@
 use Rattle.std.proofs.Common.{rules, ◌≡◌, ◌∙◌, [], None, ap, true}
 use Rattle.seg_common.specs.declared.name.SegmentComponent.TheVariants.{FastFields, FieldNorms, Positions, Postings, Store, Terms}
-use Rattle.seg_fast_readers.specs.Reading.{FastFields as Readers}
+use Rattle.seg_fastfield.specs.Reading.{FastFields as Readers}
 use Rattle.seg_open.specs.OpenSegment.{OpenSegment}
 use Rattle.seg_open.proofs.Disagreeing.{columns_wrong, norms_wrong, positions_wrong, postings_wrong, store_wrong, terms_wrong, told, why}
 use Rattle.seg_open.proofs.Opened.{as_listed, has_files, has_shape, told_of_listed}

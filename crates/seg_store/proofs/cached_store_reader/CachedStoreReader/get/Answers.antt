@@ -2,7 +2,7 @@ use Rattle.std.proofs.Common.{◌≡◌, take, slice_get, Some, sym, ap, ◌∙�
 use Rattle.std.specs.Option.{option_and_then}
 use Rattle.std.proofs.lemmas.Result.{IfOk-weaker}
 use Rattle.seg_store.specs.Block.{documents_in}
-use Rattle.seg_stored.specs.StoredDocument.{stored_document_of}
+use Rattle.seg_doc_bytes.specs.StoredDocument.{stored_document_of}
 use Rattle.seg_store.specs.Store.{document_count, documents_of}
 use Rattle.seg_store.proofs.DocumentPlaces.{raw_in_block}
 use Rattle.seg_store.proofs.MadeDocuments.{stored_read}

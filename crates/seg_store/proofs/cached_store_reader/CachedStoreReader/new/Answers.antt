@@ -3,7 +3,7 @@ use Rattle.std.specs.List.{list_all}
 use Rattle.std.proofs.lemmas.List.Elements.{All-nil, All-same}
 use Rattle.seg_store.specs.CachedBlocks.{IsBlockOf}
 use Rattle.seg_store.specs.Store.{raw_documents}
-use Rattle.seg_stored.specs.StoredDocument.{is_stored_document}
+use Rattle.seg_doc_bytes.specs.StoredDocument.{is_stored_document}
 use Rattle.seg_store.proofs.MadeDocuments.{all_are_stored}
 use Rattle.seg_store.proofs.cached_store_reader.CachedStoreReader.new.Goals as goal
 

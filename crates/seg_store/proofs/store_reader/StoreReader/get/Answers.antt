@@ -2,7 +2,7 @@ use Rattle.std.proofs.Common.{◌≡◌, true, Some, None, sym, ap, ◌∙◌, s
 use Rattle.std.specs.Prelude.{MatchOption}
 use Rattle.std.specs.List.{slice_get}
 use Rattle.seg_store.specs.Store.{is_store, blocks_of, documents_of}
-use Rattle.seg_stored.specs.StoredDocument.{stored_document_of}
+use Rattle.seg_doc_bytes.specs.StoredDocument.{stored_document_of}
 use Rattle.seg_store.proofs.DocumentPlaces.{stored_at}
 use Rattle.seg_store.proofs.MadeDocuments.{document_read, not_stored}
 use Rattle.seg_store.proofs.store_reader.StoreReader.get.Goals as goal

@@ -1,5 +1,5 @@
 use Rattle.std.proofs.Common.{◌≡◌, ◌++◌, ℕ, map, length, take}
-use Rattle.seg_words.specs.declared.token.Token.{Token}
+use Rattle.seg_tokens.specs.declared.token.Token.{Token}
 use Rattle.seg_testing.proofs.analyzers.RepeatsAnalyzers.tokens.Given as goal
 
 abbrev pub invariant-loop-position : goal.invariant-loop-position

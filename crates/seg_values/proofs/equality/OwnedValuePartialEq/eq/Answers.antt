@@ -1,5 +1,5 @@
 use Rattle.seg_values.specs.Code.{tree_code}
-use Rattle.seg_words.specs.Same.{same_by-is}
+use Rattle.seg_tokens.specs.Same.{same_by-is}
 use Rattle.seg_values.specs.View.{tree_of}
 use Rattle.seg_values.proofs.equality.OwnedValuePartialEq.eq.Goals as goal
 

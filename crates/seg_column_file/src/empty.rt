@@ -1,0 +1,22 @@
+//! Files without columns.
+ghost use Rattle.std.specs.Prelude.{◌≡◌};
+ghost use Rattle.seg_column_file.specs.Columnar.{rows_of};
+
+use crate::format::{COUNT, FOOTER, LEAST, NO_COLUMN, VERSION};
+use seg_common::{u32_at, u64_at};
+
+/// The number of rows, where the bytes are a file without columns: a fixed number of steps, and no memory.
+#[tactic(auto, unfolding(crate::specs::Columnar::rows_of, crate::specs::Columnar::is_without_columns))]
+pub fn rows_without_columns(bytes: &[u8]) -> Option<u32>
+    ensures { result ≡ rows_of bytes.now }
+{
+    if bytes.len() == LEAST
+        && u64_at(bytes, 0) == NO_COLUMN
+        && u64_at(bytes, COUNT) == COUNT as u64
+        && u32_at(bytes, COUNT + FOOTER - 4) == VERSION
+    {
+        Some(u32_at(bytes, FOOTER))
+    } else {
+        None
+    }
+}

@@ -1,0 +1,10 @@
+pub mod Cells
+pub mod Decisions
+pub mod Groups
+pub mod LiveColumns
+pub mod MergedBytes
+pub mod MergedColumns
+pub mod MergedFiles
+pub mod Merging
+pub mod Plans
+pub mod TableOrder

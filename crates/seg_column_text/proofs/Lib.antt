@@ -1,2 +1,0 @@
-mod FileOrder
-mod PrintedRows

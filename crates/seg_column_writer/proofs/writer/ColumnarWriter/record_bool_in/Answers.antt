@@ -1,0 +1,22 @@
+use Rattle.std.proofs.Common.{◌∙◌}
+use Rattle.seg_model.specs.Columns.{boolean_value}
+use Rattle.seg_column_writer.specs.declared.value_kind.ValueKind.TheVariants.{Bool as Boolean}
+use Rattle.seg_column_writer.proofs.TakeLaws.{may_push, push_adds, row_is, truth_fits, truth_is}
+use Rattle.seg_column_writer.proofs.writer.ColumnarWriter.record_bool_in.Goals as goal
+
+pub push-requires : goal.push-requires
+push-requires c =
+    may_push Boolean c.args.doc (boolean_value c.args.value) c.of_number.result
+    (row_is c.of_number.result c.args.doc c.to_u64.result c.of_number.ensures)
+    (truth_fits c.of_number.result c.args.doc c.to_u64.result c.of_number.ensures c.args.value c.to_u64.ensures.number)
+    (truth_is c.of_number.result c.args.doc c.to_u64.result c.of_number.ensures c.args.value c.to_u64.ensures.number)
+    c.args.column.place c.args.self.now c.requires
+
+pub returns-clause-ok : goal.returns-clause-ok
+returns-clause-ok c =
+    c.in_ok-push.ensures.ok
+    ∙ push_adds Boolean c.args.doc (boolean_value c.args.value) c.of_number.result
+    (row_is c.of_number.result c.args.doc c.to_u64.result c.of_number.ensures)
+    (truth_fits c.of_number.result c.args.doc c.to_u64.result c.of_number.ensures c.args.value c.to_u64.ensures.number)
+    (truth_is c.of_number.result c.args.doc c.to_u64.result c.of_number.ensures c.args.value c.to_u64.ensures.number)
+    c.args.column.place c.args.self.now c.requires

@@ -1,0 +1,12 @@
+use Rattle.std.proofs.Common.{sym, subst}
+use Rattle.seg_model.specs.Columns.{text_value}
+use Rattle.seg_column_writer.specs.Takes.{At, CanTake}
+use Rattle.seg_column_writer.specs.declared.value_kind.ValueKind.TheVariants.{Str}
+use Rattle.seg_column_writer.proofs.TakeLaws.{takes_named}
+use Rattle.seg_column_writer.proofs.writer.ColumnarWriter.record_str.Goals as goal
+
+pub record_str_in-requires : goal.record_str_in-requires
+record_str_in-requires c =
+    subst (λ (X : Type 0). X) (sym (λ j. At (CanTake Str c.args.doc (text_value c.args.value.now))
+    (c.in_ok-column.ensures.place j) (c.in_ok-column.ensures.ok j)))
+    (takes_named c.args.name.now Str c.args.doc (text_value c.args.value.now) c.args.self.now c.requires)

@@ -1,0 +1,13 @@
+pub mod Documents
+pub mod Encoded
+pub mod Filed
+pub mod Kinds
+pub mod Known
+pub mod Names
+pub mod Recorded
+pub mod Records
+pub mod RowByRow
+pub mod RowValues
+pub mod Sound
+pub mod Takes
+pub mod Typed

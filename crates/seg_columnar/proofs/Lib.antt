@@ -1,3 +1,0 @@
-mod FileParts
-mod FileSteps
-mod TableSteps

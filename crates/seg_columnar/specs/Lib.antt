@@ -1,4 +1,0 @@
-pub mod ColumnFiles
-pub mod ColumnTable
-pub mod Columnar
-pub mod Footers

@@ -1,6 +1,0 @@
-use Rattle.std.proofs.Common.{◌≡◌, replicate}
-use Rattle.seg_columns_joined.specs.declared.source.Source.TheVariants.{Nothing}
-use Rattle.seg_columns_joined.proofs.column_sources.no_sources.Given as goal
-
-abbrev pub invariant-loop-file : goal.invariant-loop-file
-invariant-loop-file l = l.sources.items ≡ replicate l._file Nothing

@@ -1,6 +1,0 @@
-use Rattle.std.proofs.Common.{map, take}
-use Rattle.seg_columns_joined.specs.TermHeads.{AreLong}
-use Rattle.seg_columns_joined.proofs.dictionaries.no_ordinals.Given as goal
-
-abbrev pub invariant-loop-column : goal.invariant-loop-column
-invariant-loop-column l = AreLong (take l.column-index l.columns) (map (λ v. v.items) l.ordinals.items)

@@ -1,6 +1,0 @@
-use Rattle.seg_columns_joined.proofs.HeadLemmas.{pushed}
-use Rattle.seg_columns_joined.proofs.head_heap.HeadHeap.push.Goals as goal
-
-pub returns : goal.returns
-returns c = pushed _ c.self.inside.heap.data.items c.push.new.self.data.items c.self.view_is
-    record { 0 = (c.args.bytes, c.args.first, c.args.second) } c.in-Ok.ensures.permutation

@@ -1,7 +1,0 @@
-use Rattle.std.proofs.Common.{◌≡◌, drop}
-use Rattle.seg_columns_merged.specs.Decisions.{range_of}
-use Rattle.seg_columns_joined.specs.NumberRanges.{no_numbers}
-use Rattle.seg_columns_merged.proofs.decisions.number_range.Given as goal
-
-abbrev pub invariant-loop-row : goal.invariant-loop-row
-invariant-loop-row l = range_of l.kept l.range (drop l.row-index l.rows) ≡ range_of l.kept no_numbers l.rows

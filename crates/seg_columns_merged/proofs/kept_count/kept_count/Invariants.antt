@@ -1,8 +1,0 @@
-use Rattle.std.proofs.Common.{take}
-use Rattle.std.specs.Prelude.{All}
-use Rattle.seg_columns_merged.specs.MergedBytes.{RowFits}
-use Rattle.seg_columns_joined.specs.declared.tables.TableRow.{TableRow}
-use Rattle.seg_columns_merged.proofs.kept_count.kept_count.Given as goal
-
-abbrev pub invariant-loop-row : goal.invariant-loop-row
-invariant-loop-row l = All (λ (r : TableRow). RowFits l.kept r.column) (take l.row-index l.rows)

@@ -1,5 +1,0 @@
-pub use Rattle.seg_columns_recorded.proofs.Bridge.{key_eq}
-pub use Rattle.seg_columns_recorded.proofs.DocumentColumns.{AreEmpty, IsNothingElse, columns_of_documents, same_columns}
-pub use Rattle.seg_columns_recorded.proofs.DocumentRows.{is_at, key_named}
-pub use Rattle.seg_columns_recorded.proofs.RowSteps.{all_within, below_with, can_take, later, may_change_new, may_record, named_itself, named_kind, named_path, new_column, recorded, there_already, there_recorded, there_still, there_then, there_with, with_change_new}
-pub use Rattle.seg_columns_recorded.proofs.TakeLaws.{takes_named}

@@ -1,7 +1,0 @@
-use Rattle.std.proofs.Common.{◌≡◌, map, take}
-use Rattle.seg_columns_recorded.specs.Encoded.{ranked}
-use Rattle.seg_columns_recorded.proofs.column_encoding.ordinals.Given as goal
-
-abbrev pub invariant-loop-value : goal.invariant-loop-value
-invariant-loop-value l =
-    record { are : l.numbers.items ≡ map (ranked l.ordinals) (take l.value-index l.values) }

@@ -1,9 +1,0 @@
-use Rattle.std.proofs.Common.{◌≡◌, ◌++◌, drop}
-use Rattle.seg_columns_recorded.specs.Typed.{typed_from}
-use Rattle.seg_columns_recorded.proofs.typed_column.typed_columns.Given as goal
-
--- what there is so far, with what is left, is all
-abbrev pub invariant-loop-place : goal.invariant-loop-place
-invariant-loop-place l = record {
-  all : l.typed.items ++ typed_from l.place (drop l.place l.columns) ≡ typed_from 0 l.columns;
-}

@@ -1,5 +1,0 @@
-use Rattle.seg_columns_written.proofs.TermLaws.{is_str_column}
-use Rattle.seg_columns_written.proofs.laws.str_columns_read_back.Goals as goal
-
-pub returns : goal.returns
-returns c = λ ords terms some few values uses sorted utf8. is_str_column ords terms some few values uses sorted utf8

@@ -1,8 +1,0 @@
-use Rattle.std.proofs.Common.{length, sym, ap, ◌∙◌}
-use Rattle.seg_columns_written.proofs.TermNumbers.{term_number-new}
-use Rattle.seg_columns_written.proofs.term_table.TermTable.add_first.Goals as goal
-
-pub returns-clause-number : goal.returns-clause-number
-returns-clause-number c =
-    c.len-number.ensures.len ∙ ap length c.self.view_is
-    ∙ sym (term_number-new c.args.self.now c.args.term.now c.requires)

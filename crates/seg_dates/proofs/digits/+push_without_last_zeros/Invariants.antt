@@ -1,4 +1,0 @@
-use Rattle.seg_dates.proofs.digits.+push_without_last_zeros.Given as goal
-
-abbrev pub decreases-push_without_last_zeros : goal.decreases-push_without_last_zeros
-decreases-push_without_last_zeros l = l.count

@@ -1,6 +1,0 @@
-pub mod Civil
-pub mod Dates
-pub mod DateReading
-pub mod DateText
-pub mod Digits
-pub mod Laws

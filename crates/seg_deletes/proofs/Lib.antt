@@ -1,3 +1,0 @@
-mod Flushes
-mod Skipping
-mod Skips

@@ -1,5 +1,0 @@
-use Rattle.seg_deletes.proofs.Skips.{skipped_is_first}
-use Rattle.seg_deletes.proofs.laws.skipping_finds_the_first.Goals as goal
-
-pub returns : goal.returns
-returns g c = λ target operations position inside. skipped_is_first target operations position inside

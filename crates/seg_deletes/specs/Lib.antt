@@ -1,4 +1,0 @@
-pub mod Deleted
-pub mod Laws
-pub mod QueueEnds
-pub mod Queues

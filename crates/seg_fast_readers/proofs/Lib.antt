@@ -1,2 +1,0 @@
-mod NameLaws
-mod Sizes

@@ -1,7 +1,0 @@
-use Rattle.std.proofs.Common.{◌≡◌, drop}
-use Rattle.seg_fast_readers.specs.Reading.{first_of, lenient}
-use Rattle.seg_fast_readers.proofs.lenient.first_numbers.Given as goal
-
--- the first one is among those that are left
-abbrev pub invariant-loop-handle : goal.invariant-loop-handle
-invariant-loop-handle l = first_of (lenient l.types) (drop l.handle-index l.handles) ≡ first_of (lenient l.types) l.handles

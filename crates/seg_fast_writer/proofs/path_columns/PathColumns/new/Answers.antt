@@ -1,5 +1,0 @@
-use Rattle.seg_fast_writer.proofs.Numbering.{none_known}
-use Rattle.seg_fast_writer.proofs.path_columns.PathColumns.new.Goals as goal
-
-pub returns : goal.returns
-returns c columns = none_known _ c.new-2.ensures.items columns

@@ -1,0 +1,12 @@
+mod Arranging
+mod Counts
+mod Facets
+mod FieldFacts
+mod NameLaws
+mod Numbering
+mod Owners
+mod Placing
+mod Sizes
+mod Steps
+mod Turns
+mod Walks

@@ -1,0 +1,7 @@
+use Rattle.std.proofs.Common.{◌≡◌, drop}
+use Rattle.seg_model.specs.Checked.{has_no_zero}
+use Rattle.seg_fastfield.proofs.path_columns.has_no_zero.Given as goal
+
+-- what is left decides
+abbrev pub invariant-loop-byte : goal.invariant-loop-byte
+invariant-loop-byte l = has_no_zero (drop l.byte-index l.bytes) ≡ has_no_zero l.bytes

@@ -1,0 +1,10 @@
+pub mod Answers
+pub mod ColumnNames
+pub mod FastLeaves
+pub mod FieldColumns
+pub mod FirstColumns
+pub mod PathNumbers
+pub mod Reading
+pub mod Usage
+pub mod Walking
+pub mod Writing

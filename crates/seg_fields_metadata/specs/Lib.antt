@@ -1,4 +1,0 @@
-pub mod Columns
-pub mod Indexed
-pub mod Listed
-pub mod Metadata

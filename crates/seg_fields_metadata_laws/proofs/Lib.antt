@@ -1,8 +1,0 @@
-mod DictionaryLengths
-mod FileParts
-mod FilesSaid
-mod Groups
-mod ReaderParts
-mod SaidLengths
-mod Shares
-mod SpaceSums

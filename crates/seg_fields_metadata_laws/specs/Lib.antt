@@ -1,2 +1,0 @@
-pub mod FileLengths
-pub mod PartLengths

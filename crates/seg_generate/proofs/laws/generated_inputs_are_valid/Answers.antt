@@ -1,0 +1,5 @@
+use Rattle.seg_generate.proofs.Valid.{generated_valid}
+use Rattle.seg_generate.proofs.laws.generated_inputs_are_valid.Goals as goal
+
+pub returns : goal.returns
+returns c = generated_valid

@@ -1,2 +1,0 @@
-mod DefaultTokens
-mod Valid

@@ -1,5 +1,0 @@
-use Rattle.seg_generate_laws.proofs.Valid.{generated_valid}
-use Rattle.seg_generate_laws.proofs.laws.generated_inputs_are_valid.Goals as goal
-
-pub returns : goal.returns
-returns c = generated_valid

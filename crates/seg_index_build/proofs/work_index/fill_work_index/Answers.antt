@@ -1,0 +1,102 @@
+use Rattle.std.proofs.Common.{◌≡◌, ◌<◌, ◌^◌, ◌+◌, ◌∙◌, Err, ℕ, List, None, length, map, refl, sym, ap, subst}
+use Rattle.std.proofs.lemmas.List.{length-map}
+use Rattle.std.proofs.lemmas.Result.{IfOk-weaker}
+use Rattle.seg_check.specs.View.{operation_of}
+use Rattle.seg_meta.specs.declared.index_meta.IndexMeta.{IndexMeta}
+use Rattle.seg_model.specs.Input.{Input}
+use Rattle.seg_model.specs.Valid.{are_distinct, cuts_fit, input_refusal}
+use Rattle.seg_check.specs.WriterStart.{start_refusal}
+use Rattle.seg_batches.specs.Segments.{WrittenSegment}
+use Rattle.seg_check.specs.Inputs.{input_of}
+use Rattle.seg_index_build.specs.DirectoryCalls.{FillsWork}
+use Rattle.seg_index_build.specs.IndexFiles.{work_ids, work_meta, written_of}
+use Rattle.seg_index_build.specs.WorkIndexWriting.{FillsIndex, listing_meta}
+use Rattle.seg_index_build.proofs.FilledIndex.{batches_end, batches_finished}
+use Rattle.seg_index_build.proofs.FillSteps.{as_many, ids_are, ids_of}
+use Rattle.seg_index_build.proofs.WholeIds.{work_distinct, work_few, work_many}
+use Rattle.seg_index_build.proofs.WholeRefused.{starts}
+use Rattle.seg_index_build.proofs.work_index.fill_work_index.Goals as goal
+
+pub write_batches-requires-clause-cuts : goal.write_batches-requires-clause-cuts
+write_batches-requires-clause-cuts g c =
+    ap (λ (x : Input). cuts_fit x.operations x.cuts) c.input.view_is ∙ c.requires.fits.cuts
+
+pub write_batches-requires-clause-ids : goal.write_batches-requires-clause-ids
+write_batches-requires-clause-ids g c =
+    ap length c.requires.ids ∙ work_many c.args.input.now.cuts c.args.input.now.ids c.requires.fits.ids ∙ ap
+    (λ (x : Input). length x.cuts + 1) (sym c.input.view_is)
+
+pub returns-in-Err-clause-does : goal.returns-in-Err-clause-does
+returns-in-Err-clause-does g c =
+    let knows = g.Z.Analyzers.knows c.args.analyzers.now in
+    let F = g.Z.Analyzers.tokens_of c.args.analyzers.now in
+    let i = c.input.inside in
+    let meant = input_of i.schema.now i.settings.now i.operations.now i.cuts.now i.filters.now i.ids.now in
+    let before = g.W.Directory.state c.args.work.now in
+    let after = g.W.Directory.state c.write_batches.new.directory in
+    let none = starts knows F meant i.settings.now refl
+    (subst (λ (x : Input). input_refusal knows F x ≡ None) (sym c.input.view_is) c.requires.admitted) in
+    subst (λ (x : Input). FillsWork {T = IndexMeta} F x (Err c.in-Err.e) before after) c.input.view_is
+    (subst (λ (l : List ℕ). FillsIndex {T = IndexMeta} meant.settings meant.schema F l meant.cuts meant.operations (Err c.in-Err.e) before after) (c.requires.ids ∙ ap (λ (x : Input). work_ids x.ids) (sym c.input.view_is))
+    (batches_end meant.settings meant.schema F c.args.ids.now meant.cuts meant.operations
+    (start_refusal knows 15000 meant.schema i.settings.now) none c.in-Err.e before after c.in-Err.ensures.does))
+
+pub finish_work_index-requires-clause-few : goal.finish_work_index-requires-clause-few
+finish_work_index-requires-clause-few g c =
+    let i = c.input.inside in
+    let F = g.Z.Analyzers.tokens_of c.args.analyzers.now in
+    let ids = c.args.ids.now in
+    let counted =
+    ap length c.requires.ids ∙ work_many c.args.input.now.cuts c.args.input.now.ids c.requires.fits.ids ∙ ap
+    (λ (x : Input). length x.cuts + 1) (sym c.input.view_is) in
+    let many = as_many i.schema.now F ids i.cuts.now (map operation_of i.operations.now) counted in
+    subst (λ (n : ℕ). n < 2 ^ 32) (sym (ap length (c.deref.ensures.value ∙ c.in-Ok.ensures.segments) ∙ many))
+    (subst (λ (l : List ℕ). length l < 2 ^ 32) (sym c.requires.ids)
+    (work_few c.args.input.now.cuts c.args.input.now.ids c.requires.fits.batches c.requires.fits.ids))
+
+pub finish_work_index-requires-clause-distinct : goal.finish_work_index-requires-clause-distinct
+finish_work_index-requires-clause-distinct g c =
+    let i = c.input.inside in
+    let F = g.Z.Analyzers.tokens_of c.args.analyzers.now in
+    let counted =
+    ap length c.requires.ids ∙ work_many c.args.input.now.cuts c.args.input.now.ids c.requires.fits.ids ∙ ap
+    (λ (x : Input). length x.cuts + 1) (sym c.input.view_is) in
+    let are = ids_are i.schema.now F c.args.ids.now i.cuts.now (map operation_of i.operations.now) counted in
+    ap are_distinct (ap ids_of (c.deref.ensures.value ∙ c.in-Ok.ensures.segments) ∙ are ∙ c.requires.ids)
+    ∙ work_distinct c.args.input.now.cuts c.args.input.now.ids c.requires.fits.ids
+
+pub returns-clause-meta : goal.returns-clause-meta
+returns-clause-meta g c =
+    let F = g.Z.Analyzers.tokens_of c.args.analyzers.now in
+    let i = c.input.inside in
+    let meant = input_of i.schema.now i.settings.now i.operations.now i.cuts.now i.filters.now i.ids.now in
+    IfOk-weaker c.finish_work_index.result _ _ (λ metas is. is
+    ∙ ap (λ (n : ℕ). listing_meta meant.settings meant.schema n c.deref.result.now)
+    (sym (length-map i.operations.now operation_of))
+    ∙ ap (λ (l : List WrittenSegment). listing_meta meant.settings meant.schema (length meant.operations) l)
+    (c.deref.ensures.value ∙ c.in-Ok.ensures.segments)
+    ∙ ap
+    (λ (l : List ℕ). listing_meta meant.settings meant.schema (length meant.operations)
+    (written_of meant.schema F l meant.cuts meant.operations))
+    (c.requires.ids ∙ ap (λ (x : Input). work_ids x.ids) (sym c.input.view_is))
+    ∙ ap (λ (x : Input). work_meta F x) c.input.view_is) c.finish_work_index.ensures.meta
+
+pub returns-clause-does : goal.returns-clause-does
+returns-clause-does g c =
+    let knows = g.Z.Analyzers.knows c.args.analyzers.now in
+    let F = g.Z.Analyzers.tokens_of c.args.analyzers.now in
+    let i = c.input.inside in
+    let meant = input_of i.schema.now i.settings.now i.operations.now i.cuts.now i.filters.now i.ids.now in
+    let before = g.W.Directory.state c.args.work.now in
+    let made = g.W.Directory.state c.write_batches.new.directory in
+    let after = g.W.Directory.state c.finish_work_index.new.work in
+    let none = starts knows F meant i.settings.now refl
+    (subst (λ (x : Input). input_refusal knows F x ≡ None) (sym c.input.view_is) c.requires.admitted) in
+    subst (λ (x : Input). FillsWork F x c.finish_work_index.result before after) c.input.view_is
+    (subst
+    (λ (l : List ℕ). FillsIndex meant.settings meant.schema F l meant.cuts meant.operations c.finish_work_index.result
+    before after) (c.requires.ids ∙ ap (λ (x : Input). work_ids x.ids) (sym c.input.view_is))
+    (batches_finished meant.settings meant.schema F c.args.ids.now meant.cuts meant.operations
+    (start_refusal knows 15000 meant.schema i.settings.now) none _ c.finish_work_index.result before made after
+    c.in-Ok.ensures.does (length i.operations.now) c.deref.result.now (sym (length-map i.operations.now operation_of))
+    (c.deref.ensures.value ∙ c.in-Ok.ensures.segments) c.finish_work_index.ensures.does))

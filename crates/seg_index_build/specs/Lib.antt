@@ -1,0 +1,16 @@
+pub mod AfterCrash
+pub mod Builds
+pub mod DirectoryCalls
+pub mod EntryOptions
+pub mod IndexFiles
+pub mod IndexMergeAnswers
+pub mod IndexTotals
+pub mod IndicesMerged
+pub mod MergeAnswers
+pub mod MergePlans
+pub mod SegmentsMerged
+pub mod Sources
+pub mod Taken
+pub mod Turns
+pub mod WorkIndexWriting
+pub mod WritingSteps

@@ -1,0 +1,12 @@
+-- What the merge of the work segments needs of an input.
+use Rattle.std.specs.Prelude.{◌≡◌}
+use Rattle.seg_meta.specs.View.{settings_of}
+use Rattle.seg_model.specs.Input.{Input}
+use Rattle.seg_index_build.specs.IndexFiles.{output_id}
+use Rattle.seg_index_build.specs.declared.held_input.MergePlan.{MergePlan}
+
+-- the plan has the input's settings, its filters, and its last id
+pub record IsMergePlan (input : Input) (plan : MergePlan) : Type 0 where
+  pub settings : settings_of plan.settings ≡ input.settings
+  pub filters : plan.filters.items ≡ input.filters
+  pub id : plan.id ≡ output_id input.ids

@@ -1,3 +1,0 @@
-pub mod IndicesMerged
-pub mod MergeAnswers
-pub mod Sources

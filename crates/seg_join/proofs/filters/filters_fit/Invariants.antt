@@ -1,7 +1,0 @@
-use Rattle.std.proofs.Common.{◌≡◌, drop}
-use Rattle.seg_join.specs.Merger.{all_fit}
-use Rattle.seg_join.proofs.filters.filters_fit.Given as goal
-
--- those that are left fit exactly where all do
-abbrev pub invariant-loop-at : goal.invariant-loop-at
-invariant-loop-at l = all_fit (drop l.at l.filters) (drop l.at l.segments) ≡ all_fit l.filters l.segments

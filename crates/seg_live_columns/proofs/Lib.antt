@@ -1,4 +1,0 @@
-mod Agreeing
-mod Joining
-mod LiveRows
-mod RowValues

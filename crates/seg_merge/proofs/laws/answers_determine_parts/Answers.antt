@@ -1,5 +1,0 @@
-use Rattle.seg_merge.proofs.TakenOnce.{determined}
-use Rattle.seg_merge.proofs.laws.answers_determine_parts.Goals as goal
-
-pub returns : goal.returns
-returns c = determined c.files_spell_one_contents.ensures

@@ -1,0 +1,21 @@
+pub mod Exports
+mod ColumnsJoined
+mod CurrentPosting
+mod FieldSources
+mod FittingFilters
+mod JoinedField
+mod JoinedTables
+mod KeptCounts
+mod KeptLists
+mod MergedFiles
+mod MergedKeys
+mod MovedIds
+mod NormsJoined
+mod NumberedParts
+mod SegmentsJoined
+mod SortedEntries
+mod SourcePostings
+mod Standings
+mod StoredRead
+mod StoresJoined
+mod TotalsJoined

@@ -1,0 +1,5 @@
+use Rattle.seg_model.proofs.Posted.{alive_by_postings}
+use Rattle.seg_model.proofs.removal_laws.alive_by_postings.Goals as goal
+
+pub returns : goal.returns
+returns c = alive_by_postings

@@ -1,6 +1,0 @@
-use Rattle.seg_input.specs.View.{operation_of}
-use Rattle.seg_refusals.proofs.Cuts.{all_fit}
-use Rattle.seg_refusals.proofs.batches.cuts_fit.Goals as goal
-
-pub loop-cut-init : goal.loop-cut-init
-loop-cut-init c = all_fit operation_of c.args.operations.now c.args.cuts.now

@@ -1,5 +1,0 @@
-pub mod Exports
-mod Posted
-mod Stamped
-mod Told
-mod Turns

@@ -1,5 +1,0 @@
-use Rattle.seg_removal.proofs.Stamped.{alive_by_stamps}
-use Rattle.seg_removal.proofs.laws.alive_by_stamps.Goals as goal
-
-pub returns : goal.returns
-returns c = alive_by_stamps

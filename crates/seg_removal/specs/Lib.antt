@@ -1,4 +1,0 @@
-pub mod Cleared
-pub mod Laws
-pub mod Postings
-pub mod Stamps

@@ -1,5 +1,0 @@
-mod Answering
-pub mod Exports
-mod KeptMarks
-mod RowSteps
-mod StackedMarks

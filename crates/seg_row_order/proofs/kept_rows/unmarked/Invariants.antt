@@ -1,6 +1,0 @@
-use Rattle.std.proofs.Common.{◌≡◌, ℕ, map, take, false, replicate}
-use Rattle.seg_row_order.proofs.kept_rows.unmarked.Given as goal
-
-abbrev pub invariant-loop-count : goal.invariant-loop-count
-invariant-loop-count l =
-    map (λ v. v.items) l.files.items ≡ map (λ (count : ℕ). replicate count false) (take l.count-index l.counts)

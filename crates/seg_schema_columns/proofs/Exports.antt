@@ -1,9 +1,0 @@
--- What crates above may cite: all other modules are inner.
-pub use Rattle.seg_schema_columns.proofs.DeclaredKeys.{declared_is}
-pub use Rattle.seg_schema_columns.proofs.FileKeys.{keys_ascend}
-pub use Rattle.seg_schema_columns.proofs.FoundColumns.{Rows, entry, is_there, rows_at}
-pub use Rattle.seg_schema_columns.proofs.KeyOrder.{is_other, kind_cmp, kind_place, kind_total, same_column, same_type, ties}
-pub use Rattle.seg_schema_columns.proofs.RowTypes.{row_count_is}
-pub use Rattle.seg_schema_columns.proofs.SchemaSuits.{HasShape, have_shape}
-pub use Rattle.seg_schema_columns.proofs.JsonPaths.{Passing, both, passing, same_bytes}
-pub use Rattle.seg_schema_columns.proofs.NamedFields.{alone}

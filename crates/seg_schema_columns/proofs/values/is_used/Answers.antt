@@ -1,7 +1,0 @@
-use Rattle.std.proofs.Common.{sym, arith}
-use Rattle.seg_schema_columns.proofs.Filled.{none_filled}
-use Rattle.seg_schema_columns.proofs.values.is_used.Goals as goal
-
-pub returns : goal.returns
-returns g c = sym (none_filled c.args.column.now c.loop-doc.doc
-    (omega (arith, c.loop-doc-test.false, c.num_docs-doc-end.ensures)) c.loop-doc.invariant)

@@ -1,6 +1,0 @@
-use Rattle.std.proofs.Common.{◌≡◌, ◌<◌, ℕ, [], false, get_or}
-use Rattle.seg_schema_columns.specs.SchemaColumns.{is_row_filled}
-use Rattle.seg_schema_columns.proofs.values.is_used.Given as goal
-
-abbrev pub invariant-loop-doc : goal.invariant-loop-doc
-invariant-loop-doc g l = (i : ℕ) → i < l.doc → is_row_filled (get_or l.column i []) ≡ false

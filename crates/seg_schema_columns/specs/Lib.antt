@@ -1,3 +1,0 @@
-pub mod FastTokenizers
-pub mod PathStarts
-pub mod SchemaColumns

@@ -1,4 +1,0 @@
--- What crates above may cite: all other modules are inner.
-pub use Rattle.seg_stored.proofs.Gathering.{Gathered, none_yet, one_more, all_made, counted}
-pub use Rattle.seg_stored.proofs.MadeTrees.{array_front, object_front, leaf_front, member_made}
-pub use Rattle.seg_stored.proofs.WholeDocuments.{document_whole}

@@ -1,7 +1,0 @@
-//! What a stored document is read as.
-ghost use Rattle.seg_stored.specs.StoredLaw.{IsReadBack};
-
-/// The stored form of a document reads as its stored pairs.
-pub fn stored_documents_are_read()
-    ensures { IsReadBack }
-{}

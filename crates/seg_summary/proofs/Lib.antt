@@ -1,2 +1,0 @@
-mod TermSums
-mod Streamed

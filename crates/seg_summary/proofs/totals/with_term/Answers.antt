@@ -1,6 +1,0 @@
-use Rattle.std.proofs.Common.{rules}
-use Rattle.seg_summary.proofs.TermSums.{with_one}
-use Rattle.seg_summary.proofs.totals.with_term.Goals as goal
-
-pub returns : goal.returns
-returns c = with_one c.args.totals c.args.term.now _ _ (search rules) (search rules)

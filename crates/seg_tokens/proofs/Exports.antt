@@ -1,0 +1,2 @@
+-- What crates above may cite: all other modules are inner.
+pub use Rattle.seg_tokens.proofs.Passed.{all_passed, one_more}

@@ -1,0 +1,7 @@
+//! What the definitions say together.
+ghost use Rattle.seg_tokens.specs.InWords.{TokensAreWords};
+
+/// The tokens of a text are its words in order, each at its bytes.
+pub fn tokens_are_words()
+    ensures { TokensAreWords }
+{}

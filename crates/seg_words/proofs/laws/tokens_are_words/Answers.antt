@@ -1,8 +1,0 @@
-use Rattle.std.proofs.Common.{false}
-use Rattle.std.specs.Char.{to_ascii_lowercase}
-use Rattle.seg_words.specs.Tokenizers.{separates_words, is_blank}
-use Rattle.seg_words.proofs.Wording.{in_words_cut}
-use Rattle.seg_words.proofs.laws.tokens_are_words.Goals as goal
-
-pub returns : goal.returns
-returns c = record { default_words = in_words_cut separates_words to_ascii_lowercase; whitespace_words = in_words_cut is_blank (λ byte. byte); raw_words = in_words_cut (λ _. false) (λ byte. byte) }

@@ -1,5 +1,0 @@
-use Rattle.seg_words.proofs.Cutting.{IsCut}
-use Rattle.seg_words.proofs.tokenizers.push_words.Given as goal
-
-abbrev pub invariant-loop-at : goal.invariant-loop-at
-invariant-loop-at g l = IsCut g.C.Cut.separates g.C.Cut.kept l.text l.initial.out l.from l.at l.count l.out
