@@ -8,8 +8,8 @@
     python3 bench/gate.py --from FILE ..      prints the table of what was recorded, with --write too
 
 The time of a prover is what the kernel counts for its process, looked at every two seconds; so what else runs on the
-machine makes it dearer by the caches it takes, and not by waiting. Where a crate was proved several times, its last time
-counts. The unit is the proof of `seg_bits` in the same records: minutes of two machines compare by it.
+machine makes it dearer by the caches it takes, and not by waiting. A program is proved once and built twice, and both
+count. The unit is the proof of `seg_bits` in the same records: minutes of two machines compare by it.
 """
 import argparse
 import collections
@@ -77,19 +77,14 @@ def record(checkout, file, until=lambda: False):
 
 
 def times(files):
-    """Of each crate and kind its minutes, and how many edits were tried."""
-    proofs, edits = {}, collections.defaultdict(dict)
-    for file in files:
-        for crate, kind, folder, seconds, at in json.loads(Path(file).read_text()).values():
-            if kind == 'edits':
-                edits[crate][folder] = edits[crate].get(folder, 0) + seconds
-            elif at >= proofs.get((crate, kind), (0, 0))[1]:
-                proofs[crate, kind] = seconds, at
+    """Of each crate and kind its minutes; of a crate that is in several files those of the last one."""
     minutes = collections.defaultdict(dict)
-    for (crate, kind), (seconds, _) in proofs.items():
-        minutes[crate][kind] = seconds / 60
-    for crate, folders in edits.items():
-        minutes[crate]['edits'] = sum(folders.values()) / 60
+    for file in files:
+        sums = collections.Counter()
+        for crate, kind, _, seconds, _ in json.loads(Path(file).read_text()).values():
+            sums[crate, kind] += seconds
+        for (crate, kind), seconds in sums.items():
+            minutes[crate][kind] = seconds / 60
     return minutes
 
 
@@ -100,7 +95,8 @@ def machine():
 
 def table(minutes):
     """The lines of the table, in the order of crates.txt, and the sums."""
-    order = [line.partition(':')[0] for line in (TOP / 'crates.txt').read_text().splitlines() if ':' in line]
+    rows = (TOP / 'crates.txt').read_text().splitlines()
+    order = [row.partition(':')[0] for row in rows if ':' in row and not row.startswith('#')]
     tried = {crate: len(list((TOP / 'crates' / crate / 'must-fail').glob('*.edit'))) for crate in order}
     lines = ['| Crate | Proof | Tests | Edits (how many) |', '|---|---|---|---|']
     for crate in order:

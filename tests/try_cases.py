@@ -17,7 +17,7 @@ DATA = TOP / 'crates/seg_cases/data'
 
 def is_one_step(script):
     """Whether a script is a case by itself, of the word `build`, over directories that answer."""
-    return '.' not in script.stem and not any(script.with_suffix(end).exists() for end in ('.words', '.fails'))
+    return script.parent.name != 'damage' and '.' not in script.stem and not any(script.with_suffix(end).exists() for end in ('.words', '.fails'))
 
 
 def wanted_status(script):

@@ -9,7 +9,7 @@ mod deletes;
 #[cfg(test)]
 mod dictionaries;
 #[cfg(test)]
-mod folder;
+mod flat_maps;
 #[cfg(test)]
 mod json_values;
 #[cfg(test)]

@@ -1,4 +1,5 @@
-//! Runs every case in the folders of `data`, and says of each whether it went as expected.
+//! Runs every case in the folders of `data`, and says of each whether it went as expected. Then it damages the files in the
+//! folder `damage`, and says how many of the damaged are refused.
 //!
 //! A case is a script, `NAME.json`, and what is to come of it: `NAME.txt`, the printed text, or `NAME.status`, the status
 //! and below it the line on standard error. Where a case has neither, its folder has an `all.status`. It runs `build`, or
@@ -8,67 +9,92 @@
 //! before it, as its meta.
 //!
 //! `NAME.fails` says which calls of the directories a step makes: a line `work open_read 0 13` says that its calls of
-//! `open_read` in the work directory have the numbers 0 to 12, counted from where the directory was made. The case is run
-//! once more for each of them, up to this step; it fails, and so does the step. Where the call of number 13 is to fail, the
-//! step goes as ever.
+//! `open_read` in the work directory have the numbers 0 to 12, counted from where the directory was made. The directory
+//! `output` is that of the first step, and `fresh` one that was emptied. The case is run again for each of them, up to this
+//! step; it fails, and so does the step. Where the call of number 13 is to fail, the step goes as ever.
 //!
-//! To be read in this order: `listing` (which cases there are), `step`, `running`, `failing`, `difference`.
+//! What is damaged is listed in `damage/cases`, which says at its head what a line has.
+//!
+//! To be read in this order: `case`, `running`, `failing`, `difference`; of damage `data_file`, `damage`, `tally`, `reader`,
+//! `field`, `segment_file`, `damaging`.
 #![tactic(auto)]
 
+mod case;
+mod damage;
+mod damaging;
+mod data_file;
 mod difference;
 mod failing;
-mod listing;
+mod failure;
+mod field;
+mod reader;
 mod running;
-mod step;
+mod segment_file;
+mod tally;
 
-use anyhow::Result;
+use case::{Case, sorted_names};
+use damaging::print_damage;
 use difference::first_difference;
 use failing::first_unexpected;
-use listing::{case_names, folder_names};
-use running::{Directories, outcome};
-use std::alloc::Global;
+use failure::Failure;
+use running::Directories;
+use std::fs;
 use std::rt::Files;
-use step::{Step, read_step};
 
-fn main(rt: HostRuntime) -> Result<()> {
-    for folder in folder_names(&rt)? {
-        for case in case_names(&rt, folder.as_str())? {
-            let verdict = verdict(&rt, folder.as_str(), case.as_str())?;
-            println!(rt; "{folder}/{case}: {verdict}")?;
+fn main(rt: HostRuntime) -> Result<(), Failure> {
+    for folder in sorted_names(&rt, ".")? {
+        if folder.as_str() != "damage" {
+            print_folder(&rt, folder.as_str())?;
+        }
+    }
+    print_damage(&rt)
+}
+
+/// Prints of each case of a folder how it went.
+fn print_folder<R: Files + Print + AllocGlobal + Clone + Drop>(
+    rt: &R,
+    folder: &str,
+) -> Result<(), Failure> {
+    for file in sorted_names(rt, folder)? {
+        let Some(name) = file.as_str().strip_suffix(".json") else {
+            continue;
+        };
+        if !name.contains('.') {
+            let verdict = verdict(rt, Case { folder, name })?;
+            println!(rt; "{folder}/{name}: {verdict}")?;
         }
     }
     Ok(())
 }
 
 /// What is said of a case: that each step went as expected, or what differs first.
-fn verdict<R: Files + AllocGlobal>(rt: &R, folder: &str, case: &str) -> Result<String> {
+fn verdict<R: Files + AllocGlobal>(rt: &R, case: Case<'_>) -> Result<String, Failure> {
     let alloc = rt.alloc();
-    let mut directories = Directories::new(alloc, None, false)?;
-    let mut steps = Vec::new(alloc);
+    let mut directories = Directories::new(alloc, None)?;
     for number in 1..u32::MAX {
-        let Some(step) = read_step(rt, folder, case, number)? else {
+        let step = case.step(alloc, number)?;
+        if !fs::exists(rt, format!(in alloc; "{step}.json")?)? {
             break;
-        };
-        steps.push(step)?;
-        if let Some(difference) = step_difference(alloc, &steps, &mut directories)? {
+        }
+        if let Some(difference) = step_difference(rt, case, number, &mut directories)? {
             return Ok(format!(in alloc; "step {number}, {difference}")?);
         }
     }
     Ok(String::from_str(alloc, "as expected")?)
 }
 
-/// What differs first in the last of some steps, where no call fails, or where one does.
-fn step_difference(
-    alloc: Global,
-    steps: &[Step],
-    directories: &mut Directories,
-) -> Result<Option<String>> {
-    let Some(step) = steps.last() else {
-        return Ok(None);
-    };
-    let outcome = outcome(alloc, step, directories)?;
-    match first_difference(alloc, step.expected.as_str(), outcome.as_str())? {
+/// What differs first in the step of a number, where no call fails, or where one does.
+fn step_difference<R: Files + AllocGlobal>(
+    rt: &R,
+    case: Case<'_>,
+    number: u32,
+    directories: &mut Directories<'_>,
+) -> Result<Option<String>, Failure> {
+    let step = case.step(rt.alloc(), number)?;
+    let outcome = directories.outcome(rt, step.as_str())?;
+    let expected = case.expected(rt, step.as_str())?;
+    match first_difference(rt.alloc(), expected.as_str(), outcome.as_str())? {
         Some(difference) => Ok(Some(difference)),
-        None => first_unexpected(alloc, steps),
+        None => first_unexpected(rt, case, number, expected.as_str()),
     }
 }

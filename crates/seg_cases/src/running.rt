@@ -1,128 +1,136 @@
 //! A step is run over directories in memory.
 
-use crate::step::{Start, Step};
-use anyhow::Result;
+use crate::case::{text_if_there, words};
+use crate::failure::Failure;
 use seg_common::{FileName, MemorySink, MemorySource};
 use seg_directory::{FailingCall, MemoryDirectory};
 use seg_tokens::{DefaultTokenizer, RawTokenizer, TokenizerManager, WhitespaceTokenizer};
-use seg_tool::{Status, run};
+use seg_tool::run;
 use std::alloc::{AllocError, Global};
+use std::fs;
+use std::rt::Files;
 
 /// The most bytes that a step prints.
 const ROOM: usize = 1 << 20;
 
-/// A call that fails, of the output directory or of the other one.
+/// A call that fails in the directory of a name: `work`, `output`, or `fresh`, an output directory that was emptied.
 #[derive(Clone, Copy)]
-pub(crate) struct Failing {
-    pub is_output: bool,
+pub(crate) struct Failing<'a> {
+    pub directory: &'a str,
     pub call: FailingCall,
 }
 
 /// The directories that the steps of a case share.
 #[derive(Drop)]
-pub(crate) struct Directories {
+pub(crate) struct Directories<'a> {
     work: MemoryDirectory,
     output: MemoryDirectory,
-    failing: Option<Failing>,
+    failing: Option<Failing<'a>>,
 }
 
-impl Directories {
-    /// Directories without files, of which a call may fail. Its number counts from here, but in an output directory that
-    /// is emptied from there.
+impl Directories<'_> {
+    /// Directories without files, of which a call may fail.
     pub(crate) fn new(
         alloc: Global,
-        failing: Option<Failing>,
-        is_output_emptied: bool,
-    ) -> Result<Directories, AllocError> {
-        let of_output = if is_output_emptied {
-            None
-        } else {
-            call_in(failing, true)
-        };
+        failing: Option<Failing<'_>>,
+    ) -> Result<Directories<'_>, Failure> {
         Ok(Directories {
-            work: directory(alloc, call_in(failing, false))?,
-            output: directory(alloc, of_output)?,
+            work: directory(alloc, "work", failing)?,
+            output: directory(alloc, "output", failing)?,
             failing,
         })
     }
 
+    /// Runs a step, and answers what it prints, with its status and the line on standard error before it where it isn't
+    /// done.
+    pub(crate) fn outcome<R: Files + AllocGlobal>(
+        &mut self,
+        rt: &R,
+        step: &str,
+    ) -> Result<String, Failure> {
+        self.prepare(rt, step)?;
+        let words = words(rt, step)?;
+        let script = fs::read(rt, format!(in rt.alloc(); "{step}.json")?)?;
+        outcome(
+            rt.alloc(),
+            &words,
+            &script,
+            &mut self.work,
+            &mut self.output,
+        )
+    }
+
     /// Does what is to be done before a step.
-    fn prepare(&mut self, alloc: Global, start: &Start) -> Result<(), AllocError> {
-        if start.is_output_emptied {
-            self.output = directory(alloc, call_in(self.failing, true))?;
+    fn prepare<R: Files + AllocGlobal>(&mut self, rt: &R, step: &str) -> Result<(), Failure> {
+        if fs::exists(rt, format!(in rt.alloc(); "{step}.fresh")?)? {
+            self.output = directory(rt.alloc(), "fresh", self.failing)?;
         }
-        match &start.meta {
-            Some(meta) => put_meta(&mut self.work, meta.as_str()),
-            None => Ok(()),
+        if let Some(meta) = text_if_there(rt, step, "meta")? {
+            self.work.put(FileName::Meta, meta.as_bytes())?;
         }
+        Ok(())
     }
 }
 
-/// The call that fails in the output directory, or in the other one.
-fn call_in(failing: Option<Failing>, is_output: bool) -> Option<FailingCall> {
-    match failing {
-        Some(failing) if failing.is_output == is_output => Some(failing.call),
-        _ => None,
-    }
-}
-
-fn put_meta(directory: &mut MemoryDirectory, meta: &str) -> Result<(), AllocError> {
-    match directory.put(FileName::Meta, meta.as_bytes()) {
-        Ok(()) => Ok(()),
-        Err(_) => Err(AllocError),
-    }
-}
-
-/// A directory without files, of which a call may fail.
-fn directory(alloc: Global, failing: Option<FailingCall>) -> Result<MemoryDirectory, AllocError> {
+/// A directory without files. The call fails if it is one of the directory of this name.
+pub(crate) fn directory(
+    alloc: Global,
+    name: &str,
+    failing: Option<Failing<'_>>,
+) -> Result<MemoryDirectory, Failure> {
     let mut fails = Vec::new(alloc);
-    if let Some(call) = failing {
-        fails.push(call)?;
+    match failing {
+        Some(failing) if failing.directory == name => fails.push(failing.call)?,
+        _ => {}
     }
-    match MemoryDirectory::new(alloc, fails) {
-        Ok(directory) => Ok(directory),
-        Err(_) => Err(AllocError),
-    }
+    Ok(MemoryDirectory::new(alloc, fails)?)
 }
 
-/// What a step prints, with its status and the line on standard error before it where it isn't done.
-pub(crate) fn outcome(alloc: Global, step: &Step, directories: &mut Directories) -> Result<String> {
+/// What the words print over a script, with the status and the line on standard error before it where they aren't done.
+pub(crate) fn outcome(
+    alloc: Global,
+    words: &[String],
+    script: &[u8],
+    work: &mut MemoryDirectory,
+    output: &mut MemoryDirectory,
+) -> Result<String, Failure> {
     let mut sink = MemorySink::new(alloc, ROOM, Vec::new(alloc))?;
     let mut faults = MemorySink::new(alloc, ROOM, Vec::new(alloc))?;
-    let number = run_step(alloc, step, &mut sink, &mut faults, directories)?;
-    let mut outcome = String::new(alloc);
-    if number != Status::Done.number() {
-        outcome.push_str(format!(in alloc; "{number}\n")?.as_str())?;
+    let number = run_words(alloc, words, script, &mut sink, &mut faults, work, output)?;
+    let (Ok(line), Ok(text)) = (str::from_utf8(faults.bytes()), str::from_utf8(sink.bytes())) else {
+        return Err(Failure::Case("what is printed is no text"));
+    };
+    if number == 0 {
+        Ok(format!(in alloc; "{line}{text}")?)
+    } else {
+        Ok(format!(in alloc; "{number}\n{line}{text}")?)
     }
-    outcome.push_str(str::from_utf8(faults.bytes())?)?;
-    outcome.push_str(str::from_utf8(sink.bytes())?)?;
-    Ok(outcome)
 }
 
-/// Runs the words of a step over its script, with the tokenizers that the program knows, and answers the number of its
-/// status.
-fn run_step(
+/// Runs words over a script, with the tokenizers that the program knows, and answers the number of the status.
+fn run_words(
     alloc: Global,
-    step: &Step,
+    words: &[String],
+    script: &[u8],
     sink: &mut MemorySink,
     faults: &mut MemorySink,
-    directories: &mut Directories,
+    work: &mut MemoryDirectory,
+    output: &mut MemoryDirectory,
 ) -> Result<u8, AllocError> {
-    directories.prepare(alloc, &step.start)?;
-    let mut source = MemorySource::new(alloc, &step.script, Vec::new(alloc))?;
+    let mut source = MemorySource::new(alloc, script, Vec::new(alloc))?;
     let mut analyzers = TokenizerManager::new(alloc);
     analyzers.register("default", Box::new(alloc, DefaultTokenizer)?)?;
     analyzers.register("raw", Box::new(alloc, RawTokenizer)?)?;
     analyzers.register("whitespace", Box::new(alloc, WhitespaceTokenizer)?)?;
     let status = run(
         alloc,
-        &step.words,
+        words,
         &mut source,
         sink,
         faults,
         &analyzers,
-        &mut directories.work,
-        &mut directories.output,
+        work,
+        output,
     );
     Ok(status.number())
 }

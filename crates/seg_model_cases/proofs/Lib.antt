@@ -8,5 +8,7 @@ mod Documents
 mod Files
 mod Json
 mod Operations
+mod Postings
 mod Refusals
+mod Stores
 mod Texts

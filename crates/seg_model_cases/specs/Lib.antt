@@ -9,5 +9,7 @@ pub mod Files
 pub mod Given
 pub mod Json
 pub mod Operations
+pub mod Postings
 pub mod Refusals
+pub mod Stores
 pub mod Texts

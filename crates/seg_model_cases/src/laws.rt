@@ -9,7 +9,9 @@ ghost use Rattle.seg_model_cases.specs.Documents.{DocumentCases};
 ghost use Rattle.seg_model_cases.specs.Files.{DiskCases, OpeningCases};
 ghost use Rattle.seg_model_cases.specs.Json.{JsonCases};
 ghost use Rattle.seg_model_cases.specs.Operations.{OperationCases};
+ghost use Rattle.seg_model_cases.specs.Postings.{PostingsCases};
 ghost use Rattle.seg_model_cases.specs.Refusals.{RefusalCases};
+ghost use Rattle.seg_model_cases.specs.Stores.{StoreCases};
 ghost use Rattle.seg_model_cases.specs.Texts.{TextCases};
 
 /// What texts record, which tokens are too long, what lengths there are, and terms of other kinds.
@@ -75,4 +77,14 @@ pub fn cases_of_opening()
 /// Contents that their stored documents tell, and contents that they don't.
 pub fn cases_of_contents()
     ensures { ContentsCases }
+{}
+
+/// What the parts of a field read as.
+pub fn cases_of_postings()
+    ensures { PostingsCases }
+{}
+
+/// What stores read as, and which blocks a reader keeps.
+pub fn cases_of_stores()
+    ensures { StoreCases }
 {}

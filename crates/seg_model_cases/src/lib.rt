@@ -8,5 +8,5 @@ mod laws;
 pub use laws::{
     cases_of_bytes, cases_of_column_files, cases_of_columns, cases_of_contents, cases_of_dates,
     cases_of_dictionaries, cases_of_disks, cases_of_documents, cases_of_json, cases_of_opening,
-    cases_of_operations, cases_of_refusals, cases_of_texts,
+    cases_of_operations, cases_of_postings, cases_of_refusals, cases_of_stores, cases_of_texts,
 };

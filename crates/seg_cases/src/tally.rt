@@ -3,8 +3,8 @@
 use std::fmt;
 
 /// What becomes of damaged bytes.
-#[derive(Clone, Copy, PartialEq, Eq)]
-pub enum Outcome {
+#[derive(Clone, Copy)]
+pub(crate) enum Outcome {
     Refused,
     /// They are read by themselves, and a file that is read after them is refused.
     Disagreeing,
@@ -12,7 +12,7 @@ pub enum Outcome {
 }
 
 impl Outcome {
-    pub fn of(is_read: bool) -> Outcome {
+    pub(crate) fn of(is_read: bool) -> Outcome {
         if is_read {
             Outcome::Read
         } else {
@@ -23,14 +23,14 @@ impl Outcome {
 
 /// How many bytes came to each outcome.
 #[derive(Clone, Copy, Default)]
-pub struct Tally {
+pub(crate) struct Tally {
     refused: u64,
     disagreeing: u64,
     read: u64,
 }
 
 impl Tally {
-    pub fn count(&mut self, outcome: Outcome) {
+    pub(crate) fn count(&mut self, outcome: Outcome) {
         let number = match outcome {
             Outcome::Refused => &mut self.refused,
             Outcome::Disagreeing => &mut self.disagreeing,

@@ -4,7 +4,7 @@ use std::alloc::{AllocError, Global};
 
 /// What is done to bytes, at a place.
 #[derive(Clone, Copy)]
-pub enum Damage {
+pub(crate) enum Damage {
     /// What is from the place on is gone.
     Cut,
     /// These bits of the byte are flipped.
@@ -13,7 +13,7 @@ pub enum Damage {
     Longer,
 }
 
-pub const DAMAGES: &[(&str, Damage)] = &[
+pub(crate) const DAMAGES: &[(&str, Damage)] = &[
     ("cut", Damage::Cut),
     ("all bits of a byte flipped", Damage::Flipped(0xff)),
     ("the lowest bit of a byte flipped", Damage::Flipped(1)),
@@ -22,7 +22,7 @@ pub const DAMAGES: &[(&str, Damage)] = &[
 
 impl Damage {
     /// How many places there are in this many bytes.
-    pub fn places(self, length: usize) -> usize {
+    pub(crate) fn places(self, length: usize) -> usize {
         match self {
             Damage::Cut | Damage::Flipped(_) => length,
             Damage::Longer => 1,
@@ -30,19 +30,22 @@ impl Damage {
     }
 
     /// The bytes, damaged at a place.
-    pub fn damaged(self, alloc: Global, bytes: &[u8], at: usize) -> Result<Vec<u8>, AllocError> {
+    pub(crate) fn damaged(
+        self,
+        alloc: Global,
+        bytes: &[u8],
+        at: usize,
+    ) -> Result<Vec<u8>, AllocError> {
         let mut damaged = Vec::from_slice(alloc, bytes)?;
         match self {
             Damage::Cut => damaged.truncate(at),
-            Damage::Flipped(mask) => flip(&mut damaged, at, mask),
+            Damage::Flipped(mask) => {
+                if let Some(byte) = damaged.get_mut(at) {
+                    *byte ^= mask;
+                }
+            }
             Damage::Longer => damaged.push(0)?,
         }
         Ok(damaged)
-    }
-}
-
-fn flip(bytes: &mut [u8], at: usize, mask: u8) {
-    if let Some(byte) = bytes.get_mut(at) {
-        *byte ^= mask;
     }
 }

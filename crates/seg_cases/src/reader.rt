@@ -1,11 +1,11 @@
-//! The readers of files of one format.
+//! What reads the files of a case.
 
-use anyhow::{Result, bail};
+use crate::failure::Failure;
 use seg_bits::AliveBitSet;
 use seg_column_file::ColumnarReader;
 use seg_common::OwnedBytes;
 use seg_directory::CompositeFile;
-use seg_meta::{ReadError, read_meta};
+use seg_meta::read_meta;
 use seg_store::StoreReader;
 use seg_termdict::TermDictionary;
 use seg_values::IndexOption;
@@ -13,18 +13,18 @@ use std::alloc::Global;
 
 /// What reads the files of a case.
 #[derive(Clone, Copy)]
-pub enum Reader {
+pub(crate) enum Reader {
     /// One file of a format.
     File(Format),
     /// The terms, postings and positions of a field that records this.
     Field(IndexOption),
-    /// A run over a script, the first file; the others are of its work segment.
+    /// A merge of an index that a script makes, the first file; the others are of its segment.
     Run,
 }
 
 /// The format of one file.
 #[derive(Clone, Copy)]
-pub enum Format {
+pub(crate) enum Format {
     Composite,
     Meta,
     Dictionary,
@@ -34,7 +34,7 @@ pub enum Format {
 }
 
 impl Reader {
-    pub fn named(name: &str) -> Option<Reader> {
+    pub(crate) fn named(name: &str) -> Option<Reader> {
         Some(match name {
             "composite" => Reader::File(Format::Composite),
             "meta" => Reader::File(Format::Meta),
@@ -53,23 +53,15 @@ impl Reader {
 
 impl Format {
     /// Whether bytes are a file of the format.
-    pub fn is_read(self, alloc: Global, bytes: &[u8]) -> Result<bool> {
+    pub(crate) fn is_read(self, alloc: Global, bytes: &[u8]) -> Result<bool, Failure> {
         let owned = OwnedBytes::new(alloc, bytes)?;
         Ok(match self {
             Format::Composite => CompositeFile::open(owned).is_ok(),
-            Format::Meta => is_meta(alloc, bytes)?,
+            Format::Meta => read_meta(alloc, bytes).is_ok(),
             Format::Dictionary => TermDictionary::open(owned).is_ok(),
             Format::Store => StoreReader::open(owned).is_ok(),
             Format::Columns => ColumnarReader::open(alloc, owned).is_ok(),
             Format::Alive => AliveBitSet::open(owned).is_ok(),
         })
-    }
-}
-
-fn is_meta(alloc: Global, bytes: &[u8]) -> Result<bool> {
-    match read_meta(alloc, bytes) {
-        Ok(_metas) => Ok(true),
-        Err(ReadError::NoMeta) => Ok(false),
-        Err(ReadError::OutOfMemory) => bail!("out of memory"),
     }
 }

@@ -1,5 +1,5 @@
 #!/usr/bin/env python3
-"""Prints what `crates/seg_hostile` is to print: of each case in its `data/` how many damaged forms are refused.
+"""Prints what `seg_cases` is to print of the cases in its folder `damage`: of each how many damaged forms are refused.
 
 It reads the damaged bytes by docs/FORMATS.md (formats.py), and knows nothing of the program.
 """
@@ -12,7 +12,7 @@ from columns import columns
 from formats import Malformed, check
 from reference_text import told_schema
 
-DATA = Path(__file__).resolve().parent.parent / 'crates' / 'seg_hostile' / 'data'
+DATA = Path(__file__).resolve().parent.parent / 'crates' / 'seg_cases' / 'data' / 'damage'
 MAX_DOC = 3  # of the fields that are no whole segment
 
 
@@ -77,7 +77,7 @@ def composite_of(data, fields):
 
 
 class Run:
-    """The files of the segment that a run over a script makes."""
+    """The files of the segment that a script makes."""
 
     def __init__(self, files):
         script = json.loads(files['json'])
