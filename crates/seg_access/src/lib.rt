@@ -1,29 +1,49 @@
-//! Values of any type, read as trees, and values read from pieces.
+//! Values of any type, read as trees, and values and documents read from pieces. A reference to a value of a type that
+//! meets `Value` is a leaf, or an iterator over values or members; those to leaves, owned values and JSON values do. No
+//! library above uses it yet.
 //!
-//! Contracts see a value as a tree of `seg_values`, whatever type holds it, and pieces as what they say.
+//! Its model: a value of any type is one tree, the ghost `tree` of `Value`, of which `as_value` tells the parts
+//! (`tree_read`), and pieces are a list of marks (`Mark`), which spell one tree at most (`pieces_spell_one_tree`).
 //!
-//! Read `value` first, then `leaves`, `owned_value`, and `to_owned` with `readable` and `leaf_to_owned`; then
-//! `json_value`, `json_copy` and `json_access`; last `pieces`, `value_deserialize` with `owned_pieces` and `json_pieces`,
-//! `document_deserialize`, `laws` and `field_copying_iterator`.
+//! ```rust
+//! let value = OwnedValue::from_pieces(alloc, &mut Pieces::new(pieces))?; // `Piece::Array(1)`, `Piece::Null`
+//! let json = JsonValue::new(alloc, &parsed)?; // `parsed` is the `serde_json` value of `[null]`
+//! if let ReferenceValue::Array(items) = (&json).as_value() {
+//!     for item in items {
+//!         let copy = to_owned_value(alloc, item)?;
+//!     }
+//! }
+//! ```
+//!
+//! `value` is the array of one null, and so is `to_owned_value(alloc, &json)?`; the loop copies its one item.
 #![tactic(auto)]
 
-mod document_deserialize;
-mod field_copying_iterator;
+// What a value of any type is read as.
+mod value;
+
+// References to leaves, to owned values, and to JSON values.
 mod json_access;
 mod json_copy;
-mod json_pieces;
 mod json_value;
-mod laws;
-mod leaf_to_owned;
 mod leaves;
 mod no_items;
-mod owned_pieces;
 mod owned_value;
-mod pieces;
+
+// A value of its own, made of any.
+mod leaf_to_owned;
 mod readable;
 mod to_owned;
-mod value;
+
+// Values and documents, read from pieces.
+mod document_deserialize;
+mod json_pieces;
+mod laws;
+mod owned_pieces;
+mod pieces;
 mod value_deserialize;
+
+// The pairs of a map.
+mod field_copying_iterator;
 
 pub use document_deserialize::DocumentDeserialize;
 pub use field_copying_iterator::FieldCopyingIterator;

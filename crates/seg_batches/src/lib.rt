@@ -1,40 +1,53 @@
-//! The batches of an input, each written as a segment, with what later deletes leave of it.
+//! The batches of an input, each written as a segment, with what later deletes leave of it. The deletes of all
+//! operations wait in one queue; a delete has a term, and removes the documents that have it, as its postings tell, and
+//! that were added before the delete. A segment keeps all of its documents: where some are not alive, an alive file
+//! beside its six files says so.
 //!
-//! The deletes of all operations wait in one queue. A batch adds its documents to a segment in memory, each with its
-//! place among all operations as its stamp; then the deletes of the queue are applied to the segment, but for those that
-//! came before the batch. A delete has a target, which names documents, and of these it removes those that were added
-//! before it. The target of a delete of an input is a term; the postings of the term name the documents that have it: so
-//! the cost is that of the postings, and no document is read. The segment keeps all of its documents. A segment that was
-//! written is seen as its id, the number of its documents, and for each of them whether it is alive; where some are not,
-//! an alive file beside its six files says so, under the stamp of the meta that lists it.
+//! Its model: a segment that was written is its id, the number of its documents, and for each whether it is alive
+//! (`WrittenSegment`), a queue is its operations and how many of them are flushed (`Queue`), and `left_by` is what the
+//! deletes of a queue leave.
 //!
-//! To be read in this order: `delete_target`, `term_target`, `term_documents` (what a delete names), `removing` (one
-//! delete), `applying` (a queue of them), `laws`; `delete_queue`, `batch_indexing`, `batch_alive`, `batch_making` (one
-//! batch, in memory); `written_segment`, `batches_writing`, `alive_writing`, `listing` (all of them, in a directory).
+//! ```rust
+//! let segments = write_batches(
+//!     alloc, &schema, &settings, &analyzers, &operations, &cuts, &ids, &mut work,
+//! )?;
+//! write_alive_files(alloc, stamp, &segments, &mut work)?;
+//! let listed = list_segments(alloc, stamp, &segments)?;
+//! let mut cursor = queue.cursor();
+//! let alive = apply_deletes(alloc, &mut reader, &mut queue, &mut cursor, &mapping)?;
+//! ```
 //!
-//! Deletes that wait to be applied, and which documents they reach.
-//!
-//! To be read in this order: `operation`, `delete_queue`, `delete_cursor`; `doc_opstamp_mapping`; `laws`.
+//! `listed` is what a meta lists under that stamp. `alive` is `None` where the deletes from `cursor` on leave all
+//! documents of the reader's segment; `mapping` has the stamp of each document.
 #![tactic(auto)]
 
-mod alive_writing;
+// Deletes that wait, and places among them.
+mod delete_cursor;
+mod delete_queue;
+mod operation;
+mod queue_laws;
+mod waiting_deletes;
+
+// What a delete names, and which documents it reaches.
+mod delete_target;
+mod doc_opstamp_mapping;
+mod term_documents;
+mod term_target;
+
+// Deletes, applied to a segment.
 mod applying;
+mod laws;
+mod removing;
+
+// One batch, in memory.
 mod batch_alive;
 mod batch_indexing;
 mod batch_making;
+
+// All batches, in a directory.
+mod alive_writing;
 mod batches_writing;
-mod delete_cursor;
-mod delete_queue;
-mod delete_target;
-mod doc_opstamp_mapping;
-mod laws;
 mod listing;
-mod operation;
-mod queue_laws;
-mod removing;
-mod term_documents;
-mod term_target;
-mod waiting_deletes;
 mod written_segment;
 
 pub use alive_writing::write_alive_files;

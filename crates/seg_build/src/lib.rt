@@ -1,54 +1,63 @@
-//! Indexes documents in memory, and writes them as the six files of a segment.
+//! Indexes documents in memory, one by one, and writes them as the six files of a segment, or as an index of that one
+//! segment, whose meta is saved at the end. Each document is checked first; then its terms, its lengths, the values of
+//! its fast fields and what is stored of it are added.
 //!
-//! A schema and documents become the terms of each field, in byte order, each with its postings; contracts see them as a
-//! list for each field. While documents come, the terms of a field are a `TermIndex`, those of a JSON field `PathTerms`,
-//! each with all its positions; at the end they are ordered once, and what is shown and written of a term is what its
-//! field records. A `SegmentWriter`
-//! takes documents one by one; the values of fast fields are recorded beside the terms, and become columns at the end.
+//! Its model: a writer keeps no documents, so `Writes` says that what it has is what a list of documents makes, with
+//! their stamps, and the files that it makes stand for these documents (`StandFor`).
 //!
-//! To be read in this order: `path_start`, `json_terms` and `gathered_terms` (the terms of a field so far), `tokens`,
-//! `value_terms`, `coded_leaf`, `path_tokens`, `json_leaves` and `field` (what one more value adds), `ordered_field` and
-//! `sorted` (the terms of a field in byte order), `lengths` (the field norms of a document), `usage` (how much memory documents take), `fields` (those of all
-//! documents); `writing` (the terms of a field, into a `TermWriter`), `terms_files` and `norms_file` (the parts
-//! of files), `filling` (what the components of a segment are to hold); `add_operation`, `adding` (the values of a
-//! document that passed its check), `writer_parts`, `memory_segment`, `finishing` and `segment_writer`;
-//! `laws` (terms that were indexed can be written).
+//! ```rust
+//! let mut writer = SegmentWriter::for_segment(alloc, 15_000, segment, &settings, &analyzers)?;
+//! writer.add_ref(0, &document)?;
+//! let stamps = writer.finalize(&mut directory)?;
+//! let empty = Index::create(alloc, schema, settings, &mut other)?;
+//! let mut writer = SingleSegmentIndexWriter::new(alloc, empty, 15_000, id, &analyzers)?;
+//! writer.add_document(document)?;
+//! let index = writer.finalize(&mut other)?;
+//! ```
 //!
-//! Writes an index of one segment, document by document, without a batch, a delete or a merge.
-//!
-//! `SingleSegmentIndexWriter` has a `SegmentWriter` and the index that its segment is to be of: at the end the six files
-//! are made, and then the meta that lists the segment is saved.
-//!
-//! To be read in this order: `index_meta` (the meta of an index of one segment is saved), `single_segment_index_writer`.
+//! `stamps` has the stamp of each document, here 0, and `index` lists its one segment.
 #![tactic(auto)]
 
-mod add_operation;
-mod adding;
+// The terms of a field so far, by its kind.
+mod gathered_terms;
+mod json_terms;
+mod path_start;
+
+// What one more value adds to them.
 mod coded_leaf;
 mod field;
-mod fields;
-mod filling;
-mod finishing;
-mod gathered_terms;
-mod index_meta;
 mod json_leaves;
-mod json_terms;
-mod laws;
-mod lengths;
-mod memory_segment;
-mod norms_file;
-mod ordered_field;
-mod path_start;
 mod path_tokens;
-mod segment_writer;
-mod single_segment_index_writer;
-mod sorted;
-mod terms_files;
 mod tokens;
-mod usage;
 mod value_terms;
-mod writer_parts;
+
+// The terms of a field in byte order.
+mod ordered_field;
+mod sorted;
+
+// All fields, with the lengths of documents, and how much memory they take.
+mod fields;
+mod lengths;
+mod usage;
+
+// What the files of a segment are to hold.
+mod filling;
+mod laws;
+mod norms_file;
+mod terms_files;
 mod writing;
+
+// The writer of a segment.
+mod add_operation;
+mod adding;
+mod finishing;
+mod memory_segment;
+mod segment_writer;
+mod writer_parts;
+
+// The writer of an index of one segment.
+mod index_meta;
+mod single_segment_index_writer;
 
 pub use add_operation::{AddOperation, Opstamp};
 pub use fields::{IndexedBatch, IndexedFields};

@@ -14,21 +14,21 @@
 //! step; it fails, and so does the step. Where the call of number 13 is to fail, the step goes as ever.
 //!
 //! What is damaged is listed in `damage/cases`, which says at its head what a line has.
-//!
-//! To be read in this order: `case`, `running`, `failing`, `difference`; of damage `data_file`, `damage`, `tally`, `reader`,
-//! `field`, `segment_file`, `damaging`.
 #![tactic(auto)]
 
+// Cases: a script, what comes of it, and calls that fail.
 mod case;
-mod damage;
-mod damaging;
-mod data_file;
 mod difference;
 mod failing;
 mod failure;
+mod running;
+
+// Files that are damaged, and how many of them are refused.
+mod damage;
+mod damaging;
+mod data_file;
 mod field;
 mod reader;
-mod running;
 mod segment_file;
 mod tally;
 

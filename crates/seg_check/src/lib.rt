@@ -1,53 +1,63 @@
-//! The check that a document passes before it is indexed.
+//! What is refused before anything is written: inputs whose cuts, filters, ids, names, settings, tokenizers or deletes
+//! don't fit, documents that a schema doesn't take or that pass a limit, and schemas, settings and budgets that no
+//! writer may start with. An input is what an index is built from: a schema, settings, and operations on documents,
+//! with cuts between batches, filters and ids.
 //!
-//! Four passes go over the pairs of the document, and the first that finds something answers. Each text is cut into its
-//! tokens once, in the third pass, which also tells the fourth what came in each field; numbers there stay at the
-//! end of a `u64`, so that none is past it.
+//! Its model: a `BuildInput`, owned or borrowed, is one `Input` of `seg_model`, and what is answered is the first cause
+//! there: `input_refusal` of an input, `document_refusal` of a document, by four passes over its pairs, and
+//! `start_refusal` of a writer.
 //!
-//! To be read in this order: `entry`, `field_text` and `indexed_value`; `kinds` and `fields` (the first pass); `json`
-//! (the second); `size`, `totals`, `paths`, `texts` and `field_totals` (what a document has in a field), and
-//! `positions` (the third pass); `levels`, `stored_len` and `limits` (the fourth); `document`.
+//! ```rust
+//! check_input(alloc, &analyzers, &input.as_ref())?;
+//! check_document(alloc, &input.schema, &analyzers, &document, 0)?;
+//! if let Some(refusal) = start_refusal(&analyzers, LEAST_BUDGET, &input.schema, &input.settings) {
+//!     return Err(refusal);
+//! }
+//! let fits = settings_fit(&input.settings);
+//! ```
 //!
-//! What an index is built from: a schema and operations on its documents, and how these are stored, cut, filtered and
-//! named.
-//!
-//! A `BuildInput` is seen as an `Input` of the index's definitions, so that a contract speaks of one value where the
-//! code passes one reference. `user_operation` has what a user asks of documents, `build_input` the whole, and
-//! `build_input_ref` the same, borrowed.
-//!
-//! Which inputs are refused before a directory is called, and with what error.
-//!
-//! The tests come in the order of `input_refusal`: the cuts, the number of batches, the filters, the ids, field names,
-//! settings, tokenizers, fast tokenizers, and the fields of deletes.
-//!
-//! To be read in this order: `batches` (where cuts divide the operations), `filters`, `ids`, `deletes`, `checking`.
+//! The 0 is the place of the document among the operations, which its error names. `fits` is true here, since a writer
+//! may start: no compression is asked for, and no thread of its own.
 #![tactic(auto)]
 
-mod batch_cuts;
+// What an index is built from.
 mod build_input;
 mod build_input_ref;
+mod user_operation;
+
+// What a writer may start with.
+mod writer_start;
+
+// Inputs that are refused, before a directory is called.
+mod batch_cuts;
 mod deletes;
-mod document;
-mod entry;
-mod field_text;
-mod field_totals;
-mod fields;
 mod filters;
 mod ids;
-mod indexed_value;
 mod input_check;
+
+// Documents: what an entry says of texts, and the values of indexed fields.
+mod entry;
+mod field_text;
+mod indexed_value;
+
+// The first two passes: fields with the values that they take, and JSON leaves and keys.
+mod fields;
 mod json;
 mod kinds;
-mod levels;
-mod limits;
+
+// The third pass: each text is cut once, and what came in each field is added up.
+mod field_totals;
 mod paths;
 mod positions;
 mod size;
-mod stored_len;
 mod texts;
 mod totals;
-mod user_operation;
-mod writer_start;
+
+// The fourth pass: limits; and all four in turn.
+mod document;
+mod levels;
+mod limits;
+mod stored_len;
 
 pub use build_input::BuildInput;
 pub use build_input_ref::BuildInputRef;

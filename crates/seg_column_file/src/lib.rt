@@ -1,32 +1,50 @@
-//! The file of a segment's columns, which has a row for each document.
+//! The file of a segment's columns, which has a row for each document: it is opened and checked whole, and its columns
+//! are found by their paths. Here is also which rows of several files a merge keeps, and in which order. A file with
+//! columns is written by `seg_column_writer`; the writer here makes the file without any.
 //!
-//! Bytes are a file or not, and a reader of one is seen as the number of rows and the columns in order of path and
-//! type. Only the file without columns is written so far.
+//! Its model: bytes are a file of columns or not (`IsColumnFile`), a reader is its number of rows with its columns in
+//! the order of path and type (`ColumnFile`), and an order of rows is a list of places, each a file and a row of it
+//! (`rows_in_order`).
 //!
-//! To be read in this order: `format`; `writer`, `empty`; `entry`, `table_check`, `columns_check`, `footer`;
-//! `column_iter`, `selection`, `reader`; `row_addr` (a row of one of several files); `associated_type` (the type of the
-//! columns that have values of a Rust type).
+//! ```rust
+//! let reader = ColumnarReader::open(alloc, bytes)?;
+//! for handle in reader.read_columns(alloc, "price")? {
+//!     if let DynamicColumn::U64(prices) = handle.open() {
+//!         let first = prices.first(0);
+//!     }
+//! }
+//! let kept = KeptRows::of_order(alloc, &[2, 3], &MergeRowOrder::Stack)?;
+//! ```
 //!
-//! Which rows of several files of columns a merge keeps, and in which order.
-//!
-//! To be read in this order: `row_order` (the rows that are kept, file after file or by their addresses), `kept_rows`
-//! (a mark for each row of each file).
+//! Of two files with two and three rows `kept` has a mark for each row, here `true` for all five: `kept.of_file(1)` are
+//! the three of the second.
 #![tactic(auto)]
 
-mod associated_type;
-mod column_iter;
-mod columns_check;
+// The numbers of the format.
+mod format;
+
+// The file without columns.
 mod empty;
+mod writer;
+
+// The check of a file, from its end on.
+mod columns_check;
 mod entry;
 mod footer;
-mod format;
-mod kept_rows;
+mod table_check;
+
+// The reader, and columns by their paths.
+mod column_iter;
 mod reader;
+mod selection;
+
+// The types that have columns of their own.
+mod associated_type;
+
+// Which rows of several files a merge keeps, and in which order.
+mod kept_rows;
 mod row_addr;
 mod row_order;
-mod selection;
-mod table_check;
-mod writer;
 
 pub use associated_type::HasAssociatedColumnType;
 pub use column_iter::ColumnIter;

@@ -1,35 +1,54 @@
-//! The bytes of files of columns, as they are written.
+//! The bytes of files of columns as they are written, piece by piece, with the laws that they are read back; and which
+//! columns the file of a segment has to have by its schema, and which it may have.
 //!
-//! `specs/ColumnBytes` says the bytes of a column from its rows, `specs/FileBytes` those of a file from its columns,
-//! and `specs/ModelColumns` what a file means. `laws` has what is read back of them.
+//! Its model: `column_bytes` gives the bytes of a column from its rows, `file_bytes` those of a file from its columns,
+//! and `columns_in` what the columns are by the model; `HoldColumns` says that bytes are a file of so many documents
+//! with the columns that suit a schema.
 //!
-//! To be read in this order: `laws`, `table_writing`, `room`; `term`, `term_order`, `term_table` (the distinct terms of
-//! a column, by their numbers and in byte order), `dictionary_writing`; `row_number`, `same_ends`, `column_writing`.
+//! ```rust
+//! let mut out = Vec::new(alloc);
+//! put_numbers(&mut out, &[RowNumber { row: 0, number: 5 }], 2)?;
+//! let mut terms = TermTable::new(alloc);
+//! let red = terms.add(alloc, b"red")?;
+//! let columns = open_columns(alloc, bytes, &schema, num_docs)?;
+//! ```
 //!
-//! The columns of a segment by its schema: which a file of columns has to have, and which it may have.
-//!
-//! To be read in this order: `declared` (the columns that fields declare); `json_fields`, `path_start`, `path_starts`,
-//! `json_paths`, `values` (what others have); `suiting` (all columns of a file), `opening`.
+//! Of two rows the first has the number 5: `out` has where the values of each row end, and then 5, in eight bytes each.
+//! `red` is 0, the number of the first term. `columns` is the reader of a file that has all columns which the schema
+//! declares, and others only at paths of its fast JSON fields.
 #![tactic(auto)]
 
-mod column_writing;
-mod declared;
-mod dictionary_writing;
-mod fast_tokenizers;
-mod json_fields;
-mod json_paths;
+// What is written is read back.
 mod laws;
-mod opening;
-mod path_start;
-mod path_starts;
+
+// The table of a file.
 mod room;
-mod row_number;
-mod same_ends;
-mod suiting;
 mod table_writing;
+
+// The distinct terms of a column, by their numbers and in byte order.
+mod dictionary_writing;
 mod term;
 mod term_order;
 mod term_table;
+
+// The bytes of a column.
+mod column_writing;
+mod row_number;
+mod same_ends;
+
+// The columns that a schema declares, and what cuts their texts.
+mod declared;
+mod fast_tokenizers;
+
+// The paths at which JSON fields may have columns.
+mod json_fields;
+mod json_paths;
+mod path_start;
+mod path_starts;
+
+// The check of a file by a schema.
+mod opening;
+mod suiting;
 mod values;
 
 pub use column_writing::{put_numbers, put_ordered_terms};

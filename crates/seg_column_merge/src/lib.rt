@@ -1,32 +1,45 @@
-//! Files of columns, merged into one with the rows that are kept, in their order.
+//! Files of columns, merged into one with the rows that are kept, in their order, and with the columns that are
+//! required in any case. For segments of which some documents are alive it has the columns that the schema declares,
+//! and the law that the merged file has the columns of the segments' join.
 //!
-//! To be read in this order: `table_order` (the columns of all files by path and kind), `groups`; `merge`,
-//! `kept_count`, `decisions` (which column the rows of one key have, in which type), `room`, `planned_group`,
-//! `planning` (what is decided before anything is written); `value_columns`, `term_columns` (the bytes of a column),
-//! `merged_file`, `group_column`; `sorted_merge`, `merging` (the whole); `laws`.
+//! Its model: `merged_columns` says which columns the kept rows have, where the type of a path's numbers goes by these
+//! rows, and is undefined where they have none in common; the file has just them (`IsMerged`).
 //!
-//! The columns of segments of which some documents are alive: merged, their files have the columns of the segments' join.
+//! ```rust
+//! let required = declared_columns(alloc, &schema)?;
+//! let file = merge_columnar(alloc, &columnars, &required, &MergeRowOrder::Stack)?;
+//! ```
 //!
-//! To be read in this order: `declared` (the columns that a merge has in any case), `laws`.
+//! `file` has all rows of the first reader in `columnars`, then those of the second, and so on.
+//! `MergeRowOrder::Shuffled` keeps the rows of a list of addresses instead.
 #![tactic(auto)]
 
-mod decisions;
-mod group_column;
+// The columns of all files, by path and kind.
 mod groups;
+mod table_order;
+
+// What is decided before anything is written.
+mod decisions;
 mod kept_count;
-mod laws;
-mod live_column_laws;
-mod live_declarations;
 mod merge;
-mod merged_file;
-mod merging;
 mod planned_group;
 mod planning;
 mod room;
-mod sorted_merge;
-mod table_order;
+
+// The bytes of the columns, and of the file.
+mod group_column;
+mod merged_file;
 mod term_columns;
 mod value_columns;
+
+// The whole.
+mod laws;
+mod merging;
+mod sorted_merge;
+
+// The columns of segments of which some documents are alive.
+mod live_column_laws;
+mod live_declarations;
 
 pub use laws::merged_rows_by_kind;
 pub use live_column_laws::live_columns_join;

@@ -1,29 +1,48 @@
-//! What a merge of files of columns has of each column: what the rows that are kept have of the files' columns, and the
-//! bytes of one column with the rows of all.
+//! What a merge of files of columns has of each column: what the rows that are kept have of the files' columns, one
+//! dictionary of the terms that they have, and the bytes of one column with the rows of all files.
 //!
-//! To be read in this order: `number_range`, `kept_values` (what the kept rows have of a column); `head_heap` (the
-//! heads of sorted lists that are merged); `tables` (the columns of all files); `used_ordinals`, `used_terms` (the
-//! terms of a column that the kept rows have), `dictionaries` (those of several columns, merged),
-//! `dictionary_putting`; `number_map`, `value_bytes`, `row_ends`, `source` (what a file has of a merged column),
-//! `column_sources` (the columns of one key, each in the place of its file), `column_joining` (the bytes of the rows of
-//! several files); `laws`.
+//! Its model: rows that are kept are told by marks (`kept_values`), `AreMerged` says that terms and ordinals are those
+//! of kept rows, and `joined` gives the bytes of each value of rows in an order.
+//!
+//! ```rust
+//! let table = table_rows(alloc, &required, &columnars)?;
+//! let kept = KeptRows::of_order(alloc, &counts, &order)?;
+//! let columns = used_columns(alloc, &rows, &kept)?; // `rows` of `table` with one path, of texts
+//! let MergedTerms { terms, ordinals } = MergedTerms::of(alloc, &columns)?;
+//! put_joined(&counts, &order, &sources, &mut out)?;
+//! put_terms_dictionary(&mut out, &terms)?;
+//! ```
+//!
+//! `sources` has the column of each file in its place, made by `source_of` with the `ordinals` that its terms have
+//! among `terms`; `out` then has the merged column.
 #![tactic(auto)]
 
-mod column_joining;
-mod column_sources;
+// What the kept rows have of a column.
+mod kept_values;
+mod number_range;
+
+// The columns of all files, and sorted lists that are merged by their heads.
+mod head_heap;
+mod tables;
+
+// The terms that kept rows have, in one dictionary.
 mod dictionaries;
 mod dictionary_putting;
-mod head_heap;
-mod kept_values;
-mod laws;
-mod number_map;
-mod number_range;
-mod row_ends;
-mod source;
-mod tables;
 mod used_ordinals;
 mod used_terms;
+
+// What is written for the rows of one file.
+mod number_map;
+mod row_ends;
+mod source;
 mod value_bytes;
+
+// The bytes of a column that has rows of several files.
+mod column_joining;
+mod column_sources;
+
+// What holds of all.
+mod laws;
 
 pub use column_joining::put_joined;
 pub use column_sources::{no_sources, number_sources, source_of};

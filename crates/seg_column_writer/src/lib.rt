@@ -1,25 +1,45 @@
-//! The writer of files of columns.
+//! The writer of files of columns: values are recorded document by document, each in a column by its name or by its id,
+//! and become a file at the end.
 //!
-//! `specs/Recorded` says which columns are recorded, by the model's definition of the columns of documents.
+//! Its model: a writer is the list of its columns in the order in which they came, each with the type that was declared
+//! and the values that were recorded (`ColumnRecord`), and `recorded_columns` says which columns that makes, by the
+//! model's definition of the columns of documents; it is undefined where the numbers of a path have no type in common.
 //!
-//! To be read in this order: `row_value`, `known_values`, `recorded_column` (a column while its values come);
-//! `column_encoding`, `column_putting` (its bytes); `column_name`, `typed_column`, `file_writing` (the file);
-//! `known_columns`; `writer`, `column_recording`, `named_recording` (the calls).
+//! ```rust
+//! let mut writer = ColumnarWriter::new(alloc);
+//! writer.record_column_type("title", ColumnType::Str, false)?;
+//! let price = writer.column("price", ValueKind::Number)?;
+//! writer.record_numerical_in(0, price, NumericalValue::U64(900))?;
+//! writer.record_str(1, "title", "Red mug")?;
+//! let file = writer.serialize(2)?;
+//! ```
+//!
+//! `file` is one of two documents: the first has a price, the second a title. A column that was declared is there
+//! without a value too.
 #![tactic(auto)]
 
-mod column_encoding;
-mod column_name;
-mod column_putting;
-mod column_recording;
-mod file_writing;
-mod known_columns;
-mod known_values;
-mod named_recording;
+// Values as callers record them, and which of them are in one column.
 mod numerical_value;
+mod value_kind;
+
+// A column while its values come.
+mod known_values;
 mod recorded_column;
 mod row_value;
+
+// Its bytes.
+mod column_encoding;
+mod column_putting;
+
+// The columns so far, and the whole file.
+mod column_name;
+mod file_writing;
+mod known_columns;
 mod typed_column;
-mod value_kind;
+
+// The writer and its calls, by the id of a column and by its name.
+mod column_recording;
+mod named_recording;
 mod writer;
 
 pub use numerical_value::NumericalValue;

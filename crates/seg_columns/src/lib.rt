@@ -1,32 +1,55 @@
-//! The columns of a segment: of each document the list of its values of one type, read from bytes without a copy.
+//! The columns of a segment, read from bytes without a copy: of each document the values of one type. A column of texts
+//! or bytes has their ordinals, and a dictionary of the distinct ones.
 //!
-//! Bytes are a column of a type for a number of documents, or not, and a column is seen as its list of lists. A column
-//! of texts or bytes has their ordinals and a dictionary, and is seen as both.
+//! Its model: bytes are a column of a type for a number of documents, or not (`IsColumnOf`), and a column is the list
+//! of the documents' lists of values; one of texts or bytes is lists of ordinals beside its terms in byte order
+//! (`TermColumn`).
 //!
-//! To be read in this order: `error`; `column_value`, `ip_value`; `ends`, `column_check`, `column_values`, `column`;
-//! `first_or_default`; `terms`, `dictionary_check`, `dictionary`; `used_ordinals`, `term_column`; `bytes_column`,
-//! `str_column`; `dynamic_column`; `type_check`, `lenient`, `handle`.
+//! ```rust
+//! let titles = StrColumn::open(alloc, &bytes, num_docs)?;
+//! for ord in titles.ords().values_for_doc(0) {
+//!     let text = titles.text(ord);
+//! }
+//! let handle = DynamicColumnHandle::new(alloc, ColumnType::U64, prices, num_docs)?;
+//! if let DynamicColumn::U64(prices) = handle.open() {
+//!     let first = prices.first(0);
+//! }
+//! ```
+//!
+//! The loop comes to the texts of document 0, and `first` is its first price, `None` where it has none. A handle is
+//! checked when it is made, so `open` can't fail.
 #![tactic(auto)]
 
-mod bytes_column;
+// Why a call fails.
+mod error;
+
+// Values in bytes, and where the parts of bytes end.
+mod column_value;
+mod ends;
+mod ip_value;
+
+// Columns of values of one size.
 mod column;
 mod column_check;
-mod column_value;
 mod column_values;
+mod first_or_default;
+
+// Dictionaries of the terms of a column.
 mod dictionary;
 mod dictionary_check;
-mod dynamic_column;
-mod ends;
-mod error;
-mod first_or_default;
-mod handle;
-mod ip_value;
-mod lenient;
+mod terms;
+
+// Columns of ordinals with a dictionary: texts, and bytes.
+mod bytes_column;
 mod str_column;
 mod term_column;
-mod terms;
-mod type_check;
 mod used_ordinals;
+
+// Columns of any type, and those that aren't opened yet.
+mod dynamic_column;
+mod handle;
+mod lenient;
+mod type_check;
 
 pub use bytes_column::BytesColumn;
 pub use column::Column;

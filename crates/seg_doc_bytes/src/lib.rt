@@ -1,22 +1,38 @@
-//! Stored documents: the bytes that a document is written to, and what is read from them.
+//! Stored documents: the bytes that a document is written to, their check without memory, and what is read from them.
+//! Code that scans the bytes itself takes them apart piece by piece.
 //!
-//! The bytes of a document read as fields with trees. `put_document` writes those of the stored pairs of a document;
-//! `is_stored_document` checks bytes without memory, and `document_of` makes a document of them. Who goes over the bytes
-//! himself takes them apart by the calls of `pieces` and `take_field`.
+//! Its model: `stored_form` gives the bytes of a document's stored pairs, and `stored_document_of` the fields with
+//! trees that bytes read as, if anything; the first reads back (`stored_documents_are_read`).
 //!
-//! To be read in this order: `tree_writer`, `document_writer`, `document_law`; `pieces` (what is at the front of bytes),
-//! `tree_check`, `document_check`; `leaf_reader`, `tree_reader`, `document_reader`.
+//! ```rust
+//! let mut stored = Vec::new(alloc);
+//! put_document(&mut stored, &document.pairs(alloc)?, &schema)?;
+//! if is_stored_document(&stored) {
+//!     let again = document_of(alloc, &stored)?;
+//! }
+//! let mut left = stored.as_slice();
+//! let count = take_varint(&mut left);
+//! ```
+//!
+//! `again` has the document with those of its pairs whose fields are stored, and `count` is how many these are.
 #![tactic(auto)]
 
-mod document_check;
+// What is written.
 mod document_law;
-mod document_reader;
 mod document_writer;
-mod leaf_reader;
-mod pieces;
-mod tree_check;
-mod tree_reader;
 mod tree_writer;
+
+// What is at the front of bytes.
+mod pieces;
+
+// The check.
+mod document_check;
+mod tree_check;
+
+// What is read.
+mod document_reader;
+mod leaf_reader;
+mod tree_reader;
 
 pub use document_check::{MOST_LEVELS, is_stored_document, take_field};
 pub use document_law::stored_documents_are_read;

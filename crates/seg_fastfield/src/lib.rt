@@ -1,33 +1,48 @@
-//! The writer of the fast fields of a segment: it records the values of documents, and makes their file of columns.
+//! Fast fields. Their writer records the values of documents, those of JSON leaf by leaf, and makes the file of columns
+//! of a segment; their readers find the columns of a segment by the names of its fields.
 //!
-//! `specs/FastLeaves` says what a document records, by the model's definition of the columns of documents.
+//! Its model: a writer is its schema, the columns that were recorded and the number of rows, and `Holds` says that they
+//! are what documents record (`recorded_values`); readers are the schema and the columns of the file (`FastFields`),
+//! `StandsFor` says which path a name stands for, and each answer is a function of the columns there.
 //!
-//! To be read in this order: `declaring` (the columns of a schema); `place`, `kind_columns`, `path_columns` (what is
-//! known of a column before it is looked up); `placed_recording`, `leaf`, `tree`, `row_recorder` (a value, a leaf, the
-//! leaves of a value, a document); `writer`.
+//! ```rust
+//! let mut writer = FastFieldsWriter::from_schema_and_tokenizer_manager(alloc, &schema, &analyzers)?;
+//! writer.add_document(&document, &analyzers)?;
+//! let file = writer.serialize()?;
+//! let readers = FastFieldReaders::new(columnar, schema); // `columnar` reads the bytes of `file`
+//! let prices = readers.u64(alloc, "price")?;
+//! let widths = readers.i64(alloc, "attributes.size.width")?;
+//! ```
 //!
-//! The readers of fast fields: the columns of a segment by the names of its fields.
-//!
-//! To be read in this order: `column_name` (what a name stands for), `readers`; `handles`, `typed`, `lenient` (what they
-//! answer); `facet_reader`; `not_available` (what a caller is told).
+//! `prices.first(0)` is the price of the document, and `widths` has the numbers of a JSON field at the path of two
+//! keys.
 #![tactic(auto)]
 
-mod column_name;
+// What a schema declares, and what is known of a column before it is looked up.
 mod declaring;
-mod facet_reader;
-mod handles;
 mod kind_columns;
-mod leaf;
-mod lenient;
-mod not_available;
 mod path_columns;
 mod place;
+
+// Values, leaves, trees and documents, recorded.
+mod leaf;
 mod placed_recording;
-mod readers;
 mod row_recorder;
 mod tree;
-mod typed;
+
+// The writer.
 mod writer;
+
+// The path that a name stands for, and what a caller is told where there is no column.
+mod column_name;
+mod not_available;
+
+// The readers.
+mod facet_reader;
+mod handles;
+mod lenient;
+mod readers;
+mod typed;
 
 pub use facet_reader::FacetReader;
 pub use not_available::FastFieldNotAvailableError;

@@ -1,26 +1,34 @@
-//! What is known of the fields of segments: whether a field is stored, and how many bytes it takes.
+//! What is known of the fields of segments: which there are, of JSON fields which paths, whether they are stored, and
+//! how many bytes each takes in columns, dictionary, postings and positions. One segment says it, and what several say
+//! is merged.
 //!
-//! Contracts see metadata as entries: a name and a type, with what is known of them. Read `field_metadata` first, then
-//! `merging`, and `laws`.
+//! Its model: metadata is a list of entries, each a name and a type with what is known of it (`Known`); `SegmentSays`
+//! is what an open segment lists, and `merged` has each name and type once, with what all lists say of it (`together`).
 //!
-//! What a segment that is open says of its fields: which there are, and how many bytes each takes.
+//! ```rust
+//! let said = fields_metadata(alloc, &reader)?;
+//! for field in &said {
+//!     let (name, terms) = (field.field_name.as_str(), field.term_dictionary_size);
+//! }
+//! let all = merge_field_meta_data(alloc, lists)?; // a list of each segment
+//! ```
 //!
-//! Read `listed` (the names of paths), `field_entries` (what the parts of an indexed field say), `column_entries` (what
-//! columns say) and `metadata` (the whole) in this order.
-//!
-//! The law on the metadata of fields: the sizes of an indexed field are the lengths of its parts.
-//!
-//! There is no code here. `specs/PartLengths` says what a field is opened from and what its sizes are then,
-//! `specs/FileLengths` what that comes to for the fields of a segment reader, and `laws` is what is proved of it.
+//! Of an indexed field that isn't fast, `terms` has the length of its dictionary in the file, and `fast_size` is
+//! `None`. In `all` each size is the sum of those that the segments say.
 #![tactic(auto)]
 
-mod column_entries;
-mod field_entries;
+// What is known of a field, and of the fields of several segments.
 mod field_metadata;
 mod laws;
+mod metadata_merging;
+
+// What a segment says of its fields.
+mod column_entries;
+mod field_entries;
 mod listed;
 mod metadata;
-mod metadata_merging;
+
+// The sizes are the lengths of the parts that a field has in the files.
 mod size_laws;
 
 pub use field_metadata::FieldMetadata;

@@ -1,31 +1,45 @@
-//! Builds an index from operations on documents, and merges segments into one.
+//! Indexes, built and merged. An index is built of operations on documents: a segment a batch is written into a work
+//! directory, and these segments, as that directory answers them, are merged into an output directory. Segments that
+//! are there are merged under filters, and several indices into one.
 //!
-//! `merge_filtered_segments` reads segments from a directory, and writes what they are merged into, as an index of one
-//! segment, into another. `build_index` checks what it is handed in, writes a segment a batch into a work directory,
-//! and merges these segments, as the work directory answers them, into an output directory.
+//! Its model: both directories are one state (`Directories`), in which steps are done in turn, up to the first that
+//! breaks off; `Builds` says that they have the work index and the output index of an input, `build_refusal` why an
+//! input is refused, and `AreMerged` which contents segments are merged into.
 //!
-//! To be read in this order: `payload` and `metas` (what an index says of itself), `index_files` (an index is begun, and
-//! its meta saved), `filtered_merging` (segments, merged), `work_index` (the segments of the batches), `held_input`
-//! (an input, borrowed or owned), `indexes` (both indexes in turn), `building`, `laws`.
+//! ```rust
+//! let index = build_index(
+//!     alloc, &schema, &settings, &analyzers, &operations, &[2], &[None, None], &ids, &mut work, &mut output,
+//! )?;
+//! let segments = Index::open(alloc, &mut work)?.searchable_segments(alloc)?;
+//! let merged = merge_filtered_segments(alloc, &segments, settings, filters, id, &mut work, &mut other)?;
+//! let all = merge_indices(alloc, &[index, merged], &mut sources, id, &mut third)?;
+//! ```
 //!
-//! Merges indices into one, each read from a directory of its own.
-//!
-//! To be read in this order: `listing` (the segments of indices), `opening` (their readers, index by index),
-//! `index_merging`.
+//! The operations are cut after the second, so there are two batches, and `ids` has an id for each and one for the
+//! output. Each merge makes an index of one segment; `sources` has the directory of each index.
 #![tactic(auto)]
 
-mod building;
-mod filtered_merging;
-mod held_input;
+// What an index says of itself, and how it is begun.
 mod index_files;
-mod index_merging;
-mod indexes;
-mod laws;
 mod metas;
 mod payload;
+
+// Segments, merged into an index of one.
+mod filtered_merging;
+
+// An index, built of operations.
+mod building;
+mod held_input;
+mod indexes;
+mod work_index;
+
+// Indices, merged into one.
+mod index_merging;
 mod source_listing;
 mod source_opening;
-mod work_index;
+
+// What holds of all.
+mod laws;
 
 pub use building::{build_index, build_index_of};
 pub use filtered_merging::{check_segments, fill_output, live_segments, merge_filtered_segments};

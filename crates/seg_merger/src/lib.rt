@@ -1,29 +1,45 @@
 //! The merge of segments: the documents of each that are alive, one segment after another, as the files of one segment.
+//! Stored documents are copied as they are, the terms of a field are merged key by key, with one term of each segment
+//! in memory, and columns path by path.
 //!
-//! A segment that is merged is seen as what its reader has, of which it takes the documents that are alive. Stored
-//! documents are copied as they are; the terms of a field are merged key by key, with one term of each segment in memory;
-//! columns are merged path by path, each read as a stream.
+//! Its model: a merger is its schema and what its readers have (`Merging`), and what it writes are files that hold the
+//! `join` of the readers' contents, each with the documents that are alive (`WritesJoined`).
 //!
-//! To be read in this order: `counting`, `store_joining`, `norms_joining`; `new_ids`, `live_tokens`, `numbered_part`
-//! (the ids that documents get), `term_source`, `term_merging`, `terms_joining`; `doc_id_mapping` (where documents come
-//! from), `columns_joining`; `segment_joining`; `filters` and `index_merger` (`IndexMerger`, which opens segments and
-//! writes the one that they are merged into).
+//! ```rust
+//! let mut merger = IndexMerger::open(alloc, schema.share(), &segments, &mut work)?;
+//! let target = Segment::new(schema, SegmentMeta::new(id, merger.max_doc(), None));
+//! let serializer = SegmentSerializer::for_segment(alloc, target, &settings)?;
+//! let documents = merger.write(serializer, &mut output)?;
+//! let mapping = merger.get_doc_id_from_concatenated_data(alloc)?;
+//! ```
+//!
+//! `documents` is how many documents of all segments are alive, and `mapping.addresses()` says of each from which
+//! segment it comes, and which document it is there.
 #![tactic(auto)]
 
-mod columns_joining;
+// How many documents there are, and where they come from.
 mod counting;
 mod doc_id_mapping;
-mod filters;
-mod index_merger;
+
+// Stored documents, and lengths.
+mod norms_joining;
+mod store_joining;
+
+// Terms, by the ids that documents get.
 mod live_tokens;
 mod new_ids;
-mod norms_joining;
 mod numbered_part;
-mod segment_joining;
-mod store_joining;
 mod term_merging;
 mod term_source;
 mod terms_joining;
+
+// Columns.
+mod columns_joining;
+
+// The whole, and the merger.
+mod filters;
+mod index_merger;
+mod segment_joining;
 
 pub use doc_id_mapping::{MappingType, SegmentDocIdMapping};
 pub use filters::filters_fit;

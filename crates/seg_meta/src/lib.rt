@@ -1,38 +1,55 @@
-//! The meta of an index: what `meta.json` says of its settings, its schema and its segments.
+//! The meta of an index: what `meta.json` says of its settings, its schema and its segments, as a text, both ways, and
+//! as the file of a directory; and an index, begun in a directory without files, and opened again.
 //!
-//! A meta is seen in the words of `seg_model`. Its text is the pretty JSON text of the value that `meta_json` defines,
-//! and one line feed.
+//! Its model: a meta is settings, a schema, a list of segments, a stamp and a payload (`meta_of`), its text is the
+//! pretty JSON text of `meta_json` with a line feed, and bytes read as one meta or as none (`meta_read`); each meta is
+//! what its own text reads as (`metas_read_back`).
 //!
-//! Bytes are read as a meta where they are a JSON text with exactly the members of one (`MetaRead`), and each meta is what
-//! its own text reads as (`meta_law`).
+//! ```rust
+//! let index = Index::create(alloc, schema, settings, &mut directory)?;
+//! let again = Index::open(alloc, &mut directory)?;
+//! for segment in again.searchable_segments(alloc)? {
+//!     let (id, documents) = (segment.id(), segment.meta().num_docs());
+//! }
+//! save_metas(alloc, index.metas(), &mut directory)?;
+//! ```
 //!
-//! To be read in this order: `index_settings`; `delete_meta`, `segment_meta`, `segment_metas`;
-//! `index_meta`, `segment`; `words`, `meta_json`, `content`; `read_error`, `members`, `settings_read`, `entry_read`,
-//! `segment_read`, `schema_read`, `segments_read`, `meta_read`; `ranges`, `meta_law`; `save`, `load`, `index`.
+//! A new index lists no segment. `save_metas` replaces the file of the meta in one step.
 #![tactic(auto)]
 
-mod content;
+// Settings, and segments as a meta lists them.
 mod delete_meta;
-mod entry_read;
-mod index;
-mod index_meta;
 mod index_settings;
-mod load;
-mod members;
-mod meta_json;
-mod meta_law;
-mod meta_read;
-mod ranges;
-mod read_error;
-mod save;
-mod schema_read;
-mod segment;
 mod segment_meta;
 mod segment_metas;
+
+// The meta, and a segment of an index.
+mod index_meta;
+mod segment;
+
+// The text of a meta.
+mod content;
+mod meta_json;
+mod words;
+
+// What is read from a text.
+mod entry_read;
+mod members;
+mod meta_read;
+mod read_error;
+mod schema_read;
 mod segment_read;
 mod segments_read;
 mod settings_read;
-mod words;
+
+// A meta reads back from its own text.
+mod meta_law;
+mod ranges;
+
+// The file of a directory, and an index.
+mod index;
+mod load;
+mod save;
 
 pub use content::meta_text;
 pub use delete_meta::DeleteMeta;

@@ -1,8 +1,19 @@
-//! Worked cases of the definitions of `seg_model` and of formats, as theorems.
+//! Worked cases of the definitions of `seg_model` and of formats, as theorems: what the definitions answer on small
+//! inputs that were worked out by hand. No other crate uses it.
 //!
-//! Each law says what the definitions answer on small inputs that were worked out by hand. No other crate uses it.
+//! Its model: a law for each subject, whose cases are the fields of a record, as `TextCases` in `specs/Texts`, each an
+//! equation on literals.
+//!
+//! ```rust
+//! pub fn cases_of_texts()
+//!     ensures { TextCases }
+//! {}
+//! ```
+//!
+//! A case is mostly proved by computing both sides, so a function here has no body, and is proved as any other.
 #![tactic(auto)]
 
+// The cases, by what they are about.
 mod laws;
 
 pub use laws::{

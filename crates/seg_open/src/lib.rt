@@ -1,30 +1,48 @@
-//! Segments as they are read from a directory.
+//! Segments as they are read from a directory: a segment is opened by its six files, each read once, whole, and checked
+//! against those before it, and by its alive file. What is asked of it later is looked up in these bytes. The first
+//! file that is missing, or else the first that is wrong, is the one that the error names.
 //!
-//! A reader is seen as the contents that the bytes of its six files hold, with the documents that are alive. Each file
-//! is read once, whole, and checked against those before it; what is looked up later is looked up in these bytes. The
-//! first file that is wrong, by itself or with those before it, is the one that is told.
+//! Its model: a reader is an `OpenSegment`: the contents that its files hold (`contents_of`), and for each document
+//! whether it is alive.
 //!
-//! Files in reading order: `open_error`, `term_files` (a file with a part for each indexed field),
-//! `dictionaries_opening`, `postings_opening` and `fields_opening` (the three such files, one after another),
-//! `parts_opening` (the store, the columns and the length ids), `alive_reading` (the alive file, and a custom set),
-//! `file_sizes`, `segment_reader`, `alive_docs`, `space_usage` and `reader_parts` (what a reader has), `facet_columns`
-//! (the facets of a field), `segments_opening` (one segment after another).
+//! ```rust
+//! let reader = SegmentReader::open(alloc, &segment, &mut directory)?;
+//! let prices = reader.fast_fields().u64(alloc, "price")?;
+//! for doc in reader.doc_ids_alive() {
+//!     let (stored, price) = (reader.store_reader().raw(doc), prices.first(doc));
+//! }
+//! if let Some(index) = reader.opened_field(title) {
+//!     let info = index.terms().get(b"mug");
+//! }
+//! ```
+//!
+//! `stored` has the bytes of a document, and `info` says in how many documents the term `mug` occurs, `None` where it
+//! is in none.
 #![tactic(auto)]
 
-mod alive_docs;
-mod alive_reading;
-mod dictionaries_opening;
-mod facet_columns;
-mod fields_opening;
-mod file_sizes;
+// Why a segment can't be opened.
 mod open_error;
-mod parts_opening;
+
+// The three files that have a part for each indexed field.
+mod dictionaries_opening;
+mod fields_opening;
 mod postings_opening;
+mod term_files;
+
+// The other three, and the alive file.
+mod alive_reading;
+mod parts_opening;
+
+// A segment that is open, and what it has.
+mod alive_docs;
+mod facet_columns;
+mod file_sizes;
 mod reader_parts;
 mod segment_reader;
-mod segments_opening;
 mod space_usage;
-mod term_files;
+
+// Several segments.
+mod segments_opening;
 
 pub use alive_docs::AliveDocs;
 pub use file_sizes::FileSizes;

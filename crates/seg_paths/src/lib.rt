@@ -1,20 +1,36 @@
-//! The paths of JSON fields, each with a number, and the leaves of a value with the numbers of their paths.
+//! The paths of JSON fields, each with a number, and the leaves of a value with the numbers of their paths. A path is
+//! the keys above a leaf, with a byte 1 between each two. A table has each path once, as its last part below the path
+//! before it, so that a walk over a value costs the bytes of the value, however many leaves are below a long key.
 //!
-//! A path is the keys above a leaf, with a byte 1 between each two. A table has each path once, as its last part below
-//! the path before it: a key that is added costs its own bytes, however many leaves are below it and however long the
-//! path above it is. So a walk over a value costs the bytes of the value.
+//! Its model: a table is the list of its paths, no two of them equal, the number of a path is its place (`number_of`),
+//! and a table only grows (`Extends`).
 //!
-//! To be read in this order: `node` (a part below a path), `cut` (where a path is cut), `path_table` (the paths so
-//! far), `leaves` (the walk), `by_path` (what is kept of each path); then `ranks` (the order of the paths), with
-//! `subtrees`, `offset` and `placing`.
+//! ```rust
+//! let mut paths = PathTable::new(alloc);
+//! for NumberedLeaf { path, leaf } in leaves_of(alloc, &mut paths, false, &value)? {
+//!     let count = value_of(&counts, path, 0);
+//!     set_value(&mut counts, path, 0, count + 1)?;
+//! }
+//! let ranks = paths.ranks(alloc)?;
+//! ```
+//!
+//! `counts` then has how many leaves each path has, by its number, and `ranks` the place of each path in the order of
+//! terms.
 #![tactic(auto)]
 
-mod by_path;
+// A part below a path, and where a path is cut.
 mod cut;
-mod leaves;
 mod node;
-mod offset;
+
+// The paths so far, and the leaves of a value.
+mod leaves;
 mod path_table;
+
+// What is kept of each path, by its number.
+mod by_path;
+
+// The order of the paths.
+mod offset;
 mod placing;
 mod ranks;
 mod subtrees;

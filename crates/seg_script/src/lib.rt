@@ -1,33 +1,48 @@
 //! Reads a script: a JSON text that says a schema, the operations on documents, and how an index is made of them.
+//! `docs/SCRIPT.md` says what a script is.
 //!
-//! A script is what the definition `script` gives of its bytes: an `Input` of the index's definitions, read off the JSON
-//! values that `serde_json` defines.
+//! Its model: `script` gives the input that bytes say, by the JSON value that `serde_json` defines of them, or none
+//! where they are no script; an input is an `Input` of `seg_model`, and well formed (`scripts_are_well_formed`).
 //!
-//! `script` has the one call, `read_script`, and `error` says why bytes are no script. `fields` reads the schema, `settings`
-//! the settings, `operations` the operations, of which `pairs` reads what is added, by a `reading`, and `deletes` what is
-//! deleted, both out of the `parts` of a list; `cuts`, `filters` and `ids` read the rest. `kept_documents` makes the set that
-//! a filter is, `pushing` adds to a vector. `operation_reading` reads the operations one by one off the text, each as a value of
-//! `json_reading`, whose numbers `numbers` reads. `laws` says what every script holds.
+//! ```rust
+//! let text = r#"{"schema": [{"name": "title", "kind": "text", "stored": true}],
+//!     "operations": [{"add": [["title", "Red mug"]]}]}"#;
+//! let input = read_script(alloc, Vec::from_slice(alloc, text.as_bytes())?)?;
+//! let (fields, operations) = (input.schema.num_fields(), input.operations.len());
+//! ```
+//!
+//! The input has one field, one operation, no cut, no filter for its one batch, and the ids 1 and 2.
 #![tactic(auto)]
 
-mod cuts;
-mod deletes;
+// Why bytes are no script.
 mod error;
-mod fields;
-mod filters;
-mod ids;
+
+// JSON values off a text, numbers off their tokens, and items of lists.
 mod json_reading;
-mod kept_documents;
-mod laws;
 mod numbers;
+mod parts;
+mod pushing;
+
+// The schema and the settings.
+mod fields;
+mod settings;
+
+// The operations: what is added, and what deletes name.
+mod deletes;
 mod operation_reading;
 mod operations;
 mod pairs;
-mod parts;
-mod pushing;
 mod reading;
+
+// Cuts, filters and ids.
+mod cuts;
+mod filters;
+mod ids;
+mod kept_documents;
+
+// The whole, and what every script holds.
+mod laws;
 mod script;
-mod settings;
 
 pub use error::ScriptError;
 pub use laws::scripts_are_well_formed;

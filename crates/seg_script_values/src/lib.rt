@@ -1,20 +1,39 @@
-//! Values as a script has them: JSON values as trees of a kind, and the terms that deletes name by them.
+//! Values as a script has them: JSON values as values of documents, each by a kind, texts that come with their tokens,
+//! and the terms that deletes name; and the texts of addresses, bytes and facets.
 //!
-//! Read `members` and `parts` first, which look into a JSON value; then `addresses`, `byte_texts` and
-//! `facet_texts`, which read a text, with what is read in `laws`; then `leaves`, `trees`, `tokenized` and
-//! `deletes`.
+//! Its model: a JSON value is that of `serde_json`, and each call answers what a definition says of it, or nothing:
+//! `tree_from` a tree, by a kind, `tokenized_from` a text with tokens, `plain_term` and `json_term` the bytes of a
+//! term.
+//!
+//! ```rust
+//! let value = tree_from(alloc, FieldKind::Date, json)?;
+//! let term = plain_term_from(alloc, title, FieldKind::Text, word)?;
+//! let address = address_from("127.0.0.1");
+//! let bytes = bytes_from(alloc, "bXVn")?;
+//! let facet = facet_from(alloc, "/kitchen/mugs")?;
+//! ```
+//!
+//! `value` is a date where the text in `json` tells one, and else a text; `bytes` has `mug`, and `facet` the two steps
+//! of the path. `None` says that a value or a text is read as nothing of the kind.
 #![tactic(auto)]
 
-mod addresses;
-mod byte_texts;
-mod deletes;
-mod facet_texts;
-mod laws;
-mod leaves;
+// Looks into a JSON value.
 mod members;
 mod parts;
+
+// Texts that are read as addresses, bytes and facets.
+mod addresses;
+mod byte_texts;
+mod facet_texts;
+mod laws;
+
+// Values of documents.
+mod leaves;
 mod tokenized;
 mod trees;
+
+// The terms that deletes name.
+mod deletes;
 
 pub use addresses::address_from;
 pub use byte_texts::bytes_from;

@@ -1,23 +1,35 @@
-//! The six files of a segment: their names, their bytes, and what these spell.
+//! The six files of a segment: terms, postings, positions, stored documents, fast fields and field norms. Their bytes
+//! are made here whether documents are indexed or segments are merged, are written to a directory under an id, and are
+//! read back.
 //!
-//! A segment has a file for each component: terms, postings, positions, stored documents, fast fields and field norms. The
-//! bytes of the six spell the contents of the segment, whoever made them; a directory holds these contents where it has the
-//! six files under an id. Documents that are indexed, segments that are joined and segments that are read all come to this
-//! one set of files.
+//! Its model: the bytes of six files spell contents (`Spell`), and at most one (`files_spell_one_contents`); a
+//! directory holds contents under an id where it has six files that spell them (`Holds`), and a serializer is what each
+//! component is to have (`Serializing`).
 //!
-//! Files in reading order: `term_writer` (the terms of one field, document by document), `fields_writing` (those of the indexed fields) and `lengths_writing` (length ids), all three for
-//! documents and for segments that are joined; `segment_files` (the six files, read or just made, and written),
-//! `component_files`, `segment_serializer` (what the components are to hold, before the files are made), `laws` (files spell
-//! at most one contents).
+//! ```rust
+//! let postings = write_fields(alloc, &schema, &terms)?;
+//! let norms = write_lengths(alloc, &schema, &lengths)?;
+//! let serializer = SegmentSerializer::from_parts(alloc, segment, postings, store, fast, norms);
+//! serializer.close(&mut directory)?;
+//! let files = SegmentFiles::read(alloc, id, &mut directory)?;
+//! ```
+//!
+//! `terms` and `lengths` are what has the terms and the lengths of each field (`TermsByField`, `LengthsByField`),
+//! `store` is a `StoreWriter`, and `fast` the bytes of the columns. `files` has what `close` made.
 #![tactic(auto)]
 
-mod component_files;
+// The terms and the lengths of the fields, written field by field.
 mod fields_writing;
-mod laws;
 mod lengths_writing;
+mod term_writer;
+
+// The six files, and the serializer that makes them.
+mod component_files;
 mod segment_files;
 mod segment_serializer;
-mod term_writer;
+
+// What holds of all.
+mod laws;
 
 pub use fields_writing::{TermsByField, write_fields};
 pub use laws::{files_hold_one_contents, files_spell_one_contents, held_files_spell};

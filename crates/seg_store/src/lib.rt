@@ -1,30 +1,49 @@
-//! The store: the bytes that an index keeps of its stored documents, in blocks.
+//! The store of a segment: the bytes of its stored documents, in blocks, with a table of where each block ends. A store
+//! is written document by document, or block by block from another one, and read with or without a cache of blocks.
 //!
-//! A writer is seen as its closed blocks and its open one, each the list of its documents' bytes, or as nothing once
-//! out of memory; a reader as the blocks of its store, and one with a cache also as the numbers of the blocks that it
-//! keeps. The bytes of a document are those of `seg_doc_bytes`.
+//! Its model: a store is the list of its blocks, each the list of its documents' bytes (`store_of`), `documents_of` are
+//! the documents of all blocks in order, a reader with a cache is also the numbers of the blocks that it keeps
+//! (`CachedStore`), and a writer is its closed blocks and its open one (`Taken`), or nothing once out of memory.
 //!
-//! To be read in this order: `error`; `checkpoint`, `written_blocks`, `store_writer`, `block_law`; `parts`, `block_check`,
-//! `store_check`; `locating`, `block_reader`; `raw_docs`, `checkpoints`, `store_reader`; `cache_stats`, `block_cache`,
-//! `cached_store_reader`.
+//! ```rust
+//! let mut writer = StoreWriter::new(alloc, Compressor::None, 16384, false)?;
+//! writer.store(&document, &schema)?;
+//! let file = writer.close()?;
+//! let store = StoreReader::open(bytes)?; // the bytes of `file`, shared
+//! for stored in store.iter_raw(None) {
+//!     let length = stored.len();
+//! }
+//! let again = store.get(alloc, 0)?;
+//! ```
+//!
+//! `again` has the stored fields of `document`; the bytes of a document are those of `seg_doc_bytes`.
 #![tactic(auto)]
 
-mod block_cache;
-mod block_check;
-mod block_law;
-mod block_reader;
-mod cache_stats;
-mod cached_store_reader;
-mod checkpoint;
-mod checkpoints;
+// Why a call fails.
 mod error;
-mod locating;
-mod parts;
-mod raw_docs;
-mod store_check;
-mod store_reader;
+
+// What is written.
+mod block_law;
+mod checkpoint;
 mod store_writer;
 mod written_blocks;
+
+// The check.
+mod block_check;
+mod parts;
+mod store_check;
+
+// What is read.
+mod block_reader;
+mod checkpoints;
+mod locating;
+mod raw_docs;
+mod store_reader;
+
+// What is read through a cache.
+mod block_cache;
+mod cache_stats;
+mod cached_store_reader;
 
 pub use block_law::{documents_stay_in_order, stacked_blocks_stay_in_order};
 pub use cache_stats::CacheStats;

@@ -1,33 +1,43 @@
-//! The terms of a field while documents come, and in byte order.
-//!
-//! Indexing meets a term by its bytes, at each of its occurrences. Here each term has a number, in the order in which
+//! The terms of a field while documents come, and then in byte order. Each term has a number, in the order in which
 //! terms came, and all occurrences are one list, each with the number of its term; at the end they are ordered by these
-//! numbers, and the terms by their bytes. Contracts see a field as a map from bytes to postings, and then as the list
-//! of its entries.
+//! numbers, and the terms by their bytes. A term of a JSON field begins with a path: it is kept by the number of the
+//! path, and ordered by the path's rank.
 //!
-//! There are two kinds of terms. Those of most fields are kept by their bytes (`TermIndex`, `OrderedTerms`). A term of a
-//! JSON field begins with a path, which may be long and have many terms: it is kept by the number of the path
-//! (`PathTerms`, `OrderedPathTerms`), and ordered by the rank of the path among all.
+//! Its model: a field is a finite map from the bytes of a term to its postings (`with_occurrences` adds to it), and
+//! then the list of its entries in byte order (`TermEntries`).
 //!
-//! To be read in this order: `hit` (an occurrence), `runs` (those of one term, which make its postings), `key` (the
-//! bytes of a term), `known_terms` (the terms so far, by what is kept of them), `term_index` (those that are kept by
-//! their bytes), `ordered_hits` (all occurrences, by the numbers of their terms), `term_part` (a term, and which of
-//! these are its), `parts` (the terms, each with its own), `ordered_terms` (the terms in byte order); then `path_key`
-//! (what is kept of a term on a path), `path_terms` and `ordered_path_terms`.
+//! ```rust
+//! let mut terms = TermIndex::new(alloc);
+//! terms.add(alloc, b"red", 0, 0)?;
+//! terms.add(alloc, b"mug", 0, 1)?;
+//! terms.add(alloc, b"red", 1, 0)?;
+//! let ordered = order_terms(alloc, terms)?;
+//! let (bytes, hits) = (ordered.bytes_at(1), ordered.hits_at(1));
+//! let documents = posting_count(hits);
+//! ```
+//!
+//! `bytes` is `red`, the second of two terms, which occurs at position 0 of the documents 0 and 1: `documents` is 2.
 #![tactic(auto)]
 
+// Occurrences, and those of one term, which are its postings.
 mod hit;
+mod runs;
+
+// The terms so far, by their bytes.
 mod key;
 mod known_terms;
+mod term_index;
+
+// The terms in byte order, each with its part of all occurrences.
 mod ordered_hits;
-mod ordered_path_terms;
 mod ordered_terms;
 mod parts;
+mod term_part;
+
+// Terms on the paths of a JSON field.
+mod ordered_path_terms;
 mod path_key;
 mod path_terms;
-mod runs;
-mod term_index;
-mod term_part;
 
 pub use hit::Hit;
 pub use ordered_path_terms::{OrderedPathTerms, order_path_terms};

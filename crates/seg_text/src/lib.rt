@@ -1,40 +1,58 @@
-//! The printed text of a segment, by pieces that a caller puts together. Each call appends its piece.
+//! The printed text of a segment, by pieces that a caller puts together: first lines, fields with terms and postings,
+//! stored documents, columns, and length ids. Each call appends its piece.
 //!
-//! Its model: `segment_text` gives the bytes that stand for what a segment holds under a schema, `norms_text` those of its length ids.
+//! Its model: `segment_text` gives the bytes that stand for what a segment holds under a schema, `columns_text` those
+//! of its columns, and `norms_text` those of its length ids.
 //!
-//! In reading order: `decimal`, `hexadecimal`, `quoted` and `comma` are what lines are made of, `header` are the first lines, `term`, `posting` and `field` are the index, `norms` are the last lines. `leaf`, `pre_tokenized` and `value` are values as JSON, and `pair` is a field with one; `stored_tokens`, `stored_leaf`, `stored_tree` and `stored_pairs` are the same from the bytes of a store, and `document` is the line of a document of any values.
+//! ```rust
+//! let mut out = Vec::new(alloc);
+//! push_header(&mut out, "work", SegmentId::from_u128(1), 2, 1)?;
+//! push_field(&mut out, alloc, "title", 4)?;
+//! push_term(&mut out, b"mug")?;
+//! push_posting(&mut out, 0, RecordedRef::Positions(&[1]))?;
+//! out.push(b'\n')?;
+//! push_columns(&mut out, alloc, reader.columns())?;
+//! ```
 //!
-//! The printed text of columns: a line for each, with the values that documents have in it.
-//!
-//! Its model: `columns_text` gives the bytes that stand for the columns of a segment.
-//!
-//! To be read in this order: `printer` (how values are printed), `plain`, `terms`; `rows`, `column_line`, `columns`.
+//! `out` begins with the lines `work 00000000000000000000000000000001 docs 2 alive 1` and `field "title" terms 4`; then
+//! come `mug 0x1@1`, for the term at position 1 of document 0, and a line for each column.
 #![tactic(auto)]
 
+// What lines are made of.
+mod comma;
+mod decimal;
+mod hexadecimal;
+mod quoted;
+
+// The first lines, and those of fields, terms and postings.
+mod field;
+mod header;
+mod posting;
+mod term;
+
+// Values as JSON.
+mod leaf;
+mod pair;
+mod pre_tokenized;
+mod value;
+
+// The same from the bytes of a store, and the line of a document.
+mod document;
+mod stored_leaf;
+mod stored_pairs;
+mod stored_tokens;
+mod stored_tree;
+
+// The lines of columns.
 mod column_line;
 mod column_printer;
 mod column_rows;
 mod column_terms;
 mod columns;
-mod comma;
-mod decimal;
-mod document;
-mod field;
-mod header;
-mod hexadecimal;
-mod leaf;
-mod norms;
-mod pair;
 mod plain_values;
-mod posting;
-mod pre_tokenized;
-mod quoted;
-mod stored_leaf;
-mod stored_pairs;
-mod stored_tokens;
-mod stored_tree;
-mod term;
-mod value;
+
+// The lines of length ids.
+mod norms;
 
 pub use columns::push_columns;
 pub use decimal::{push_decimal, push_signed};

@@ -1,33 +1,45 @@
-//! The jobs of the program: `build` writes the indexes of a script, `generate` those of a generated input, `merge` merges
-//! the segments of one, `show` prints one.
+//! The jobs of the program: `build` writes the indexes of a script, `generate` those of a generated input, `merge`
+//! merges the segments of an index, and `show` prints one. `run` is the whole of it, from the words of the command line
+//! to the exit status, over any directories, source and sinks.
 //!
-//! `run` is the whole of it, from the words of the command line to the exit status. A run is seen as what the meaning of
-//! the script gives: the work and the output directory have indexes that stand for the script's documents, and the sink
-//! gains their text, of what the directories then answer, or the status says why not.
+//! Its model: a run is what it does with both directories, step by step, and what it takes and writes (`Runs`): of the
+//! bytes of the source `script` says the input, and `build_text` the text that stands for it, or the status says why
+//! not.
 //!
-//! Files in reading order: `words` (the job that they ask for), `command` (`run`), `building` (from a script to its indexes
-//! and their text), `generating` (the same from a number), `merging` (from the segments of an index to the one of another),
-//! `reading_back` (the text of an index, of what its directory answers), `printing` and `norm_lines` (the text of a segment
-//! that is open), `status`, `reporting` (the line that is said of a status), `damage` (the name of a file, in that line).
+//! ```rust
+//! let words = vec![in alloc; String::from_str(alloc, "build")?]?;
+//! let status = run(
+//!     alloc, &words, &mut source, &mut sink, &mut faults, &analyzers, &mut work, &mut output,
+//! );
+//! let number = status.number();
+//! ```
 //!
-//! The line that a summary has of a segment that is open.
-//!
-//! Its model: `segment_summary` gives the bytes that stand for a segment. `totals` counts its terms, and `line` prints them.
+//! At 0, `Status::Done`, the directories have the indexes, and `sink` has their text; at any other number a line that
+//! says why goes to `faults`.
 #![tactic(auto)]
 
-mod building;
-mod command;
+// The words of a command line, and how a run ends.
 mod damage;
-mod generating;
-mod merging;
-mod norm_lines;
-mod printing;
-mod reading_back;
 mod reporting;
 mod status;
+mod words;
+
+// The text of a segment that is open, and its line in a summary.
+mod norm_lines;
+mod printing;
 mod summary_line;
 mod summary_totals;
-mod words;
+
+// The text of an index, of what its directory answers.
+mod reading_back;
+
+// The jobs.
+mod building;
+mod generating;
+mod merging;
+
+// The whole.
+mod command;
 
 pub use command::run;
 pub use reporting::report;

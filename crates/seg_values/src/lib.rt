@@ -1,41 +1,63 @@
-//! What an index is given: values, documents, schemas and terms, and why a call of an index is refused.
+//! What an index is given: values, facets, schemas, documents and terms, with values and documents as JSON, both ways;
+//! and the errors by which a call of an index is refused.
 //!
-//! Contracts see a value as a tree, a document as a list of fields with trees, and a schema as the list of its entries.
+//! Its model: a value is a tree (`tree_of`), a document a list of fields with trees, a schema the list of its entries,
+//! a term a field with bytes, and a facet the text of its steps with a byte 0 between each two.
 //!
-//! Read `value_error`, `value` with `conversions`, `facet`, and `document` with `document_maps` first; then `reading` with
-//! `read_json`, and `address` with `write_json` and `document_json`; then `pairs`, `document_trait` with `map_documents`
-//! and `hash_map_document`, and `schema` with `schema_fields`, `field_type` and `name_search`; last `fast_value`,
-//! `json_path` and `term`, `compressor`, `postings_error` and `error`, and `laws`.
+//! ```rust
+//! let title = Field::from_field_id(0);
+//! let mut document = TantivyDocument::new(alloc);
+//! document.add_text(title, "Red mug")?;
+//! document.add_field_value(title, OwnedValue::from_text(alloc, "blue mug")?)?;
+//! let line = document.to_json(alloc, &schema)?;
+//! let term = Term::from_field_text(alloc, title, "red")?;
+//! ```
+//!
+//! In a schema whose first field is `title`, `line` is `{"title":["Red mug","blue mug"]}`. A schema is built by
+//! `SchemaBuilder::add_field`, and `Schema::get_field` answers the field of a name.
 #![tactic(auto)]
 
-mod address;
-mod compressor;
-mod conversions;
-mod document;
-mod document_json;
-mod document_maps;
-mod document_trait;
-mod equality;
+// Why a value or a call is refused.
 mod error;
-mod facet;
-mod fast_value;
-mod field_type;
-mod hash_map_document;
-mod json_path;
-mod laws;
-mod map_documents;
-mod name_search;
-mod pairs;
 mod postings_error;
-mod read_json;
-mod reading;
+mod value_error;
+
+// Values: leaves, lists, and keys with values.
+mod conversions;
+mod facet;
+mod value;
+
+// Schemas: fields, by their places and by their names; and how their stored documents are compressed.
+mod compressor;
+mod field_type;
+mod name_search;
 mod schema;
 mod schema_fields;
-mod term;
-mod utf8;
-mod value;
-mod value_error;
+
+// Documents: lists of pairs, maps, and pairs that are lent.
+mod document;
+mod document_maps;
+mod document_trait;
+mod hash_map_document;
+mod map_documents;
+mod pairs;
+
+// Values and documents as JSON, read and written.
+mod address;
+mod document_json;
+mod read_json;
+mod reading;
 mod write_json;
+
+// Terms of fields, and of paths in JSON fields.
+mod fast_value;
+mod json_path;
+mod term;
+
+// What holds of all.
+mod equality;
+mod laws;
+mod utf8;
 
 pub use address::shown_address;
 pub use compressor::Compressor;
