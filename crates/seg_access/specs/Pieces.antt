@@ -1,6 +1,7 @@
 -- Pieces, and the trees that they spell.
-use Rattle.std.specs.Prelude.{◌≡◌, ℕ, suc, List, [], ◌∷◌, ◌++◌}
+use Rattle.std.specs.Prelude.{◌≡◌, ℕ, List, [], ◌∷◌, ◌++◌}
 use Rattle.std.specs.Net.Addr.{ipv6_octets}
+pub use Rattle.seg_values.specs.StoredForm.{member_count, tree_count}
 use Rattle.seg_values.specs.Tree.{Tree, Leaf, leaf, array, object, null, text, pre_tokenized, unsigned, signed, boolean, date, facet, byte_string, ip, Trees, no_trees, tree, Members, no_members, member, Document}
 use Rattle.seg_access.specs.Json.{whole}
 use Rattle.seg_access.specs.declared.pieces.Piece.{Piece}
@@ -30,14 +31,6 @@ mark_of (Array n) = values n
 mark_of (Object n) = members n
 mark_of (Key s) = key s
 mark_of (FieldOf f) = field f
-
-abbrev pub tree_count : Trees → ℕ
-tree_count no_trees = 0
-tree_count (tree t ts) = suc (tree_count ts)
-
-abbrev pub member_count : Members → ℕ
-member_count no_members = 0
-member_count (member k t ms) = suc (member_count ms)
 
 -- the pieces of a tree: a leaf; the number of values and then each; the number of members and then each key with its value
 abbrev mutual

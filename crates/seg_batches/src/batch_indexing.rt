@@ -13,12 +13,10 @@ use seg_build::{MemorySegment, SegmentWriter};
 use seg_check::{LEAST_BUDGET, UserOperation};
 use seg_common::SegmentId;
 use seg_meta::{IndexSettings, Segment, SegmentMeta};
+use seg_segment::MAX_DOCUMENTS;
 use seg_tokens::Analyzers;
 use seg_values::{ArgumentCause, Schema, TResult, TantivyDocument, TantivyError};
 use std::alloc::Global;
-
-/// The most documents of a segment.
-const MAX_DOCUMENTS: usize = 0x7fff_ffff;
 
 /// The segment of the documents that a batch adds, all of them, whichever the batch deletes again.
 pub(crate) fn index_batch<Z: Analyzers>(

@@ -5,6 +5,7 @@ ghost use Rattle.seg_terms.specs.Adding.{with_occurrence, with_occurrences};
 
 use seg_terms::{Hit, PathTerms};
 use seg_tokens::{MAX_TOKEN_LEN, Token};
+use seg_values::TEXT_CODE;
 use std::alloc::{AllocError, Global};
 
 /// Adds the tokens of a text at a path, which begins at the first of these places. `room` is for the bytes of a term.
@@ -50,7 +51,15 @@ fn add_path_token(
         document: first.document,
         position: first.position + token.position,
     };
-    add_path_term(terms, alloc, path, hit, b's', token.text.as_bytes(), room)?;
+    add_path_term(
+        terms,
+        alloc,
+        path,
+        hit,
+        TEXT_CODE,
+        token.text.as_bytes(),
+        room,
+    )?;
     Ok(())
 }
 

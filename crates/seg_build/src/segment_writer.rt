@@ -25,14 +25,12 @@ use seg_check::{checked_values, start_refusal};
 use seg_common::{FileName, SegmentComponent};
 use seg_directory::Directory;
 use seg_meta::{IndexSettings, Segment};
+use seg_segment::MAX_DOCUMENTS;
 use seg_store::documents_stay_in_order;
 use seg_tokens::Analyzers;
 use seg_values::{ArgumentCause, Document, Pairs, TResult, TantivyError};
 use std::alloc::Global;
 use std::marker::Model;
-
-/// The most documents of a segment.
-const MAX_DOCUMENTS: usize = 0x7fff_ffff;
 
 /// Takes documents one by one, and makes the six files of their segment. Once out of memory it has nothing any more.
 #[derive(Drop)]

@@ -31,8 +31,8 @@ pub(crate) fn is_json(kind: FieldKind) -> bool
     }
 }
 
-/// A value of the kind's own; a text field has pre-tokenized texts too.
-fn is_own_leaf(kind: FieldKind, value: &OwnedValue) -> bool
+/// A leaf of the kind's own; a text field has pre-tokenized texts too.
+pub fn is_own_leaf(kind: FieldKind, value: &OwnedValue) -> bool
     ensures { result ≡ taking.is_own_leaf kind (tree_of value.now) }
 {
     match (kind, value) {

@@ -4,10 +4,7 @@ ghost use Rattle.std.specs.List.{list_all};
 ghost use Rattle.seg_values.specs.Tree.{levels};
 ghost use Rattle.seg_values.specs.View.{tree_of};
 
-use seg_values::{OwnedValue, Pairs};
-
-/// The most levels of a value.
-const MOST_LEVELS: u32 = 200;
+use seg_values::{MOST_LEVELS, OwnedValue, Pairs};
 
 /// Whether no value has more than the most levels.
 #[tactic(auto, using(crate::proofs::Places::drop_at))]

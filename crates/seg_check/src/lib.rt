@@ -66,6 +66,7 @@ pub use entry::indexing_tokenizer;
 pub use field_text::given_tokens;
 pub use indexed_value::{IndexedValue, ValueForm};
 pub use input_check::check_input;
+pub use kinds::is_own_leaf;
 pub use size::{counted_len, text_width};
 pub use user_operation::UserOperation;
 pub use writer_start::{LEAST_BUDGET, settings_fit, start_refusal};

@@ -2,7 +2,7 @@
 ghost use Rattle.std.specs.Prelude.{◌≡◌, ◌<◌, ◌≤◌, length, IsUtf8, MatchBool, MatchOption};
 ghost use Rattle.seg_column_file.specs.ColumnTable as spec;
 
-use crate::format::ENTRY;
+use crate::format::ENTRY_BYTES;
 use seg_common::{ColumnType, u64_at};
 use std::cmp::Ordering;
 
@@ -30,14 +30,14 @@ fn next_place(table: &[u8], at: usize) -> Option<usize>
         (λ next. (next ≡ spec.next_place table.now at) × (next ≤ length table.now)) }
 {
     let rest = table.len() - at;
-    if rest < ENTRY {
+    if rest < ENTRY_BYTES {
         return None;
     }
     let length = u64_at(table, at);
-    if length > (rest - ENTRY) as u64 {
+    if length > (rest - ENTRY_BYTES) as u64 {
         return None;
     }
-    Some(at + ENTRY + length as usize)
+    Some(at + ENTRY_BYTES + length as usize)
 }
 
 /// Where the entry after one that lies within the table begins.
@@ -47,7 +47,7 @@ pub(crate) fn place_behind(table: &[u8], at: usize) -> usize
     ensures { result ≡ spec.next_place table.now at }
 {
     let length = u64_at(table, at) as usize;
-    at + ENTRY + length
+    at + ENTRY_BYTES + length
 }
 
 #[tactic(auto, unfolding(crate::specs::ColumnTable::next_place, crate::specs::ColumnTable::path_in))]

@@ -6,7 +6,7 @@ ghost use Rattle.seg_column_file.specs.ColumnFiles.{IsColumnFile, HasFooter};
 ghost use Rattle.seg_column_file.specs.Footers.{IsFooterOf};
 
 use crate::columns_check::check_columns;
-use crate::format::{COUNT, FOOTER, LEAST, VERSION};
+use crate::format::{COLUMNS_VERSION, COUNT, FOOTER, LEAST_BYTES};
 use crate::table_check::are_entries;
 use seg_columns::ColumnError;
 use seg_common::{OwnedBytes, u32_at, u64_at};
@@ -52,10 +52,10 @@ fn columns_size(bytes: &[u8]) -> Option<usize>
         (λ size. (size ≡ spec.data_length bytes.now) × HasFooter bytes.now) }
 {
     let len = bytes.len();
-    if len < LEAST {
+    if len < LEAST_BYTES {
         return None;
     }
-    if u32_at(bytes, len - 4) != VERSION {
+    if u32_at(bytes, len - 4) != COLUMNS_VERSION {
         return None;
     }
     let table = u64_at(bytes, len - FOOTER);

@@ -14,13 +14,13 @@ pub(crate) const NO_COLUMN: u64 = 0;
 pub(crate) const COUNT: usize = 8;
 
 /// The bytes of an entry, besides its path.
-pub(crate) const ENTRY: usize = 17;
+pub const ENTRY_BYTES: usize = 17;
 
 /// The version of the format, the last number of a file.
-pub(crate) const VERSION: u32 = 1;
+pub const COLUMNS_VERSION: u32 = 1;
 
 /// The bytes of the footer.
 pub(crate) const FOOTER: usize = 16;
 
 /// The bytes of a file without columns.
-pub(crate) const LEAST: usize = COUNT + FOOTER;
+pub const LEAST_BYTES: usize = COUNT + FOOTER;

@@ -49,6 +49,7 @@ mod row_order;
 pub use associated_type::HasAssociatedColumnType;
 pub use column_iter::ColumnIter;
 pub use empty::rows_without_columns;
+pub use format::{COLUMNS_VERSION, ENTRY_BYTES, LEAST_BYTES};
 pub use kept_rows::KeptRows;
 pub use reader::ColumnarReader;
 pub use row_addr::RowAddr;

@@ -5,6 +5,7 @@ ghost use Rattle.seg_column_file.specs.ColumnFiles as spec;
 
 use crate::column_iter::ColumnIter;
 use seg_columns::DynamicColumnHandle;
+use seg_common::PATH_SEPARATOR_BYTE;
 use std::alloc::{AllocError, Global};
 
 /// The columns of a path, or with `below` those of all paths below it.
@@ -40,7 +41,9 @@ fn is_below(path: &[u8], longer: &[u8]) -> bool
     ensures { result ≡ spec.is_below path.now longer.now }
 {
     let length = path.len();
-    length < longer.len() && longer[length] == 1 && is_equal(&longer[..length], path)
+    length < longer.len()
+        && longer[length] == PATH_SEPARATOR_BYTE
+        && is_equal(&longer[..length], path)
 }
 
 fn is_equal(left: &[u8], right: &[u8]) -> bool

@@ -2,7 +2,7 @@
 ghost use Rattle.std.specs.Prelude.{◌≡◌, Some, IfOk, IfErr};
 ghost use Rattle.seg_column_file.specs.Columnar.{rows_of};
 
-use crate::format::{COUNT, NO_COLUMN, VERSION};
+use crate::format::{COLUMNS_VERSION, COUNT, NO_COLUMN};
 use seg_columns::ColumnError;
 use seg_common::{put_u32, put_u64};
 use std::alloc::Global;
@@ -27,7 +27,7 @@ impl ColumnarWriter {
         put_u64(&mut bytes, NO_COLUMN)?;
         put_u64(&mut bytes, COUNT as u64)?;
         put_u32(&mut bytes, num_docs)?;
-        put_u32(&mut bytes, VERSION)?;
+        put_u32(&mut bytes, COLUMNS_VERSION)?;
         Ok(bytes)
     }
 }

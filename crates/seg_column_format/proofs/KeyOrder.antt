@@ -13,7 +13,8 @@ use Rattle.std.proofs.lemmas.Cmp.{nat_cmp_total, nat_list_cmp_total, on_total, t
 use Rattle.seg_common.proofs.Tables.{texts_apart}
 use Rattle.seg_common.specs.Tables.{is_among}
 use Rattle.seg_common.specs.declared.column_type.ColumnType.{ColumnType}
-use Rattle.seg_common.specs.declared.column_type.ColumnType.TheVariants.{I64, U64, Bytes, Str, Bool as Boolean, IpAddr, DateTime}
+use Rattle.seg_common.specs.declared.column_type.ColumnType.TheVariants.{I64, U64}
+use Rattle.seg_model.specs.Codes.{type_of_place, type_of_place-type_place}
 use Rattle.seg_model.specs.Columns.{ColumnKey, column_cmp, type_place}
 
 -- numbers are of one kind
@@ -55,26 +56,8 @@ second Less s e = cc e
 second Equal s e = e
 second Greater s e = cc e
 
-abbrev type_of_place : ℕ → ColumnType
-type_of_place zero = I64
-type_of_place (suc zero) = U64
-type_of_place (suc (suc zero)) = Bytes
-type_of_place (suc (suc (suc zero))) = Str
-type_of_place (suc (suc (suc (suc zero)))) = Boolean
-type_of_place (suc (suc (suc (suc (suc zero))))) = IpAddr
-type_of_place (suc (suc (suc (suc (suc (suc n)))))) = DateTime
-
-of_its_place : (t : ColumnType) → type_of_place (type_place t) ≡ t
-of_its_place I64 = refl
-of_its_place U64 = refl
-of_its_place Bytes = refl
-of_its_place Str = refl
-of_its_place Boolean = refl
-of_its_place IpAddr = refl
-of_its_place DateTime = refl
-
 pub same_type : (t u : ColumnType) → type_place t ≡ type_place u → t ≡ u
-same_type t u e = sym (of_its_place t) ∙ (ap type_of_place e ∙ of_its_place u)
+same_type t u e = sym (type_of_place-type_place t) ∙ (ap type_of_place e ∙ type_of_place-type_place u)
 
 -- a key that ties with another is that one
 pub same_column : (q k : ColumnKey) → eq_by_cmp column_cmp q k ≡ true → q ≡ k

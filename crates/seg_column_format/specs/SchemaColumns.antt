@@ -1,5 +1,5 @@
 -- Which columns a segment has by its schema: each that is declared, and others of JSON fields alone.
-use Rattle.std.specs.Prelude.{◌≡◌, ℕ, ◌<◌, ◌&&◌, ◌||◌, not, Bool, true, false, List, [], ◌∷◌, length, get_or, Option, Some, None, is_some, nat_eq}
+use Rattle.std.specs.Prelude.{◌≡◌, ℕ, ◌<◌, ◌&&◌, ◌||◌, not, Bool, true, false, List, [], ◌∷◌, length, get_or, Some, is_some, nat_eq}
 use Rattle.std.specs.FinMap.{get}
 use Rattle.std.specs.List.{list_all, list_any, slice_get}
 use Rattle.std.specs.Str.{bytes_eq}
@@ -9,7 +9,8 @@ use Rattle.seg_values.specs.declared.schema.FieldEntry.{FieldEntry}
 use Rattle.seg_columns.specs.DynamicColumns.{type_of}
 use Rattle.seg_column_file.specs.ColumnFiles.{IsColumnFile, NamedColumn, column_file_of, is_below, row_count}
 use Rattle.seg_column_format.specs.ModelColumns.{column_rows, columns_in}
-use Rattle.seg_model.specs.Columns.{ColumnKey, ColumnValue, Columns, declared_columns, declared_type, is_declared, is_filled, type_place}
+use Rattle.seg_model.specs.Columns.{ColumnKey, ColumnValue, Columns, declared_columns, declared_type, is_declared, is_filled}
+pub use Rattle.seg_model.specs.Columns.{is_type}
 use Rattle.seg_model.specs.Fields.{Schema, is_json}
 use Rattle.seg_model.specs.Shape.{AreRowsOf, IsFreeColumn, is_json_type}
 
@@ -64,11 +65,6 @@ has_value c = list_any is_filled (column_rows (c.stored).column)
 -- whether a column may be there that isn't declared
 abbrev pub is_free : Schema → NamedColumn → Bool
 is_free schema c = is_json_type (type_of (c.stored).column) && (is_json_path schema c.path && has_value c)
-
--- whether a type is the one that is declared
-abbrev pub is_type : ColumnType → Option ColumnType → Bool
-is_type type None = false
-is_type type (Some other) = nat_eq (type_place type) (type_place other)
 
 -- whether a field declares the column of a path and a type
 abbrev pub declares : List ℕ → ColumnType → FieldEntry → Bool

@@ -4,12 +4,10 @@ ghost use Rattle.std.specs.Cmp.Lexicographic.{slice_cmp};
 ghost use Rattle.std.specs.Ordering.{nat_cmp};
 ghost use Rattle.seg_column_format.specs.PathStarts as spec;
 
+use seg_common::PATH_SEPARATOR_BYTE;
 use std::alloc::{AllocError, Global};
 use std::cmp::Ordering;
 use std::marker::Model;
-
-/// What stands between the name of a JSON field and the path of keys in it.
-const SEPARATOR: u8 = 1;
 
 /// The name of a field, and a separator.
 #[derive(Drop)]
@@ -31,7 +29,7 @@ impl PathStart {
         ensures { IfOk result (λ start. start ≡ name.now ++ 1 ∷ []) }
     {
         let mut bytes = Vec::from_slice(alloc, name.as_bytes())?;
-        bytes.push(SEPARATOR)?;
+        bytes.push(PATH_SEPARATOR_BYTE)?;
         Ok(PathStart { bytes })
     }
 

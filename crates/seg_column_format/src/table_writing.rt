@@ -3,11 +3,9 @@ ghost use Rattle.std.specs.Prelude.{◌≡◌, ◌+◌, ◌++◌, length, OnOk};
 ghost use Rattle.std.specs.Int.{w64, to_le_bytes};
 ghost use Rattle.seg_column_format.specs.FileBytes.{code_of, entry_bytes, footer_bytes};
 
+use seg_column_file::COLUMNS_VERSION;
 use seg_common::{ColumnType, put_u32, put_u64};
 use std::alloc::AllocError;
-
-/// The version of the format.
-const VERSION: u32 = 1;
 
 /// Adds the entry of a column to those before it. Its bytes end at `end`, counted from the first byte of the file.
 pub fn put_entry(
@@ -40,7 +38,7 @@ pub fn put_table(
     out.extend_from_slice(entries)?;
     put_u64(out, length)?;
     put_u32(out, num_rows)?;
-    put_u32(out, VERSION)?;
+    put_u32(out, COLUMNS_VERSION)?;
     Ok(())
 }
 

@@ -9,10 +9,11 @@ use Rattle.std.proofs.lemmas.List.Concat.{flat_map-append}
 use Rattle.seg_common.specs.Tables.{is_among}
 use Rattle.seg_common.specs.declared.column_type.ColumnType.{ColumnType}
 use Rattle.seg_model.specs.Columns.{ColumnKey, ColumnValue, column_cmp}
+use Rattle.seg_model.specs.Join.{joined_keys}
 use Rattle.seg_column_file.specs.ColumnFiles.{ColumnFile, NamedColumn}
 use Rattle.seg_column_format.specs.ModelColumns.{column_key, column_rows}
 use Rattle.seg_column_merge.specs.Cells.{cell, cells, is_of, row_cell, rows_with}
-use Rattle.seg_column_merge.specs.MergedColumns.{columns_of_file, keys_with, rows_at, values_in_row}
+use Rattle.seg_column_merge.specs.MergedColumns.{columns_of_file, rows_at, values_in_row}
 use Rattle.seg_column_file.specs.RowOrders.{Place}
 use Rattle.seg_column_merge_parts.specs.Tables.{Row, all_rows, file_row, file_rows, kind_of, required_row}
 use Rattle.seg_column_merge.proofs.KeyLaws.{among_keys}
@@ -75,7 +76,7 @@ module _ (q : ColumnKey) (p : Place) where
 
   this_file : (file : ℕ) → nat_eq file p.0 ≡ true → (c : NamedColumn)
       → masked test values (file_row file c)
-      ≡ (if is_among column_cmp (keys_with (column_key c)) q then stored c else [])
+      ≡ (if is_among column_cmp (joined_keys (column_key c)) q then stored c else [])
   this_file file this c =
       ap (λ (b : Bool). if test (file_row file c) then (if b then stored c else []) else []) this
       ∙ sym (ap (λ (b : Bool). if b then stored c else []) (among_keys (column_key c) q))
@@ -85,8 +86,8 @@ module _ (q : ColumnKey) (p : Place) where
   in_file file columns this =
       flat_map-map (masked test values) (file_row file) columns
       ∙ flat_same (λ c. masked test values (file_row file c))
-      (masked (λ c. is_among column_cmp (keys_with (column_key c)) q) stored) (this_file file this) columns
-      ∙ sym (flat_filter (λ c. is_among column_cmp (keys_with (column_key c)) q) stored columns)
+      (masked (λ c. is_among column_cmp (joined_keys (column_key c)) q) stored) (this_file file this) columns
+      ∙ sym (flat_filter (λ c. is_among column_cmp (joined_keys (column_key c)) q) stored columns)
 
   not_in_file : (file : ℕ) (columns : List NamedColumn) → nat_eq file p.0 ≡ false
       → of_rows (map (file_row file) columns) ≡ []

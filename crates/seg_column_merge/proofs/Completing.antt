@@ -15,12 +15,13 @@ use Rattle.seg_common.specs.declared.column_type.ColumnType.{ColumnType}
 use Rattle.seg_common.specs.declared.column_type.ColumnType.TheVariants as types
 use Rattle.seg_model.proofs.Exports.{column_cmp_total}
 use Rattle.seg_model.specs.Columns.{ColumnKey, ColumnValue, Columns, column_at, column_cmp, free_number_type, if_there, is_declared, is_filled, is_mixed, is_not_negative, is_number, is_type, number_type, type_place, without_values}
+use Rattle.seg_model.specs.Join.{joined_keys}
 use Rattle.seg_column_file.specs.ColumnFiles.{ColumnFile, NamedColumn}
 use Rattle.seg_column_file.specs.ColumnTable.{type_of_code}
 use Rattle.seg_column_format.proofs.EntryLaws.{type_read}
 use Rattle.seg_column_format.specs.FileBytes.{code_of}
 use Rattle.seg_column_format.specs.ModelColumns.{column_key, column_rows}
-use Rattle.seg_column_merge.specs.MergedColumns.{columns_of_file, keys_with, merged_columns, merged_keys, required_key, rows_at, values_in_row}
+use Rattle.seg_column_merge.specs.MergedColumns.{columns_of_file, merged_columns, merged_keys, required_key, rows_at, values_in_row}
 use Rattle.seg_column_file.specs.RowOrders.{Place}
 use Rattle.seg_column_merge.proofs.Choosing.{all_fit, empty_rows, found, mixed}
 use Rattle.seg_column_merge.proofs.KeyLaws.{key_is}
@@ -145,7 +146,7 @@ module _ (required : List (String Global × ColumnType)) (files : List ColumnFil
 
   module _ (q : ColumnKey) where
     abbrev hits : NamedColumn → Bool
-    hits c = is_among column_cmp (keys_with (column_key c)) q
+    hits c = is_among column_cmp (joined_keys (column_key c)) q
 
     none_in_files : (fs : List ColumnFile) → list_any (λ f. list_any hits f.columns) fs ≡ false → (file : ℕ)
         → list_any hits (columns_of_file fs file) ≡ false
@@ -156,21 +157,21 @@ module _ (required : List (String Global × ColumnType)) (files : List ColumnFil
         none_in_files fs (or_parts (list_any hits f.columns) (list_any (λ g. list_any hits g.columns) fs) none).1 file
 
     any_same : (fs : List ColumnFile)
-        → is_among column_cmp (flat_map (λ f. flat_map (λ c. keys_with (column_key c)) f.columns) fs) q
+        → is_among column_cmp (flat_map (λ f. flat_map (λ c. joined_keys (column_key c)) f.columns) fs) q
         ≡ list_any (λ f. list_any hits f.columns) fs
     any_same [] = refl
     any_same (f ∷ fs) =
-        any_both (eq_by_cmp column_cmp q) (flat_map (λ c. keys_with (column_key c)) f.columns)
-        (flat_map (λ g. flat_map (λ c. keys_with (column_key c)) g.columns) fs)
-        ∙ (λ j. any_flat (eq_by_cmp column_cmp q) (λ c. keys_with (column_key c)) f.columns j || any_same fs j)
+        any_both (eq_by_cmp column_cmp q) (flat_map (λ c. joined_keys (column_key c)) f.columns)
+        (flat_map (λ g. flat_map (λ c. joined_keys (column_key c)) g.columns) fs)
+        ∙ (λ j. any_flat (eq_by_cmp column_cmp q) (λ c. joined_keys (column_key c)) f.columns j || any_same fs j)
 
     module _ (outside : is_among column_cmp keys q ≡ false) where
       split : (is_among column_cmp declared_keys q ≡ false)
-          × (is_among column_cmp (flat_map (λ f. flat_map (λ c. keys_with (column_key c)) f.columns) files) q ≡ false)
+          × (is_among column_cmp (flat_map (λ f. flat_map (λ c. joined_keys (column_key c)) f.columns) files) q ≡ false)
       split = or_parts (is_among column_cmp declared_keys q)
-          (is_among column_cmp (flat_map (λ f. flat_map (λ c. keys_with (column_key c)) f.columns) files) q)
+          (is_among column_cmp (flat_map (λ f. flat_map (λ c. joined_keys (column_key c)) f.columns) files) q)
           (sym (any_both (eq_by_cmp column_cmp q) declared_keys
-          (flat_map (λ f. flat_map (λ c. keys_with (column_key c)) f.columns) files)) ∙ outside)
+          (flat_map (λ f. flat_map (λ c. joined_keys (column_key c)) f.columns) files)) ∙ outside)
 
       no_value : (p : Place) → values_in_row q (columns_of_file files p.0) p.1 ≡ []
       no_value p =

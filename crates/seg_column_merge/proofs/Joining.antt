@@ -12,7 +12,7 @@ use Rattle.seg_common.specs.Tables.{is_among}
 use Rattle.seg_common.specs.declared.column_type.ColumnType.{ColumnType}
 use Rattle.seg_common.specs.declared.column_type.ColumnType.TheVariants.{I64, U64, Bytes, Str, Bool as Boolean, IpAddr, DateTime}
 use Rattle.seg_column_file.specs.ColumnFiles.{ColumnFile, NamedColumn}
-use Rattle.seg_column_merge.specs.MergedColumns.{keys_with, merged_columns, rows_at}
+use Rattle.seg_column_merge.specs.MergedColumns.{merged_columns, rows_at}
 use Rattle.seg_column_writer.proofs.Exports.{IsNothingElse, same_columns}
 use Rattle.seg_column_format.specs.ModelColumns.{column_key, columns_in}
 use Rattle.seg_model.proofs.Exports.{column_cmp_total}
@@ -159,7 +159,7 @@ nothing_in_parts schema (p ∷ parts) q none =
 -- ---- where a file has nothing
 
 abbrev file_keys : ColumnFile → List ColumnKey
-file_keys f = flat_map (λ c. keys_with (column_key c)) f.columns
+file_keys f = flat_map (λ c. joined_keys (column_key c)) f.columns
 
 fewer_keys : (schema : Schema) (f : ColumnFile) (p : Part) → HasColumnsOf schema f p → (q : ColumnKey)
     → is_among column_cmp (file_keys f) q ≡ false → is_among column_cmp (part_keys p) q ≡ false
@@ -172,7 +172,7 @@ fewer_keys schema f p has q none = by (is_among column_cmp (part_keys p) q) refl
         let among = ap (λ ks. is_among column_cmp ks k.item) (sym (map_itself (keys p.contents.columns))) ∙ k.there in
         let there = sym (is_there f.columns k.item) ∙ (ap (λ (m : Columns). is_some (get m k.item)) (sym has.columns)
         ∙ (key_there p.contents.columns k.item ∙ among)) in
-        absurd (true≢false (sym (given keys_with column_key q k.item f.columns there k.gives) ∙ none))
+        absurd (true≢false (sym (given joined_keys column_key q k.item f.columns there k.gives) ∙ none))
 
 all_fewer : (schema : Schema) (files : List ColumnFile) (parts : List Part) → HaveColumnsOf schema files parts → (q : ColumnKey)
     → is_among column_cmp (flat_map file_keys files) q ≡ false → is_among column_cmp (flat_map part_keys parts) q ≡ false

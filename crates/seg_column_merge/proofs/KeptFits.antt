@@ -5,11 +5,10 @@ use Rattle.std.specs.Int.{w64, from_le_bytes}
 use Rattle.std.specs.List.{AllByRecursion, cons_option, filter_map, range_with_len}
 use Rattle.std.specs.Net.Addr.{octets_of, segments_of}
 use Rattle.std.proofs.Math.Nat.{mul-le-mul_left}
-use Rattle.std.proofs.lemmas.Int.{ints}
 use Rattle.std.proofs.lemmas.List.{get_or-drop, length-drop, length-take-le}
 use Rattle.std.proofs.lemmas.List.Elements.{All-append, All-from_recursion, All-head, All-nil, All-tail}
 use Rattle.seg_common.specs.LittleEndian.{u64_at}
-use Rattle.seg_common.specs.Mappable.{lowered}
+use Rattle.seg_common.specs.MappableLaws.{lowered-fits}
 use Rattle.seg_columns.specs.Addresses.{address}
 use Rattle.seg_columns.specs.Columns.{IsColumn, row_of, rows_of, value_at}
 use Rattle.seg_columns.specs.Ends.{start_at}
@@ -93,14 +92,11 @@ image_below : (part : List ℕ) → AreOctets part → u64_at part 0 < 2 ^ 64
 unfolding u64_at
 image_below part small = eight_below (take 8 part) (octets_taken 8 part small)
 
-lowered_fits : (n : ℕ) → n < 2 ^ 64 → FitsSigned w64 (lowered n)
-lowered_fits n lt = omega (arith, ints, lt)
-
 pub unsigned_tells : Tells 8 unsigned (λ n. n < 2 ^ 64)
 unsigned_tells part long small = image_below part small
 
 pub signed_tells : Tells 8 signed (FitsSigned w64)
-signed_tells part long small = lowered_fits (u64_at part 0) (image_below part small)
+signed_tells part long small = lowered-fits (u64_at part 0) (image_below part small)
 
 octets_many : (n : ℕ) (xs : List ℕ) → length xs ≡ 2 * n → length (octets_of (segments_of xs)) ≡ 2 * n
 octets_many n [] even = even

@@ -12,7 +12,7 @@ use Rattle.seg_common.specs.Tables.{is_among}
 use Rattle.seg_common.specs.declared.column_type.ColumnType.{ColumnType}
 use Rattle.seg_common.specs.declared.column_type.ColumnType.TheVariants.{I64, U64, Bytes, Str, Bool as Boolean, IpAddr, DateTime}
 use Rattle.seg_model.specs.Columns.{ColumnKey, column_cmp, type_place}
-use Rattle.seg_column_merge.specs.MergedColumns.{keys_with}
+use Rattle.seg_model.specs.Join.{joined_keys}
 use Rattle.seg_column_merge_parts.specs.Tables.{kind_of}
 
 -- ---- types, where paths compare in some way
@@ -25,7 +25,7 @@ among o U64 u =
 among o t u = is_eq (ordering_then o (nat_cmp (type_place u) (type_place t))) || false
 
 among_is : (path other : List ℕ) (t u : ColumnType)
-    → is_among column_cmp (keys_with (record { path = other; type = t })) (record { path = path; type = u })
+    → is_among column_cmp (joined_keys (record { path = other; type = t })) (record { path = path; type = u })
     ≡ among (slice_cmp nat_cmp path other) t u
 among_is path other I64 u = refl
 among_is path other U64 u = refl
@@ -53,7 +53,7 @@ same_kind Equal DateTime _ = refl
 
 -- values are at the keys of their path and kind
 pub among_keys : (k q : ColumnKey)
-    → is_among column_cmp (keys_with k) q ≡ (bytes_eq q.path k.path && nat_eq (kind_of k.type) (kind_of q.type))
+    → is_among column_cmp (joined_keys k) q ≡ (bytes_eq q.path k.path && nat_eq (kind_of k.type) (kind_of q.type))
 among_keys k q =
     among_is q.path k.path k.type q.type ∙ same_kind (slice_cmp nat_cmp q.path k.path) k.type q.type
     ∙ ap (λ (b : Bool). b && nat_eq (kind_of k.type) (kind_of q.type)) (is_eq-slice_cmp q.path k.path)

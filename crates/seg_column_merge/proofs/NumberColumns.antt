@@ -6,8 +6,8 @@ use Rattle.std.specs.Int.{w64, is_negative}
 use Rattle.std.specs.List.{AllByRecursion}
 use Rattle.std.proofs.lemmas.Int.{ints}
 use Rattle.std.proofs.lemmas.List.{length-map}
-use Rattle.seg_common.specs.Mappable.{bit, is_bit, lowered, raised}
-use Rattle.seg_common.specs.MappableLaws.{lowered-raised}
+use Rattle.seg_common.specs.Mappable.{bit, is_bit, raised}
+use Rattle.seg_common.specs.MappableLaws.{lowered-raised, lowered-sum, raised-fits}
 use Rattle.seg_common.specs.declared.column_type.ColumnType.{ColumnType}
 use Rattle.seg_common.specs.declared.column_type.ColumnType.TheVariants.{I64, U64, Bool as Boolean, DateTime}
 use Rattle.seg_model.specs.Columns.{ColumnValue, boolean_value, date_value, number}
@@ -35,14 +35,10 @@ pub record StandsFor (to : ColumnType) (m : NumberMap) (n : ℕ) (value : Column
   pub image : is_image_of to (mapped m n) ≡ true
   pub read : value_in to (mapped m n) ≡ value
 
-raised_fits : (z : ℤ) → FitsSigned w64 z → raised z < 2 ^ 64
-raised_fits (pos n) fits = omega (arith, ints, fits)
-raised_fits (negsuc n) fits = omega (arith, ints, fits)
-
 signed_same : (z : ℤ) → FitsSigned w64 z → StandsFor I64 (number_map I64 I64) (raised z) (number z)
 signed_same z fits = record {
   can = tt;
-  fits = raised_fits z fits;
+  fits = raised-fits z fits;
   image = refl;
   read = ap number (lowered-raised z fits);
 }
@@ -50,7 +46,7 @@ signed_same z fits = record {
 date_same : (z : ℤ) → FitsSigned w64 z → StandsFor DateTime (number_map DateTime DateTime) (raised z) (date_value z)
 date_same z fits = record {
   can = tt;
-  fits = raised_fits z fits;
+  fits = raised-fits z fits;
   image = refl;
   read = ap date_value (lowered-raised z fits);
 }
@@ -71,15 +67,12 @@ signed_lowered (pos n) fits = record {
 }
 signed_lowered (negsuc n) fits = absurd (true≢false fits.1)
 
-raised_back : (n : ℕ) → lowered (n + 2 ^ 63) ≡ pos n
-raised_back n = omega (arith, ints)
-
 unsigned_raised : (n : ℕ) → n < 2 ^ 63 → StandsFor I64 (number_map U64 I64) n (number (pos n))
 unsigned_raised n fits = record {
   can = fits;
   fits = omega (arith, fits);
   image = refl;
-  read = ap number (raised_back n);
+  read = ap number (lowered-sum n);
 }
 
 truth_same : (b : Bool) → Unit {0} → StandsFor Boolean (number_map Boolean Boolean) (bit b) (boolean_value b)

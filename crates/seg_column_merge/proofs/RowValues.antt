@@ -19,9 +19,9 @@ use Rattle.seg_common.specs.declared.column_type.ColumnType.{ColumnType}
 use Rattle.seg_common.specs.declared.column_type.ColumnType.TheVariants.{I64, U64, Bytes, Str, Bool as Boolean, IpAddr, DateTime}
 use Rattle.seg_column_file.specs.ColumnFiles.{NamedColumn}
 use Rattle.seg_column_format.specs.ModelColumns.{column_key}
-use Rattle.seg_column_merge.specs.MergedColumns.{keys_with, values_in_row}
+use Rattle.seg_column_merge.specs.MergedColumns.{values_in_row}
 use Rattle.seg_model.specs.Columns.{ColumnKey, ColumnValue, column_cmp, is_number, type_place}
-use Rattle.seg_model.specs.Join.{side_by_side}
+use Rattle.seg_model.specs.Join.{side_by_side, joined_keys}
 use Rattle.seg_column_format.proofs.Exports.{Rows, entry, is_other, kind_cmp, kind_place, kind_total, rows_at, same_column, ties}
 
 -- ---- keys of a path and a kind
@@ -34,7 +34,7 @@ among o U64 u =
 among o t u = is_eq (ordering_then o (nat_cmp (type_place u) (type_place t))) || false
 
 among_is : (path other : List ℕ) (t u : ColumnType)
-    → is_among column_cmp (keys_with (record { path = other; type = t })) (record { path = path; type = u })
+    → is_among column_cmp (joined_keys (record { path = other; type = t })) (record { path = path; type = u })
     ≡ among (slice_cmp nat_cmp path other) t u
 among_is path other I64 u = refl
 among_is path other U64 u = refl
@@ -61,7 +61,7 @@ same_kind Equal IpAddr _ = refl
 same_kind Equal DateTime I64 = refl
 same_kind Equal DateTime _ = refl
 
-pub among_keys : (k q : ColumnKey) → is_among column_cmp (keys_with k) q ≡ is_eq (kind_cmp q k)
+pub among_keys : (k q : ColumnKey) → is_among column_cmp (joined_keys k) q ≡ is_eq (kind_cmp q k)
 among_keys k q = among_is q.path k.path k.type q.type ∙ same_kind (slice_cmp nat_cmp q.path k.path) k.type q.type
 
 is_equal : (o : Ordering) → is_eq o ≡ true → o ≡ Equal
@@ -76,7 +76,7 @@ below k q y tie less = kind_total.congr q k y tie ∙ less
 -- ---- columns that tie with a key
 
 abbrev test : ColumnKey → NamedColumn → Bool
-test q c = is_among column_cmp (keys_with (column_key c)) q
+test q c = is_among column_cmp (joined_keys (column_key c)) q
 
 test_is : (q : ColumnKey) (c : NamedColumn) → test q c ≡ is_eq (kind_cmp q (column_key c))
 test_is q c = among_keys (column_key c) q

@@ -1,11 +1,11 @@
 -- Files of columns, merged: per key the rows of the files in an order.
-use Rattle.std.specs.Prelude.{◌≡◌, ℕ, ◌^◌, ◌<◌, List, [], ◌∷◌, ◌++◌, map, filter, All, Option, Some, None, true, if◌then◌else◌, length, get_or, String, string_bytes}
+use Rattle.std.specs.Prelude.{◌≡◌, ℕ, ◌^◌, ◌<◌, List, [], ◌++◌, map, filter, All, Option, Some, None, true, length, get_or, String, string_bytes}
 use Rattle.std.specs.declared.alloc.Global.{Global}
 use Rattle.std.specs.List.{flat_map}
 use Rattle.seg_common.specs.Tables.{is_among}
 use Rattle.seg_common.specs.declared.column_type.ColumnType.{ColumnType}
-use Rattle.seg_common.specs.declared.column_type.ColumnType.TheVariants.{I64, U64}
 use Rattle.seg_model.specs.Columns.{ColumnKey, ColumnValue, Columns, column_cmp, columns_from, is_number}
+use Rattle.seg_model.specs.Join.{joined_keys}
 use Rattle.seg_columns.specs.declared.error.ColumnError.{ColumnError}
 use Rattle.seg_columns.specs.declared.error.ColumnError.TheVariants.{Mixed, Malformed, OutOfMemory}
 use Rattle.seg_column_file.specs.ColumnFiles.{ColumnFile, IsColumnFile, NamedColumn, column_file_of, row_count}
@@ -15,17 +15,11 @@ use Rattle.seg_column_file.specs.RowOrders.{Place, IsRow}
 abbrev pub required_key : String Global × ColumnType → ColumnKey
 required_key r = record { path = string_bytes r.0; type = r.1 }
 
--- the keys at which the values of a column may be: numbers at those of both types
-abbrev pub keys_with : ColumnKey → List ColumnKey
-keys_with key =
-    if is_number key.type then record { path = key.path; type = I64 } ∷ record { path = key.path; type = U64 } ∷ []
-    else key ∷ []
-
 -- the values that a row of a file with some columns has at a key
 abbrev pub values_in_row : ColumnKey → List NamedColumn → ℕ → List ColumnValue
 values_in_row key columns row =
     flat_map (λ c. get_or (column_rows c.stored.column) row [])
-    (filter (λ c. is_among column_cmp (keys_with (column_key c)) key) columns)
+    (filter (λ c. is_among column_cmp (joined_keys (column_key c)) key) columns)
 
 -- the columns of a file
 abbrev pub columns_of_file : List ColumnFile → ℕ → List NamedColumn
@@ -37,7 +31,7 @@ rows_at files places key = map (λ p. values_in_row key (columns_of_file files p
 
 -- the keys that the merged columns may have
 abbrev pub merged_keys : List ColumnKey → List ColumnFile → List ColumnKey
-merged_keys required files = required ++ flat_map (λ f. flat_map (λ c. keys_with (column_key c)) f.columns) files
+merged_keys required files = required ++ flat_map (λ f. flat_map (λ c. joined_keys (column_key c)) f.columns) files
 
 -- the merged columns; undefined where the numbers of a path have no type
 abbrev pub merged_columns : List ColumnKey → List ColumnFile → List Place → Option Columns

@@ -2,14 +2,9 @@
 //! that are want of memory.
 
 use crate::planned_group::PlannedGroup;
+use seg_column_file::{ENTRY_BYTES, LEAST_BYTES};
 use seg_column_merge_parts::TableRow;
 use seg_common::ColumnType;
-
-/// The bytes of the numbers at the end of the file, and of the number of columns.
-const FOOTER: usize = 24;
-
-/// The bytes of an entry, besides its path.
-const ENTRY: usize = 17;
 
 /// How many bytes the column of rows with one key has at most in a file of so many rows, where no row is kept twice: as
 /// if all values were kept, and no two files had a term in common.
@@ -56,7 +51,7 @@ fn file_terms_room(counts: &[u32], row: &TableRow<'_>) -> usize {
 /// How many bytes the entry of a column has.
 pub(crate) fn entry_room(path: &[u8], column_type: Option<ColumnType>) -> usize {
     match column_type {
-        Some(_) => path.len().saturating_add(ENTRY),
+        Some(_) => path.len().saturating_add(ENTRY_BYTES),
         None => 0,
     }
 }
@@ -72,7 +67,7 @@ pub(crate) fn entries_room(groups: &[PlannedGroup]) -> usize {
 
 /// How many bytes the file has, with entries that have so many.
 pub(crate) fn file_room(groups: &[PlannedGroup], entries: usize) -> usize {
-    let mut room: usize = FOOTER;
+    let mut room: usize = LEAST_BYTES;
     for group in groups {
         room = room.saturating_add(group.room);
     }

@@ -1,19 +1,12 @@
 -- A number that is written for another one stands for the same value.
-use Rattle.std.proofs.Common.{◌≡◌, ℕ, ◌+◌, ◌-◌, ◌^◌, ◌≤◌, pos, refl, ap, arith}
-use Rattle.std.proofs.lemmas.Int.{ints}
-use Rattle.seg_common.specs.Mappable.{lowered}
+use Rattle.std.proofs.Common.{◌≡◌, ℕ, refl, ap}
+use Rattle.seg_common.specs.MappableLaws.{lowered-sum, lowered-large}
 use Rattle.seg_common.specs.declared.column_type.ColumnType.{ColumnType}
 use Rattle.seg_common.specs.declared.column_type.ColumnType.TheVariants.{I64, U64}
 use Rattle.seg_model.specs.Columns.{number}
 use Rattle.seg_column_merge_parts.specs.ColumnSources.{number_map}
 use Rattle.seg_column_merge_parts.specs.ImageValues.{value_in}
 use Rattle.seg_column_merge_parts.specs.Sources.{CanMap, mapped}
-
-lowered-sum : (n : ℕ) → lowered (n + 2 ^ 63) ≡ pos n
-lowered-sum n = omega (arith, ints)
-
-lowered-large : (n : ℕ) → 2 ^ 63 ≤ n → pos (n - 2 ^ 63) ≡ lowered n
-lowered-large n le = omega (arith, ints)
 
 -- an unsigned number in a column of signed ones
 pub raised_value : (n : ℕ) → CanMap (number_map U64 I64) n

@@ -2,6 +2,8 @@
 ghost use Rattle.std.specs.Prelude.{◌≡◌};
 ghost use Rattle.seg_column_merge_parts.specs.Sources.{CanMap, mapped};
 
+use seg_common::MonotonicallyMappableToU64;
+
 /// What is written for the numbers that stand for the values of a file's column.
 #[derive(Drop)]
 pub enum NumberMap {
@@ -15,9 +17,6 @@ pub enum NumberMap {
     Ordinals(Vec<u64>),
 }
 
-/// How far the numbers of an I64 column are above those of the same values in a U64 column.
-const RAISE: u64 = 1 << 63;
-
 impl NumberMap {
     pub fn of(&self, number: u64) -> u64
         requires { CanMap self.now number }
@@ -25,8 +24,8 @@ impl NumberMap {
     {
         match self {
             NumberMap::Same => number,
-            NumberMap::Raised => number + RAISE,
-            NumberMap::Lowered => number - RAISE,
+            NumberMap::Raised => (number as i64).to_u64(),
+            NumberMap::Lowered => i64::from_u64(number) as u64,
             NumberMap::Ordinals(ordinals) => ordinals[number as usize],
         }
     }

@@ -4,8 +4,7 @@ ghost use Rattle.std.specs.List.{range_with_len};
 ghost use Rattle.seg_columns.specs.Ends as spec;
 ghost use Rattle.seg_column_format.specs.ColumnBytes.{number_bytes};
 
-use crate::value_bytes::END;
-use seg_columns::start_at;
+use seg_columns::{END_BYTES, start_at};
 use seg_common::put_u64;
 use std::alloc::AllocError;
 
@@ -55,5 +54,5 @@ fn put_ends(ends: &[u8], rows: usize, out: &mut Vec<u8>) -> Result<(), AllocErro
     ensures bytes { OnOk result (out.new.items ≡ out.old.items ++ take (8 * rows) ends.now) }
     ensures octets { (i : ℕ) → get_or ends.now i 0 < 256 }
 {
-    out.extend_from_slice(&ends[..END * rows])
+    out.extend_from_slice(&ends[..END_BYTES * rows])
 }

@@ -5,11 +5,8 @@ ghost use Rattle.std.specs.List.{flat_map};
 ghost use Rattle.std.specs.Net.Addr.{ipv6_octets};
 ghost use Rattle.seg_columns.specs.Ends as spec;
 
-use seg_columns::{Column, start_at};
+use seg_columns::{Column, END_BYTES, start_at};
 use std::net::Ipv6Addr;
-
-/// The bytes of an end.
-pub(crate) const END: usize = 8;
 
 /// Those of numbers.
 pub(crate) fn number_bytes(column: &Column<u64>, rows: u32) -> &[u8]
@@ -34,7 +31,7 @@ fn first_numbers(bytes: &[u8], docs: usize, rows: usize) -> &[u8]
     ensures cut { result.now ≡ slice_range bytes.now (8 * docs) (8 * docs + 8 * spec.start_at bytes.now rows) }
     ensures octets { (i : ℕ) → get_or bytes.now i 0 < 256 }
 {
-    let start = END * docs;
+    let start = END_BYTES * docs;
     let count = start_at(bytes, rows) as usize;
     bytes_between(bytes, start, start + 8 * count)
 }
@@ -46,7 +43,7 @@ fn first_addresses(bytes: &[u8], docs: usize, rows: usize) -> &[u8]
     ensures cut { result.now ≡ slice_range bytes.now (8 * docs) (8 * docs + 16 * spec.start_at bytes.now rows) }
     ensures octets { (i : ℕ) → get_or bytes.now i 0 < 256 }
 {
-    let start = END * docs;
+    let start = END_BYTES * docs;
     let count = start_at(bytes, rows) as usize;
     bytes_between(bytes, start, start + 16 * count)
 }

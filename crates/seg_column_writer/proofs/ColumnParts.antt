@@ -1,15 +1,13 @@
 -- The bytes of a column are those of what was recorded.
 use Rattle.std.proofs.Common.{◌≡◌, ℕ, zero, suc, ◌+◌, ◌<◌, ◌^◌, Bool, true, false, cond, List, [], ◌∷◌, length, map, filter, Option, sym, refl, ap, subst, ◌∙◌, arith}
-use Rattle.std.specs.Prelude.{◌==◌, nat_lt, ℤ, pos, negsuc, FitsSigned}
-use Rattle.std.specs.Int.{w64}
+use Rattle.std.specs.Prelude.{◌==◌, nat_lt, pos}
 use Rattle.std.specs.List.{AllByRecursion, range_with_len}
 use Rattle.std.specs.Ordering.{int_cmp, is_gt, nat_cmp}
 use Rattle.std.proofs.lemmas.Bool.{false≢true}
 use Rattle.std.proofs.lemmas.Bool.Decides.{nat_tests}
-use Rattle.std.proofs.lemmas.Int.{ints}
 use Rattle.std.proofs.lemmas.List.FromFn.{length-map-range_with_len}
-use Rattle.seg_common.specs.Mappable.{bit, is_bit, is_one, lowered, raised}
-use Rattle.seg_common.specs.MappableLaws.{raised-in_order}
+use Rattle.seg_common.specs.Mappable.{bit, is_bit, is_one, lowered}
+use Rattle.seg_common.specs.MappableLaws.{lowered-fits, raised-in_order, raised-lowered}
 use Rattle.seg_common.specs.declared.column_type.ColumnType.{ColumnType}
 use Rattle.seg_model.specs.Columns.{ColumnValue}
 use Rattle.seg_columns.specs.DynamicColumns.{IsColumnOf, column_of}
@@ -82,28 +80,14 @@ module _ (kind : ValueKind) (terms : List (List ℕ)) (seen : ℕ → ColumnValu
 
 -- ---- values rise with their numbers
 
-fits_lowered : (n : ℕ) → n < 2 ^ 64 → FitsSigned w64 (lowered n)
-fits_lowered n lt = by (lowered n) refl
-  where
-    by : (z : ℤ) → z ≡ lowered n → FitsSigned w64 z
-    by (pos m) e = omega (arith, ints, e, lt)
-    by (negsuc m) e = omega (arith, ints, e, lt)
-
-raised_again : (n : ℕ) → raised (lowered n) ≡ n
-raised_again n = by (lowered n) refl
-  where
-    by : (z : ℤ) → z ≡ lowered n → raised z ≡ n
-    by (pos m) e = omega (arith, ints, e)
-    by (negsuc m) e = omega (arith, ints, e)
-
 gt_is : (a b : ℕ) → is_gt (nat_cmp a b) ≡ nat_lt b a
 gt_is a b = grind (arith, nat_tests)
 
 pub signed_rising : (a b : ℕ) → a < 2 ^ 64 → b < 2 ^ 64
     → is_gt (int_cmp (lowered a) (lowered b)) ≡ nat_lt b a
 signed_rising a b lt below =
-    ap is_gt (sym (raised-in_order (lowered a) (lowered b) (fits_lowered a lt) (fits_lowered b below))
-    ∙ (λ j. nat_cmp (raised_again a j) (raised_again b j)))
+    ap is_gt (sym (raised-in_order (lowered a) (lowered b) (lowered-fits a lt) (lowered-fits b below))
+    ∙ (λ j. nat_cmp (raised-lowered a j) (raised-lowered b j)))
     ∙ gt_is a b
 
 pub unsigned_rising : (a b : ℕ) → is_gt (int_cmp (pos a) (pos b)) ≡ nat_lt b a

@@ -9,7 +9,7 @@ ghost use Rattle.seg_column_format.specs.Terms.{terms_at};
 
 use crate::row_value::RowValue;
 use seg_column_format::{RowNumber, TermOrder, TermTable, put_numbers, put_ordered_terms};
-use seg_common::ColumnType;
+use seg_common::{ColumnType, MonotonicallyMappableToU64};
 use std::alloc::{AllocError, Global};
 
 /// Adds the ends of rows, and the numbers that stand for values of a type.
@@ -89,25 +89,12 @@ fn image(value: RowValue, column_type: ColumnType) -> RowNumber
     ensures { result ≡ imaged column_type value }
 {
     let number = match column_type {
-        ColumnType::I64 => raised(value),
+        ColumnType::I64 => value.to_signed().to_u64(),
         _ => value.number,
     };
     RowNumber {
         row: value.row,
         number,
-    }
-}
-
-/// A number of the type I64 plus 2^63.
-fn raised(value: RowValue) -> u64
-    requires { value.number < 2 ^ 63 }
-    ensures { result ≡ image_of types.I64 value }
-{
-    const MIDDLE: u64 = 1 << 63;
-    if value.negative {
-        MIDDLE - 1 - value.number
-    } else {
-        MIDDLE + value.number
     }
 }
 

@@ -1,5 +1,5 @@
 //! A value of a row, as a column keeps it while values come.
-ghost use Rattle.std.specs.Prelude.{◌≡◌, false};
+ghost use Rattle.std.specs.Prelude.{◌≡◌, ◌<◌, ◌^◌, false};
 ghost use Rattle.seg_column_writer.specs.RowValues.{fits_signed, integer_of, number_in};
 
 use crate::numerical_value::NumericalValue;
@@ -47,6 +47,15 @@ impl RowValue {
         } else {
             RowValue::of_number(row, number.abs_diff(0))
         }
+    }
+
+    /// The number that it is.
+    pub fn to_signed(self) -> i64
+        requires { self.number < 2 ^ 63 }
+        ensures { result ≡ integer_of self.negative self.number }
+    {
+        let number = self.number as i64;
+        if self.negative { -1 - number } else { number }
     }
 
     /// Whether a number is below 2^63, and a negative one not below -2^63.

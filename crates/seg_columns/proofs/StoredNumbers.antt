@@ -1,12 +1,11 @@
 -- The numbers in a column, and the values that they stand for.
 use Rattle.std.proofs.Common.{◌≡◌, ℕ, zero, suc, ◌+◌, ◌*◌, ◌-◌, ◌<◌, ◌≤◌, Bool, true, false, List, ◌∷◌, map, drop, Option, Some, None, refl, sym, ap, ◌∙◌, arith}
-use Rattle.std.specs.Prelude.{ℤ, IsSome, if◌then◌else◌, option_map, pos, negsuc, slice_range}
+use Rattle.std.specs.Prelude.{IsSome, if◌then◌else◌, option_map, slice_range}
 use Rattle.std.specs.List.{filter_map, range_with_len, cons_option}
 use Rattle.std.proofs.lemmas.Bool.{false≢true}
 use Rattle.std.proofs.lemmas.Bool.Decides.{nat_tests}
-use Rattle.std.proofs.lemmas.Int.{ints}
 use Rattle.seg_common.specs.LittleEndian.{u64_at}
-use Rattle.seg_common.specs.Mappable.{raised, lowered, bit, is_bit, is_one}
+use Rattle.seg_common.specs.Mappable.{bit, is_bit, is_one}
 use Rattle.seg_columns.specs.Ends.{start_at}
 use Rattle.seg_columns.specs.Columns.{IsColumn, value_at, row_of, rows_of}
 use Rattle.seg_columns.specs.Images.{unsigned, value_of_image}
@@ -68,14 +67,6 @@ module _ {T : Type 0} (is_image : ℕ → Bool) (value_of : ℕ → T) (number :
     pub numbers_stand : rows_of 8 unsigned docs bytes ≡ map (map number)
         (rows_of 8 (value_of_image is_image value_of) docs bytes)
     numbers_stand = each_row 0 docs (omega arith)
-
--- a number is that of the value that it stands for
-pub raised-lowered : (n : ℕ) → true ≡ true → raised (lowered n) ≡ n
-raised-lowered n always = by (lowered n) refl
-  where
-    by : (z : ℤ) → z ≡ lowered n → raised z ≡ n
-    by (pos m) e = omega (arith, ints, e)
-    by (negsuc m) e = omega (arith, ints, e)
 
 pub bit-is_one : (n : ℕ) → is_bit n ≡ true → bit (is_one n) ≡ n
 bit-is_one zero is = refl

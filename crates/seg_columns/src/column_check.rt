@@ -3,7 +3,7 @@ ghost use Rattle.std.specs.Prelude.{◌≡◌, ◌*◌, ◌+◌, ◌≤◌, ◌<
 ghost use Rattle.seg_columns.specs.Columns.{IsColumn, AreKnown, value_at};
 
 use crate::column_value::ColumnValue;
-use crate::ends::{END, ends_rise, start_at};
+use crate::ends::{END_BYTES, ends_rise, start_at};
 
 /// Whether bytes are a column of this type for so many documents: one pass over them, without memory.
 pub fn is_column<T: ColumnValue>(bytes: &[u8], num_docs: u32) -> bool
@@ -11,7 +11,7 @@ pub fn is_column<T: ColumnValue>(bytes: &[u8], num_docs: u32) -> bool
         (IsColumn T.WIDTH T.decoded num_docs bytes.now → ⊥) }
 {
     let rows = num_docs as usize;
-    if bytes.len() / END < rows {
+    if bytes.len() / END_BYTES < rows {
         return false;
     }
     if !ends_rise(bytes, rows) {
@@ -30,7 +30,7 @@ pub(crate) fn values_of(bytes: &[u8], rows: usize) -> &[u8]
     requires { 8 * rows ≤ length bytes.now }
     ensures { result.now ≡ drop (8 * rows) bytes.now }
 {
-    &bytes[END * rows..]
+    &bytes[END_BYTES * rows..]
 }
 
 /// Whether so many values fill so many bytes.

@@ -4,7 +4,7 @@ ghost use Rattle.std.specs.Ordering.{nat_cmp};
 ghost use Rattle.std.specs.Cmp.Lexicographic.{slice_cmp};
 ghost use Rattle.seg_columns.specs.Dictionaries.{HoldsTerms, IsDictionary, TermsAscend, count_of};
 
-use crate::ends::{END, ends_rise, start_at};
+use crate::ends::{END_BYTES, ends_rise, start_at};
 use crate::terms::{COUNT, ends_of, term_at, texts_of};
 use seg_common::u64_at;
 use std::cmp::Ordering;
@@ -30,7 +30,7 @@ fn terms_held(bytes: &[u8]) -> Option<usize>
         return None;
     }
     let number = u64_at(bytes, 0);
-    if number > ((bytes.len() - COUNT) / END) as u64 {
+    if number > ((bytes.len() - COUNT) / END_BYTES) as u64 {
         return None;
     }
     let count = number as usize;

@@ -5,7 +5,7 @@ ghost use Rattle.seg_columns.specs.Ends as spec;
 use seg_common::u64_at;
 
 /// The bytes of an end.
-pub(crate) const END: usize = 8;
+pub const END_BYTES: usize = 8;
 
 /// Where a part begins.
 #[tactic(auto, unfolding(crate::specs::Ends::start_at))]
@@ -16,7 +16,7 @@ pub fn start_at(ends: &[u8], part: usize) -> u64
     if part == 0 {
         0
     } else {
-        u64_at(ends, END * (part - 1))
+        u64_at(ends, END_BYTES * (part - 1))
     }
 }
 

@@ -58,7 +58,7 @@ pub use column_value::ColumnValue;
 pub use column_values::ColumnValues;
 pub use dictionary::Dictionary;
 pub use dynamic_column::DynamicColumn;
-pub use ends::start_at;
+pub use ends::{END_BYTES, start_at};
 pub use error::ColumnError;
 pub use first_or_default::ColumnFirstOrDefault;
 pub use handle::DynamicColumnHandle;

@@ -7,7 +7,7 @@ ghost use Rattle.seg_columns.specs.TermColumns.{IsBytesColumn, UsesEach, ordinal
 
 use crate::column::Column;
 use crate::dictionary::Dictionary;
-use crate::ends::{END, start_at};
+use crate::ends::{END_BYTES, start_at};
 use crate::error::ColumnError;
 use crate::used_ordinals::uses_each;
 use seg_common::OwnedBytes;
@@ -65,7 +65,7 @@ impl TermColumn {
         let docs = num_docs as usize;
         let _length = bytes.len();
         let count = start_at(bytes.as_slice(), docs) as usize;
-        let (front, back) = split(bytes, END * docs + END * count);
+        let (front, back) = split(bytes, END_BYTES * docs + END_BYTES * count);
         TermColumn {
             ords: Column::of_checked(front, num_docs),
             dictionary: Dictionary::of_checked(back),
@@ -105,7 +105,7 @@ fn parts_of(bytes: &OwnedBytes, num_docs: u32) -> Option<(OwnedBytes, OwnedBytes
         (λ p. (p.0 ≡ ordinals_in num_docs bytes.now) × (p.1 ≡ dictionary_in num_docs bytes.now)) }
 {
     let docs = num_docs as usize;
-    let words = bytes.len() / END;
+    let words = bytes.len() / END_BYTES;
     if words < docs {
         return None;
     }
@@ -113,7 +113,7 @@ fn parts_of(bytes: &OwnedBytes, num_docs: u32) -> Option<(OwnedBytes, OwnedBytes
     if count > (words - docs) as u64 {
         return None;
     }
-    Some(split(bytes, END * docs + END * count as usize))
+    Some(split(bytes, END_BYTES * docs + END_BYTES * count as usize))
 }
 
 /// The bytes before a place, and those from it on.

@@ -8,7 +8,7 @@
 ghost use Rattle.std.specs.Prelude.{◌≡◌, ◌≢◌, ◌≤◌, ◌<◌, ◌+◌, ◌*◌, ℕ, length, drop, MatchOption};
 ghost use Rattle.seg_columns.specs.Dictionaries as spec;
 
-use crate::ends::{END, start_at};
+use crate::ends::{END_BYTES, start_at};
 use std::cmp::Ordering;
 
 /// The bytes of the number of terms.
@@ -28,7 +28,7 @@ pub(crate) fn texts_of(bytes: &[u8], count: usize) -> &[u8]
     requires room { 8 + 8 * count ≤ length bytes.now }
     ensures { result.now ≡ spec.texts_of bytes.now }
 {
-    &bytes[COUNT + END * count..]
+    &bytes[COUNT + END_BYTES * count..]
 }
 
 /// The term at a place.

@@ -1,6 +1,7 @@
 -- Stored documents: the number of pairs, and these, each a field and a tree of at most 200 levels.
 use Rattle.std.specs.Prelude.{ℕ, if◌then◌else◌, Bool, true, false, List, [], ◌∷◌, Option, Some, None, is_some}
 use Rattle.seg_values.specs.Tree.{Leaf, pre_tokenized, Tree, leaf, array, object, Document}
+pub use Rattle.seg_values.specs.StoredForm.{most_levels_read}
 use Rattle.seg_doc_bytes.specs.Reader.{Reader, then_read, counted_at, small_at}
 use Rattle.seg_doc_bytes.specs.StoredTree.{stored_tree_at}
 
@@ -14,10 +15,6 @@ abbrev pub is_top : Tree → Bool
 is_top (leaf l) = is_top_leaf l
 is_top (array ts) = true
 is_top (object ms) = true
-
--- how many levels are read
-abbrev pub most_levels_read : ℕ
-most_levels_read = 200
 
 -- a field, and its tree
 abbrev pub pair_at : Reader (ℕ × Tree)

@@ -7,9 +7,7 @@ ghost use Rattle.seg_doc_bytes.specs.StoredTree.{stored_tree_at};
 
 use crate::pieces::{take_small, take_varint};
 use crate::tree_check::pass_tree;
-
-/// The most levels of a tree that is read.
-pub const MOST_LEVELS: u32 = 200;
+use seg_values::MOST_LEVELS;
 
 /// The tag of a text with its tokens, which is no tree of a field by itself.
 const PRE_TOKENIZED: u8 = 2;

@@ -6,10 +6,9 @@ ghost use Rattle.seg_doc_bytes.specs.Making.{Makes};
 ghost use Rattle.seg_doc_bytes.specs.Reader as read;
 ghost use Rattle.seg_doc_bytes.specs.StoredDocument as documents;
 
-use crate::document_check::MOST_LEVELS;
 use crate::pieces::{take_small, take_varint};
 use crate::tree_reader::read_tree;
-use seg_values::{Field, OwnedValue, TantivyDocument};
+use seg_values::{Field, MOST_LEVELS, OwnedValue, TantivyDocument};
 use std::alloc::{AllocError, Global};
 
 /// The document that bytes, from the first to the last, are the stored form of; `None` where they are that of none.

@@ -34,7 +34,7 @@ mod document_reader;
 mod leaf_reader;
 mod tree_reader;
 
-pub use document_check::{MOST_LEVELS, is_stored_document, take_field};
+pub use document_check::{is_stored_document, take_field};
 pub use document_law::stored_documents_are_read;
 pub use document_reader::document_of;
 pub use document_writer::put_document;

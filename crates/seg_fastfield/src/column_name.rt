@@ -3,11 +3,9 @@ ghost use Rattle.std.specs.Prelude.{◌≡◌, option_map, string_bytes, IfOk};
 ghost use Rattle.seg_fastfield.specs.ColumnNames as spec;
 ghost use Rattle.seg_model.specs.Fields as fields;
 
+use seg_common::PATH_SEPARATOR;
 use seg_values::{FieldEntry, FieldKind, json_path_text};
 use std::alloc::{AllocError, Global};
-
-/// What stands between the name of a JSON field and the path of keys in it.
-const SEPARATOR: char = '\u{1}';
 
 /// The path of the columns that a path in a field names, if there can be any.
 pub(crate) fn column_path(
@@ -25,7 +23,7 @@ pub(crate) fn column_path(
         return Ok(None);
     }
     let keys = json_path_text(alloc, path, entry.expand_dots)?;
-    column.push(SEPARATOR)?;
+    column.push(PATH_SEPARATOR)?;
     column.push_str(keys.as_str())?;
     Ok(Some(column))
 }

@@ -4,7 +4,7 @@ ghost use Rattle.std.specs.List.{list_any};
 ghost use Rattle.seg_field_metadata.specs.Listed as spec;
 ghost use Rattle.seg_field_metadata.specs.Listed.{EscapedName, HasNames, dotted_path, escaped_names, escaped_path};
 
-use seg_common::push_replaced;
+use seg_common::{PATH_SEPARATOR, push_replaced};
 use seg_values::FieldEntry;
 use std::alloc::{AllocError, Global};
 use std::collections::HashMap;
@@ -38,7 +38,7 @@ impl EscapedNames {
             return Ok(());
         }
         let mut dotted = field_name(alloc, entry)?;
-        push_replaced(&mut dotted, path, '\u{1}', '.')?;
+        push_replaced(&mut dotted, path, PATH_SEPARATOR, '.')?;
         let escaped = listed_name(alloc, entry, path)?;
         drop(self.by_dotted.insert(dotted, escaped)?);
         Ok(())
@@ -50,7 +50,7 @@ impl EscapedNames {
             → string_bytes name ≡ spec.column_name names path.now) }
     {
         let mut dotted = String::new(alloc);
-        push_replaced(&mut dotted, path, '\u{1}', '.')?;
+        push_replaced(&mut dotted, path, PATH_SEPARATOR, '.')?;
         match self.by_dotted.get(dotted.as_str()) {
             Some(escaped) => String::from_str(alloc, escaped.as_str()),
             None => Ok(dotted),
@@ -83,7 +83,7 @@ pub(crate) fn listed_name(
 {
     let mut name = field_name(alloc, entry)?;
     if entry.expand_dots {
-        push_replaced(&mut name, path, '\u{1}', '.')?;
+        push_replaced(&mut name, path, PATH_SEPARATOR, '.')?;
         return Ok(name);
     }
     push_escaped(&mut name, path)?;
@@ -107,13 +107,13 @@ fn push_escaped(name: &mut String, path: &str) -> Result<(), AllocError>
         push_part(name, part)?;
         rest = others;
     }
-    push_replaced(name, rest, '\u{1}', '.')
+    push_replaced(name, rest, PATH_SEPARATOR, '.')
 }
 
 /// Appends what stands before a dot, and the dot, escaped.
 fn push_part(name: &mut String, part: &str) -> Result<(), AllocError>
     ensures { OnOk result (string_bytes name.new ≡ string_bytes name.old ++ (dotted_path part.now ++ 92 ∷ 46 ∷ [])) }
 {
-    push_replaced(name, part, '\u{1}', '.')?;
+    push_replaced(name, part, PATH_SEPARATOR, '.')?;
     name.push_str("\\.")
 }

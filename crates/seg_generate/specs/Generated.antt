@@ -1,15 +1,12 @@
 -- The input that a number generates.
-use Rattle.std.specs.Prelude.{ℕ, ◌+◌, ◌*◌, ◌%◌, List, [], ◌∷◌, ◌++◌, map, replicate, false, None}
+use Rattle.std.specs.Prelude.{ℕ, ◌+◌, ◌*◌, ◌%◌, List, [], ◌∷◌, ◌++◌, map, replicate, None}
 use Rattle.std.specs.List.{flat_map, range_with_len}
 use Rattle.seg_values.specs.Tree.{unsigned}
 use Rattle.seg_values.specs.ValueBytes.{value_bytes}
-use Rattle.seg_model.specs.Input.{Input, Settings, uncompressed}
+use Rattle.seg_model.specs.Input.{Input}
+pub use Rattle.seg_model.specs.Input.{default_settings as settings}
 use Rattle.seg_model.specs.Operations.{Operation, add, delete}
 use Rattle.seg_generate.specs.Documents.{document, schema}
-
--- no compression, and blocks of 16 KiB
-abbrev pub settings : Settings
-settings = record { compression = uncompressed; block_size = 16384; dedicated_thread = false }
 
 -- the document that a group deletes: by the seed one of the eight of the group that is 25 before it, around the 250
 abbrev pub deleted_number : ℕ → ℕ → ℕ

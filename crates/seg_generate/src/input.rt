@@ -8,7 +8,7 @@ use crate::operations::operations;
 use seg_bits::AliveBitSet;
 use seg_check::BuildInput;
 use seg_common::SegmentId;
-use seg_meta::IndexSettings;
+use seg_meta::{DEFAULT_BLOCK_SIZE, IndexSettings};
 use seg_values::Compressor;
 use std::alloc::{AllocError, Global};
 
@@ -25,7 +25,7 @@ pub fn generated_input(alloc: Global, seed: u32) -> Result<BuildInput, AllocErro
         schema,
         settings: IndexSettings {
             docstore_compression: Compressor::None,
-            docstore_blocksize: 16_384,
+            docstore_blocksize: DEFAULT_BLOCK_SIZE,
             docstore_compress_dedicated_thread: false,
         },
         operations,

@@ -1,8 +1,8 @@
 -- What is done with a directory in turn while an index is written.
-use Rattle.std.specs.Prelude.{List, [], ◌∷◌, ◌++◌, ℕ}
-use Rattle.seg_directory.specs.Calls.{synced}
-use Rattle.seg_directory.specs.Works.{Step, calls}
-use Rattle.seg_meta.specs.MetaSteps.{create_steps, save_steps}
+use Rattle.std.specs.Prelude.{List, ◌++◌, ℕ}
+pub use Rattle.seg_build.specs.IndexWriting.{publish_steps}
+use Rattle.seg_directory.specs.Works.{Step}
+use Rattle.seg_meta.specs.MetaSteps.{create_steps}
 use Rattle.seg_meta.specs.MetaText.{meta_text}
 use Rattle.seg_meta.specs.Saving.{empty_meta}
 use Rattle.seg_model.specs.Fields.{Schema}
@@ -14,10 +14,6 @@ use Rattle.seg_segment.specs.declared.segment_files.SegmentFiles.{SegmentFiles}
 -- an index without segments is begun where there is no file
 abbrev pub begin_steps : Settings → Schema → List Step
 begin_steps settings schema = create_steps (meta_text (empty_meta settings schema))
-
--- a meta is saved, and reaches the disk
-abbrev pub publish_steps : Meta → List Step
-publish_steps meta = save_steps (meta_text meta) ++ calls synced ∷ []
 
 -- an index that was begun is filled with the six files of one segment, and then its meta is saved
 abbrev pub fill_one_steps : Meta → ℕ → SegmentFiles → List Step

@@ -6,9 +6,7 @@ ghost use Rattle.seg_model.specs.Shape.{HasFullShape};
 ghost use Rattle.seg_open.specs.OpenSegment.{IsMarked, contents_of, kept_count};
 
 use seg_open::SegmentReader;
-
-/// One segment never has this many documents.
-const TOO_MANY: usize = 0x8000_0000;
+use seg_segment::MAX_DOCUMENTS;
 
 /// How many documents of segments are alive in all; `None` where one segment can't have as many, 2^31 or more.
 pub(crate) fn num_joined_docs(parts: &[SegmentReader]) -> Option<u32>
@@ -23,7 +21,7 @@ pub(crate) fn num_joined_docs(parts: &[SegmentReader]) -> Option<u32>
         part.documents_are_marked();
         part.contents_have_full_shape();
         let live = part.num_docs() as usize;
-        if live >= TOO_MANY - count {
+        if live > MAX_DOCUMENTS - count {
             return None;
         }
         count += live;

@@ -2,8 +2,8 @@
 ghost use Rattle.std.specs.Prelude.{◌≡◌, Some, None, Err, true, codes, IfOk};
 ghost use Rattle.serde_json.specs.View.{view};
 ghost use Rattle.seg_values.specs.SchemaRules.{is_entry};
-ghost use Rattle.seg_meta.specs.PartsRead.{entry_from, kinds, index_options, precisions};
-ghost use Rattle.seg_meta.specs.Reads.{required, word_of};
+ghost use Rattle.seg_meta.specs.PartsRead.{entry_from, entry_members, kinds, index_options, precisions};
+ghost use Rattle.seg_meta.specs.Reads.{has_only, required, word_of};
 
 use crate::ReadError;
 use crate::members::{flag_at, has_only, optional_text_at, text_at};
@@ -28,13 +28,20 @@ const MEMBERS: [&str; 10] = [
     "tokenizer",
 ];
 
+/// Whether a value is an object with no member but those of a field.
+pub fn has_entry_members(json: &Value) -> bool
+    ensures { result ≡ has_only entry_members (view json.now) }
+{
+    has_only(json, &MEMBERS)
+}
+
 /// The field that an object with all of its members says.
 pub fn entry_from(alloc: Global, json: &Value) -> Result<FieldEntry, ReadError>
     ensures ok { IfOk result (λ e. entry_from (view json.now) ≡ Some e) }
     ensures entry { IfOk result (λ e. is_entry e ≡ true) }
     ensures none { result ≡ Err ReadError.NoMeta → entry_from (view json.now) ≡ None }
 {
-    if !has_only(json, &MEMBERS) {
+    if !has_entry_members(json) {
         return Err(ReadError::NoMeta);
     }
     let expand_dots = flag_at(json, "expand_dots").ok_or(ReadError::NoMeta)?;

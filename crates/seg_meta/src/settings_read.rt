@@ -1,8 +1,8 @@
 //! Reads settings from JSON.
 ghost use Rattle.std.specs.Prelude.{◌≡◌, option_map, codes};
 ghost use Rattle.serde_json.specs.View.{view};
-ghost use Rattle.seg_meta.specs.PartsRead.{settings_from, compressions};
-ghost use Rattle.seg_meta.specs.Reads.{required, word_of};
+ghost use Rattle.seg_meta.specs.PartsRead.{settings_from, settings_members, compressions};
+ghost use Rattle.seg_meta.specs.Reads.{has_only, required, word_of};
 ghost use Rattle.seg_meta.specs.View.{settings_of, compression_of};
 
 use crate::IndexSettings;
@@ -11,18 +11,25 @@ use crate::words::compressor_from;
 use seg_values::Compressor;
 use serde_json::Value;
 
-/// The settings that an object with all of their members says.
-pub fn settings_from(json: &Value) -> Option<IndexSettings>
-    ensures { option_map settings_of result ≡ settings_from (view json.now) }
+/// Whether a value is an object with no member but those of settings.
+pub fn has_settings_members(json: &Value) -> bool
+    ensures { result ≡ has_only settings_members (view json.now) }
 {
-    if !has_only(
+    has_only(
         json,
         &[
             "docstore_blocksize",
             "docstore_compress_dedicated_thread",
             "docstore_compression",
         ],
-    ) {
+    )
+}
+
+/// The settings that an object with all of their members says.
+pub fn settings_from(json: &Value) -> Option<IndexSettings>
+    ensures { option_map settings_of result ≡ settings_from (view json.now) }
+{
+    if !has_settings_members(json) {
         return None;
     }
     let block_size = below_at(json, "docstore_blocksize", 1 << 32)?;

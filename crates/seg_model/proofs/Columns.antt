@@ -20,6 +20,7 @@ use Rattle.seg_values.specs.Tree.{Document}
 use Rattle.seg_model.specs.Fields.{Schema, Analyzer}
 use Rattle.seg_model.specs.Operations.{Batch, kept, live}
 use Rattle.seg_common.specs.Tables.{is_among, tabulated}
+use Rattle.seg_model.specs.Codes.{type_of_place, type_of_place-type_place}
 use Rattle.seg_model.specs.Columns.{ColumnValue, number, bytes_value, text_value, boolean_value, ip_value, date_value, ColumnKey, type_place, column_cmp, Columns, FastValue, fast_values, is_declared, value_types, value_keys, values_at, fits_i64, is_not_negative, number_type, is_number, is_type, without_values, rows_of, is_filled, if_there, column_at, is_mixed, columns_from, columns, declared_columns}
 use Rattle.seg_model.specs.Contents.{Contents}
 use Rattle.seg_model.specs.Join.{Part, live_of, part_column, side_by_side, part_rows, joined_keys, joined_columns}
@@ -35,24 +36,6 @@ Rows = List (List ColumnValue)
 pub column_cmp_total : IsTotalOrder column_cmp
 column_cmp_total = then_total (on_total (λ (k : ColumnKey). k.path) nat_list_cmp_total) (on_total (λ (k : ColumnKey). type_place k.type) nat_cmp_total)
 
-abbrev type_of_place : ℕ → ColumnType
-type_of_place zero = I64
-type_of_place (suc zero) = U64
-type_of_place (suc (suc zero)) = Bytes
-type_of_place (suc (suc (suc zero))) = Str
-type_of_place (suc (suc (suc (suc zero)))) = Boolean
-type_of_place (suc (suc (suc (suc (suc zero))))) = IpAddr
-type_of_place (suc (suc (suc (suc (suc (suc n)))))) = DateTime
-
-type_of_its_place : (t : ColumnType) → type_of_place (type_place t) ≡ t
-type_of_its_place I64 = refl
-type_of_its_place U64 = refl
-type_of_its_place Bytes = refl
-type_of_its_place Str = refl
-type_of_its_place Boolean = refl
-type_of_its_place IpAddr = refl
-type_of_its_place DateTime = refl
-
 first_equal : (r s : Ordering) → ordering_then r s ≡ Equal → r ≡ Equal
 first_equal Less s e = e
 first_equal Equal s e = refl
@@ -67,7 +50,7 @@ pub columns_apart : IsAntisymmetric column_cmp
 columns_apart k m e =
     let path : k.path ≡ m.path = slice_cmp-IsAntisymmetric nat_cmp-IsAntisymmetric k.path m.path (first_equal (slice_cmp nat_cmp k.path m.path) (nat_cmp (type_place k.type) (type_place m.type)) e) in
     let place : type_place k.type ≡ type_place m.type = nat_cmp-IsAntisymmetric _ _ (second_equal (slice_cmp nat_cmp k.path m.path) (nat_cmp (type_place k.type) (type_place m.type)) e) in
-    let type : k.type ≡ m.type = sym (type_of_its_place k.type) ∙ ap type_of_place place ∙ type_of_its_place m.type in
+    let type : k.type ≡ m.type = sym (type_of_place-type_place k.type) ∙ ap type_of_place place ∙ type_of_place-type_place m.type in
     λ i. record { path = path i; type = type i }
 
 -- ---- rows without a value

@@ -16,7 +16,7 @@ use Rattle.seg_values.specs.Utf8.{IsUtf8Document}
 use Rattle.seg_model.specs.Fields.{Schema, Analyzer, is_json, is_indexed, indexing_tokenizer, values_of, fields}
 use Rattle.seg_model.specs.Leaves.{PlacedLeaf, leaves, leaves_of, joined_path}
 use Rattle.seg_model.specs.Takes.{takes}
-use Rattle.seg_values.specs.StoredForm.{stored_form}
+use Rattle.seg_values.specs.StoredForm.{most_levels_read, stored_form}
 use Rattle.seg_model.specs.Occurrences.{counted, start_after_all, value_tokens, leaf_text, texts_at}
 
 -- why a document is not taken: the error, given the place at which the document is added
@@ -160,7 +160,7 @@ field_fits analyzer document f =
 -- within the limits: those of each field, of the bytes that are stored, and of the levels
 abbrev pub is_within_limits : Schema → Analyzer → Document → Bool
 is_within_limits schema analyzer document =
-    list_all (field_fits analyzer document) (fields schema) && is_u32 (length (stored_form schema document)) && list_all (λ p. nat_le (levels p.1) 200) document
+    list_all (field_fits analyzer document) (fields schema) && is_u32 (length (stored_form schema document)) && list_all (λ p. nat_le (levels p.1) most_levels_read) document
 
 -- ---- all passes
 

@@ -1,5 +1,5 @@
 -- What an index is built from: fields, settings, operations, and how these are cut, filtered and named.
-use Rattle.std.specs.Prelude.{ℕ, List, Option, Bool}
+use Rattle.std.specs.Prelude.{ℕ, List, Option, Bool, false}
 use Rattle.seg_values.specs.Tree.{Document}
 use Rattle.seg_model.specs.Fields.{Schema, Analyzer}
 use Rattle.seg_model.specs.Operations.{Operation, Batch, batches, survivors}
@@ -15,6 +15,14 @@ pub record Settings : Type 0 where
   pub compression : Compression
   pub block_size : ℕ
   pub dedicated_thread : Bool
+
+-- the bytes from which a block is closed where nothing else is said
+abbrev pub default_block_size : ℕ
+default_block_size = 16384
+
+-- no compression, and blocks of 16 KiB
+abbrev pub default_settings : Settings
+default_settings = record { compression = uncompressed; block_size = default_block_size; dedicated_thread = false }
 
 -- for each addition of a batch, whether it is kept: a filter's size is its length
 abbrev pub Filter : Type 0

@@ -3,6 +3,8 @@ ghost use Rattle.std.specs.Prelude.{◌≡◌};
 ghost use Rattle.std.specs.List.{position};
 ghost use Rattle.seg_paths.specs.Cuts.{is_cut};
 
+use seg_common::PATH_SEPARATOR_BYTE;
+
 /// The first place at which a key is cut.
 pub(crate) fn first_cut(expand_dots: bool, key: &[u8]) -> Option<usize>
     ensures { result ≡ position (is_cut expand_dots) key.now }
@@ -14,5 +16,5 @@ pub(crate) fn first_cut(expand_dots: bool, key: &[u8]) -> Option<usize>
 fn is_cut(expand_dots: bool, byte: u8) -> bool
     ensures { result ≡ is_cut expand_dots byte }
 {
-    byte == 1 || (expand_dots && byte == b'.')
+    byte == PATH_SEPARATOR_BYTE || (expand_dots && byte == b'.')
 }

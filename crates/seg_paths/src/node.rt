@@ -6,6 +6,7 @@ ghost use Rattle.seg_paths.specs.Paths.{behind};
 ghost use Rattle.seg_paths.specs.Slots.{slot_in};
 
 use indexmap::Equivalent;
+use seg_common::PATH_SEPARATOR_BYTE;
 use std::alloc::{AllocError, Global};
 use std::hash::{Hash, Hasher};
 use std::marker::Model;
@@ -66,7 +67,7 @@ impl PathNode {
         part.reverse();
         out.extend_from_slice(&part)?;
         if self.above.is_some() {
-            out.push(1)?;
+            out.push(PATH_SEPARATOR_BYTE)?;
         }
         Ok(())
     }

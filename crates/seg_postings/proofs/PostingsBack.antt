@@ -11,6 +11,7 @@ use Rattle.seg_postings.specs.declared.record_kind.RecordKind.{RecordKind}
 use Rattle.seg_postings.specs.declared.record_kind.RecordKind.TheVariants.{Documents, Counts, Positions}
 use Rattle.seg_postings.specs.PostingsForm.{differences, count_form, position_form, documents_form, postings_form, positions_form}
 use Rattle.seg_postings.specs.Postings.{Counted, in_bounds, number_at, count_at, counts_at, positions_at, with_positions, postings_by, postings_of_kind, term_postings}
+use Rattle.seg_postings.specs.PostingsReading.{count_of}
 use Rattle.seg_postings.specs.Written.{Rise, IsOfKind, AreWritable}
 use Rattle.seg_postings.proofs.KindLemmas.{kind_back}
 
@@ -19,12 +20,6 @@ number_back : (least limit n : ℕ) (rest : List ℕ) → n < 2 ^ 64 → least �
 number_back least limit n rest small low high =
     ap (option_and_then (in_bounds least limit)) (reads_back 10 n rest (u64_has_ten n small) small)
     ∙ rw (le-leb least n low, lt-ltb n limit high) refl
-
--- how often the term occurs, by what is recorded
-abbrev count_of : Recorded → ℕ
-count_of presence = 1
-count_of (frequency n) = n
-count_of (positions ps) = length ps
 
 abbrev counted : Posting → Counted
 counted p = record { document = p.document; count = count_of p.recorded }

@@ -5,7 +5,7 @@ ghost use Rattle.seg_postings.specs.FieldReading.{asked_kind};
 
 use crate::record_kind::RecordKind;
 use seg_termdict::{TermDictionary, TermOrdinal};
-use seg_values::{FieldEntry, FieldKind, IndexOption, PostingsError};
+use seg_values::{FieldEntry, FieldKind, IndexOption, PostingsError, TEXT_CODE};
 
 /// What a field is, and what its texts record: these say what the postings of each of its terms keep.
 #[derive(Clone, Copy)]
@@ -64,7 +64,7 @@ impl AskedKind {
 fn json_kind(index: IndexOption, key: &[u8]) -> RecordKind
     ensures { result ≡ asked_kind FieldKind.Json index key.now }
 {
-    if type_code(key) == b's' {
+    if type_code(key) == TEXT_CODE {
         RecordKind::of_option(index)
     } else {
         RecordKind::Documents

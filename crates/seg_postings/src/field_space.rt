@@ -9,7 +9,7 @@ ghost use Rattle.seg_postings.specs.JsonRuns.{IsRunOf};
 use crate::asked_kind::type_code;
 use crate::term_form::path_part;
 use seg_common::{ByteCount, TermInfo};
-use seg_values::FieldType;
+use seg_values::{BOOL_CODE, FieldType, I64_CODE, TEXT_CODE, U64_CODE};
 use std::alloc::{AllocError, Global};
 use std::str;
 
@@ -64,10 +64,10 @@ fn type_of_code(code: u8) -> FieldType
     ensures { code_of result ≡ code }
 {
     match code {
-        b's' => FieldType::Str,
-        b'i' => FieldType::I64,
-        b'u' => FieldType::U64,
-        b'o' => FieldType::Bool,
+        TEXT_CODE => FieldType::Str,
+        I64_CODE => FieldType::I64,
+        U64_CODE => FieldType::U64,
+        BOOL_CODE => FieldType::Bool,
         _ => FieldType::Date,
     }
 }

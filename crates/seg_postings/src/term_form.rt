@@ -7,7 +7,7 @@ ghost use Rattle.seg_postings.specs.TermForms as forms;
 
 use crate::asked_kind::type_code;
 use seg_termdict::TermDictionary;
-use seg_values::FieldKind;
+use seg_values::{BOOL_CODE, DATE_CODE, FieldKind, I64_CODE, TEXT_CODE, U64_CODE};
 use std::str;
 
 /// Whether each term has the form that a kind of field asks for. Most kinds ask for none, and then no term is looked at.
@@ -67,5 +67,9 @@ pub(crate) fn path_part(bytes: &[u8]) -> &[u8]
 fn is_type_code(code: u8) -> bool
     ensures { result ≡ shape.is_type_code code }
 {
-    code == b's' || code == b'i' || code == b'u' || code == b'o' || code == b'd'
+    code == TEXT_CODE
+        || code == I64_CODE
+        || code == U64_CODE
+        || code == BOOL_CODE
+        || code == DATE_CODE
 }

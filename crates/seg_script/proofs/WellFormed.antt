@@ -19,7 +19,7 @@ use Rattle.seg_values.specs.declared.schema.IndexOption.TheVariants as index
 use Rattle.seg_values.specs.Tree.{Tree}
 use Rattle.seg_values.specs.ValueBytes.{TermKey}
 use Rattle.seg_model.specs.Fields.{is_text, is_on}
-use Rattle.seg_model.specs.Input.{uncompressed, Settings, Filter, Input}
+use Rattle.seg_model.specs.Input.{default_block_size, uncompressed, Settings, Filter, Input}
 use Rattle.seg_model.specs.Operations.{Operation, add, delete}
 use Rattle.seg_meta.specs.PartsRead.{digits_value, entry_members, id_from, index_options, compressions, kinds, precisions, settings_members}
 use Rattle.seg_meta.specs.Reads.{required, natural, below, nullable, word_of, list_of, has_only}
@@ -169,11 +169,11 @@ below-small d n h =
 settings-small : (d : Data) (s : Settings) → settings_from d ≡ Some s → IsSmall s.block_size
 settings-small d s h =
     let only = provided-some (has_only settings_members d) _ s h in
-    let block_size = given-some (optional 16384 (below (2 ^ 32)) (codes "docstore_blocksize") d) _ s only.1 in
+    let block_size = given-some (optional default_block_size (below (2 ^ 32)) (codes "docstore_blocksize") d) _ s only.1 in
     let thread = given-some (optional false as_bool (codes "docstore_compress_dedicated_thread") d) _ s block_size.1.1 in
     let compression = given-some (optional uncompressed (word_of compressions) (codes "docstore_compression") d) _ s thread.1.1 in
     subst (λ (s : Settings). IsSmall s.block_size) (same_Some _ s compression.1.1)
-    (optional-some IsSmall 16384 (below (2 ^ 32)) refl below-small (get (codes "docstore_blocksize") d) block_size.0 block_size.1.0)
+    (optional-some IsSmall default_block_size (below (2 ^ 32)) refl below-small (get (codes "docstore_blocksize") d) block_size.0 block_size.1.0)
 
 -- ---- the filters
 

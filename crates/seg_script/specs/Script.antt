@@ -1,13 +1,12 @@
 -- The script that bytes are.
-use Rattle.std.specs.Prelude.{ℕ, ◌+◌, List, [], ◌∷◌, length, replicate, if◌then◌else◌, Option, Some, None, codes}
+use Rattle.std.specs.Prelude.{ℕ, ◌+◌, List, [], ◌∷◌, length, replicate, Option, Some, None, codes}
 use Rattle.std.specs.List.{range_with_len}
-use Rattle.std.specs.Str.{is_utf8}
 use Rattle.serde_json.specs.Data.{Data}
 use Rattle.serde_json.specs.Find.{as_str}
-use Rattle.serde_json.specs.Read.{read}
 use Rattle.seg_values.specs.declared.schema.FieldEntry.{FieldEntry}
 use Rattle.seg_model.specs.Input.{Input}
 use Rattle.seg_model.specs.Operations.{Operation}
+pub use Rattle.seg_meta.specs.MetaRead.{json_of}
 use Rattle.seg_meta.specs.PartsRead.{id_from}
 use Rattle.seg_meta.specs.Reads.{given, provided, required, natural, nullable, list_of, has_only}
 use Rattle.seg_script_values.specs.Reads.{optional}
@@ -45,10 +44,6 @@ input_with schema operations d =
     given (optional (replicate (length cuts + 1) None) (list_of (nullable filter_from)) (codes "filters") d) (λ filters.
     given (optional (range_with_len 1 (length cuts + 2)) (list_of id_of) (codes "ids") d) (λ ids.
     Some (record { schema = schema; settings = settings; operations = operations; cuts = cuts; filters = filters; ids = ids }))))))
-
--- the JSON value that bytes are; `read` by itself does not ask that they are UTF-8
-abbrev pub json_of : List ℕ → Option Data
-json_of bytes = if is_utf8 bytes then read bytes else None
 
 -- the script that bytes are
 abbrev pub script : List ℕ → Option Input

@@ -2,20 +2,17 @@
 use Rattle.std.specs.Prelude.{◌^◌, false, Option, Some, codes}
 use Rattle.serde_json.specs.Data.{Data}
 use Rattle.serde_json.specs.Find.{as_bool}
-use Rattle.seg_model.specs.Input.{uncompressed, Settings}
+use Rattle.seg_model.specs.Input.{default_block_size, uncompressed, Settings}
+pub use Rattle.seg_model.specs.Input.{default_settings}
 use Rattle.seg_meta.specs.PartsRead.{settings_members, compressions}
 use Rattle.seg_meta.specs.Reads.{given, provided, below, word_of, has_only}
 use Rattle.seg_script_values.specs.Reads.{optional}
-
--- the settings of a script that says nothing of them
-abbrev pub default_settings : Settings
-default_settings = record { compression = uncompressed; block_size = 16384; dedicated_thread = false }
 
 -- settings, of which each member has its default
 abbrev pub settings_from : Data → Option Settings
 settings_from d =
     provided (has_only settings_members d)
-    (given (optional 16384 (below (2 ^ 32)) (codes "docstore_blocksize") d) (λ block_size.
+    (given (optional default_block_size (below (2 ^ 32)) (codes "docstore_blocksize") d) (λ block_size.
     given (optional false as_bool (codes "docstore_compress_dedicated_thread") d) (λ dedicated_thread.
     given (optional uncompressed (word_of compressions) (codes "docstore_compression") d) (λ compression.
     Some (record { compression = compression; block_size = block_size; dedicated_thread = dedicated_thread })))))

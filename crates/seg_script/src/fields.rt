@@ -13,7 +13,7 @@ ghost use Rattle.seg_script.specs.Fields.{entry_from, schema_from, field_or_past
 
 use crate::error::ScriptError;
 use seg_common::DateTimePrecision;
-use seg_meta::{has_only, index_from, kind_from, precision_from, text_at};
+use seg_meta::{has_entry_members, index_from, kind_from, precision_from, text_at};
 use seg_script_values::flag_or;
 use seg_tokens::Text;
 use seg_values::{
@@ -21,20 +21,6 @@ use seg_values::{
 };
 use serde_json::Value;
 use std::alloc::Global;
-
-/// The members of an entry.
-const MEMBERS: [&str; 10] = [
-    "expand_dots",
-    "fast",
-    "fast_tokenizer",
-    "index",
-    "kind",
-    "name",
-    "norms",
-    "precision",
-    "stored",
-    "tokenizer",
-];
 
 /// The schema that a list of entries is.
 pub(crate) fn schema_from(alloc: Global, json: &Value) -> Result<Schema, ScriptError>
@@ -87,7 +73,7 @@ fn entry_from(alloc: Global, json: &Value) -> Result<FieldEntry, ScriptError>
     ensures allowed { IfOk result (λ e. is_allowed e.kind e.index ≡ true) }
     ensures none { result ≡ Err ScriptError.NotScript → entry_from (view json.now) ≡ None }
 {
-    if !has_only(json, &MEMBERS) {
+    if !has_entry_members(json) {
         return Err(ScriptError::NotScript);
     }
     let name = text_at(json, "name").ok_or(ScriptError::NotScript)?;

@@ -8,13 +8,10 @@ ghost use Rattle.seg_meta.specs.View.{settings_of, compression_of};
 ghost use Rattle.seg_script_values.specs.Reads.{optional};
 ghost use Rattle.seg_script.specs.Settings.{default_settings, settings_from};
 
-use seg_meta::{IndexSettings, compressor_from, has_only};
+use seg_meta::{DEFAULT_BLOCK_SIZE, IndexSettings, compressor_from, has_settings_members};
 use seg_script_values::{flag_or, small_or};
 use seg_values::Compressor;
 use serde_json::Value;
-
-/// A block of stored documents is closed once it has this many bytes, where a script doesn't say otherwise.
-const BLOCK_SIZE: u32 = 16_384;
 
 /// The settings of a script.
 pub(crate) fn settings_at(json: &Value) -> Option<IndexSettings>
@@ -23,7 +20,7 @@ pub(crate) fn settings_at(json: &Value) -> Option<IndexSettings>
     match json.get("settings") {
         None => Some(IndexSettings {
             docstore_compression: Compressor::None,
-            docstore_blocksize: BLOCK_SIZE,
+            docstore_blocksize: DEFAULT_BLOCK_SIZE,
             docstore_compress_dedicated_thread: false,
         }),
         Some(settings) => settings_from(settings),
@@ -34,17 +31,10 @@ pub(crate) fn settings_at(json: &Value) -> Option<IndexSettings>
 fn settings_from(json: &Value) -> Option<IndexSettings>
     ensures { option_map settings_of result ≡ settings_from (view json.now) }
 {
-    if !has_only(
-        json,
-        &[
-            "docstore_blocksize",
-            "docstore_compress_dedicated_thread",
-            "docstore_compression",
-        ],
-    ) {
+    if !has_settings_members(json) {
         return None;
     }
-    let block_size = small_or(BLOCK_SIZE, json, "docstore_blocksize")?;
+    let block_size = small_or(DEFAULT_BLOCK_SIZE, json, "docstore_blocksize")?;
     let dedicated_thread = flag_or(false, json, "docstore_compress_dedicated_thread")?;
     let compression = compressor_at(json)?;
     Some(IndexSettings {

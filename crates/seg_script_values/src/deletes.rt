@@ -2,10 +2,10 @@
 ghost use Rattle.std.specs.Prelude.{◌≡◌, ℕ, List, ◌++◌, option_map, IfOk};
 ghost use Rattle.serde_json.specs.View.{view};
 ghost use Rattle.seg_values.specs.View.{tree_of};
-ghost use Rattle.seg_model.specs.Takes as taking;
 ghost use Rattle.seg_script_values.specs.Deletes.{leaf_bytes, plain_term, coded_tree, json_term};
 
 use crate::trees::tree_from;
+use seg_check::is_own_leaf;
 use seg_values::{Field, FieldKind, OwnedValue, Term, ValueError};
 use serde_json::Value;
 use std::alloc::{AllocError, Global};
@@ -67,24 +67,6 @@ fn completed(mut front: Term, value: &OwnedValue) -> Result<Option<Term>, ValueE
         _ => return Ok(None),
     }
     Ok(Some(front))
-}
-
-/// Whether a value is a leaf of the kind's own.
-fn is_own_leaf(kind: FieldKind, value: &OwnedValue) -> bool
-    ensures { result ≡ taking.is_own_leaf kind (tree_of value.now) }
-{
-    match (kind, value) {
-        (FieldKind::Text, OwnedValue::Str(_)) => true,
-        (FieldKind::Text, OwnedValue::PreTokStr(_)) => true,
-        (FieldKind::U64, OwnedValue::U64(_)) => true,
-        (FieldKind::I64, OwnedValue::I64(_)) => true,
-        (FieldKind::Bool, OwnedValue::Bool(_)) => true,
-        (FieldKind::Date, OwnedValue::Date(_)) => true,
-        (FieldKind::Facet, OwnedValue::Facet(_)) => true,
-        (FieldKind::Bytes, OwnedValue::Bytes(_)) => true,
-        (FieldKind::IpAddr, OwnedValue::IpAddr(_)) => true,
-        _ => false,
-    }
 }
 
 /// The term of a leaf.

@@ -34,6 +34,6 @@ mod laws;
 pub use fields_writing::{TermsByField, write_fields};
 pub use laws::{files_hold_one_contents, files_spell_one_contents, held_files_spell};
 pub use lengths_writing::{LengthsByField, write_lengths};
-pub use segment_files::SegmentFiles;
+pub use segment_files::{MAX_DOCUMENTS, SegmentFiles};
 pub use segment_serializer::SegmentSerializer;
 pub use term_writer::TermWriter;

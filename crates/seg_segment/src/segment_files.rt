@@ -13,6 +13,9 @@ use seg_postings::PostingsFiles;
 use seg_values::{TResult, TantivyError};
 use std::alloc::{AllocError, Global};
 
+/// The most documents of a segment.
+pub const MAX_DOCUMENTS: usize = 0x7fff_ffff;
+
 /// The bytes of the six files of a segment.
 #[derive(Drop)]
 pub struct SegmentFiles {

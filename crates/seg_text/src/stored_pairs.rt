@@ -9,8 +9,8 @@ ghost use Rattle.seg_text.specs.Printing.{HasMore, IsPrinted, Prints};
 use crate::comma::push_comma_if;
 use crate::pair::push_name;
 use crate::stored_tree::push_stored_tree;
-use seg_doc_bytes::{MOST_LEVELS, take_field, take_varint};
-use seg_values::{Field, Schema};
+use seg_doc_bytes::{take_field, take_varint};
+use seg_values::{Field, MOST_LEVELS, Schema};
 use std::alloc::{AllocError, Global};
 
 /// The list of all pairs of a stored document, or `None`, perhaps with some of it printed.

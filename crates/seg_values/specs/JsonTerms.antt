@@ -2,6 +2,7 @@
 use Rattle.std.specs.Prelude.{ℕ, ◌^◌, List, [], ◌∷◌, nat_lt, pos, if◌then◌else◌, Option, Some, None}
 use Rattle.std.specs.Int.{w64, to_be_bytes}
 use Rattle.seg_common.specs.Mappable.{raised, lowered, is_bit, is_one}
+use Rattle.seg_values.specs.declared.fast_value.LeafCode.{LeafCode}
 use Rattle.seg_values.specs.declared.field_type.FieldType.{FieldType}
 use Rattle.seg_values.specs.declared.field_type.FieldType.TheVariants as types
 use Rattle.seg_values.specs.Tree.{Leaf, unsigned, signed, boolean, date}
@@ -14,6 +15,10 @@ coded_value (signed z) = (105 ∷ value_bytes (signed z)) ∷ []
 coded_value (boolean b) = (111 ∷ value_bytes (boolean b)) ∷ []
 coded_value (date nanos) = (100 ∷ value_bytes (date nanos)) ∷ []
 coded_value _ = []
+
+-- a type code, and the bytes of the number after it
+abbrev pub code_bytes : LeafCode → List ℕ
+code_bytes c = c.code ∷ to_be_bytes w64 c.number
 
 -- the type code and value bytes of a token: `s`
 abbrev pub coded_token : List ℕ → List ℕ

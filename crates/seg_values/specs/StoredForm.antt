@@ -9,6 +9,10 @@ use Rattle.seg_values.specs.Schemas.{Schema}
 use Rattle.seg_values.specs.ValueBytes.{bit}
 use Rattle.seg_values.specs.Stored.{stored_document}
 
+-- how many levels are read
+abbrev pub most_levels_read : ℕ
+most_levels_read = 200
+
 -- bytes after their number
 abbrev pub sized : List ℕ → List ℕ
 sized bytes = varint (length bytes) ++ bytes

@@ -1,8 +1,7 @@
 //! Values of fixed size, which terms of JSON fields and columns keep as numbers.
 ghost use Rattle.std.specs.Prelude.{◌≡◌, ◌∷◌, [], Some};
-ghost use Rattle.std.specs.Int.{w64, to_be_bytes};
 ghost use Rattle.std.proofs.Common.{rules};
-ghost use Rattle.seg_values.specs.JsonTerms.{coded_value, leaf_of_number};
+ghost use Rattle.seg_values.specs.JsonTerms.{code_bytes, coded_value, leaf_of_number};
 ghost use Rattle.seg_values.specs.Tree.{Leaf, unsigned, signed, boolean, date};
 ghost use Rattle.seg_values.specs.declared.field_type.FieldType.{FieldType};
 ghost use Rattle.seg_values.specs.declared.field_type.FieldType.TheVariants as types;
@@ -84,21 +83,60 @@ impl FastValue for DateTime {
     }
 }
 
-/// The type code of a number of a type, and the number that stands after it: moments are cut to whole seconds, and a
-/// u64 that fits an i64 is one.
-pub(crate) fn coded_number(kind: FieldType, number: u64) -> (u8, u64)
-    ensures { (l : Leaf) → leaf_of_number kind number ≡ Some l → coded_value l ≡ (result.0 ∷ to_be_bytes w64 result.1) ∷ [] }
+/// The type code of texts in terms of JSON fields.
+pub const TEXT_CODE: u8 = b's';
+
+pub const I64_CODE: u8 = b'i';
+
+/// That of a u64 that no i64 is.
+pub const U64_CODE: u8 = b'u';
+
+pub const BOOL_CODE: u8 = b'o';
+
+pub const DATE_CODE: u8 = b'd';
+
+/// A type code, and the number after it.
+#[derive(Clone, Copy)]
+pub struct LeafCode {
+    pub code: u8,
+    pub number: u64,
+}
+
+/// The type code of a value, and the number after it: moments are cut to whole seconds, and a u64 that fits an i64 is one.
+pub fn coded_leaf<T: FastValue>(value: T) -> LeafCode
+    ensures { coded_value (T.leaf value) ≡ code_bytes result ∷ [] }
+{
+    coded_number(T::to_type(), value.to_u64())
+}
+
+/// That of the leaf that a number of a type stands for.
+fn coded_number(kind: FieldType, number: u64) -> LeafCode
+    ensures { (l : Leaf) → leaf_of_number kind number ≡ Some l → coded_value l ≡ code_bytes result ∷ [] }
 {
     match kind {
         FieldType::U64 => match i64::try_from(number) {
-            Ok(signed) => (b'i', signed.to_u64()),
-            Err(_) => (b'u', number),
+            Ok(signed) => LeafCode {
+                code: I64_CODE,
+                number: signed.to_u64(),
+            },
+            Err(_) => LeafCode {
+                code: U64_CODE,
+                number,
+            },
         },
-        FieldType::Bool => (b'o', number),
-        FieldType::Date => {
-            let moment = DateTime::from_u64(number);
-            (b'd', moment.truncate(DateTimePrecision::Seconds).to_u64())
-        }
-        _ => (b'i', number),
+        FieldType::Bool => LeafCode {
+            code: BOOL_CODE,
+            number,
+        },
+        FieldType::Date => LeafCode {
+            code: DATE_CODE,
+            number: DateTime::from_u64(number)
+                .truncate(DateTimePrecision::Seconds)
+                .to_u64(),
+        },
+        _ => LeafCode {
+            code: I64_CODE,
+            number,
+        },
     }
 }

@@ -65,7 +65,9 @@ pub use document::{Documents, TantivyDocument};
 pub use document_trait::Document;
 pub use error::{ArgumentCause, SchemaCause, TResult, TantivyError};
 pub use facet::Facet;
-pub use fast_value::FastValue;
+pub use fast_value::{
+    BOOL_CODE, DATE_CODE, FastValue, I64_CODE, LeafCode, TEXT_CODE, U64_CODE, coded_leaf,
+};
 pub use field_type::FieldType;
 pub use json_path::json_path_text;
 pub use laws::json_reads_back;
@@ -73,5 +75,5 @@ pub use pairs::Pairs;
 pub use postings_error::PostingsError;
 pub use schema::{Field, FieldEntry, FieldKind, IndexOption, Schema, SchemaBuilder};
 pub use term::Term;
-pub use value::{Member, Members, OwnedValue, Values};
+pub use value::{MOST_LEVELS, Member, Members, OwnedValue, Values};
 pub use value_error::ValueError;

@@ -9,7 +9,7 @@ ghost use Rattle.seg_values.specs.ValueBytes.{value_bytes};
 
 use crate::error::{TResult, TantivyError};
 use crate::facet::Facet;
-use crate::fast_value::{FastValue, coded_number};
+use crate::fast_value::{FastValue, TEXT_CODE, coded_leaf};
 use crate::json_path::path_bytes;
 use crate::schema::Field;
 use crate::value_error::ValueError;
@@ -132,7 +132,7 @@ impl Term {
         ensures err { OnErr result (self.new ≡ self.old) }
         ensures memory { IsOkUnless result ValueError.OutOfMemory }
     {
-        push_coded(&mut self.bytes, b's', value.as_bytes())?;
+        push_coded(&mut self.bytes, TEXT_CODE, value.as_bytes())?;
         Ok(())
     }
 
@@ -144,8 +144,8 @@ impl Term {
         ensures err { OnErr result (self.new ≡ self.old) }
         ensures memory { IsOkUnless result ValueError.OutOfMemory }
     {
-        let (code, number) = coded_number(T::to_type(), value.to_u64());
-        push_coded(&mut self.bytes, code, &number.to_be_bytes())?;
+        let coded = coded_leaf(value);
+        push_coded(&mut self.bytes, coded.code, &coded.number.to_be_bytes())?;
         Ok(())
     }
 

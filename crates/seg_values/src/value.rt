@@ -8,6 +8,9 @@ use std::alloc::{AllocError, Global};
 use std::marker::Model;
 use std::net::Ipv6Addr;
 
+/// The most levels of a value that an index takes.
+pub const MOST_LEVELS: u32 = 200;
+
 #[cycle(value)]
 #[derive(Debug, Drop)]
 pub enum OwnedValue {
