@@ -3,6 +3,7 @@ ghost use Rattle.std.specs.Prelude.{◌≡◌, ◌<◌, Some, None, List, length
 ghost use Rattle.seg_postings.specs.Field.{IsField};
 ghost use Rattle.seg_postings.specs.FieldWriting.{fresh, with_term, with_document, closed, MayOpen, MayOccur};
 
+use crate::field_postings::TOTAL_BYTES;
 use crate::occurrence::put_occurrence;
 use crate::open_term::OpenTerm;
 use crate::record_kind::RecordKind;
@@ -10,9 +11,6 @@ use seg_common::{TermInfo, put_u64};
 use seg_termdict::TermDictionaryBuilder;
 use std::alloc::{AllocError, Global};
 use std::marker::Model;
-
-/// The bytes of the total, with which the postings of a field begin.
-const TOTAL_BYTES: u64 = 8;
 
 /// A dictionary, the postings after the total of the field's tokens, and the positions, with the term that is open.
 #[derive(Drop)]
@@ -78,7 +76,7 @@ impl FieldParts {
         requires { MayOpen self bytes.now }
         ensures { IfOk result (λ parts. parts ≡ with_term bytes.now kind self) }
     {
-        let postings_start = self.postings.len() as u64 - TOTAL_BYTES;
+        let postings_start = self.postings.len() as u64 - TOTAL_BYTES as u64;
         self.postings.push(kind.byte())?;
         let Ok(()) = self.dictionary.insert_key(bytes) else {
             return Err(AllocError);
@@ -133,7 +131,7 @@ impl FieldParts {
         let info = TermInfo {
             doc_freq: term.doc_freq,
             postings_start: term.postings_start,
-            postings_end: self.postings.len() as u64 - TOTAL_BYTES,
+            postings_end: self.postings.len() as u64 - TOTAL_BYTES as u64,
             positions_start: term.positions_start,
             positions_end: self.positions.len() as u64,
         };

@@ -15,7 +15,7 @@ use std::alloc::AllocError;
 use std::marker::Model;
 
 /// The bytes of the total, with which the postings of a field begin.
-const TOTAL_BYTES: usize = 8;
+pub(crate) const TOTAL_BYTES: usize = 8;
 
 /// A field of which the dictionary and the postings are open. It is seen as the bytes of both, and the rules by which
 /// they are checked.
