@@ -6,6 +6,6 @@ pub use Rattle.seg_batches.proofs.BatchesTold.{batches_fresh, batches_none, batc
 pub use Rattle.seg_batches.proofs.Causes.{IsFirst, TellsRefusal}
 pub use Rattle.seg_batches.proofs.Left.{undamaged}
 pub use Rattle.seg_batches.proofs.SegmentTurns.{all_fit, all_taken}
-pub use Rattle.seg_batches.proofs.Started.{causes_tell, first_cause}
+pub use Rattle.seg_batches.proofs.Started.{as_many, causes_tell, first_cause}
 pub use Rattle.seg_batches.proofs.TotalsKept.{all_totals, totals_on}
 pub use Rattle.seg_open.proofs.Exports.{both_full}

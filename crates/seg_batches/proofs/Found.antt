@@ -1,8 +1,7 @@
 -- What the look-up of a term's bytes tells of the postings that a field has at them.
 use Rattle.std.proofs.Common.{◌≡◌, ℕ, zero, suc, ◌<◌, Bool, true, false, T, List, [], ◌∷◌, map, length, get_or, refl, sym, ap, ◌∙◌, subst, arith, inl, inr}
 use Rattle.std.specs.Prelude.{cond, Option, Some, None, unwrap_or, option_map, IfSome, MatchOption, ⊤}
-use Rattle.std.specs.Cmp.{eq_by_cmp_equiv}
-use Rattle.std.specs.Cmp.Lexicographic.{slice_cmp, nat_list_cmp_total}
+use Rattle.std.specs.Cmp.Lexicographic.{slice_cmp}
 use Rattle.std.specs.FinMap.{find, is_sorted, get, entries, entries_sorted, get-entries, get-empty, empty}
 use Rattle.std.specs.FinMap.Entries.{below_all}
 use Rattle.std.specs.List.{AllByRecursion, Contains, slice_get}
@@ -15,6 +14,7 @@ use Rattle.std.proofs.lemmas.List.{get_or_past, length-map}
 use Rattle.seg_common.specs.declared.term_info.TermInfo.{TermInfo}
 use Rattle.seg_common.proofs.Bools.{true_of}
 use Rattle.seg_common.proofs.Tables.{same_key, texts_apart}
+use Rattle.seg_common.proofs.Bytes.{eq_by_cmp-itself}
 use Rattle.seg_model.specs.Reading.{Posting}
 use Rattle.seg_model.specs.Postings.{terms_of_field, documents_with}
 use Rattle.seg_termdict.specs.Dictionary.{Term}
@@ -36,9 +36,6 @@ term_of t = (t.bytes, t.info)
 abbrev at_bytes : List ℕ → List ReadTerm → Option (List Posting)
 at_bytes key ts = find (slice_cmp nat_cmp) key (map pair_of ts)
 
-itself : (k : List ℕ) → eq_by_cmp (slice_cmp nat_cmp) k k ≡ true
-itself k = (eq_by_cmp_equiv nat_list_cmp_total).refl k
-
 apart : (r : Ordering) → is_eq r ≡ true → is_lt r ≡ true → ⊥
 apart Less e l = false≢true e
 apart Equal e l = false≢true l
@@ -50,7 +47,7 @@ above key k less = by (eq_by_cmp (slice_cmp nat_cmp) key k) refl
     by : (b : Bool) → eq_by_cmp (slice_cmp nat_cmp) key k ≡ b → b ≡ false
     by false e = refl
     by true e =
-        absurd (apart (slice_cmp nat_cmp k key) (ap (λ q. eq_by_cmp (slice_cmp nat_cmp) k q) (same_key texts_apart key k e) ∙ itself k) less)
+        absurd (apart (slice_cmp nat_cmp k key) (ap (λ q. eq_by_cmp (slice_cmp nat_cmp) k q) (same_key texts_apart key k e) ∙ eq_by_cmp-itself k) less)
 
 -- ---- among terms
 
@@ -78,7 +75,7 @@ held : (key : List ℕ) (info : TermInfo) (left : List Posting) (ts : List ReadT
 held key info left [] k sorted lt is all = absurd (omega arith)
 held key info left (t ∷ ts) zero sorted lt is all =
     let same : key ≡ t.bytes = ap (λ (x : Term). x.0) (sym is) in
-    let tied : eq_by_cmp (slice_cmp nat_cmp) key t.bytes ≡ true = ap (λ q. eq_by_cmp (slice_cmp nat_cmp) key q) (sym same) ∙ itself key in
+    let tied : eq_by_cmp (slice_cmp nat_cmp) key t.bytes ≡ true = ap (λ q. eq_by_cmp (slice_cmp nat_cmp) key q) (sym same) ∙ eq_by_cmp-itself key in
     ap (λ b. cond b (Some t.postings) (at_bytes key ts)) tied ∙ ap (λ ps. Some ps) (sym (all.0 (ap (λ (x : Term). x.1) is)))
 held key info left (t ∷ ts) (suc k) sorted lt is all =
     let low = below_at t.bytes ts k (key, info) (omega arith) (and_parts _ _ sorted).0 in

@@ -11,13 +11,13 @@ use Rattle.seg_values.specs.Tree.{Tree}
 use Rattle.seg_model.specs.Checked.{is_u32, count_of, kind_fits}
 use Rattle.seg_model.specs.Leaves as model
 use Rattle.seg_model.specs.Norms.{token_count, kind_length}
-use Rattle.seg_model.specs.Occurrences.{Occurrence, at_zero, counted, reach, start_after, start_after_all, placed_from, value_tokens, value_terms, text_occurrences, kind_occurrences}
+use Rattle.seg_model.specs.Occurrences.{Occurrence, at_zero, counted, start_after, start_after_all, placed_from, value_tokens, value_terms, text_occurrences, kind_occurrences}
 use Rattle.seg_check.specs.IndexedValues.{IndexedContent, tokens, leaves, terms, kind_content}
 use Rattle.seg_build.specs.Field.{Starts, first_starts, occurrences_in, count_in, next_starts, length_in, TextsFit}
 use Rattle.seg_build.specs.LeafSteps.{behind_leaves, leaves_occur}
 use Rattle.seg_build.specs.MemoryUsage.{total}
 use Rattle.seg_build.proofs.JsonLimits.{path_ends}
-use Rattle.seg_build.proofs.Leaves.{contents, contents-append, leaves_occur-append, behind_leaves-append, leaves-length, behind_leaves-ge, leaves_fit, leaves_occur-model, behind-model}
+use Rattle.seg_build.proofs.Leaves.{contents, contents-append, leaves_occur-append, behind_leaves-append, leaves-length, behind_leaves-ge, leaves_fit, leaves_occur-model, behind-model, reach-ge}
 
 -- the occurrences in some values
 abbrev pub occurrences_from : Starts → List IndexedContent → List Occurrence
@@ -44,10 +44,6 @@ length_of_values-append [] ws = omega arith
 length_of_values-append (v ∷ vs) ws = omega (arith, length_of_values-append vs ws)
 
 -- ---- where texts begin
-
-pub reach-ge : (start : ℕ) (ts : List Token) → start ≤ reach start ts
-reach-ge start [] = omega arith
-reach-ge start (t ∷ ts) = omega (arith, reach-ge start ts)
 
 -- each text begins after the one before it
 pub start_after_all-ge : (start : ℕ) (vs : List (List Token)) → start ≤ start_after_all start vs

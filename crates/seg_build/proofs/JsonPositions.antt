@@ -16,7 +16,8 @@ use Rattle.seg_model.specs.Leaves.{PlacedLeaf, joined_path}
 use Rattle.seg_model.specs.Occurrences.{Occurrence, at_zero, counted, start_after, start_after_all, placed_from, leaf_text, texts_at, text_occurrences, leaf_occurrences, json_occurrences, coded_value}
 use Rattle.seg_model.specs.Reading.{positions_of, type_code}
 use Rattle.seg_model.specs.Shape.{path_part}
-use Rattle.seg_build.proofs.PlainPaths.{IsPlainLeaf, path_before, code_after, value_part, value_after, in_parts}
+use Rattle.seg_model.proofs.Exports.{path_part-path, type_code-path}
+use Rattle.seg_build.proofs.PlainPaths.{IsPlainLeaf, value_part, value_after, in_parts}
 
 -- ---- positions of some bytes
 
@@ -58,7 +59,7 @@ module _ (analyze : List ℕ → List Token) (q : List ℕ) (path : List ℕ) (p
   other_tokens other start [] = tt
   other_tokens other start (t ∷ ts) = (
     differ path_part q ((path ++ 0 ∷ 115 ∷ []) ++ t.text) path (ap path_part (append_assoc path (0 ∷ 115 ∷ []) t.text)
-        ∙ path_before path (115 ∷ t.text) plain) other,
+        ∙ path_part-path path (115 ∷ t.text) plain) other,
     other_tokens other start ts,
   )
 
@@ -66,7 +67,7 @@ module _ (analyze : List ℕ → List Token) (q : List ℕ) (path : List ℕ) (p
       → AllByRecursion (λ (o : Occurrence). bytes_eq q o.bytes ≡ false) (map (λ c. at_zero (path ++ 0 ∷ c)) coded)
   other_codes other [] = tt
   other_codes other (c ∷ cs) = (
-    differ path_part q (path ++ 0 ∷ c) path (path_before path c plain) other,
+    differ path_part q (path ++ 0 ∷ c) path (path_part-path path c plain) other,
     other_codes
         other cs,
   )
@@ -81,7 +82,7 @@ module _ (analyze : List ℕ → List Token) (q : List ℕ) (path : List ℕ) (p
   no_text_code : (type_code q ≡ 115) → (code : ℕ) (rest : List ℕ) → (115 ≡ code → ⊥)
       → bytes_eq q (path ++ 0 ∷ code ∷ rest) ≡ false
   no_text_code is code rest other = differ type_code q (path ++ 0 ∷ code ∷ rest) code
-      (code_after path code rest plain) (λ e. other (sym is ∙ e))
+      (type_code-path path code rest plain) (λ e. other (sym is ∙ e))
 
   one_code : type_code q ≡ 115 → (code : ℕ) (rest : List ℕ) → (115 ≡ code → ⊥)
       → positions_of q (at_zero (path ++ 0 ∷ code ∷ rest) ∷ []) ≡ []
@@ -96,7 +97,7 @@ module _ (analyze : List ℕ → List Token) (q : List ℕ) (path : List ℕ) (p
   no_text other start [] = tt
   no_text other start (t ∷ ts) = (
     differ type_code q ((path ++ 0 ∷ 115 ∷ []) ++ t.text) 115 (ap type_code (append_assoc path (0 ∷ 115 ∷ []) t.text)
-        ∙ code_after path 115 t.text plain) other,
+        ∙ type_code-path path 115 t.text plain) other,
     no_text other start ts,
   )
 

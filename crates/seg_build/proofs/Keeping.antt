@@ -4,6 +4,7 @@ use Rattle.std.specs.Prelude.{IsSomeAnd, IfSome}
 use Rattle.std.specs.List.{AllByRecursion, list_all}
 use Rattle.std.proofs.lemmas.Bool.{and_from, and_parts}
 use Rattle.std.proofs.lemmas.List.{length-map, map-append, take_at}
+use Rattle.std.proofs.Math.Seq.{take-length}
 use Rattle.seg_values.specs.declared.schema.FieldEntry.{FieldEntry}
 use Rattle.seg_values.specs.Tree.{Tree, Document}
 use Rattle.seg_values.specs.Utf8.{IsUtf8Document}
@@ -48,10 +49,6 @@ get_or-last : {X : Type 0} (xs : List X) (x : X) → x ≡ get_or (xs ++ x ∷ [
 get_or-last [] x = refl
 get_or-last (y ∷ ys) x = get_or-last ys x
 
-take-all : {X : Type 0} (xs : List X) → take (length xs) xs ≡ xs
-take-all [] = refl
-take-all (x ∷ xs) = ap (λ l. x ∷ l) (take-all xs)
-
 all-last : {X : Type 0} (test : X → Bool) (xs : List X) (x : X) → list_all test xs ≡ true → test x ≡ true → list_all test (xs ++ x ∷ []) ≡ true
 all-last test [] x h t = and_from (test x) true t refl
 all-last test (y ∷ ys) x h t =
@@ -83,7 +80,7 @@ module _ (schema : Schema) (analyzer : Analyzer) (documents : List Document) (d 
   before = take_at documents (d ∷ []) many refl
 
   whole : take (many + 1) all ≡ all
-  whole = ap (λ n. take n all) (sym more) ∙ take-all all
+  whole = ap (λ n. take n all) (sym more) ∙ take-length all
 
   count : length old.stamps ≡ many
   count = ap length are.stamped ∙ are.each

@@ -47,7 +47,7 @@ leaves-length at (l ∷ ls) =
 
 -- ---- where texts begin
 
-reach-ge : (start : ℕ) (ts : List Token) → start ≤ reach start ts
+pub reach-ge : (start : ℕ) (ts : List Token) → start ≤ reach start ts
 reach-ge start [] = omega arith
 reach-ge start (t ∷ ts) = omega (arith, reach-ge start ts)
 

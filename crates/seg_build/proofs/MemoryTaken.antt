@@ -11,6 +11,7 @@ use Rattle.seg_values.specs.StoredForm.{stored_form}
 use Rattle.seg_store.specs.Block.{Block}
 use Rattle.seg_store.specs.BlockLaw.{all_documents}
 use Rattle.seg_store.specs.Writing.{Taken, byte_count, block_bytes, last_block, taken_bytes}
+use Rattle.seg_store.proofs.Exports.{last_size}
 use Rattle.seg_build.specs.Kept.{Kept}
 use Rattle.seg_build.specs.MemoryUsage.{total, saturated, occurrence_count, length_fields, memory_usage}
 use Rattle.seg_build.specs.SegmentWriting.{Stores, IsKeptOf}
@@ -29,13 +30,9 @@ bytes-blocks : (bs : List Block) → byte_count (flat_map (λ (b : Block). b) bs
 bytes-blocks [] = refl
 bytes-blocks (b ∷ bs) = omega (arith, bytes-append b (flat_map (λ (b : Block). b) bs), bytes-blocks bs)
 
-bytes-last : (b : Block) → block_bytes (last_block b) ≡ byte_count b
-bytes-last [] = refl
-bytes-last (d ∷ ds) = omega arith
-
 bytes-taken : (w : Taken) → taken_bytes (Some w) ≡ byte_count (all_documents w)
 bytes-taken w =
-    ap (λ n. block_bytes w.closed + n) (sym (bytes-last w.open_block))
+    ap (λ n. block_bytes w.closed + n) (sym (last_size w.open_block))
     ∙ (λ i. sym (bytes-blocks w.closed) i + sym (bytes-blocks (last_block w.open_block)) i)
     ∙ sym (bytes-append (flat_map (λ (b : Block). b) w.closed) (flat_map (λ (b : Block). b) (last_block w.open_block)))
     ∙ ap byte_count (sym (flat_map-append (λ (b : Block). b) w.closed (last_block w.open_block)))

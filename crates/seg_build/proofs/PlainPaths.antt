@@ -1,49 +1,28 @@
 -- Joined paths without a byte 0: what stands before and after the first one in their terms.
-use Rattle.std.proofs.Common.{◌≡◌, ℕ, suc, ◌<◌, Bool, true, false, cond, List, [], ◌∷◌, ◌++◌, map, drop, None, sym, refl, ap, ◌∙◌, arith}
+use Rattle.std.proofs.Common.{◌≡◌, ℕ, suc, ◌<◌, Bool, true, false, cond, List, [], ◌∷◌, ◌++◌, drop, None, sym, refl, ap, arith}
 use Rattle.std.specs.Prelude.{◌==◌}
 use Rattle.std.specs.List.{AllByRecursion, join_with_byte}
 use Rattle.std.proofs.lemmas.Bool.{true≢false, eqb-true}
 use Rattle.seg_values.specs.Tree.{Tree, leaf, array, object, Trees, no_trees, tree, Members, no_members, member}
 use Rattle.seg_common.proofs.Lists.{all_both}
 use Rattle.seg_model.specs.Checked.{json_key, unless, has_no_zero, tree_refusal, trees_refusal, members_refusal}
-use Rattle.seg_model.specs.Leaves.{PlacedLeaf, dot_expanded, joined_path, level_in_array, leaves_at, leaves_of_trees, leaves_of_members, leaves, leaves_of}
+use Rattle.seg_model.specs.Leaves.{PlacedLeaf, joined_path, level_in_array, leaves_at, leaves_of_trees, leaves_of_members, leaves, leaves_of}
 use Rattle.seg_model.specs.Reading.{type_code}
 use Rattle.seg_model.specs.Shape.{path_part}
-use Rattle.seg_model.proofs.Exports.{or_first, or_second, unless_true}
+use Rattle.seg_model.proofs.Exports.{or_first, or_second, unless_true, has_no_zero-append, has_no_zero-dots}
 
 -- ---- keys without a byte 0
 
 abbrev ArePlain : List (List ℕ) → Type 0
 ArePlain keys = AllByRecursion (λ k. has_no_zero k ≡ true) keys
 
-plain-append : (xs ys : List ℕ) → has_no_zero xs ≡ true → has_no_zero ys ≡ true → has_no_zero (xs ++ ys) ≡ true
-plain-append [] ys h k = k
-plain-append (x ∷ xs) ys h k = by (x == 0) h (plain-append xs ys)
-  where
-    by : (b : Bool) → cond b false (has_no_zero xs) ≡ true
-        → (has_no_zero xs ≡ true → has_no_zero ys ≡ true → has_no_zero (xs ++ ys) ≡ true)
-        → cond b false (has_no_zero (xs ++ ys)) ≡ true
-    by true h later = h
-    by false h later = later h k
-
 plain-join : (keys : List (List ℕ)) → ArePlain keys → has_no_zero (join_with_byte 1 keys) ≡ true
 plain-join [] h = refl
 plain-join (k ∷ []) h = h.0
-plain-join (k ∷ j ∷ keys) h = plain-append k _ h.0 (plain-join (j ∷ keys) h.1)
-
-plain-dots : (bs : List ℕ) → has_no_zero bs ≡ true → has_no_zero (map dot_expanded bs) ≡ true
-plain-dots [] h = refl
-plain-dots (b ∷ bs) h = by (b == 0) (b == 46) refl h (plain-dots bs)
-  where
-    by : (x y : Bool) → (b == 0) ≡ x → cond x false (has_no_zero bs) ≡ true
-        → (has_no_zero bs ≡ true → has_no_zero (map dot_expanded bs) ≡ true)
-        → cond (cond y 1 b == 0) false (has_no_zero (map dot_expanded bs)) ≡ true
-    by true y e h later = absurd (true≢false (sym h))
-    by false true e h later = later h
-    by false false e h later = ap (λ x. cond x false (has_no_zero (map dot_expanded bs))) e ∙ later h
+plain-join (k ∷ j ∷ keys) h = has_no_zero-append k _ h.0 (plain-join (j ∷ keys) h.1)
 
 plain-joined : (e : Bool) (keys : List (List ℕ)) → ArePlain keys → has_no_zero (joined_path e keys) ≡ true
-plain-joined true keys h = plain-dots (join_with_byte 1 keys) (plain-join keys h)
+plain-joined true keys h = has_no_zero-dots (join_with_byte 1 keys) (plain-join keys h)
 plain-joined false keys h = plain-join keys h
 
 -- ---- the leaves of values that passed the check of leaves and keys
@@ -85,32 +64,6 @@ module _ (e : Bool) where
       (plain_leaves_of ts h.1)
 
 -- ---- before and after the first byte 0
-
-pub path_before : (path rest : List ℕ) → has_no_zero path ≡ true → path_part (path ++ 0 ∷ rest) ≡ path
-path_before [] rest h = refl
-path_before (b ∷ path) rest h = by (b == 0) h (path_before path rest)
-  where
-    by : (x : Bool) → cond x false (has_no_zero path) ≡ true
-        → (has_no_zero path ≡ true → path_part (path ++ 0 ∷ rest) ≡ path) → cond x [] (b ∷ path_part (path ++ 0 ∷ rest))
-        ≡ b ∷ path
-    by true h later = absurd (true≢false (sym h))
-    by false h later = ap (λ l. b ∷ l) (later h)
-
-pub code_after : (path : List ℕ) (code : ℕ) (rest : List ℕ) → has_no_zero path ≡ true
-    → type_code (path ++ 0 ∷ code ∷ rest) ≡ code
-code_after [] code rest h = refl
-code_after (b ∷ []) code rest h = by (b == 0) h
-  where
-    by : (x : Bool) → cond x false true ≡ true → cond x 0 code ≡ code
-    by true h = absurd (true≢false (sym h))
-    by false h = refl
-code_after (b ∷ c ∷ path) code rest h = by (b == 0) h (code_after (c ∷ path) code rest)
-  where
-    by : (x : Bool) → cond x false (has_no_zero (c ∷ path)) ≡ true
-        → (has_no_zero (c ∷ path) ≡ true → type_code ((c ∷ path) ++ 0 ∷ code ∷ rest) ≡ code)
-        → cond x c (type_code ((c ∷ path) ++ 0 ∷ code ∷ rest)) ≡ code
-    by true h later = absurd (true≢false (sym h))
-    by false h later = later h
 
 -- the bytes after a type code
 abbrev pub value_part : List ℕ → List ℕ

@@ -5,10 +5,9 @@ use Rattle.std.specs.declared.cmp.Ordering.{Ordering}
 use Rattle.std.specs.FinMap.{entries, empty, from_entries, entries-insert, len-empty, len-entries}
 use Rattle.std.specs.FinMap.Entries.{put, by_order}
 use Rattle.std.specs.List.{slice_get, flat_map, enumerate_from}
-use Rattle.std.specs.Ordering.{nat_cmp, is_eq}
-use Rattle.std.specs.Cmp.Lexicographic.{slice_cmp, bytes_decides, nat_list_cmp_total}
+use Rattle.std.specs.Ordering.{nat_cmp}
+use Rattle.std.specs.Cmp.Lexicographic.{slice_cmp, nat_list_cmp_total}
 use Rattle.std.proofs.lemmas.List.{nil_from_length}
-use Rattle.std.proofs.lemmas.Map.Text.{is_eq-slice_cmp}
 use Rattle.seg_values.specs.declared.schema.FieldEntry.{FieldEntry}
 use Rattle.seg_values.specs.declared.schema.IndexOption.{IndexOption}
 use Rattle.seg_values.specs.declared.schema.IndexOption.TheVariants as options
@@ -17,6 +16,7 @@ use Rattle.seg_model.specs.Fields.{Schema, Analyzer, is_indexed}
 use Rattle.seg_model.specs.Occurrences.{Occurrence, occurrences}
 use Rattle.seg_model.specs.Reading.{Recorded, positions, Posting, Terms, record_of, positions_of, if_occurs, recorded_in, listed, postings_from, postings_of, if_any, terms_of, field_terms, all_terms, term_option}
 use Rattle.seg_common.specs.Tables.{entry_of}
+use Rattle.seg_common.proofs.Bytes.{same_term}
 use Rattle.seg_postings.specs.Kinds.{kind_of}
 use Rattle.seg_postings.specs.declared.asked_kind.AskedKind.{AskedKind}
 use Rattle.seg_postings.specs.declared.record_kind.RecordKind.{RecordKind}
@@ -62,16 +62,13 @@ module _ (e : FieldEntry) (q : List ℕ) where
 
 -- ---- the entries of a table
 
-pub same_key : (k q : List ℕ) → slice_cmp nat_cmp k q ≡ Equal → k ≡ q
-same_key k q h = (bytes_decides k q).0 (sym (is_eq-slice_cmp k q) ∙ ap is_eq h)
-
 put_as : (asked : AskedKind) (k : List ℕ) (v : List Posting) (es : TermEntries) → entries_as asked (put (slice_cmp nat_cmp) k v es) ≡ put (slice_cmp nat_cmp) k (postings_as (kind_in asked k) v) (entries_as asked es)
 put_as asked k v [] = refl
 put_as asked k v (e ∷ es) = by (slice_cmp nat_cmp k e.0) refl (put_as asked k v es)
   where
     by : (o : Ordering) → slice_cmp nat_cmp k e.0 ≡ o → entries_as asked (put (slice_cmp nat_cmp) k v es) ≡ put (slice_cmp nat_cmp) k (postings_as (kind_in asked k) v) (entries_as asked es) → entries_as asked (by_order o ((k, v) ∷ e ∷ es) ((e.0, v) ∷ es) (e ∷ put (slice_cmp nat_cmp) k v es)) ≡ by_order o ((k, postings_as (kind_in asked k) v) ∷ entries_as asked (e ∷ es)) ((e.0, postings_as (kind_in asked k) v) ∷ entries_as asked es) ((e.0, postings_as (kind_in asked e.0) e.1) ∷ put (slice_cmp nat_cmp) k (postings_as (kind_in asked k) v) (entries_as asked es))
     by Less is rest = refl
-    by Equal is rest = ap (λ q. (e.0, postings_as (kind_in asked q) v) ∷ entries_as asked es) (sym (same_key k e.0 is))
+    by Equal is rest = ap (λ q. (e.0, postings_as (kind_in asked q) v) ∷ entries_as asked es) (sym (same_term k e.0 is))
     by Greater is rest = ap (λ l. (e.0, postings_as (kind_in asked e.0) e.1) ∷ l) rest
 
 no_entries : entries (empty {X = List Posting} {R = slice_cmp nat_cmp}) ≡ []

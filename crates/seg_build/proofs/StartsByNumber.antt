@@ -6,7 +6,7 @@ use Rattle.std.specs.List.{list_any, slice_index_or}
 use Rattle.std.specs.Ordering.{nat_cmp, eq_by_cmp}
 use Rattle.std.specs.Cmp.Lexicographic.{slice_cmp, bytes_decides, nat_list_cmp_total}
 use Rattle.std.specs.Str.{bytes_eq}
-use Rattle.std.proofs.lemmas.Bool.{false≢true, eqb-true}
+use Rattle.std.proofs.lemmas.Bool.{false≢true, eqb-true, or_right}
 use Rattle.std.proofs.lemmas.List.{get_or_past}
 use Rattle.std.proofs.lemmas.Map.Text.{is_eq-slice_cmp}
 use Rattle.seg_common.specs.Tables.{is_among}
@@ -17,15 +17,11 @@ use Rattle.seg_build.specs.PathStarts.{PathStarts, start_in, path_start, blank, 
 use Rattle.seg_build.specs.declared.path_start.PathStart.{PathStart}
 use Rattle.seg_build.proofs.KeptStarts.{get-put}
 
-either_way : (a b : Bool) → b ≡ true → (a || b) ≡ true
-either_way true b is = refl
-either_way false b is = is
-
 any_at : (test : List ℕ → Bool) (xs : List (List ℕ)) (n : ℕ) → n < length xs → test (get_or xs n []) ≡ true
     → list_any test xs ≡ true
 any_at test [] n lt is = absurd (let none : ⊥ = omega (arith, lt) in none)
 any_at test (x ∷ xs) zero lt is = ap (λ b. b || list_any test xs) is
-any_at test (x ∷ xs) (suc n) lt is = either_way (test x) (list_any test xs) (any_at test xs n (omega (arith, lt)) is)
+any_at test (x ∷ xs) (suc n) lt is = or_right (test x) (list_any test xs) (any_at test xs n (omega (arith, lt)) is)
 
 module _ (paths : List (List ℕ)) (kept : List PathStart) where
   -- what is kept of a path

@@ -30,6 +30,7 @@ use Rattle.seg_model.specs.Shape.{path_part}
 use Rattle.seg_model.specs.Leaves.{PlacedLeaf, joined_path, leaves, leaves_of}
 use Rattle.seg_model.specs.Reading.{Recorded, Posting, term_option, type_code, positions_of, if_occurs, recorded_in, postings_from, postings_of, if_any, terms_of, field_terms}
 use Rattle.seg_common.specs.Tables.{entry_of}
+use Rattle.seg_common.proofs.Bytes.{same_term}
 use Rattle.seg_postings.specs.Kinds.{kind_of}
 use Rattle.seg_postings.specs.declared.record_kind.RecordKind.{RecordKind}
 use Rattle.seg_postings.specs.Written.{Rise, IsOfKind, AreWritable}
@@ -38,13 +39,14 @@ use Rattle.seg_build.specs.FieldTerms.{FieldTerms, asked_by, kind_in}
 use Rattle.seg_build.specs.Writable.{CanBeWritten, TakenTermsCanBeWritten}
 use Rattle.seg_check.proofs.Exports.{for_one_field, rises, rises_first}
 use Rattle.seg_model.proofs.Exports.{or_both, unless_true}
-use Rattle.seg_build.proofs.Contents.{length_texts, reach-ge, short_texts, start_after_all-ge}
+use Rattle.seg_build.proofs.Contents.{length_texts, short_texts, start_after_all-ge}
 use Rattle.seg_build.proofs.IndexedParts.{values-own, values-other}
 use Rattle.seg_build.proofs.JsonLimits.{low_at}
 use Rattle.seg_build.proofs.JsonPositions.{in_texts, in_leaves}
 use Rattle.seg_build.proofs.PlainPaths.{plain_leaves_of, value_part}
-use Rattle.seg_build.proofs.RecordedTerms.{same_key, no_terms_of}
+use Rattle.seg_build.proofs.RecordedTerms.{no_terms_of}
 use Rattle.seg_build.proofs.Taken.{HasPassed, passed, values_fit}
+use Rattle.seg_build.proofs.Leaves.{reach-ge}
 
 -- ---- positions that rise
 
@@ -363,7 +365,7 @@ module _ {Y : Type 0} (P : List ℕ → Y → Type 0) where
     where
       by : (o : Ordering) → slice_cmp nat_cmp k e.0 ≡ o → AllHave (put (slice_cmp nat_cmp) k v es) → AllHave (by_order o ((k, v) ∷ e ∷ es) ((e.0, v) ∷ es) (e ∷ put (slice_cmp nat_cmp) k v es))
       by Less is rest = (h, all)
-      by Equal is rest = (subst (λ q. P q v) (same_key k e.0 is) h, all.1)
+      by Equal is rest = (subst (λ q. P q v) (same_term k e.0 is) h, all.1)
       by Greater is rest = (all.0, rest)
 
   none_have : (es : List (List ℕ × Y)) → length es ≡ 0 → AllHave es

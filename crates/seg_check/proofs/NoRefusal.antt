@@ -1,8 +1,8 @@
 -- A writer of a segment is made where nothing is refused.
-use Rattle.std.proofs.Common.{◌≡◌, ℕ, ◌≤◌, arith, Bool, true, false, [], ◌∷◌, None, refl, sym, ap}
-use Rattle.std.specs.Prelude.{nat_le, not, ◌||◌}
+use Rattle.std.proofs.Common.{◌≡◌, ℕ, ◌≤◌, arith, true, false, [], ◌∷◌, None, ap}
+use Rattle.std.specs.Prelude.{nat_le, not}
 use Rattle.std.specs.List.{list_any}
-use Rattle.std.proofs.lemmas.Bool.{false≢true}
+use Rattle.std.proofs.lemmas.Bool.{or_parts}
 use Rattle.std.proofs.lemmas.Bool.Decides.{nat_tests}
 use Rattle.seg_values.specs.declared.error.ArgumentCause.TheVariants.{Budget, FieldName, Settings, FastTokenizer}
 use Rattle.seg_values.specs.declared.error.SchemaCause.TheVariants.{Tokenizer}
@@ -16,15 +16,11 @@ use Rattle.seg_model.proofs.Exports.{map_none, or_none}
 use Rattle.seg_column_format.specs.FastTokenizers.{AreKnown}
 use Rattle.seg_check.specs.WriterStart.{least_budget, start_refusal}
 
-neither : (a b : Bool) → (a || b) ≡ false → (a ≡ false) × (b ≡ false)
-neither false b h = (refl, h)
-neither true b h = absurd (false≢true (sym h))
-
 -- no fast tokenizer lacks
 pub all_known : (known : Known) (schema : Schema) → list_any (has_unknown_fast_tokenizer known) schema ≡ false → AreKnown known schema
 all_known known [] h = tt
 all_known known (e ∷ es) h =
-    let two = neither (has_unknown_fast_tokenizer known e) (list_any (has_unknown_fast_tokenizer known) es) h in
+    let two = or_parts (has_unknown_fast_tokenizer known e) (list_any (has_unknown_fast_tokenizer known) es) h in
     (two.0, all_known known es two.1)
 
 pub none_refused : (known : Known) (budget : ℕ) (schema : Schema) (settings : IndexSettings) → least_budget ≤ budget

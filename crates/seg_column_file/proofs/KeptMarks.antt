@@ -3,12 +3,9 @@ use Rattle.std.proofs.Common.{◌≡◌, ℕ, zero, suc, ◌<◌, Bool, true, fa
 use Rattle.std.specs.Prelude.{◌&&◌, nat_eq}
 use Rattle.std.proofs.lemmas.Bool.Decides.{nat_tests}
 use Rattle.std.proofs.lemmas.List.{get_or-set_same, get_or-set_other, length-set, map-set, length-map, length-replicate, get_or-map, get_or-replicate}
+use Rattle.std.proofs.Math.Bool.{or-true}
 use Rattle.seg_column_file.specs.RowOrders.{Place}
 use Rattle.seg_column_file.specs.KeptRows.{is_kept}
-
-or_true : (a : Bool) → true ≡ (a || true)
-or_true true = refl
-or_true false = refl
 
 -- only files that are there have a row
 pub file_below : (counts : List ℕ) (file row : ℕ) → row < get_or counts file 0 → file < length counts
@@ -47,7 +44,7 @@ module _ (kept : List (List Bool)) (file row : ℕ) where
           ap (λ k. get_or (get_or marked k []) r false) is ∙ ap (λ (m : List Bool). get_or m r false) marked_file
           ∙ ap (λ k. get_or (set (get_or kept file []) row true) k false) at
           ∙ get_or-set_same (get_or kept file []) row true false within in
-          ap (λ b. b || rest) here ∙ or_true (get_or (get_or kept f []) r false)
+          ap (λ b. b || rest) here ∙ sym (or-true (get_or (get_or kept f []) r false))
       one_of_two true false e h rest =
           let is : f ≡ file = grind (arith, nat_tests) in
           let other : r ≡ row → ⊥ = λ at. grind (arith, nat_tests) in

@@ -2,15 +2,11 @@
 use Rattle.std.proofs.Common.{◌≡◌, ◌⊎◌, ℕ, zero, suc, ◌+◌, ◌-◌, ◌<◌, ◌≤◌, Bool, true, false, ◌||◌, List, [], ◌∷◌, length, map, get_or, replicate, nat_eq, eq-eqb, inl, inr, refl, sym, ap, subst, ◌∙◌, arith}
 use Rattle.std.specs.Prelude.{◌&&◌}
 use Rattle.std.specs.List.{range_with_len}
-use Rattle.std.proofs.lemmas.Bool.{cases_lt}
+use Rattle.std.proofs.lemmas.Bool.{cases_lt, or_right}
 use Rattle.std.proofs.lemmas.List.{get_or-replicate, length-map, length-replicate}
 use Rattle.std.proofs.lemmas.List.Folds.{list_any-append}
 use Rattle.seg_column_file.specs.KeptRows.{AreMarks, is_kept}
 use Rattle.seg_column_file.specs.RowOrders.{Place, rows_from, stacked}
-
-or_later : (b c : Bool) → c ≡ true → (b || c) ≡ true
-or_later true c e = refl
-or_later false c e = e
 
 rows_have : (file start n row : ℕ) → start ≤ row → row < start + n
     → is_kept (map (λ r. (file, r)) (range_with_len start n)) file row ≡ true
@@ -23,7 +19,7 @@ rows_have file start (suc n) row le lt =
 
     by : (start < row → rest ≡ true) → (start < row) ⊎ (row ≤ start)
         → ((nat_eq file file && nat_eq row start) || rest) ≡ true
-    by later (inl before) = or_later (nat_eq file file && nat_eq row start) rest (later before)
+    by later (inl before) = or_right (nat_eq file file && nat_eq row start) rest (later before)
     by later (inr past) =
         let same : row ≡ start = omega (arith, le, past) in
         λ j. (eq-eqb file file refl j && eq-eqb row start same j) || rest
@@ -39,7 +35,7 @@ stacked_has first (c ∷ cs) file zero row is lt =
     (rows_have first 0 (c - 0) row (omega arith) (omega (arith, lt))))
 stacked_has first (c ∷ cs) file (suc k) row is lt =
     list_any-append (λ (p : Place). nat_eq file p.0 && nat_eq row p.1) (rows_from first 0 c) (stacked (first + 1) cs)
-    ∙ or_later (is_kept (rows_from first 0 c) file row) (is_kept (stacked (first + 1) cs) file row)
+    ∙ or_right (is_kept (rows_from first 0 c) file row) (is_kept (stacked (first + 1) cs) file row)
     (stacked_has (first + 1) cs file k row (omega (arith, is)) lt)
 
 abbrev all_marks : List ℕ → List (List Bool)

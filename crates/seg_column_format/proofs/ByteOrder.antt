@@ -1,27 +1,21 @@
 -- Bytes in byte order, and what they begin with.
-use Rattle.std.proofs.Common.{◌≡◌, ℕ, zero, suc, ◌+◌, ◌<◌, ◌≤◌, Bool, true, false, List, [], ◌∷◌, length, get_or, refl, sym, ap, ◌∙◌, arith}
+use Rattle.std.proofs.Common.{◌≡◌, ℕ, zero, suc, ◌+◌, ◌<◌, ◌≤◌, true, false, List, [], ◌∷◌, length, get_or, refl, sym, ap, ◌∙◌, arith}
 use Rattle.std.specs.Prelude.{◌&&◌, not, nat_eq}
 use Rattle.std.specs.Cmp.Lexicographic.{slice_cmp}
 use Rattle.std.specs.List.Sorted.{IsPartitionedBy, IsSortedBy}
 use Rattle.std.specs.Ordering.{is_gt, is_lt, nat_cmp, ordering_reverse, ordering_then}
 use Rattle.std.specs.declared.cmp.Ordering.{Ordering}
 use Rattle.std.specs.declared.cmp.Ordering.TheVariants.{Less, Equal, Greater}
-use Rattle.std.proofs.lemmas.Bool.{false≢true}
-use Rattle.std.proofs.lemmas.Bool.Decides.{nat_tests}
+use Rattle.std.proofs.lemmas.Bool.{false≢true, not-true, eqb-true, eq-eqb, and_parts}
 use Rattle.std.proofs.lemmas.Cmp.{nat_cmp_total, nat_list_cmp_total, tied_itself, upto}
 use Rattle.std.proofs.lemmas.Map.Keys.{le_from_not_gt}
 use Rattle.seg_column_format.specs.PathStarts.{AreApart, Ascend, begins, is_up_to}
-use Rattle.seg_column_format.proofs.JsonPaths.{both}
 
 -- ---- two lists
 
-not_true : (b : Bool) → not b ≡ true → b ≡ false
-not_true true h = absurd (false≢true h)
-not_true false h = refl
-
 pub up_to_next : (a b c : List ℕ) → is_up_to b a ≡ true → is_up_to c b ≡ true → is_up_to c a ≡ true
 up_to_next a b c h k = ap not (upto nat_list_cmp_total a b c
-    (not_true (is_gt (slice_cmp nat_cmp a b)) h) (not_true (is_gt (slice_cmp nat_cmp b c)) k))
+    (not-true (is_gt (slice_cmp nat_cmp a b)) h) (not-true (is_gt (slice_cmp nat_cmp b c)) k))
 
 pub up_to_itself : (a : List ℕ) → is_up_to a a ≡ true
 up_to_itself a = ap (λ o. not (is_gt o)) (tied_itself nat_list_cmp_total a)
@@ -38,12 +32,6 @@ tail_up : (x y : ℕ) (xs ys : List ℕ) → x ≡ y → is_up_to (y ∷ ys) (x 
 tail_up x y xs ys same = ap (λ o. not (is_gt (ordering_then o (slice_cmp nat_cmp xs ys))))
     (ap (nat_cmp x) (sym same) ∙ tied_itself nat_cmp_total x)
 
-same_number : (x y : ℕ) → nat_eq x y ≡ true → x ≡ y
-same_number x y h = grind (arith, nat_tests, h)
-
-numbers_are : (x y : ℕ) → x ≡ y → nat_eq x y ≡ true
-numbers_are x y h = grind (arith, nat_tests, h)
-
 -- ---- what they begin with
 
 -- what is between a start and bytes that begin with it begins with it too
@@ -52,13 +40,13 @@ between [] m p a b h = refl
 between (x ∷ k) m [] a b h = absurd (false≢true h)
 between (x ∷ k) [] (z ∷ p) a b h = absurd (false≢true a)
 between (x ∷ k) (y ∷ m) (z ∷ p) a b h =
-    let two = both (nat_eq x z) (begins p k) h in
-    let ends = same_number x z two.0 in
+    let two = and_parts (nat_eq x z) (begins p k) h in
+    let ends = eqb-true x z two.0 in
     let first = head_up x y k m a in
     let second = head_up y z m p b in
     let one : x ≡ y = omega (arith, ends, first, second) in
     let other : y ≡ z = omega (arith, ends, first, second) in
-    (λ j. numbers_are x y one j
+    (λ j. eq-eqb x y one j
     && between k m p (sym (tail_up x y k m one) ∙ a) (sym (tail_up y z m p other) ∙ b) two.1 j)
 
 pub begun_up : (k p : List ℕ) → begins p k ≡ true → is_up_to p k ≡ true
@@ -66,18 +54,18 @@ begun_up [] [] h = refl
 begun_up [] (z ∷ p) h = refl
 begun_up (x ∷ k) [] h = absurd (false≢true h)
 begun_up (x ∷ k) (z ∷ p) h =
-    let two = both (nat_eq x z) (begins p k) h in
-    tail_up x z k p (same_number x z two.0) ∙ begun_up k p two.1
+    let two = and_parts (nat_eq x z) (begins p k) h in
+    tail_up x z k p (eqb-true x z two.0) ∙ begun_up k p two.1
 
 pub begins_through : (s k q : List ℕ) → begins k s ≡ true → begins q k ≡ true → begins q s ≡ true
 begins_through [] k q a b = refl
 begins_through (x ∷ s) [] q a b = absurd (false≢true a)
 begins_through (x ∷ s) (y ∷ k) [] a b = absurd (false≢true b)
 begins_through (x ∷ s) (y ∷ k) (z ∷ q) a b =
-    let one = both (nat_eq x y) (begins k s) a in
-    let other = both (nat_eq y z) (begins q k) b in
-    let same : x ≡ z = same_number x y one.0 ∙ same_number y z other.0 in
-    (λ j. numbers_are x z same j && begins_through s k q one.1 other.1 j)
+    let one = and_parts (nat_eq x y) (begins k s) a in
+    let other = and_parts (nat_eq y z) (begins q k) b in
+    let same : x ≡ z = eqb-true x y one.0 ∙ eqb-true y z other.0 in
+    (λ j. eq-eqb x z same j && begins_through s k q one.1 other.1 j)
 
 -- ---- many
 

@@ -5,11 +5,11 @@ use Rattle.std.specs.List.{flat_map, filter_map, range_with_len, cons_option, Al
 use Rattle.std.proofs.lemmas.List.{length-append, length-map, drop_at, get_or-map, map-id}
 use Rattle.std.proofs.lemmas.List.FromFn.{fill_by_all}
 use Rattle.std.proofs.lemmas.List.Concat.{flat_map-append}
-use Rattle.seg_common.proofs.Lists.{all_both, all_taken}
+use Rattle.seg_common.proofs.Lists.{all_both, all_taken, all_at}
 use Rattle.seg_columns.specs.Ends.{start_at}
 use Rattle.seg_columns.specs.Columns.{AreKnown, IsColumn, row_of, rows_of, value_at}
 use Rattle.seg_column_format.specs.ColumnBytes.{IsReadAs, IsReadBack, column_bytes, ends_from, number_bytes, total}
-use Rattle.seg_column_format.proofs.Parts.{all_at, apart, flat_split, last_end, length-number_bytes, range_of, start_at-parts, starts_rise}
+use Rattle.seg_column_format.proofs.Parts.{apart, flat_split, last_end, length-number_bytes, range_of, start_at-parts, starts_rise}
 
 module _ {S T : Type 0} (width : ℕ) (decoded : List ℕ → Option T) (encoded : S → List ℕ) (seen : S → T) where
   -- ---- values behind others

@@ -1,36 +1,26 @@
 -- What is declared, column by column.
-use Rattle.std.proofs.Common.{◌≡◌, ℕ, Bool, true, false, cond, ◌||◌, List, [], ◌∷◌, Option, Some, None, refl, sym, ◌∙◌, arith}
+use Rattle.std.proofs.Common.{◌≡◌, ℕ, Bool, true, false, cond, ◌||◌, List, [], ◌∷◌, Option, Some, None, refl, sym, ◌∙◌}
 use Rattle.std.specs.Prelude.{◌&&◌, nat_eq}
 use Rattle.std.specs.Cmp.Lexicographic.{slice_cmp}
 use Rattle.std.specs.List.{list_any}
-use Rattle.std.specs.Ordering.{eq_by_cmp, is_eq, nat_cmp, ordering_then}
+use Rattle.std.specs.Ordering.{eq_by_cmp, nat_cmp}
 use Rattle.std.specs.Str.{bytes_eq}
-use Rattle.std.specs.declared.cmp.Ordering.{Ordering}
-use Rattle.std.specs.declared.cmp.Ordering.TheVariants.{Less, Equal, Greater}
-use Rattle.std.proofs.lemmas.Bool.Decides.{nat_tests}
 use Rattle.std.proofs.lemmas.List.Folds.{list_any-append}
 use Rattle.std.proofs.lemmas.Map.Text.{is_eq-slice_cmp}
 use Rattle.seg_common.proofs.Bytes.{bytes_eq-sym}
 use Rattle.seg_common.specs.declared.column_type.ColumnType.{ColumnType}
+use Rattle.seg_common.proofs.Numbers.{is_eq-then, is_eq-nat_cmp}
 use Rattle.seg_model.specs.Columns.{ColumnKey, column_cmp, column_named, declared_columns, declared_type, is_declared, type_place}
 use Rattle.seg_model.specs.Fields.{Schema}
 use Rattle.seg_column_format.specs.SchemaColumns.{is_declared_by, is_type}
 
 -- ---- one key
 
-same_then : (o : Ordering) (a b : ℕ) → is_eq (ordering_then o (nat_cmp a b)) ≡ (is_eq o && is_eq (nat_cmp a b))
-same_then Less a b = refl
-same_then Equal a b = refl
-same_then Greater a b = refl
-
-is_eq-number : (a b : ℕ) → is_eq (nat_cmp a b) ≡ nat_eq a b
-is_eq-number a b = grind (arith, nat_tests)
-
 pub key_is : (q k : ColumnKey)
     → eq_by_cmp column_cmp q k ≡ (bytes_eq k.path q.path && nat_eq (type_place q.type) (type_place k.type))
 key_is q k =
-    same_then (slice_cmp nat_cmp q.path k.path) (type_place q.type) (type_place k.type)
-    ∙ (λ j. (is_eq-slice_cmp q.path k.path ∙ bytes_eq-sym q.path k.path) j && is_eq-number (type_place q.type) (type_place k.type) j)
+    is_eq-then (slice_cmp nat_cmp q.path k.path) (type_place q.type) (type_place k.type)
+    ∙ (λ j. (is_eq-slice_cmp q.path k.path ∙ bytes_eq-sym q.path k.path) j && is_eq-nat_cmp (type_place q.type) (type_place k.type) j)
 
 -- ---- all
 

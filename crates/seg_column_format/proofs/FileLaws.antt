@@ -6,12 +6,13 @@ use Rattle.std.proofs.lemmas.List.{get_or-map, length-append, length-map, take_a
 use Rattle.std.proofs.lemmas.List.FromFn.{fill_by_all}
 use Rattle.seg_common.specs.LittleEndian.{u32_at, u64_at}
 use Rattle.seg_common.proofs.Bytes.{u32_at-end, u32_at-written, u64_at-written}
+use Rattle.seg_common.proofs.Lists.{all_at}
 use Rattle.seg_columns.specs.DynamicColumns.{IsColumnOf, stored_column}
 use Rattle.seg_column_file.specs.ColumnTable.{AreEntries, code_in, column_start, path_in, place_of, type_of_code}
 use Rattle.seg_column_file.specs.ColumnFiles.{HasFooter, HoldsColumns, IsColumnFile, column_bytes, column_count, column_file_of, columns_from, data_length, named_column, row_count, table_length, table_of}
 use Rattle.seg_column_format.specs.FileBytes.{AreColumns, IsWritten, WrittenColumn, data_bytes, entries_bytes, file_bytes, footer_bytes, read_column, table_bytes}
 use Rattle.seg_column_format.proofs.EntryLaws.{type_read}
-use Rattle.seg_column_format.proofs.Parts.{all_at, range_of}
+use Rattle.seg_column_format.proofs.Parts.{range_of}
 use Rattle.seg_column_format.proofs.TableLaws.{are_entries, code_at, data_split, end, few_columns, is_table, nothing, path_at, place_at, start, start-next, start_at}
 
 -- ---- the whole

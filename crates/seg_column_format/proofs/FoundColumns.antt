@@ -6,7 +6,7 @@ use Rattle.std.specs.FinMap.Entries.{find, is_some-find}
 use Rattle.std.specs.List.{AllByRecursion, list_all, list_any}
 use Rattle.std.specs.List.Sorted.{IsStrictlySortedBy}
 use Rattle.std.specs.Ordering.{eq_by_cmp, is_eq}
-use Rattle.std.proofs.lemmas.Bool.{false≢true, true≢false}
+use Rattle.std.proofs.lemmas.Bool.{true≢false, and_parts}
 use Rattle.std.proofs.lemmas.Option.{none-some, same_Some}
 use Rattle.seg_common.specs.Tables.{is_among}
 use Rattle.seg_column_file.specs.ColumnFiles.{NamedColumn}
@@ -34,10 +34,6 @@ pub record FoundColumn (test : NamedColumn → Bool) (Has : NamedColumn → Type
   pub key_is : key ≡ column_key column
   pub rows_are : rows_at column ≡ rows
 
-both : (a b : Bool) → (a && b) ≡ true → (a ≡ true) × (b ≡ true)
-both true b h = (refl, h)
-both false b h = absurd (false≢true h)
-
 pub found_column : (same : (q k : ColumnKey) → eq_by_cmp column_cmp q k ≡ true → q ≡ k)
     (test : NamedColumn → Bool) (Has : NamedColumn → Type 0) (cs : List NamedColumn) (q : ColumnKey) (rows : Rows)
     → list_all test cs ≡ true → AllByRecursion Has cs → find column_cmp q (map entry cs) ≡ Some rows
@@ -47,7 +43,7 @@ found_column same test Has (c ∷ cs) q rows all has at =
     by (eq_by_cmp column_cmp q (column_key c)) refl (λ all has. found_column same test Has cs q rows all has) at
   where
     two : (test c ≡ true) × (list_all test cs ≡ true)
-    two = both (test c) (list_all test cs) all
+    two = and_parts (test c) (list_all test cs) all
 
     by : (b : Bool) → eq_by_cmp column_cmp q (column_key c) ≡ b
         → (list_all test cs ≡ true → AllByRecursion Has cs → find column_cmp q (map entry cs) ≡ Some rows → FoundColumn test Has q rows)

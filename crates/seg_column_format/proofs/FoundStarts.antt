@@ -5,12 +5,9 @@ use Rattle.std.specs.List.{list_any}
 use Rattle.std.proofs.lemmas.Bool.{true≢false}
 use Rattle.std.proofs.lemmas.Bool.Decides.{nat_tests}
 use Rattle.std.proofs.lemmas.Option.{get_or_from_slice_get, slice_get-get_or}
+use Rattle.std.proofs.Math.Bool.{or-false}
 use Rattle.seg_column_format.specs.PathStarts.{AreApart, EndsAt, begins, begins_as_last, is_up_to}
 use Rattle.seg_column_format.proofs.ByteOrder.{begun_up, between}
-
-or_false : (b : Bool) → (b || false) ≡ b
-or_false true = refl
-or_false false = refl
 
 none_begun : (path : List ℕ) (ss : List (List ℕ))
     → ((i : ℕ) → i < length ss → is_up_to path (get_or ss i []) ≡ false) → list_any (begins path) ss ≡ false
@@ -28,7 +25,7 @@ last_begun : (path s : List ℕ) (ss : List (List ℕ)) (n : ℕ) → AreApart (
     → list_any (begins path) (s ∷ ss) ≡ begins path (get_or (s ∷ ss) n [])
 last_begun path s ss zero apart lt up past =
     (λ j. begins path s || none_begun path ss (λ i l. past (suc i) (omega arith) (omega (arith, l))) j)
-    ∙ or_false (begins path s)
+    ∙ or-false (begins path s)
 last_begun path s [] (suc n) apart lt up past = absurd (omega (arith, lt))
 last_begun path s (t ∷ ss) (suc n) apart lt up past =
     (λ j. off (begins path s) refl j || last_begun path t ss n apart.1 (omega (arith, lt))

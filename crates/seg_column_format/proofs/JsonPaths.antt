@@ -4,12 +4,12 @@ use Rattle.std.specs.Prelude.{◌&&◌, ◌==◌, nat_lt, IsUtf8}
 use Rattle.std.specs.List.{list_any, slice_get}
 use Rattle.std.specs.Str.{bytes_eq}
 use Rattle.std.proofs.Math.Seq.{get_or-append_seam, take-append_seam}
-use Rattle.std.proofs.lemmas.Bool.{false≢true}
+use Rattle.std.proofs.lemmas.Bool.{false≢true, and_parts}
 use Rattle.std.proofs.lemmas.List.{length-append}
 use Rattle.std.proofs.lemmas.Bool.Decides.{nat_tests}
 use Rattle.std.proofs.lemmas.Map.Keys.{any_passes_from_place}
-use Rattle.std.proofs.lemmas.Slice.Eq.{bytes_eq-Decides}
 use Rattle.std.proofs.lemmas.Str.{IsCharBoundary-after_ascii, IsUtf8-drop}
+use Rattle.seg_common.proofs.Bytes.{same_bytes, bytes_are}
 use Rattle.seg_column_file.specs.ColumnFiles.{is_below}
 use Rattle.seg_column_format.proofs.Parts.{split}
 use Rattle.seg_values.specs.declared.schema.FieldEntry.{FieldEntry}
@@ -18,16 +18,6 @@ use Rattle.seg_model.specs.Shape.{IsJsonPath, IsPathOf}
 use Rattle.seg_column_format.specs.SchemaColumns.{is_fast_json, is_json_path, is_path_of}
 
 -- ---- bytes that are the same
-
-pub same_bytes : (xs ys : List ℕ) → bytes_eq xs ys ≡ true → xs ≡ ys
-same_bytes xs ys = (bytes_eq-Decides xs ys).0
-
-pub bytes_are : (xs ys : List ℕ) → xs ≡ ys → bytes_eq xs ys ≡ true
-bytes_are xs ys = (bytes_eq-Decides xs ys).1
-
-pub both : (a b : Bool) → (a && b) ≡ true → (a ≡ true) × (b ≡ true)
-both true b h = (refl, h)
-both false b h = absurd (false≢true h)
 
 -- ---- one field
 
@@ -54,8 +44,8 @@ path_is path utf8 e h = by (bytes_eq e.name path) refl h
     by : (b : Bool) → bytes_eq e.name path ≡ b → (b || is_below e.name path) ≡ true → IsPathOf e path
     by true same h = inl (sym (same_bytes e.name path same))
     by false _ h =
-        let outer = both (nat_lt (length e.name) (length path)) _ h in
-        let inner = both (get_or path (length e.name) 0 == 1) _ outer.1 in
+        let outer = and_parts (nat_lt (length e.name) (length path)) _ h in
+        let inner = and_parts (get_or path (length e.name) 0 == 1) _ outer.1 in
         let shorter : length e.name < length path = grind (arith, nat_tests, outer.0) in
         let one : get_or path (length e.name) 0 ≡ 1 = grind (arith, nat_tests, inner.0) in
         let front : take (length e.name) path ≡ e.name = same_bytes _ _ inner.1 in
@@ -88,8 +78,8 @@ passing test (x ∷ xs) h = by (test x) refl (passing test xs) h
 pub json_path_is : (schema : Schema) (path : List ℕ) → IsUtf8 path → is_json_path schema path ≡ true → IsJsonPath schema path
 json_path_is schema path utf8 h =
     let some = passing (λ e. is_fast_json e && is_path_of path e) schema h in
-    let two = both (is_fast_json some.item) (is_path_of path some.item) some.passes in
-    let kind = both some.item.fast (is_json some.item.kind) two.0 in
+    let two = and_parts (is_fast_json some.item) (is_path_of path some.item) some.passes in
+    let kind = and_parts some.item.fast (is_json some.item.kind) two.0 in
     record {
       field = some.place;
       entry = some.item;

@@ -4,7 +4,7 @@ use Rattle.std.specs.Cmp.{IsTotalOrder}
 use Rattle.std.specs.Cmp.Lexicographic.{slice_cmp}
 use Rattle.std.specs.List.{AllByRecursion}
 use Rattle.std.specs.List.Sorted.{IsStrictlySortedBy}
-use Rattle.std.specs.Ordering.{eq_by_cmp, is_eq, nat_cmp, on, ordering_reverse, ordering_then, then_cmp}
+use Rattle.std.specs.Ordering.{eq_by_cmp, nat_cmp, on, ordering_reverse, ordering_then, then_cmp}
 use Rattle.std.specs.declared.cmp.Ordering.{Ordering}
 use Rattle.std.specs.declared.cmp.Ordering.TheVariants.{Less, Equal, Greater}
 use Rattle.std.proofs.lemmas.Bool.{false≢true}
@@ -14,6 +14,7 @@ use Rattle.seg_common.proofs.Tables.{texts_apart}
 use Rattle.seg_common.specs.Tables.{is_among}
 use Rattle.seg_common.specs.declared.column_type.ColumnType.{ColumnType}
 use Rattle.seg_common.specs.declared.column_type.ColumnType.TheVariants.{I64, U64}
+use Rattle.seg_common.proofs.Numbers.{is_equal, then_first, then_second}
 use Rattle.seg_model.specs.Codes.{type_of_place, type_of_place-type_place}
 use Rattle.seg_model.specs.Columns.{ColumnKey, column_cmp, type_place}
 
@@ -32,12 +33,6 @@ kind_total = then_total (on_total (λ (k : ColumnKey). k.path) nat_list_cmp_tota
 
 -- ---- one key
 
--- an order's answer that is the one of equals
-is_equal : (o : Ordering) → is_eq o ≡ true → o ≡ Equal
-is_equal Less e = absurd (false≢true e)
-is_equal Equal e = refl
-is_equal Greater e = absurd (false≢true e)
-
 reversed : (o : Ordering) → o ≡ ordering_reverse o → o ≡ Equal
 reversed Less e = cc e
 reversed Equal e = refl
@@ -46,16 +41,6 @@ reversed Greater e = cc e
 pub ties : {K : Type 0} {R : K → K → Ordering} → IsTotalOrder R → (k : K) → R k k ≡ Equal
 ties {R = R} total k = reversed (R k k) (total.antisymm k k)
 
-first : (r s : Ordering) → ordering_then r s ≡ Equal → r ≡ Equal
-first Less s e = e
-first Equal s e = refl
-first Greater s e = e
-
-second : (r s : Ordering) → ordering_then r s ≡ Equal → s ≡ Equal
-second Less s e = cc e
-second Equal s e = e
-second Greater s e = cc e
-
 pub same_type : (t u : ColumnType) → type_place t ≡ type_place u → t ≡ u
 same_type t u e = sym (type_of_place-type_place t) ∙ (ap type_of_place e ∙ type_of_place-type_place u)
 
@@ -63,9 +48,9 @@ same_type t u e = sym (type_of_place-type_place t) ∙ (ap type_of_place e ∙ t
 pub same_column : (q k : ColumnKey) → eq_by_cmp column_cmp q k ≡ true → q ≡ k
 same_column q k e =
     let o = is_equal (column_cmp q k) e in
-    let path = texts_apart q.path k.path (first (slice_cmp nat_cmp q.path k.path) (nat_cmp (type_place q.type) (type_place k.type)) o) in
+    let path = texts_apart q.path k.path (then_first (slice_cmp nat_cmp q.path k.path) (nat_cmp (type_place q.type) (type_place k.type)) o) in
     let type = same_type q.type k.type (nat_cmp-IsAntisymmetric (type_place q.type) (type_place k.type)
-    (second (slice_cmp nat_cmp q.path k.path) (nat_cmp (type_place q.type) (type_place k.type)) o)) in
+    (then_second (slice_cmp nat_cmp q.path k.path) (nat_cmp (type_place q.type) (type_place k.type)) o)) in
     λ i. record { path = path i; type = type i }
 
 -- ---- among keys that ascend

@@ -1,5 +1,4 @@
 pub mod Exports
-pub mod ByOrder
 mod ByteOrder
 pub mod ColumnLaws
 mod DeclaredKeys

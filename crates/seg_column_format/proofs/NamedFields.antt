@@ -3,7 +3,7 @@ use Rattle.std.proofs.Common.{◌≡◌, ℕ, zero, suc, ◌+◌, ◌<◌, Bool,
 use Rattle.std.specs.Prelude.{◌&&◌, not, nat_eq, nat_lt}
 use Rattle.std.specs.List.{list_all, list_any, position_or_len, slice_get}
 use Rattle.std.specs.Str.{bytes_eq}
-use Rattle.std.proofs.lemmas.Bool.{false≢true, true≢false}
+use Rattle.std.proofs.lemmas.Bool.{false≢true, true≢false, and_parts}
 use Rattle.std.proofs.lemmas.Bool.Decides.{nat_tests}
 use Rattle.std.proofs.lemmas.Map.Keys.{any_passes_from_place}
 use Rattle.std.proofs.lemmas.Option.{none-some, same_Some}
@@ -13,9 +13,9 @@ use Rattle.seg_values.specs.Names.{field_named}
 use Rattle.seg_values.specs.SchemaRules.{is_entry, is_schema, same_name}
 use Rattle.seg_values.specs.declared.schema.FieldEntry.{FieldEntry}
 use Rattle.seg_common.specs.declared.column_type.ColumnType.{ColumnType}
+use Rattle.seg_common.proofs.Bytes.{same_bytes, bytes_are}
 use Rattle.seg_model.specs.Columns.{declared_type}
 use Rattle.seg_column_format.specs.SchemaColumns.{DeclaresAlone, is_type}
-use Rattle.seg_column_format.proofs.JsonPaths.{both, bytes_are, same_bytes}
 
 module _ (name : List ℕ) where
   abbrev is_of : FieldEntry → Bool
@@ -46,7 +46,7 @@ module _ (name : List ℕ) where
   distinct_from (e ∷ es) distinct place is lt i x at = by (is_of e) refl (λ d lt j at. distinct_from es d (position_or_len is_of es) refl lt j x at) (cut (is_of e) (position_or_len is_of es) ∙ is) i at
     where
       two : (not (list_any (λ o. same_name o e) es) ≡ true) × (all_distinct same_name es ≡ true)
-      two = both (not (list_any (λ o. same_name o e) es)) _ distinct
+      two = and_parts (not (list_any (λ o. same_name o e) es)) _ distinct
 
       cut : (b : Bool) (n : ℕ) → cond b 0 (suc n) ≡ cond (not b) (1 + n) 0
       cut true n = refl
@@ -79,7 +79,7 @@ module _ (name : List ℕ) where
       → (i : ℕ) (x : FieldEntry) → slice_get es i ≡ Some x → is_of x ≡ nat_eq i place
   alone es valid place named i x at =
       let p = found (nat_lt (position_or_len is_of es) (length es)) (position_or_len is_of es) place named in
-      distinct_from es (both (all_distinct same_name es) _ (both (list_all is_entry es) _ valid).1).0 place p.0
+      distinct_from es (and_parts (all_distinct same_name es) _ (and_parts (list_all is_entry es) _ valid).1).0 place p.0
       (grind (arith, nat_tests, p.1, p.0)) i x at
 
   -- what is asked of the field of the name is asked of this one

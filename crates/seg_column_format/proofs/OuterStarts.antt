@@ -1,7 +1,7 @@
 -- Starts without those that begin with an earlier one.
 use Rattle.std.proofs.Common.{◌≡◌, ℕ, Bool, true, false, cond, ◌||◌, List, [], ◌∷◌, ◌++◌, refl, sym, ap, subst, ◌∙◌}
 use Rattle.std.specs.List.{list_any}
-use Rattle.std.proofs.lemmas.Bool.{false≢true}
+use Rattle.std.proofs.lemmas.Bool.{false≢true, or_right}
 use Rattle.std.proofs.lemmas.List.{append-nil}
 use Rattle.std.proofs.lemmas.List.Folds.{list_any-append}
 use Rattle.seg_column_format.specs.PathStarts.{AreApart, Ascend, begins, begins_as_last, is_up_to}
@@ -34,15 +34,11 @@ apart_push [] s apart up off = tt
 apart_push (k ∷ []) s apart up off = ((up, off), tt)
 apart_push (k ∷ l ∷ ks) s apart up off = (apart.0, apart_push (l ∷ ks) s apart.1 up off)
 
-second : (a b : Bool) → b ≡ true → (a || b) ≡ true
-second true b h = refl
-second false b h = h
-
 covered : (path : List ℕ) (ks : List (List ℕ)) (s : List ℕ) → begins_as_last ks s ≡ true → begins path s ≡ true
     → list_any (begins path) ks ≡ true
 covered path [] s h b = absurd (false≢true h)
 covered path (k ∷ []) s h b = ap (λ x. x || false) (begins_through k s path h b)
-covered path (k ∷ l ∷ ks) s h b = second (begins path k) _ (covered path (l ∷ ks) s h b)
+covered path (k ∷ l ∷ ks) s h b = or_right (begins path k) _ (covered path (l ∷ ks) s h b)
 
 -- ---- one more
 

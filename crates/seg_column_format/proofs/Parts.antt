@@ -1,6 +1,6 @@
 -- Parts one after another, and where each ends.
 use Rattle.std.proofs.Common.{◌≡◌, ℕ, zero, suc, ◌+◌, ◌-◌, ◌*◌, ◌^◌, ◌<◌, ◌≤◌, List, [], ◌∷◌, ◌++◌, length, take, drop, get_or, slice_range, refl, sym, ap, ◌∙◌, arith, append_assoc}
-use Rattle.std.specs.List.{flat_map, AllByRecursion}
+use Rattle.std.specs.List.{flat_map}
 use Rattle.std.specs.Int.{w64, to_le_bytes}
 use Rattle.std.proofs.lemmas.List.{length-take-le, take-append-drop, drop_more, take_more, take_all, drop_at, take_at}
 use Rattle.std.proofs.lemmas.List.Concat.{flat_map-append}
@@ -18,12 +18,6 @@ pub flat_split : {X A : Type 0} (f : X → List A) (xs : List X) (i : ℕ) (d : 
     → flat_map f xs ≡ flat_map f (take i xs) ++ (f (get_or xs i d) ++ flat_map f (drop (i + 1) xs))
 flat_split f xs i d lt =
     ap (flat_map f) (split xs i d lt) ∙ flat_map-append f (take i xs) (get_or xs i d ∷ drop (i + 1) xs)
-
-pub all_at : {X : Type 0} (P : X → Type 0) (xs : List X) (i : ℕ) (d : X) → AllByRecursion P xs → i < length xs
-    → P (get_or xs i d)
-all_at P [] i d all lt = absurd (omega (arith, lt))
-all_at P (x ∷ xs) zero d all lt = all.0
-all_at P (x ∷ xs) (suc i) d all lt = all_at P xs i d all.1 (omega (arith, lt))
 
 -- a number among others
 pub number_at : (numbers : List ℕ) (rest : List ℕ) (i : ℕ) → i < length numbers → get_or numbers i 0 < 2 ^ 64

@@ -5,11 +5,9 @@ use Rattle.std.specs.List.{AllByRecursion, flat_map, prefix_len}
 use Rattle.std.proofs.lemmas.Bool.{false≢true, ne_eqb}
 use Rattle.std.proofs.lemmas.Bool.Decides.{Decides-eqb}
 use Rattle.std.proofs.lemmas.List.{take-append-drop}
+use Rattle.std.proofs.Math.Numerals.{one-add}
 use Rattle.seg_common.proofs.Lists.{all_left}
 use Rattle.seg_column_format.specs.Rows.{Rise, of_row, rows_from}
-
-one_on : (n : ℕ) → 1 + n ≡ suc n
-one_on n = omega arith
 
 module _ {V : Type 0} (row : V → ℕ) where
   abbrev here : ℕ → V → Bool
@@ -38,7 +36,7 @@ module _ {V : Type 0} (row : V → ℕ) where
       → (b ≡ true → of_row row vs low ≡ take (count low vs) vs) → (b ≡ false → of_row row vs low ≡ [])
       → cond b (v ∷ of_row row vs low) (of_row row vs low) ≡ take (cond b (1 + count low vs) 0) (v ∷ vs)
   first_by low v vs true more none =
-      ap (λ (l : List V). v ∷ l) (more refl) ∙ sym (ap (λ (n : ℕ). take n (v ∷ vs)) (one_on (count low vs)))
+      ap (λ (l : List V). v ∷ l) (more refl) ∙ sym (ap (λ (n : ℕ). take n (v ∷ vs)) (one-add (count low vs)))
   first_by low v vs false more none = none refl
 
   -- the values of the first row
@@ -55,7 +53,7 @@ module _ {V : Type 0} (row : V → ℕ) where
       let same : row v ≡ low = (Decides-eqb (row v) low).0 (sym e) in
       let no : here r v ≡ false = ne_eqb (row v) r (λ is. omega (arith, is, lt, same)) in
       ap (λ (b : Bool). cond b (v ∷ of_row row vs r) (of_row row vs r)) no ∙ rest
-      ∙ sym (ap (λ (n : ℕ). of_row row (drop n (v ∷ vs)) r) (one_on (count low vs)))
+      ∙ sym (ap (λ (n : ℕ). of_row row (drop n (v ∷ vs)) r) (one-add (count low vs)))
   later_by low r v vs false e lt rest = refl
 
   -- those of the rows after it
@@ -73,7 +71,7 @@ module _ {V : Type 0} (row : V → ℕ) where
       → (Rise row low vs → Rise row (low + 1) (drop (count low vs) vs))
       → Rise row (low + 1) (drop (cond b (1 + count low vs) 0) (v ∷ vs))
   behind_by low v vs true e le rise rest =
-      subst (λ (n : ℕ). Rise row (low + 1) (drop n (v ∷ vs))) (sym (one_on (count low vs)))
+      subst (λ (n : ℕ). Rise row (low + 1) (drop n (v ∷ vs))) (sym (one-add (count low vs)))
       (rest (same_low low v vs (sym e) rise))
   behind_by low v vs false e le rise rest =
       let more : low < row v = above low v (sym e) le in (omega (arith, more), rise)

@@ -5,12 +5,14 @@ use Rattle.std.specs.FinMap.{get, get-from_entries}
 use Rattle.std.specs.List.{AllByRecursion, list_all, list_any, slice_get, range_with_len}
 use Rattle.std.specs.Ordering.{eq_by_cmp}
 use Rattle.std.specs.Str.{bytes_eq}
-use Rattle.std.proofs.lemmas.Bool.{false≢true, true≢false}
+use Rattle.std.proofs.lemmas.Bool.{false≢true, true≢false, or_right, or_parts, and_parts}
 use Rattle.std.proofs.lemmas.Bool.Decides.{nat_tests}
 use Rattle.std.proofs.lemmas.Map.Keys.{any_passes_from_place}
 use Rattle.std.proofs.lemmas.Option.{none-some, same_Some}
 use Rattle.seg_common.specs.Tables.{is_among}
 use Rattle.seg_common.specs.declared.column_type.ColumnType.{ColumnType}
+use Rattle.seg_common.proofs.Bytes.{same_bytes, bytes_are}
+use Rattle.seg_common.proofs.Numbers.{nat_eq-itself}
 use Rattle.seg_columns.specs.DynamicColumns.{type_of}
 use Rattle.seg_column_file.specs.ColumnFiles.{IsColumnFile, NamedColumn, column_count, column_file_of, columns_from, named_column, row_count, table_of}
 use Rattle.seg_column_format.specs.ModelColumns.{column_key, columns_in}
@@ -22,7 +24,7 @@ use Rattle.seg_model.specs.Shape.{AreRowsOf, IsFreeColumn, is_json_type}
 use Rattle.seg_column_format.specs.SchemaColumns.{SuitColumns, declares, has_column, has_declared, has_value, is_declared_by, is_free, is_json_path, is_suited, is_type, suits}
 use Rattle.seg_column_format.proofs.DeclaredKeys.{declared_is, key_is}
 use Rattle.seg_column_format.proofs.FileKeys.{keys_ascend}
-use Rattle.seg_column_format.proofs.JsonPaths.{both, bytes_are, is_json_path-from, json_path_is, passing, same_bytes}
+use Rattle.seg_column_format.proofs.JsonPaths.{is_json_path-from, json_path_is, passing}
 use Rattle.seg_column_format.proofs.KeyOrder.{one_of_both, same_column}
 use Rattle.seg_column_format.proofs.RowTypes.{row_count_is, rows_of_type}
 use Rattle.seg_column_format.proofs.FoundColumns.{FoundColumn, Rows, entry, failing, found_column, is_there, rows_at}
@@ -59,19 +61,11 @@ either : (a b : Bool) → (a || b) ≡ true → a ≡ false → b ≡ true
 either true b h off = absurd (true≢false off)
 either false b h off = h
 
-second : (a b : Bool) → b ≡ true → (a || b) ≡ true
-second true b h = refl
-second false b h = h
-
-neither : (a b : Bool) → (a || b) ≡ false → (a ≡ false) × (b ≡ false)
-neither true b h = absurd (true≢false h)
-neither false b h = (refl, h)
-
 free_is : (schema : Schema) (c : NamedColumn) → IsUtf8 c.path → is_free schema c ≡ true
     → IsFreeColumn schema (column_key c) (rows_at c)
 free_is schema c utf8 h =
-    let outer = both (is_json_type (type_of (c.stored).column)) _ h in
-    let inner = both (is_json_path schema c.path) (has_value c) outer.1 in
+    let outer = and_parts (is_json_type (type_of (c.stored).column)) _ h in
+    let inner = and_parts (is_json_path schema c.path) (has_value c) outer.1 in
     record { filled = inner.1; path = json_path_is schema c.path utf8 inner.0; typed = outer.0 }
 
 is_free-from : (schema : Schema) (c : NamedColumn) → IsFreeColumn schema (column_key c) (rows_at c) → is_free schema c ≡ true
@@ -82,8 +76,8 @@ is_free-from schema c f = (λ j. f.typed j && (is_json_path-from schema c.path f
 all_at : {X : Type 0} (test : X → Bool) (xs : List X) → list_all test xs ≡ true → (i : ℕ) (x : X) → slice_get xs i ≡ Some x
     → test x ≡ true
 all_at test [] h i x at = absurd (none-some x at)
-all_at test (y ∷ ys) h zero x at = subst (λ z. test z ≡ true) (same_Some y x at) (both (test y) (list_all test ys) h).0
-all_at test (y ∷ ys) h (suc i) x at = all_at test ys (both (test y) (list_all test ys) h).1 i x at
+all_at test (y ∷ ys) h zero x at = subst (λ z. test z ≡ true) (same_Some y x at) (and_parts (test y) (list_all test ys) h).0
+all_at test (y ∷ ys) h (suc i) x at = all_at test ys (and_parts (test y) (list_all test ys) h).1 i x at
 
 pub record Missing {X : Type 0} (test : X → Bool) (xs : List X) : Type 0 where
   pub place : ℕ
@@ -109,7 +103,7 @@ module _ {X Y : Type 0} (value : X → Y) (f : X → Bool) (g : Y → Bool) wher
       by : (b : Bool) → f x ≡ b → (list_any f xs ≡ true → list_any g (map value xs) ≡ true) → (b || list_any f xs) ≡ true
           → (g (value x) || list_any g (map value xs)) ≡ true
       by true e rest h = ap (λ b. b || list_any g (map value xs)) (so x e)
-      by false e rest h = second (g (value x)) _ (rest h)
+      by false e rest h = or_right (g (value x)) _ (rest h)
 
   any_unmapped : ((x : X) → g (value x) ≡ true → f x ≡ true) → (xs : List X) → list_any g (map value xs) ≡ true → list_any f xs ≡ true
   any_unmapped so [] h = h
@@ -118,7 +112,7 @@ module _ {X Y : Type 0} (value : X → Y) (f : X → Bool) (g : Y → Bool) wher
       by : (b : Bool) → g (value x) ≡ b → (list_any g (map value xs) ≡ true → list_any f xs ≡ true)
           → (b || list_any g (map value xs)) ≡ true → (f x || list_any f xs) ≡ true
       by true e rest h = ap (λ b. b || list_any f xs) (so x e)
-      by false e rest h = second (f x) _ (rest h)
+      by false e rest h = or_right (f x) _ (rest h)
 
 -- ---- the column of a field
 
@@ -131,17 +125,17 @@ same_place t u (Some d) h k = grind (arith, nat_tests, h, k)
 meets : (key : ColumnKey) (e : FieldEntry) → declares key.path key.type e ≡ true → (c : NamedColumn)
     → declares c.path (type_of (c.stored).column) e ≡ true → eq_by_cmp column_cmp key (column_key c) ≡ true
 meets key e h c k =
-    let one = both (bytes_eq e.name key.path) _ h in
-    let type = both e.fast _ one.1 in
-    let other = both (bytes_eq e.name c.path) _ k in
-    let its = both e.fast _ other.1 in
+    let one = and_parts (bytes_eq e.name key.path) _ h in
+    let type = and_parts e.fast _ one.1 in
+    let other = and_parts (bytes_eq e.name c.path) _ k in
+    let its = and_parts e.fast _ other.1 in
     key_is key (column_key c)
     ∙ (λ j. bytes_are c.path key.path (sym (same_bytes e.name c.path other.0) ∙ same_bytes e.name key.path one.0) j
     && same_place key.type (type_of (c.stored).column) (declared_type e.kind) type.1 its.1 j)
 
 has_one : (e : FieldEntry) (path : List ℕ) (type : ColumnType) → declares path type e ≡ true → has_declared e ≡ true
 has_one e path type h =
-    let fast = both e.fast _ (both (bytes_eq e.name path) _ h).1 in
+    let fast = and_parts e.fast _ (and_parts (bytes_eq e.name path) _ h).1 in
     (λ j. fast.0 j && some (declared_type e.kind) fast.1 j)
   where
     some : (d : Option ColumnType) → is_type type d ≡ true → is_some d ≡ true
@@ -179,7 +173,7 @@ module _ (schema : Schema) (documents : ℕ) (bytes : List ℕ) (file : IsColumn
 
   module _ (suit : suits schema columns ≡ true) where
     two : (list_all (is_suited schema) columns ≡ true) × (list_all (λ e. not (has_declared e) || has_column columns e) schema ≡ true)
-    two = both (list_all (is_suited schema) columns) _ suit
+    two = and_parts (list_all (is_suited schema) columns) _ suit
 
     declared_there : (key : ColumnKey) → is_declared (declared_columns schema) key ≡ true
         → is_some (get (columns_in (column_file_of bytes)) key) ≡ true
@@ -210,9 +204,6 @@ module _ (schema : Schema) (documents : ℕ) (bytes : List ℕ) (file : IsColumn
 
   -- a field whose own column isn't there
   module _ (suit : SuitColumns schema documents (columns_in (column_file_of bytes))) where
-    tied : (n : ℕ) → nat_eq n n ≡ true
-    tied n = grind (arith, nat_tests)
-
     lacks : (place : ℕ) (e : FieldEntry) → slice_get schema place ≡ Some e → (not (has_declared e) || has_column columns e) ≡ false → ⊥
     lacks place e at h = by e.fast refl (declared_type e.kind) refl h
       where
@@ -223,7 +214,7 @@ module _ (schema : Schema) (documents : ℕ) (bytes : List ℕ) (file : IsColumn
         by true f (Some t) k h =
             let key : ColumnKey = record { path = e.name; type = t } in
             let declares_it : declares e.name t e ≡ true =
-            (λ j. bytes_are e.name e.name refl j && (f j && is_type t (k j))) ∙ tied (type_place t) in
+            (λ j. bytes_are e.name e.name refl j && (f j && is_type t (k j))) ∙ nat_eq-itself (type_place t) in
             let declared : is_declared (declared_columns schema) key ≡ true =
             declared_is schema key ∙ any_passes_from_place (declares e.name t) schema place e at declares_it in
             let among = sym (is_there columns key) ∙ suit.declared key declared in
@@ -240,7 +231,7 @@ module _ (schema : Schema) (documents : ℕ) (bytes : List ℕ) (file : IsColumn
             lacks m.place m.item m.at m.fails
         by false e h =
             let f = failing (is_suited schema) columns (keys_ascend bytes file) e in
-            let no = neither (is_declared_by schema f.column.path (type_of (f.column.stored).column)) (is_free schema f.column) f.fails in
+            let no = or_parts (is_declared_by schema f.column.path (type_of (f.column.stored).column)) (is_free schema f.column) f.fails in
             let free = suit.free (column_key f.column) (rows_at f.column)
             (get-from_entries column_cmp_total (map entry columns) (column_key f.column) ∙ f.found)
             (declared_is schema (column_key f.column) ∙ no.0) in

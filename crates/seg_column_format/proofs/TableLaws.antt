@@ -7,11 +7,12 @@ use Rattle.std.specs.Int.{w64, to_le_bytes}
 use Rattle.std.proofs.lemmas.List.{length-append, take_more, take_all}
 use Rattle.std.proofs.lemmas.List.Concat.{flat_map-append}
 use Rattle.seg_common.specs.declared.column_type.ColumnType.TheVariants as types
+use Rattle.seg_common.proofs.Lists.{all_at}
 use Rattle.seg_column_file.specs.ColumnTable.{AreEntries, IsEntry, are_apart, code_in, column_start, end_in, may_follow, next_place, path_in, place_of}
 use Rattle.seg_column_format.specs.FileBytes.{AreColumns, AreInOrder, IsWritten, WrittenColumn, code_of, data_bytes, entries_bytes, entry_bytes, may_stand_behind, table_bytes}
 use Rattle.seg_column_format.proofs.EntryLaws as entry
 use Rattle.seg_column_format.proofs.EntryLaws.{code_known, length-entry, type_read}
-use Rattle.seg_column_format.proofs.Parts.{all_at, flat_split, split}
+use Rattle.seg_column_format.proofs.Parts.{flat_split, split}
 
 abbrev pub nothing : WrittenColumn
 nothing = record { path = []; type = types.I64; bytes = [] }

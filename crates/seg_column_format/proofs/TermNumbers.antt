@@ -4,39 +4,26 @@ use Rattle.std.specs.Prelude.{◌||◌, not}
 use Rattle.std.specs.Cmp.Lexicographic.{bytes_decides}
 use Rattle.std.specs.List.{list_any, position}
 use Rattle.std.specs.Str.{bytes_eq}
-use Rattle.std.proofs.lemmas.Bool.{false≢true}
+use Rattle.std.proofs.lemmas.Bool.{false≢true, or_parts}
 use Rattle.std.proofs.lemmas.List.Quantifiers.{position-Some}
 use Rattle.std.proofs.lemmas.List.Sums.{position_or_len_is}
 use Rattle.indexmap.specs.IndexSet.{insert_key}
+use Rattle.std.proofs.lemmas.List.Folds.{list_any_at}
 use Rattle.seg_column_format.specs.Terms.{term_number, with_term}
-
-both_false : (a b : Bool) → (a || b) ≡ false → (a ≡ false) × (b ≡ false)
-both_false true b e = absurd (false≢true (sym e))
-both_false false b e = (refl, e)
-
-pub passes_at : {X : Type 0} (test : X → Bool) (xs : List X) (i : ℕ) (d : X) → i < length xs
-    → test (get_or xs i d) ≡ true → list_any test xs ≡ true
-passes_at test [] i d lt at = absurd (omega (arith, lt))
-passes_at test (x ∷ xs) zero d lt at = ap (λ (b : Bool). b || list_any test xs) at
-passes_at test (x ∷ xs) (suc i) d lt at = by (test x) (passes_at test xs i d (omega (arith, lt)) at)
-  where
-    by : (b : Bool) → list_any test xs ≡ true → (b || list_any test xs) ≡ true
-    by true e = refl
-    by false e = e
 
 pub fails_at : {X : Type 0} (test : X → Bool) (xs : List X) (i : ℕ) (d : X) → list_any test xs ≡ false → i < length xs
     → test (get_or xs i d) ≡ false
 fails_at test [] i d none lt = absurd (omega (arith, lt))
-fails_at test (x ∷ xs) zero d none lt = (both_false (test x) (list_any test xs) none).0
+fails_at test (x ∷ xs) zero d none lt = (or_parts (test x) (list_any test xs) none).0
 fails_at test (x ∷ xs) (suc i) d none lt =
-    fails_at test xs i d (both_false (test x) (list_any test xs) none).1 (omega (arith, lt))
+    fails_at test xs i d (or_parts (test x) (list_any test xs) none).1 (omega (arith, lt))
 
 module _ (terms : List (List ℕ)) (term : List ℕ) where
   pub with_term-there : (n : ℕ) → position (bytes_eq term) terms ≡ Some n → with_term terms term ≡ terms
   with_term-there n is =
       let found = position-Some (bytes_eq term) terms n [] is in
       ap (λ (b : Bool). cond b terms (terms ++ term ∷ []))
-      (passes_at (bytes_eq term) terms n [] (omega (arith, found.0)) found.1)
+      (list_any_at (bytes_eq term) terms n [] (omega (arith, found.0)) found.1)
 
   pub with_term-new : list_any (bytes_eq term) terms ≡ false → with_term terms term ≡ terms ++ term ∷ []
   with_term-new none = ap (λ (b : Bool). cond b terms (terms ++ term ∷ [])) none

@@ -1,19 +1,18 @@
 -- Distinct terms put in byte order.
-use Rattle.std.proofs.Common.{◌≡◌, ◌≢◌, ℕ, zero, suc, ◌+◌, ◌<◌, false, List, [], ◌∷◌, ◌++◌, length, get_or, Ordering, Less, Equal, Greater, sym, refl, ap, subst, ◌∙◌, arith, inl, inr}
+use Rattle.std.proofs.Common.{◌≡◌, ◌≢◌, ℕ, zero, suc, ◌+◌, ◌<◌, false, List, [], length, get_or, Less, sym, subst, ◌∙◌, arith, inl, inr}
 use Rattle.std.specs.Prelude.{All, nat_eq}
 use Rattle.std.specs.List.{AllByRecursion, IsDistinct, range_with_len}
 use Rattle.std.specs.List.Sorted.{IsPermutation, IsSortedBy}
-use Rattle.std.specs.Ordering.{nat_cmp, is_eq, is_lt, ordering_reverse}
+use Rattle.std.specs.Ordering.{nat_cmp, is_lt}
 use Rattle.std.specs.Cmp.Lexicographic.{slice_cmp, nat_list_cmp_total}
 use Rattle.std.specs.Str.{bytes_eq}
 use Rattle.std.proofs.lemmas.Bool.{cases_lt, false≢true, ne_eqb}
 use Rattle.std.proofs.lemmas.Bool.Decides.{Decides-eqb}
-use Rattle.std.proofs.lemmas.List.{get_or-map, length-map, map-id}
-use Rattle.std.proofs.lemmas.List.FromFn.{get_or-range_with_len, length-range_with_len, map-range_with_len_more}
+use Rattle.std.proofs.lemmas.List.{get_or-map, length-map}
+use Rattle.std.proofs.lemmas.List.FromFn.{get_or-range_with_len, length-range_with_len}
 use Rattle.std.proofs.lemmas.List.Sorted.{All-permutation, length_permutation}
 use Rattle.std.proofs.lemmas.Map.Keys.{IsDistinct-IsPermutation, apart_from_distinct, sorted_from_all_adjacent}
-use Rattle.std.proofs.lemmas.Map.Text.{is_eq-slice_cmp}
-use Rattle.seg_common.proofs.Bytes.{bytes_eq-sym}
+use Rattle.seg_common.proofs.Bytes.{bytes_eq-sym, in_order}
 use Rattle.seg_common.proofs.Numbers.{nat_eq-sym}
 use Rattle.seg_column_format.specs.Terms.{AscendBy, terms_at}
 
@@ -34,19 +33,7 @@ range_below count k d lt =
     let within : k < count = omega (arith, lt, length-range_with_len 0 count) in
     omega (arith, within, get_or-range_with_len 0 count k d within)
 
-pub range-more : (n : ℕ) → range_with_len 0 (n + 1) ≡ range_with_len 0 n ++ n ∷ []
-range-more n = sym (map-id (range_with_len 0 (n + 1))) ∙ map-range_with_len_more (λ x. x) 0 n n (omega arith)
-    ∙ ap (λ (l : List ℕ). l ++ n ∷ []) (map-id (range_with_len 0 n))
-
 -- ---- order
-
-in_order : (a b : List ℕ) → is_lt (slice_cmp nat_cmp b a) ≡ false → bytes_eq a b ≡ false → slice_cmp nat_cmp a b ≡ Less
-in_order a b up apart = each (slice_cmp nat_cmp a b) refl
-  where
-    each : (r : Ordering) → slice_cmp nat_cmp a b ≡ r → slice_cmp nat_cmp a b ≡ Less
-    each Less e = e
-    each Equal e = absurd (false≢true (sym apart ∙ sym (is_eq-slice_cmp a b) ∙ ap is_eq e))
-    each Greater e = absurd (false≢true (sym up ∙ ap is_lt (nat_list_cmp_total.antisymm b a ∙ ap ordering_reverse e)))
 
 abbrev pub Up : List (List ℕ) → List ℕ → Type 0
 Up terms numbers = IsSortedBy (λ x y. is_lt (slice_cmp nat_cmp (get_or terms x []) (get_or terms y []))) numbers

@@ -6,8 +6,10 @@ use Rattle.std.specs.List.{flat_map}
 use Rattle.std.proofs.lemmas.Bool.Decides.{nat_tests}
 use Rattle.std.proofs.lemmas.List.{append-nil}
 use Rattle.std.proofs.lemmas.List.Concat.{flat_map-append}
+use Rattle.std.proofs.lemmas.List.Folds.{flat_map-map}
 use Rattle.seg_common.specs.Tables.{is_among}
 use Rattle.seg_common.specs.declared.column_type.ColumnType.{ColumnType}
+use Rattle.seg_common.proofs.Lists.{flat_map-none}
 use Rattle.seg_model.specs.Columns.{ColumnKey, ColumnValue, column_cmp}
 use Rattle.seg_model.specs.Join.{joined_keys}
 use Rattle.seg_column_file.specs.ColumnFiles.{ColumnFile, NamedColumn}
@@ -36,15 +38,6 @@ flat_same : {X A : Type 0} (f g : X → List A) → ((x : X) → f x ≡ g x) �
 flat_same f g same [] = refl
 flat_same f g same (x ∷ xs) = λ j. same x j ++ flat_same f g same xs j
 
-flat_none : {X A : Type 0} (f : X → List A) → ((x : X) → f x ≡ []) → (xs : List X) → flat_map f xs ≡ []
-flat_none f none [] = refl
-flat_none f none (x ∷ xs) = (λ j. none x j ++ flat_map f xs) ∙ flat_none f none xs
-
-flat_map-map : {X Y A : Type 0} (f : Y → List A) (g : X → Y) (xs : List X)
-    → flat_map f (map g xs) ≡ flat_map (λ x. f (g x)) xs
-flat_map-map f g [] = refl
-flat_map-map {A = A} f g (x ∷ xs) = ap (λ (l : List A). f (g x) ++ l) (flat_map-map f g xs)
-
 none_either_way : {A : Type 0} (b : Bool) → let none : List A = [] in (if b then none else none) ≡ none
 none_either_way true = refl
 none_either_way false = refl
@@ -62,7 +55,7 @@ module _ (q : ColumnKey) (p : Place) where
   none_required : (required : List (String Global × ColumnType)) → of_rows (map required_row required) ≡ []
   none_required required =
       flat_map-map (masked test values) required_row required
-      ∙ flat_none (λ r. masked test values (required_row r)) (λ r. none_either_way (test (required_row r))) required
+      ∙ flat_map-none (λ r. masked test values (required_row r)) (λ r. none_either_way (test (required_row r))) required
 
   -- ---- a file
 
@@ -93,7 +86,7 @@ module _ (q : ColumnKey) (p : Place) where
       → of_rows (map (file_row file) columns) ≡ []
   not_in_file file columns other =
       flat_map-map (masked test values) (file_row file) columns
-      ∙ flat_none (λ c. masked test values (file_row file c)) (other_file file other) columns
+      ∙ flat_map-none (λ c. masked test values (file_row file c)) (other_file file other) columns
 
   -- ---- all files
 

@@ -1,5 +1,5 @@
 -- The merged columns of the model, from what is at each key.
-use Rattle.std.proofs.Common.{◌≡◌, ℕ, zero, suc, Bool, true, false, ◌||◌, cond, List, [], ◌∷◌, ◌++◌, map, filter, get_or, Option, Some, None, refl, sym, ap, ◌∙◌, arith}
+use Rattle.std.proofs.Common.{◌≡◌, ℕ, zero, suc, Bool, true, false, ◌||◌, List, [], ◌∷◌, map, get_or, Option, Some, None, refl, sym, ap, ◌∙◌, arith}
 use Rattle.std.specs.Prelude.{◌&&◌, String, if◌then◌else◌, nat_eq, not}
 use Rattle.std.specs.declared.alloc.Global.{Global}
 use Rattle.std.specs.FinMap.{IsAntisymmetric, get}
@@ -7,38 +7,27 @@ use Rattle.std.specs.List.{flat_map, list_all, list_any}
 use Rattle.std.specs.Ordering.{eq_by_cmp, is_eq}
 use Rattle.std.specs.Str.{bytes_eq}
 use Rattle.std.specs.Cmp.Lexicographic.{bytes_decides}
-use Rattle.std.proofs.lemmas.Bool.{and_parts, false≢true, or_left, or_parts, or_right, true≢false}
+use Rattle.std.proofs.lemmas.Bool.{and_parts, or_left, or_parts, or_right, true≢false}
 use Rattle.std.proofs.lemmas.Bool.Decides.{nat_tests}
+use Rattle.std.proofs.lemmas.List.Folds.{list_any-append}
 use Rattle.seg_common.proofs.Tables.{same_key, table_from_gets}
 use Rattle.seg_common.specs.Tables.{is_among, tabulated}
 use Rattle.seg_common.specs.declared.column_type.ColumnType.{ColumnType}
 use Rattle.seg_common.specs.declared.column_type.ColumnType.TheVariants as types
+use Rattle.seg_common.proofs.Lists.{filter-none, list_any-none}
 use Rattle.seg_model.proofs.Exports.{column_cmp_total}
 use Rattle.seg_model.specs.Columns.{ColumnKey, ColumnValue, Columns, column_at, column_cmp, free_number_type, if_there, is_declared, is_filled, is_mixed, is_not_negative, is_number, is_type, number_type, type_place, without_values}
 use Rattle.seg_model.specs.Join.{joined_keys}
 use Rattle.seg_column_file.specs.ColumnFiles.{ColumnFile, NamedColumn}
-use Rattle.seg_column_file.specs.ColumnTable.{type_of_code}
-use Rattle.seg_column_format.proofs.EntryLaws.{type_read}
-use Rattle.seg_column_format.specs.FileBytes.{code_of}
 use Rattle.seg_column_format.specs.ModelColumns.{column_key, column_rows}
 use Rattle.seg_column_merge.specs.MergedColumns.{columns_of_file, merged_columns, merged_keys, required_key, rows_at, values_in_row}
 use Rattle.seg_column_file.specs.RowOrders.{Place}
+use Rattle.seg_column_format.proofs.Exports.{same_type}
+use Rattle.seg_column_writer.proofs.Exports.{among_passes}
 use Rattle.seg_column_merge.proofs.Choosing.{all_fit, empty_rows, found, mixed}
 use Rattle.seg_column_merge.proofs.KeyLaws.{key_is}
 
 -- ---- keys are told apart
-
-place_is_code : (t : ColumnType) → type_place t ≡ code_of t
-place_is_code types.I64 = refl
-place_is_code types.U64 = refl
-place_is_code types.Bytes = refl
-place_is_code types.Str = refl
-place_is_code types.Bool = refl
-place_is_code types.IpAddr = refl
-place_is_code types.DateTime = refl
-
-pub one_type : (t u : ColumnType) → type_place t ≡ type_place u → t ≡ u
-one_type t u e = sym (type_read t) ∙ ap type_of_code (sym (place_is_code t) ∙ e ∙ place_is_code u) ∙ type_read u
 
 pub keys_apart : IsAntisymmetric column_cmp
 keys_apart q k e =
@@ -46,40 +35,20 @@ keys_apart q k e =
     sym (key_is k q) ∙ ap is_eq e in
     let parts = and_parts (bytes_eq q.path k.path) (nat_eq (type_place q.type) (type_place k.type)) both in
     let places : type_place q.type ≡ type_place k.type = grind (arith, nat_tests, parts.1) in
-    λ j. record { path = (bytes_decides q.path k.path).0 parts.0 j; type = one_type q.type k.type places j }
+    λ j. record { path = (bytes_decides q.path k.path).0 parts.0 j; type = same_type q.type k.type places j }
 
 -- ---- lists
-
-or_assoc : (a b c : Bool) → ((a || b) || c) ≡ (a || (b || c))
-or_assoc true b c = refl
-or_assoc false b c = refl
-
-any_both : {X : Type 0} (test : X → Bool) (xs ys : List X)
-    → list_any test (xs ++ ys) ≡ (list_any test xs || list_any test ys)
-any_both test [] ys = refl
-any_both test (x ∷ xs) ys =
-    ap (λ (b : Bool). test x || b) (any_both test xs ys) ∙ sym (or_assoc (test x) (list_any test xs) (list_any test ys))
 
 any_flat : {X Y : Type 0} (test : Y → Bool) (f : X → List Y) (xs : List X)
     → list_any test (flat_map f xs) ≡ list_any (λ x. list_any test (f x)) xs
 any_flat test f [] = refl
 any_flat test f (x ∷ xs) =
-    any_both test (f x) (flat_map f xs) ∙ ap (λ (b : Bool). list_any test (f x) || b) (any_flat test f xs)
-
-none_filtered : {X : Type 0} (test : X → Bool) (xs : List X) → list_any test xs ≡ false → filter test xs ≡ []
-none_filtered test [] none = refl
-none_filtered test (x ∷ xs) none =
-    let parts = or_parts (test x) (list_any test xs) none in
-    ap (λ (b : Bool). cond b (x ∷ filter test xs) (filter test xs)) parts.0 ∙ none_filtered test xs parts.1
+    list_any-append test (f x) (flat_map f xs) ∙ ap (λ (b : Bool). list_any test (f x) || b) (any_flat test f xs)
 
 any_of_map : {X Y : Type 0} (test : Y → Bool) (f : X → Y) → ((x : X) → test (f x) ≡ false) → (xs : List X)
     → list_any test (map f xs) ≡ false
 any_of_map test f none [] = refl
 any_of_map test f none (x ∷ xs) = (λ j. none x j || list_any test (map f xs)) ∙ any_of_map test f none xs
-
-none_of : {X : Type 0} (test : X → Bool) → ((x : X) → test x ≡ false) → (xs : List X) → list_any test xs ≡ false
-none_of test none [] = refl
-none_of test none (x ∷ xs) = (λ j. none x j || list_any test xs) ∙ none_of test none xs
 
 -- a key that passes is found among others
 here_or_later : (test : ColumnKey → Bool) (q k : ColumnKey) (ks : List ColumnKey) → test q ≡ true
@@ -88,12 +57,6 @@ here_or_later : (test : ColumnKey → Bool) (q k : ColumnKey) (ks : List ColumnK
 here_or_later test q k ks passes later true e is =
     or_left (test k) (list_any test ks) (ap test (sym (same_key keys_apart q k e)) ∙ passes)
 here_or_later test q k ks passes later false e is = or_right (test k) (list_any test ks) (later is)
-
-any_there : (test : ColumnKey → Bool) (q : ColumnKey) (ks : List ColumnKey) → test q ≡ true
-    → is_among column_cmp ks q ≡ true → list_any test ks ≡ true
-any_there test q [] passes is = absurd (false≢true is)
-any_there test q (k ∷ ks) passes is =
-    here_or_later test q k ks passes (λ more. any_there test q ks passes more) (eq_by_cmp column_cmp q k) refl is
 
 module _ (required : List (String Global × ColumnType)) (files : List ColumnFile) (places : List Place) where
   abbrev pub declared_keys : List ColumnKey
@@ -161,7 +124,7 @@ module _ (required : List (String Global × ColumnType)) (files : List ColumnFil
         ≡ list_any (λ f. list_any hits f.columns) fs
     any_same [] = refl
     any_same (f ∷ fs) =
-        any_both (eq_by_cmp column_cmp q) (flat_map (λ c. joined_keys (column_key c)) f.columns)
+        list_any-append (eq_by_cmp column_cmp q) (flat_map (λ c. joined_keys (column_key c)) f.columns)
         (flat_map (λ g. flat_map (λ c. joined_keys (column_key c)) g.columns) fs)
         ∙ (λ j. any_flat (eq_by_cmp column_cmp q) (λ c. joined_keys (column_key c)) f.columns j || any_same fs j)
 
@@ -170,13 +133,13 @@ module _ (required : List (String Global × ColumnType)) (files : List ColumnFil
           × (is_among column_cmp (flat_map (λ f. flat_map (λ c. joined_keys (column_key c)) f.columns) files) q ≡ false)
       split = or_parts (is_among column_cmp declared_keys q)
           (is_among column_cmp (flat_map (λ f. flat_map (λ c. joined_keys (column_key c)) f.columns) files) q)
-          (sym (any_both (eq_by_cmp column_cmp q) declared_keys
+          (sym (list_any-append (eq_by_cmp column_cmp q) declared_keys
           (flat_map (λ f. flat_map (λ c. joined_keys (column_key c)) f.columns) files)) ∙ outside)
 
       no_value : (p : Place) → values_in_row q (columns_of_file files p.0) p.1 ≡ []
       no_value p =
           ap (flat_map (λ (c : NamedColumn). get_or (column_rows (c.stored).column) p.1 []))
-          (none_filtered hits (columns_of_file files p.0)
+          (filter-none hits (columns_of_file files p.0)
           (none_in_files files (sym (any_same files) ∙ split.1) p.0))
 
       pub not_filled : list_any is_filled (rows_at files places q) ≡ false
@@ -201,7 +164,7 @@ module _ (required : List (String Global × ColumnType)) (files : List ColumnFil
   columns_are unmixed m gets =
       ap (λ (b : Bool). if b then None
       else Some (tabulated {R = column_cmp} (λ k. column_at declared_keys k (rows k)) keys))
-      (none_of (λ k. is_mixed declared_keys k (rows k)) unmixed keys)
+      (list_any-none (λ k. is_mixed declared_keys k (rows k)) unmixed keys)
       ∙ ap Some (sym (table_from_gets column_cmp_total keys_apart (λ k. column_at declared_keys k (rows k)) keys
       (record { outside = not_found }) m gets))
 
@@ -215,5 +178,5 @@ module _ (required : List (String Global × ColumnType)) (files : List ColumnFil
       (by (is_among column_cmp keys q) refl)
     where
       by : (b : Bool) → is_among column_cmp keys q ≡ b → list_any (λ k. is_mixed declared_keys k (rows k)) keys ≡ true
-      by true among = any_there (λ k. is_mixed declared_keys k (rows k)) q keys is among
+      by true among = among_passes (λ k. is_mixed declared_keys k (rows k)) q keys is among
       by false outside = absurd (true≢false (sym is ∙ outside_unmixed q outside))

@@ -123,7 +123,7 @@ by_first rows r rest values is present =
     ap (λ (rs : List TableRow). merged_type (map row_of rs) values) is
     ∙ ap (λ (b : Bool). if b then Some (Some r.column_type) else free_type r.column_type values) present
 
-all_kinds : (kind : ℕ) (t : ColumnType) → kind_of t ≡ kind → (rows : List TableRow)
+pub all_kinds : (kind : ℕ) (t : ColumnType) → kind_of t ≡ kind → (rows : List TableRow)
     → AllByRecursion (λ r. kind_of r.column_type ≡ kind) rows
     → AllByRecursion (λ r. kind_of r.column_type ≡ kind_of t) rows
 all_kinds kind t is [] all = tt

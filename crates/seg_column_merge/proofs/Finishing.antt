@@ -1,11 +1,11 @@
 -- A file whose groups were all put is the merged one.
-use Rattle.std.proofs.Common.{◌≡◌, ℕ, zero, suc, ◌<◌, ◌≤◌, ◌^◌, Bool, true, false, cond, List, [], ◌∷◌, length, map, filter, take, get_or, Some, None, refl, sym, ap, subst, ◌∙◌, arith}
+use Rattle.std.proofs.Common.{◌≡◌, ℕ, zero, suc, ◌<◌, ◌≤◌, ◌^◌, Bool, true, false, cond, List, [], ◌∷◌, length, map, take, get_or, Some, None, refl, sym, ap, subst, ◌∙◌, arith}
 use Rattle.std.specs.FinMap.{from_entries, get, get-from_entries}
 use Rattle.std.specs.List.{list_any}
-use Rattle.std.proofs.lemmas.Bool.{false≢true, or_parts}
+use Rattle.std.proofs.lemmas.Bool.{false≢true}
 use Rattle.std.proofs.lemmas.List.{take_all}
 use Rattle.std.proofs.lemmas.List.Sorted.{list_any-IsPermutation}
-use Rattle.seg_common.proofs.Lists.{list_any-map}
+use Rattle.seg_common.proofs.Lists.{list_any-map, filter-none, map-map}
 use Rattle.seg_model.proofs.Exports.{column_cmp_total}
 use Rattle.seg_model.specs.Columns.{ColumnKey, ColumnValue, Columns, is_declared, is_filled}
 use Rattle.seg_column_file.specs.ColumnFiles.{ColumnFile, IsColumnFile, NamedColumn, column_file_of}
@@ -29,19 +29,9 @@ use Rattle.seg_column_merge.proofs.Completing.{columns_are, columns_undefined, e
 use Rattle.seg_column_merge.proofs.GroupPuts.{key_mixed, their_key}
 use Rattle.seg_column_merge.proofs.RequiredLaws.{declared_is}
 
-none_filtered : {X : Type 0} (test : X → Bool) (xs : List X) → list_any test xs ≡ false → filter test xs ≡ []
-none_filtered test [] none = refl
-none_filtered test (x ∷ xs) none =
-    let parts = or_parts (test x) (list_any test xs) none in
-    ap (λ (b : Bool). cond b (x ∷ filter test xs) (filter test xs)) parts.0 ∙ none_filtered test xs parts.1
-
 empty_cells : (places : List Place) → list_any is_filled (cells [] places) ≡ false
 empty_cells [] = refl
 empty_cells (p ∷ ps) = empty_cells ps
-
-map_map : {X Y Z : Type 0} (f : X → Y) (g : Y → Z) (xs : List X) → map g (map f xs) ≡ map (λ x. g (f x)) xs
-map_map f g [] = refl
-map_map {Z = Z} f g (x ∷ xs) = ap (λ (l : List Z). g (f x) ∷ l) (map_map f g xs)
 
 -- a row at a place
 pub there_is : (xs : List TableRow) (i : ℕ) → i < length xs → (x : TableRow) × (x ≡ get_or xs i x)
@@ -72,7 +62,7 @@ module _ (merge : Merge) (is_merge : IsMerge merge) (table : List TableRow)
 
   module _ (q : ColumnKey) (uncovered : covers table q ≡ false) where
     no_rows : rows_with q.path (kind_of q.type) all ≡ []
-    no_rows = none_filtered (is_of q.path (kind_of q.type)) all
+    no_rows = filter-none (is_of q.path (kind_of q.type)) all
         (ap (list_any (is_of q.path (kind_of q.type))) (sym of.rows)
         ∙ list_any-map (is_of q.path (kind_of q.type)) row_of of.old
         ∙ list_any-IsPermutation (λ r. is_of q.path (kind_of q.type) (row_of r)) of.old table of.permutation
@@ -132,7 +122,7 @@ module _ (merge : Merge) (is_merge : IsMerge merge) (table : List TableRow)
         let read : column_file_of bytes ≡ record { rows = many; columns = map (read_column many) so_far.columns } =
         ap column_file_of is ∙ file_read many so_far.columns are_columns is_merge.can.few short' in
         let same : columns_put ≡ columns_in (column_file_of bytes) =
-        ap from_entries (sym (map_map (read_column many)
+        ap from_entries (sym (map-map (read_column many)
         (λ (c : NamedColumn). (column_key c, column_rows (c.stored).column))
         so_far.columns))
         ∙ sym (ap columns_in read) in

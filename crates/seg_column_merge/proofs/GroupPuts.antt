@@ -14,6 +14,7 @@ use Rattle.seg_common.proofs.Lists.{all_both}
 use Rattle.std.proofs.lemmas.List.{append-nil, get_or-drop, get_or-take, get_or_default, length-drop, length-take-le, map-append, take-append-drop, take-take}
 use Rattle.std.proofs.lemmas.List.Elements.{All-from_recursion, recursion_from_All}
 use Rattle.std.proofs.lemmas.Slice.{between_is}
+use Rattle.std.proofs.lemmas.List.Folds.{list_any-append}
 use Rattle.seg_common.specs.declared.column_type.ColumnType.{ColumnType}
 use Rattle.seg_common.specs.declared.column_type.ColumnType.TheVariants as types
 use Rattle.seg_model.specs.Columns.{ColumnKey, ColumnValue, column_cmp, type_place}
@@ -21,6 +22,7 @@ use Rattle.seg_columns.specs.DynamicColumns.{IsColumnOf, column_of}
 use Rattle.seg_column_file.specs.ColumnTable.{are_apart}
 use Rattle.seg_column_format.specs.FileBytes.{AreInOrder, IsWritten, WrittenColumn, code_of, may_stand_behind, read_column}
 use Rattle.seg_column_format.specs.ModelColumns.{column_key, column_rows}
+use Rattle.seg_column_format.proofs.Exports.{type_read, same_type}
 use Rattle.seg_column_merge.specs.Cells.{cells, is_absent, is_of, rows_with}
 use Rattle.seg_column_merge.specs.Decisions.{merged_type}
 use Rattle.seg_column_merge.specs.Groups.{AreOfFiles, IsGroup, has_key}
@@ -33,13 +35,12 @@ use Rattle.seg_column_merge.specs.declared.merged_file.MergedFile.{MergedFile}
 use Rattle.seg_column_merge_parts.specs.declared.tables.TableRow.{TableRow}
 use Rattle.seg_column_merge.proofs.Agreeing.{types_agree}
 use Rattle.seg_column_merge.proofs.Choosing.{at_type}
-use Rattle.seg_column_merge.proofs.Completing.{one_type}
 use Rattle.seg_column_merge.proofs.Decided.{model_has, model_mixed, model_unmixed}
 use Rattle.seg_column_merge.proofs.GroupSteps.{kind_decided}
 use Rattle.seg_column_merge.proofs.Grouping.{cut_behind, group_is_all}
 use Rattle.seg_column_merge.proofs.KeyLaws.{key_is}
 use Rattle.seg_column_merge.proofs.KeyOrder.{key_cmp, key_then}
-use Rattle.seg_column_merge.proofs.OfFiles.{all_of_files, type_read_back}
+use Rattle.seg_column_merge.proofs.OfFiles.{all_of_files}
 
 -- ---- the rows between two places
 
@@ -90,16 +91,6 @@ same_types t [] all = tt
 same_types t (r ∷ rs) all = (all.0, same_types t rs all.1)
 
 -- ---- tests of rows
-
-any_both : {X : Type 0} (test : X → Bool) (xs ys : List X)
-    → list_any test (xs ++ ys) ≡ (list_any test xs || list_any test ys)
-any_both test [] ys = refl
-any_both test (x ∷ xs) ys =
-    ap (λ (b : Bool). test x || b) (any_both test xs ys) ∙ assoc (test x) (list_any test xs) (list_any test ys)
-  where
-    assoc : (a b c : Bool) → (a || (b || c)) ≡ ((a || b) || c)
-    assoc true b c = refl
-    assoc false b c = refl
 
 all_none : {X : Type 0} (test : X → Bool) (xs : List X) → AllByRecursion (λ x. test x ≡ false) xs
     → list_any test xs ≡ false
@@ -207,7 +198,7 @@ module _ (path : List ℕ) (t : ColumnType) (values : List (List ColumnValue)) (
   key_of_column : column_key (read_column rows c) ≡ record { path = path; type = t }
   key_of_column = λ j. record {
     path = is.path_is j;
-    type = (type_read_back c.type rows c.bytes ∙ is.type_is) j;
+    type = (type_read c.type rows c.bytes ∙ is.type_is) j;
   }
 
   rows_of_column : column_rows ((read_column rows c).stored).column ≡ values
@@ -390,7 +381,7 @@ module _ (merge : Merge) (is_merge : IsMerge merge) (table : List TableRow)
   covers_more : (q : ColumnKey) → covers (take stop table) q ≡ (covers (take start table) q || ours q)
   covers_more q =
       ap (λ (rs : List TableRow). covers rs q) (front_more table start stop group.some group.within)
-      ∙ any_both (λ r. is_of q.path (kind_of q.type) (row_of r)) (take start table) these
+      ∙ list_any-append (λ r. is_of q.path (kind_of q.type) (row_of r)) (take start table) these
       ∙ ap (λ (b : Bool). covers (take start table) q || b) (covered q)
 
   -- ---- the columns of the group
@@ -424,7 +415,7 @@ module _ (merge : Merge) (is_merge : IsMerge merge) (table : List TableRow)
         by true e =
             let parts = and_parts (bytes_eq q.path path) (nat_eq (type_place q.type) (type_place t)) e in
             let places : type_place q.type ≡ type_place t = grind (arith, nat_tests, parts.1) in
-            let kinds : kind ≡ kind_of q.type = sym kind_same ∙ sym (ap kind_of (one_type q.type t places)) in
+            let kinds : kind ≡ kind_of q.type = sym kind_same ∙ sym (ap kind_of (same_type q.type t places)) in
             let same : nat_eq kind (kind_of q.type) ≡ true = grind (arith, nat_tests, kinds) in
             absurd (false≢true (sym other ∙ (λ j. parts.0 j && same j)))
 

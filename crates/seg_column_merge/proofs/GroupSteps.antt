@@ -5,13 +5,13 @@ use Rattle.std.specs.Int.{w64, to_le_bytes}
 use Rattle.std.specs.List.{AllByRecursion, list_all, list_any}
 use Rattle.std.proofs.lemmas.Bool.{false≢true}
 use Rattle.std.proofs.lemmas.List.{append-nil, length-append}
-use Rattle.std.proofs.lemmas.List.Concat.{flat_map-append}
 use Rattle.std.proofs.lemmas.List.Elements.{All-from_recursion, recursion_from_All}
 use Rattle.std.proofs.lemmas.Option.{none-some, same_Some}
 use Rattle.seg_common.specs.declared.column_type.ColumnType.{ColumnType}
 use Rattle.seg_common.specs.declared.column_type.ColumnType.TheVariants.{I64, U64, Bytes, Str, Bool as Boolean, IpAddr, DateTime}
 use Rattle.seg_model.specs.Columns.{ColumnValue, fits_i64, free_number_type, is_filled, is_not_negative, is_number}
 use Rattle.seg_column_format.specs.FileBytes.{WrittenColumn, data_bytes, entries_bytes, entry_bytes, file_bytes, footer_bytes, table_bytes}
+use Rattle.seg_column_writer.proofs.Exports.{data_more}
 use Rattle.seg_column_merge.specs.Cells.{is_absent}
 use Rattle.seg_column_merge.specs.Decisions.{as_there, merged_type}
 use Rattle.seg_column_merge.specs.MergedBytes.{HasNumbers, HasType, HoldsAll, IsNumberType, SuitsType, places_of}
@@ -22,7 +22,7 @@ use Rattle.seg_column_merge.specs.declared.merged_file.MergedFile.{MergedFile}
 use Rattle.seg_column_merge_parts.specs.declared.tables.FileColumn.{FileColumn}
 use Rattle.seg_column_merge_parts.specs.declared.tables.TableRow.{TableRow}
 use Rattle.seg_column_merge.proofs.Agreeing.{type_of_kind}
-use Rattle.seg_column_merge.proofs.Deciding.{same_kind_number}
+use Rattle.seg_column_merge.proofs.Deciding.{same_kind_number, all_kinds as kinds_of}
 
 -- ---- rows of one type
 
@@ -51,12 +51,6 @@ one_type : (t : ColumnType) → is_number t ≡ false → (rows : List TableRow)
     → AllByRecursion (λ r. kind_of r.column_type ≡ kind_of t) rows → AllByRecursion (λ r. r.column_type ≡ t) rows
 one_type t other [] kinds = tt
 one_type t other (r ∷ rs) kinds = (type_of_kind r.column_type t kinds.0 other, one_type t other rs kinds.1)
-
-kinds_of : (kind : ℕ) (t : ColumnType) → kind_of t ≡ kind → (rows : List TableRow)
-    → AllByRecursion (λ r. kind_of r.column_type ≡ kind) rows
-    → AllByRecursion (λ r. kind_of r.column_type ≡ kind_of t) rows
-kinds_of kind t is [] all = tt
-kinds_of kind t is (r ∷ rs) all = (all.0 ∙ sym is, kinds_of kind t is rs all.1)
 
 -- the first type that holds all holds them
 holds : (values : List (List ColumnValue)) (t : ColumnType) → free_number_type values ≡ Some t → HoldsAll t values
@@ -202,12 +196,6 @@ entries_more before (d ∷ ds) c =
     ∙ sym (append_assoc (entry_bytes (before + length d.bytes) d.path d.type)
     (entries_bytes (before + length d.bytes) ds)
     (entry_bytes (before + length (data_bytes (d ∷ ds)) + length c.bytes) c.path c.type))
-
-pub data_more : (columns : List WrittenColumn) (c : WrittenColumn)
-    → data_bytes (columns ++ c ∷ []) ≡ data_bytes columns ++ c.bytes
-data_more columns c =
-    flat_map-append (λ (d : WrittenColumn). d.bytes) columns (c ∷ [])
-    ∙ ap (λ (l : List ℕ). data_bytes columns ++ l) (append-nil c.bytes)
 
 many_more : (columns : List WrittenColumn) (c : WrittenColumn) → length (columns ++ c ∷ []) ≡ length columns + 1
 many_more columns c = length-append columns (c ∷ [])

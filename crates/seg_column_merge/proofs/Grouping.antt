@@ -1,6 +1,6 @@
 -- Rows of a sorted table that have one key are all rows that have it.
 use Rattle.std.proofs.Common.{◌≡◌, ℕ, ◌+◌, ◌<◌, ◌≤◌, Bool, true, false, cond, List, [], ◌∷◌, ◌++◌, length, map, filter, take, drop, get_or, refl, sym, ap, ◌∙◌, append_assoc, arith, ◌⊎◌, inl, inr}
-use Rattle.std.specs.Prelude.{◌&&◌, All, nat_eq, not, slice_range}
+use Rattle.std.specs.Prelude.{◌&&◌, All, not, slice_range}
 use Rattle.std.specs.Cmp.{IsStrictWeakOrder}
 use Rattle.std.specs.Cmp.Lexicographic.{slice_cmp}
 use Rattle.std.specs.List.{AllByRecursion}
@@ -10,14 +10,13 @@ use Rattle.std.specs.declared.cmp.Ordering.{Ordering}
 use Rattle.std.specs.declared.cmp.Ordering.TheVariants.{Less, Equal, Greater}
 use Rattle.std.specs.Str.{bytes_eq}
 use Rattle.std.proofs.lemmas.Bool.{and_left, and_right, cases_lt, false≢true, true≢false}
-use Rattle.std.proofs.lemmas.Bool.Decides.{nat_tests}
 use Rattle.std.proofs.lemmas.List.{append-nil, get_or-drop, get_or-take, get_or_default, length-drop, length-take, take-append-drop, take-take}
 use Rattle.std.proofs.lemmas.List.Elements.{filter-append, recursion_from_All}
 use Rattle.std.proofs.lemmas.List.Sorted.{sorted_far}
 use Rattle.std.proofs.lemmas.Map.Text.{is_eq-slice_cmp}
 use Rattle.std.proofs.lemmas.Slice.{between_is}
 use Rattle.seg_common.proofs.Bytes.{bytes_eq-sym}
-use Rattle.seg_common.proofs.Numbers.{nat_eq-sym}
+use Rattle.seg_common.proofs.Numbers.{nat_eq-sym, is_eq-nat_cmp}
 use Rattle.seg_column_merge.specs.Cells.{is_of, rows_with}
 use Rattle.seg_column_merge.specs.Groups.{IsGroup, has_key}
 use Rattle.seg_column_merge.proofs.TableKeys.{key_total, less_then, row_order}
@@ -136,13 +135,10 @@ eq_then Less b = refl
 eq_then Equal b = refl
 eq_then Greater b = refl
 
-eq_number : (a b : ℕ) → is_eq (nat_cmp a b) ≡ nat_eq a b
-eq_number a b = grind (arith, nat_tests)
-
 keys_equal : (x y : TableRow) → is_eq (table_key_cmp (table_key x) (table_key y)) ≡ has_key x y
 keys_equal x y =
     eq_then (slice_cmp nat_cmp x.path.now y.path.now) (nat_cmp (kind_of x.column_type) (kind_of y.column_type))
-    ∙ (λ j. is_eq-slice_cmp x.path.now y.path.now j && eq_number (kind_of x.column_type) (kind_of y.column_type) j)
+    ∙ (λ j. is_eq-slice_cmp x.path.now y.path.now j && is_eq-nat_cmp (kind_of x.column_type) (kind_of y.column_type) j)
 
 has_key-sym : (x y : TableRow) → has_key x y ≡ has_key y x
 has_key-sym x y = λ j. bytes_eq-sym x.path.now y.path.now j && nat_eq-sym (kind_of x.column_type)

@@ -5,7 +5,7 @@ use Rattle.std.specs.FinMap.{entries, from_entries, get, get-entries, keys}
 use Rattle.std.specs.FinMap.Entries.{find, is_some-find}
 use Rattle.std.specs.List.{flat_map, list_any}
 use Rattle.std.specs.Ordering.{eq_by_cmp, is_eq}
-use Rattle.std.proofs.lemmas.Bool.{false≢true, true≢false}
+use Rattle.std.proofs.lemmas.Bool.{false≢true, true≢false, or_right, or_parts}
 use Rattle.std.proofs.lemmas.List.Folds.{list_any-append}
 use Rattle.seg_common.specs.Marks.{kept}
 use Rattle.seg_common.specs.Tables.{is_among}
@@ -15,7 +15,7 @@ use Rattle.seg_column_file.specs.ColumnFiles.{ColumnFile, NamedColumn}
 use Rattle.seg_column_merge.specs.MergedColumns.{merged_columns, rows_at}
 use Rattle.seg_column_writer.proofs.Exports.{IsNothingElse, same_columns}
 use Rattle.seg_column_format.specs.ModelColumns.{column_key, columns_in}
-use Rattle.seg_model.proofs.Exports.{column_cmp_total}
+use Rattle.seg_model.proofs.Exports.{column_cmp_total, twice_nothing}
 use Rattle.seg_model.specs.Columns.{ColumnKey, ColumnValue, Columns, column_cmp, declared_columns, is_filled, is_number}
 use Rattle.seg_model.specs.Fields.{Schema}
 use Rattle.seg_model.specs.Join.{Part, joined_columns, joined_keys, live_of, part_column, part_rows, side_by_side}
@@ -25,14 +25,6 @@ use Rattle.seg_column_merge.proofs.LiveRows.{live_rows_are}
 use Rattle.seg_column_merge.proofs.RowValues.{signed, unsigned}
 
 -- ---- keys among keys
-
-neither : (a b : Bool) → (a || b) ≡ false → (a ≡ false) × (b ≡ false)
-neither true b h = absurd (true≢false h)
-neither false b h = (refl, h)
-
-second : (a b : Bool) → b ≡ true → (a || b) ≡ true
-second true b h = refl
-second false b h = h
 
 split_among : (q : ColumnKey) (ks ms : List ColumnKey) → is_among column_cmp (ks ++ ms) q ≡ (is_among column_cmp ks q || is_among column_cmp ms q)
 split_among q ks ms = list_any-append (eq_by_cmp column_cmp q) ks ms
@@ -57,7 +49,7 @@ giver g key q (x ∷ xs) h = by (is_among column_cmp (g x) q) refl (sym (split_a
     }
     by false e h rest = let r = rest h in record {
       item = r.item;
-      there = second (eq_by_cmp column_cmp (key r.item) (key x)) _ r.there;
+      there = or_right (eq_by_cmp column_cmp (key r.item) (key x)) _ r.there;
       gives = r.gives;
     }
 
@@ -76,7 +68,7 @@ given g key q k (x ∷ xs) among has =
         → (is_among column_cmp (g (key x)) q || is_among column_cmp (flat_map (λ x. g (key x)) xs) q) ≡ true
     by true e h rest = ap (λ b. b || is_among column_cmp (flat_map (λ x. g (key x)) xs) q)
         (ap (λ y. is_among column_cmp (g y) q) (sym (same_column k (key x) e)) ∙ has)
-    by false e h rest = second (is_among column_cmp (g (key x)) q) _ (rest h has)
+    by false e h rest = or_right (is_among column_cmp (g (key x)) q) _ (rest h has)
 
 -- the keys of columns are those at which they are
 key_there : (m : Columns) (k : ColumnKey) → is_some (get m k) ≡ is_among column_cmp (keys m) k
@@ -104,17 +96,13 @@ unfilled : (n : ℕ) → list_any is_filled (let rows : Rows = replicate n [] in
 unfilled zero = refl
 unfilled (suc n) = unfilled n
 
-beside_unfilled : (n : ℕ) → list_any is_filled (side_by_side (replicate n []) (replicate n [])) ≡ false
-beside_unfilled zero = refl
-beside_unfilled (suc n) = beside_unfilled n
-
 kept_unfilled : (alive : List Bool) (rows : Rows) → list_any is_filled rows ≡ false → list_any is_filled (kept alive rows) ≡ false
 kept_unfilled [] rows none = refl
 kept_unfilled (b ∷ alive) [] none = refl
 kept_unfilled (true ∷ alive) (r ∷ rows) none =
-    let two = neither (is_filled r) (list_any is_filled rows) none in
+    let two = or_parts (is_filled r) (list_any is_filled rows) none in
     (λ j. two.0 j || kept_unfilled alive rows two.1 j)
-kept_unfilled (false ∷ alive) (r ∷ rows) none = kept_unfilled alive rows (neither (is_filled r) (list_any is_filled rows) none).1
+kept_unfilled (false ∷ alive) (r ∷ rows) none = kept_unfilled alive rows (or_parts (is_filled r) (list_any is_filled rows) none).1
 
 no_column : (p : Part) (k q : ColumnKey) → is_among column_cmp (joined_keys k) q ≡ true
     → is_among column_cmp (flat_map joined_keys (keys p.contents.columns)) q ≡ false → part_column k p ≡ replicate p.contents.documents []
@@ -128,7 +116,7 @@ no_rows p q none = by (is_number q.type) refl
     number I64 e h = ap (λ (t : ColumnType). is_among column_cmp (signed q.path ∷ unsigned q.path ∷ []) (record { path = q.path; type = t })) e
         ∙ ap (λ b. b || (eq_by_cmp column_cmp (signed q.path) (unsigned q.path) || false)) (ap is_eq (ties column_cmp_total (signed q.path)))
     number U64 e h = ap (λ (t : ColumnType). is_among column_cmp (signed q.path ∷ unsigned q.path ∷ []) (record { path = q.path; type = t })) e
-        ∙ second (eq_by_cmp column_cmp (unsigned q.path) (signed q.path)) _ (itself (unsigned q.path))
+        ∙ or_right (eq_by_cmp column_cmp (unsigned q.path) (signed q.path)) _ (itself (unsigned q.path))
     number Bytes e h = absurd (false≢true h)
     number Str e h = absurd (false≢true h)
     number Boolean e h = absurd (false≢true h)
@@ -139,7 +127,7 @@ no_rows p q none = by (is_number q.type) refl
     by true on =
         let gives = number q.type refl on in
         (λ j. list_any is_filled (side_by_side (no_column p (signed q.path) q gives none j) (no_column p (unsigned q.path) q gives none j)))
-        ∙ beside_unfilled p.contents.documents
+        ∙ twice_nothing p.contents.documents
     by false off =
         let gives : is_among column_cmp (joined_keys q) q ≡ true =
         ap (λ b. is_among column_cmp (if b then signed q.path ∷ unsigned q.path ∷ [] else q ∷ []) q) off ∙ itself q in
@@ -152,7 +140,7 @@ nothing_in_parts : (schema : Schema) (parts : List Part)
     → IsNothingElse (declared_columns schema) (λ key. live_of (part_rows key) parts) (flat_map part_keys parts)
 nothing_in_parts schema [] q none = refl
 nothing_in_parts schema (p ∷ parts) q none =
-    let two = neither (is_among column_cmp (part_keys p) q) _ (sym (split_among q (part_keys p) (flat_map part_keys parts)) ∙ none) in
+    let two = or_parts (is_among column_cmp (part_keys p) q) _ (sym (split_among q (part_keys p) (flat_map part_keys parts)) ∙ none) in
     list_any-append is_filled (kept p.alive (part_rows q p)) (live_of (part_rows q) parts)
     ∙ (λ j. kept_unfilled p.alive (part_rows q p) (no_rows p q two.0) j || nothing_in_parts schema parts q two.1 j)
 
@@ -180,7 +168,7 @@ all_fewer schema [] [] have q none = refl
 all_fewer schema [] (p ∷ parts) have q none = absurd have
 all_fewer schema (f ∷ files) [] have q none = absurd have
 all_fewer schema (f ∷ files) (p ∷ parts) have q none =
-    let two = neither (is_among column_cmp (file_keys f) q) _ (sym (split_among q (file_keys f) (flat_map file_keys files)) ∙ none) in
+    let two = or_parts (is_among column_cmp (file_keys f) q) _ (sym (split_among q (file_keys f) (flat_map file_keys files)) ∙ none) in
     split_among q (part_keys p) (flat_map part_keys parts)
     ∙ (λ j. fewer_keys schema f p have.0 q two.0 j || all_fewer schema files parts have.1 q two.1 j)
 

@@ -7,7 +7,8 @@ use Rattle.std.specs.Net.Addr.{ipv6_octets}
 use Rattle.std.proofs.lemmas.Bool.{false≢true, true≢false}
 use Rattle.std.proofs.lemmas.Bool.Decides.{nat_tests}
 use Rattle.std.proofs.lemmas.List.Elements.{recursion_from_All}
-use Rattle.seg_common.proofs.Lists.{list_any-map}
+use Rattle.std.proofs.Math.Bool.{or_assoc}
+use Rattle.seg_common.proofs.Lists.{list_any-map, list_any-none, list_any-same, get_or-map_map}
 use Rattle.seg_model.specs.Columns.{ColumnValue, boolean_value, bytes_value, date_value, fits_i64, ip_value, is_filled, is_not_negative, is_number, number, text_value}
 use Rattle.seg_columns.specs.DynamicColumns.{type_of}
 use Rattle.seg_columns.specs.declared.dynamic_column.DynamicColumn.{DynamicColumn}
@@ -23,7 +24,6 @@ use Rattle.seg_column_merge_parts.specs.declared.number_range.NumberRange.{Numbe
 use Rattle.seg_column_merge_parts.specs.declared.tables.FileColumn.{FileColumn}
 use Rattle.seg_column_merge_parts.specs.declared.tables.TableRow.{TableRow}
 use Rattle.seg_column_merge_parts.proofs.Exports.{any_both, any_kept, large_unsigned, negative_signed, negative_unsigned, signed_large, signed_negative, signed_some, unsigned_large, unsigned_negative, unsigned_some}
-use Rattle.seg_column_merge.proofs.NumberColumns.{row_of_map}
 use Rattle.seg_column_merge.proofs.SourceRows.{column_cell, column_cells}
 
 -- whether a value of a column passes a test, at any of some places
@@ -33,10 +33,6 @@ any_in test places o = list_any (λ p. list_any test (column_cell p o)) places
 -- and one of several columns
 abbrev pub any_of : (ColumnValue → Bool) → List Place → List (Option FileColumn) → Bool
 any_of test places cs = list_any (λ p. list_any test (column_cells cs p)) places
-
-any_same : {X : Type 0} (f g : X → Bool) → ((x : X) → f x ≡ g x) → (xs : List X) → list_any f xs ≡ list_any g xs
-any_same f g same [] = refl
-any_same f g same (x ∷ xs) = λ j. same x j || any_same f g same xs j
 
 or_swap : (a b c d : Bool) → ((a || b) || (c || d)) ≡ ((a || c) || (b || d))
 or_swap true b c d = refl
@@ -49,30 +45,26 @@ any_or f g [] = refl
 any_or f g (x ∷ xs) =
     ap (λ (b : Bool). (f x || g x) || b) (any_or f g xs) ∙ or_swap (f x) (g x) (list_any f xs) (list_any g xs)
 
-never : {X : Type 0} (f : X → Bool) → ((x : X) → f x ≡ false) → (xs : List X) → list_any f xs ≡ false
-never f fails [] = refl
-never f fails (x ∷ xs) = (λ j. fails x j || list_any f xs) ∙ never f fails xs
-
 pub any_of_cons : (test : ColumnValue
     → Bool) (places : List Place) (o : Option FileColumn) (cs : List (Option FileColumn))
     → any_of test places (o ∷ cs) ≡ (any_in test places o || any_of test places cs)
 any_of_cons test places o cs =
-    any_same (λ p. list_any test (column_cells (o ∷ cs) p))
+    list_any-same (λ p. list_any test (column_cells (o ∷ cs) p))
     (λ p. list_any test (column_cell p o) || list_any test (column_cells cs p))
     (λ p. any_both test (column_cell p o) (column_cells cs p)) places
     ∙ any_or (λ p. list_any test (column_cell p o)) (λ p. list_any test (column_cells cs p)) places
 
 pub any_of_none : (test : ColumnValue → Bool) (places : List Place) → any_of test places [] ≡ false
-any_of_none test places = never (λ p. list_any test (column_cells [] p)) (λ p. refl) places
+any_of_none test places = list_any-none (λ p. list_any test (column_cells [] p)) (λ p. refl) places
 
 pub any_in_none : (test : ColumnValue → Bool) (places : List Place) → any_in test places None ≡ false
-any_in_none test places = never (λ p. list_any test (column_cell p None)) (λ p. refl) places
+any_in_none test places = list_any-none (λ p. list_any test (column_cell p None)) (λ p. refl) places
 
 pub filled_are : (places : List Place) (cs : List (Option FileColumn))
     → list_any is_filled (map (column_cells cs) places) ≡ any_of there places cs
 filled_are places cs =
     list_any-map is_filled (column_cells cs) places
-    ∙ any_same (λ p. is_filled (column_cells cs p)) (λ p. list_any there (column_cells cs p))
+    ∙ list_any-same (λ p. is_filled (column_cells cs p)) (λ p. list_any there (column_cells cs p))
     (λ p. one (column_cells cs p)) places
   where
     one : (vs : List ColumnValue) → is_filled vs ≡ list_any there vs
@@ -91,14 +83,14 @@ module _ (counts : List ℕ) (places : List Place) (kept : List (List Bool)) (ma
         by : (b : Bool) → (b && list_any (λ (x : T). test (value x)) (get_or rows p.1 []))
             ≡ list_any test (if b then get_or (map (map value) rows) p.1 [] else [])
         by true =
-            sym (ap (list_any test) (row_of_map value rows p.1) ∙ list_any-map test value (get_or rows p.1 []))
+            sym (ap (list_any test) (get_or-map_map value rows p.1) ∙ list_any-map test value (get_or rows p.1 []))
         by false = refl
 
     values_any : list_any (λ x. test (value x)) (kept_values (get_or kept file []) rows)
         ≡ list_any (λ p. list_any test (if nat_eq file p.0 then get_or (map (map value) rows) p.1 [] else [])) places
     values_any =
         any_kept (λ x. test (value x)) file rows counts places kept marks long
-        ∙ any_same (λ p. nat_eq file p.0 && list_any (λ x. test (value x)) (get_or rows p.1 []))
+        ∙ list_any-same (λ p. nat_eq file p.0 && list_any (λ x. test (value x)) (get_or rows p.1 []))
         (λ p. list_any test (if nat_eq file p.0 then get_or (map (map value) rows) p.1 [] else [])) at_place places
 
   abbrev pub in_places : (ColumnValue → Bool) → ℕ → DynamicColumn → Bool
@@ -215,10 +207,6 @@ module _ (counts : List ℕ) (places : List Place) (kept : List (List Bool)) (ma
         → g (with_column kept range o) ≡ (g range || any_in test places o)
     one None range a b f = or_false (g range) (any_in test places None) (any_in_none test places)
     one (Some c) range a b f = step c range a b f
-
-    or_assoc : (a b c : Bool) → ((a || b) || c) ≡ (a || (b || c))
-    or_assoc true b c = refl
-    or_assoc false b c = refl
 
     all_tell : (rows : List TableRow) → AllByRecursion (λ r. Counted r.column) rows
         → AllByRecursion (λ r. HasNumbers r.column) rows → AllByRecursion (λ r. RowFits kept r.column) rows

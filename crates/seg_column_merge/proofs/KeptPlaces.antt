@@ -4,11 +4,9 @@ use Rattle.std.specs.Prelude.{◌&&◌, nat_eq}
 use Rattle.std.specs.List.{AllByRecursion, list_any}
 use Rattle.std.proofs.lemmas.Bool.{false≢true, or_left, or_right}
 use Rattle.std.proofs.lemmas.Bool.Decides.{nat_tests}
+use Rattle.seg_common.proofs.Numbers.{nat_eq-itself}
 use Rattle.seg_column_file.specs.KeptRows.{is_kept}
 use Rattle.seg_column_file.specs.RowOrders.{Place, IsRow}
-
-itself : (n : ℕ) → nat_eq n n ≡ true
-itself n = grind (arith, nat_tests)
 
 -- each of some places is among them
 pub record IsKept (counts : List ℕ) (places : List Place) (p : Place) : Type 0 where
@@ -24,7 +22,7 @@ module _ (counts : List ℕ) (all : List Place) where
     record {
       row = there.0;
       kept = among p.0 p.1 (or_left (nat_eq p.0 p.0 && nat_eq p.1 p.1) (is_kept ps p.0 p.1)
-          ((λ j. itself p.0 j && nat_eq p.1 p.1) ∙ itself p.1));
+          ((λ j. nat_eq-itself p.0 j && nat_eq p.1 p.1) ∙ nat_eq-itself p.1));
     },
     from_front ps there.1 (λ file row is. among file row
         (or_right (nat_eq file p.0 && nat_eq row p.1) (is_kept ps file row) is)),
@@ -39,13 +37,13 @@ pub map_where : {Y : Type 0} (f g : ℕ → Y) (xs : List ℕ) → ((x : ℕ) �
     → map f xs ≡ map g xs
 map_where f g [] same = refl
 map_where f g (x ∷ xs) same =
-    λ j. same x (or_left (nat_eq x x) (list_any (nat_eq x) xs) (itself x)) j
+    λ j. same x (or_left (nat_eq x x) (list_any (nat_eq x) xs) (nat_eq-itself x)) j
     ∷ map_where f g xs (λ y is. same y (or_right (nat_eq y x) (list_any (nat_eq y) xs) is)) j
 
 pub all_where : (P : ℕ → Type 0) (xs : List ℕ) → ((x : ℕ) → list_any (nat_eq x) xs ≡ true → P x) → AllByRecursion P xs
 all_where P [] is = tt
 all_where P (x ∷ xs) is = (
-  is x (or_left (nat_eq x x) (list_any (nat_eq x) xs) (itself x)),
+  is x (or_left (nat_eq x x) (list_any (nat_eq x) xs) (nat_eq-itself x)),
   all_where P xs (λ y any. is y (or_right (nat_eq y x) (list_any (nat_eq y) xs) any)),
 )
 
@@ -61,7 +59,7 @@ any_image f (y ∷ ys) x k is any = by (λ rest. any_image f ys x k is rest) (na
     by later true e rest =
         let same : x ≡ y = grind (arith, nat_tests, e) in
         or_left (nat_eq k (f y)) (list_any (nat_eq k) (map f ys))
-        (ap (nat_eq k) (sym (ap f same) ∙ is) ∙ itself k)
+        (ap (nat_eq k) (sym (ap f same) ∙ is) ∙ nat_eq-itself k)
     by later false e rest = or_right (nat_eq k (f y)) (list_any (nat_eq k) (map f ys)) (later rest)
 
 -- a test that follows from another one, of places that are kept

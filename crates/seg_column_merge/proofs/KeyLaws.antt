@@ -1,16 +1,16 @@
 -- The keys at which the values of a column may be.
-use Rattle.std.proofs.Common.{◌≡◌, ℕ, Bool, false, ◌||◌, List, refl, ap, ◌∙◌, arith}
+use Rattle.std.proofs.Common.{◌≡◌, ℕ, Bool, false, ◌||◌, List, refl, ap, ◌∙◌}
 use Rattle.std.specs.Prelude.{◌&&◌, nat_eq}
 use Rattle.std.specs.Ordering.{is_eq, nat_cmp, ordering_then}
 use Rattle.std.specs.declared.cmp.Ordering.{Ordering}
 use Rattle.std.specs.declared.cmp.Ordering.TheVariants.{Less, Equal, Greater}
 use Rattle.std.specs.Cmp.Lexicographic.{slice_cmp}
 use Rattle.std.specs.Str.{bytes_eq}
-use Rattle.std.proofs.lemmas.Bool.Decides.{nat_tests}
 use Rattle.std.proofs.lemmas.Map.Text.{is_eq-slice_cmp}
 use Rattle.seg_common.specs.Tables.{is_among}
 use Rattle.seg_common.specs.declared.column_type.ColumnType.{ColumnType}
 use Rattle.seg_common.specs.declared.column_type.ColumnType.TheVariants.{I64, U64, Bytes, Str, Bool as Boolean, IpAddr, DateTime}
+use Rattle.seg_common.proofs.Numbers.{is_eq-then, is_eq-nat_cmp}
 use Rattle.seg_model.specs.Columns.{ColumnKey, column_cmp, type_place}
 use Rattle.seg_model.specs.Join.{joined_keys}
 use Rattle.seg_column_merge_parts.specs.Tables.{kind_of}
@@ -60,19 +60,11 @@ among_keys k q =
 
 -- ---- one key
 
-same_type : (o : Ordering) (a b : ℕ) → is_eq (ordering_then o (nat_cmp a b)) ≡ (is_eq o && is_eq (nat_cmp a b))
-same_type Less a b = refl
-same_type Equal a b = refl
-same_type Greater a b = refl
-
-is_eq-number : (a b : ℕ) → is_eq (nat_cmp a b) ≡ nat_eq a b
-is_eq-number a b = grind (arith, nat_tests)
-
 pub key_is : (k q : ColumnKey)
     → is_eq (column_cmp q k) ≡ (bytes_eq q.path k.path && nat_eq (type_place q.type) (type_place k.type))
 key_is k q =
-    same_type (slice_cmp nat_cmp q.path k.path) (type_place q.type) (type_place k.type)
-    ∙ (λ j. is_eq-slice_cmp q.path k.path j && is_eq-number (type_place q.type) (type_place k.type) j)
+    is_eq-then (slice_cmp nat_cmp q.path k.path) (type_place q.type) (type_place k.type)
+    ∙ (λ j. is_eq-slice_cmp q.path k.path j && is_eq-nat_cmp (type_place q.type) (type_place k.type) j)
 
 -- a key of one's type is one of one's kind
 pub kind_too : (t u : ColumnType)

@@ -5,10 +5,10 @@ use Rattle.std.specs.FinMap.{get}
 use Rattle.std.specs.List.{flat_map, list_any, range_with_len, slice_get}
 use Rattle.std.specs.Ordering.{eq_by_cmp, is_eq}
 use Rattle.std.specs.Str.{bytes_eq}
-use Rattle.std.proofs.lemmas.Bool.{false≢true, true≢false}
+use Rattle.std.proofs.lemmas.Bool.{false≢true, true≢false, and_parts}
 use Rattle.std.proofs.lemmas.Bool.Decides.{nat_tests}
 use Rattle.std.proofs.lemmas.List.{get_or-map, length-map}
-use Rattle.std.proofs.lemmas.List.Elements.{All-append}
+use Rattle.std.proofs.lemmas.List.Elements.{All-append, All-cons}
 use Rattle.std.proofs.lemmas.Map.Keys.{any_passes_from_place}
 use Rattle.std.proofs.lemmas.Option.{same_Some}
 use Rattle.seg_common.specs.Marks.{kept}
@@ -27,7 +27,7 @@ use Rattle.seg_values.proofs.Exports.{unnamed}
 use Rattle.seg_values.specs.Names.{field_named}
 use Rattle.seg_values.specs.SchemaRules.{is_schema}
 use Rattle.seg_values.specs.declared.schema.FieldEntry.{FieldEntry}
-use Rattle.seg_column_format.proofs.Exports.{Passing, alone, both, declared_is, entry, is_there, passing, same_bytes, same_type, ties}
+use Rattle.seg_column_format.proofs.Exports.{Passing, alone, declared_is, entry, is_there, passing, same_type, ties}
 use Rattle.seg_column_format.specs.SchemaColumns.{SuitColumns, declares, is_type}
 use Rattle.seg_column_merge.specs.LiveColumns.{HasColumnsOf, HaveColumnsOf, live_rows}
 use Rattle.seg_column_merge.proofs.RowValues.{signed, unsigned}
@@ -54,15 +54,15 @@ module _ (schema : Schema) (valid : is_schema schema ≡ true) where
   same_declared r k h g same =
       let a = passing (declares r.path r.type) schema (sym (declared_is schema r) ∙ h) in
       let b = passing (declares k.path k.type) schema (sym (declared_is schema k) ∙ g) in
-      let own = both (bytes_eq a.item.name r.path) _ a.passes in
-      let other = both (bytes_eq b.item.name k.path) _ b.passes in
+      let own = and_parts (bytes_eq a.item.name r.path) _ a.passes in
+      let other = and_parts (bytes_eq b.item.name k.path) _ b.passes in
       let named : bytes_eq b.item.name r.path ≡ true = ap (bytes_eq b.item.name) (sym same) ∙ other.0 in
       let at = found r.path schema (any_passes_from_place (λ e. bytes_eq e.name r.path) schema a.place a.item a.at own.0) in
       let first : a.place ≡ at.0 = grind (arith, nat_tests, sym (alone r.path schema valid at.0 at.1 a.place a.item a.at) ∙ own.0) in
       let second : b.place ≡ at.0 = grind (arith, nat_tests, sym (alone r.path schema valid at.0 at.1 b.place b.item b.at) ∙ named) in
       let one : b.item ≡ a.item = same_Some b.item a.item (sym b.at ∙ (ap (slice_get schema) (second ∙ sym first) ∙ a.at)) in
-      let its = both b.item.fast _ other.1 in
-      let own_type = both a.item.fast _ own.1 in
+      let its = and_parts b.item.fast _ other.1 in
+      let own_type = and_parts a.item.fast _ own.1 in
       one_declared k.type r.type (declared_type a.item.kind)
       (ap (λ (e : FieldEntry). is_type k.type (declared_type e.kind)) (sym one) ∙ its.1) own_type.1
 
@@ -135,15 +135,11 @@ module _ (schema : Schema) (valid : is_schema schema ≡ true) where
 
 -- ---- rows
 
-all_cons : {X : Type 0} (P : X → Type 0) (x : X) (xs : List X) → P x → All P xs → All P (x ∷ xs)
-all_cons P x xs own rest zero d lt = own
-all_cons P x xs own rest (suc i) d lt = rest i d (omega (arith, lt))
-
 kept_below : (alive : List Bool) (low n top : ℕ) → low + n ≡ top → All (λ r. r < top) (kept alive (range_with_len low n))
 kept_below [] low n top is = λ i d lt. absurd (omega (arith, lt))
 kept_below (b ∷ alive) low zero top is = λ i d lt. absurd (omega (arith, lt))
 kept_below (true ∷ alive) low (suc n) top is =
-    all_cons (λ r. r < top) low (kept alive (range_with_len (low + 1) n)) (omega (arith, is)) (kept_below alive (low + 1) n top (omega (arith, is)))
+    All-cons (λ r. r < top) low (kept alive (range_with_len (low + 1) n)) (omega (arith, is)) (kept_below alive (low + 1) n top (omega (arith, is)))
 kept_below (false ∷ alive) low (suc n) top is = kept_below alive (low + 1) n top (omega (arith, is))
 
 module _ (schema : Schema) (counts : List ℕ) where

@@ -11,6 +11,7 @@ use Rattle.std.proofs.lemmas.List.{length-replicate, map-append}
 use Rattle.seg_common.specs.Marks.{kept}
 use Rattle.seg_common.specs.declared.column_type.ColumnType.{ColumnType}
 use Rattle.seg_common.specs.declared.column_type.ColumnType.TheVariants as types
+use Rattle.seg_common.proofs.Numbers.{zero_plus}
 use Rattle.seg_column_file.specs.ColumnFiles.{ColumnFile, IsColumnFile, IsOfFile, NamedColumn, column_file_of, columns_from, row_count}
 use Rattle.seg_column_file.specs.RowOrders.{Place}
 use Rattle.seg_column_merge.specs.MergedColumns.{columns_of_file, rows_at, values_in_row}
@@ -106,9 +107,6 @@ none_more n = omega arith
 one_more : (n i : ℕ) → n + 1 + i ≡ n + suc i
 one_more n i = omega arith
 
-from_zero : (i : ℕ) → 0 + i ≡ i
-from_zero i = omega arith
-
 all_places : {X : Type 0} (d : X) (xs : List X) (start : ℕ) (all : List X) → ((i : ℕ) → get_or all (start + i) d ≡ get_or xs i d)
     → map (λ i. get_or all i d) (range_with_len start (length xs)) ≡ xs
 all_places d [] start all at = refl
@@ -121,7 +119,7 @@ kept_rows : (alive : List Bool) (rows : Rows) → length alive ≡ length rows
 kept_rows alive rows long =
     sym (kept-map (λ row. get_or rows row []) alive (range_with_len 0 (length alive)))
     ∙ (ap (λ n. kept alive (map (λ row. get_or rows row []) (range_with_len 0 n))) long
-    ∙ ap (kept alive) (all_places [] rows 0 rows (λ i. ap (λ k. get_or rows k []) (from_zero i))))
+    ∙ ap (kept alive) (all_places [] rows 0 rows (λ i. ap (λ k. get_or rows k []) (zero_plus i))))
 
 -- ---- all files
 
@@ -158,4 +156,4 @@ module _ (schema : Schema) (all : List ColumnFile) (q : ColumnKey) where
 
   pub live_rows_are : (files : List ColumnFile) (parts : List Part) → HaveColumnsOf schema files parts → all ≡ files
       → rows_at all (live_rows 0 parts) q ≡ live_of (part_rows q) parts
-  live_rows_are files parts have is = live_values 0 files parts have (λ i. ap (λ (l : List ColumnFile). columns_of_file l (0 + i)) is ∙ ap (columns_of_file files) (from_zero i))
+  live_rows_are files parts have is = live_values 0 files parts have (λ i. ap (λ (l : List ColumnFile). columns_of_file l (0 + i)) is ∙ ap (columns_of_file files) (zero_plus i))

@@ -1,5 +1,5 @@
 -- The numbers that are written for a row of a column, and what they stand for.
-use Rattle.std.proofs.Common.{◌≡◌, ℕ, ℤ, pos, negsuc, zero, suc, ◌+◌, ◌-◌, ◌<◌, ◌^◌, Bool, true, false, List, [], ◌∷◌, length, map, get_or, Some, refl, sym, ap, subst, arith}
+use Rattle.std.proofs.Common.{◌≡◌, ℕ, ℤ, pos, negsuc, ◌+◌, ◌-◌, ◌<◌, ◌^◌, Bool, true, false, List, [], ◌∷◌, length, map, get_or, Some, refl, sym, ap, subst, arith}
 use mathlib.Core.Bool.{true≢false}
 use Rattle.std.specs.Prelude.{FitsSigned}
 use Rattle.std.specs.Int.{w64, is_negative}
@@ -10,6 +10,7 @@ use Rattle.seg_common.specs.Mappable.{bit, is_bit, raised}
 use Rattle.seg_common.specs.MappableLaws.{lowered-raised, lowered-sum, raised-fits}
 use Rattle.seg_common.specs.declared.column_type.ColumnType.{ColumnType}
 use Rattle.seg_common.specs.declared.column_type.ColumnType.TheVariants.{I64, U64, Bool as Boolean, DateTime}
+use Rattle.seg_common.proofs.Lists.{get_or-map_map}
 use Rattle.seg_model.specs.Columns.{ColumnValue, boolean_value, date_value, number}
 use Rattle.seg_columns.specs.DynamicColumns.{numbers_of, type_of}
 use Rattle.seg_columns.specs.declared.dynamic_column.DynamicColumn.{DynamicColumn}
@@ -100,12 +101,6 @@ module _ (to : ColumnType) (m : NumberMap) {T : Type 0} (P : T → Type 0) (imag
         read = λ j. here.read j ∷ rest.read j;
       }
 
-pub row_of_map : {X Y : Type 0} (f : X → Y) (rows : List (List X)) (row : ℕ)
-    → get_or (map (map f) rows) row [] ≡ map f (get_or rows row [])
-row_of_map f [] row = refl
-row_of_map f (r ∷ rs) zero = refl
-row_of_map f (r ∷ rs) (suc row) = row_of_map f rs row
-
 -- the numbers of a column, and what is written for those of a row
 pub record IsNumberRow (to : ColumnType) (column : DynamicColumn) (row : ℕ) : Type 0 where
   pub numbers : List (List ℕ)
@@ -143,8 +138,8 @@ number_row I64 (columns.I64 rows) row suits = record {
   is = refl;
   long = sym (length-map rows (map raised));
   are = by_rows I64 (number_map I64 I64) (map (map raised) rows) (map (map number) rows) row
-      (map raised (get_or rows row [])) (map number (get_or rows row [])) (row_of_map raised rows row)
-      (row_of_map number rows row)
+      (map raised (get_or rows row [])) (map number (get_or rows row [])) (get_or-map_map raised rows row)
+      (get_or-map_map number rows row)
       (written I64 (number_map I64 I64) (FitsSigned w64) raised number signed_same (get_or rows row []) suits);
 }
 number_row U64 (columns.I64 rows) row suits = record {
@@ -152,8 +147,8 @@ number_row U64 (columns.I64 rows) row suits = record {
   is = refl;
   long = sym (length-map rows (map raised));
   are = by_rows U64 (number_map I64 U64) (map (map raised) rows) (map (map number) rows) row
-      (map raised (get_or rows row [])) (map number (get_or rows row [])) (row_of_map raised rows row)
-      (row_of_map number rows row)
+      (map raised (get_or rows row [])) (map number (get_or rows row [])) (get_or-map_map raised rows row)
+      (get_or-map_map number rows row)
       (written U64 (number_map I64 U64) (λ z. FitsSigned w64 z × (is_negative z ≡ false)) raised number signed_lowered
       (get_or rows row []) suits);
 }
@@ -163,7 +158,7 @@ number_row U64 (columns.U64 rows) row suits = record {
   long = refl;
   are = by_rows U64 (number_map U64 U64) rows (map (map (λ (n : ℕ). number (pos n))) rows) row
       (map (λ (n : ℕ). n) (get_or rows row [])) (map (λ (n : ℕ). number (pos n)) (get_or rows row []))
-      (sym (itself (get_or rows row []))) (row_of_map (λ (n : ℕ). number (pos n)) rows row)
+      (sym (itself (get_or rows row []))) (get_or-map_map (λ (n : ℕ). number (pos n)) rows row)
       (written U64 (number_map U64 U64) (λ n. n < 2 ^ 64) (λ n. n) (λ n. number (pos n)) unsigned_same
       (get_or rows row []) suits);
 }
@@ -173,7 +168,7 @@ number_row I64 (columns.U64 rows) row suits = record {
   long = refl;
   are = by_rows I64 (number_map U64 I64) rows (map (map (λ (n : ℕ). number (pos n))) rows) row
       (map (λ (n : ℕ). n) (get_or rows row [])) (map (λ (n : ℕ). number (pos n)) (get_or rows row []))
-      (sym (itself (get_or rows row []))) (row_of_map (λ (n : ℕ). number (pos n)) rows row)
+      (sym (itself (get_or rows row []))) (get_or-map_map (λ (n : ℕ). number (pos n)) rows row)
       (written I64 (number_map U64 I64) (λ n. n < 2 ^ 63) (λ n. n) (λ n. number (pos n)) unsigned_raised
       (get_or rows row []) suits);
 }
@@ -182,8 +177,8 @@ number_row Boolean (columns.Bool rows) row suits = record {
   is = refl;
   long = sym (length-map rows (map bit));
   are = by_rows Boolean (number_map Boolean Boolean) (map (map bit) rows) (map (map boolean_value) rows) row
-      (map bit (get_or rows row [])) (map boolean_value (get_or rows row [])) (row_of_map bit rows row)
-      (row_of_map boolean_value rows row)
+      (map bit (get_or rows row [])) (map boolean_value (get_or rows row [])) (get_or-map_map bit rows row)
+      (get_or-map_map boolean_value rows row)
       (written Boolean (number_map Boolean Boolean) (λ b. Unit {0}) bit boolean_value truth_same
       (get_or rows row []) suits);
 }
@@ -192,8 +187,8 @@ number_row DateTime (columns.DateTime rows) row suits = record {
   is = refl;
   long = sym (length-map rows (map raised));
   are = by_rows DateTime (number_map DateTime DateTime) (map (map raised) rows) (map (map date_value) rows) row
-      (map raised (get_or rows row [])) (map date_value (get_or rows row [])) (row_of_map raised rows row)
-      (row_of_map date_value rows row)
+      (map raised (get_or rows row [])) (map date_value (get_or rows row [])) (get_or-map_map raised rows row)
+      (get_or-map_map date_value rows row)
       (written DateTime (number_map DateTime DateTime) (FitsSigned w64) raised date_value date_same (get_or rows row [])
       suits);
 }

@@ -16,6 +16,7 @@ use Rattle.std.proofs.lemmas.List.{length-map}
 use Rattle.std.proofs.lemmas.List.FromFn.{length-map-range_with_len}
 use Rattle.seg_common.specs.declared.column_type.ColumnType.{ColumnType}
 use Rattle.seg_common.specs.declared.column_type.ColumnType.TheVariants as types
+use Rattle.seg_common.proofs.Numbers.{is_lt-below}
 use Rattle.seg_columns.specs.Addresses.{address}
 use Rattle.seg_columns.specs.Columns.{row_of, rows_of}
 use Rattle.seg_columns.specs.DynamicColumns.{column_of, type_of}
@@ -23,6 +24,7 @@ use Rattle.seg_columns.specs.Images.{signed, truth, unsigned}
 use Rattle.seg_columns.specs.TermColumns.{ordinals_in}
 use Rattle.seg_column_file.specs.ColumnFiles.{ColumnFile, IsColumnFile, IsOfFile, NamedColumn, column_bytes, column_count, columns_from, named_column, row_count, table_of}
 use Rattle.seg_column_file.specs.ColumnTable.{are_apart, code_in, may_follow, path_in, place_of, type_of_code}
+use Rattle.seg_column_format.proofs.Exports.{type_read}
 use Rattle.seg_column_merge_parts.specs.KeptColumns.{row_count_of}
 use Rattle.seg_column_merge_parts.specs.Tables.{PlacedColumn, Row, all_rows, column_in, file_row, file_rows, kind_of, required_row, row_of as table_row}
 use Rattle.seg_column_merge_parts.specs.declared.tables.FileColumn.{FileColumn}
@@ -32,15 +34,6 @@ use Rattle.seg_column_merge.specs.Groups.{AreOfFiles, FileFits}
 use Rattle.seg_column_merge.proofs.KeyOrder.{Key, key_cmp, key_itself, key_then}
 
 -- ---- what a column reads as
-
-pub type_read_back : (t : ColumnType) (rows : ℕ) (bytes : List ℕ) → type_of (column_of t rows bytes) ≡ t
-type_read_back types.I64 rows bytes = refl
-type_read_back types.U64 rows bytes = refl
-type_read_back types.Bytes rows bytes = refl
-type_read_back types.Str rows bytes = refl
-type_read_back types.Bool rows bytes = refl
-type_read_back types.IpAddr rows bytes = refl
-type_read_back types.DateTime rows bytes = refl
 
 rows_long : {T : Type 0} (width : ℕ) (decoded : List ℕ → Option T) (docs : ℕ) (bytes : List ℕ)
     → length (rows_of width decoded docs bytes) ≡ docs
@@ -147,9 +140,6 @@ kind_of_code (suc (suc (suc (suc (suc zero))))) lt = refl
 kind_of_code (suc (suc (suc (suc (suc (suc zero)))))) lt = refl
 kind_of_code (suc (suc (suc (suc (suc (suc (suc n))))))) lt = absurd (omega (arith, lt))
 
-number_below : (a b : ℕ) → a < b → is_lt (nat_cmp a b) ≡ true
-number_below a b lt = grind (arith, nat_tests, lt)
-
 places_apart : (a b : ℕ) → are_apart a b ≡ true → a - 1 < b - 1
 places_apart a b e = grind (arith, nat_tests, e)
 
@@ -157,7 +147,7 @@ kinds_apart : (a b : ℕ) → a < 7 → b < 7 → are_apart a b ≡ true
     → is_lt (nat_cmp (kind_of (type_of_code a)) (kind_of (type_of_code b))) ≡ true
 kinds_apart a b lt lt' e =
     (λ j. is_lt (nat_cmp (kind_of_code a lt j) (kind_of_code b lt' j)))
-    ∙ number_below (a - 1) (b - 1) (places_apart a b e)
+    ∙ is_lt-below (a - 1) (b - 1) (places_apart a b e)
 
 follows : (o : Ordering) (a b : ℕ) → a < 7 → b < 7 → (is_lt o || (is_eq o && are_apart a b)) ≡ true
     → is_lt (ordering_then o (nat_cmp (kind_of (type_of_code a)) (kind_of (type_of_code b)))) ≡ true
@@ -177,7 +167,7 @@ module _ (bytes : List ℕ) (is : IsColumnFile bytes) where
   unfolding named_column
   key_at i = λ j. (
     path_in table (place_of table i),
-    kind_of (type_read_back (type_of_code (code_in table (place_of table i))) (row_count bytes)
+    kind_of (type_read (type_of_code (code_in table (place_of table i))) (row_count bytes)
         (column_bytes bytes table i) j),
   )
 

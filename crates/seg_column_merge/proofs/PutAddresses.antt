@@ -1,11 +1,13 @@
 -- The bytes of a merged column of addresses.
-use Rattle.std.proofs.Common.{◌≡◌, ℕ, ◌+◌, ◌*◌, ◌/◌, ◌%◌, ◌<◌, ◌^◌, Bool, true, false, List, [], ◌∷◌, ◌++◌, length, map, get_or, Option, Some, None, inl, inr, refl, sym, ap, subst, ◌∙◌, arith, div-add-mod'}
+use Rattle.std.proofs.Common.{◌≡◌, ℕ, ◌+◌, ◌<◌, ◌^◌, Bool, true, false, List, [], ◌∷◌, ◌++◌, length, map, get_or, Option, Some, None, inl, inr, refl, sym, ap, subst, ◌∙◌, arith}
 use Rattle.std.specs.Prelude.{replicate}
 use Rattle.std.specs.List.{AllByRecursion}
-use Rattle.std.specs.Net.Addr.{ipv6_octets, octets_of, segments_of}
+use Rattle.std.specs.Net.Addr.{ipv6_octets}
 use Rattle.std.specs.declared.net.ipv6_addr.Ipv6Addr.{Ipv6Addr}
 use Rattle.std.proofs.lemmas.List.{length-map, length-replicate}
 use Rattle.seg_common.specs.declared.column_type.ColumnType.TheVariants as types
+use Rattle.seg_common.proofs.Lists.{get_or-map_map}
+use Rattle.seg_values.proofs.Exports.{segments_of-octets_of}
 use Rattle.seg_model.specs.Columns.{ColumnValue, ip_value, type_place}
 use Rattle.seg_columns.specs.Addresses.{address, address_of}
 use Rattle.seg_columns.specs.Columns.{IsColumn, rows_of}
@@ -30,7 +32,6 @@ use Rattle.seg_column_merge_parts.specs.declared.tables.FileColumn.{FileColumn}
 use Rattle.seg_column_merge_parts.specs.declared.tables.TableRow.{TableRow}
 use Rattle.seg_column_file.proofs.Exports.{file_below}
 use Rattle.seg_column_merge.proofs.KeptPlaces.{IsKept, all_kept}
-use Rattle.seg_column_merge.proofs.NumberColumns.{row_of_map}
 use Rattle.seg_column_merge.proofs.PutNumbers.{maps_of, with_rows_are}
 use Rattle.seg_column_merge.proofs.PutTerms.{cells_are, type_at}
 use Rattle.seg_column_merge.proofs.PutValues.{fit_at}
@@ -40,15 +41,8 @@ use Rattle.seg_column_merge.proofs.TermColumns.{rows_of_file}
 
 -- ---- one address
 
-same_segments : (segments : List ℕ) → segments_of (octets_of segments) ≡ segments
-same_segments [] = refl
-same_segments (s ∷ segments) = λ j. whole j ∷ same_segments segments j
-  where
-    whole : s / 256 * 256 + s % 256 ≡ s
-    whole = div-add-mod' s 256
-
 same_address : (a : Ipv6Addr) → address_of (ipv6_octets a) ≡ a
-same_address a = λ j. record { segments = same_segments a.segments j }
+same_address a = λ j. record { segments = segments_of-octets_of a.segments j }
 
 -- the value of bytes
 abbrev value_of : List ℕ → ColumnValue
@@ -141,7 +135,7 @@ module _ (counts : List ℕ) (places : List Place) (kept : List (List Bool)) (ma
     read_column =
         ap (λ (t : Source). map value_of (row_codes t p.1)) source_is
         ∙ values_are (get_or addresses p.1 [])
-        ∙ sym (row_of_map (λ (a : Ipv6Addr). ip_value (ipv6_octets a)) addresses p.1)
+        ∙ sym (get_or-map_map (λ (a : Ipv6Addr). ip_value (ipv6_octets a)) addresses p.1)
         ∙ sym (ap (λ (column : DynamicColumn). get_or (column_rows column) p.1 [])
         of_column.is)
 

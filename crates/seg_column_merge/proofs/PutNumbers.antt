@@ -8,6 +8,7 @@ use Rattle.std.proofs.lemmas.Option.{none-some}
 use Rattle.seg_common.specs.Mappable.{is_bit, is_one, lowered}
 use Rattle.seg_common.specs.declared.column_type.ColumnType.{ColumnType}
 use Rattle.seg_common.specs.declared.column_type.ColumnType.TheVariants.{I64, U64, Bool as Boolean, DateTime}
+use Rattle.seg_common.proofs.Lists.{map_map-map_map}
 use Rattle.seg_model.specs.Columns.{boolean_value, date_value, number}
 use Rattle.seg_columns.specs.DynamicColumns.{type_of}
 use Rattle.seg_column_format.specs.ColumnBytes.{column_bytes, total}
@@ -62,15 +63,6 @@ map_at to [] typed at c is = absurd (none-some c is)
 map_at to (r ∷ rs) typed zero c is =
     ap (λ (t : ColumnType). number_map t to) (sym (subst (HasType r.column_type) is typed.0))
 map_at to (r ∷ rs) typed (suc at) c is = map_at to rs typed.1 at c is
-
-map_rows : {S T U : Type 0} (f : S → T) (g : T → U) (rows : List (List S))
-    → map (map g) (map (map f) rows) ≡ map (map (λ x. g (f x))) rows
-map_rows f g [] = refl
-map_rows {S = S} {U = U} f g (row ∷ rows) = λ j. in_row row j ∷ map_rows f g rows j
-  where
-    in_row : (xs : List S) → map g (map f xs) ≡ map (λ x. g (f x)) xs
-    in_row [] = refl
-    in_row (x ∷ xs) = ap (λ (l : List U). g (f x) ∷ l) (in_row xs)
 
 module _ (counts : List ℕ) (places : List Place) (there : AllByRecursion (IsRow counts) places) (rows : List TableRow)
     (files : AreOfFiles counts 0 rows) (typed : AllByRecursion (λ r. HasType r.column_type r.column) rows)
@@ -201,27 +193,27 @@ numbers_added I64 is sources places rows numeric few images read out new added =
   added = added;
   column = joined_column (λ _. true) lowered sources places numeric few images;
   read = ap (map (map number)) (joined_rows (λ _. true) lowered sources places numeric few images)
-      ∙ map_rows lowered number (joined_numbers sources places) ∙ read;
+      ∙ map_map-map_map lowered number (joined_numbers sources places) ∙ read;
 }
 numbers_added U64 is sources places rows numeric few images read out new added = record {
   bytes = column_bytes {T = List ℕ} (λ code. code) (joined sources places);
   added = added;
   column = joined_column (λ _. true) (λ (n : ℕ). n) sources places numeric few images;
   read = ap (map (map (λ n. number (pos n)))) (joined_rows (λ _. true) (λ (n : ℕ). n) sources places numeric few images)
-      ∙ map_rows (λ (n : ℕ). n) (λ n. number (pos n)) (joined_numbers sources places) ∙ read;
+      ∙ map_map-map_map (λ (n : ℕ). n) (λ n. number (pos n)) (joined_numbers sources places) ∙ read;
 }
 numbers_added Boolean is sources places rows numeric few images read out new added = record {
   bytes = column_bytes {T = List ℕ} (λ code. code) (joined sources places);
   added = added;
   column = joined_column is_bit is_one sources places numeric few images;
   read = ap (map (map boolean_value)) (joined_rows is_bit is_one sources places numeric few images)
-      ∙ map_rows is_one boolean_value (joined_numbers sources places) ∙ read;
+      ∙ map_map-map_map is_one boolean_value (joined_numbers sources places) ∙ read;
 }
 numbers_added DateTime is sources places rows numeric few images read out new added = record {
   bytes = column_bytes {T = List ℕ} (λ code. code) (joined sources places);
   added = added;
   column = joined_column (λ _. true) lowered sources places numeric few images;
   read = ap (map (map date_value)) (joined_rows (λ _. true) lowered sources places numeric few images)
-      ∙ map_rows lowered date_value (joined_numbers sources places) ∙ read;
+      ∙ map_map-map_map lowered date_value (joined_numbers sources places) ∙ read;
 }
 numbers_added _ is sources places rows numeric few images read out new added = absurd is

@@ -7,7 +7,10 @@ use Rattle.std.specs.Ordering.{eq_by_cmp}
 use Rattle.std.specs.Str.{bytes_eq}
 use Rattle.std.proofs.lemmas.Bool.{false≢true, or_from}
 use Rattle.std.proofs.lemmas.List.Elements.{filter-append}
+use Rattle.std.proofs.Math.Bool.{or-false, and-false}
+use Rattle.std.proofs.lemmas.List.Folds.{list_any-append}
 use Rattle.seg_common.specs.declared.column_type.ColumnType.{ColumnType}
+use Rattle.seg_common.proofs.Bools.{and_grouped}
 use Rattle.seg_model.specs.Columns.{ColumnKey, column_cmp, is_declared, type_place}
 use Rattle.seg_column_file.specs.ColumnFiles.{ColumnFile, NamedColumn}
 use Rattle.seg_column_merge.specs.Cells.{is_absent, is_of, is_required, rows_with}
@@ -28,28 +31,6 @@ any_filter {X = X} test pass (x ∷ xs) = by (test x) (any_filter test pass xs)
     by true rest = ap (λ (c : Bool). pass x || c) rest
     by false rest = rest
 
-or_assoc : (a b c : Bool) → (a || (b || c)) ≡ ((a || b) || c)
-or_assoc true b c = refl
-or_assoc false b c = refl
-
-or_false : (a : Bool) → (a || false) ≡ a
-or_false true = refl
-or_false false = refl
-
-any_both : {X : Type 0} (test : X → Bool) (xs ys : List X)
-    → list_any test (xs ++ ys) ≡ (list_any test xs || list_any test ys)
-any_both test [] ys = refl
-any_both test (x ∷ xs) ys =
-    ap (λ (b : Bool). test x || b) (any_both test xs ys) ∙ or_assoc (test x) (list_any test xs) (list_any test ys)
-
-and_false : (a : Bool) → (a && false) ≡ false
-and_false true = refl
-and_false false = refl
-
-and_assoc : (a b c : Bool) → (a && (b && c)) ≡ ((a && b) && c)
-and_assoc true b c = refl
-and_assoc false b c = refl
-
 -- ---- whether a key is required
 
 module _ (q : ColumnKey) where
@@ -60,12 +41,12 @@ module _ (q : ColumnKey) where
   no_file file [] = refl
   no_file file (c ∷ cs) =
       or_from (hits (file_row file c)) (list_any hits (map (file_row file) cs))
-      (and_false (is_of q.path (kind_of q.type) (file_row file c))) (no_file file cs)
+      (and-false (is_of q.path (kind_of q.type) (file_row file c))) (no_file file cs)
 
   no_files : (first : ℕ) (files : List ColumnFile) → list_any hits (file_rows first files) ≡ false
   no_files first [] = refl
   no_files first (f ∷ fs) =
-      any_both hits (map (file_row first) f.columns) (file_rows (first + 1) fs)
+      list_any-append hits (map (file_row first) f.columns) (file_rows (first + 1) fs)
       ∙ or_from (list_any hits (map (file_row first) f.columns)) (list_any hits (file_rows (first + 1) fs))
       (no_file first f.columns) (no_files (first + 1) fs)
 
@@ -76,7 +57,7 @@ module _ (q : ColumnKey) where
   one_required r =
       (key_is (required_key r) q
       ∙ ap (λ (b : Bool). bytes_eq q.path (string_bytes r.0) && b) (kind_too q.type r.1)
-      ∙ and_assoc (bytes_eq q.path (string_bytes r.0)) (nat_eq (kind_of r.1) (kind_of q.type))
+      ∙ and_grouped (bytes_eq q.path (string_bytes r.0)) (nat_eq (kind_of r.1) (kind_of q.type))
       (nat_eq (type_place q.type) (type_place r.1)))
 
   all_required : (required : List (String Global × ColumnType))
@@ -90,9 +71,9 @@ module _ (q : ColumnKey) where
   declared_is required files =
       all_required required
       ∙ sym (any_filter (is_of q.path (kind_of q.type)) (is_required q.type) (all_rows required files)
-      ∙ any_both hits (map required_row required) (file_rows 0 files)
+      ∙ list_any-append hits (map required_row required) (file_rows 0 files)
       ∙ ap (λ (b : Bool). list_any hits (map required_row required) || b) (no_files 0 files)
-      ∙ or_false (list_any hits (map required_row required)))
+      ∙ or-false (list_any hits (map required_row required)))
 
 -- ---- the first row of a path and a kind
 

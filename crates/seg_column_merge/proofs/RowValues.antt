@@ -8,7 +8,7 @@ use Rattle.std.specs.List.Sorted.{IsStrictlySortedBy}
 use Rattle.std.specs.Ordering.{eq_by_cmp, is_eq, nat_cmp, ordering_then}
 use Rattle.std.specs.declared.cmp.Ordering.{Ordering}
 use Rattle.std.specs.declared.cmp.Ordering.TheVariants.{Less, Equal, Greater}
-use Rattle.std.proofs.lemmas.Bool.{false≢true, true≢false}
+use Rattle.std.proofs.lemmas.Bool.{true≢false}
 use Rattle.std.proofs.lemmas.Cmp.{nat_list_cmp_total}
 use Rattle.std.proofs.lemmas.List.{append-nil, length-replicate}
 use Rattle.std.specs.FinMap.{nat_cmp-IsAntisymmetric}
@@ -17,6 +17,7 @@ use Rattle.seg_model.proofs.Exports.{column_cmp_total}
 use Rattle.seg_common.specs.Tables.{is_among}
 use Rattle.seg_common.specs.declared.column_type.ColumnType.{ColumnType}
 use Rattle.seg_common.specs.declared.column_type.ColumnType.TheVariants.{I64, U64, Bytes, Str, Bool as Boolean, IpAddr, DateTime}
+use Rattle.seg_common.proofs.Numbers.{is_equal, then_first, then_second}
 use Rattle.seg_column_file.specs.ColumnFiles.{NamedColumn}
 use Rattle.seg_column_format.specs.ModelColumns.{column_key}
 use Rattle.seg_column_merge.specs.MergedColumns.{values_in_row}
@@ -64,11 +65,6 @@ same_kind Equal DateTime _ = refl
 pub among_keys : (k q : ColumnKey) → is_among column_cmp (joined_keys k) q ≡ is_eq (kind_cmp q k)
 among_keys k q = among_is q.path k.path k.type q.type ∙ same_kind (slice_cmp nat_cmp q.path k.path) k.type q.type
 
-is_equal : (o : Ordering) → is_eq o ≡ true → o ≡ Equal
-is_equal Less e = absurd (false≢true e)
-is_equal Equal e = refl
-is_equal Greater e = absurd (false≢true e)
-
 -- a key that ties with one, which is below others, ties with none of these
 below : (k q y : ColumnKey) → kind_cmp q k ≡ Equal → kind_cmp k y ≡ Less → kind_cmp q y ≡ Less
 below k q y tie less = kind_total.congr q k y tie ∙ less
@@ -106,16 +102,6 @@ none_found k q tie (c ∷ cs) all =
         ∙ (ap (kind_cmp q) (same_column q (column_key c) e) ∙ below k q (column_key c) tie all.0)))
 
 -- ---- a key that ties with a column
-
-equal_first : (r s : Ordering) → ordering_then r s ≡ Equal → r ≡ Equal
-equal_first Less s e = e
-equal_first Equal s e = refl
-equal_first Greater s e = e
-
-equal_second : (r s : Ordering) → ordering_then r s ≡ Equal → s ≡ Equal
-equal_second Less s e = cc e
-equal_second Equal s e = e
-equal_second Greater s e = cc e
 
 -- of another kind than numbers it is the column's
 abbrev of_kind : ℕ → ColumnType
@@ -156,9 +142,9 @@ own_type t DateTime h e = sym (kind_read t h) ∙ ap of_kind e
 
 own_key : (q k : ColumnKey) → is_number q.type ≡ false → kind_cmp q k ≡ Equal → q ≡ k
 own_key q k h tie = λ i. record {
-  path = texts_apart q.path k.path (equal_first (slice_cmp nat_cmp q.path k.path) (nat_cmp (kind_place q.type) (kind_place k.type)) tie) i;
+  path = texts_apart q.path k.path (then_first (slice_cmp nat_cmp q.path k.path) (nat_cmp (kind_place q.type) (kind_place k.type)) tie) i;
   type = own_type q.type k.type h (nat_cmp-IsAntisymmetric (kind_place q.type) (kind_place k.type)
-      (equal_second (slice_cmp nat_cmp q.path k.path) (nat_cmp (kind_place q.type) (kind_place k.type)) tie)) i;
+      (then_second (slice_cmp nat_cmp q.path k.path) (nat_cmp (kind_place q.type) (kind_place k.type)) tie)) i;
 }
 
 -- of numbers it is one of both
@@ -180,8 +166,8 @@ one_of path other DateTime same tie = cc tie
 
 number_cases : (path : List ℕ) (k : ColumnKey) → kind_cmp (signed path) k ≡ Equal → (k ≡ signed path) ⊎ (k ≡ unsigned path)
 number_cases path k tie = one_of path k.path k.type
-    (texts_apart path k.path (equal_first (slice_cmp nat_cmp path k.path) (nat_cmp 1 (kind_place k.type)) tie))
-    (equal_second (slice_cmp nat_cmp path k.path) (nat_cmp 1 (kind_place k.type)) tie)
+    (texts_apart path k.path (then_first (slice_cmp nat_cmp path k.path) (nat_cmp 1 (kind_place k.type)) tie))
+    (then_second (slice_cmp nat_cmp path k.path) (nat_cmp 1 (kind_place k.type)) tie)
 
 -- ---- rows without values
 

@@ -8,7 +8,7 @@ use Rattle.std.proofs.lemmas.Bool.Decides.{nat_tests}
 use Rattle.std.proofs.lemmas.List.{append-nil}
 use Rattle.std.proofs.lemmas.List.Elements.{recursion_from_All}
 use Rattle.std.proofs.lemmas.Option.{none-some, same_Some}
-use Rattle.seg_common.proofs.Lists.{all_back, all_front}
+use Rattle.seg_common.proofs.Lists.{all_back, all_front, get_or-map_map}
 use Rattle.seg_common.specs.declared.column_type.ColumnType.TheVariants.{I64, U64}
 use Rattle.seg_model.specs.Columns.{ColumnValue, fits_i64, is_not_negative, is_number, number}
 use Rattle.seg_columns.specs.DynamicColumns.{type_of}
@@ -20,7 +20,7 @@ use Rattle.seg_column_file.specs.KeptRows.{kept_values}
 use Rattle.seg_column_merge.specs.MergedBytes.{IsNumberType}
 use Rattle.seg_column_file.specs.RowOrders.{Place}
 use Rattle.seg_column_merge_parts.specs.declared.tables.FileColumn.{FileColumn}
-use Rattle.seg_column_merge.proofs.NumberColumns.{RowSuits, row_of_map}
+use Rattle.seg_column_merge.proofs.NumberColumns.{RowSuits}
 use Rattle.seg_column_merge.proofs.SourceRows.{FilesRise, column_cells, later_files, values_in}
 
 -- ---- a row that is kept
@@ -76,7 +76,7 @@ module _ (marks : List Bool) (row : ℕ) (is : get_or marks row false ≡ true) 
       → list_all fits_i64 (get_or (column_rows column) row []) ≡ true → RowSuits I64 column row
   signed_holds (columns.I64 rows) a fit all = kept_all (FitsSigned w64) rows fit
   signed_holds (columns.U64 rows) a fit all =
-      below_all (get_or rows row []) (ap (list_all fits_i64) (sym (row_of_map (λ (n : ℕ). number (pos n)) rows row))
+      below_all (get_or rows row []) (ap (list_all fits_i64) (sym (get_or-map_map (λ (n : ℕ). number (pos n)) rows row))
       ∙ all)
   signed_holds (columns.Bytes c) a fit all = absurd (false≢true a)
   signed_holds (columns.Str c) a fit all = absurd (false≢true a)
@@ -88,7 +88,7 @@ module _ (marks : List Bool) (row : ℕ) (is : get_or marks row false ≡ true) 
       → list_all is_not_negative (get_or (column_rows column) row []) ≡ true → RowSuits U64 column row
   unsigned_holds (columns.I64 rows) a fit all =
       not_negative (get_or rows row []) (kept_all (FitsSigned w64) rows fit)
-      (ap (list_all is_not_negative) (sym (row_of_map number rows row)) ∙ all)
+      (ap (list_all is_not_negative) (sym (get_or-map_map number rows row)) ∙ all)
   unsigned_holds (columns.U64 rows) a fit all = kept_all (λ n. n < 2 ^ 64) rows fit
   unsigned_holds (columns.Bytes c) a fit all = absurd (false≢true a)
   unsigned_holds (columns.Str c) a fit all = absurd (false≢true a)

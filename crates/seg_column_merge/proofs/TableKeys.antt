@@ -10,11 +10,11 @@ use Rattle.std.specs.Ordering.{is_lt, nat_cmp, ordering_reverse, ordering_then}
 use Rattle.std.specs.declared.cmp.Ordering.{Ordering}
 use Rattle.std.specs.declared.cmp.Ordering.TheVariants.{Less, Equal, Greater}
 use Rattle.std.proofs.lemmas.Bool.{and_left, cases_lt, false≢true, true≢false}
-use Rattle.std.proofs.lemmas.Bool.Decides.{nat_tests}
 use Rattle.std.proofs.lemmas.Cmp.{nat_cmp_total, on_total, then_total}
 use Rattle.std.proofs.lemmas.List.{get_or_append_left, get_or_push, length_push}
 use Rattle.std.proofs.lemmas.List.Elements.{filter-append}
 use Rattle.std.proofs.lemmas.List.Sorted.{ranks_by}
+use Rattle.seg_common.proofs.Numbers.{is_lt-below}
 use Rattle.seg_column_merge_parts.specs.HeadHeaps.{head_cmp}
 use Rattle.seg_column_merge.specs.TableOrder.{row_head, row_lt}
 use Rattle.seg_column_merge_parts.specs.Tables.{table_key, table_key_cmp}
@@ -100,9 +100,6 @@ key_total = then_total (on_total (λ (k : Bor (List ℕ) × ℕ). k.0.now) nat_l
 pub row_order : IsStrictWeakOrder row_lt
 row_order = ranks_by key_total table_key
 
-below_number : (i at : ℕ) → i < at → is_lt (nat_cmp i at) ≡ true
-below_number i at lt = grind (arith, nat_tests)
-
 -- a row whose head isn't below another one's isn't below it, and is above it where it comes before
 pub beside_least : (row least : TableRow) (place at : ℕ)
     → is_lt (head_cmp (row_head row place) (row_head least at)) ≡ false
@@ -117,7 +114,7 @@ beside_least row least place at le = by (compared row least) refl
 
     by : (c : Ordering) → compared row least ≡ c → (row_lt row least ≡ false) × (place < at → row_lt least row ≡ true)
     by Less e = absurd (true≢false (told Less e))
-    by Equal e = (ap is_lt e, (λ lt. absurd (true≢false (sym (below_number place at lt) ∙ told Equal e))))
+    by Equal e = (ap is_lt e, (λ lt. absurd (true≢false (sym (is_lt-below place at lt) ∙ told Equal e))))
     by Greater e = (
       ap is_lt e,
       (λ lt. ap is_lt (key_total.antisymm (table_key least) (table_key row) ∙ ap ordering_reverse e)),

@@ -5,13 +5,12 @@ use Rattle.std.specs.List.{AllByRecursion}
 use Rattle.std.specs.List.Sorted.{IsPermutation, IsSortedBy, IsStableBy, ties}
 use Rattle.std.proofs.lemmas.Bool.{cases_eq, cases_lt}
 use Rattle.std.proofs.lemmas.List.{append-nil, length-append, get_or-set_other, get_or_past, length-set}
-use Rattle.std.proofs.lemmas.List.Elements.{All-append, All-cons, filter-append}
+use Rattle.std.proofs.lemmas.List.Elements.{All-append, All-cons, filter-append, Contains-append_right}
 use Rattle.std.proofs.lemmas.List.Sorted.{All-permutation, Contains-permutation, IsPermutation-middle, IsPermutation-pop_more, IsPermutation-refl, length_permutation}
 use Rattle.std.proofs.lemmas.Option.{none-some}
 use Rattle.seg_column_merge_parts.specs.HeadHeaps.{Head, Pops}
 use Rattle.seg_column_merge.specs.TableOrder.{Advances, AreRuns, IsHead, Moves, Slots, Waits, next_heads, row_at, row_head, row_lt}
 use Rattle.seg_column_merge_parts.specs.declared.tables.TableRow.{TableRow}
-use Rattle.seg_column_merge_parts.proofs.Exports.{behind_front}
 use Rattle.seg_column_merge.proofs.Places.{all_present, cut_at, in_front, present, still_there, taken_at}
 use Rattle.seg_column_merge.proofs.TableKeys.{in_front_of, push_sorted, row_order}
 use Rattle.seg_column_merge.proofs.TableRuns.{beside, is_either, none_left, others_are, same_row}
@@ -166,7 +165,7 @@ module _ (rows done : List TableRow) (slots : Slots) (heads : List Head) (so_far
     stays_there : (g : Head) → Contains rest g → Contains new g
     stays_there g there =
         Contains-permutation (next_heads least (h.2 + 1) (row_at left (h.2 + 1)) ++ rest) new g goes
-        (behind_front (next_heads least (h.2 + 1) (row_at left (h.2 + 1))) rest g there)
+        (Contains-append_right (next_heads least (h.2 + 1) (row_at left (h.2 + 1))) rest g there)
 
     -- the row behind it, if it goes on
     put_in : (at : ℕ) (row : TableRow) → h.2 + 1 ≡ at → row_at left at ≡ Some row → row_lt row least ≡ false

@@ -5,13 +5,13 @@ use Rattle.std.specs.List.Sorted.{IsPermutation}
 use Rattle.std.specs.Ordering.{is_lt}
 use Rattle.std.proofs.lemmas.Bool.{cases_lt}
 use Rattle.std.proofs.lemmas.List.{get_or_past}
-use Rattle.std.proofs.lemmas.List.Elements.{All-contains, All-cons, All-tail}
+use Rattle.std.proofs.lemmas.List.Elements.{All-contains, All-cons, All-tail, Contains-append_right}
 use Rattle.std.proofs.lemmas.List.Sorted.{All-permutation, Contains-permutation}
 use Rattle.std.proofs.lemmas.Option.{none-some}
 use Rattle.seg_column_merge_parts.specs.HeadHeaps.{Head, Pops, head_cmp}
 use Rattle.seg_column_merge.specs.TableOrder.{AreRuns, Begins, GoesFrom, GoesOn, IsHead, Slots, Waits, row_at, row_head, row_lt}
 use Rattle.seg_column_merge_parts.specs.declared.tables.TableRow.{TableRow}
-use Rattle.seg_column_merge_parts.proofs.Exports.{behind_front, there_in}
+use Rattle.seg_column_merge_parts.proofs.Exports.{there_in}
 use Rattle.seg_column_merge.proofs.Places.{none_present, present, some_at}
 use Rattle.seg_column_merge.proofs.TableKeys.{beside_least, less_then, not_itself, row_order}
 
@@ -152,7 +152,7 @@ one_begun slots place old new within begun begins = by begins.puts
           where
             on : Waits slots old at row → Waits slots new at row
             on (inl there) = inl (Contains-permutation (head ∷ old) new (row_head row at) put
-                (behind_front (head ∷ []) old (row_head row at) there))
+                (Contains-append_right (head ∷ []) old (row_head row at) there))
             on (inr goes) = inr goes
         waits at row lt is (inr le) =
             let (here, row_is) = same at row lt le is in

@@ -14,9 +14,10 @@ use Rattle.std.proofs.lemmas.List.{get_or_past, length-replicate}
 use Rattle.std.proofs.lemmas.List.Elements.{All-from_recursion, All-get_or, recursion_from_All}
 use Rattle.std.proofs.lemmas.Map.Keys.{Less-from_sorted}
 use Rattle.std.proofs.lemmas.Option.{get_or_from_slice_get, none-some, same_Some, slice_get_within}
-use Rattle.seg_common.proofs.Lists.{list_any-map}
+use Rattle.seg_common.proofs.Lists.{list_any-map, get_or-map_map}
 use Rattle.seg_common.specs.declared.column_type.ColumnType.{ColumnType}
 use Rattle.seg_common.specs.declared.column_type.ColumnType.TheVariants.{I64, U64, Bytes, Str, Bool as Boolean, IpAddr, DateTime}
+use Rattle.seg_common.proofs.Numbers.{nat_eq-itself}
 use Rattle.seg_model.specs.Columns.{ColumnValue, bytes_value, text_value, type_place}
 use Rattle.seg_columns.specs.DynamicColumns.{numbers_of, type_of}
 use Rattle.seg_columns.specs.declared.dynamic_column.DynamicColumn.{DynamicColumn}
@@ -37,7 +38,7 @@ use Rattle.seg_column_merge_parts.specs.declared.source.Source.{Source}
 use Rattle.seg_column_merge_parts.specs.declared.source.Source.TheVariants.{Nothing, Numbers}
 use Rattle.seg_column_merge_parts.specs.declared.tables.FileColumn.{FileColumn}
 use Rattle.seg_column_merge_parts.specs.declared.tables.TableRow.{TableRow}
-use Rattle.seg_column_merge_parts.proofs.Exports.{any_kept, kept_at, number_itself}
+use Rattle.seg_column_merge_parts.proofs.Exports.{any_kept, kept_at}
 use Rattle.seg_column_file.proofs.Exports.{file_below}
 use Rattle.seg_column_merge.proofs.KeptPlaces.{IsKept, any_follows, any_image, all_where, map_where}
 use Rattle.seg_column_merge.proofs.SourceRows.{FilesRise, IsFrom, all_replicate, all_with_maps, column_cells, is_from, length-with_maps, nothing_at, source_at, values_in}
@@ -49,22 +50,16 @@ pub record HasTerms (value : List ℕ → ColumnValue) (column : DynamicColumn) 
   pub values : (row : ℕ) → get_or (column_rows column) row []
       ≡ map (λ ord. value (get_or (terms_in column) ord [])) (get_or (ords_in column) row [])
 
-row_of_map : {X Y : Type 0} (f : X → Y) (rows : List (List X)) (row : ℕ)
-    → get_or (map (map f) rows) row [] ≡ map f (get_or rows row [])
-row_of_map f [] row = refl
-row_of_map f (r ∷ rs) zero = refl
-row_of_map f (r ∷ rs) (suc row) = row_of_map f rs row
-
 other_type : (t u : ColumnType) → nat_eq (type_place t) (type_place u) ≡ false → t ≡ u → ⊥
 other_type t u other same =
     false≢true (sym other ∙ sym (ap (λ (v : ColumnType). nat_eq (type_place t) (type_place v)) same)
-    ∙ number_itself (type_place t))
+    ∙ nat_eq-itself (type_place t))
 
 pub texts_are : (column : DynamicColumn) → type_of column ≡ Str → HasTerms text_value column
 texts_are (columns.Str c) is = record {
   numbers = refl;
   long = refl;
-  values = λ row. row_of_map (λ ord. text_value (get_or c.terms ord [])) c.ords row;
+  values = λ row. get_or-map_map (λ ord. text_value (get_or c.terms ord [])) c.ords row;
 }
 texts_are (columns.I64 rows) is = absurd (other_type I64 Str refl is)
 texts_are (columns.U64 rows) is = absurd (other_type U64 Str refl is)
@@ -77,7 +72,7 @@ pub bytes_are : (column : DynamicColumn) → type_of column ≡ Bytes → HasTer
 bytes_are (columns.Bytes c) is = record {
   numbers = refl;
   long = refl;
-  values = λ row. row_of_map (λ ord. bytes_value (get_or c.terms ord [])) c.ords row;
+  values = λ row. get_or-map_map (λ ord. bytes_value (get_or c.terms ord [])) c.ords row;
 }
 bytes_are (columns.I64 rows) is = absurd (other_type I64 Bytes refl is)
 bytes_are (columns.U64 rows) is = absurd (other_type U64 Bytes refl is)

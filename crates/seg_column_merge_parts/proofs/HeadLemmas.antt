@@ -1,5 +1,5 @@
 -- Heads in lists, and what a heap of them gives.
-use Rattle.std.proofs.Common.{◌≡◌, ◌⊎◌, zero, suc, false, List, [], ◌∷◌, ◌++◌, map, inl, inr, refl, sym, ap, subst, ◌∙◌, arith}
+use Rattle.std.proofs.Common.{◌≡◌, ◌⊎◌, zero, suc, false, List, [], ◌∷◌, map, inl, inr, refl, sym, ap, subst, ◌∙◌, arith}
 use Rattle.std.specs.Prelude.{Contains}
 use Rattle.std.specs.BinaryHeap.{IsUpperBound}
 use Rattle.std.specs.Cmp.Lexicographic.{slice_cmp}
@@ -17,12 +17,6 @@ use Rattle.seg_column_merge_parts.specs.HeadHeaps.{Entry, Head, Pops, greatest_f
 pub there_in : {X : Type 0} (x y : X) (xs : List X) → Contains (x ∷ xs) y → (x ≡ y) ⊎ Contains xs y
 there_in x y xs (zero, lt, is) = inl is
 there_in x y xs (suc k, lt, is) = inr (k, omega (arith, lt), is)
-
-pub behind_front : {X : Type 0} (front xs : List X) (x : X) → Contains xs x → Contains (front ++ xs) x
-behind_front [] xs x there = there
-behind_front (y ∷ ys) xs x there =
-    let (k, lt, is) = behind_front ys xs x there in
-    (suc k, omega (arith, lt), is)
 
 not_above : (o p q : Ordering) → is_lt (ordering_then (ordering_then o p) q) ≡ false → is_gt (ordering_reverse o) ≡ false
 not_above Less p q le = absurd (false≢true (sym le))

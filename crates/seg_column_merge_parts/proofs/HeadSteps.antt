@@ -7,14 +7,14 @@ use Rattle.std.specs.Ordering.{nat_cmp, is_gt}
 use Rattle.std.specs.declared.cmp.Ordering.TheVariants.{Less}
 use Rattle.std.proofs.lemmas.Bool.{cases_eq, cases_lt, false≢true}
 use Rattle.std.proofs.lemmas.List.{get_or-set_same, get_or-set_other, length-set, length_push}
-use Rattle.std.proofs.lemmas.List.Elements.{All-append, All-cons, All-tail}
+use Rattle.std.proofs.lemmas.List.Elements.{All-append, All-cons, All-tail, Contains-append_right}
 use Rattle.std.proofs.lemmas.List.Sorted.{All-permutation, Contains-permutation, sum_by-IsPermutation, sum_by_popped}
 use Rattle.std.proofs.lemmas.List.Sums.{sum_by-cons}
 use Rattle.std.proofs.lemmas.Map.Keys.{Less-from_sorted}
 use Rattle.seg_column_merge_parts.specs.HeadHeaps.{Head, Pops}
 use Rattle.seg_column_merge_parts.specs.TermHeads.{Advances, AreFirstHeads, AreLong, AreMergedTerms, EndsWith, IsHead, IsLast, IsTermOf, Waits, column_at, heads_at, ordinal_of, with_ordinal}
 use Rattle.seg_column_merge_parts.specs.UsedTerms.{IsNextUsed, MarkedTerms, NoneUsed, no_terms}
-use Rattle.seg_column_merge_parts.proofs.HeadLemmas.{behind_front, least_first, there_in}
+use Rattle.seg_column_merge_parts.proofs.HeadLemmas.{least_first, there_in}
 use Rattle.seg_column_merge_parts.proofs.TermOrder.{Ascends, Follows, ascends_more, follows_last, last_of, stays}
 
 module _ (columns : List MarkedTerms) where
@@ -47,7 +47,7 @@ module _ (columns : List MarkedTerms) where
     waits_on h waits = record {
       head = waits.head;
       there = Contains-permutation (heads_at m place goes.next ++ old) new waits.head goes.moves
-          (behind_front (heads_at m place goes.next) old waits.head waits.there);
+          (Contains-append_right (heads_at m place goes.next) old waits.head waits.there);
       same = waits.same;
       before = waits.before;
     }

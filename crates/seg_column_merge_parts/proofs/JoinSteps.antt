@@ -43,14 +43,6 @@ both_parts out ends values between after first second =
 
 -- ---- results
 
-pub on_ok_then : {T E : Type 0} {P Q : Type 0} (r : Result T E) → (P → Q) → OnOk r P → OnOk r Q
-on_ok_then (Ok x) f h = f h
-on_ok_then (Err e) f h = tt
-
-pub on_ok_always : {T E : Type 0} {P : Type 0} (r : Result T E) → P → OnOk r P
-on_ok_always (Ok x) h = h
-on_ok_always (Err e) h = tt
-
 pub on_ok_cond : {T E : Type 0} (r : Result T E) (new more old : List ℕ) → new ≡ cond (is_ok r) more old
     → OnOk r (new ≡ more)
 on_ok_cond (Ok x) new more old h = h

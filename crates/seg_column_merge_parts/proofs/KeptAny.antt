@@ -3,47 +3,17 @@ use Rattle.std.proofs.Common.{◌≡◌, ℕ, zero, suc, ◌<◌, Bool, true, fa
 use mathlib.Core.Bool.{false≢true}
 use Rattle.std.specs.Prelude.{◌&&◌, nat_eq}
 use Rattle.std.specs.List.{list_any}
-use Rattle.std.proofs.lemmas.Bool.Decides.{nat_tests}
+use Rattle.std.proofs.lemmas.Bool.{or_right, eqb-true, or_left, and_from}
+use Rattle.std.specs.Cmp.{both_ways, first_so, second_so}
+use Rattle.seg_common.proofs.Numbers.{nat_eq-itself}
+use Rattle.seg_common.proofs.Bools.{or_grouped}
 use Rattle.seg_column_file.specs.RowOrders.{Place}
 use Rattle.seg_column_file.specs.KeptRows.{AreMarks, is_kept, kept_values}
-
-same_bool : (a b : Bool) → (a ≡ true → b ≡ true) → (b ≡ true → a ≡ true) → a ≡ b
-same_bool true b f g = sym (f refl)
-same_bool false true f g = g refl
-same_bool false false f g = refl
-
-or_assoc : (a b c : Bool) → (a || (b || c)) ≡ ((a || b) || c)
-or_assoc true b c = refl
-or_assoc false b c = refl
-
-or_left : (a b : Bool) → a ≡ true → (a || b) ≡ true
-or_left a b e = ap (λ c. c || b) e
-
-or_right : (a b : Bool) → b ≡ true → (a || b) ≡ true
-or_right true b e = refl
-or_right false b e = e
-
-left_true : (a b : Bool) → (a && b) ≡ true → a ≡ true
-left_true true b e = refl
-left_true false b e = e
-
-right_true : (a b : Bool) → (a && b) ≡ true → b ≡ true
-right_true true b e = e
-right_true false b e = absurd (false≢true e)
-
-both_true : (a b : Bool) → a ≡ true → b ≡ true → (a && b) ≡ true
-both_true a b e h = ap (λ c. c && b) e ∙ h
-
-pub number_itself : (n : ℕ) → nat_eq n n ≡ true
-number_itself n = grind (arith, nat_tests)
-
-same_number : (m n : ℕ) → nat_eq m n ≡ true → m ≡ n
-same_number m n e = grind (arith, nat_tests)
 
 module _ {T : Type 0} (p : T → Bool) where
   pub any_both : (xs ys : List T) → list_any p (xs ++ ys) ≡ (list_any p xs || list_any p ys)
   any_both [] ys = refl
-  any_both (x ∷ xs) ys = ap (λ b. p x || b) (any_both xs ys) ∙ or_assoc (p x) (list_any p xs) (list_any p ys)
+  any_both (x ∷ xs) ys = ap (λ b. p x || b) (any_both xs ys) ∙ or_grouped (p x) (list_any p xs) (list_any p ys)
 
   -- ---- by marks
 
@@ -104,10 +74,10 @@ module _ {T : Type 0} (p : T → Bool) where
         → list_any p (get_or rows r []) ≡ true → (is_kept rest file r ≡ true → list_any hits rest ≡ true)
         → (b : Bool) → (nat_eq file a.0 && nat_eq r a.1) ≡ b → (hits a || list_any hits rest) ≡ true
     place_here a rest r is q later true e =
-        let at : r ≡ a.1 = same_number r a.1 (right_true (nat_eq file a.0) (nat_eq r a.1) e) in
+        let at : r ≡ a.1 = eqb-true r a.1 (second_so (nat_eq file a.0) (nat_eq r a.1) e) in
         or_left (hits a) (list_any hits rest)
-        (both_true (nat_eq file a.0) (list_any p (get_or rows a.1 []))
-        (left_true (nat_eq file a.0) (nat_eq r a.1) e) (ap (λ k. list_any p (get_or rows k [])) (sym at) ∙ q))
+        (and_from (nat_eq file a.0) (list_any p (get_or rows a.1 []))
+        (first_so (nat_eq file a.0) (nat_eq r a.1) e) (ap (λ k. list_any p (get_or rows k [])) (sym at) ∙ q))
     place_here a rest r is q later false e =
         or_right (hits a) (list_any hits rest) (later (sym (ap (λ b. b || is_kept rest file r) e) ∙ is))
 
@@ -127,9 +97,9 @@ module _ {T : Type 0} (p : T → Bool) where
     place_first a rest e later true h = record {
       row = a.1;
       kept = or_left (nat_eq file a.0 && nat_eq a.1 a.1) (is_kept rest file a.1)
-          (both_true (nat_eq file a.0) (nat_eq a.1 a.1)
-          (left_true (nat_eq file a.0) (list_any p (get_or rows a.1 [])) h) (number_itself a.1));
-      passes = right_true (nat_eq file a.0) (list_any p (get_or rows a.1 [])) h;
+          (and_from (nat_eq file a.0) (nat_eq a.1 a.1)
+          (first_so (nat_eq file a.0) (list_any p (get_or rows a.1 [])) h) (nat_eq-itself a.1));
+      passes = second_so (nat_eq file a.0) (list_any p (get_or rows a.1 [])) h;
     }
     place_first a rest e later false h =
         let found = later (sym (ap (λ b. b || list_any hits rest) h) ∙ e) in
@@ -148,7 +118,7 @@ module _ {T : Type 0} (p : T → Bool) where
         → length rows ≡ get_or counts file 0
         → list_any p (kept_values (get_or kept file []) rows) ≡ list_any hits places
     any_kept counts places kept are long =
-        same_bool (list_any p (kept_values (get_or kept file []) rows)) (list_any hits places)
+        both_ways (list_any p (kept_values (get_or kept file []) rows)) (list_any hits places)
         (λ e.
         let f = kept_where (get_or kept file []) rows e in
         place_at places f.row

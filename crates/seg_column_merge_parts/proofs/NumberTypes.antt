@@ -4,16 +4,13 @@ use Rattle.std.specs.Prelude.{◌&&◌, nat_lt, if◌then◌else◌}
 use Rattle.std.specs.List.{list_any, list_all}
 use Rattle.std.specs.Int.{is_negative}
 use Rattle.std.proofs.lemmas.Bool.Decides.{nat_tests}
-use Rattle.seg_common.proofs.Lists.{list_any-map}
+use Rattle.std.proofs.Math.Bool.{not-not}
+use Rattle.seg_common.proofs.Lists.{list_any-map, list_any-same}
 use Rattle.seg_common.specs.declared.column_type.ColumnType.{ColumnType}
 use Rattle.seg_common.specs.declared.column_type.ColumnType.TheVariants.{I64, U64}
 use Rattle.seg_model.specs.Columns.{ColumnValue, number, fits_i64, free_number_type, is_not_negative}
 use Rattle.seg_column_merge_parts.specs.declared.number_range.NumberRange.{NumberRange}
 use Rattle.seg_column_merge_parts.specs.NumberRanges.{is_large, type_of_range}
-
-not_not : (b : Bool) → not (not b) ≡ b
-not_not true = refl
-not_not false = refl
 
 and_not : (a b : Bool) → (a && not b) ≡ not (not a || b)
 and_not true b = refl
@@ -26,18 +23,14 @@ module _ {X : Type 0} (f : X → Bool) where
   all_pass (x ∷ xs) = ap (λ b. f x && b) (all_pass xs) ∙ and_not (f x) (list_any (λ x. not (f x)) xs)
 
   some_fail : (xs : List X) → not (list_all f xs) ≡ list_any (λ x. not (f x)) xs
-  some_fail xs = ap not (all_pass xs) ∙ not_not (list_any (λ x. not (f x)) xs)
-
-any_same : {X : Type 0} (f g : X → Bool) → ((x : X) → f x ≡ g x) → (xs : List X) → list_any f xs ≡ list_any g xs
-any_same f g h [] = refl
-any_same f g h (x ∷ xs) = (λ i. h x i || any_same f g h xs i)
+  some_fail xs = ap not (all_pass xs) ∙ not-not (list_any (λ x. not (f x)) xs)
 
 -- all of all rows pass where none of any fails
 rows_pass : {X : Type 0} (f : X → Bool) (rows : List (List X))
     → list_all (list_all f) rows ≡ not (list_any (list_any (λ x. not (f x))) rows)
 rows_pass f rows =
     all_pass (list_all f) rows
-    ∙ ap not (any_same (λ row. not (list_all f row)) (list_any (λ x. not (f x))) (some_fail f) rows)
+    ∙ ap not (list_any-same (λ row. not (list_all f row)) (list_any (λ x. not (f x))) (some_fail f) rows)
 
 -- the choice by the range, and that of the model
 abbrev by_range : Bool → Bool → Option ColumnType
@@ -72,7 +65,7 @@ pub negative_signed : (zs : List ℤ)
     → list_any (λ v. not (is_not_negative v)) (map number zs) ≡ list_any is_negative zs
 negative_signed zs =
     list_any-map (λ v. not (is_not_negative v)) number zs
-    ∙ any_same (λ z. not (is_not_negative (number z))) is_negative negative_same zs
+    ∙ list_any-same (λ z. not (is_not_negative (number z))) is_negative negative_same zs
 
 pub large_unsigned : (ns : List ℕ)
     → list_any (λ v. not (fits_i64 v)) (map (λ n. number (pos n)) ns) ≡ list_any is_large ns

@@ -6,13 +6,10 @@ use Rattle.std.proofs.lemmas.Bool.{false≢true}
 use Rattle.std.proofs.lemmas.Bool.Decides.{nat_tests}
 use Rattle.std.proofs.lemmas.List.{get_or-replicate, get_or-set_same, get_or-set_other, length-replicate}
 use Rattle.std.proofs.lemmas.List.Folds.{list_any-append}
+use Rattle.std.proofs.Math.Bool.{or-true}
 use Rattle.seg_columns.specs.TermColumns.{UsesEach}
 use Rattle.seg_column_file.specs.KeptRows.{kept_values}
 use Rattle.seg_column_merge_parts.specs.UsedOrdinals.{AreUsed}
-
-or_true : (a : Bool) → (a || true) ≡ true
-or_true true = refl
-or_true false = refl
 
 -- the mark of one takes it out of what is left
 pub ordinal_marked : (old new : List ℕ) (ord : ℕ) → old ≡ ord ∷ new → (marks : List Bool) (o : ℕ) → ord < length marks
@@ -30,7 +27,7 @@ ordinal_marked old new ord is marks o lt = by (nat_eq o ord) refl
         ∙ get_or-set_same marks ord true false lt in
         ap (λ b. b || list_any (nat_eq o) new) marked
         ∙ sym (ap (λ b. get_or marks o false || (b || list_any (nat_eq o) new)) (sym e)
-        ∙ or_true (get_or marks o false))
+        ∙ or-true (get_or marks o false))
     by false e =
         let other : o ≡ ord → ⊥ = λ same. grind (arith, nat_tests) in
         let stays : get_or (set marks ord true) o false ≡ get_or marks o false =

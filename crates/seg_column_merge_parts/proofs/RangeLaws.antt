@@ -2,28 +2,22 @@
 use Rattle.std.proofs.Common.{◌≡◌, ℕ, ℤ, Bool, true, false, ◌||◌, List, [], ◌∷◌, refl, ◌∙◌}
 use Rattle.std.specs.List.{list_any}
 use Rattle.std.specs.Int.{is_negative}
+use Rattle.std.proofs.Math.Bool.{or_assoc}
+use Rattle.std.proofs.Math.Bool.{or-true}
 use Rattle.seg_column_merge_parts.specs.declared.number_range.NumberRange.{NumberRange}
 use Rattle.seg_column_merge_parts.specs.KeptColumns.{there}
 use Rattle.seg_column_merge_parts.specs.NumberRanges.{is_large, with_all, with_signed, with_unsigned}
 
-or_assoc : (a b c : Bool) → ((a || b) || c) ≡ (a || (b || c))
-or_assoc true b c = refl
-or_assoc false b c = refl
-
 or_false : (a : Bool) → a ≡ (a || false)
 or_false true = refl
 or_false false = refl
-
-or_true : (a : Bool) → true ≡ (a || true)
-or_true true = refl
-or_true false = refl
 
 -- ---- signed numbers
 
 pub signed_some : (range : NumberRange) (zs : List ℤ)
     → (with_all with_signed range zs).some ≡ (range.some || list_any there zs)
 signed_some range [] = or_false range.some
-signed_some range (z ∷ zs) = signed_some (with_signed range z) zs ∙ or_true range.some
+signed_some range (z ∷ zs) = signed_some (with_signed range z) zs ∙ sym (or-true range.some)
 
 pub signed_negative : (range : NumberRange) (zs : List ℤ)
     → (with_all with_signed range zs).negative ≡ (range.negative || list_any is_negative zs)
@@ -40,7 +34,7 @@ signed_large range (z ∷ zs) = signed_large (with_signed range z) zs
 pub unsigned_some : (range : NumberRange) (ns : List ℕ)
     → (with_all with_unsigned range ns).some ≡ (range.some || list_any there ns)
 unsigned_some range [] = or_false range.some
-unsigned_some range (n ∷ ns) = unsigned_some (with_unsigned range n) ns ∙ or_true range.some
+unsigned_some range (n ∷ ns) = unsigned_some (with_unsigned range n) ns ∙ sym (or-true range.some)
 
 pub unsigned_negative : (range : NumberRange) (ns : List ℕ)
     → (with_all with_unsigned range ns).negative ≡ range.negative

@@ -4,16 +4,15 @@ use Rattle.std.specs.Prelude.{All}
 use Rattle.std.specs.Cmp.Lexicographic.{slice_cmp}
 use Rattle.std.specs.List.{AllByRecursion}
 use Rattle.std.specs.List.Sorted.{IsStrictlySortedBy}
-use Rattle.std.specs.Ordering.{nat_cmp, is_eq, is_gt}
+use Rattle.std.specs.Ordering.{nat_cmp, is_gt}
 use Rattle.std.specs.declared.cmp.Ordering.{Ordering}
 use Rattle.std.specs.declared.cmp.Ordering.TheVariants.{Less, Equal, Greater}
 use Rattle.std.proofs.lemmas.Bool.{cases_lt, false≢true}
 use Rattle.std.proofs.lemmas.Cmp.{nat_list_cmp_total}
 use Rattle.std.proofs.lemmas.List.Elements.{recursion_from_All}
 use Rattle.std.proofs.lemmas.Map.Keys.{Less-from_sorted}
-use Rattle.std.proofs.lemmas.Map.Text.{is_eq-slice_cmp}
 use Rattle.std.proofs.lemmas.Option.{get_or_from_slice_get, none-some, slice_get_within}
-use Rattle.std.proofs.lemmas.Slice.Eq.{bytes_eq-Decides}
+use Rattle.seg_common.proofs.Bytes.{same_term}
 use Rattle.seg_column_merge_parts.specs.TermHeads.{IsLast}
 
 abbrev pub Below : List ℕ → List ℕ → Type 0
@@ -25,9 +24,6 @@ Ascends terms = IsStrictlySortedBy (slice_cmp nat_cmp) terms
 -- a term is above all, or is the last one
 abbrev pub Follows : List (List ℕ) → List ℕ → Type 0
 Follows terms term = All (λ x. Below x term) terms ⊎ IsLast terms term
-
-pub same_terms : (x y : List ℕ) → slice_cmp nat_cmp x y ≡ Equal → x ≡ y
-same_terms x y e = (bytes_eq-Decides x y).0 (sym (is_eq-slice_cmp x y) ∙ ap is_eq e)
 
 all_with : (P : List ℕ → Type 0) (xs : List (List ℕ)) (x : List ℕ) → AllByRecursion P xs → P x
     → AllByRecursion P (xs ++ x ∷ [])
@@ -79,5 +75,5 @@ module _ (terms : List (List ℕ)) (up : Ascends terms) (last : List ℕ) (is : 
     where
       by : (o : Ordering) → slice_cmp nat_cmp last next ≡ o → Follows terms next
       by Less e = inl (below_next next e)
-      by Equal e = inr (subst (IsLast terms) (same_terms last next e) is)
+      by Equal e = inr (subst (IsLast terms) (same_term last next e) is)
       by Greater e = absurd (false≢true (sym le ∙ ap is_gt e))

@@ -10,6 +10,7 @@ use Rattle.std.proofs.lemmas.List.{append_cancel_right, drop-drop, get_or-drop, 
 use Rattle.std.proofs.lemmas.List.Folds.{drop_split}
 use Rattle.std.proofs.lemmas.List.FromFn.{take-map-range_with_len}
 use Rattle.std.proofs.lemmas.Nat.{le_bytes_8}
+use Rattle.std.proofs.lemmas.Option.{same_Some}
 use Rattle.seg_common.specs.LittleEndian.{u64_at}
 use Rattle.seg_columns.specs.Addresses.{address, address_of}
 use Rattle.seg_columns.specs.Columns.{AreKnown, IsColumn, row_of, rows_of, value_at}
@@ -141,14 +142,11 @@ module _ {T : Type 0} (width : ℕ) (decoded : List ℕ → Option T) (encoded :
 
 -- ---- numbers and addresses
 
-same_some : {T : Type 0} (x y : T) → Some x ≡ Some y → x ≡ y
-same_some x y e = cc
-
 pub number_again : IsWrittenAgain 8 unsigned (to_le_bytes w64)
 unfolding u64_at
 number_again part x long small read =
     le_bytes_8 part x long small
-    (sym (same_some (from_le_bytes w64 (take 8 part)) x read) ∙ ap (from_le_bytes w64) (take_all 8 part (omega (arith, long))))
+    (sym (same_Some (from_le_bytes w64 (take 8 part)) x read) ∙ ap (from_le_bytes w64) (take_all 8 part (omega (arith, long))))
 
 octets_kept : (n : ℕ) (xs : List ℕ) → length xs ≡ 2 * n → AreOctets xs → octets_of (segments_of xs) ≡ xs
 octets_kept n [] even small = refl
@@ -161,4 +159,4 @@ octets_kept n (a ∷ b ∷ xs) even small =
 
 pub address_again : IsWrittenAgain 16 address ipv6_octets
 address_again part x long small read =
-    ap ipv6_octets (sym (same_some (address_of part) x read)) ∙ octets_kept 8 part (omega (arith, long)) small
+    ap ipv6_octets (sym (same_Some (address_of part) x read)) ∙ octets_kept 8 part (omega (arith, long)) small

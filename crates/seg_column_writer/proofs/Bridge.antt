@@ -16,14 +16,13 @@ use Rattle.std.proofs.lemmas.Option.{same_Some}
 use Rattle.seg_common.specs.declared.column_type.ColumnType.{ColumnType}
 use Rattle.seg_common.specs.declared.column_type.ColumnType.TheVariants as types
 use Rattle.seg_model.specs.Columns.{ColumnKey, ColumnValue, column_at, column_cmp, column_named, fits_i64, free_number_type, if_there, is_declared, is_filled, is_mixed, is_not_negative, is_type, type_place, without_values}
-use Rattle.seg_column_file.specs.ColumnTable.{type_of_code}
 use Rattle.seg_column_format.specs.FileBytes.{code_of}
 use Rattle.seg_column_writer.specs.Kinds.{kind_of, kind_place}
 use Rattle.seg_column_writer.specs.Records.{ColumnRecord, is_named}
 use Rattle.seg_column_writer.specs.Recorded.{IsOfKind, column_type_of, declared_in, entries_in, entry_of, has_values, is_there, option_or, rows_at, rows_in, type_of_values, typed_entry}
 use Rattle.seg_column_writer.specs.declared.value_kind.ValueKind.{ValueKind}
 use Rattle.seg_column_writer.specs.declared.value_kind.ValueKind.TheVariants.{Number, Bytes, Str, Bool as Boolean, IpAddr, DateTime}
-use Rattle.seg_column_format.proofs.EntryLaws.{type_read}
+use Rattle.seg_column_format.proofs.Exports.{same_type}
 
 -- ---- keys
 
@@ -35,11 +34,6 @@ place_is_code types.Str = refl
 place_is_code types.Bool = refl
 place_is_code types.IpAddr = refl
 place_is_code types.DateTime = refl
-
--- types with the same place are one
-pub same_type : (t u : ColumnType) → type_place t ≡ type_place u → t ≡ u
-same_type t u e =
-    sym (type_read t) ∙ ap type_of_code (sym (place_is_code t) ∙ e ∙ place_is_code u) ∙ type_read u
 
 kind_at : ℕ → ValueKind
 kind_at zero = Number
@@ -75,10 +69,6 @@ key_eq q k =
 
 abbrev pub keyed : List ℕ → ColumnType → ColumnKey
 keyed path type = record { path = path; type = type }
-
-and_false : (a : Bool) → (a && false) ≡ false
-and_false true = refl
-and_false false = refl
 
 -- a column that isn't named by a key has none of this key
 pub not_keyed : (path : List ℕ) (type : ColumnType) (c : ColumnRecord) (t : ColumnType) → kind_of t ≡ c.recording.kind
@@ -494,7 +484,7 @@ declared_first : (named rest : List ColumnKey) (key : ColumnKey) → is_declared
 declared_first named rest key none =
     list_any-append (eq_by_cmp column_cmp key) named rest ∙ or_false (is_declared named key) (is_declared rest key) none
 
-no_rows : (low count : ℕ) → list_any is_filled (map {B = List ColumnValue} (λ _. []) (range_with_len low count)) ≡ false
+pub no_rows : (low count : ℕ) → list_any is_filled (map {B = List ColumnValue} (λ _. []) (range_with_len low count)) ≡ false
 no_rows low zero = refl
 no_rows low (suc count) = no_rows (low + 1) count
 

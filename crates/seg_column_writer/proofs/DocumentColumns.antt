@@ -1,5 +1,5 @@
 -- The columns of all that documents recorded are the model's.
-use Rattle.std.proofs.Common.{◌≡◌, ℕ, zero, suc, ◌+◌, Bool, true, false, cond, List, [], ◌∷◌, ◌++◌, length, map, filter, Option, Some, None, refl, sym, subst, ap, ◌∙◌}
+use Rattle.std.proofs.Common.{◌≡◌, ℕ, suc, ◌+◌, Bool, true, false, cond, List, [], ◌∷◌, ◌++◌, length, map, filter, Option, Some, None, refl, sym, subst, ap, ◌∙◌}
 use Rattle.std.specs.Prelude.{◌&&◌, ◌||◌, nat_eq, not}
 use Rattle.std.specs.List.{AllByRecursion, flat_map, list_all, list_any, range_with_len}
 use Rattle.std.specs.Ordering.{eq_by_cmp}
@@ -12,14 +12,14 @@ use Rattle.seg_common.proofs.Tables.{IsComplete, IsCovered, any_same, first_fals
 use Rattle.seg_common.specs.Tables.{is_among, tabulated}
 use Rattle.seg_common.specs.declared.column_type.ColumnType.{ColumnType}
 use Rattle.seg_common.specs.declared.column_type.ColumnType.TheVariants as types
-use Rattle.seg_model.proofs.Exports.{column_cmp_total}
+use Rattle.seg_model.proofs.Exports.{column_cmp_total, values_at-none}
 use Rattle.seg_model.specs.Columns.{ColumnKey, ColumnValue, FastValue, column_at, column_cmp, columns_from, columns_of, fits_i64, if_there, is_declared, is_filled, is_mixed, is_not_negative, is_number, is_type, number_type, rows_of, type_place, value_keys, values_at, without_values}
 use Rattle.seg_column_writer.specs.Documents.{AreArranged, arranged, sorts_at, with_rows}
 use Rattle.seg_column_writer.specs.Kinds.{kind_of}
 use Rattle.seg_column_writer.specs.Recorded.{all_types, declared_in, keys_in, keys_with, recorded_columns, rows_at, rows_in}
 use Rattle.seg_column_writer.specs.Records.{ColumnRecord, is_named}
 use Rattle.seg_column_writer.proofs.DocumentRows.{declared_rows, row_with_rows, rows_added, rows_are, rows_split, sorts_rows, values_of_row}
-use Rattle.seg_column_writer.proofs.Bridge.{key_eq}
+use Rattle.seg_column_writer.proofs.Bridge.{key_eq, no_rows}
 use Rattle.seg_column_writer.proofs.RowSteps.{named_path}
 use Rattle.seg_column_writer.proofs.Whole.{all_fail, apart_keys}
 
@@ -111,10 +111,6 @@ module _ (declared : List ColumnKey) where
 
 -- ---- where columns and documents have nothing
 
-no_rows : (low count : ℕ) → list_any is_filled (map {B = List ColumnValue} (λ _. []) (range_with_len low count)) ≡ false
-no_rows low zero = refl
-no_rows low (suc count) = no_rows (low + 1) count
-
 pub column_keys : (count : ℕ) (cs : List ColumnRecord) → IsNothingElse (declared_in cs) (rows_at count cs) (keys_in cs)
 column_keys count [] q none = no_rows 0 count
 column_keys count (c ∷ cs) q none = by (is_named q.path (kind_of q.type) c) refl (column_keys count cs q)
@@ -136,15 +132,6 @@ column_keys count (c ∷ cs) q none = by (is_named q.path (kind_of q.type) c) re
         itself = key_eq q q ∙ (λ j. (bytes_decides q.path q.path).1 refl j
             && (Decides-eqb (type_place q.type) (type_place q.type)).1 refl j)
 
-none_at : (q : ColumnKey) (vs : List FastValue) → is_among column_cmp (flat_map value_keys vs) q ≡ false → values_at q vs ≡ []
-none_at q [] none = refl
-none_at q (v ∷ vs) none =
-    let both = sym (list_any-append (eq_by_cmp column_cmp q) (value_keys v) (flat_map value_keys vs)) ∙ none in
-    let others : List FastValue = filter (λ x. is_among column_cmp (value_keys x) q) vs in
-    ap (λ (b : Bool). map (λ (x : FastValue). x.value) (cond b (v ∷ others) others))
-    (first_false (is_among column_cmp (value_keys v) q) (is_among column_cmp (flat_map value_keys vs) q) both)
-    ∙ none_at q vs (second_false (is_among column_cmp (value_keys v) q) (is_among column_cmp (flat_map value_keys vs) q) both)
-
 document_keys : (declared : List ColumnKey) (ds : List (List FastValue))
     → IsNothingElse declared (λ k. map (values_at k) ds) (flat_map (flat_map value_keys) ds)
 document_keys declared [] q none = refl
@@ -153,7 +140,7 @@ document_keys declared (d ∷ ds) q none =
     let rest : Bool = is_among column_cmp (flat_map (flat_map value_keys) ds) q in
     let both = sym (list_any-append (eq_by_cmp column_cmp q) (flat_map value_keys d) (flat_map (flat_map value_keys) ds)) ∙ none in
     or_from (is_filled (values_at q d)) (list_any is_filled (map (values_at q) ds))
-    (ap is_filled (none_at q d (first_false first rest both))) (document_keys declared ds q (second_false first rest both))
+    (ap is_filled (values_at-none q d (first_false first rest both))) (document_keys declared ds q (second_false first rest both))
 
 -- ---- the whole
 
@@ -170,7 +157,7 @@ nothing_yet at key (c ∷ cs) empty = by (is_named key.path (kind_of key.type) c
     by true rest = ap (λ vs. map (λ v. v.value) (filter (λ v. nat_eq v.row at) vs)) empty.0
     by false rest = rest
 
-same_length : (cs : List ColumnRecord) (rs ds : List (List FastValue)) → AreArranged cs rs ds → length ds ≡ length rs
+pub same_length : (cs : List ColumnRecord) (rs ds : List (List FastValue)) → AreArranged cs rs ds → length ds ≡ length rs
 same_length cs [] [] arranges = refl
 same_length cs [] (d ∷ ds) arranges = absurd arranges
 same_length cs (r ∷ rs) [] arranges = absurd arranges

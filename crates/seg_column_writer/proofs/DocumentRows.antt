@@ -20,7 +20,8 @@ use Rattle.seg_column_writer.specs.Records.{ColumnRecord, Recording, RowedValue,
 use Rattle.seg_column_writer.specs.Takes.{with_recorded}
 use Rattle.seg_column_writer.specs.declared.value_kind.ValueKind.{ValueKind}
 use Rattle.seg_column_writer.proofs.Bridge.{key_eq}
-use Rattle.seg_column_writer.proofs.RowSteps.{any_with, named_kind, named_path, new_column, place_with}
+use Rattle.seg_column_writer.proofs.RowSteps.{any_with, named_path, new_column, place_with}
+use Rattle.seg_column_writer.proofs.TakeLaws.{kind_named}
 
 -- ---- values of a row, as they came
 
@@ -86,7 +87,7 @@ module _ (at row : ℕ) (value : ColumnValue) where
     here c cs is =
         by (is_named key.path (kind_of key.type) c)
         ∙ ap (λ (x : Bool). values_of_row at (c ∷ cs) key ++ added at row x value)
-        (λ j. nat_eq (kind_place (kind_of key.type)) (kind_place (named_kind path kind c is j))
+        (λ j. nat_eq (kind_place (kind_of key.type)) (kind_place (kind_named path kind c is j))
         && bytes_eq key.path (named_path path kind c is j))
       where
         by : (b : Bool) → cond b (row_of at (change c.recording)) (values_of_row at cs key)
@@ -158,7 +159,7 @@ module _ (at row : ℕ) (value : ColumnValue) where
 -- ---- the values of a document
 
 -- the place of a kind is one below that of a type, but for numbers
-below_type : (t : ColumnType) → kind_place (kind_of t) ≡ type_place t - 1
+pub below_type : (t : ColumnType) → kind_place (kind_of t) ≡ type_place t - 1
 below_type types.I64 = refl
 below_type types.U64 = refl
 below_type types.Bytes = refl

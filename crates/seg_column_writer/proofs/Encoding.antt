@@ -1,17 +1,19 @@
 -- Columns of each type, from the numbers of their values.
-use Rattle.std.proofs.Common.{◌≡◌, ℕ, ◌+◌, ◌*◌, ◌/◌, ◌%◌, ◌^◌, ◌<◌, Bool, true, List, [], ◌∷◌, ◌++◌, length, map, get_or, refl, sym, ap, subst, ◌∙◌, div-add-mod'}
+use Rattle.std.proofs.Common.{◌≡◌, ℕ, ◌+◌, ◌^◌, ◌<◌, Bool, true, List, [], ◌∷◌, ◌++◌, length, map, get_or, refl, sym, ap, subst, ◌∙◌}
 use Rattle.std.specs.Prelude.{All, IsUtf8, pos}
 use Rattle.std.specs.List.{AllByRecursion, flat_map}
 use Rattle.std.specs.List.Sorted.{IsStrictlySortedBy}
 use Rattle.std.specs.Int.{w64, to_le_bytes}
 use Rattle.std.specs.Ordering.{nat_cmp}
 use Rattle.std.specs.Cmp.Lexicographic.{slice_cmp}
-use Rattle.std.specs.Net.Addr.{ipv6_octets, octets_of, segments_of}
+use Rattle.std.specs.Net.Addr.{ipv6_octets}
 use Rattle.std.specs.declared.net.ipv6_addr.Ipv6Addr.{Ipv6Addr}
 use Rattle.std.proofs.lemmas.List.{length-map}
 use Rattle.seg_common.specs.Mappable.{is_bit, is_one, lowered}
 use Rattle.seg_common.specs.declared.column_type.ColumnType.{ColumnType}
 use Rattle.seg_common.specs.declared.column_type.ColumnType.TheVariants as types
+use Rattle.seg_common.proofs.Lists.{map_map-map_map}
+use Rattle.seg_values.proofs.Exports.{segments_of-octets_of}
 use Rattle.seg_model.specs.Columns.{ColumnValue, number, bytes_value, text_value, boolean_value, ip_value, date_value}
 use Rattle.seg_columns.specs.Addresses.{address, address_of}
 use Rattle.seg_columns.specs.Columns.{IsColumn, rows_of}
@@ -21,15 +23,6 @@ use Rattle.seg_column_format.specs.ColumnBytes.{IsReadAs, column_bytes, ends_fro
 use Rattle.seg_column_format.specs.ModelColumns.{column_rows, terms_at}
 use Rattle.seg_column_format.proofs.ColumnLaws.{is_column, rows_read_as}
 use Rattle.seg_column_format.proofs.TermLaws.{image_read, is_bytes_column, is_str_column, term_column_read}
-
-map_rows : {S T U : Type 0} (f : S → T) (g : T → U) (rows : List (List S))
-    → map (map g) (map (map f) rows) ≡ map (map (λ x. g (f x))) rows
-map_rows f g [] = refl
-map_rows {S = S} {U = U} f g (row ∷ rows) = λ j. in_row row j ∷ map_rows f g rows j
-  where
-    in_row : (xs : List S) → map g (map f xs) ≡ map (λ x. g (f x)) xs
-    in_row [] = refl
-    in_row (x ∷ xs) = ap (λ (l : List U). g (f x) ∷ l) (in_row xs)
 
 -- ---- numbers of eight bytes
 
@@ -104,21 +97,21 @@ module _ {V : Type 0} (numbered : V → ℕ) (terms : List (List ℕ)) (rows : L
   signed_encoded = record {
     column = image_column numbered rows few fit (λ _. true) lowered (all_true rows);
     values = ap (map (map number)) (image_rows numbered rows few fit (λ _. true) lowered (all_true rows))
-        ∙ map_rows (λ v. lowered (numbered v)) number rows;
+        ∙ map_map-map_map (λ v. lowered (numbered v)) number rows;
   }
 
   pub unsigned_encoded : Encodes numbered types.U64 terms rows numbers
   unsigned_encoded = record {
     column = image_column numbered rows few fit (λ _. true) (λ n. n) (all_true rows);
     values = ap (map (map (λ n. number (pos n)))) (image_rows numbered rows few fit (λ _. true) (λ n. n) (all_true rows))
-        ∙ map_rows numbered (λ n. number (pos n)) rows;
+        ∙ map_map-map_map numbered (λ n. number (pos n)) rows;
   }
 
   pub dates_encoded : Encodes numbered types.DateTime terms rows numbers
   dates_encoded = record {
     column = image_column numbered rows few fit (λ _. true) lowered (all_true rows);
     values = ap (map (map date_value)) (image_rows numbered rows few fit (λ _. true) lowered (all_true rows))
-        ∙ map_rows (λ v. lowered (numbered v)) date_value rows;
+        ∙ map_map-map_map (λ v. lowered (numbered v)) date_value rows;
   }
 
   pub truths_encoded : AllByRecursion (AllByRecursion (λ v. is_bit (numbered v) ≡ true)) rows
@@ -126,20 +119,13 @@ module _ {V : Type 0} (numbered : V → ℕ) (terms : List (List ℕ)) (rows : L
   truths_encoded bits = record {
     column = image_column numbered rows few fit is_bit is_one bits;
     values = ap (map (map boolean_value)) (image_rows numbered rows few fit is_bit is_one bits)
-        ∙ map_rows (λ v. is_one (numbered v)) boolean_value rows;
+        ∙ map_map-map_map (λ v. is_one (numbered v)) boolean_value rows;
   }
 
 -- ---- addresses
 
-same_segments : (segments : List ℕ) → segments_of (octets_of segments) ≡ segments
-same_segments [] = refl
-same_segments (s ∷ segments) = λ j. whole j ∷ same_segments segments j
-  where
-    whole : s / 256 * 256 + s % 256 ≡ s
-    whole = div-add-mod' s 256
-
 pub same_address : (a : Ipv6Addr) → address_of (ipv6_octets a) ≡ a
-same_address a = λ j. record { segments = same_segments a.segments j }
+same_address a = λ j. record { segments = segments_of-octets_of a.segments j }
 
 -- the octets of an address, all sixteen
 abbrev pub AreOctets : List ℕ → Type 0
@@ -182,7 +168,7 @@ module _ {V : Type 0} (numbered : V → ℕ) (terms : List (List ℕ)) (rows : L
     values =
         ap (map (map (λ a. ip_value (ipv6_octets a))))
         (rows_read_as 16 address encoded (λ v. address_of (encoded v)) rows few (address_rows rows octets))
-        ∙ map_rows (λ v. address_of (encoded v)) (λ a. ip_value (ipv6_octets a)) rows ∙ same_rows rows octets;
+        ∙ map_map-map_map (λ v. address_of (encoded v)) (λ a. ip_value (ipv6_octets a)) rows ∙ same_rows rows octets;
   }
 
 -- ---- texts and bytes
@@ -236,7 +222,7 @@ module _ {V : Type 0} (numbered : V → ℕ) (terms : List (List ℕ)) (rows : L
     column = subst (λ (n : ℕ). IsColumnOf types.Bytes n (term_column_bytes ords terms)) same_length
         (is_bytes_column ords terms some few few_ords uses sorted);
     values = ap (λ (c : TermColumn). terms_at bytes_value c.terms c.ords) read
-        ∙ map_rows numbered (λ ord. bytes_value (get_or terms ord [])) rows;
+        ∙ map_map-map_map numbered (λ ord. bytes_value (get_or terms ord [])) rows;
   }
 
   pub texts_encoded : All IsUtf8 terms → Encodes numbered types.Str terms rows (term_column_bytes ords terms)
@@ -244,5 +230,5 @@ module _ {V : Type 0} (numbered : V → ℕ) (terms : List (List ℕ)) (rows : L
     column = subst (λ (n : ℕ). IsColumnOf types.Str n (term_column_bytes ords terms)) same_length
         (is_str_column ords terms some few few_ords uses sorted utf8);
     values = ap (λ (c : TermColumn). terms_at text_value c.terms c.ords) read
-        ∙ map_rows numbered (λ ord. text_value (get_or terms ord [])) rows;
+        ∙ map_map-map_map numbered (λ ord. text_value (get_or terms ord [])) rows;
   }

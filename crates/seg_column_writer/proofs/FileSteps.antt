@@ -5,10 +5,8 @@ use Rattle.std.specs.List.{AllByRecursion}
 use Rattle.std.proofs.lemmas.List.{length-append, length-map, map-append, take_more}
 use Rattle.std.proofs.lemmas.List.Concat.{flat_map-append}
 use Rattle.seg_common.proofs.Lists.{all_push}
-use Rattle.seg_common.specs.declared.column_type.ColumnType.{ColumnType}
 use Rattle.seg_common.specs.declared.column_type.ColumnType.TheVariants as types
 use Rattle.seg_model.specs.Columns.{ColumnKey, ColumnValue}
-use Rattle.seg_columns.specs.DynamicColumns.{column_of, type_of}
 use Rattle.seg_column_file.specs.ColumnFiles.{ColumnFile, IsColumnFile, NamedColumn, columns_from, row_count}
 use Rattle.seg_column_format.specs.FileBytes.{AreColumns, AreInOrder, IsWritten, WrittenColumn, data_bytes, entries_bytes, entry_bytes, file_bytes, footer_bytes, read_column, table_bytes}
 use Rattle.seg_column_writer.specs.Filed.{AddsEntry, AreFiled, FiledColumn, IsFiled, written}
@@ -19,15 +17,7 @@ use Rattle.seg_column_writer.specs.Typed.{AreTyped, IsFileOf, IsTyped, entry_at,
 use Rattle.seg_column_writer.specs.declared.typed_column.TypedColumn.{TypedColumn}
 use Rattle.seg_column_format.proofs.FileLaws.{file_read, is_file}
 use Rattle.seg_column_format.proofs.TableLaws.{entries-append}
-
-same_type : (type : ColumnType) (count : ℕ) (bytes : List ℕ) → type_of (column_of type count bytes) ≡ type
-same_type types.I64 count bytes = refl
-same_type types.U64 count bytes = refl
-same_type types.Bytes count bytes = refl
-same_type types.Str count bytes = refl
-same_type types.Bool count bytes = refl
-same_type types.IpAddr count bytes = refl
-same_type types.DateTime count bytes = refl
+use Rattle.seg_column_format.proofs.Exports.{type_read}
 
 abbrev typed_of : FiledColumn → TypedColumn
 typed_of c = c.typed
@@ -38,7 +28,7 @@ Keyed = ColumnKey × List (List ColumnValue)
 abbrev keyed : NamedColumn → Keyed
 keyed c = (column_key c, column_rows c.stored.column)
 
-data_more : (columns : List WrittenColumn) (c : WrittenColumn)
+pub data_more : (columns : List WrittenColumn) (c : WrittenColumn)
     → data_bytes (columns ++ c ∷ []) ≡ data_bytes columns ++ c.bytes
 data_more columns c =
     flat_map-append (λ (d : WrittenColumn). d.bytes) columns (c ∷ [])
@@ -103,7 +93,7 @@ module _ (count : ℕ) (names : List PathKind) (columns : List Recording) where
   each_entry (f ∷ fs) filed = λ j. (
     record {
       path = path_in names f.typed.place;
-      type = same_type f.typed.column_type count f.bytes j;
+      type = type_read f.typed.column_type count f.bytes j;
     },
     filed.0.rows j,
   )

@@ -8,7 +8,7 @@ use Rattle.std.specs.List.Sorted.{IsPermutation, IsSortedBy}
 use Rattle.std.specs.Map.{keys_of}
 use Rattle.std.specs.Ordering.{is_eq, is_lt, nat_cmp, ordering_reverse, ordering_then}
 use Rattle.std.specs.Str.{bytes_eq}
-use Rattle.std.proofs.lemmas.Bool.{false≢true}
+use Rattle.std.proofs.lemmas.Bool.{false≢true, or_parts}
 use Rattle.std.proofs.lemmas.Bool.Decides.{nat_tests}
 use Rattle.std.proofs.lemmas.List.{map-append}
 use Rattle.std.proofs.lemmas.List.Elements.{All-from_recursion, recursion_from_All}
@@ -33,6 +33,7 @@ use Rattle.seg_column_writer.proofs.Bridge.{AreApart, AreOfKind, IsGood, NoneNam
 use Rattle.seg_column_writer.proofs.Goodness.{is_good, type_is}
 use Rattle.seg_column_writer.proofs.Mixing.{AreFree, undefined}
 use Rattle.seg_column_writer.proofs.Whole.{names_distinct, recorded_is, same_name, same_name-sym}
+use Rattle.seg_column_writer.proofs.DocumentRows.{below_type}
 
 abbrev Rows : Type 0
 Rows = List (List ColumnValue)
@@ -79,16 +80,12 @@ typed_is : (o : Option ColumnType) → not (is_some o) ≡ false → is_some o �
 typed_is None none = absurd (false≢true (sym none))
 typed_is (Some t) none = refl
 
-both_false : (a b : Bool) → (a || b) ≡ false → (a ≡ false) × (b ≡ false)
-both_false true b e = absurd (false≢true (sym e))
-both_false false b e = (refl, e)
-
 pub named_good : (count : ℕ) (names : List PathKind) (rs : List Recording) → AllByRecursion IsRecorded rs
     → AllByRecursion (IsWithin count) rs → list_any lacks_type rs ≡ false → AllByRecursion (IsGood count) (named names rs)
 named_good count [] rs each within typed = tt
 named_good count (n ∷ names) [] each within typed = tt
 named_good count (n ∷ names) (r ∷ rs) each within typed =
-    let both = both_false (lacks_type r) (list_any lacks_type rs) typed in (
+    let both = or_parts (lacks_type r) (list_any lacks_type rs) typed in (
       is_good count (record { path = n.path; recording = r }) each.0.kind each.0.rise (within_each count r within.0)
           (typed_is (column_type_of r) both.0),
       named_good count names rs each.1 within.1 both.1,
@@ -189,15 +186,6 @@ module _ (count : ℕ) (all : List PathKind) (columns : List Recording) where
 
 -- ---- their order
 
-place_kind : (t : ColumnType) → kind_place (kind_of t) ≡ type_place t - 1
-place_kind types.I64 = refl
-place_kind types.U64 = refl
-place_kind types.Bytes = refl
-place_kind types.Str = refl
-place_kind types.Bool = refl
-place_kind types.IpAddr = refl
-place_kind types.DateTime = refl
-
 apart_places : (m n : ℕ) → nat_eq (m - 1) (n - 1) ≡ false → is_lt (nat_cmp n m) ≡ false → are_apart m n ≡ true
 apart_places m n other up = grind (arith, nat_tests)
 
@@ -206,7 +194,7 @@ apart_types : (t u : ColumnType) → nat_eq (kind_place (kind_of t)) (kind_place
 apart_types t u other up =
     (λ j. are_apart (sym (place_is_code t) j) (sym (place_is_code u) j))
     ∙ apart_places (type_place t) (type_place u)
-    ((λ j. nat_eq (sym (place_kind t) j) (sym (place_kind u) j)) ∙ other) up
+    ((λ j. nat_eq (sym (below_type t) j) (sym (below_type u) j)) ∙ other) up
 
 and_true : (a b : Bool) → b ≡ true → (a && b) ≡ false → a ≡ false
 and_true true b e h = sym e ∙ h

@@ -6,6 +6,8 @@ use Rattle.std.specs.List.{AllByRecursion, flat_map, list_all, list_any, range_w
 use Rattle.std.proofs.lemmas.Bool.Decides.{Decides-eqb}
 use Rattle.std.proofs.lemmas.List.{length-map}
 use Rattle.std.proofs.lemmas.List.FromFn.{get_or-map-range_with_len, length-range_with_len}
+use Rattle.std.proofs.lemmas.List.Folds.{list_any_at}
+use Rattle.std.proofs.Math.Bool.{and_assoc}
 use Rattle.seg_model.specs.Columns.{ColumnValue, fits_i64, free_number_type, is_filled, is_not_negative}
 use Rattle.seg_column_writer.specs.Records.{ColumnRecord, Recording, RowedValue}
 use Rattle.seg_column_writer.specs.Recorded.{IsOfKind, column_type_of, has_values, in_order, put_in_order, row_values, rows_in, type_of_values, value_cmp}
@@ -14,7 +16,6 @@ use Rattle.seg_column_writer.specs.declared.value_kind.ValueKind.{ValueKind}
 use Rattle.seg_column_writer.specs.declared.value_kind.ValueKind.TheVariants.{Number, Bytes, Str, Bool as Boolean, IpAddr, DateTime}
 use Rattle.seg_column_writer.proofs.Bridge.{IsGood, type_of_rows}
 use Rattle.seg_column_format.proofs.RowLaws.{in_a_row}
-use Rattle.seg_column_format.proofs.TermNumbers.{passes_at}
 
 abbrev row : RowedValue → ℕ
 row v = v.row
@@ -42,10 +43,6 @@ module _ (test : ColumnValue → Bool) where
   all_ordered : (vs : List ColumnValue) → list_all test (in_order vs) ≡ list_all test vs
   all_ordered [] = refl
   all_ordered (v ∷ vs) = all_put v (in_order vs) ∙ ap (λ (b : Bool). test v && b) (all_ordered vs)
-
-  and_assoc : (a b c : Bool) → ((a && b) && c) ≡ (a && (b && c))
-  and_assoc true b c = refl
-  and_assoc false b c = refl
 
   all_append : (vs : List RowedValue) (ws : List RowedValue)
       → list_all test (values_of (vs ++ ws)) ≡ (list_all test (values_of vs) && list_all test (values_of ws))
@@ -132,7 +129,7 @@ filled_is recording count all = by recording.values refl all
         → list_any is_filled (rows_in count recording) ≡ has_values vs
     by [] is below = none_filled recording 0 count is
     by (v ∷ vs) is below =
-        passes_at is_filled (rows_in count recording) v.row []
+        list_any_at is_filled (rows_in count recording) v.row []
         (omega (arith, below.0, length-map (range_with_len 0 count) (row_values recording), length-range_with_len 0 count))
         (ap is_filled (get_or-map-range_with_len (row_values recording) 0 count v.row v.row [] below.0 (omega arith))
         ∙ filled_here recording v vs is)

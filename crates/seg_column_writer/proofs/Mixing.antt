@@ -4,27 +4,24 @@ use Rattle.std.specs.Prelude.{◌||◌, ◌&&◌, not, is_some, nat_eq, if◌the
 use Rattle.std.specs.Cmp.Lexicographic.{bytes_decides}
 use Rattle.std.specs.List.{AllByRecursion, list_any}
 use Rattle.std.specs.Str.{bytes_eq}
-use Rattle.std.proofs.lemmas.Bool.{false≢true, and_parts}
+use Rattle.std.proofs.lemmas.Bool.{false≢true, and_parts, or_right}
 use Rattle.std.proofs.lemmas.Bool.Decides.{Decides-eqb}
 use Rattle.std.proofs.lemmas.List.Folds.{list_any-append}
 use Rattle.seg_common.specs.Tables.{is_among, tabulated}
 use Rattle.seg_common.specs.declared.column_type.ColumnType.{ColumnType}
 use Rattle.seg_common.specs.declared.column_type.ColumnType.TheVariants as types
 use Rattle.seg_model.specs.Columns.{ColumnKey, ColumnValue, column_at, column_cmp, column_named, free_number_type, is_declared, is_mixed, is_type}
+use Rattle.seg_column_format.proofs.Exports.{same_column}
 use Rattle.seg_column_writer.specs.Kinds.{kind_of, kind_place}
 use Rattle.seg_column_writer.specs.Recorded.{all_types, declared_in, keys_in, keys_with, lacks_type, option_or, recorded_columns, rows_at, rows_in, type_of_values}
 use Rattle.seg_column_writer.specs.Records.{ColumnRecord, Recording, is_named}
 use Rattle.seg_column_writer.specs.declared.value_kind.ValueKind.{ValueKind}
 use Rattle.seg_column_writer.specs.declared.value_kind.ValueKind.TheVariants.{Number, Bytes, Str, Bool as Boolean, IpAddr, DateTime}
 use Rattle.seg_column_writer.proofs.Bridge.{AreApart, AreOfKind, NoneNamed, declared_nowhere, declared_skip, key_eq, keyed, same_kind, type_of_rows}
-use Rattle.seg_column_writer.proofs.Whole.{key_is, same_keys}
+use Rattle.seg_column_writer.proofs.Whole.{key_is}
 
 abbrev values_of : Recording → List ColumnValue
 values_of r = map (λ v. v.value) r.values
-
-or_true : (a b : Bool) → b ≡ true → (a || b) ≡ true
-or_true true b e = refl
-or_true false b e = e
 
 -- ---- a column without a type
 
@@ -132,7 +129,7 @@ module _ (count : ℕ) (c : ColumnRecord) (cs : List ColumnRecord) (of : AreOfKi
             (cond (e j) (rows_in count c.recording) (rows_at count cs (keyed m.path types.I64))))) ∙ m.mixed;
         among =
             list_any-append (key_is (keyed m.path types.I64)) (keys_with c.path all_types) (keys_in cs)
-            ∙ or_true (list_any (key_is (keyed m.path types.I64)) (keys_with c.path all_types))
+            ∙ or_right (list_any (key_is (keyed m.path types.I64)) (keys_with c.path all_types))
             (is_among column_cmp (keys_in cs) (keyed m.path types.I64)) m.among;
       }
 
@@ -147,15 +144,15 @@ mixed_at count (c ∷ cs) of apart free any =
     by true e any rest = first count c cs of apart free.0 e
     by false e any rest = later count c cs of apart (rest any)
 
-among_passes : (test : ColumnKey → Bool) (q : ColumnKey) (ks : List ColumnKey) → test q ≡ true
+pub among_passes : (test : ColumnKey → Bool) (q : ColumnKey) (ks : List ColumnKey) → test q ≡ true
     → is_among column_cmp ks q ≡ true → list_any test ks ≡ true
 among_passes test q [] passes among = absurd (false≢true among)
 among_passes test q (k ∷ ks) passes among = by (key_is q k) refl among (among_passes test q ks passes)
   where
     by : (b : Bool) → key_is q k ≡ b → (b || is_among column_cmp ks q) ≡ true
         → (is_among column_cmp ks q ≡ true → list_any test ks ≡ true) → (test k || list_any test ks) ≡ true
-    by true e among rest = ap (λ (b : Bool). b || list_any test ks) (ap test (sym (same_keys q k e)) ∙ passes)
-    by false e among rest = or_true (test k) (list_any test ks) (rest among)
+    by true e among rest = ap (λ (b : Bool). b || list_any test ks) (ap test (sym (same_column q k e)) ∙ passes)
+    by false e among rest = or_right (test k) (list_any test ks) (rest among)
 
 -- numbers without a type leave the columns undefined
 pub undefined : (count : ℕ) (cs : List ColumnRecord) → AreOfKind cs → AreApart cs → AreFree count cs
@@ -166,5 +163,5 @@ undefined count cs of apart free any =
     ap (λ (b : Bool). if b then None else Some (tabulated
     (λ k. column_at (declared_in cs) k (rows_at count cs k)) (declared_in cs ++ keys_in cs)))
     (list_any-append test (declared_in cs) (keys_in cs)
-    ∙ or_true (list_any test (declared_in cs)) (list_any test (keys_in cs))
+    ∙ or_right (list_any test (declared_in cs)) (list_any test (keys_in cs))
     (among_passes test (keyed m.path types.I64) (keys_in cs) m.mixed m.among))

@@ -17,20 +17,13 @@ use Rattle.seg_column_writer.specs.RowByRow.{AreBelow, AreThere, Declared, IsBel
 use Rattle.seg_column_writer.specs.Takes.{At, CanTake, IfNamed, MayRecord, with_change, with_recorded}
 use Rattle.seg_column_writer.specs.Typed.{IsWithin}
 use Rattle.seg_column_writer.specs.declared.value_kind.ValueKind.{ValueKind}
-use Rattle.seg_column_writer.proofs.Bridge.{same_kind}
-use Rattle.seg_column_writer.proofs.TakeLaws.{takes_named}
+use Rattle.seg_column_writer.proofs.TakeLaws.{takes_named, kind_named}
 
 -- ---- the name of a column
 
 pub named_path : (path : List ℕ) (kind : ValueKind) (c : ColumnRecord) → is_named path kind c ≡ true → c.path ≡ path
 named_path path kind c e =
     sym ((bytes_decides path c.path).0 (and_parts (nat_eq (kind_place kind) (kind_place c.recording.kind)) (bytes_eq path c.path) e).1)
-
-pub named_kind : (path : List ℕ) (kind : ValueKind) (c : ColumnRecord) → is_named path kind c ≡ true
-    → c.recording.kind ≡ kind
-named_kind path kind c e =
-    let both = and_parts (nat_eq (kind_place kind) (kind_place c.recording.kind)) (bytes_eq path c.path) e in
-    sym (same_kind kind c.recording.kind ((Decides-eqb (kind_place kind) (kind_place c.recording.kind)).0 both.0))
 
 pub named_itself : (path : List ℕ) (kind : ValueKind)
     → is_named path kind (record { path = path; recording = without_value kind }) ≡ true
@@ -150,7 +143,7 @@ module _ (declared : Declared) where
     told : (c : ColumnRecord) → IsBelow declared (row + 1) c → is_named path kind c ≡ true
         → declared path kind ≡ c.recording.declared
     told c below is =
-        sym (below.declared_is ∙ (λ j. declared (named_path path kind c is j) (named_kind path kind c is j)))
+        sym (below.declared_is ∙ (λ j. declared (named_path path kind c is j) (kind_named path kind c is j)))
 
     -- a value that the declared type takes may be recorded in the last row
     pub may_record : Accepts (declared path kind) value → (cs : List ColumnRecord) → AreBelow declared (row + 1) cs

@@ -3,12 +3,14 @@ use Rattle.std.proofs.Common.{◌≡◌, ℕ, zero, suc, ◌+◌, ◌^◌, ◌<�
 use Rattle.std.specs.Prelude.{◌||◌, ◌&&◌, All, nat_eq, nat_lt, not, Result, Ok, Err, OnOk, OnErr}
 use Rattle.std.specs.List.{AllByRecursion, list_all, list_any}
 use Rattle.std.specs.Str.{bytes_eq}
-use Rattle.std.proofs.lemmas.Bool.{false≢true, cases_lt}
+use Rattle.std.proofs.lemmas.Bool.{false≢true, cases_lt, and_from}
 use Rattle.std.proofs.lemmas.Bool.Decides.{Decides-eqb}
 use Rattle.std.proofs.lemmas.List.{get_or_append_left, get_or_push, length_push, map-append}
+use Rattle.std.proofs.Math.Bool.{and-true}
 use Rattle.seg_common.proofs.Lists.{all_push}
 use Rattle.seg_common.specs.declared.column_type.ColumnType.{ColumnType}
 use Rattle.seg_common.specs.declared.column_type.ColumnType.TheVariants as types
+use Rattle.seg_common.proofs.Bools.{and_grouped}
 use Rattle.seg_model.specs.Columns.{ColumnValue, fits_i64, is_not_negative}
 use Rattle.seg_column_writer.specs.Kinds.{kind_of}
 use Rattle.seg_column_writer.specs.Recorded.{IsOfKind, IsRecorded, type_of_values}
@@ -41,10 +43,6 @@ reached kind terms row (v ∷ values) all = (
   reached kind terms row values (λ i d lt. all (suc i) d (omega (arith, lt))),
 )
 
-and_assoc : (a b c : Bool) → (a && (b && c)) ≡ ((a && b) && c)
-and_assoc true b c = refl
-and_assoc false b c = refl
-
 all_and : {X : Type 0} (test : X → Bool) (xs : List X) (x : X) → list_all test (xs ++ x ∷ []) ≡ (list_all test xs && test x)
 all_and test [] x = by (test x)
   where
@@ -52,7 +50,7 @@ all_and test [] x = by (test x)
     by true = refl
     by false = refl
 all_and test (y ∷ xs) x =
-    ap (λ (b : Bool). test y && b) (all_and test xs x) ∙ and_assoc (test y) (list_all test xs) (test x)
+    ap (λ (b : Bool). test y && b) (all_and test xs x) ∙ and_grouped (test y) (list_all test xs) (test x)
 
 any_push : {X : Type 0} (test : X → Bool) (xs : List X) (x : X) → list_any test xs ≡ true
     → list_any test (xs ++ x ∷ []) ≡ true
@@ -104,10 +102,6 @@ pub unsigned_test : (b : Bool) (n : ℕ) → is_not_negative (Rattle.seg_model.s
 unsigned_test true n = refl
 unsigned_test false n = refl
 
-both_true : (a b : Bool) → a ≡ true → b ≡ true → (a && b) ≡ true
-both_true true b e h = h
-both_true false b e h = absurd (false≢true e)
-
 declared_push : (kind : ValueKind) (declared : Option ColumnType) (signed unsigned : Bool) (v : RowValue)
     → IsDeclared kind declared signed unsigned → Accepts declared (value_of kind [] v)
     → IsDeclared kind declared (signed && fits_signed v) (unsigned && fits_unsigned v)
@@ -115,11 +109,11 @@ declared_push kind None signed unsigned v is accepts = tt
 declared_push kind (Some types.I64) signed unsigned v is accepts =
     let here : fits_i64 (value_of Number [] v) ≡ true =
     subst (λ (k : ValueKind). fits_i64 (value_of k [] v) ≡ true) is.0 accepts in
-    (is.0, both_true signed (fits_signed v) is.1 (sym (signed_test v.negative v.number) ∙ here))
+    (is.0, and_from signed (fits_signed v) is.1 (sym (signed_test v.negative v.number) ∙ here))
 declared_push kind (Some types.U64) signed unsigned v is accepts =
     let here : is_not_negative (value_of Number [] v) ≡ true =
     subst (λ (k : ValueKind). is_not_negative (value_of k [] v) ≡ true) is.0 accepts in
-    (is.0, both_true unsigned (fits_unsigned v) is.1 (sym (unsigned_test v.negative v.number) ∙ here))
+    (is.0, and_from unsigned (fits_unsigned v) is.1 (sym (unsigned_test v.negative v.number) ∙ here))
 declared_push kind (Some types.Bytes) signed unsigned v is accepts = is
 declared_push kind (Some types.Str) signed unsigned v is accepts = is
 declared_push kind (Some types.Bool) signed unsigned v is accepts = is
@@ -286,7 +280,7 @@ all_signed : (terms : List (List ℕ)) (values : List RowValue)
     → All (λ (v : RowedValue). fits_i64 v.value ≡ true) (map (rowed Number terms) values) → list_all fits_signed values ≡ true
 all_signed terms [] all = refl
 all_signed terms (v ∷ values) all =
-    both_true (fits_signed v) (list_all fits_signed values)
+    and_from (fits_signed v) (list_all fits_signed values)
     (sym (signed_test v.negative v.number) ∙ all zero (rowed Number terms v) (omega arith))
     (all_signed terms values (λ i d lt. all (suc i) d (omega (arith, lt))))
 
@@ -295,7 +289,7 @@ all_unsigned : (terms : List (List ℕ)) (values : List RowValue)
     → list_all fits_unsigned values ≡ true
 all_unsigned terms [] all = refl
 all_unsigned terms (v ∷ values) all =
-    both_true (fits_unsigned v) (list_all fits_unsigned values)
+    and_from (fits_unsigned v) (list_all fits_unsigned values)
     (sym (unsigned_test v.negative v.number) ∙ all zero (rowed Number terms v) (omega arith))
     (all_unsigned terms values (λ i d lt. all (suc i) d (omega (arith, lt))))
 
@@ -336,10 +330,6 @@ declared_sound type kind declared signed unsigned values terms sound is all = re
 
 -- ---- what is known of a column
 
-last : (b : Bool) → (b && true) ≡ b
-last true = refl
-last false = refl
-
 tests_are : (test : ColumnValue → Bool) (own : RowValue → Bool) (terms : List (List ℕ))
     → ((v : RowValue) → test (value_of Number terms v) ≡ own v) → (values : List RowValue)
     → list_all test (map (λ v. v.value) (map (rowed Number terms) values)) ≡ list_all own values
@@ -355,10 +345,10 @@ free_is kind signed unsigned values terms is marks =
     let told = subst (λ (k : ValueKind). MarksTell k signed unsigned values) is marks in
     (λ j. cond ((told.0 ∙ sym (tests_are fits_i64 fits_signed terms
     (λ v. signed_test v.negative v.number) values)
-    ∙ sym (last (list_all fits_i64 (map (λ v. v.value) (map (rowed Number terms) values))))) j) (Some types.I64)
+    ∙ sym (and-true (list_all fits_i64 (map (λ v. v.value) (map (rowed Number terms) values))))) j) (Some types.I64)
     (cond ((told.1 ∙ sym (tests_are is_not_negative fits_unsigned terms
     (λ v. unsigned_test v.negative v.number) values)
-    ∙ sym (last (list_all is_not_negative (map (λ v. v.value) (map (rowed Number terms) values))))) j)
+    ∙ sym (and-true (list_all is_not_negative (map (λ v. v.value) (map (rowed Number terms) values))))) j)
     (Some types.U64) None))
     ∙ ap (λ (k : ValueKind). type_of_values k (map (λ v. v.value) (map (rowed k terms) values))) (sym is)
 

@@ -96,7 +96,7 @@ module _ (kind : ValueKind) (row : ℕ) (value : ColumnValue) (term : List ℕ) 
 
 -- ---- by name
 
-kind_named : (path : List ℕ) (kind : ValueKind) (c : ColumnRecord) → is_named path kind c ≡ true → c.recording.kind ≡ kind
+pub kind_named : (path : List ℕ) (kind : ValueKind) (c : ColumnRecord) → is_named path kind c ≡ true → c.recording.kind ≡ kind
 kind_named path kind c e =
     let both = and_parts (nat_eq (kind_place kind) (kind_place c.recording.kind)) (bytes_eq path c.path) e in
     sym (same_kind kind c.recording.kind ((Decides-eqb (kind_place kind) (kind_place c.recording.kind)).0 both.0))

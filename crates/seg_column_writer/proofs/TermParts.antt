@@ -3,13 +3,15 @@ use Rattle.std.proofs.Common.{◌≡◌, ℕ, ◌<◌, ◌^◌, Bool, true, fals
 use Rattle.std.specs.Prelude.{◌||◌, All, IsUtf8, nat_eq, nat_lt}
 use Rattle.std.specs.List.{AllByRecursion, flat_map, list_any}
 use Rattle.std.specs.Ordering.{is_gt}
-use Rattle.std.proofs.lemmas.Bool.{false≢true}
+use Rattle.std.proofs.lemmas.Bool.{false≢true, or_right}
 use Rattle.std.proofs.lemmas.Bool.Decides.{Decides-eqb}
 use Rattle.std.proofs.lemmas.List.{get_or-map, length-map}
 use Rattle.std.proofs.lemmas.List.Elements.{All-from_recursion}
 use Rattle.std.proofs.lemmas.List.Sorted.{list_any-IsPermutation}
+use Rattle.std.proofs.lemmas.List.Folds.{list_any-append}
 use Rattle.seg_common.specs.declared.column_type.ColumnType.{ColumnType}
 use Rattle.seg_common.specs.declared.column_type.ColumnType.TheVariants as types
+use Rattle.seg_common.proofs.Lists.{all_at}
 use Rattle.seg_model.specs.Columns.{ColumnValue, bytes_value, ip_value, text_value}
 use Rattle.seg_columns.specs.TermColumns.{UsesEach}
 use Rattle.seg_column_format.specs.ColumnBytes.{column_bytes, dictionary_bytes, term_column_bytes, total}
@@ -31,31 +33,15 @@ use Rattle.seg_column_writer.proofs.ColumnParts.{column_bytes_are}
 use Rattle.seg_column_writer.proofs.Encoding.{AreOctets, Encodes, addresses_encoded, bytes_encoded, bytes_map, seen_value, texts_encoded}
 use Rattle.seg_column_writer.proofs.ImageColumns.{recorded}
 use Rattle.seg_column_writer.proofs.Ordinals.{many, ordinal_below, ordinal_of_place, ordinal_term, terms_rising}
-use Rattle.seg_column_format.proofs.Parts.{all_at}
 use Rattle.seg_column_format.proofs.TermSorting.{below_many}
 
 -- ---- a value among rows
-
-either_true : (a b : Bool) → b ≡ true → (a || b) ≡ true
-either_true true b e = refl
-either_true false b e = e
-
-or_assoc : (a b c : Bool) → ((a || b) || c) ≡ (a || (b || c))
-or_assoc true b c = refl
-or_assoc false b c = refl
-
-any_append : {X : Type 0} (test : X → Bool) (xs ys : List X)
-    → list_any test (xs ++ ys) ≡ (list_any test xs || list_any test ys)
-any_append test [] ys = refl
-any_append test (x ∷ xs) ys =
-    ap (λ (b : Bool). test x || b) (any_append test xs ys)
-    ∙ sym (or_assoc (test x) (list_any test xs) (list_any test ys))
 
 any_flat : {X : Type 0} (test : X → Bool) (rows : List (List X))
     → list_any test (flat_map (λ r. r) rows) ≡ list_any (list_any test) rows
 any_flat test [] = refl
 any_flat test (r ∷ rows) =
-    any_append test r (flat_map (λ r. r) rows)
+    list_any-append test r (flat_map (λ r. r) rows)
     ∙ ap (λ (b : Bool). list_any test r || b) (any_flat test rows)
 
 any_row : (k : ℕ) (vs : List RowNumber)
@@ -90,7 +76,7 @@ any_ranked ordinals i k at (v ∷ values) e =
         sym at ∙ ap (λ (n : ℕ). get_or ordinals n 0) ((Decides-eqb i v.number).0 is) in
         ap (λ (b : Bool). b || list_any (λ (v : RowNumber). nat_eq k v.number) (map (ranked ordinals) values))
         ((Decides-eqb k (get_or ordinals v.number 0)).1 same)
-    by false is e rest = either_true (nat_eq k (get_or ordinals v.number 0))
+    by false is e rest = or_right (nat_eq k (get_or ordinals v.number 0))
         (list_any (λ (v : RowNumber). nat_eq k v.number) (map (ranked ordinals) values)) (rest e)
 
 below_row : (count : ℕ) (vs : List RowNumber) → AllByRecursion (λ (v : RowNumber). v.number < count) vs

@@ -4,6 +4,8 @@ use Rattle.std.specs.Prelude.{◌&&◌, not, nat_lt}
 use Rattle.std.specs.List.{AllByRecursion, list_all}
 use Rattle.std.proofs.lemmas.Bool.{false≢true}
 use Rattle.std.proofs.lemmas.Bool.Decides.{nat_tests}
+use Rattle.std.specs.Cmp.{first_so, second_so}
+use Rattle.std.proofs.lemmas.Option.{same_Some}
 use Rattle.seg_common.specs.declared.column_type.ColumnType.{ColumnType}
 use Rattle.seg_common.specs.declared.column_type.ColumnType.TheVariants as types
 use Rattle.seg_model.specs.Columns.{ColumnValue, fits_i64, is_not_negative}
@@ -17,9 +19,6 @@ use Rattle.seg_column_writer.specs.declared.value_kind.ValueKind.{ValueKind}
 use Rattle.seg_column_writer.specs.declared.value_kind.ValueKind.TheVariants.{Number, Bytes, Str, Bool as Boolean, IpAddr, DateTime}
 use Rattle.seg_column_writer.proofs.SoundLaws.{signed_test, unsigned_test}
 
-same_some : {X : Type 0} (x y : X) → Some x ≡ Some y → x ≡ y
-same_some x y e = cc
-
 -- ---- the kind
 
 free_kind : (kind : ValueKind) (vs : List ColumnValue) (type : ColumnType) → type_of_values kind vs ≡ Some type
@@ -27,14 +26,14 @@ free_kind : (kind : ValueKind) (vs : List ColumnValue) (type : ColumnType) → t
 free_kind Number vs type e = by (list_all (list_all fits_i64) (vs ∷ [])) (list_all (list_all is_not_negative) (vs ∷ [])) e
   where
     by : (a b : Bool) → cond a (Some types.I64) (cond b (Some types.U64) None) ≡ Some type → Number ≡ kind_of type
-    by true b e = ap kind_of (same_some types.I64 type e)
-    by false true e = ap kind_of (same_some types.U64 type e)
+    by true b e = ap kind_of (same_Some types.I64 type e)
+    by false true e = ap kind_of (same_Some types.U64 type e)
     by false false e = cc
-free_kind Bytes vs type e = ap kind_of (same_some types.Bytes type e)
-free_kind Str vs type e = ap kind_of (same_some types.Str type e)
-free_kind Boolean vs type e = ap kind_of (same_some types.Bool type e)
-free_kind IpAddr vs type e = ap kind_of (same_some types.IpAddr type e)
-free_kind DateTime vs type e = ap kind_of (same_some types.DateTime type e)
+free_kind Bytes vs type e = ap kind_of (same_Some types.Bytes type e)
+free_kind Str vs type e = ap kind_of (same_Some types.Str type e)
+free_kind Boolean vs type e = ap kind_of (same_Some types.Bool type e)
+free_kind IpAddr vs type e = ap kind_of (same_Some types.IpAddr type e)
+free_kind DateTime vs type e = ap kind_of (same_Some types.DateTime type e)
 
 declared_kind : (kind : ValueKind) (type : ColumnType) (signed unsigned : Bool)
     → IsDeclared kind (Some type) signed unsigned → kind ≡ kind_of type
@@ -51,7 +50,7 @@ typed_kind : (kind : ValueKind) (declared : Option ColumnType) (signed unsigned 
     → option_or declared (type_of_values kind vs) ≡ Some type → kind ≡ kind_of type
 typed_kind kind None signed unsigned vs type is e = free_kind kind vs type e
 typed_kind kind (Some other) signed unsigned vs type is e =
-    declared_kind kind other signed unsigned is ∙ ap kind_of (same_some other type e)
+    declared_kind kind other signed unsigned is ∙ ap kind_of (same_Some other type e)
 
 -- ---- numbers
 
@@ -68,21 +67,13 @@ unsigned_values : (terms : List (List ℕ)) (values : List RowValue)
 unsigned_values terms [] = refl
 unsigned_values terms (v ∷ values) = λ j. unsigned_test v.negative v.number j && unsigned_values terms values j
 
-first_true : (a b : Bool) → (a && b) ≡ true → a ≡ true
-first_true true b e = refl
-first_true false b e = e
-
-second_true : (a b : Bool) → (a && b) ≡ true → b ≡ true
-second_true true b e = e
-second_true false b e = absurd (false≢true e)
-
 free_signed : (vs : List ColumnValue) → type_of_values Number vs ≡ Some types.I64 → list_all fits_i64 vs ≡ true
 free_signed vs e =
     by (list_all fits_i64 vs && true) (list_all is_not_negative vs && true) refl e
   where
     by : (a b : Bool) → (list_all fits_i64 vs && true) ≡ a
         → cond a (Some types.I64) (cond b (Some types.U64) None) ≡ Some types.I64 → list_all fits_i64 vs ≡ true
-    by true b is e = first_true (list_all fits_i64 vs) true is
+    by true b is e = first_so (list_all fits_i64 vs) true is
     by false true is e = cc
     by false false is e = cc
 
@@ -93,7 +84,7 @@ free_unsigned vs e =
     by : (a b : Bool) → (list_all is_not_negative vs && true) ≡ b
         → cond a (Some types.I64) (cond b (Some types.U64) None) ≡ Some types.U64 → list_all is_not_negative vs ≡ true
     by true b is e = cc
-    by false true is e = first_true (list_all is_not_negative vs) true is
+    by false true is e = first_so (list_all is_not_negative vs) true is
     by false false is e = cc
 
 module _ (kind : ValueKind) (signed unsigned : Bool) (values : List RowValue) (terms : List (List ℕ))
@@ -110,7 +101,7 @@ module _ (kind : ValueKind) (signed unsigned : Bool) (values : List RowValue) (t
       ∙ free_signed (values_of Number terms values)
       (subst (λ (k : ValueKind). type_of_values k (values_of k terms values) ≡ Some types.I64) number e)
   signed_all (Some other) is e =
-      let here = subst (λ (t : ColumnType). IsDeclared kind (Some t) signed unsigned) (same_some other types.I64 e) is in
+      let here = subst (λ (t : ColumnType). IsDeclared kind (Some t) signed unsigned) (same_Some other types.I64 e) is in
       sym (marked here.0).0 ∙ here.1
 
   unsigned_all : (declared : Option ColumnType) → IsDeclared kind declared signed unsigned
@@ -122,7 +113,7 @@ module _ (kind : ValueKind) (signed unsigned : Bool) (values : List RowValue) (t
       ∙ free_unsigned (values_of Number terms values)
       (subst (λ (k : ValueKind). type_of_values k (values_of k terms values) ≡ Some types.U64) number e)
   unsigned_all (Some other) is e =
-      let here = subst (λ (t : ColumnType). IsDeclared kind (Some t) signed unsigned) (same_some other types.U64 e) is in
+      let here = subst (λ (t : ColumnType). IsDeclared kind (Some t) signed unsigned) (same_Some other types.U64 e) is in
       sym (marked here.0).1 ∙ here.1
 
 -- ---- of each value
@@ -136,15 +127,15 @@ IsOfType _ v = Unit {0}
 each_signed : (values : List RowValue) → list_all fits_signed values ≡ true → AllByRecursion (IsOfType types.I64) values
 each_signed [] e = tt
 each_signed (v ∷ values) e =
-    let here : nat_lt v.number (2 ^ 63) ≡ true = first_true (fits_signed v) (list_all fits_signed values) e in
-    (grind (arith, nat_tests, here), each_signed values (second_true (fits_signed v) (list_all fits_signed values) e))
+    let here : nat_lt v.number (2 ^ 63) ≡ true = first_so (fits_signed v) (list_all fits_signed values) e in
+    (grind (arith, nat_tests, here), each_signed values (second_so (fits_signed v) (list_all fits_signed values) e))
 
 each_unsigned : (values : List RowValue) → list_all fits_unsigned values ≡ true
     → AllByRecursion (IsOfType types.U64) values
 each_unsigned [] e = tt
 each_unsigned (v ∷ values) e = (
-  positive v.negative (first_true (fits_unsigned v) (list_all fits_unsigned values) e),
-  each_unsigned values (second_true (fits_unsigned v) (list_all fits_unsigned values) e),
+  positive v.negative (first_so (fits_unsigned v) (list_all fits_unsigned values) e),
+  each_unsigned values (second_so (fits_unsigned v) (list_all fits_unsigned values) e),
 )
   where
     positive : (b : Bool) → not b ≡ true → b ≡ false

@@ -9,7 +9,7 @@ use Rattle.std.specs.Cmp.{eq_by_cmp_equiv}
 use Rattle.std.specs.Ordering.{eq_by_cmp, is_eq}
 use Rattle.std.specs.FinMap.{find, from_entries, get-from_entries, IsAntisymmetric}
 use Rattle.std.specs.Map.{keys_of, lookup}
-use Rattle.std.proofs.lemmas.Bool.{false≢true, and_parts, or_from}
+use Rattle.std.proofs.lemmas.Bool.{false≢true}
 use Rattle.std.proofs.lemmas.Bool.Decides.{Decides-eqb}
 use Rattle.seg_common.proofs.Bytes.{bytes_eq-sym}
 use Rattle.seg_common.proofs.Numbers.{nat_eq-sym}
@@ -21,24 +21,18 @@ use Rattle.seg_common.specs.declared.column_type.ColumnType.{ColumnType}
 use Rattle.seg_common.specs.Tables.{is_among, tabulated}
 use Rattle.seg_common.proofs.Tables.{IsComplete, first_false, second_false, table_from_gets}
 use Rattle.seg_common.specs.declared.column_type.ColumnType.TheVariants as types
-use Rattle.seg_model.specs.Columns.{ColumnKey, ColumnValue, column_at, column_cmp, is_mixed, type_place}
+use Rattle.seg_common.proofs.Lists.{list_any-none}
+use Rattle.seg_model.specs.Columns.{ColumnKey, ColumnValue, column_at, column_cmp, is_mixed}
 use Rattle.seg_model.proofs.Exports.{column_cmp_total}
 use Rattle.seg_column_writer.specs.Kinds.{kind_of, kind_place}
 use Rattle.seg_column_writer.specs.Records.{ColumnRecord}
 use Rattle.seg_column_writer.specs.Recorded.{column_type_of, declared_in, entries_in, is_there, all_types, keys_in, keys_with, recorded_columns, rows_at, rows_in, typed_entry}
-use Rattle.seg_column_writer.proofs.Bridge.{AreApart, AreOfKind, IsGood, NoneNamed, found_at, key_eq, keyed, kinds_of, not_mixed, same_type, typed_kind}
+use Rattle.seg_column_writer.proofs.Bridge.{AreApart, AreOfKind, IsGood, NoneNamed, found_at, keyed, kinds_of, not_mixed, typed_kind}
 use Rattle.seg_column_format.proofs.TermNumbers.{fails_at}
-
--- keys that tie are one
-pub same_keys : (q k : ColumnKey) → eq_by_cmp column_cmp q k ≡ true → q ≡ k
-same_keys q k e =
-    let both = and_parts (bytes_eq q.path k.path) (nat_eq (type_place q.type) (type_place k.type)) (sym (key_eq q k) ∙ e) in
-    let path = (bytes_decides q.path k.path).0 both.0 in
-    let type = same_type q.type k.type ((Decides-eqb (type_place q.type) (type_place k.type)).0 both.1) in
-    λ j. record { path = path j; type = type j }
+use Rattle.seg_column_format.proofs.Exports.{same_column}
 
 pub apart_keys : IsAntisymmetric column_cmp
-apart_keys q k e = same_keys q k (ap is_eq e)
+apart_keys q k e = same_column q k (ap is_eq e)
 
 abbrev Rows : Type 0
 Rows = List (List ColumnValue)
@@ -58,7 +52,7 @@ find_is_lookup q (e ∷ es) = ap (λ (o : Option Rows). cond (key_is q e.0) (Som
 found_too : (es fs : Entries) → IsPermutation es fs → IsDistinct key_is (keys_of fs) → (q : ColumnKey) (v : Rows)
     → lookup (key_is q) es ≡ Some v → lookup (key_is q) fs ≡ Some v
 found_too es fs p d q v is = lookup-from_Contains (eq_by_cmp_equiv column_cmp_total) q v fs d
-    (Contains-permutation es fs (q, v) p (Contains-from_lookup same_keys q v es is))
+    (Contains-permutation es fs (q, v) p (Contains-from_lookup same_column q v es is))
 
 lookup-permuted : (es fs : Entries) → IsPermutation es fs → IsDistinct key_is (keys_of es) → IsDistinct key_is (keys_of fs)
     → (q : ColumnKey) → lookup (key_is q) es ≡ lookup (key_is q) fs
@@ -128,7 +122,7 @@ keys_apart k (m ∷ ks) apart = (by (key_is k m) refl, keys_apart k ks apart.1)
         && (bytes_decides k.path k.path).1 refl j
 
     by : (b : Bool) → key_is k m ≡ b → b ≡ false
-    by true e = absurd (false≢true (sym apart.0 ∙ ap (same_name k) (sym (same_keys k m e)) ∙ itself))
+    by true e = absurd (false≢true (sym apart.0 ∙ ap (same_name k) (sym (same_column k m e)) ∙ itself))
     by false e = refl
 
 keys_distinct : (ks : List ColumnKey) → IsDistinct same_name ks → IsDistinct key_is ks
@@ -173,10 +167,6 @@ find_outside count q (c ∷ cs) none =
         ap (λ (b : Bool). cond b (Some (rows_in count c.recording)) (find column_cmp q (entries_in count cs)))
         (all_fail q c.path t none) ∙ rest
 
-none_passes : {K : Type 0} (test : K → Bool) → ((k : K) → test k ≡ false) → (ks : List K) → list_any test ks ≡ false
-none_passes test none [] = refl
-none_passes test none (k ∷ ks) = or_from (test k) (list_any test ks) (none k) (none_passes test none ks)
-
 -- ---- the whole
 
 module _ (count : ℕ) (cs : List ColumnRecord) (good : AllByRecursion (IsGood count) cs) (apart : AreApart cs) where
@@ -196,7 +186,7 @@ module _ (count : ℕ) (cs : List ColumnRecord) (good : AllByRecursion (IsGood c
   }
 
   unmixed : list_any (λ q. is_mixed (declared_in cs) q (rows_at count cs q)) keys ≡ false
-  unmixed = none_passes (λ q. is_mixed (declared_in cs) q (rows_at count cs q))
+  unmixed = list_any-none (λ q. is_mixed (declared_in cs) q (rows_at count cs q))
       (λ q. not_mixed count q.path q.type cs good apart) keys
 
   -- what was recorded is the map of its columns, in whatever order these come

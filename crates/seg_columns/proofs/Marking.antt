@@ -6,19 +6,8 @@ use Rattle.std.proofs.lemmas.Bool.{false≢true}
 use Rattle.std.proofs.lemmas.Bool.Decides.{nat_tests}
 use Rattle.std.proofs.lemmas.List.{drop_all, get_or-set_same, get_or-set_other}
 use Rattle.std.proofs.lemmas.List.Elements.{All-cons, All-tail, All-from_get_or}
+use Rattle.std.proofs.Math.Bool.{or-false, or-true}
 use Rattle.seg_columns.specs.TermColumns.{UsesEach}
-
-or_assoc : (a b c : Bool) → ((a || b) || c) ≡ (a || (b || c))
-or_assoc true b c = refl
-or_assoc false b c = refl
-
-or_false : (a : Bool) → (a || false) ≡ a
-or_false true = refl
-or_false false = refl
-
-or_true : (a : Bool) → (a || true) ≡ true
-or_true true = refl
-or_true false = refl
 
 -- ---- one ordinal
 
@@ -45,7 +34,7 @@ module _ (old new : List ℕ) (ord : ℕ) (is : old ≡ ord ∷ new) where
           ∙ get_or-set_same marks ord true false lt in
           ap (λ b. b || list_any (nat_eq o) new) marked
           ∙ sym (ap (λ b. get_or marks o false || (b || list_any (nat_eq o) new)) (sym e)
-          ∙ or_true (get_or marks o false))
+          ∙ or-true (get_or marks o false))
       by false e =
           let other : o ≡ ord → ⊥ = λ same. grind (arith, nat_tests) in
           let stays : get_or (set marks ord true) o false ≡ get_or marks o false =
@@ -79,7 +68,7 @@ decided count doc rows marks r is long done below marked = by r is
     at : (ord : ℕ) → ord < count → get_or marks ord false ≡ list_any (list_any (nat_eq ord)) rows
     at ord lt =
         sym (ap (λ (l : List (List ℕ)). get_or marks ord false || list_any (list_any (nat_eq ord)) l)
-        (drop_all doc rows done) ∙ or_false (get_or marks ord false))
+        (drop_all doc rows done) ∙ or-false (get_or marks ord false))
         ∙ marked ord lt
 
     by : (b : Bool) → b ≡ list_all (λ m. m) marks → MatchBool b (UsesEach count rows) (UsesEach count rows → ⊥)

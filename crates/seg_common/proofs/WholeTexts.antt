@@ -6,6 +6,7 @@ use Rattle.std.proofs.Math.Seq.{drop-append-add, take-append_seam}
 use Rattle.std.proofs.lemmas.Bool.Decides.{nat_tests}
 use Rattle.std.proofs.lemmas.List.{get_or_at, length-append, length-drop, take_all}
 use Rattle.std.proofs.lemmas.List.Sums.{prefix_len-le-length}
+use Rattle.std.proofs.lemmas.Bool.{and_right}
 use Rattle.seg_common.specs.DateReading.{clock_read, date_of, day_read, fraction_len, fraction_read, moment_of, offset_read, rest_of}
 
 by_front : (long sign : Bool) (a day : Option ℤ) (b seconds c nanos : Option ℕ) (d offset : Option ℤ) → long ≡ true → sign ≡ true → day ≡ a → seconds ≡ b → nanos ≡ c → offset ≡ d → (if long && sign then moment_of a b c d else None) ≡ moment_of day seconds nanos offset
@@ -27,10 +28,6 @@ by_no_front long sign moment h = rw h
 is_short : (n : ℕ) (sign : Bool) → n ≤ 18 → (nat_le 19 n && sign) ≡ false
 is_short n sign h = let e : nat_le 19 n ≡ false = grind (arith, nat_tests) in rw e
 
-no_sign : (long sign : Bool) → sign ≡ false → (long && sign) ≡ false
-no_sign true sign h = h
-no_sign false sign h = refl
-
 abbrev parts_read : List ℕ → Option ℤ
 parts_read text = moment_of (day_read (slice_range text 0 10)) (clock_read (slice_range text 11 19)) (fraction_read (take (fraction_len (rest_of text)) (rest_of text))) (offset_read (drop (fraction_len (rest_of text)) (rest_of text)))
 
@@ -41,7 +38,7 @@ short_read text short = by_no_front (nat_le 19 (length text)) (eq_ignore_ascii_c
 
 pub no_sign_read : (text : List ℕ) → eq_ignore_ascii_case (slice_index text 10) 84 ≡ false → date_of text ≡ None
 unfolding date_of
-no_sign_read text none = by_no_front (nat_le 19 (length text)) (eq_ignore_ascii_case (slice_index text 10) 84) (parts_read text) (no_sign (nat_le 19 (length text)) (eq_ignore_ascii_case (slice_index text 10) 84) none)
+no_sign_read text none = by_no_front (nat_le 19 (length text)) (eq_ignore_ascii_case (slice_index text 10) 84) (parts_read text) (and_right (nat_le 19 (length text)) (eq_ignore_ascii_case (slice_index text 10) 84) none)
 
 -- a fraction lies within its text, and its digits are digits
 pub fraction_len-le : (text : List ℕ) → fraction_len text ≤ length text

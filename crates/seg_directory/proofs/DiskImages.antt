@@ -5,37 +5,23 @@ use mathlib.Core.Bool.{true≢false}
 use Rattle.std.specs.List.{list_any}
 use Rattle.std.specs.Option.{option_eq}
 use Rattle.std.specs.Ordering.{eq_by_cmp, is_eq}
-use Rattle.std.specs.Cmp.{eq_by_cmp_equiv}
+use Rattle.std.specs.Cmp.{eq_by_cmp_equiv, first_so, second_so}
 use Rattle.std.specs.Str.{bytes_eq}
 use Rattle.std.specs.declared.cmp.Ordering.TheVariants.{Less, Equal, Greater}
 use Rattle.std.specs.FinMap.{get, insert, get-insert, same_map}
 use Rattle.std.proofs.lemmas.Slice.Eq.{bytes_eq-Decides}
+use Rattle.std.proofs.Math.Bool.{or-false}
 use Rattle.seg_directory.specs.Disk.{PendingChange, Written, exactly, may_leave, may_hold, with_change}
 pub use Rattle.seg_directory.specs.LatestFiles.{same_state, own_state, either, left_true, right_true}
 use Rattle.seg_directory.specs.FileDisks.{NamedFiles, FileDisk, settled, SettledFilesAreTheOnlyImage, SavedFilesAreOneOfTwo}
 use Rattle.seg_directory.specs.Images.{StableFilesAreAnImage, ChangesLeaveTheirName}
 use Rattle.seg_common.specs.Names.{name_cmp, name_cmp_total, name_cmp_exact}
 use Rattle.seg_common.specs.declared.name.FileName.{FileName}
+use Rattle.seg_common.proofs.Bools.{or_grouped}
 
 or_right_false : (a : Bool) → (a || false) ≡ true → a ≡ true
 or_right_false true e = refl
 or_right_false false e = absurd (true≢false (sym e))
-
-or_assoc : (a b c : Bool) → (a || (b || c)) ≡ ((a || b) || c)
-or_assoc true b c = refl
-or_assoc false b c = refl
-
-or_false : (a : Bool) → (a || false) ≡ a
-or_false true = refl
-or_false false = refl
-
-pub and_second : (a b : Bool) → (a && b) ≡ true → b ≡ true
-and_second true b e = e
-and_second false b e = absurd (true≢false (sym e))
-
-pub and_first : (a b : Bool) → (a && b) ≡ true → a ≡ true
-and_first true b e = refl
-and_first false b e = e
 
 pub stable_files_are_an_image : StableFilesAreAnImage name_cmp
 stable_files_are_an_image disk name = left_true _ _ (own_state (get disk.stable name))
@@ -47,15 +33,15 @@ settled_files_are_the_only_image safe files image = same_map name_cmp_total name
 any-append : (name : FileName) (state : Option (List ℕ)) (changed : FileName) (written : Written) (cs : List (PendingChange FileName))
     → list_any (λ (c : PendingChange FileName). eq_by_cmp name_cmp c.name name && may_leave c.written state) (cs ++ record { name = changed; written = written } ∷ [])
     ≡ (list_any (λ (c : PendingChange FileName). eq_by_cmp name_cmp c.name name && may_leave c.written state) cs || (eq_by_cmp name_cmp changed name && may_leave written state))
-any-append name state changed written [] = or_false _
+any-append name state changed written [] = or-false _
 any-append name state changed written (c ∷ cs) =
     ap (λ b. (eq_by_cmp name_cmp c.name name && may_leave c.written state) || b) (any-append name state changed written cs)
-    ∙ or_assoc (eq_by_cmp name_cmp c.name name && may_leave c.written state) _ _
+    ∙ or_grouped (eq_by_cmp name_cmp c.name name && may_leave c.written state) _ _
 
 pub changes_leave_their_name : ChangesLeaveTheirName name_cmp
 changes_leave_their_name disk changed written name state =
     ap (λ b. option_eq bytes_eq (get disk.stable name) state || b) (any-append name state changed written disk.pending)
-    ∙ or_assoc (option_eq bytes_eq (get disk.stable name) state) _ _
+    ∙ or_grouped (option_eq bytes_eq (get disk.stable name) state) _ _
 
 is_equal : (a b : FileName) → eq_by_cmp name_cmp a b ≡ true → a ≡ b
 is_equal a b =
@@ -74,7 +60,7 @@ pub elsewhere : (disk : FileDisk) (changed : FileName) (written : Written) (name
 elsewhere disk changed written name state apart =
     changes_leave_their_name disk changed written name state
     ∙ ap (λ b. may_hold disk name state || (b && may_leave written state)) (apart_names changed name (λ e. apart (sym e)))
-    ∙ or_false (may_hold disk name state)
+    ∙ or-false (may_hold disk name state)
   where
     apart_names : (a b : FileName) → a ≢ b → eq_by_cmp name_cmp a b ≡ false
     apart_names a b apart = elim (eq_by_cmp name_cmp a b) as (λ r. eq_by_cmp name_cmp a b ≡ r → r ≡ false) [
@@ -93,7 +79,7 @@ pub one_name : (safe : NamedFiles) (name : FileName) (bytes : List ℕ) (q : Fil
 one_name safe name bytes q state may =
     elim (either (option_eq bytes_eq (get safe q) state) _ may) [
       | inl e ↦ inl (same_state (get safe q) state e)
-      | inr e ↦ let both = or_right_false _ e in inr (and_first _ _ both, is_left bytes state (and_second _ _ both))
+      | inr e ↦ let both = or_right_false _ e in inr (first_so _ _ both, is_left bytes state (second_so _ _ both))
     ]
 
 pub saved_files_are_one_of_two : SavedFilesAreOneOfTwo

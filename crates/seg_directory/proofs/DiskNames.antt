@@ -4,7 +4,7 @@ use Rattle.std.specs.Prelude.{◌&&◌, ◌||◌}
 use mathlib.Core.Bool.{true≢false}
 use Rattle.std.specs.List.{list_any}
 use Rattle.std.specs.Option.{option_eq}
-use Rattle.std.specs.Cmp.{eq_by_cmp_equiv}
+use Rattle.std.specs.Cmp.{eq_by_cmp_equiv, second_so}
 use Rattle.std.specs.Ordering.{eq_by_cmp}
 use Rattle.std.specs.Str.{bytes_eq}
 use Rattle.std.specs.FinMap.{get, insert, get-insert}
@@ -20,7 +20,7 @@ use Rattle.seg_directory.specs.State.{DirectoryState, DiskState, HasOnly}
 use Rattle.seg_directory.specs.Works.{Step, Works}
 use Rattle.seg_directory.specs.declared.error.DirectoryError.{DirectoryError}
 use Rattle.seg_directory.specs.declared.error.DirectoryError.TheVariants as directory
-use Rattle.seg_directory.proofs.DiskImages.{and_second, changes_leave_their_name, either, elsewhere, is_left, left_true, own_state, same_name, same_state, stable_files_are_an_image}
+use Rattle.seg_directory.proofs.DiskImages.{changes_leave_their_name, either, elsewhere, is_left, left_true, own_state, same_name, same_state, stable_files_are_an_image}
 use Rattle.seg_directory.proofs.DiskWorks.{AllCalls, on_works, turns_kept}
 use Rattle.seg_directory.proofs.Moments.{passes_weaker}
 
@@ -87,7 +87,7 @@ module _ (name : FileName) (Q : Option (List ℕ) → Type 0) where
     where
       by : (state : Option (List ℕ)) → (may_hold d name state ≡ true) ⊎ ((eq_by_cmp name_cmp n name && may_leave (exactly bytes) state) ≡ true) → Q state
       by state (inl is) = state_of d state only is
-      by state (inr is) = subst Q (sym (is_left bytes state (and_second _ _ is))) may
+      by state (inr is) = subst Q (sym (is_left bytes state (second_so _ _ is))) may
 
       changed_to : HoldsOnly (with_change d n (exactly bytes))
       changed_to files image =

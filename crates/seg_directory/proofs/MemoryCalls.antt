@@ -1,8 +1,9 @@
 -- What a call of a directory in memory comes to.
-use Rattle.std.proofs.Common.{◌≡◌, ◌≤◌, inl, ℕ, [], ◌++◌, Result, Err, IsErrAnd, refl, sym, ap, subst, ◌∙◌, arith}
+use Rattle.std.proofs.Common.{◌≡◌, ◌≤◌, inl, [], ◌++◌, Result, Err, IsErrAnd, refl, sym, ap, subst, ◌∙◌}
 use Rattle.std.proofs.lemmas.List.{append-nil}
 use Rattle.std.proofs.lemmas.Result.{err_from_is_err_and}
 use Rattle.std.specs.FinMap.{get}
+use Rattle.std.proofs.Math.Nat.{le_refl}
 use Rattle.seg_common.specs.Causes.{Rose}
 use Rattle.seg_common.specs.declared.name.FileName.{FileName}
 use Rattle.seg_directory.specs.CallRecord.{Calls}
@@ -25,9 +26,6 @@ use Rattle.seg_directory.proofs.Steps.{files_created, files_replaced, files_sync
 -- an answer that is out of memory
 pub starved_answer : {T : Type 0} (r : Result T DirectoryError) → IsErrAnd r (λ e. e ≡ OutOfMemory) → r ≡ Err OutOfMemory
 starved_answer r is = let err = err_from_is_err_and r is in err.1 ∙ ap (λ x. Err x) err.2
-
-no_less : (n : ℕ) → n ≤ n
-no_less n = omega arith
 
 stays : (call : Call) (e : DirectoryError) (files : NamedFiles) → Leaves call e files files
 stays (listed n) e files = refl
@@ -73,7 +71,7 @@ module _ (s : MemoryState) where
     others = files_unchanged s.disk.calls;
     tells = refl;
     seen = refl;
-    later = no_less s.calls.faults;
+    later = le_refl s.calls.faults;
     disk = exits.kept_unchanged s.disk;
     reads = reads_an_image (memory_went (listed n) s);
   }
@@ -83,7 +81,7 @@ module _ (s : MemoryState) where
     others = files_unchanged s.disk.calls;
     tells = refl;
     seen = refl;
-    later = no_less s.calls.faults;
+    later = le_refl s.calls.faults;
     disk = exits.kept_unchanged s.disk;
     reads = reads_an_image (memory_went (read name bytes) s);
   }
@@ -93,7 +91,7 @@ module _ (s : MemoryState) where
     others = λ other apart. ap (λ files. get files other) (files_created s.disk.calls name bytes) ∙ keeps_others (files_of s) name bytes other apart;
     tells = refl;
     seen = refl;
-    later = no_less s.calls.faults;
+    later = le_refl s.calls.faults;
     disk = exits.created s.disk name bytes;
     reads = reads_an_image (memory_went (made name bytes) s);
   }
@@ -103,7 +101,7 @@ module _ (s : MemoryState) where
     others = λ other apart. ap (λ files. get files other) (files_replaced s.disk.calls name bytes) ∙ keeps_others (files_of s) name bytes other apart;
     tells = refl;
     seen = refl;
-    later = no_less s.calls.faults;
+    later = le_refl s.calls.faults;
     disk = exits.replaced s.disk name bytes;
     reads = reads_an_image (memory_went (replaced name bytes) s);
   }
@@ -113,7 +111,7 @@ module _ (s : MemoryState) where
     others = files_synced s.disk.calls;
     tells = refl;
     seen = refl;
-    later = no_less s.calls.faults;
+    later = le_refl s.calls.faults;
     disk = exits.synced s.disk;
     reads = reads_an_image (memory_went synced s);
   }
@@ -148,4 +146,4 @@ module _ (s : MemoryState) where
       → Fails call OutOfMemory (memory_state s) (memory_state s)
   starved call possible refuses none =
       fails s.disk s.calls refl (record { during = started (told_disk s.disk); after = λ _. refl }) call OutOfMemory possible refuses
-      (sym (append-nil s.calls.answers) ∙ ap (λ ns. s.calls.answers ++ ns) (sym none)) (no_less s.calls.faults) (λ e. absurd (cc e))
+      (sym (append-nil s.calls.answers) ∙ ap (λ ns. s.calls.answers ++ ns) (sym none)) (le_refl s.calls.faults) (λ e. absurd (cc e))

@@ -70,7 +70,7 @@ open_tree : (levels : ℕ) (bytes : List ℕ) → stored_tree_at (suc levels) by
 unfolding stored_tree_at
 open_tree levels bytes = refl
 
-member_grouped : (a b c rest : List ℕ) → (a ++ (b ++ c)) ++ rest ≡ a ++ (b ++ (c ++ rest))
+pub member_grouped : (a b c rest : List ℕ) → (a ++ (b ++ c)) ++ rest ≡ a ++ (b ++ (c ++ rest))
 member_grouped a b c rest = simp append_assoc
 
 mutual

@@ -1,5 +1,5 @@
 -- What a document records pair by pair has at each key the values of the model, field by field.
-use Rattle.std.proofs.Common.{◌≡◌, ℕ, zero, suc, ◌+◌, ◌<◌, Bool, true, false, cond, List, [], ◌∷◌, ◌++◌, map, filter, Option, None, Some, refl, sym, ap, subst, ◌∙◌, arith, append-nil, append_assoc}
+use Rattle.std.proofs.Common.{◌≡◌, ℕ, zero, suc, ◌+◌, ◌<◌, Bool, true, false, cond, List, [], ◌∷◌, ◌++◌, map, filter, Option, None, Some, refl, sym, ap, subst, ◌∙◌, arith, append-nil}
 use Rattle.std.specs.Prelude.{◌&&◌, ◌||◌, nat_eq, nat_le}
 use Rattle.std.specs.List.{enumerate_from, flat_map, list_any, slice_get}
 use Rattle.std.specs.Ordering.{eq_by_cmp}
@@ -10,10 +10,12 @@ use Rattle.std.proofs.lemmas.Bool.Decides.{Decides-eqb}
 use Rattle.std.proofs.Math.Bool.{and-false}
 use Rattle.std.proofs.lemmas.List.{map-append}
 use Rattle.std.proofs.lemmas.List.Elements.{filter-append}
+use Rattle.std.proofs.lemmas.Grind.{flat_map-append}
 use Rattle.seg_common.specs.Tables.{is_among}
 use Rattle.seg_common.specs.declared.column_type.ColumnType.{ColumnType}
 use Rattle.seg_common.specs.declared.column_type.ColumnType.TheVariants as types
 use Rattle.seg_common.specs.Dates.{cut_to, precision_unit}
+use Rattle.seg_common.proofs.Lists.{flat_map-none}
 use Rattle.seg_values.specs.declared.schema.FieldEntry.{FieldEntry}
 use Rattle.seg_values.specs.declared.schema.FieldKind.{FieldKind}
 use Rattle.seg_values.specs.declared.schema.FieldKind.TheVariants as kinds
@@ -62,16 +64,6 @@ not_under key path other (v ∷ vs) =
     (value_types v))
     ∙ not_under key path other vs
 
-pub no_flat : {X Y : Type 0} (f : X → List Y) → ((x : X) → f x ≡ []) → (xs : List X) → flat_map f xs ≡ []
-no_flat f none [] = refl
-no_flat f none (x ∷ xs) = λ j. none x j ++ no_flat f none xs j
-
-pub flat-both : {X Y : Type 0} (f : X → List Y) (xs ys : List X)
-    → flat_map f (xs ++ ys) ≡ flat_map f xs ++ flat_map f ys
-flat-both f [] ys = refl
-flat-both f (x ∷ xs) ys =
-    ap (λ l. f x ++ l) (flat-both f xs ys) ∙ sym (append_assoc (f x) (flat_map f xs) (flat_map f ys))
-
 map-flat : {X Y Z : Type 0} (f : Y → Z) (g : X → List Y) (xs : List X)
     → map f (flat_map g xs) ≡ flat_map (λ x. map f (g x)) xs
 map-flat f g [] = refl
@@ -102,7 +94,7 @@ raw_more analyzer (Some entry) t ts = by entry.fast
   where
     by : (b : Bool) → cond b (raw analyzer entry (t ∷ ts)) []
         ≡ cond b (entry_values analyzer entry t) [] ++ cond b (raw analyzer entry ts) []
-    by true = flat-both (entry_leaf analyzer entry) (leaves t) (leaves_of ts)
+    by true = flat_map-append (entry_leaf analyzer entry) (leaves t) (leaves_of ts)
     by false = refl
 
 -- ---- a field whose paths are others
@@ -138,7 +130,7 @@ module _ (analyzer : Analyzer) (key : ColumnKey) where
       → values_at key (flat_map (entry_leaf analyzer entry) ps) ≡ []
   leaves_elsewhere entry other ps =
       at-flat key (entry_leaf analyzer entry) ps
-      ∙ no_flat (λ p. values_at key (entry_leaf analyzer entry p)) (leaf_elsewhere entry other) ps
+      ∙ flat_map-none (λ p. values_at key (entry_leaf analyzer entry p)) (leaf_elsewhere entry other) ps
 
   pair_elsewhere : (entry : FieldEntry) → owns_path entry key.path ≡ false → (t : Tree)
       → values_at key (pair_values analyzer t (Some entry)) ≡ []

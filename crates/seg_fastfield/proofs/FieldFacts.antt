@@ -6,9 +6,10 @@ use Rattle.std.specs.List.{AllByRecursion, flat_map, list_all, slice_get}
 use Rattle.std.specs.Str.{bytes_eq}
 use Rattle.std.specs.Cmp.Lexicographic.{bytes_decides}
 use Rattle.std.proofs.Math.Bool.{and-false}
-use Rattle.std.proofs.lemmas.Bool.{and_parts, false≢true}
+use Rattle.std.proofs.lemmas.Bool.{and_parts, false≢true, not-true}
 use Rattle.std.proofs.lemmas.Bool.Decides.{Decides-eqb}
 use Rattle.std.proofs.lemmas.Option.{same_Some}
+use Rattle.std.proofs.lemmas.Grind.{flat_map-append}
 use Rattle.seg_common.specs.declared.column_type.ColumnType.{ColumnType}
 use Rattle.seg_common.specs.Dates.{cut_to, precision_unit}
 use Rattle.seg_values.specs.declared.schema.FieldEntry.{FieldEntry}
@@ -23,6 +24,7 @@ use Rattle.seg_model.specs.Fields.{Analyzer, Schema, is_indexed, is_json, is_tex
 use Rattle.seg_model.specs.Leaves.{PlacedLeaf, leaves, leaves_at, leaves_of, leaves_of_trees, level_in_array}
 use Rattle.seg_model.specs.Takes.{are_own_arrays, is_null, is_of_kind, is_own_array, is_own_leaf, takes}
 use Rattle.seg_model.specs.Valid.{Known, has_unknown_fast_tokenizer, names_fit}
+use Rattle.seg_model.proofs.Exports.{or_both, own_leaf_array}
 use Rattle.seg_column_writer.specs.Kinds.{kind_of, kind_place}
 use Rattle.seg_column_writer.specs.Records.{ColumnRecord, RowedValue}
 use Rattle.seg_column_writer.specs.RowByRow.{AreBelow, has_column}
@@ -33,9 +35,9 @@ use Rattle.seg_fastfield.specs.FastLeaves.{IsKnown, IsTaken}
 use Rattle.seg_column_format.specs.FastTokenizers.{AreKnown}
 use Rattle.seg_fastfield.specs.Walking.{IsFieldOf}
 use Rattle.seg_fastfield.specs.Writing.{AreUnderWay}
-use Rattle.seg_fastfield.proofs.Arranging.{HaveTexts, flat-both}
+use Rattle.seg_fastfield.proofs.Arranging.{HaveTexts}
 use Rattle.seg_fastfield.proofs.Facets.{AreTexts}
-use Rattle.seg_fastfield.proofs.Owners.{AreApart, apart_owners, apart_rest, not_true, owns_itself, owns_keys, owns_path, unlike, unlike_at}
+use Rattle.seg_fastfield.proofs.Owners.{AreApart, apart_owners, apart_rest, owns_itself, owns_keys, owns_path, unlike, unlike_at}
 
 pub apart_from : (schema : Schema) → is_schema schema ≡ true → names_fit schema ≡ true → AreApart schema
 apart_from schema valid fit = record {
@@ -100,7 +102,7 @@ plain_column (x ∷ xs) apart zero e is fast t typed =
           ∙ ap (λ (b : Bool). cond b (Some t) (declared_among (first_columns xs) e.name (kind_of t))) named,
     )
 plain_column (x ∷ xs) apart (suc place) e is fast t typed =
-    let other = unlike_at x xs (not_true (unlike x xs)
+    let other = unlike_at x xs (not-true (unlike x xs)
     (and_parts (not (unlike x xs)) (all_distinct same_name xs) apart.distinct).0) place e is in
     let past = skip e.name (kind_of t) x other (first_columns xs) in
     let there = plain_column xs (apart_rest x xs apart) place e is fast t typed in
@@ -210,10 +212,6 @@ empty_at_first (x ∷ xs) = by x.fast (declared_type x.kind) (empty_at_first xs)
 
 -- ---- documents that pass the check
 
-or_none : {X : Type 0} (a b : Option X) → option_or a b ≡ None → (a ≡ None) × (b ≡ None)
-or_none None b e = (refl, e)
-or_none (Some x) b e = absurd (false≢true (sym (ap is_some e)))
-
 not_refused : (schema : Schema) (p : ℕ × Tree) (o : Option FieldEntry) → value_refusal p.0 p.1 o ≡ None
     → IsSomeAnd o (λ e. takes e p.1 ≡ true)
 not_refused schema p None e = absurd (false≢true (sym (ap is_some e)))
@@ -227,25 +225,15 @@ each_taken : (schema : Schema) (document : Document) → fields_refusal schema d
     → AllByRecursion (IsTaken schema) document
 each_taken schema [] e = tt
 each_taken schema (p ∷ ps) e =
-    let both = or_none (value_refusal p.0 p.1 (slice_get schema p.0)) (fields_refusal schema ps) e in
+    let both = or_both (value_refusal p.0 p.1 (slice_get schema p.0)) (fields_refusal schema ps) e in
     (not_refused schema p (slice_get schema p.0) both.0, each_taken schema ps both.1)
 
 pub all_taken : (schema : Schema) (analyzer : Analyzer) (document : Document)
     → document_refusal schema analyzer document ≡ None → AllByRecursion (IsTaken schema) document
 all_taken schema analyzer document e =
-    each_taken schema document (or_none (fields_refusal schema document)
+    each_taken schema document (or_both (fields_refusal schema document)
     (option_or (leaves_refusal schema document)
     (option_or (order_refusal schema analyzer document) (limit_refusal schema analyzer document))) e).0
-
--- a value that a fast field takes is a leaf of its kind, null, or an array of these
-own_leaf : (k : FieldKind) (t : Tree) → is_own_leaf k t ≡ true → is_own_array k t ≡ true
-own_leaf k (leaf l) e = by (is_null l) e
-  where
-    by : (b : Bool) → is_of_kind k l ≡ true → (b || is_of_kind k l) ≡ true
-    by true e = refl
-    by false e = e
-own_leaf k (array ts) e = absurd (false≢true e)
-own_leaf k (object ms) e = absurd (false≢true e)
 
 pub own_array : (e : FieldEntry) (t : Tree) → e.fast ≡ true → takes e t ≡ true
     → (is_json e.kind || is_own_array e.kind t) ≡ true
@@ -255,7 +243,7 @@ own_array e t fast taken = by (is_json e.kind) (is_indexed e) e.fast fast taken
         → cond j true (cond i (is_own_leaf e.kind t) (cond f (is_own_array e.kind t) true)) ≡ true
         → (j || is_own_array e.kind t) ≡ true
     by true i f fast taken = refl
-    by false true f fast taken = own_leaf e.kind t taken
+    by false true f fast taken = own_leaf_array e.kind t taken
     by false false true fast taken = taken
     by false false false fast taken = absurd (false≢true fast)
 
@@ -294,7 +282,7 @@ module _ (analyzer : Analyzer) (tokenizer : Option (List ℕ)) (cut : ℤ → �
     facet_trees keys level no_trees e = tt
     facet_trees keys level (tree t ts) e =
         let both = and_parts (is_own_array kinds.Facet t) (are_own_arrays kinds.Facet ts) e in
-        subst AreTexts (sym (flat-both values_in (leaves_at keys level t) (leaves_of_trees keys level ts)))
+        subst AreTexts (sym (flat_map-append values_in (leaves_at keys level t) (leaves_of_trees keys level ts)))
         (texts_both (flat_map values_in (leaves_at keys level t)) (flat_map values_in (leaves_of_trees keys level ts))
         (facet_tree keys level t both.0) (facet_trees keys level ts both.1))
 
@@ -302,7 +290,7 @@ module _ (analyzer : Analyzer) (tokenizer : Option (List ℕ)) (cut : ℤ → �
       → AreTexts (flat_map values_in (leaves_of ts))
   facet_values [] each = tt
   facet_values (t ∷ ts) each =
-      subst AreTexts (sym (flat-both values_in (leaves t) (leaves_of ts)))
+      subst AreTexts (sym (flat_map-append values_in (leaves t) (leaves_of ts)))
       (texts_both (flat_map values_in (leaves t)) (flat_map values_in (leaves_of ts)) (facet_tree [] 0 t each.0)
       (facet_values ts each.1))
 

@@ -1,6 +1,6 @@
 -- The path of the columns below a JSON field.
-use Rattle.std.proofs.Common.{◌≡◌, ◌≢◌, ℕ, ◌==◌, ◌&&◌, ◌++◌, Bool, true, false, cond, List, [], ◌∷◌, None, Some, sym, refl, ap, ◌∙◌}
-use Rattle.std.proofs.lemmas.Bool.{false≢true}
+use Rattle.std.proofs.Common.{◌≡◌, ◌≢◌, ℕ, ◌==◌, ◌&&◌, ◌++◌, Bool, true, false, cond, List, [], ◌∷◌, None, Some, refl, ap, ◌∙◌}
+use Rattle.std.proofs.lemmas.Bool.{cond-true, cond-false}
 use Rattle.seg_common.specs.JsonPaths.{joined_path}
 use Rattle.seg_values.specs.declared.schema.FieldEntry.{FieldEntry}
 use Rattle.seg_values.specs.JsonPathTexts.{before_first, keys_in, path_keys}
@@ -34,23 +34,15 @@ below : (entry : FieldEntry) (keys : List (List ℕ)) → HasKeys keys
 below entry [] h = absurd h
 below entry (key ∷ keys) h = refl
 
-chosen : {X : Type 0} (test : Bool) (x y : X) → test ≡ true → cond test x y ≡ x
-chosen true x y h = refl
-chosen false x y h = absurd (false≢true h)
-
-other : {X : Type 0} (test : Bool) (x y : X) → test ≡ false → cond test x y ≡ y
-other true x y h = absurd (false≢true (sym h))
-other false x y h = refl
-
 -- a path in a JSON field
 pub path_below : (entry : FieldEntry) (path : List ℕ) → path ≢ [] → is_json entry.kind ≡ true
     → column_path entry path ≡ Some (entry.name ++ 1 ∷ joined_path entry.expand_dots (path_keys path))
 path_below entry [] some json = absurd (some refl)
 path_below entry (b ∷ path) some json =
-    chosen (is_json entry.kind) (Some (json_column_path entry (path_keys (b ∷ path)))) None json
+    cond-true (is_json entry.kind) (Some (json_column_path entry (path_keys (b ∷ path)))) None json
     ∙ ap Some (below entry (keys_in (b ∷ path)) (cut (b ∷ path)))
 
 -- a path in another one
 pub no_path : (entry : FieldEntry) (path : List ℕ) → path ≢ [] → is_json entry.kind ≡ false → column_path entry path ≡ None
 no_path entry [] some json = absurd (some refl)
-no_path entry (b ∷ path) some json = other (is_json entry.kind) (Some (json_column_path entry (path_keys (b ∷ path)))) None json
+no_path entry (b ∷ path) some json = cond-false (is_json entry.kind) (Some (json_column_path entry (path_keys (b ∷ path)))) None json

@@ -3,7 +3,7 @@ use Rattle.std.proofs.Common.{◌≡◌, ℕ, zero, suc, Bool, true, false, List
 use Rattle.std.specs.Prelude.{◌&&◌, nat_eq, nat_lt, not}
 use Rattle.std.specs.List.{list_all, list_any, slice_get}
 use Rattle.std.specs.Cmp.Lexicographic.{bytes_decides}
-use Rattle.std.proofs.lemmas.Bool.{and_parts, false≢true, or_parts}
+use Rattle.std.proofs.lemmas.Bool.{and_parts, false≢true, or_parts, not-true}
 use Rattle.std.proofs.lemmas.Bool.Decides.{Decides-eqb, nat_tests}
 use Rattle.std.proofs.lemmas.Option.{same_Some}
 use Rattle.seg_values.specs.declared.schema.FieldEntry.{FieldEntry}
@@ -75,10 +75,6 @@ pub record AreApart (schema : Schema) : Type 0 where
   pub fit : names_fit schema ≡ true
   pub distinct : all_distinct same_name schema ≡ true
 
-pub not_true : (b : Bool) → not b ≡ true → b ≡ false
-not_true true e = absurd (false≢true e)
-not_true false e = refl
-
 abbrev pub unlike : FieldEntry → Schema → Bool
 unlike x xs = list_any (λ y. same_name y x) xs
 
@@ -110,7 +106,7 @@ apart_owners x xs apart j e is path own_x own_e =
     let names : x.name ≡ e.name = one_owner x.name e.name (is_json x.kind) (is_json e.kind) path
     (and_parts (fits x.name) (names_fit xs) apart.fit).0
     (fits_at xs (and_parts (fits x.name) (names_fit xs) apart.fit).1 j e is) own_x own_e in
-    let other = unlike_at x xs (not_true (unlike x xs)
+    let other = unlike_at x xs (not-true (unlike x xs)
     (and_parts (not (unlike x xs)) (all_distinct same_name xs) apart.distinct).0) j e is in
     false≢true (sym other ∙ (bytes_decides e.name x.name).1 (sym names))
 

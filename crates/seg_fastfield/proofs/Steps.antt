@@ -21,7 +21,7 @@ use Rattle.seg_column_writer.specs.Recorded.{declared_in, recorded_columns}
 use Rattle.seg_column_writer.specs.Records.{ColumnRecord}
 use Rattle.seg_column_writer.specs.Typed as recorded
 use Rattle.seg_column_writer.specs.Typed.{IsWithin}
-use Rattle.seg_column_writer.proofs.Exports.{all_within, columns_of_documents, later}
+use Rattle.seg_column_writer.proofs.Exports.{all_within, columns_of_documents, later, same_length}
 use Rattle.seg_common.specs.declared.column_type.ColumnType.{ColumnType}
 use Rattle.seg_fastfield.specs.FastLeaves.{IsTaken, entry_leaf, pair_values, path_at, recorded_values, values_of_leaf}
 use Rattle.seg_column_format.specs.FastTokenizers.{AreKnown}
@@ -180,12 +180,6 @@ rows_more row (x ∷ xs) d cs =
     let z : row + 1 + length xs ≡ row + suc (length xs) = omega arith in
     rows_more (row + 1) xs d (with_values row x cs)
     ∙ ap (λ (n : ℕ). with_values n d (with_rows (row + 1) xs (with_values row x cs))) z
-
-same_length : (cs : List ColumnRecord) (rs ds : List (List FastValue)) → AreArranged cs rs ds → length ds ≡ length rs
-same_length cs [] [] arranges = refl
-same_length cs [] (d ∷ ds) arranges = absurd arranges
-same_length cs (r ∷ rs) [] arranges = absurd arranges
-same_length cs (r ∷ rs) (d ∷ ds) arranges = ap suc (same_length cs rs ds arranges.1)
 
 arranged_more : (analyzer : Analyzer) (schema : Schema) (document : Document) (rs ds : List (List FastValue))
     → is_schema schema ≡ true → names_fit schema ≡ true → document_refusal schema analyzer document ≡ None

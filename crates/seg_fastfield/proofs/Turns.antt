@@ -4,8 +4,9 @@ use Rattle.std.specs.Prelude.{◌&&◌, ◌||◌, nat_eq, not}
 use Rattle.std.specs.List.{AllByRecursion, flat_map, list_any, slice_get}
 use Rattle.std.specs.Str.{bytes_eq}
 use Rattle.std.proofs.Math.Bool.{and-false}
-use Rattle.std.proofs.lemmas.Bool.{and_parts, false≢true, or_from, or_parts}
+use Rattle.std.proofs.lemmas.Bool.{and_parts, false≢true, or_from, or_parts, not-true}
 use Rattle.std.proofs.lemmas.List.Folds.{list_any-append}
+use Rattle.std.proofs.lemmas.Grind.{flat_map-append}
 use Rattle.seg_common.proofs.Lists.{drop-get_or, drop-slice_get}
 use Rattle.seg_common.specs.declared.column_type.ColumnType.{ColumnType}
 use Rattle.seg_columns.specs.declared.error.ColumnError.{ColumnError}
@@ -32,8 +33,7 @@ use Rattle.seg_column_writer.proofs.Exports.{with_change_new}
 use Rattle.seg_paths.specs.NumberedLeaves.{leaf_in}
 use Rattle.seg_fastfield.specs.FastLeaves.{IsTaken, entry_leaf, pair_values, recorded_values, values_under}
 use Rattle.seg_fastfield.specs.FirstColumns.{column_of, column_with, first_columns}
-use Rattle.seg_fastfield.proofs.Arranging.{flat-both}
-use Rattle.seg_fastfield.proofs.Owners.{not_true, unlike}
+use Rattle.seg_fastfield.proofs.Owners.{unlike}
 use Rattle.seg_fastfield.proofs.Walks.{values_both}
 
 -- ---- declared columns
@@ -117,7 +117,7 @@ module _ (schema : Schema) (i : ℕ) (e : FieldEntry) (lt : i < length schema) (
       → new ≡ cs ++ column_of e → AreNew (drop (i + 1) schema) new
   new_turn cs new are_new distinct made = subst (AreNew (drop (i + 1) schema)) (sym made)
       (new_still e (drop (i + 1) schema) cs (subst (λ (l : Schema). AreNew l cs) left are_new).1
-      (not_true (unlike e (drop (i + 1) schema)) (unlike_left distinct).0))
+      (not-true (unlike e (drop (i + 1) schema)) (unlike_left distinct).0))
 
   pub columns_turn : (cs new : List ColumnRecord) → new ≡ cs ++ column_of e
       → new ++ first_columns (drop (i + 1) schema) ≡ cs ++ first_columns (drop i schema)
@@ -173,7 +173,7 @@ module _ (row : ℕ) (analyzer : Analyzer) (entry : FieldEntry) (keys : List (Li
       ∙ sym (values_both row (flat_map (entry_leaf analyzer entry) (leaves_at keys level t))
       (flat_map (entry_leaf analyzer entry) (leaves_of_trees keys level (trees_from (drop (i + 1) ts)))) old)
       ∙ ap (λ (vs : List FastValue). with_values row vs old)
-      (sym (flat-both (entry_leaf analyzer entry) (leaves_at keys level t) (leaves_of_trees keys level (trees_from
+      (sym (flat_map-append (entry_leaf analyzer entry) (leaves_at keys level t) (leaves_of_trees keys level (trees_from
       (drop (i + 1) ts)))))
       ∙ ap (λ (l : List Tree). with_values row (flat_map (entry_leaf analyzer entry) (leaves_of_trees keys level
       (trees_from l))) old)
@@ -191,7 +191,7 @@ module _ (row : ℕ) (analyzer : Analyzer) (entry : FieldEntry) (keys : List (Li
       ∙ sym (values_both row (flat_map (entry_leaf analyzer entry) (leaves_at (keys ++ key ∷ []) level t))
       (flat_map (entry_leaf analyzer entry) (leaves_of_members keys level (members_from (drop (i + 1) ms)))) old)
       ∙ ap (λ (vs : List FastValue). with_values row vs old)
-      (sym (flat-both (entry_leaf analyzer entry) (leaves_at (keys ++ key ∷ []) level t)
+      (sym (flat_map-append (entry_leaf analyzer entry) (leaves_at (keys ++ key ∷ []) level t)
       (leaves_of_members keys level (members_from (drop (i + 1) ms)))))
       ∙ ap (λ (l : List (List ℕ × Tree)). with_values row (flat_map (entry_leaf analyzer entry)
       (leaves_of_members keys level (members_from l))) old) (sym (drop-slice_get ms i (key, t) at))

@@ -1,12 +1,13 @@
 -- Steps of a walk over a document.
-use Rattle.std.proofs.Common.{◌≡◌, ℕ, zero, suc, ◌+◌, ◌<◌, ◌≤◌, Bool, true, false, cond, List, [], ◌∷◌, ◌++◌, length, map, Option, None, Some, Result, Ok, Err, OnOk, OnErr, inl, inr, refl, sym, ap, subst, ◌∙◌, arith}
+use Rattle.std.proofs.Common.{◌≡◌, ℕ, zero, suc, ◌+◌, ◌<◌, ◌≤◌, Bool, true, false, cond, List, [], ◌∷◌, ◌++◌, length, Option, None, Some, Result, Ok, Err, OnOk, OnErr, inl, inr, refl, sym, ap, subst, ◌∙◌, arith}
 use Rattle.std.specs.Prelude.{◌⊎◌, ◌&&◌, ◌||◌, ℤ, pos, negsuc, nat_le, FitsSigned}
 use Rattle.std.specs.Int.{w64}
 use Rattle.std.specs.List.{flat_map, join_with_byte}
 use Rattle.std.proofs.lemmas.Bool.{false≢true}
 use Rattle.std.proofs.lemmas.Bool.Decides.{nat_tests}
 use Rattle.std.proofs.lemmas.List.{map-append}
-use Rattle.seg_common.specs.JsonPaths.{JsonPath, dot_expanded, joined_path, written_key}
+use Rattle.std.proofs.lemmas.Grind.{flat_map-append}
+use Rattle.seg_common.specs.JsonPaths.{JsonPath, written_key}
 use Rattle.seg_common.specs.declared.column_type.ColumnType.{ColumnType}
 use Rattle.seg_common.specs.declared.column_type.ColumnType.TheVariants as types
 use Rattle.seg_common.specs.Dates.{cut_to, precision_unit}
@@ -14,6 +15,7 @@ use Rattle.seg_values.specs.declared.schema.FieldEntry.{FieldEntry}
 use Rattle.seg_values.specs.declared.schema.FieldKind.{FieldKind}
 use Rattle.seg_values.specs.declared.schema.FieldKind.TheVariants as kinds
 use Rattle.seg_values.specs.Tree.{Leaf, null, text, pre_tokenized, unsigned, signed, boolean, date, facet, byte_string, ip, Tree, leaf, array, object, Trees, no_trees, tree, Members, no_members, member}
+use Rattle.seg_values.proofs.Exports.{join-written}
 use Rattle.seg_model.specs.Columns.{ColumnValue, FastValue, number, bytes_value, text_value, boolean_value, ip_value, date_value, column_tokenizer, declared_type, fits_i64, json_column_path, json_cut, json_leaf_values, leaf_values, under_name}
 use Rattle.seg_model.specs.Fields.{Analyzer, Schema, is_json, is_text}
 use Rattle.seg_model.specs.Leaves.{PlacedLeaf, leaves_at, leaves_of_members, leaves_of_trees, level_in_array}
@@ -30,7 +32,6 @@ use Rattle.seg_fastfield.specs.FirstColumns.{declared_by, first_columns}
 use Rattle.seg_fastfield.specs.FastLeaves.{IsLevelOf, cut_at, entry_leaf, json_cut_at, path_at, values_of_leaf, values_under}
 use Rattle.seg_fastfield.specs.Walking.{IsFieldOf, IsPlaceOf, MayLeafCome}
 use Rattle.seg_fastfield.specs.Writing.{AreUnderWay, MayCome}
-use Rattle.seg_fastfield.proofs.Arranging.{flat-both}
 
 -- ---- a value
 
@@ -80,30 +81,11 @@ values_both row (x ∷ xs) ys cs = values_both row xs ys (with_recorded x.path (
 
 -- ---- paths
 
-written_both : (expand : Bool) (xs ys : List ℕ)
-    → written_key expand (xs ++ ys) ≡ written_key expand xs ++ written_key expand ys
-written_both true xs ys = map-append dot_expanded xs ys
-written_both false xs ys = refl
-
-written_seam : (expand : Bool) (xs : List ℕ) → written_key expand (1 ∷ xs) ≡ 1 ∷ written_key expand xs
-written_seam true xs = refl
-written_seam false xs = refl
-
-written_join : (expand : Bool) (keys : List (List ℕ))
-    → join_with_byte 1 (map (written_key expand) keys) ≡ joined_path expand keys
-written_join true [] = refl
-written_join false [] = refl
-written_join expand (k ∷ []) = refl
-written_join expand (k ∷ j ∷ keys) =
-    ap (λ (l : List ℕ). written_key expand k ++ (1 ∷ l)) (written_join expand (j ∷ keys))
-    ∙ sym (written_both expand k (1 ∷ join_with_byte 1 (j ∷ keys))
-    ∙ ap (λ (l : List ℕ). written_key expand k ++ l) (written_seam expand (join_with_byte 1 (j ∷ keys))))
-
 -- a path as it is written is that of the column
 pub path_is : (entry : FieldEntry) (keys : List (List ℕ))
     → join_with_byte 1 (path_at entry keys).keys ≡ json_column_path entry keys
 path_is entry [] = refl
-path_is entry (k ∷ keys) = ap (λ (l : List ℕ). entry.name ++ (1 ∷ l)) (written_join entry.expand_dots (k ∷ keys))
+path_is entry (k ∷ keys) = ap (λ (l : List ℕ). entry.name ++ (1 ∷ l)) (join-written entry.expand_dots (k ∷ keys))
 
 -- ---- places
 
@@ -408,12 +390,12 @@ module _ (analyzer : Analyzer) (entry : FieldEntry) (json : is_json entry.kind �
         → nothing_in (leaves_of_trees keys level ts)
     deep_trees keys level no_trees deep = refl
     deep_trees keys level (tree t ts) deep =
-        flat-both (entry_leaf analyzer entry) (leaves_at keys level t) (leaves_of_trees keys level ts)
+        flat_map-append (entry_leaf analyzer entry) (leaves_at keys level t) (leaves_of_trees keys level ts)
         ∙ (λ j. deep_tree keys level t deep j ++ deep_trees keys level ts deep j)
 
     deep_members : (keys : List (List ℕ)) (level : ℕ) (ms : Members) → 20 < level
         → nothing_in (leaves_of_members keys level ms)
     deep_members keys level no_members deep = refl
     deep_members keys level (member key t ms) deep =
-        flat-both (entry_leaf analyzer entry) (leaves_at (keys ++ key ∷ []) level t) (leaves_of_members keys level ms)
+        flat_map-append (entry_leaf analyzer entry) (leaves_at (keys ++ key ∷ []) level t) (leaves_of_members keys level ms)
         ∙ (λ j. deep_tree (keys ++ key ∷ []) level t deep j ++ deep_members keys level ms deep j)

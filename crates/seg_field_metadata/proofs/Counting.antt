@@ -10,12 +10,12 @@ use Rattle.std.proofs.lemmas.List.Sorted.{list_any-IsPermutation, sum_by-IsPermu
 use Rattle.std.proofs.lemmas.Simd.{map-map}
 use Rattle.std.proofs.lemmas.List.Sums.{sum_by-append, sum_by-cons}
 use Rattle.seg_common.proofs.Tables.{same_table}
+use Rattle.seg_common.proofs.Numbers.{zero_plus}
 use Rattle.seg_field_metadata.specs.Known.{Entry, Key, Known, entry_of, together, total}
 use Rattle.seg_field_metadata.specs.Merged.{all_entries, at_key, has_key, merged}
 use Rattle.seg_field_metadata.specs.declared.field_metadata.FieldMetadata.{FieldMetadata}
 use Rattle.seg_field_metadata.proofs.Keys.{key_cmp_total, keys_apart}
 use Rattle.seg_field_metadata.proofs.AtKeys.{complete}
-use Rattle.seg_field_metadata.proofs.Sums.{zero_plus}
 
 -- no test and no sum tells entries apart
 pub record AreAlike (es fs : List Entry) : Type 0 where

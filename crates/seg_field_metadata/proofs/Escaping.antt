@@ -1,6 +1,6 @@
 -- Paths whose dots are escaped, part by part.
-use Rattle.std.proofs.Common.{◌≡◌, ◌≢◌, ℕ, suc, ◌<◌, false, cond, List, [], ◌∷◌, ◌++◌, length, Result, Ok, Err, refl, sym, ap, ◌∙◌, arith, append_assoc, append-nil}
-use Rattle.std.specs.Prelude.{◌==◌, slice_index, OnOk}
+use Rattle.std.proofs.Common.{◌≡◌, ◌≢◌, ℕ, suc, ◌<◌, false, cond, List, [], ◌∷◌, ◌++◌, length, refl, sym, ap, ◌∙◌, arith, append_assoc, append-nil}
+use Rattle.std.specs.Prelude.{◌==◌, slice_index}
 use Rattle.std.proofs.lemmas.Bool.Decides.{nat_tests}
 use Rattle.seg_common.specs.Replacing.{replacement}
 use Rattle.seg_field_metadata.specs.Listed.{dotted_path, escaped_path}
@@ -27,7 +27,3 @@ escaped_cut text part others is plain =
 pub escaped_last : (rest : List ℕ) → HasNoDot rest → escaped_path rest ≡ dotted_path rest
 escaped_last rest plain =
     ap escaped_path (sym (append-nil rest)) ∙ escaped_plain rest [] plain ∙ append-nil (dotted_path rest)
-
-pub when_ok : {T E P Q : Type 0} (r : Result T E) → OnOk r P → (P → Q) → OnOk r Q
-when_ok (Ok x) p f = f p
-when_ok (Err e) p f = tt

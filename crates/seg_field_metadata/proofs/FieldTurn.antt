@@ -5,8 +5,8 @@ use Rattle.std.specs.HashMap.{HashMap}
 use Rattle.std.specs.declared.alloc.Global.{Global}
 use Rattle.std.specs.List.{slice_get}
 use Rattle.std.proofs.lemmas.Bool.{and_parts, ltb-true}
-use Rattle.std.proofs.lemmas.List.{drop_all, drop_more}
-use Rattle.std.proofs.lemmas.Option.{get_or_from_slice_get, slice_get_within}
+use Rattle.std.proofs.lemmas.List.{drop_all}
+use Rattle.seg_common.proofs.Lists.{drop-slice_get}
 use Rattle.seg_values.specs.declared.error.TantivyError.{TantivyError}
 use Rattle.seg_values.specs.declared.error.TantivyError.TheVariants.{OutOfMemory}
 use Rattle.seg_values.specs.declared.schema.FieldEntry.{FieldEntry}
@@ -40,10 +40,6 @@ pub record SoFar {S : Type 0} (schema : Schema) (fields : List (Option OpenField
   pub goes_on : (rest : Said) → FieldsSay (drop place schema) (drop place fields) rest
       → FieldsSay schema fields (followed entries escaped rest)
 
-drop_cons : {X : Type 0} (xs : List X) (i : ℕ) (x : X) → slice_get xs i ≡ Some x → drop i xs ≡ x ∷ drop (i + 1) xs
-drop_cons xs i x there =
-    drop_more xs i x (slice_get_within xs i x there) ∙ ap (λ y. y ∷ drop (i + 1) xs) (get_or_from_slice_get xs i x x there)
-
 module _ {S : Type 0} (schema : Schema) (fields : List (Option OpenField)) where
   pub none_so_far : (entries : List Entry) (names : HashMap (String Global) (String Global) S) → entries ≡ [] → HasNames names []
       → SoFar schema fields 0 entries names
@@ -64,8 +60,8 @@ module _ {S : Type 0} (schema : Schema) (fields : List (Option OpenField)) where
         let escaped_are = sym (append_assoc so.escaped adds.said.escaped rest.escaped) in
         let cut : FieldsSay (entry ∷ drop (place + 1) schema) (o ∷ drop (place + 1) fields) both = (adds.said, rest, adds.says, says, refl) in
         let same : FieldsSay (drop place schema) (drop place fields) both =
-        subst (λ (l : Schema). FieldsSay l (drop place fields) both) (sym (drop_cons schema place entry in_schema))
-        (subst (λ (l : List (Option OpenField)). FieldsSay (entry ∷ drop (place + 1) schema) l both) (sym (drop_cons fields place o in_fields)) cut) in
+        subst (λ (l : Schema). FieldsSay l (drop place fields) both) (sym (drop-slice_get schema place entry in_schema))
+        (subst (λ (l : List (Option OpenField)). FieldsSay (entry ∷ drop (place + 1) schema) l both) (sym (drop-slice_get fields place o in_fields)) cut) in
         subst (FieldsSay schema fields) (λ i. record { entries = entries_are i; escaped = escaped_are i }) (so.goes_on both same);
   }
 

@@ -1,5 +1,5 @@
 -- Sorted metadata, merged entry by entry.
-use Rattle.std.proofs.Common.{◌≡◌, ℕ, suc, ◌+◌, Bool, true, false, cond, List, [], ◌∷◌, ◌++◌, map, get_or, None, Result, Ok, Err, sym, refl, ap, subst, ◌∙◌, arith}
+use Rattle.std.proofs.Common.{◌≡◌, ℕ, suc, ◌+◌, true, false, cond, List, [], ◌∷◌, ◌++◌, map, get_or, None, Result, Ok, Err, sym, refl, ap, subst, ◌∙◌, arith}
 use Rattle.std.specs.Prelude.{◌&&◌, Vec, IfErr, OnErr}
 use Rattle.std.specs.declared.alloc.Global.{Global}
 use Rattle.std.specs.List.{flat_map}
@@ -8,6 +8,7 @@ use Rattle.std.specs.Ordering.{is_lt}
 use Rattle.std.proofs.lemmas.List.{map-append}
 use Rattle.std.proofs.lemmas.List.Folds.{list_all-append}
 use Rattle.std.proofs.lemmas.List.Sorted.{IsPermutation-map, IsPermutation-sym}
+use Rattle.std.proofs.Math.Bool.{and-false}
 use Rattle.seg_values.specs.declared.error.TantivyError.{TantivyError}
 use Rattle.seg_values.specs.declared.error.TantivyError.TheVariants.{InvalidArgument}
 use Rattle.seg_values.specs.declared.error.ArgumentCause.TheVariants.{SizeOverflow}
@@ -69,10 +70,6 @@ unfit_behind p (e ∷ es) unfit =
     (λ _. unfit_behind (merged_pair p e) es (unfit-more p.1 e.1 unfit))
     (λ _. ap (λ b. b && sizes_fit (grouped_behind e es)) unfit)
 
-and_false : (b : Bool) → (b && false) ≡ false
-and_false true = refl
-and_false false = refl
-
 behind_same : (p e : Entry) (rest : List Entry) → has_key p.0 e ≡ true
     → sizes_fit (grouped_behind p (e ∷ rest)) ≡ sizes_fit (grouped_behind (merged_pair p e) rest)
 behind_same p e rest same =
@@ -86,7 +83,7 @@ unfit_grouped done p e rest same unfit =
     list_all-append (λ (e : Entry). fits e.1) done (grouped_behind p (e ∷ rest))
     ∙ ap (λ b. sizes_fit done && b) (behind_same p e rest same)
     ∙ ap (λ b. sizes_fit done && b) (unfit_behind (merged_pair p e) rest unfit)
-    ∙ and_false (sizes_fit done)
+    ∙ and-false (sizes_fit done)
 
 -- so a failing step is why all fail
 pub overflows : (r : Result FieldMetadata TantivyError) (done : List Entry) (p e : Entry) → has_key p.0 e ≡ true

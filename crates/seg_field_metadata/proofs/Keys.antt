@@ -1,11 +1,10 @@
 -- The order of names and types.
 use Rattle.std.proofs.Common.{◌≡◌, ℕ, zero, suc, sym, refl, ap, ◌∙◌}
-use Rattle.std.specs.declared.cmp.Ordering.{Ordering}
-use Rattle.std.specs.declared.cmp.Ordering.TheVariants.{Less, Equal, Greater}
-use Rattle.std.specs.Ordering.{nat_cmp, ordering_then}
+use Rattle.std.specs.Ordering.{nat_cmp}
 use Rattle.std.specs.Cmp.{IsTotalOrder, nat_cmp_total, on_total, then_total}
 use Rattle.std.specs.Cmp.Lexicographic.{slice_cmp, nat_list_cmp_total}
 use Rattle.std.specs.FinMap.{IsAntisymmetric, nat_cmp-IsAntisymmetric, slice_cmp-IsAntisymmetric}
+use Rattle.seg_common.proofs.Numbers.{then_first, then_second}
 use Rattle.seg_values.specs.declared.field_type.FieldType.{FieldType}
 use Rattle.seg_values.specs.declared.field_type.FieldType.TheVariants.{Bytes, Date, Facet, I64, Json, Bool as Boolean, IpAddr, Str, U64}
 use Rattle.seg_field_metadata.specs.Known.{Key, key_cmp, type_place}
@@ -36,21 +35,11 @@ type_of_its_place IpAddr = refl
 type_of_its_place Str = refl
 type_of_its_place U64 = refl
 
-first_equal : (r s : Ordering) → ordering_then r s ≡ Equal → r ≡ Equal
-first_equal Less s e = e
-first_equal Equal s e = refl
-first_equal Greater s e = e
-
-second_equal : (r s : Ordering) → ordering_then r s ≡ Equal → s ≡ Equal
-second_equal Less s e = cc
-second_equal Equal s e = e
-second_equal Greater s e = cc
-
 pub keys_apart : IsAntisymmetric key_cmp
 keys_apart k m e =
     let name : k.name ≡ m.name = slice_cmp-IsAntisymmetric nat_cmp-IsAntisymmetric k.name m.name
-    (first_equal (slice_cmp nat_cmp k.name m.name) (nat_cmp (type_place k.type) (type_place m.type)) e) in
+    (then_first (slice_cmp nat_cmp k.name m.name) (nat_cmp (type_place k.type) (type_place m.type)) e) in
     let place : type_place k.type ≡ type_place m.type = nat_cmp-IsAntisymmetric _ _
-    (second_equal (slice_cmp nat_cmp k.name m.name) (nat_cmp (type_place k.type) (type_place m.type)) e) in
+    (then_second (slice_cmp nat_cmp k.name m.name) (nat_cmp (type_place k.type) (type_place m.type)) e) in
     let type : k.type ≡ m.type = sym (type_of_its_place k.type) ∙ ap type_of_place place ∙ type_of_its_place m.type in
     λ i. record { name = name i; type = type i }

@@ -1,5 +1,4 @@
 mod AtKeys
-mod ByOrder
 mod ColumnTurn
 mod Counting
 mod DictionaryLengths

@@ -7,9 +7,9 @@ use Rattle.std.specs.List.{list_all, list_any, slice_get}
 use Rattle.std.specs.Ordering.{eq_by_cmp, nat_cmp}
 use Rattle.std.specs.Cmp.Lexicographic.{slice_cmp}
 use Rattle.std.proofs.lemmas.Bool.{and_from, false≢true, or_left, or_right}
-use Rattle.std.proofs.lemmas.Cmp.{eq_by_cmp_equiv, nat_list_cmp_total}
 use Rattle.std.proofs.lemmas.List.{get_or-map, length-map}
 use Rattle.std.proofs.lemmas.Option.{get_or_from_slice_get, slice_get-get_or, slice_get_within}
+use Rattle.seg_common.proofs.Bytes.{eq_by_cmp-itself}
 use Rattle.seg_values.specs.declared.schema.FieldEntry.{FieldEntry}
 use Rattle.seg_values.specs.declared.schema.FieldKind.{FieldKind}
 use Rattle.seg_values.specs.declared.schema.FieldKind.TheVariants.{Json}
@@ -24,9 +24,6 @@ use Rattle.seg_postings.proofs.Exports.{form_of_term}
 use Rattle.seg_open.specs.OpenSegment.{terms_in}
 
 -- ---- terms of a map
-
-same_text : (text : List ℕ) → eq_by_cmp (slice_cmp nat_cmp) text text ≡ true
-same_text text = (eq_by_cmp_equiv nat_list_cmp_total).refl text
 
 abbrev is_among : List ℕ → List (List ℕ) → Bool
 is_among term keys = list_any (eq_by_cmp (slice_cmp nat_cmp) term) keys
@@ -47,7 +44,7 @@ all_formed : (kind : FieldKind) (rs : List ReadTerm)
 all_formed kind [] form = refl
 all_formed kind (r ∷ rs) form =
     and_from (has_form kind r.bytes) (list_all (is_formed kind) (map (λ (x : ReadTerm). (x.bytes, x.info)) rs))
-    (form r.bytes (or_left _ (is_among r.bytes (map (λ (x : ReadTerm). x.bytes) rs)) (same_text r.bytes)))
+    (form r.bytes (or_left _ (is_among r.bytes (map (λ (x : ReadTerm). x.bytes) rs)) (eq_by_cmp-itself r.bytes)))
     (all_formed kind rs (λ term there. form term (or_right (eq_by_cmp (slice_cmp nat_cmp) term r.bytes) _ there)))
 
 keys_are : (m : Terms) (rs : List ReadTerm) → entries m ≡ map (λ (r : ReadTerm). (r.bytes, r.postings)) rs

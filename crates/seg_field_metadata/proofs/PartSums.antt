@@ -2,8 +2,7 @@
 use Rattle.std.proofs.Common.{◌≡◌, ℕ, ◌+◌, ◌<◌, ◌≤◌, true, false, List, ◌∷◌, length, take, get_or, ap, sym, ◌∙◌, arith, add-one}
 use Rattle.std.specs.Prelude.{min, nat_lt, if◌then◌else◌}
 use Rattle.std.specs.List.{sum_by}
-use Rattle.std.proofs.lemmas.Bool.{ltb-true}
-use Rattle.std.proofs.lemmas.Bool.Decides.{nat_tests}
+use Rattle.std.proofs.lemmas.Bool.{ltb-true, ltb-false}
 use Rattle.std.proofs.lemmas.List.{take_all}
 use Rattle.std.proofs.lemmas.List.Sums.{sum_by_more}
 use Rattle.seg_common.specs.declared.term_info.TermInfo.{TermInfo}
@@ -12,9 +11,6 @@ use Rattle.seg_termdict.specs.SortedTerms.{RankedTerm}
 use Rattle.seg_termdict.specs.Streaming.{Stream, advanced, current, no_ranked, no_term, ranked_terms}
 use Rattle.seg_termdict.proofs.Exports.{ranked_at, ranked_length, ranked_of}
 use Rattle.seg_field_metadata.specs.Indexed.{in_64_bits}
-
-not_less : (n m : ℕ) → nat_lt n m ≡ false → m ≤ n
-not_less n m h = grind (arith, nat_tests)
 
 -- ---- a sum that stays at a limit
 
@@ -38,7 +34,7 @@ module _ (terms : List Term) (s : Stream) (of : s.terms ≡ ranked_terms terms) 
   as_many = ap length of ∙ ranked_length terms
 
   pub at_end : (f : Term → ℕ) → nat_lt s.taken (length s.terms) ≡ false → sum_by f (take s.taken terms) ≡ sum_by f terms
-  at_end f none = let le : length s.terms ≤ s.taken = not_less _ _ none in ap (sum_by f) (take_all s.taken terms (omega (arith, le, as_many)))
+  at_end f none = let le : length s.terms ≤ s.taken = ltb-false _ _ none in ap (sum_by f) (take_all s.taken terms (omega (arith, le, as_many)))
 
   module _ (after : Stream) (more : nat_lt s.taken (length s.terms) ≡ true) (is : after ≡ advanced s) where
     further : after ≡ one_further s

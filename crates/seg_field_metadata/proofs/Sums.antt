@@ -5,6 +5,9 @@ use Rattle.std.specs.List.{list_any, sum_by}
 use mathlib.Core.Bool.{true≢false}
 use Rattle.std.proofs.lemmas.Bool.Decides.{nat_tests}
 use Rattle.std.proofs.lemmas.List.Sums.{sum_by-cons}
+use Rattle.std.proofs.Math.Bool.{or-false}
+use Rattle.seg_common.proofs.Numbers.{zero_plus}
+use Rattle.seg_common.proofs.Bools.{or_grouped}
 use Rattle.seg_field_metadata.specs.Known.{Known, fits, size_fits, together, total}
 
 -- ---- sizes
@@ -27,9 +30,6 @@ plus-assoc (Some a) (Some b) (Some c) = ap Some (omega arith)
 
 abbrev or_zero : Option ℕ → ℕ
 or_zero o = unwrap_or o 0
-
-pub zero_plus : (n : ℕ) → 0 + n ≡ n
-zero_plus n = omega arith
 
 sum_of_none : (ss : List (Option ℕ)) → list_any is_some ss ≡ false → sum_by or_zero ss ≡ 0
 sum_of_none [] h = refl
@@ -77,14 +77,6 @@ together-cons k ks = λ i. record {
   positions = total-cons k.positions (map (λ (m : Known). m.positions) ks) i;
 }
 
-or-false : (b : Bool) → (b || false) ≡ b
-or-false true = refl
-or-false false = refl
-
-or-assoc : (a b c : Bool) → (a || (b || c)) ≡ ((a || b) || c)
-or-assoc true b c = refl
-or-assoc false b c = refl
-
 combined-none : (k : Known) → combined k (together []) ≡ k
 combined-none k = λ i. record {
   stored = or-false k.stored i;
@@ -102,7 +94,7 @@ together-two k m = together-cons k (m ∷ []) ∙ ap (combined k) (together-one 
 
 combined-assoc : (k m n : Known) → combined k (combined m n) ≡ combined (combined k m) n
 combined-assoc k m n = λ i. record {
-  stored = or-assoc k.stored m.stored n.stored i;
+  stored = or_grouped k.stored m.stored n.stored i;
   fast = plus-assoc k.fast m.fast n.fast i;
   terms = plus-assoc k.terms m.terms n.terms i;
   postings = plus-assoc k.postings m.postings n.postings i;

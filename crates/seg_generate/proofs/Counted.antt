@@ -5,14 +5,11 @@ use Rattle.std.specs.List.{flat_map, range_with_len}
 use Rattle.std.proofs.lemmas.Grind.{flat_map-append}
 use Rattle.std.proofs.lemmas.List.{append-nil}
 use Rattle.std.proofs.lemmas.List.FromFn.{map-range_with_len_more}
-
-range_more : (a n j : ℕ) → j ≡ a + n → range_with_len a (suc n) ≡ range_with_len a n ++ j ∷ []
-range_more a zero j h = let e : a ≡ j = omega (arith, h) in ap (λ x. x ∷ []) e
-range_more a (suc n) j h = ap (λ xs. a ∷ xs) (range_more (a + 1) n j (omega (arith, h)))
+use Rattle.seg_common.proofs.Lists.{range-one_more}
 
 -- numbers that count up from 1
 pub number_more : (old new : List ℕ) (n x : ℕ) → old ≡ range_with_len 1 n → new ≡ old ++ x ∷ [] → x ≡ n + 1 → new ≡ range_with_len 1 (n + 1)
-number_more old new n x h k e = k ∙ ap (λ xs. xs ++ x ∷ []) h ∙ rw add-one (sym (range_more 1 n x (omega (arith, e))))
+number_more old new n x h k e = k ∙ ap (λ xs. xs ++ x ∷ []) h ∙ rw add-one (sym (range-one_more 1 n x (omega (arith, e))))
 
 same_more : {X : Type 0} (n : ℕ) (x : X) → replicate n x ++ x ∷ [] ≡ replicate (suc n) x
 same_more zero x = refl
@@ -39,5 +36,5 @@ group_more f old new n h k =
     ∙ ap (λ xs. xs ++ f n) h
     ∙ ap (λ xs. flat_map f (range_with_len 0 n) ++ xs) (sym (append-nil (f n)))
     ∙ sym (flat_map-append f (range_with_len 0 n) (n ∷ []))
-    ∙ ap (flat_map f) (sym (range_more 0 n n (omega arith)))
+    ∙ ap (flat_map f) (sym (range-one_more 0 n n (omega arith)))
     ∙ ap (λ m. flat_map f (range_with_len 0 m)) (sym (add-one n))

@@ -3,7 +3,9 @@ use Rattle.std.proofs.Common.{◌≡◌, ◌≤◌, ◌+◌, ◌-◌, ◌^◌, �
 use Rattle.std.specs.Prelude.{filter}
 use Rattle.std.specs.Char.{to_ascii_lowercase}
 use Rattle.std.specs.List.{AllByRecursion, onto_first, slice_split}
-use Rattle.std.proofs.lemmas.Bool.Decides.{Decides-ltb, nat_tests}
+use Rattle.std.proofs.lemmas.Bool.Decides.{Decides-ltb}
+use Rattle.std.proofs.lemmas.Bool.{le-leb}
+use Rattle.seg_common.proofs.Lists.{all_filtered}
 use Rattle.seg_tokens.specs.declared.token.Token.{Token}
 use Rattle.seg_tokens.specs.Tokenizers.{default_tokens, separates_words}
 use Rattle.seg_tokens.specs.Words.{numbered, placed, words}
@@ -14,16 +16,6 @@ use Rattle.seg_generate.specs.Taking.{AreFit, DefaultTakesTexts}
 use Rattle.seg_generate.proofs.Valid.{body_length}
 
 -- ---- what is kept of a list
-
-one_kept : {X : Type 0} (P : X → Type 0) (b : Bool) (x : X) (others : List X) → P x → AllByRecursion P others
-    → AllByRecursion P (cond b (x ∷ others) others)
-one_kept P true x others h k = (h, k)
-one_kept P false x others h k = k
-
-all_kept : {X : Type 0} (P : X → Type 0) (test : X → Bool) (xs : List X) → AllByRecursion P xs
-    → AllByRecursion P (filter test xs)
-all_kept P test [] h = tt
-all_kept P test (x ∷ xs) h = one_kept P (test x) x (filter test xs) h.0 (all_kept P test xs h.1)
 
 one_few : {X : Type 0} (b : Bool) (x : X) (others : List X) (n : ℕ) → length others ≤ n
     → length (cond b (x ∷ others) others) ≤ 1 + n
@@ -57,14 +49,11 @@ rises_kept test low [] rises = tt
 rises_kept test low (t ∷ ts) rises =
     rises_one (test t) low t (filter test ts) rises.0 (rises_kept test t.position ts rises.1)
 
-le_true : (m n : ℕ) → m ≤ n → nat_le m n ≡ true
-le_true m n h = grind (arith, nat_tests)
-
 is_rising_so : (low : ℕ) (ts : List Token) → Rises low ts → is_rising ts ≡ true
 is_rising_so low [] rises = refl
 is_rising_so low (t ∷ []) rises = refl
 is_rising_so low (t ∷ u ∷ ts) rises =
-    λ i. le_true t.position u.position rises.1.0 i && is_rising_so t.position (u ∷ ts) rises.1 i
+    λ i. le-leb t.position u.position rises.1.0 i && is_rising_so t.position (u ∷ ts) rises.1 i
 
 -- a token ends by this place
 abbrev EndsBy : ℕ → Token → Type 0
@@ -137,7 +126,7 @@ module _ (text : List ℕ) (short : length text ≤ 10) where
       (Decides-ltb (1 + reach 0 (counted (default_tokens text))) (2 ^ 32)).1
       (omega (
         arith,
-        reach_by 11 (counted (default_tokens text)) (all_kept (EndsBy 11) counts (default_tokens text) ends),
+        reach_by 11 (counted (default_tokens text)) (all_filtered (EndsBy 11) counts (default_tokens text) ends),
       ))
 
   count_fits : is_u32 (count_of (default_tokens text ∷ [])) ≡ true

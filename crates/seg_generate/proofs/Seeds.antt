@@ -3,20 +3,10 @@ use Rattle.std.proofs.Common.{◌≡◌, ℕ, ◌^◌, ◌<◌, List, Bool, true
 use Rattle.std.specs.Prelude.{nat_lt, if◌then◌else◌, decimal}
 use Rattle.std.specs.Str.{bytes_eq}
 use Rattle.std.specs.Str.Parse.{ParsesUnsigned, digits_value}
-use Rattle.std.proofs.lemmas.Bool.{false≢true, ltb-true}
-use Rattle.std.proofs.lemmas.Bool.Decides.{nat_tests}
+use Rattle.std.proofs.lemmas.Bool.{false≢true, ltb-true, lt-ltb}
 use Rattle.std.proofs.lemmas.Fmt.{decimal_is_IsNumeral, parse-decimal}
-use Rattle.std.proofs.lemmas.Slice.Eq.{bytes_eq-Decides}
+use Rattle.seg_common.proofs.Bytes.{same_bytes, bytes_are}
 use Rattle.seg_generate.specs.Seeds.{seed_named}
-
-pub words_same : (xs ys : List ℕ) → bytes_eq xs ys ≡ true → xs ≡ ys
-words_same xs ys h = grind (arith, bytes_eq-Decides xs ys, h)
-
-pub words_equal : (xs ys : List ℕ) → xs ≡ ys → bytes_eq xs ys ≡ true
-words_equal xs ys h = grind (arith, bytes_eq-Decides xs ys, h)
-
-below : (n m : ℕ) → n < m → nat_lt n m ≡ true
-below n m h = grind (arith, nat_tests, h)
 
 -- none, where it is the decimal text of no number that it was parsed as
 pub unnamed : {E : Type 0} (word : List ℕ) (r : Result ℕ E) → ParsesUnsigned 32 10 word r
@@ -30,7 +20,7 @@ unnamed word r parses not = by (nat_lt (digits_value 10 word) (2 ^ 32)) refl (by
     by true small true is =
         let n = digits_value 10 word in
         let lt : n < 2 ^ 32 = ltb-true _ _ small in
-        let text = words_same word (decimal n) is in
+        let text = same_bytes word (decimal n) is in
         absurd (not n (parse-decimal 32 n word r lt (omega (arith, lt)) text parses) text)
 
 -- the number of which it is the decimal text
@@ -41,7 +31,7 @@ named word n small is = by (digits_value 10 word) value
     value = ap (digits_value 10) is ∙ (decimal_is_IsNumeral n (omega (arith, small))).1
 
     by : (m : ℕ) → m ≡ n → (if nat_lt m (2 ^ 32) then (if bytes_eq word (decimal m) then Some m else None) else None) ≡ Some n
-    by m same = rw (same, below n (2 ^ 32) small, words_equal word (decimal n) is) refl
+    by m same = rw (same, lt-ltb n (2 ^ 32) small, bytes_are word (decimal n) is) refl
 
 -- what was parsed
 abbrev value_of : {E : Type 0} → Result ℕ E → ℕ
@@ -63,8 +53,8 @@ parsed word r n gave small parses = by (bytes_eq word (decimal n)) refl
     other : bytes_eq word (decimal n) ≡ false → (m : ℕ) → r ≡ Ok m → word ≡ decimal m → ⊥
     other is m as_m text =
         let same : n ≡ m = ap value_of (sym gave ∙ as_m) in
-        false≢true (sym is ∙ words_equal word (decimal n) (text ∙ ap decimal (sym same)))
+        false≢true (sym is ∙ bytes_are word (decimal n) (text ∙ ap decimal (sym same)))
 
     by : (same : Bool) → bytes_eq word (decimal n) ≡ same → (if same then Some n else None) ≡ seed_named word
-    by true is = sym (named word n small (words_same word (decimal n) is))
+    by true is = sym (named word n small (same_bytes word (decimal n) is))
     by false is = sym (unnamed word r parses (other is))

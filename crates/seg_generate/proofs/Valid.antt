@@ -9,6 +9,7 @@ use Rattle.std.proofs.lemmas.Fmt.{length-decimal-le}
 use Rattle.std.proofs.lemmas.List.{length-append, take-append-drop}
 use Rattle.std.proofs.lemmas.List.FromFn.{length-range_with_len}
 use mathlib.Core.Bool.{true≢false}
+use Rattle.std.proofs.lemmas.Bool.{and_right}
 use Rattle.seg_common.proofs.Lists.{all_both, all_left, all_taken, list_any-place}
 use Rattle.seg_common.specs.Marks.{kept}
 use Rattle.seg_common.specs.Varint.{varint, varint_within}
@@ -133,10 +134,6 @@ typed false false true n h = refl
 typed false false false true h = refl
 typed false false false false h = absurd (true≢false (sym h))
 
-and_false : (a b : Bool) → b ≡ false → (a && b) ≡ false
-and_false true b h = h
-and_false false b h = refl
-
 never : {X : Type 0} (test : X → Bool) (xs : List X) → ((x : X) → test x ≡ false) → list_any test xs ≡ false
 never test [] h = refl
 never test (x ∷ xs) h = λ i. h x i || never test xs h i
@@ -164,7 +161,7 @@ module _ (analyzer : Analyzer) where
 
   unmixed : (ds : List Document) → AllByRecursion IsGenerated ds → (key : ColumnKey)
       → is_mixed (declared_columns schema) key (rows ds key) ≡ false
-  unmixed ds h key = and_false _ _ (typed _ _ _ _ (natural_rows key ds h))
+  unmixed ds h key = and_right _ _ (typed _ _ _ _ (natural_rows key ds h))
 
   have_columns : (ds : List Document) → AllByRecursion IsGenerated ds → is_some (columns schema analyzer ds) ≡ true
   have_columns ds h =

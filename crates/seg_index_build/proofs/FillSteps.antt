@@ -4,7 +4,6 @@ use Rattle.std.specs.Prelude.{◌&&◌, ◌||◌, not, nat_eq}
 use Rattle.std.specs.FinMap.{get}
 use Rattle.std.specs.List.{AllByRecursion, list_any}
 use Rattle.std.proofs.lemmas.List.{length-map}
-use Rattle.seg_values.specs.declared.error.TantivyError.{TantivyError}
 use Rattle.seg_common.specs.declared.name.FileName.TheVariants.{Alive, Meta, Part}
 use Rattle.seg_common.specs.declared.name.SegmentComponent.{SegmentComponent}
 use Rattle.seg_common.specs.declared.name.SegmentComponent.TheVariants as component
@@ -16,7 +15,6 @@ use Rattle.seg_model.specs.Contents.{Contents}
 use Rattle.seg_model.specs.Fields.{Schema, Analyzer}
 use Rattle.seg_meta.specs.IndexOfFiles.{Deletes, ListedSegment}
 use Rattle.seg_model.specs.Operations.{Operation, Batch, batches_from}
-use Rattle.seg_model.specs.Refused.{cut_from}
 use Rattle.seg_model.specs.Valid.{are_distinct}
 use Rattle.seg_segment.specs.Holds.{Holds}
 use Rattle.seg_segment.specs.SegmentFiles.{AreAbsent, KeepsAllBut}
@@ -39,12 +37,6 @@ length-batches schema analyzer from (cut ∷ cuts) operations =
   where
     counted : {n : ℕ} (m : ℕ) → n ≡ m + 1 → suc n ≡ suc m + 1
     counted m e = omega (arith, e)
-
--- and as many causes
-pub as_many_cut : {X : Type 0} (f : List X → Option TantivyError) (from : ℕ) (cuts : List ℕ) (xs : List X)
-    → length (map f (cut_from from cuts xs)) ≡ length cuts + 1
-as_many_cut f from [] xs = refl
-as_many_cut f from (cut ∷ cuts) xs = omega (arith, as_many_cut f cut cuts (drop (cut - from) xs))
 
 -- there is a segment for each id
 pub ids_written : (ids : List ℕ) (batches : List Batch) → length ids ≡ length batches

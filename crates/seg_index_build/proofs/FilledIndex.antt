@@ -3,6 +3,7 @@ use Rattle.std.proofs.Common.{◌≡◌, ◌≢◌, ◌∙◌, ℕ, ◌+◌, ◌
 use Rattle.std.specs.Prelude.{◌⊎◌}
 use Rattle.std.specs.List.{AllByRecursion, enumerate_from, list_all}
 use Rattle.seg_common.specs.declared.name.FileName.TheVariants.{Meta}
+use Rattle.seg_common.proofs.Results.{at_ok}
 use Rattle.seg_values.specs.declared.error.TantivyError.{TantivyError}
 use Rattle.seg_values.specs.declared.error.TantivyError.TheVariants.{IndexAlreadyExists}
 use Rattle.seg_directory.proofs.Exports.{Parts, all_went, answers, in_first, in_next, parts_on, quiet_steps, split_does, stops, then_does}
@@ -28,15 +29,14 @@ use Rattle.seg_batches.specs.AliveWriting.{WritesAlive, alive_step, alive_steps}
 use Rattle.seg_batches.specs.BatchTotals.{AllHaveTotals}
 use Rattle.seg_batches.specs.Segments.{AllStand, AllTellAlive, WrittenSegment, alive_file, alive_files, all_listed, deletes_of, six_files}
 use Rattle.seg_batches.specs.Writing.{MakesBatches, batch_cause, batch_causes, batches_steps}
-use Rattle.seg_batches.proofs.Exports.{IsFirst, TellsRefusal, alive_fresh, all_fit, all_stand, all_taken, all_tell, all_totals, batches_fresh, batches_none, batches_told, causes_tell, first_cause, refusal_weaker}
+use Rattle.seg_batches.proofs.Exports.{IsFirst, TellsRefusal, alive_fresh, all_fit, all_stand, all_taken, all_tell, all_totals, batches_fresh, batches_none, batches_told, causes_tell, first_cause, refusal_weaker, as_many as as_many_cut}
 use Rattle.seg_index_build.specs.IndexFiles.{listed_of, segments_files, written_of}
 use Rattle.seg_index_build.specs.WorkIndexWriting.{FillsIndex, FinishesIndex, finish_steps, listing_meta}
 use Rattle.seg_index_build.specs.WritingSteps.{publish_steps}
-use Rattle.seg_index_build.proofs.FillSteps.{alive_absent, as_many, as_many_cut, ids_are, listed_are, meta_list, no_alive_file, six_absent, stand_kept, tell_kept, totals_kept}
+use Rattle.seg_index_build.proofs.FillSteps.{alive_absent, as_many, ids_are, listed_are, meta_list, no_alive_file, six_absent, stand_kept, tell_kept, totals_kept}
 use Rattle.seg_index_build.proofs.FinishSteps.{FinishParts, in_alive, in_meta, finish_parts}
 use Rattle.seg_index_build.proofs.IndexSteps.{tells-still}
 use Rattle.seg_index_build.proofs.Steps.{published, publishing_keeps}
-use Rattle.seg_index_build.proofs.WholeExits.{at-ok}
 use Rattle.seg_index_build.proofs.WriteErrors.{IsWriteError, all_alive_write, batches_write, both_write, calls_so, finish_writes, write_unrefused, writes_so}
 
 -- the meta that lists the segments of batches is read back
@@ -118,7 +118,7 @@ module _ (settings : Settings) (schema : Schema) (analyzer : Analyzer) (ids cuts
 
   finished_of : {S T : Type 0} (x : S) (r : Result T TantivyError) (a b c : DirectoryState) → Makes (Ok x) a b
       → FinishesIndex settings schema (length operations) written r b c → Fills r a c
-  finished_of x r a b c w f = record { files = w.files; many = w.many; stand = at-ok r w.stand; alive = f.alive; tell = f.tell; whole = f.whole; works = then_does w.works f.works }
+  finished_of x r a b c w f = record { files = w.files; many = w.many; stand = at_ok r w.stand; alive = f.alive; tell = f.tell; whole = f.whole; works = then_does w.works f.works }
 
   -- where a writer can be started
   module _ (start : Option TantivyError) (none : start ≡ None) where

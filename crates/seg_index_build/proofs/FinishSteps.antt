@@ -2,6 +2,7 @@
 use Rattle.std.proofs.Common.{◌≡◌, ◌<◌, ◌∙◌, ℕ, List, [], ◌∷◌, ◌++◌, length, append_assoc, Result, Ok, Err, refl, sym, ap, subst, inl, inr, arith}
 use Rattle.std.specs.Prelude.{◌⊎◌, OnOk}
 use Rattle.std.proofs.lemmas.List.{append-nil}
+use Rattle.seg_common.proofs.Results.{at_ok}
 use Rattle.seg_values.specs.declared.error.TantivyError.{TantivyError}
 use Rattle.seg_directory.proofs.Exports.{Parts, in_first, in_next, parts_on, stops, then_does}
 use Rattle.seg_directory.specs.State.{DirectoryState}
@@ -13,7 +14,6 @@ use Rattle.seg_batches.specs.AliveWriting.{AllTellMarks, WritesAlive, alive_step
 use Rattle.seg_batches.specs.Segments.{WrittenSegment, deletes_of}
 use Rattle.seg_index_build.specs.WorkIndexWriting.{FinishesIndex, finish_steps, listing_meta}
 use Rattle.seg_index_build.specs.WritingSteps.{publish_steps}
-use Rattle.seg_index_build.proofs.WholeExits.{at-ok}
 
 module _ (meta : index.Meta) (stamp : ℕ) where
   -- the meta comes after the alive files, if each is made; else these are all
@@ -83,7 +83,7 @@ module _ (settings : Settings) (schema : Schema) (stamp : ℕ) (segments : List 
   alive_saved r {a = a} {b = b} {c = c} w next = record {
     alive = w.files;
     tell = w.tell;
-    whole = at-ok r w.whole;
+    whole = at_ok r w.whole;
     works =
         saved (listing_meta settings schema stamp segments) stamp w.files segments r a b c w.tell w.whole w.works next;
   }

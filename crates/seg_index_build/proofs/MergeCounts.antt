@@ -6,6 +6,7 @@ use Rattle.std.specs.Option.{option_map}
 use Rattle.std.proofs.lemmas.Bool.{and_parts, eqb-true}
 use Rattle.std.proofs.lemmas.List.{length-append, length-replicate}
 use Rattle.std.proofs.lemmas.Option.{none-some, same_Some}
+use Rattle.seg_common.proofs.Lists.{all_filtered}
 use Rattle.seg_bits.specs.BitSets.{member_count, set_of}
 use Rattle.seg_directory.specs.State.{DirectoryState}
 use Rattle.seg_meta.specs.IndexOfFiles.{Deletes, ListedSegment}
@@ -18,11 +19,9 @@ use Rattle.seg_model.specs.Join.{Part, join, joined_columns, joined_with, live_o
 use Rattle.seg_model.specs.Operations.{both_marked, filtered_by, kept}
 use Rattle.seg_open.specs.OpenSegment.{OpenSegment, contents_of, kept_count, part_of}
 use Rattle.seg_open.specs.SegmentOpened.{AreReadersOf, Asked, Found, IsReaderOf, agreeing, alive_read, asked_of}
-use Rattle.seg_open.proofs.Exports.{all_counted, both_long, counts_both}
+use Rattle.seg_open.proofs.Exports.{all_counted, both_long, counts_both, count-more}
 use Rattle.seg_merger.specs.Merger.{all_fit, fits}
-use Rattle.seg_merger.proofs.Exports.{counted_first}
 use Rattle.seg_index_build.specs.SegmentsMerged.{MergeInput, first_schema, is_live, joined, live_asked, live_documents}
-use Rattle.seg_index_build.proofs.MergeLists.{all_filtered}
 use Rattle.seg_index_build.proofs.MergeTurns.{Opens}
 use Rattle.seg_index_build.proofs.WholeJoined.{kept_counted}
 
@@ -67,18 +66,18 @@ fewer_both : (alive keeps : List Bool) → member_count (both_marked alive keeps
 fewer_both [] keeps = omega arith
 fewer_both (a ∷ alive) [] = let none : member_count [] ≡ 0 = refl in omega (arith, none)
 fewer_both (true ∷ alive) (true ∷ keeps) =
-    let old : member_count (true ∷ alive) ≡ 1 + member_count alive = counted_first true alive in
-    let new : member_count (true ∷ both_marked alive keeps) ≡ 1 + member_count (both_marked alive keeps) = counted_first true (both_marked alive keeps) in
+    let old : member_count (true ∷ alive) ≡ 1 + member_count alive = count-more true alive in
+    let new : member_count (true ∷ both_marked alive keeps) ≡ 1 + member_count (both_marked alive keeps) = count-more true (both_marked alive keeps) in
     let rest = fewer_both alive keeps in
     omega (arith, old, new, rest)
 fewer_both (true ∷ alive) (false ∷ keeps) =
-    let old : member_count (true ∷ alive) ≡ 1 + member_count alive = counted_first true alive in
-    let new : member_count (false ∷ both_marked alive keeps) ≡ 0 + member_count (both_marked alive keeps) = counted_first false (both_marked alive keeps) in
+    let old : member_count (true ∷ alive) ≡ 1 + member_count alive = count-more true alive in
+    let new : member_count (false ∷ both_marked alive keeps) ≡ 0 + member_count (both_marked alive keeps) = count-more false (both_marked alive keeps) in
     let rest = fewer_both alive keeps in
     omega (arith, old, new, rest)
 fewer_both (false ∷ alive) (k ∷ keeps) =
-    let old : member_count (false ∷ alive) ≡ 0 + member_count alive = counted_first false alive in
-    let new : member_count (false ∷ both_marked alive keeps) ≡ 0 + member_count (both_marked alive keeps) = counted_first false (both_marked alive keeps) in
+    let old : member_count (false ∷ alive) ≡ 0 + member_count alive = count-more false alive in
+    let new : member_count (false ∷ both_marked alive keeps) ≡ 0 + member_count (both_marked alive keeps) = count-more false (both_marked alive keeps) in
     let rest = fewer_both alive keeps in
     omega (arith, old, new, rest)
 

@@ -2,7 +2,7 @@
 use Rattle.std.proofs.Common.{◌≡◌, ◌≢◌, ◌≤◌, ◌<◌, ◌^◌, ◌∙◌, ℕ, Bool, true, false, List, IsTrue, nat_lt, None, Some, Result, Ok, Err, refl, sym, ap, subst, inl, inr, arith}
 use Rattle.std.specs.FinMap.{len}
 use Rattle.std.specs.Prelude.{◌⊎◌, is_some}
-use Rattle.std.proofs.lemmas.Bool.{false≢true}
+use Rattle.std.proofs.lemmas.Bool.{false≢true, ltb-false}
 use Rattle.std.proofs.lemmas.Bool.Decides.{nat_tests}
 use Rattle.seg_common.specs.Causes.{Rose}
 use Rattle.seg_values.specs.declared.error.ArgumentCause.{ArgumentCause}
@@ -39,9 +39,6 @@ same_error T e d is = cc is
 
 -- ---- too many documents
 
-not_less : (n m : ℕ) → nat_lt n m ≡ false → m ≤ n
-not_less n m h = grind (arith, nat_tests)
-
 -- only where there are, and with one error
 pub too_many_told : (n : ℕ) (e : TantivyError) → too_many n ≡ Some e → (2 ^ 31 ≤ n) × (InvalidArgument Documents ≡ e)
 too_many_told n e is = by (nat_lt n (2 ^ 31)) refl is
@@ -49,7 +46,7 @@ too_many_told n e is = by (nat_lt n (2 ^ 31)) refl is
     by : (b : Bool) → nat_lt n (2 ^ 31) ≡ b → unless b (InvalidArgument Documents) ≡ Some e
         → (2 ^ 31 ≤ n) × (InvalidArgument Documents ≡ e)
     by true test none = absurd (cc none)
-    by false test some = (not_less n (2 ^ 31) test, cc some)
+    by false test some = (ltb-false n (2 ^ 31) test, cc some)
 
 -- and what passes is few
 pub few_passed : (n : ℕ) → too_many n ≡ None → n < 2 ^ 31

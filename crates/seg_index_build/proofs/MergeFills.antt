@@ -4,6 +4,7 @@ use Rattle.std.specs.Prelude.{IfOk, nat_le}
 use Rattle.std.specs.List.{AllByRecursion, filter}
 use Rattle.std.proofs.lemmas.Bool.Decides.{nat_tests}
 use Rattle.std.proofs.lemmas.List.{append-nil, drop_all}
+use Rattle.seg_common.proofs.Lists.{all_filtered}
 use Rattle.seg_values.specs.declared.error.ArgumentCause.TheVariants.{Filters, Numbers}
 use Rattle.seg_values.specs.declared.error.TantivyError.{TantivyError}
 use Rattle.seg_values.specs.declared.error.TantivyError.TheVariants.{InvalidArgument, OutOfMemory}
@@ -26,7 +27,7 @@ use Rattle.seg_index_build.specs.IndexFiles.{merged_meta}
 use Rattle.seg_index_build.specs.SegmentsMerged.{FillsOutput, FillsTo, MergeInput, MergesTo, OpensLive, are_opened, fills, first_schema, is_live, joined, kept_filters, live_asked, mixes, not_opened, output_meta_of, starves}
 use Rattle.seg_index_build.specs.Turns.{both, goes_on, stops}
 use Rattle.seg_index_build.specs.WritingSteps.{begin_steps, publish_steps}
-use Rattle.seg_index_build.proofs.MergeLists.{all_filtered, live_fit, live_parts}
+use Rattle.seg_index_build.proofs.MergeLists.{live_fit, live_parts}
 
 abbrev failing : (T : Type 0) → TantivyError → Result T TantivyError
 failing T e = Err e

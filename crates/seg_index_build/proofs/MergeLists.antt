@@ -29,16 +29,6 @@ all_passed P p (x ∷ xs) h = by (p x) refl (all_passed P p xs h.1)
     by true passes rest = (h.0 passes, rest)
     by false passes rest = rest
 
--- and so what holds of each
-pub all_filtered : {X : Type 0} (P : X → Type 0) (p : X → Bool) (xs : List X) → AllByRecursion P xs
-    → AllByRecursion P (filter p xs)
-all_filtered P p [] h = tt
-all_filtered P p (x ∷ xs) h = by (p x) (all_filtered P p xs h.1)
-  where
-    by : (b : Bool) → AllByRecursion P (filter p xs) → AllByRecursion P (cond b (x ∷ filter p xs) (filter p xs))
-    by true rest = (h.0, rest)
-    by false rest = rest
-
 -- what holds of each segment holds of each that is asked for
 pub all_asked : (P : SegmentParts → Type 0) (segments : List SegmentParts) (filters : List (Option Filter))
     → AllByRecursion P segments → AllByRecursion (λ (a : Asked). P a.segment) (asked_of segments filters)

@@ -57,7 +57,7 @@ one_cause m e is = elim (or_cause (all_fit m.filters m.segments) Filters _ e is)
   | inr last ↦ (Settings, sym (unless_cause (settings_fit m.settings) Settings e last))
 ]
 
-some_is : (e d : TantivyError) → Some e ≡ Some d → e ≡ d
+pub some_is : (e d : TantivyError) → Some e ≡ Some d → e ≡ d
 some_is e d is = cc is
 
 pub cause_of : (m : MergeInput) (segments : List SegmentParts) (e : TantivyError) → IsRefusal m segments (Some e) → IsArgument e

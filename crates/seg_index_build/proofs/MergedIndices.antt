@@ -21,7 +21,7 @@ use Rattle.seg_index_build.specs.SegmentsMerged.{FillsOutput, IsReadBack, IsRefu
 use Rattle.seg_index_build.specs.WritingSteps.{fill_one_steps}
 use Rattle.seg_index_build.specs.MergeAnswers.{IsWholeIndex}
 use Rattle.seg_index_build.proofs.OutputSteps.{one_files, one_index}
-use Rattle.seg_index_build.proofs.MergeSaid.{one_only}
+use Rattle.seg_index_build.proofs.MergeSaid.{one_only, some_is}
 use Rattle.seg_index_build.proofs.MergeCounts.{stored_number}
 use Rattle.seg_index_build.specs.IndicesMerged.{AreAlike, Begins, IsRefusal, IsUnlike, MergesAlike, MergesIndices, MergesSources, Places, alike, asked_of_index, filled, indices_input, merges, not_begun, not_few, not_opened, refuses, starves, unlike}
 use Rattle.seg_index_build.specs.IndexMergeAnswers.{IsMergeOfIndices}
@@ -208,9 +208,6 @@ not_both (i ∷ indices) e why are = why.0 are
 unlike_once : (indices : List IndexMeta) (e d : TantivyError) → IsUnlike indices e → IsUnlike indices d → d ≡ e
 unlike_once [] e d h k = k ∙ sym h
 unlike_once (i ∷ indices) e d h k = k.1 ∙ sym h.1
-
-some_is : (e d : TantivyError) → Some e ≡ Some d → e ≡ d
-some_is e d is = cc is
 
 module _ (indices : List IndexMeta) (id : ℕ) (e : TantivyError) (refusal : IsRefusal indices (indices_input indices id) e)
     (r : Result Meta TantivyError) (a b : Places) where

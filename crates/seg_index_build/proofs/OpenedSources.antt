@@ -1,6 +1,7 @@
 -- What is known of segments that are opened from several directories.
 use Rattle.std.proofs.Common.{◌≡◌, ◌≤◌, ◌∙◌, ◌+◌, true, List, [], ◌∷◌, ◌++◌, map, Result, Ok, Err, refl, sym, ap, subst, inl, inr, arith}
 use Rattle.std.specs.List.{AllByRecursion}
+use Rattle.seg_common.proofs.Lists.{all_filtered}
 use Rattle.seg_values.specs.declared.error.TantivyError.{TantivyError}
 use Rattle.seg_values.specs.declared.error.TantivyError.TheVariants.{OpenReadError}
 use Rattle.seg_directory.specs.Files.{NamedFiles}
@@ -16,7 +17,7 @@ use Rattle.seg_open.proofs.Exports.{EachRead, IsOf, segments_of_schema, segments
 use Rattle.seg_merger.specs.Merger.{all_fit}
 use Rattle.seg_index_build.specs.SegmentsMerged.{MergeInput, is_live, live_documents}
 use Rattle.seg_index_build.proofs.MergeCounts.{IsStored, opened_few, opened_stored}
-use Rattle.seg_index_build.proofs.MergeLists.{all_asked, all_filtered, live_whole}
+use Rattle.seg_index_build.proofs.MergeLists.{all_asked, live_whole}
 use Rattle.seg_index_build.proofs.MergeHeld.{opened_held}
 use Rattle.seg_index_build.specs.IndicesMerged.{all_segments, asked_of_index, listed_segments, unfiltered}
 use Rattle.seg_index_build.specs.IndexMergeAnswers.{AnyRose, HaveHeld, SourcesAreWhole}

@@ -21,6 +21,7 @@ use Rattle.seg_open.proofs.Exports.{segments_rose, segments_so}
 use Rattle.seg_batches.proofs.Exports.{refusal_weaker}
 use Rattle.seg_check.specs.Admitted.{Fits}
 use Rattle.seg_model.specs.Refused.{IfRefusal, IsRefusal, batches_error, build_refusal}
+use Rattle.seg_segment.proofs.Exports.{rose_before}
 use Rattle.seg_check.proofs.Exports.{first_is_refusal}
 use Rattle.seg_index_build.specs.Builds.{AreEmpty, IsWhyUntold}
 use Rattle.seg_index_build.specs.DirectoryCalls.{BuildsIndexes, merge_of}
@@ -38,7 +39,7 @@ use Rattle.seg_index_build.proofs.WholeJoined.{kept_survivors, survivors_joined}
 use Rattle.seg_index_build.proofs.WholeRead.{live_batches}
 use Rattle.seg_index_build.proofs.WholeRefused.{by_batches, by_numbers, by_survivors, refusal_undamaged}
 use Rattle.seg_index_build.proofs.WholeWork.{are_merged, work_schema}
-use Rattle.seg_index_build.proofs.WriteErrors.{IsWriteError, calls_so, so_before, write_unrefused, write_undamaged, rose_before}
+use Rattle.seg_index_build.proofs.WriteErrors.{IsWriteError, calls_so, so_before, write_unrefused, write_undamaged}
 
 abbrev failing : (T : Type 0) → TantivyError → Result T TantivyError
 failing T e = Err e

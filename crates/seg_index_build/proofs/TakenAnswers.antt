@@ -5,13 +5,14 @@ use Rattle.std.specs.List.{AllByRecursion}
 use Rattle.std.specs.Option.{option_or}
 use Rattle.std.proofs.lemmas.Bool.{false≢true}
 use Rattle.std.proofs.lemmas.List.Folds.{list_any-append}
+use Rattle.std.proofs.Math.Bool.{or-false}
 use Rattle.seg_common.specs.declared.name.FileName.{FileName}
+use Rattle.seg_tokens.proofs.Exports.{option_or-None}
 use Rattle.seg_directory.specs.Calls.{told}
 use Rattle.seg_directory.specs.Works.{Step, calls, passes, all_told}
 use Rattle.seg_directory.specs.declared.answer.Answer.{Answer}
 use Rattle.seg_directory.specs.declared.answer.Answer.TheVariants as answer
 use Rattle.seg_index_build.specs.Taken.{bytes_read, last_read, read_after_write, same_name, tells_written, was_written}
-use Rattle.seg_index_build.proofs.TakenLists.{or_nothing}
 
 -- ---- the answers of steps
 
@@ -23,22 +24,18 @@ told_both (passes refusal ∷ xs) ys = told_both xs ys
 
 -- ---- answers one after another
 
-pub or_none : {X : Type 0} (o : Option X) → option_or o None ≡ o
-or_none None = refl
-or_none (Some x) = refl
-
 or_or : {X : Type 0} (a b c : Option X) → option_or a (option_or b c) ≡ option_or (option_or a b) c
 or_or None b c = refl
 or_or (Some x) b c = refl
 
 pub is_some_or : {X : Type 0} (a b : Option X) → is_some (option_or a b) ≡ (is_some b || is_some a)
-is_some_or None b = sym (or_nothing (is_some b))
+is_some_or None b = sym (or-false (is_some b))
 is_some_or (Some x) None = refl
 is_some_or (Some x) (Some y) = refl
 
 module _ (name : FileName) where
   pub last_both : (xs ys : List Answer) → last_read name (xs ++ ys) ≡ option_or (last_read name ys) (last_read name xs)
-  last_both [] ys = sym (or_none (last_read name ys))
+  last_both [] ys = sym (option_or-None (last_read name ys))
   last_both (x ∷ xs) ys =
       ap (λ o. option_or o (bytes_read name x)) (last_both xs ys)
       ∙ sym (or_or (last_read name ys) (last_read name xs) (bytes_read name x))
@@ -57,7 +54,7 @@ module _ (name : FileName) where
 
   pub last_back : (xs ys : List Answer) → last_read name xs ≡ None → last_read name (xs ++ ys) ≡ last_read name ys
   last_back xs ys none =
-      last_both xs ys ∙ ap (λ o. option_or (last_read name ys) o) none ∙ or_none (last_read name ys)
+      last_both xs ys ∙ ap (λ o. option_or (last_read name ys) o) none ∙ option_or-None (last_read name ys)
 
   pub written_both : (xs ys : List Answer) → was_written name (xs ++ ys) ≡ (was_written name xs || was_written name ys)
   written_both xs ys = list_any-append (tells_written name) xs ys
@@ -65,7 +62,7 @@ module _ (name : FileName) where
   pub written_front : (xs ys : List Answer) → was_written name ys ≡ false
       → was_written name (xs ++ ys) ≡ was_written name xs
   written_front xs ys none =
-      written_both xs ys ∙ ap (λ b. was_written name xs || b) none ∙ or_nothing (was_written name xs)
+      written_both xs ys ∙ ap (λ b. was_written name xs || b) none ∙ or-false (was_written name xs)
 
   -- ---- one reading more
 
@@ -73,7 +70,7 @@ module _ (name : FileName) where
   pub skip : (other : FileName) (bytes : List ℕ) (rest : List Answer) → same_name name other ≡ false
       → last_read name (answer.Read other bytes ∷ rest) ≡ last_read name rest
   skip other bytes rest apart =
-      ap (λ b. option_or (last_read name rest) (cond b (Some bytes) None)) apart ∙ or_none (last_read name rest)
+      ap (λ b. option_or (last_read name rest) (cond b (Some bytes) None)) apart ∙ option_or-None (last_read name rest)
 
   -- and of this one
   pub here : (other : FileName) (bytes : List ℕ) (rest : List Answer) → same_name name other ≡ true
@@ -115,7 +112,7 @@ after_writes name (x ∷ xs) ys nothing unwritten written =
     ∙ by (was_written name xs) refl (λ is. after_writes name xs ys nothing.1 unwritten is)
   where
     it : was_written name xs ≡ false → tells_written name x ≡ true
-    it is = sym (or_nothing (tells_written name x)) ∙ ap (λ b. tells_written name x || b) (sym is) ∙ written
+    it is = sym (or-false (tells_written name x)) ∙ ap (λ b. tells_written name x || b) (sym is) ∙ written
 
     by : (b : Bool) → was_written name xs ≡ b
         → (was_written name xs ≡ true → read_after_write name (xs ++ ys) ≡ last_read name ys)

@@ -3,39 +3,17 @@ use Rattle.std.proofs.Common.{◌≡◌, ◌≢◌, ◌∙◌, ℕ, Bool, true, 
 use Rattle.std.specs.Prelude.{◌&&◌, ◌||◌, nat_eq, not}
 use Rattle.std.specs.List.{AllByRecursion, filter, list_any}
 use Rattle.std.proofs.lemmas.Bool.{and_parts, and_right, eq-eqb, eqb-false, ne_eqb, not-true, or_from, or_parts}
+use Rattle.seg_common.proofs.Lists.{all_filtered, all_map}
 use Rattle.seg_model.specs.Valid.{are_distinct}
-use Rattle.seg_index_build.proofs.MergeLists.{all_filtered}
 
 -- ---- truth values
 
-pub or_nothing : (b : Bool) → (b || false) ≡ b
-or_nothing true = refl
-or_nothing false = refl
-
-pub and_certain : (b : Bool) → (b && true) ≡ b
-and_certain true = refl
-and_certain false = refl
-
 -- ---- what holds of each
-
-pub all_each : {X : Type 0} (P : X → Type 0) → ((x : X) → P x) → (xs : List X) → AllByRecursion P xs
-all_each P f [] = tt
-all_each P f (x ∷ xs) = (f x, all_each P f xs)
-
-pub all_one : {X : Type 0} (P Q : X → Type 0) → ((x : X) → P x → Q x) → (xs : List X) → AllByRecursion P xs
-    → AllByRecursion Q xs
-all_one P Q f [] h = tt
-all_one P Q f (x ∷ xs) h = (f x h.0, all_one P Q f xs h.1)
 
 pub all_two : {X : Type 0} (P Q R : X → Type 0) → ((x : X) → P x → Q x → R x) → (xs : List X) → AllByRecursion P xs
     → AllByRecursion Q xs → AllByRecursion R xs
 all_two P Q R f [] h k = tt
 all_two P Q R f (x ∷ xs) h k = (f x h.0 k.0, all_two P Q R f xs h.1 k.1)
-
-pub all_map : {X Y : Type 0} (P : Y → Type 0) (g : X → Y) (xs : List X) → AllByRecursion (λ x. P (g x)) xs
-    → AllByRecursion P (map g xs)
-all_map P g [] h = tt
-all_map P g (x ∷ xs) h = (h.0, all_map P g xs h.1)
 
 -- ---- those that pass a test
 

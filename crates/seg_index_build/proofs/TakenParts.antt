@@ -6,7 +6,8 @@ use Rattle.std.specs.Option.{option_and_then}
 use Rattle.std.proofs.lemmas.Bool.Decides.{nat_tests}
 use Rattle.std.proofs.lemmas.List.{drop_at}
 use Rattle.std.proofs.lemmas.Option.{cond_some}
-use Rattle.seg_common.proofs.Lists.{all_both}
+use Rattle.std.proofs.Math.Bool.{and-true}
+use Rattle.seg_common.proofs.Lists.{all_both, all_each, all_weaker, all_filtered, all_map}
 use Rattle.seg_common.specs.declared.name.FileName.TheVariants.{Alive, Part}
 use Rattle.seg_common.specs.declared.name.SegmentComponent.{SegmentComponent}
 use Rattle.seg_common.specs.declared.name.SegmentComponent.TheVariants.{Terms, Postings, Positions, Store, FastFields, FieldNorms}
@@ -44,10 +45,10 @@ use Rattle.seg_index_build.specs.WritingSteps.{begin_steps}
 use Rattle.seg_index_build.proofs.Exits.{Wrote, wrote}
 use Rattle.seg_index_build.proofs.FillSteps.{ids_are}
 use Rattle.seg_index_build.proofs.MergeHeld.{merged_holds}
-use Rattle.seg_index_build.proofs.MergeLists.{all_asked, all_filtered}
+use Rattle.seg_index_build.proofs.MergeLists.{all_asked}
 use Rattle.seg_index_build.proofs.Reached.{distinct, many, output_told}
 use Rattle.seg_index_build.proofs.TakenAnswers.{ReadNothing, ReadsNothing, after_writes, last_still, written_front}
-use Rattle.seg_index_build.proofs.TakenLists.{Apart, all_apart, all_each, all_map, all_one, all_two, and_certain, any_passed, apart_map, apart_passed, passed_map, told_of}
+use Rattle.seg_index_build.proofs.TakenLists.{Apart, all_apart, all_two, any_passed, apart_map, apart_passed, passed_map, told_of}
 use Rattle.seg_index_build.proofs.TakenReads.{AllWereRead, AreUpTo, WasRead, alive_were_read, all_were_read, asked_id, never_written, opening_told}
 use Rattle.seg_index_build.proofs.TakenWrites.{batches_read, batches_write, begin_reads, finish_reads, finish_writes, is_written}
 use Rattle.seg_index_build.proofs.WholeWork.{work_schema}
@@ -94,10 +95,10 @@ taken_if : (documents : ℕ) (deletes : Option Deletes) (written back read : Boo
     → (written ≡ true → back ≡ read) → read ≡ (nat_lt (deleted deletes) documents && is_some deletes)
     → (nat_lt 0 documents && (not written || back)) ≡ nat_lt (deleted deletes) documents
 taken_if documents None written back read is same was =
-    ap (λ b. nat_lt 0 documents && (not b || back)) is ∙ and_certain (nat_lt 0 documents)
+    ap (λ b. nat_lt 0 documents && (not b || back)) is ∙ and-true (nat_lt 0 documents)
 taken_if documents (Some d) written back read is same was =
     ap (λ b. nat_lt 0 documents && (not b || back)) is
-    ∙ ap (λ b. nat_lt 0 documents && b) (same is ∙ was ∙ and_certain (nat_lt d.number documents))
+    ∙ ap (λ b. nat_lt 0 documents && b) (same is ∙ was ∙ and-true (nat_lt d.number documents))
     ∙ both_less d.number documents
 
 -- its alive file was written where its meta has deletes
@@ -300,7 +301,7 @@ module _ (analyzer : Analyzer) (input : Input) (fits : Fits analyzer input) (a b
   each_written : AllByRecursion (WasWritten stamp_of (writing_of ++ reading_of)) all_asked_for
   each_written =
       of_each (λ (s : SegmentParts). was_written (Alive s.meta.id stamp_of) (writing_of ++ reading_of) ≡ is_some s.meta.deletes)
-      (all_one (λ (s : WrittenSegment). list_any (λ (t : WrittenSegment). is_written stamp_of s.id t) written ≡ is_some (deletes_of stamp_of s.alive))
+      (all_weaker (λ (s : WrittenSegment). list_any (λ (t : WrittenSegment). is_written stamp_of s.id t) written ≡ is_some (deletes_of stamp_of s.alive))
       (λ (s : WrittenSegment). was_written (Alive s.id stamp_of) (writing_of ++ reading_of) ≡ is_some (deletes_of stamp_of s.alive))
       (λ s is. written_at s.id ∙ is) written
       (told_of (λ (s : WrittenSegment). s.id) (λ (s : WrittenSegment). is_some (deletes_of stamp_of s.alive)) written apart_written))
@@ -334,7 +335,7 @@ module _ (analyzer : Analyzer) (input : Input) (fits : Fits analyzer input) (a b
 
   each_read : AllByRecursion (WasReadThen stamp_of reading_of) all_asked_for
   each_read =
-      all_one
+      all_weaker
       (λ (x : Asked). list_any (λ (y : Asked). (is_live y.segment.meta && is_some y.segment.meta.deletes) && nat_eq (asked_id x) (asked_id y)) all_asked_for
       ≡ (is_live x.segment.meta && is_some x.segment.meta.deletes))
       (WasReadThen stamp_of reading_of)

@@ -9,6 +9,7 @@ use Rattle.seg_common.specs.declared.name.FileName.{FileName}
 use Rattle.seg_common.specs.declared.name.FileName.TheVariants.{Alive, Part}
 use Rattle.seg_common.specs.declared.name.SegmentComponent.{SegmentComponent}
 use Rattle.seg_common.specs.declared.name.SegmentComponent.TheVariants.{Terms, Postings, Positions, Store, FastFields, FieldNorms}
+use Rattle.seg_common.proofs.Lists.{all_weaker}
 use Rattle.seg_directory.specs.Works.{all_told}
 use Rattle.seg_directory.specs.declared.answer.Answer.{Answer}
 use Rattle.seg_directory.specs.declared.answer.Answer.TheVariants as answer
@@ -19,7 +20,7 @@ use Rattle.seg_open.specs.OpenSegment.{OpenSegment}
 use Rattle.seg_open.specs.SegmentOpened.{AreReadersOf, Asked, Found, alive_steps, all_steps, segment_steps}
 use Rattle.seg_index_build.specs.Taken.{last_read, same_name, was_written}
 use Rattle.seg_index_build.proofs.TakenAnswers.{here, is_some_or, last_both, last_front, last_none, last_still, skip, told_both, written_both}
-use Rattle.seg_index_build.proofs.TakenLists.{Apart, all_one}
+use Rattle.seg_index_build.proofs.TakenLists.{Apart}
 
 -- ---- names
 
@@ -249,13 +250,13 @@ first_read a f asked found others = record {
   parts = λ c.
       last_front (Part (asked_id a) c) (answers_of a f) (opening_told asked found)
       (others_last (Part (asked_id a) c) asked found
-      (all_one (λ (b : Asked). asked_id b ≢ asked_id a) (λ (b : Asked). IsOther (Part (asked_id a) c) (asked_id b))
+      (all_weaker (λ (b : Asked). asked_id b ≢ asked_id a) (λ (b : Asked). IsOther (Part (asked_id a) c) (asked_id b))
       (λ b ne. other_part (asked_id a) (asked_id b) c ne) asked others))
       ∙ part_last a f c;
   alive = λ d is.
       last_front (Alive (asked_id a) d.stamp) (answers_of a f) (opening_told asked found)
       (others_last (Alive (asked_id a) d.stamp) asked found
-      (all_one (λ (b : Asked). asked_id b ≢ asked_id a) (λ (b : Asked). IsOther (Alive (asked_id a) d.stamp) (asked_id b))
+      (all_weaker (λ (b : Asked). asked_id b ≢ asked_id a) (λ (b : Asked). IsOther (Alive (asked_id a) d.stamp) (asked_id b))
       (λ b ne. other_alive (asked_id a) (asked_id b) d.stamp ne) asked others))
       ∙ alive_last a f d is;
 }

@@ -1,11 +1,11 @@
 -- The totals that are read of the work segments: those of the documents of their batches.
-use Rattle.std.proofs.Common.{◌≡◌, ◌<◌, ◌∙◌, ℕ, suc, ◌-◌, ◌^◌, min, List, [], ◌∷◌, map, length, Bool, true, false, cond, nat_lt, Option, None, Some, refl, sym, ap, arith}
+use Rattle.std.proofs.Common.{◌≡◌, ◌∙◌, ℕ, suc, ◌-◌, ◌^◌, min, List, [], ◌∷◌, map, length, Bool, true, false, cond, nat_lt, Option, None, Some, refl, sym, ap, arith}
 use Rattle.std.specs.Prelude.{IsSomeAnd, not, option_map, unwrap_or}
 use Rattle.std.specs.FinMap.{empty, entries, get, len-empty, len-entries}
 use Rattle.std.specs.List.{AllByRecursion, count_by, filter, list_all, list_any, slice_get}
 use Rattle.std.specs.Cmp.Lexicographic.{slice_cmp}
 use Rattle.std.specs.Ordering.{nat_cmp}
-use Rattle.std.proofs.lemmas.Bool.{false≢true}
+use Rattle.std.proofs.lemmas.Bool.{false≢true, lt-ltb}
 use Rattle.std.proofs.lemmas.Bool.Decides.{nat_tests}
 use Rattle.std.proofs.lemmas.List.{nil_from_length}
 use Rattle.std.proofs.lemmas.List.Sums.{count_by-le-length, length-filter}
@@ -41,9 +41,6 @@ use Rattle.seg_index_build.proofs.WholeRead.{IsCounted, has_live, live_batches, 
 
 -- ---- the batches that are merged
 
-is_less : (n m : ℕ) → n < m → nat_lt n m ≡ true
-is_less n m h = grind (arith, nat_tests)
-
 one_more : (n m : ℕ) (t : Bool) → nat_lt n m ≡ t → nat_lt (suc n) (suc m) ≡ t
 one_more n m true h = grind (arith, nat_tests)
 one_more n m false h = grind (arith, nat_tests)
@@ -54,12 +51,12 @@ some_left [] = refl
 some_left (true ∷ bs) =
     let most = count_by-le-length not bs in
     let same = length-filter not bs in
-    is_less (length (filter not bs)) (suc (length bs)) (omega (arith, most, same))
+    lt-ltb (length (filter not bs)) (suc (length bs)) (omega (arith, most, same))
 some_left (false ∷ bs) = one_more (length (filter not bs)) (length bs) (list_any (λ b. b) bs) (some_left bs)
 
 all_left : (alive : List Bool) → list_all (λ b. b) alive ≡ true → nat_lt 0 (length alive) ≡ list_any (λ b. b) alive
 all_left [] all = refl
-all_left (true ∷ bs) all = is_less 0 (suc (length bs)) (omega arith)
+all_left (true ∷ bs) all = lt-ltb 0 (suc (length bs)) (omega arith)
 all_left (false ∷ bs) all = absurd (false≢true all)
 
 module _ (stamp : ℕ) where

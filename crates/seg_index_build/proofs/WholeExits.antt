@@ -1,6 +1,6 @@
 -- How a function that hands an error on ends.
-use Rattle.std.proofs.Common.{◌≡◌, Result, Ok, Err, IsErrAnd, sym, ap, subst, ◌∙◌}
-use Rattle.std.specs.Prelude.{IfErr, OnOk}
+use Rattle.std.proofs.Common.{◌≡◌, Result, Err, IsErrAnd, sym, ap, subst, ◌∙◌}
+use Rattle.std.specs.Prelude.{IfErr}
 use Rattle.std.proofs.lemmas.Result.{err_from_is_err_and}
 use Rattle.seg_values.specs.declared.error.TantivyError.{TantivyError}
 
@@ -10,8 +10,3 @@ the_error e result is = let err = err_from_is_err_and result is in err.1 ∙ ap 
 
 pub given_on : {T : Type 0} (P : TantivyError → Type 0) (e : TantivyError) (result : Result T TantivyError) → IsErrAnd result (λ x. x ≡ e) → P e → IfErr result P
 given_on P e result is p = subst (λ r. IfErr r P) (sym (the_error e result is)) p
-
--- what holds anyway holds where all went well
-pub at-ok : {T E Q : Type 0} (r : Result T E) → Q → OnOk r Q
-at-ok (Ok x) q = q
-at-ok (Err e) q = tt

@@ -2,8 +2,7 @@
 use Rattle.std.proofs.Common.{◌≡◌, ◌≤◌, ◌∙◌, ℕ, ◌+◌, List, [], ◌∷◌, ◌++◌, map, length, Bool, true, false, cond, nat_lt, Option, None, Some, refl, sym, ap, arith}
 use Rattle.std.specs.Prelude.{not}
 use Rattle.std.specs.List.{AllByRecursion, filter, flat_map, list_all, count_by}
-use Rattle.std.proofs.lemmas.Bool.{false≢true, and_parts, eqb-true}
-use Rattle.std.proofs.lemmas.Bool.Decides.{nat_tests}
+use Rattle.std.proofs.lemmas.Bool.{false≢true, and_parts, eqb-true, ltb-false}
 use Rattle.std.proofs.lemmas.List.{length-append}
 use Rattle.std.proofs.lemmas.List.Sums.{count_by-le-length, length-filter}
 use Rattle.seg_bits.specs.BitSets.{member_count}
@@ -16,14 +15,11 @@ use Rattle.seg_model.specs.Operations.{Batch, both_marked, filtered, filtered_by
 use Rattle.seg_model.specs.Valid.{filter_fits, filters_fit}
 use Rattle.seg_model.proofs.Exports.{was_read}
 use Rattle.seg_open.specs.OpenSegment.{OpenSegment, kept_count, part_of}
-use Rattle.seg_merger.proofs.Exports.{counted_first}
+use Rattle.seg_open.proofs.Exports.{count-more}
 use Rattle.seg_index_build.specs.SegmentsMerged.{joined}
 use Rattle.seg_index_build.proofs.WholeRead.{IsCounted, batches_counted, has_live, live_batches, under}
 
 -- ---- batches without a live document
-
-not_less : (n m : ℕ) → nat_lt n m ≡ false → m ≤ n
-not_less n m h = grind (arith, nat_tests)
 
 -- nothing is kept of nothing
 kept_nothing : {X : Type 0} (marks : List Bool) → kept {X = X} marks [] ≡ []
@@ -69,10 +65,10 @@ module _ (stamp : ℕ) where
       → nat_lt (deleted (cond t None (Some (record { number = count_by not batch.alive; stamp = stamp })))) (length batch.documents) ≡ false
       → live (under f batch) ≡ []
   none_alive f batch counted true dead =
-      ap (kept (filtered_by f batch.alive)) (no_documents batch.documents (not_less 0 (length batch.documents) dead))
+      ap (kept (filtered_by f batch.alive)) (no_documents batch.documents (ltb-false 0 (length batch.documents) dead))
       ∙ kept_nothing (filtered_by f batch.alive)
   none_alive f batch counted false dead =
-      let most : length batch.documents ≤ count_by not batch.alive = not_less (count_by not batch.alive) (length batch.documents) dead in
+      let most : length batch.documents ≤ count_by not batch.alive = ltb-false (count_by not batch.alive) (length batch.documents) dead in
       let same = length-filter not batch.alive in
       none_kept (filtered_by f batch.alive) batch.documents
       (none_marked f batch.alive (all_dead batch.alive (omega (arith, most, same, counted))))
@@ -130,11 +126,11 @@ kept_counted [] [] h = refl
 kept_counted [] (x ∷ xs) h = absurd (omega (arith, h))
 kept_counted (b ∷ bs) [] h = absurd (omega (arith, h))
 kept_counted (true ∷ bs) (x ∷ xs) h =
-    let first : member_count (true ∷ bs) ≡ 1 + member_count bs = counted_first true bs in
+    let first : member_count (true ∷ bs) ≡ 1 + member_count bs = count-more true bs in
     let rest = kept_counted bs xs (omega (arith, h)) in
     omega (arith, first, rest)
 kept_counted (false ∷ bs) (x ∷ xs) h =
-    let first : member_count (false ∷ bs) ≡ 0 + member_count bs = counted_first false bs in
+    let first : member_count (false ∷ bs) ≡ 0 + member_count bs = count-more false bs in
     let rest = kept_counted bs xs (omega (arith, h)) in
     omega (arith, first, rest)
 

@@ -4,6 +4,7 @@ use Rattle.std.specs.Prelude.{◌&&◌, not, replicate}
 use Rattle.std.specs.List.{AllByRecursion, list_all, count_by}
 use Rattle.std.proofs.lemmas.Bool.{false≢true, and_parts}
 use Rattle.std.proofs.lemmas.Option.{same_Some}
+use Rattle.seg_common.proofs.Lists.{all_marked}
 use Rattle.seg_values.specs.Tree.{Document}
 use Rattle.seg_directory.specs.Files.{NamedFiles}
 use Rattle.seg_bits.specs.BitSets.{set_of}
@@ -68,15 +69,10 @@ module _ (stamp : ℕ) where
 -- ---- what is opened
 
 -- an alive file tells one set
-one_set : (files : NamedFiles) (id stamp documents : ℕ) (as' bs : List Bool) → HoldsAlive files id stamp documents as'
+pub one_set : (files : NamedFiles) (id stamp documents : ℕ) (as' bs : List Bool) → HoldsAlive files id stamp documents as'
     → HoldsAlive files id stamp documents bs → as' ≡ bs
 one_set files id stamp documents as' bs h k =
     same_Some as' bs (sym h.set ∙ ap set_of (same_Some h.file k.file (sym h.there ∙ k.there)) ∙ k.set)
-
-all_marked : (alive : List Bool) → list_all (λ b. b) alive ≡ true → alive ≡ replicate (length alive) true
-all_marked [] h = refl
-all_marked (true ∷ bs) h = ap (λ l. true ∷ l) (all_marked bs h)
-all_marked (false ∷ bs) h = absurd (false≢true h)
 
 module _ (files : NamedFiles) (stamp id documents : ℕ) (alive read : List Bool) (counted : length alive ≡ documents) where
   abbrev removed : Deletes
@@ -149,7 +145,7 @@ module _ (schema : Schema) (analyzer : Analyzer) (stamp : ℕ) (files : NamedFil
 -- ---- no damage
 
 -- what is read of documents counts them
-counts : (schema : Schema) (analyzer : Analyzer) (ds : List Document) (contents : Contents)
+pub counts : (schema : Schema) (analyzer : Analyzer) (ds : List Document) (contents : Contents)
     → full_reading schema analyzer ds ≡ Some contents → contents.documents ≡ length ds
 counts schema analyzer ds contents h =
     ap (λ (c : Contents). c.documents) (was_read schema analyzer ds contents h).is_reading

@@ -6,6 +6,7 @@ use Rattle.seg_common.specs.Names.{name_cmp}
 use Rattle.seg_common.specs.declared.name.FileName.{FileName}
 use Rattle.seg_common.specs.declared.name.FileName.TheVariants.{Alive, Meta, Part}
 use Rattle.seg_common.specs.declared.name.SegmentComponent.{SegmentComponent}
+use Rattle.seg_common.proofs.Lists.{map-map}
 use Rattle.seg_directory.specs.Files.{NamedFiles}
 use Rattle.seg_meta.specs.IndexOfFiles.{Deletes, ListedSegment}
 use Rattle.seg_meta.specs.Metas as metas
@@ -24,10 +25,6 @@ use Rattle.seg_index_build.proofs.WholeIds.{work_many}
 use Rattle.seg_index_build.proofs.WholeRead.{parts_fit, parts_of_one}
 
 -- ---- its segments are merged
-
-map_again : {X Y Z : Type 0} (f : X → Y) (g : Y → Z) (xs : List X) → map g (map f xs) ≡ map (λ x. g (f x)) xs
-map_again f g [] = refl
-map_again f g (x ∷ xs) = ap (λ l. g (f x) ∷ l) (map_again f g xs)
 
 -- a list with a member is not empty
 has_member : {X : Type 0} (n : ℕ) (xs : List X) → length xs ≡ n + 1 → xs ≡ [] → ⊥
@@ -64,7 +61,7 @@ module _ (analyzer : Analyzer) (input : Input) (fits : Fits analyzer input) wher
   work_merged_meta documents =
       ap (λ (s : Schema). merged_meta input.settings s (map (λ (p : SegmentParts). p.meta.id) (map (metas.segment_of input.schema) (work_listed analyzer input))) (output_id input.ids) documents) work_schema
       ∙ ap (λ (ids : List ℕ). merged_meta input.settings input.schema ids (output_id input.ids) documents)
-      (map_again (metas.segment_of input.schema) (λ (p : SegmentParts). p.meta.id) (work_listed analyzer input) ∙ listed_ids)
+      (map-map (metas.segment_of input.schema) (λ (p : SegmentParts). p.meta.id) (work_listed analyzer input) ∙ listed_ids)
 
   -- nothing refuses them
   pub are_merged : settings_fit input.settings ≡ true → AreMerged (merge_of analyzer input)

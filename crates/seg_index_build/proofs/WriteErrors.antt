@@ -1,5 +1,5 @@
 -- With which errors steps end that write files, with tests between them.
-use Rattle.std.proofs.Common.{◌≡◌, ◌≤◌, ℕ, List, [], ◌∷◌, ◌++◌, Err, Option, Some, None, refl, sym, subst, inl, inr, arith}
+use Rattle.std.proofs.Common.{◌≡◌, ◌≤◌, ℕ, List, [], ◌∷◌, ◌++◌, Err, Option, Some, None, refl, sym, subst, inl, inr}
 use Rattle.std.specs.Prelude.{◌⊎◌}
 use Rattle.std.specs.List.{AllByRecursion}
 use Rattle.seg_common.specs.Causes.{Rose}
@@ -21,6 +21,7 @@ use Rattle.seg_batches.specs.Segments.{WrittenSegment, deletes_of}
 use Rattle.seg_batches.specs.Writing.{batches_steps}
 use Rattle.seg_batches.proofs.Exports.{TellsRefusal}
 use Rattle.seg_model.specs.Refused.{IfRefusal, IsRefusal}
+use Rattle.seg_segment.proofs.Exports.{rose_before}
 use Rattle.seg_index_build.specs.WorkIndexWriting.{finish_steps}
 
 -- ---- one call
@@ -66,10 +67,6 @@ call_so call e a b write (failed d is fails) =
     (error_so call d a.faults b.faults write fails.possible fails.rose)
 call_so call e a b write (has_files n is some error goes) =
     subst (λ (x : TantivyError). IsWriteError x a.faults b.faults) (sym error) tt
-
--- faults rose, as long as their count did not fall before
-pub rose_before : (l m n : ℕ) → l ≤ m → Rose m n → Rose l n
-rose_before l m n le rose = omega (arith, le, rose)
 
 -- and as long as no count of faults fell before
 pub so_before : (e : TantivyError) (l m n : ℕ) → l ≤ m → IsWriteError e m n → IsWriteError e l n

@@ -2,7 +2,7 @@
 use Rattle.std.proofs.Common.{◌≡◌, ◌≢◌, ℕ, suc, ◌+◌, ◌<◌, Bool, true, false, List, [], ◌∷◌, map, length, replicate, drop, get_or, Some, None, Option, Ok, refl, sym, ap, subst, ◌∙◌, arith, ◌^◌, ◌≤◌}
 use Rattle.std.specs.Prelude.{◌&&◌}
 use Rattle.std.specs.List.{AllByRecursion}
-use Rattle.std.proofs.lemmas.Bool.{false≢true, le-ltb, lt-ltb}
+use Rattle.std.proofs.lemmas.Bool.{false≢true, le-ltb, lt-ltb, and_parts}
 use Rattle.std.proofs.lemmas.Bool.Decides.{nat_tests}
 use Rattle.std.proofs.lemmas.List.{drop_more}
 use Rattle.seg_values.specs.declared.error.ArgumentCause.TheVariants.{Documents, Filters}
@@ -21,10 +21,6 @@ use Rattle.seg_merger.proofs.KeptCounts.{HasShape}
 
 -- ---- whether they fit
 
-both : (a b : Bool) → (a && b) ≡ true → (a ≡ true) × (b ≡ true)
-both true b h = (refl, h)
-both false b h = absurd (false≢true h)
-
 one_fits : (f : Option Filter) (s : SegmentParts) → fits f s ≡ true → FilterFits f s
 one_fits None s h = tt
 one_fits (Some f) s h = grind (arith, nat_tests)
@@ -34,7 +30,7 @@ are_fitting [] [] h = tt
 are_fitting [] (s ∷ segments) h = absurd (false≢true h)
 are_fitting (f ∷ filters) [] h = absurd (false≢true h)
 are_fitting (f ∷ filters) (s ∷ segments) h =
-    let parts = both (fits f s) (all_fit filters segments) h in
+    let parts = and_parts (fits f s) (all_fit filters segments) h in
     (one_fits f s parts.0, are_fitting filters segments parts.1)
 
 -- more or fewer filters than segments don't fit

@@ -2,20 +2,17 @@
 use Rattle.std.proofs.Common.{◌≡◌, ◌≤◌, ◌<◌, ℕ, ◌+◌, Bool, true, false, List, [], ◌∷◌, length, drop, cond, get_or, sym, ap, subst, ◌∙◌, arith}
 use Rattle.std.specs.List.{AllByRecursion}
 use Rattle.std.proofs.lemmas.List.{length-append, drop_more}
-use Rattle.std.proofs.lemmas.List.Sums.{sum_by-cons}
 use Rattle.seg_model.specs.Operations.{kept}
 use Rattle.seg_bits.specs.BitSets.{member_count}
 use Rattle.seg_store.specs.Store.{documents_of}
 use Rattle.seg_merger.specs.JoinedStore.{joined_documents}
 use Rattle.seg_model.specs.Shape.{HasFullShape}
 use Rattle.seg_open.specs.OpenSegment.{OpenSegment, contents_of, kept_count}
+use Rattle.seg_open.proofs.Exports.{count-more}
 
 -- what a segment holds has full shape, for its schema
 abbrev pub HasShape : OpenSegment → Type 0
 HasShape s = HasFullShape s.schema (contents_of s)
-
-pub counted_first : (b : Bool) (bs : List Bool) → member_count (b ∷ bs) ≡ cond b 1 0 + member_count bs
-counted_first b bs = sum_by-cons (λ (c : Bool). cond c 1 0) b bs
 
 few_first : {X : Type 0} (b : Bool) (x : X) (rest : List X) (n : ℕ) → length rest ≤ n → length (cond b (x ∷ rest) rest) ≤ cond b 1 0 + n
 few_first true x rest n few = omega (arith, few)
@@ -26,7 +23,7 @@ kept_few : {X : Type 0} (marks : List Bool) (xs : List X) → length (kept marks
 kept_few [] xs = omega arith
 kept_few (b ∷ bs) [] = omega arith
 kept_few (b ∷ bs) (x ∷ xs) =
-    let first = counted_first b bs in
+    let first = count-more b bs in
     let few = few_first b x (kept bs xs) (member_count bs) (kept_few bs xs) in
     omega (arith, first, few)
 

@@ -9,9 +9,9 @@ use Rattle.seg_model.specs.Operations.{kept}
 use Rattle.seg_model.specs.Reading.{Recorded, Posting, listed, postings_from}
 use Rattle.seg_model.specs.Shape.{ArePostings}
 use Rattle.seg_model.proofs.Exports.{AreNone-all_recorded, AreNone-kept, postings_from-none}
+use Rattle.seg_open.proofs.Exports.{count-more}
 use Rattle.seg_merger.specs.MovedPostings.{under, under_id, moved}
 use Rattle.seg_merger.specs.NewIds.{new_ids}
-use Rattle.seg_merger.proofs.KeptCounts.{counted_first}
 
 module _ (option : IndexOption) where
   -- before the first posting nothing is recorded
@@ -134,5 +134,5 @@ postings_append n (x ∷ xs) ys =
 pub kept_counted : {X : Type 0} (marks : List Bool) (xs : List X) → length marks ≡ length xs → length (kept marks xs) ≡ member_count marks
 kept_counted [] xs many = refl
 kept_counted (b ∷ bs) [] many = absurd (omega arith)
-kept_counted (true ∷ bs) (x ∷ xs) many = let first = counted_first true bs in let later = kept_counted bs xs (omega arith) in omega (arith, first, later)
-kept_counted (false ∷ bs) (x ∷ xs) many = let first = counted_first false bs in let later = kept_counted bs xs (omega arith) in omega (arith, first, later)
+kept_counted (true ∷ bs) (x ∷ xs) many = let first = count-more true bs in let later = kept_counted bs xs (omega arith) in omega (arith, first, later)
+kept_counted (false ∷ bs) (x ∷ xs) many = let first = count-more false bs in let later = kept_counted bs xs (omega arith) in omega (arith, first, later)

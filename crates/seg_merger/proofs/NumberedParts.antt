@@ -13,10 +13,10 @@ use Rattle.seg_model.specs.Contents.{terms_at}
 use Rattle.seg_open.specs.OpenSegment.{IsMarked, IsOfSchema, OpenSegment, contents_of, kept_count, terms_in}
 use Rattle.seg_postings.specs.FieldReading.{OpenField, written_terms}
 use Rattle.seg_postings.specs.HeldTerms.{terms_held}
+use Rattle.seg_open.proofs.Exports.{count-more}
 use Rattle.seg_merger.specs.JoinedTerms.{FieldsAreOpen, IsOpenAt, IsOfField, source_of}
 use Rattle.seg_merger.specs.MovedPostings.{SourceTerms}
 use Rattle.seg_merger.specs.NewIds.{new_ids, NumberedSegment, numbered_from, parts_of}
-use Rattle.seg_merger.proofs.KeptCounts.{counted_first}
 
 -- ---- documents
 
@@ -32,7 +32,7 @@ module _ (marks : List Bool) (d : ℕ) (lt : d < length marks) (b : Bool) (is : 
   split = drop_more marks d false lt ∙ ap (λ x. x ∷ drop (d + 1) marks) (sym is)
 
   counted : member_count (drop d marks) ≡ step b + member_count (drop (d + 1) marks)
-  counted = ap member_count split ∙ counted_first b (drop (d + 1) marks)
+  counted = ap member_count split ∙ count-more b (drop (d + 1) marks)
 
   module _ (next limit : ℕ) (room : next + member_count (drop d marks) < limit) where
     pub one_fits : next + cond b 1 0 < limit

@@ -26,6 +26,7 @@ use Rattle.seg_model.specs.Contents.{Contents}
 use Rattle.seg_model.specs.Join.{Part, live_of, part_column, side_by_side, part_rows, joined_keys, joined_columns}
 use Rattle.seg_model.specs.Laws.{IsReadingOf, AreReadingsOf}
 use Rattle.seg_common.proofs.Tables.{first_false, second_false, same_key, IsComplete, get-tabulated, same_table, IsCovered, none_passes, any_same}
+use Rattle.seg_common.proofs.Numbers.{then_first, then_second}
 use Rattle.seg_model.proofs.Live.{WasRead, was_read, live_of-map}
 
 abbrev Rows : Type 0
@@ -36,20 +37,10 @@ Rows = List (List ColumnValue)
 pub column_cmp_total : IsTotalOrder column_cmp
 column_cmp_total = then_total (on_total (λ (k : ColumnKey). k.path) nat_list_cmp_total) (on_total (λ (k : ColumnKey). type_place k.type) nat_cmp_total)
 
-first_equal : (r s : Ordering) → ordering_then r s ≡ Equal → r ≡ Equal
-first_equal Less s e = e
-first_equal Equal s e = refl
-first_equal Greater s e = e
-
-second_equal : (r s : Ordering) → ordering_then r s ≡ Equal → s ≡ Equal
-second_equal Less s e = cc
-second_equal Equal s e = e
-second_equal Greater s e = cc
-
 pub columns_apart : IsAntisymmetric column_cmp
 columns_apart k m e =
-    let path : k.path ≡ m.path = slice_cmp-IsAntisymmetric nat_cmp-IsAntisymmetric k.path m.path (first_equal (slice_cmp nat_cmp k.path m.path) (nat_cmp (type_place k.type) (type_place m.type)) e) in
-    let place : type_place k.type ≡ type_place m.type = nat_cmp-IsAntisymmetric _ _ (second_equal (slice_cmp nat_cmp k.path m.path) (nat_cmp (type_place k.type) (type_place m.type)) e) in
+    let path : k.path ≡ m.path = slice_cmp-IsAntisymmetric nat_cmp-IsAntisymmetric k.path m.path (then_first (slice_cmp nat_cmp k.path m.path) (nat_cmp (type_place k.type) (type_place m.type)) e) in
+    let place : type_place k.type ≡ type_place m.type = nat_cmp-IsAntisymmetric _ _ (then_second (slice_cmp nat_cmp k.path m.path) (nat_cmp (type_place k.type) (type_place m.type)) e) in
     let type : k.type ≡ m.type = sym (type_of_place-type_place k.type) ∙ ap type_of_place place ∙ type_of_place-type_place m.type in
     λ i. record { path = path i; type = type i }
 
@@ -128,7 +119,7 @@ module _ (declared : List ColumnKey) where
 
 -- ---- the columns of documents
 
-values_at-none : (q : ColumnKey) (vs : List FastValue) → is_among column_cmp (flat_map value_keys vs) q ≡ false → values_at q vs ≡ []
+pub values_at-none : (q : ColumnKey) (vs : List FastValue) → is_among column_cmp (flat_map value_keys vs) q ≡ false → values_at q vs ≡ []
 values_at-none q [] h = refl
 values_at-none q (v ∷ vs) h =
     let both = sym (list_any-append (eq_by_cmp column_cmp q) (value_keys v) (flat_map value_keys vs)) ∙ h in
@@ -274,7 +265,7 @@ no_part_column k p h = by (get p.contents.columns k) (contains_key-keys p.conten
     by None e = refl
     by (Some x) e = absurd (true≢false e)
 
-twice_nothing : (n : ℕ) → list_any is_filled (side_by_side (replicate n []) (replicate n [])) ≡ false
+pub twice_nothing : (n : ℕ) → list_any is_filled (side_by_side (replicate n []) (replicate n [])) ≡ false
 twice_nothing zero = refl
 twice_nothing (suc n) = twice_nothing n
 

@@ -37,7 +37,7 @@ kept-length (b ∷ bs) (x ∷ xs) [] h = absurd (omega arith)
 kept-length (true ∷ bs) (x ∷ xs) (y ∷ ys) h = let e : length (kept bs xs) ≡ length (kept bs ys) = kept-length bs xs ys (omega arith) in ap suc e
 kept-length (false ∷ bs) (x ∷ xs) (y ∷ ys) h = kept-length bs xs ys (omega arith)
 
-kept-all : {X : Type 0} (n : ℕ) (xs : List X) → length xs ≡ n → kept (replicate n true) xs ≡ xs
+pub kept-all : {X : Type 0} (n : ℕ) (xs : List X) → length xs ≡ n → kept (replicate n true) xs ≡ xs
 kept-all zero [] h = refl
 kept-all zero (x ∷ xs) h = absurd (omega arith)
 kept-all (suc n) [] h = refl

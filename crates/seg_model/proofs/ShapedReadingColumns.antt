@@ -256,7 +256,7 @@ mutual
   own_tree_leaves kind keys level no_trees h = tt
   own_tree_leaves kind keys level (tree t ts) h = all_both _ _ _ (own_leaves kind keys level t (and_parts (is_own_array kind t) (are_own_arrays kind ts) h).0) (own_tree_leaves kind keys level ts (and_parts (is_own_array kind t) (are_own_arrays kind ts) h).1)
 
-own_leaf_array : (kind : FieldKind) (t : Tree) → is_own_leaf kind t ≡ true → is_own_array kind t ≡ true
+pub own_leaf_array : (kind : FieldKind) (t : Tree) → is_own_leaf kind t ≡ true → is_own_array kind t ≡ true
 own_leaf_array kind (leaf l) h = or_right (is_null l) (is_of_kind kind l) h
 own_leaf_array kind (array ts) h = absurd (true≢false (sym h))
 own_leaf_array kind (object ms) h = absurd (true≢false (sym h))

@@ -10,7 +10,7 @@ use Rattle.std.specs.Int.{w64, to_be_bytes}
 use Rattle.std.proofs.lemmas.Bool.Decides.{nat_tests}
 use Rattle.std.proofs.lemmas.List.Folds.{list_any-append}
 use Rattle.std.proofs.lemmas.List.{length-map}
-use Rattle.seg_common.proofs.Lists.{all_both}
+use Rattle.seg_common.proofs.Lists.{all_both, all_each, all_map}
 use Rattle.seg_tokens.specs.declared.token.Token.{Token}
 use Rattle.seg_values.specs.declared.schema.FieldEntry.{FieldEntry}
 use Rattle.seg_values.specs.declared.schema.FieldKind.{FieldKind}
@@ -99,14 +99,6 @@ sound_leaves_of e c (t ∷ ts) h =
 plain_form : (e : FieldEntry) (bytes : List ℕ) → is_json e.kind ≡ false → is_facet e.kind ≡ false → IsTermOf e bytes
 plain_form e bytes j f = record { json = λ h. absurd (true≢false (sym h ∙ j)); facet = λ h. absurd (true≢false (sym h ∙ f)) }
 
-each-any : {X : Type 0} (P : X → Type 0) → ((x : X) → P x) → (xs : List X) → AllByRecursion P xs
-each-any P h [] = tt
-each-any P h (x ∷ xs) = (h x, each-any P h xs)
-
-pub each-map : {X Y : Type 0} (P : Y → Type 0) (f : X → Y) (xs : List X) → AllByRecursion (λ x. P (f x)) xs → AllByRecursion P (map f xs)
-each-map P f [] h = tt
-each-map P f (x ∷ xs) h = (h.0, each-map P f xs h.1)
-
 pub each-flat_map : {X Y : Type 0} (P : Y → Type 0) (Q : X → Type 0) (f : X → List Y) → ((x : X) → Q x → AllByRecursion P (f x)) → (xs : List X) → AllByRecursion Q xs → AllByRecursion P (flat_map f xs)
 each-flat_map P Q f g [] h = tt
 each-flat_map P Q f g (x ∷ xs) h = all_both P (f x) (flat_map f xs) (g x h.0) (each-flat_map P Q f g xs h.1)
@@ -122,7 +114,7 @@ module _ (e : FieldEntry) where
   }
 
   leaf_forms : is_facet e.kind ≡ false → (analyze : List ℕ → List Token) (path : List ℕ) (start : ℕ) (l : Leaf) → IsUtf8 path → has_no_zero path ≡ true → AllByRecursion (λ o. IsTermOf e o.bytes) (leaf_occurrences analyze path start l)
-  leaf_forms f analyze path start (text s) u z = each-map (λ o. IsTermOf e o.bytes) _ (counted (analyze s)) (each-any _ (λ t. subst (IsTermOf e) (sym (append_assoc path (0 ∷ 115 ∷ []) t.text)) (json_form f path 115 t.text u z refl)) (counted (analyze s)))
+  leaf_forms f analyze path start (text s) u z = all_map (λ o. IsTermOf e o.bytes) _ (counted (analyze s)) (all_each _ (λ t. subst (IsTermOf e) (sym (append_assoc path (0 ∷ 115 ∷ []) t.text)) (json_form f path 115 t.text u z refl)) (counted (analyze s)))
   leaf_forms f analyze path start null u z = tt
   leaf_forms f analyze path start (pre_tokenized p) u z = tt
   leaf_forms f analyze path start (unsigned n) u z = (by (nat_lt n (2 ^ 63)), tt)
@@ -171,16 +163,16 @@ module _ (e : FieldEntry) where
   own_leaf j on t k = sym (λ i. cond (j i) true (cond (on i) (is_own_leaf e.kind t) (cond e.fast (is_own_array e.kind t) true))) ∙ k
 
   kind_forms : is_indexed e ≡ true → (kind : FieldKind) → e.kind ≡ kind → (expand : Bool) (analyze : List ℕ → List Token) (values : List Tree) → AllByRecursion (IsSoundValue e) values → AllByRecursion (λ o. IsTermOf e o.bytes) (kind_occurrences kind expand analyze values)
-  kind_forms on kinds.Text is expand analyze values h = each-any _ (λ o. plain_form e o.bytes (ap is_json is) (ap is_facet is)) _
-  kind_forms on kinds.U64 is expand analyze values h = each-any _ (λ o. plain_form e o.bytes (ap is_json is) (ap is_facet is)) _
-  kind_forms on kinds.I64 is expand analyze values h = each-any _ (λ o. plain_form e o.bytes (ap is_json is) (ap is_facet is)) _
-  kind_forms on kinds.Bool is expand analyze values h = each-any _ (λ o. plain_form e o.bytes (ap is_json is) (ap is_facet is)) _
-  kind_forms on kinds.Date is expand analyze values h = each-any _ (λ o. plain_form e o.bytes (ap is_json is) (ap is_facet is)) _
+  kind_forms on kinds.Text is expand analyze values h = all_each _ (λ o. plain_form e o.bytes (ap is_json is) (ap is_facet is)) _
+  kind_forms on kinds.U64 is expand analyze values h = all_each _ (λ o. plain_form e o.bytes (ap is_json is) (ap is_facet is)) _
+  kind_forms on kinds.I64 is expand analyze values h = all_each _ (λ o. plain_form e o.bytes (ap is_json is) (ap is_facet is)) _
+  kind_forms on kinds.Bool is expand analyze values h = all_each _ (λ o. plain_form e o.bytes (ap is_json is) (ap is_facet is)) _
+  kind_forms on kinds.Date is expand analyze values h = all_each _ (λ o. plain_form e o.bytes (ap is_json is) (ap is_facet is)) _
   kind_forms on kinds.Facet is expand analyze values h =
-      each-map (λ o. IsTermOf e o.bytes) at_zero (flat_map value_terms values)
+      all_map (λ o. IsTermOf e o.bytes) at_zero (flat_map value_terms values)
       (each-flat_map (IsTermOf e) (IsSoundValue e) value_terms (λ t s. facet_value_forms (ap is_json is) t (sym (ap (λ k. is_own_leaf k t) is) ∙ own_leaf (ap is_json is) on t s.taken) s.utf8) values h)
-  kind_forms on kinds.Bytes is expand analyze values h = each-any _ (λ o. plain_form e o.bytes (ap is_json is) (ap is_facet is)) _
-  kind_forms on kinds.IpAddr is expand analyze values h = each-any _ (λ o. plain_form e o.bytes (ap is_json is) (ap is_facet is)) _
+  kind_forms on kinds.Bytes is expand analyze values h = all_each _ (λ o. plain_form e o.bytes (ap is_json is) (ap is_facet is)) _
+  kind_forms on kinds.IpAddr is expand analyze values h = all_each _ (λ o. plain_form e o.bytes (ap is_json is) (ap is_facet is)) _
   kind_forms on kinds.Json is expand analyze values h = json_forms (ap is_facet is) expand analyze [] (leaves_of values) (sound_leaves_of e (λ i. is_json (is i) && (on i || e.fast)) values h)
 
 -- ---- the terms of a field
@@ -217,7 +209,7 @@ module _ (e : FieldEntry) (q : List ℕ) where
       record {
         form = by (is_among (slice_cmp nat_cmp) (flat_map (map (λ o. o.bytes)) ds) q) refl;
         occurs = told.1;
-        postings_ascend = subst P (sym told.0) (subst N (let z : 0 + length (map (recorded_in e q) ds) ≡ length ds = omega (arith, length-map ds (recorded_in e q)) in z) (ArePostings-from (term_option e q) 0 (map (recorded_in e q) ds) (each-map (IsMaybeRecordOf (term_option e q)) (recorded_in e q) ds (each-any _ (λ os. records_of (term_option e q) (positions_of q os)) ds))));
+        postings_ascend = subst P (sym told.0) (subst N (let z : 0 + length (map (recorded_in e q) ds) ≡ length ds = omega (arith, length-map ds (recorded_in e q)) in z) (ArePostings-from (term_option e q) 0 (map (recorded_in e q) ds) (all_map (IsMaybeRecordOf (term_option e q)) (recorded_in e q) ds (all_each _ (λ os. records_of (term_option e q) (positions_of q os)) ds))));
       }
     where
       by : (b : Bool) → is_among (slice_cmp nat_cmp) (flat_map (map (λ o. o.bytes)) ds) q ≡ b → IsTermOf e q

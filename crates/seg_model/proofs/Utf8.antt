@@ -72,7 +72,7 @@ pub IsUtf8-joined_path : (expand : Bool) (keys : List (List ℕ)) → AreUtf8 ke
 IsUtf8-joined_path true keys h = IsUtf8-dots (join_with_byte 1 keys) (IsUtf8-join keys h)
 IsUtf8-joined_path false keys h = IsUtf8-join keys h
 
-has_no_zero-append : (xs ys : List ℕ) → has_no_zero xs ≡ true → has_no_zero ys ≡ true → has_no_zero (xs ++ ys) ≡ true
+pub has_no_zero-append : (xs ys : List ℕ) → has_no_zero xs ≡ true → has_no_zero ys ≡ true → has_no_zero (xs ++ ys) ≡ true
 has_no_zero-append [] ys h k = k
 has_no_zero-append (x ∷ xs) ys h k = by (x == 0) h (has_no_zero-append xs ys)
   where
@@ -85,7 +85,7 @@ has_no_zero-join [] h = refl
 has_no_zero-join (k ∷ []) h = h.0
 has_no_zero-join (k ∷ j ∷ keys) h = has_no_zero-append k _ h.0 (has_no_zero-join (j ∷ keys) h.1)
 
-has_no_zero-dots : (bs : List ℕ) → has_no_zero bs ≡ true → has_no_zero (map dot_expanded bs) ≡ true
+pub has_no_zero-dots : (bs : List ℕ) → has_no_zero bs ≡ true → has_no_zero (map dot_expanded bs) ≡ true
 has_no_zero-dots [] h = refl
 has_no_zero-dots (b ∷ bs) h = by (b == 0) (b == 46) refl h (has_no_zero-dots bs)
   where

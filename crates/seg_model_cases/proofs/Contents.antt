@@ -1,5 +1,5 @@
 -- Cases of contents that their stored documents tell.
-use Rattle.std.proofs.Common.{◌≡◌, ℕ, List, [], ◌∷◌, ◌++◌, map, length, Option, Some, None, refl, sym, ap, ◌∙◌, subst, T, arith}
+use Rattle.std.proofs.Common.{◌≡◌, ℕ, List, [], ◌∷◌, ◌++◌, map, Option, Some, None, refl, sym, ap, ◌∙◌, subst, T, arith}
 use Rattle.std.specs.Prelude.{codes}
 use Rattle.std.specs.Option.{option_map}
 use Rattle.std.specs.List.{AllByRecursion, flat_map}
@@ -9,6 +9,7 @@ use Rattle.std.specs.Cmp.Lexicographic.{nat_list_cmp_total}
 use Rattle.std.specs.FinMap.{get, get-from_sorted, empty, entries, len-empty, len-entries, from_entries, from_sorted, entries-insert, entries-from_sorted, is_sorted, same_entries_map}
 use Rattle.std.specs.FinMap.Entries.{put}
 use lib.Utf8.{encode}
+use Rattle.std.proofs.lemmas.List.{nil_from_length}
 use Rattle.seg_common.specs.Varint.{varint_within}
 use Rattle.seg_values.specs.declared.schema.FieldKind.TheVariants.{Text, U64}
 use Rattle.seg_values.specs.declared.schema.IndexOption.TheVariants.{Basic, Freqs}
@@ -26,17 +27,13 @@ use Rattle.seg_model.proofs.Exports.{column_cmp_total, readings_have_full_shape}
 use Rattle.seg_model_cases.specs.Given.{analyzer, entry, only, posting}
 use Rattle.seg_model_cases.specs.Contents.{documents, term_entries, column_entries, contents, ContentsCases}
 
-no_entries : {A : Type 0} (es : List A) → length es ≡ 0 → es ≡ []
-no_entries [] e = refl
-no_entries (x ∷ es) e = absurd (omega (arith, e))
-
 -- entries put into a list in the order of their keys
 abbrev all_put : {K X : Type 0} → (K → K → Ordering) → List (K × X) → List (K × X)
 all_put R [] = []
 all_put R (e ∷ es) = put R e.0 e.1 (all_put R es)
 
 entries-from_entries : {K X : Type 0} {R : K → K → Ordering} → IsTotalOrder R → (es : List (K × X)) → entries (from_entries {R = R} es) ≡ all_put R es
-entries-from_entries {X = X} {R = R} total [] = no_entries (entries (empty {X = X} {R = R})) (sym (len-entries empty) ∙ len-empty R X)
+entries-from_entries {X = X} {R = R} total [] = nil_from_length (entries (empty {X = X} {R = R})) (sym (len-entries empty) ∙ len-empty R X)
 entries-from_entries {R = R} total (e ∷ es) = entries-insert total (from_entries es) e.0 e.1 ∙ ap (put R e.0 e.1) (entries-from_entries total es)
 
 -- a map made of entries is the one that is written in order

@@ -11,6 +11,7 @@ use Rattle.std.proofs.lemmas.List.Sums.{AllPass-from_list_all}
 use Rattle.std.proofs.lemmas.Map.Keys.{any_passes_from_place}
 use Rattle.std.proofs.lemmas.Option.{get_or_from_slice_get, none-some, same_Some, slice_get_within}
 use Rattle.std.proofs.lemmas.Slice.Eq.{bytes_eq-Decides}
+use Rattle.std.specs.Cmp.{first_so, second_so}
 use Rattle.seg_common.specs.Tables.{is_among}
 use Rattle.seg_common.specs.declared.column_type.ColumnType.TheVariants.{Str}
 use Rattle.seg_values.specs.NameSearch.{Finds, longest_part, no_part, whole_name}
@@ -51,14 +52,6 @@ facet_kind Bytes h = absurd (false≢true h)
 facet_kind IpAddr h = absurd (false≢true h)
 facet_kind Json h = absurd (false≢true h)
 
-first_holds : (a b : Bool) → (a && b) ≡ true → a ≡ true
-first_holds true b h = refl
-first_holds false b h = h
-
-second_holds : (a b : Bool) → (a && b) ≡ true → b ≡ true
-second_holds true b h = h
-second_holds false b h = absurd (false≢true h)
-
 module _ (schema : Schema) (name : List ℕ) where
   -- a name is that of a facet field, which is fast
   record NamesFacet : Type 0 where
@@ -73,9 +66,9 @@ module _ (schema : Schema) (name : List ℕ) where
   module _ (valid : is_schema schema ≡ true) where
     is_kept : (field : ℕ) (entry : FieldEntry) → slice_get schema field ≡ Some entry → is_kept_as entry.kind entry ≡ true
     is_kept field entry at =
-        second_holds (is_allowed entry.kind entry.index) (is_kept_as entry.kind entry)
+        second_so (is_allowed entry.kind entry.index) (is_kept_as entry.kind entry)
         (ap is_entry (sym (get_or_from_slice_get schema field entry entry at))
-        ∙ AllPass-from_list_all is_entry schema (first_holds (list_all is_entry schema) _ valid) field entry (slice_get_within schema field entry at))
+        ∙ AllPass-from_list_all is_entry schema (first_so (list_all is_entry schema) _ valid) field entry (slice_get_within schema field entry at))
 
     of_field : (field : ℕ) → field_named schema name ≡ Some field → (entry : FieldEntry) → slice_get schema field ≡ Some entry
         → is_facet entry.kind ≡ true → NamesFacet
@@ -89,7 +82,7 @@ module _ (schema : Schema) (name : List ℕ) where
           entry = entry;
           at = at;
           kind_is = kind_is;
-          fast = first_holds entry.fast _ (second_holds (is_basic entry.index) _ kept);
+          fast = first_so entry.fast _ (second_so (is_basic entry.index) _ kept);
           name_is = (bytes_eq-Decides entry.name name).0
               (ap (λ (e : FieldEntry). bytes_eq e.name name) (sym (get_or_from_slice_get schema field entry entry at)) ∙ passes.1);
         }

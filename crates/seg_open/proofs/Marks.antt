@@ -8,7 +8,9 @@ use Rattle.std.proofs.lemmas.List.{get_or-replicate, get_or_past, length-replica
 use Rattle.std.proofs.lemmas.Option.{none-some}
 use Rattle.std.proofs.lemmas.List.Filters.{length-filter_both}
 use Rattle.std.proofs.lemmas.List.Sums.{length-filter, sum_by-cons}
+use Rattle.std.proofs.lemmas.List.FromFn.{length-range_with_len}
 use Rattle.seg_common.specs.Marks.{both_marked, kept}
+use Rattle.seg_model.proofs.Exports.{kept-all}
 use Rattle.seg_bits.specs.BitSets.{member_count, numbers_from}
 use Rattle.seg_open.specs.AliveDocuments.{documents_left}
 use Rattle.seg_open.specs.OpenSegment.{LacksSome, alive_of}
@@ -25,7 +27,7 @@ pub all_alive : (n : ℕ) → list_all (λ b. b) (replicate n true) ≡ true
 all_alive zero = refl
 all_alive (suc n) = all_alive n
 
-count-more : (b : Bool) (set : List Bool) → member_count (b ∷ set) ≡ cond b 1 0 + member_count set
+pub count-more : (b : Bool) (set : List Bool) → member_count (b ∷ set) ≡ cond b 1 0 + member_count set
 count-more b set = sum_by-cons (λ (x : Bool). cond x 1 0) b set
 
 -- as many are alive as there are
@@ -166,20 +168,10 @@ module _ (documents : ℕ) where
 
 -- ---- the numbers of those that are alive
 
-kept_all : {X : Type 0} (n : ℕ) (xs : List X) → length xs ≡ n → kept (replicate n true) xs ≡ xs
-kept_all zero [] long = refl
-kept_all zero (x ∷ xs) long = absurd (omega (arith, long))
-kept_all (suc n) [] long = absurd (omega (arith, long))
-kept_all (suc n) (x ∷ xs) long = ap (λ l. x ∷ l) (kept_all n xs (omega (arith, long)))
-
-long_range : (from n : ℕ) → length (range_with_len from n) ≡ n
-long_range from zero = refl
-long_range from (suc n) = let rest = long_range (from + 1) n in omega (arith, rest)
-
 -- where all are alive these are all numbers
 pub all_numbers : (n : ℕ) → numbers_from 0 (replicate n true) ≡ range_with_len 0 n
 all_numbers n =
-    ap (λ m. kept (replicate n true) (range_with_len 0 m)) (length-replicate n true) ∙ kept_all n (range_with_len 0 n) (long_range 0 n)
+    ap (λ m. kept (replicate n true) (range_with_len 0 m)) (length-replicate n true) ∙ kept-all n (range_with_len 0 n) (length-range_with_len 0 n)
 
 -- the first of a range, and the others
 pub first_of_range : (next end : ℕ) → next < end → range_with_len next (end - next) ≡ next ∷ range_with_len (next + 1) (end - (next + 1))

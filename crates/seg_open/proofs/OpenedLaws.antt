@@ -1,5 +1,5 @@
 -- What the opening of segments says of the directory, and of what was opened.
-use Rattle.std.proofs.Common.{◌≡◌, ◌⊎◌, ◌≤◌, ◌∙◌, ℕ, Bool, true, false, List, [], ◌∷◌, ◌++◌, Option, Some, None, Result, Ok, Err, refl, sym, ap, subst, inl, inr, arith}
+use Rattle.std.proofs.Common.{◌≡◌, ◌⊎◌, ◌∙◌, ℕ, Bool, true, false, List, [], ◌∷◌, ◌++◌, Option, Some, None, Result, Ok, Err, refl, sym, ap, subst, inl, inr, arith}
 use Rattle.std.specs.Prelude.{IfErr, IsTrue, replicate, is_some, if◌then◌else◌}
 use Rattle.std.specs.FinMap.{get}
 use Rattle.std.specs.List.{AllByRecursion}
@@ -27,23 +27,11 @@ use Rattle.seg_segment.specs.Holds.{Holds}
 use Rattle.seg_segment.specs.HoldsAlive.{HoldsAlive}
 use Rattle.seg_segment.specs.SegmentFiles.{HasFiles}
 use Rattle.seg_segment.specs.SegmentRead.{IsNoDamage, IsReadError}
-use Rattle.seg_segment.proofs.Exports.{FindWhole, FindsDamage, OnlyReads, Unchanged, found_whole, is_there, reads_both, reads_rose, reads_so, reads_stay, suits_both, whole_both}
+use Rattle.seg_segment.proofs.Exports.{FindWhole, FindsDamage, OnlyReads, Unchanged, found_whole, is_there, reads_both, reads_rose, reads_so, reads_stay, suits_both, whole_both, same_state, then_same}
 use Rattle.seg_open.specs.OpenSegment.{OpenSegment, contents_of}
 use Rattle.seg_open.specs.SegmentOpened.{AreFound, AreReadersOf, Asked, Found, HaveTotals, IsFound, IsReaderOf, Opens, OpensSegments, alive_in, alive_read, alive_steps, all_steps, open_steps, segment_steps}
 use Rattle.seg_open.proofs.AliveRead.{agrees, is_set, undamaged}
 use Rattle.seg_open.proofs.OpenLaws.{open_has, open_only, open_whole}
-
--- ---- states that are alike
-
-same_state : (a b : DirectoryState) → b ≡ a → Unchanged a b
-same_state a b same = record {
-  files = ap (λ (s : DirectoryState). s.files) same;
-  tells = ap (λ (s : DirectoryState). s.tells) same;
-  later = subst (λ (s : DirectoryState). a.faults ≤ s.faults) (sym same) (omega arith);
-}
-
-then_same : (a b c : DirectoryState) → Unchanged a b → Unchanged b c → Unchanged a c
-then_same a b c h k = record { files = k.files ∙ h.files; tells = k.tells ∙ h.tells; later = omega (arith, h.later, k.later) }
 
 -- ---- the steps of one segment
 

@@ -39,7 +39,7 @@ starves_on T U (step ∷ steps) x a b (inl w) = inl (w.0, w.1, starves_on T U st
 starves_on T U (step ∷ steps) x a b (inr no_error) = absurd no_error
 
 -- steps that all went well, after which there is no memory
-starves_after : {T U : Type 0} {steps : List Step} {x : T} {a b : DirectoryState}
+pub starves_after : {T U : Type 0} {steps : List Step} {x : T} {a b : DirectoryState}
     → Works {T = T} steps (Ok x) a b → Works {T = U} steps (Err OutOfMemory) a b
 starves_after works = record { on = starves_on _ _ _ _ _ _ works.on }
 

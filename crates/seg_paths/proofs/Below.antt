@@ -1,10 +1,10 @@
 -- The paths of nodes.
 use Rattle.std.proofs.Common.{◌≡◌, ℕ, zero, suc, ◌+◌, ◌<◌, ◌≤◌, ◌^◌, Bool, true, false, cond, List, [], ◌∷◌, ◌++◌, length, get_or, drop, Option, Some, None, position, append_assoc, refl, sym, ap, ◌∙◌, subst, arith}
-use Rattle.std.specs.Prelude.{◌||◌, Result, Ok, Err, IfOk, OnErr}
+use Rattle.std.specs.Prelude.{Result, Ok, Err, IfOk, OnErr}
 use Rattle.std.specs.Cmp.Lexicographic.{bytes_decides, nat_list_eq_equiv}
 use Rattle.std.specs.List.{IsDistinct, list_any}
 use Rattle.std.specs.Str.{bytes_eq}
-use Rattle.std.proofs.lemmas.Bool.{false≢true, or_from}
+use Rattle.std.proofs.lemmas.Bool.{false≢true, or_from, or_parts}
 use Rattle.std.proofs.lemmas.List.{get_or_append_left, length-append, length_push}
 use Rattle.std.proofs.lemmas.List.Folds.{list_any-append}
 use Rattle.std.proofs.lemmas.List.Quantifiers.{position-Some}
@@ -134,10 +134,6 @@ known-node ns paths m n seen sound distinct is =
 
 -- ---- a node that is new
 
-both_false : (a b : Bool) → (a || b) ≡ false → (a ≡ false) × (b ≡ false)
-both_false true b e = absurd (false≢true (sym e))
-both_false false b e = (refl, e)
-
 module _ (final : List (List ℕ)) (distinct : IsDistinct bytes_eq final) (m : Node) (sound : IsSound final m) where
   one_apart : (before : List (List ℕ)) (n : Node) → Extends before final → IsSound before n → node_eq m n ≡ false
       → bytes_eq (node_path final m) (node_path before n) ≡ false
@@ -158,7 +154,7 @@ module _ (final : List (List ℕ)) (distinct : IsDistinct bytes_eq final) (m : N
       → list_any (bytes_eq (node_path final m)) final ≡ false
   not_among before [] is sounds none apart = ap (list_any (bytes_eq (node_path final m))) is ∙ apart
   not_among before (n ∷ ns) is sounds none apart =
-      let both = both_false (node_eq m n) (list_any (node_eq m) ns) none in
+      let both = or_parts (node_eq m n) (list_any (node_eq m) ns) none in
       let all = paths-extend before (n ∷ ns) in
       let here = one_apart before n (all.0, is ∙ all.1) sounds.0 both.0 in
       let q = node_path final m in

@@ -7,7 +7,7 @@ use Rattle.std.proofs.lemmas.Bool.Decides.{nat_tests}
 use Rattle.std.proofs.lemmas.Option.{none-some, same_Some}
 use Rattle.seg_values.specs.Tree.{Tree, trees_from, members_from}
 use Rattle.seg_model.specs.Checked.{has_no_zero, json_key, tree_refusal, trees_refusal, members_refusal, unless}
-use Rattle.seg_model.proofs.Exports.{or_first, or_second, unless_true}
+use Rattle.seg_model.proofs.Exports.{or_first, or_second, unless_true, has_no_zero-append}
 use Rattle.seg_paths.specs.Nodes.{Node, node_path, paths_with, IsPart, AreSound}
 use Rattle.seg_paths.specs.Paths.{HaveNoZero, below}
 
@@ -24,12 +24,6 @@ one_more b bs some h = by (b == 0) refl
     by : (x : Bool) → (b == 0) ≡ x → cond x false (has_no_zero bs) ≡ true
     by true e = absurd (let none : b ≡ 0 = grind (arith, nat_tests) in omega (arith, none, some))
     by false e = h
-
-pub no_zero-append : (xs ys : List ℕ) → has_no_zero xs ≡ true → has_no_zero ys ≡ true → has_no_zero (xs ++ ys) ≡ true
-no_zero-append [] ys h k = k
-no_zero-append (x ∷ xs) ys h k =
-    let apart = no_zero-cons x xs h in
-    one_more x (xs ++ ys) apart.0 (no_zero-append xs ys apart.1 k)
 
 pub no_zero-drop : (n : ℕ) (xs : List ℕ) → has_no_zero xs ≡ true → has_no_zero (drop n xs) ≡ true
 no_zero-drop zero xs h = h
@@ -50,7 +44,7 @@ no_zero-at (p ∷ ps) (suc k) h = no_zero-at ps k h.1
 no_zero-below : (paths : List (List ℕ)) (above : Option ℕ) (part : List ℕ) → HaveNoZero paths → IsPart part
     → has_no_zero (below paths above part) ≡ true
 no_zero-below paths None part h is = no_zero-part part is
-no_zero-below paths (Some n) part h is = no_zero-append (get_or paths n []) (1 ∷ part) (no_zero-at paths n h)
+no_zero-below paths (Some n) part h is = has_no_zero-append (get_or paths n []) (1 ∷ part) (no_zero-at paths n h)
     (one_more 1 part (omega arith) (no_zero-part part is))
 
 all-push : (paths : List (List ℕ)) (path : List ℕ) → HaveNoZero paths → has_no_zero path ≡ true

@@ -52,7 +52,7 @@ module _ (kind : RecordKind) (max_doc count i before least : ℕ) (bytes : List 
         same None = refl
         same (Some cs) = rw h refl
 
-filled : (x : ℕ) (xs : List ℕ) → nat_eq (length (x ∷ xs)) 0 ≡ false
+pub filled : (x : ℕ) (xs : List ℕ) → nat_eq (length (x ∷ xs)) 0 ≡ false
 filled x xs = ne_eqb (suc (length xs)) 0 (λ e. omega (arith, e))
 
 none_left : (kind : RecordKind) (max_doc before least : ℕ) (bytes : List ℕ) → are_counted max_doc (counts_at kind 0 before least bytes) ≡ nat_eq (length bytes) 0

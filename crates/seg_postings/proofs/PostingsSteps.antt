@@ -1,13 +1,13 @@
 -- The postings of a term, document by document.
 use Rattle.std.proofs.Common.{◌≡◌, ℕ, suc, ◌+◌, ◌-◌, ◌^◌, ◌<◌, ◌≤◌, ◌&&◌, true, false, List, [], ◌∷◌, length, Option, Some, None, refl, sym, ap, ◌∙◌, arith}
 use Rattle.std.specs.Prelude.{nat_eq, nat_lt, option_map, option_and_then}
-use Rattle.std.proofs.lemmas.Bool.{ne_eqb}
 use Rattle.seg_common.proofs.Numbers.{one_left}
 use Rattle.seg_model.specs.Reading.{Recorded, positions, Posting}
 use Rattle.seg_postings.specs.declared.record_kind.RecordKind.{RecordKind}
 use Rattle.seg_postings.specs.declared.record_kind.RecordKind.TheVariants.{Documents, Counts, Positions}
 use Rattle.seg_postings.specs.Postings.{Counted, number_at, count_at, counts_at, positions_at, with_positions, postings_by}
 use Rattle.seg_postings.specs.PostingsLeft.{counted_at, recorded_at, postings_at, postings_from, are_low}
+use Rattle.seg_postings.proofs.CountedSteps.{filled}
 
 -- the first document is read, and then the others
 pub first_document : (kind : RecordKind) (n before least : ℕ) (bytes qs : List ℕ) → postings_at kind (suc n) before least bytes qs ≡ option_and_then (λ t. postings_from kind t.0 t.1 n t.2 qs) (counted_at kind before least bytes)
@@ -87,9 +87,6 @@ module _ (kind : RecordKind) (max_doc count i before least : ℕ) (bytes qs : Li
         same : (o : Option (List Posting)) → are_low max_doc (option_map (λ ps. with_first document recorded ps) o) ≡ are_low max_doc o
         same None = refl
         same (Some ps) = rw h refl
-
-filled : (x : ℕ) (xs : List ℕ) → nat_eq (length (x ∷ xs)) 0 ≡ false
-filled x xs = ne_eqb (suc (length xs)) 0 (λ e. omega (arith, e))
 
 none_left : (kind : RecordKind) (max_doc before least : ℕ) (bytes qs : List ℕ) → are_low max_doc (postings_at kind 0 before least bytes qs) ≡ (nat_eq (length bytes) 0 && nat_eq (length qs) 0)
 unfolding postings_at counts_at with_positions

@@ -1,5 +1,5 @@
 -- The space of the terms of one path and type, in the dictionary of a JSON field.
-use Rattle.std.proofs.Common.{◌≡◌, ℕ, zero, suc, ◌+◌, ◌-◌, ◌<◌, ◌≤◌, Bool, true, false, List, [], ◌∷◌, ◌++◌, length, map, take, drop, get_or, Option, sym, ap, subst, ◌∙◌, arith, length-drop, slice_get}
+use Rattle.std.proofs.Common.{◌≡◌, ℕ, zero, suc, ◌+◌, ◌-◌, ◌<◌, ◌≤◌, Bool, true, false, List, [], ◌∷◌, ◌++◌, length, map, take, drop, get_or, sym, ap, subst, ◌∙◌, arith, length-drop, slice_get}
 use Rattle.std.specs.Prelude.{IsSomeAnd}
 use Rattle.std.specs.List.{list_all, prefix_len, sum_by}
 use Rattle.std.specs.List.Sorted.{IsStrictlySortedBy}
@@ -9,7 +9,6 @@ use Rattle.std.specs.Str.{IsUtf8, bytes_eq, is_utf8}
 use Rattle.std.proofs.lemmas.Bool.{and_parts}
 use Rattle.std.proofs.lemmas.List.{append-nil, take-append-drop, drop_all, drop_more, drop-drop, length-take-le}
 use Rattle.std.proofs.lemmas.List.Sums.{prefix_len-drop_yes, prefix_len-drop_no, prefix_len-le-length}
-use Rattle.std.proofs.lemmas.Option.{slice_get-get_or}
 use Rattle.std.proofs.lemmas.Str.{IsUtf8-from_is_utf8}
 use Rattle.seg_common.specs.declared.term_info.TermInfo.{TermInfo}
 use Rattle.seg_values.specs.declared.schema.FieldKind.TheVariants.{Json}
@@ -18,6 +17,7 @@ use Rattle.seg_model.specs.Shape.{is_type_code, path_part}
 use Rattle.seg_termdict.specs.Dictionary.{Term}
 use Rattle.seg_termdict.specs.LookUps.{HasKeyAt}
 use Rattle.seg_termdict.specs.Streaming.{no_term}
+use Rattle.seg_termdict.proofs.Exports.{key_there, info_there}
 use Rattle.seg_postings.specs.declared.field_space.InvertedIndexFieldSpace.{InvertedIndexFieldSpace}
 use Rattle.seg_postings.specs.TermForms.{has_form, is_formed}
 use Rattle.seg_postings.specs.JsonSpaces.{path_and_type, beginning, begins_with, IsSpaceOf, AreSpaces}
@@ -42,18 +42,11 @@ all_at p [] i d lt all = absurd (omega (arith, lt))
 all_at p (t ∷ ts) zero d lt all = (and_parts (p t) (list_all p ts) all).0
 all_at p (t ∷ ts) (suc i) d lt all = all_at p ts i d (omega (arith, lt)) (and_parts (p t) (list_all p ts) all).1
 
--- what is known of the term at a place
-key_at : (terms : List Term) (i : ℕ) (key : List ℕ) → i < length terms → HasKeyAt terms i key → (get_or terms i no_term).0 ≡ key
-key_at terms i key lt has = subst (λ (o : Option Term). IsSomeAnd o (λ t. t.0 ≡ key)) (slice_get-get_or terms i no_term lt) has
-
-info_at : (terms : List Term) (i : ℕ) (info : TermInfo) → i < length terms → IsSomeAnd (slice_get terms i) (λ t. t.1 ≡ info) → (get_or terms i no_term).1 ≡ info
-info_at terms i info lt has = subst (λ (o : Option Term). IsSomeAnd o (λ t. t.1 ≡ info)) (slice_get-get_or terms i no_term lt) has
-
 -- ---- where a run ends
 
 module _ (terms : List Term) (place all : ℕ) (key head : List ℕ) (lt : place < length terms) (has : HasKeyAt terms place key) (so_far : place + prefix_len (begins_with head) (drop place terms) ≡ all) where
   there : begins_with head (get_or terms place no_term) ≡ bytes_eq (path_and_type key) head
-  there = ap (λ (k : List ℕ). bytes_eq (path_and_type k) head) (key_at terms place key lt has)
+  there = ap (λ (k : List ℕ). bytes_eq (path_and_type k) head) (key_there terms place key lt has)
 
   pub run_goes_on : bytes_eq (path_and_type key) head ≡ true → (place + 1) + prefix_len (begins_with head) (drop (place + 1) terms) ≡ all
   run_goes_on is = omega (arith, so_far, prefix_len-drop_yes (begins_with head) terms place no_term lt (there ∙ is))
@@ -79,7 +72,7 @@ module _ (terms : List Term) (json : AreJsonTerms terms) (start : ℕ) (lt : sta
   here = get_or terms start no_term
 
   key_is : here.0 ≡ key
-  key_is = key_at terms start key lt has
+  key_is = key_there terms start key lt has
 
   left_is : left ≡ here ∷ drop (start + 1) terms
   left_is = drop_more terms start no_term lt
@@ -121,10 +114,10 @@ module _ (terms : List Term) (json : AreJsonTerms terms) (start : ℕ) (lt : sta
 
     module _ (first last : TermInfo) (first_is : IsSomeAnd (slice_get terms start) (λ t. t.1 ≡ first)) (last_is : IsSomeAnd (slice_get terms (end - 1)) (λ t. t.1 ≡ last)) where
       first_info : here.1 ≡ first
-      first_info = info_at terms start first lt first_is
+      first_info = info_there terms start first lt first_is
 
       last_info : (get_or terms (end - 1) no_term).1 ≡ last
-      last_info = info_at terms (end - 1) last last_there last_is
+      last_info = info_there terms (end - 1) last last_there last_is
 
       postings_long_together : first.postings_start + sum_by postings_long (take (end - start) left) ≡ last.postings_end
       postings_long_together =

@@ -2,8 +2,7 @@
 use Rattle.std.proofs.Common.{◌≡◌, ℕ, ◌+◌, ◌<◌, ◌≤◌, ◌&&◌, true, false, List, ◌∷◌, length, drop, get_or, sym, ap, ◌∙◌, arith, add-one}
 use Rattle.std.specs.Prelude.{nat_lt, if◌then◌else◌}
 use Rattle.std.specs.List.{list_all}
-use Rattle.std.proofs.lemmas.Bool.{ltb-true}
-use Rattle.std.proofs.lemmas.Bool.Decides.{nat_tests}
+use Rattle.std.proofs.lemmas.Bool.{ltb-true, ltb-false}
 use Rattle.std.proofs.lemmas.List.{at_drop_all, at_drop_more}
 use Rattle.seg_common.specs.declared.term_info.TermInfo.{TermInfo}
 use Rattle.seg_values.specs.declared.schema.FieldKind.{FieldKind}
@@ -12,9 +11,6 @@ use Rattle.seg_termdict.specs.SortedTerms.{RankedTerm}
 use Rattle.seg_termdict.specs.Streaming.{Stream, no_ranked, no_term, current, advanced, ranked_terms}
 use Rattle.seg_termdict.proofs.Exports.{ranked_at, ranked_length, ranked_of}
 use Rattle.seg_postings.specs.TermForms.{has_form, is_formed}
-
-not_less : (n m : ℕ) → nat_lt n m ≡ false → m ≤ n
-not_less n m h = grind (arith, nat_tests)
 
 abbrev one_further : Stream → Stream
 one_further s = record { terms = s.terms; backward = s.backward; taken = s.taken + 1 }
@@ -63,7 +59,7 @@ module _ (terms : List Term) (s : Stream) (of : s.terms ≡ ranked_terms terms) 
     info_is info info_here = info_here ∙ ap (λ (t : RankedTerm TermInfo). t.info) come_to
 
   pub at_end : nat_lt s.taken (length s.terms) ≡ false → length terms ≤ s.taken
-  at_end none = let le : length s.terms ≤ s.taken = not_less _ _ none in omega (arith, le, as_many)
+  at_end none = let le : length s.terms ≤ s.taken = ltb-false _ _ none in omega (arith, le, as_many)
 
   pub formed_ends : nat_lt s.taken (length s.terms) ≡ false → (kind : FieldKind) → list_all (is_formed kind) (drop s.taken terms) ≡ true
   formed_ends none kind = at_drop_all (list_all (is_formed kind)) terms s.taken (at_end none)

@@ -4,18 +4,18 @@ use Rattle.std.specs.Prelude.{is_some, option_map}
 use Rattle.std.specs.List.{AllByRecursion, Any}
 use Rattle.std.proofs.lemmas.Option.{same_Some}
 use Rattle.seg_common.specs.declared.term_info.TermInfo.{TermInfo}
+use Rattle.seg_common.proofs.Lists.{all_at}
 use Rattle.seg_termdict.specs.Dictionary.{Term}
 use Rattle.seg_model.specs.Reading.{Posting}
 use Rattle.seg_postings.specs.Postings.{TermPostings, term_postings}
 use Rattle.seg_postings.specs.FieldReading.{ReadTerm, OpenField, read_term, dictionary_terms, postings_in, IsReadable}
 use Rattle.seg_postings.proofs.FieldRead.{length_of_term}
 use Rattle.seg_postings.proofs.OpenedFields.{dictionary_back}
-use Rattle.seg_postings.proofs.TermsChecked.{at_place}
 
 -- some term has the info, and all can be read
 pub readable_info : (postings positions : List ℕ) (terms : List Term) (info : TermInfo) → AllByRecursion (IsReadable postings positions) terms → Any (λ t. t.1 ≡ info) terms → IsReadable postings positions ([], info)
 readable_info postings positions terms info all (k, t, lt, at, is) =
-    let r : IsReadable postings positions t = subst (IsReadable postings positions) at (at_place (IsReadable postings positions) terms k t all lt) in
+    let r : IsReadable postings positions t = subst (IsReadable postings positions) at (all_at (IsReadable postings positions) terms k t all lt) in
     let e : t.1 ≡ info = is in
     subst (λ (x : TermInfo). IsReadable postings positions ([], x)) e (record { within = r.within; read = r.read; occurs = r.occurs })
 

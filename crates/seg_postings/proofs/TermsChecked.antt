@@ -1,10 +1,11 @@
 -- Terms of a dictionary, checked one by one.
-use Rattle.std.proofs.Common.{◌≡◌, ℕ, zero, suc, ◌+◌, ◌<◌, ◌≤◌, ◌&&◌, Bool, true, false, List, [], ◌∷◌, length, get_or, drop, Option, Some, sym, ap, ◌∙◌, arith, subst, slice_range}
+use Rattle.std.proofs.Common.{◌≡◌, ℕ, ◌+◌, ◌<◌, ◌≤◌, ◌&&◌, Bool, true, false, List, [], length, get_or, drop, Option, Some, sym, ap, ◌∙◌, subst, slice_range}
 use Rattle.std.specs.Prelude.{nat_lt, IsSomeAnd, slice_get}
 use Rattle.std.specs.List.{list_all, AllByRecursion}
 use Rattle.std.proofs.lemmas.List.{at_drop_more, at_drop_all}
 use Rattle.std.proofs.lemmas.Option.{slice_get-get_or}
 use Rattle.seg_common.specs.declared.term_info.TermInfo.{TermInfo}
+use Rattle.seg_common.proofs.Lists.{all_at}
 use Rattle.seg_termdict.specs.Dictionary.{Term}
 use Rattle.seg_postings.specs.declared.record_kind.RecordKind.{RecordKind}
 use Rattle.seg_postings.specs.Postings.{term_postings}
@@ -13,18 +14,12 @@ use Rattle.seg_postings.specs.PostingsLeft.{is_term_of}
 use Rattle.seg_postings.specs.FieldParts.{LiesWithin}
 use Rattle.seg_postings.specs.FieldReading.{FieldRules, kind_by, is_read}
 
--- what holds of each holds at each place
-pub at_place : {X : Type 0} (P : X → Type 0) (xs : List X) (i : ℕ) (d : X) → AllByRecursion P xs → i < length xs → P (get_or xs i d)
-at_place P [] i d all lt = absurd (omega (arith, lt))
-at_place P (x ∷ xs) zero d all lt = all.0
-at_place P (x ∷ xs) (suc i) d all lt = at_place P xs i d all.1 (omega (arith, lt))
-
 -- an info at a place lies within what all lie within
 pub info_within : (m n : ℕ) (terms : List Term) (i : ℕ) (info : TermInfo) → AllByRecursion (LiesWithin m n) terms → i < length terms → IsSomeAnd (slice_get terms i) (λ t. t.1 ≡ info) → LiesWithin m n ([], info)
 info_within m n terms i info all lt has =
     let d : Term = ([], info) in
     let is : (get_or terms i d).1 ≡ info = subst (λ (o : Option Term). IsSomeAnd o (λ t. t.1 ≡ info)) (slice_get-get_or terms i d lt) has in
-    subst (λ (x : TermInfo). LiesWithin m n ([], x)) is (at_place (LiesWithin m n) terms i d all lt)
+    subst (λ (x : TermInfo). LiesWithin m n ([], x)) is (all_at (LiesWithin m n) terms i d all lt)
 
 -- each term is as some test says of its kind and its info
 module _ (rules : FieldRules) (good : RecordKind → TermInfo → Bool) where

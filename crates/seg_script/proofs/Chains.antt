@@ -37,8 +37,3 @@ all-list_of read P holds d xs h =
 pub list_all-true : {A : Type 0} (test : A → Bool) (xs : List A) → AllByRecursion (λ a. test a ≡ true) xs → list_all test xs ≡ true
 list_all-true test [] h = refl
 list_all-true test (x ∷ xs) h = rw (h.0) (list_all-true test xs h.1)
-
--- a weaker fact holds of each
-pub all-weaker : {A : Type 0} (P Q : A → Type 0) → ((a : A) → P a → Q a) → (xs : List A) → AllByRecursion P xs → AllByRecursion Q xs
-all-weaker P Q f [] h = tt
-all-weaker P Q f (x ∷ xs) h = (f x h.0, all-weaker P Q f xs h.1)

@@ -2,10 +2,8 @@
 use Rattle.std.proofs.Common.{◌≡◌, ◌-◌, ◌^◌, List, [], ◌∷◌, length, not, ◌&&◌, Option, Some, None, nat_lt, refl, ap}
 use Rattle.serde_json.specs.Data.{Data}
 use Rattle.seg_values.specs.declared.schema.FieldEntry.{FieldEntry}
-use Rattle.seg_values.specs.declared.schema.FieldKind.{FieldKind}
 use Rattle.seg_values.specs.declared.schema.FieldKind.TheVariants as kind
 use Rattle.seg_values.specs.Distinct.{all_distinct}
-use Rattle.seg_values.specs.Names.{kept_as, kept_entry}
 use Rattle.seg_values.specs.SchemaRules.{same_name}
 use Rattle.seg_meta.specs.MetaRead.{distinct_list}
 use Rattle.seg_meta.specs.Reads.{given, provided, list_of}
@@ -24,18 +22,3 @@ schema_from-is d = by (list_of entry_from d)
         ≡ given o (λ es. provided (all_distinct same_name es && nat_lt (length es) (2 ^ 32 - 1)) (Some es))
     by None = refl
     by (Some es) = ap (λ b. provided (b && nat_lt (length es) (2 ^ 32 - 1)) (Some es)) (are_distinct-is es)
-
--- what is kept of an entry has its name
-kept_as-name : (k : FieldKind) (e : FieldEntry) → (kept_as k e).name ≡ e.name
-kept_as-name kind.Text e = refl
-kept_as-name kind.U64 e = refl
-kept_as-name kind.I64 e = refl
-kept_as-name kind.Bool e = refl
-kept_as-name kind.Date e = refl
-kept_as-name kind.Facet e = refl
-kept_as-name kind.Bytes e = refl
-kept_as-name kind.IpAddr e = refl
-kept_as-name kind.Json e = refl
-
-pub kept_entry-name : (e : FieldEntry) → (kept_entry e).name ≡ e.name
-kept_entry-name e = kept_as-name e.kind e

@@ -5,7 +5,7 @@ pub use Rattle.seg_segment.proofs.FilesOnDisk.{none_on_disk, others_on_disk}
 pub use Rattle.seg_segment.proofs.GivenPostings.{AreGiven, all_given, given_more, has_whole_term, may_begin, may_end, may_take, no_terms, none_given, none_taken}
 pub use Rattle.seg_segment.proofs.KeptFiles.{after_keeps, all_touched, keeps_untouched}
 pub use Rattle.seg_segment.proofs.OneContents.{one, selected}
-pub use Rattle.seg_segment.proofs.OnlyReads.{FindWhole, FindsDamage, OnlyReads, Unchanged, found_whole, reads_both, reads_rose, reads_so, reads_stay, suits_both, whole_both}
+pub use Rattle.seg_segment.proofs.OnlyReads.{FindWhole, FindsDamage, OnlyReads, Unchanged, found_whole, reads_both, reads_rose, reads_so, reads_stay, rose_before, same_state, suits_both, then_same, whole_both}
 pub use Rattle.seg_segment.proofs.ReadLaws.{has_read, is_there, only_six, six_whole}
 pub use Rattle.seg_segment.proofs.SpelledFiles.{held_on, held_spells, stands_there}
 pub use Rattle.seg_segment.proofs.ToldTotals.{told_totals}

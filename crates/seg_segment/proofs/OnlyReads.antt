@@ -48,14 +48,14 @@ pub record Unchanged (a b : DirectoryState) : Type 0 where
   pub tells : b.tells ≡ a.tells
   pub later : a.faults ≤ b.faults
 
-same_state : (a b : DirectoryState) → b ≡ a → Unchanged a b
+pub same_state : (a b : DirectoryState) → b ≡ a → Unchanged a b
 same_state a b same = record {
   files = ap (λ (s : DirectoryState). s.files) same;
   tells = ap (λ (s : DirectoryState). s.tells) same;
   later = subst (λ (s : DirectoryState). a.faults ≤ s.faults) (sym same) (omega arith);
 }
 
-then_same : (a b c : DirectoryState) → Unchanged a b → Unchanged b c → Unchanged a c
+pub then_same : (a b c : DirectoryState) → Unchanged a b → Unchanged b c → Unchanged a c
 then_same a b c h k = record { files = k.files ∙ h.files; tells = k.tells ∙ h.tells; later = omega (arith, h.later, k.later) }
 
 goes_same : (name : FileName) (bytes : List ℕ) (a b : DirectoryState) → Goes (read name bytes) a b → Unchanged a b
@@ -132,7 +132,7 @@ breaks_rose name bytes e a b (failed directory.Missing is fails) at = absurd (cc
 breaks_rose name bytes e a b (failed directory.Exists is fails) at = absurd fails.possible
 breaks_rose name bytes e a b (has_files n is some error goes) at = absurd (cc is)
 
-rose_before : (a b c : ℕ) → a ≤ b → Rose b c → Rose a c
+pub rose_before : (a b c : ℕ) → a ≤ b → Rose b c → Rose a c
 rose_before a b c le rose = omega (arith, le, rose)
 
 on_rose : (T : Type 0) (steps : List Step) (e : TantivyError) (a b : DirectoryState) → OnlyReads steps → e ≡ OpenReadError → GoesOn {T = T} StepGoes StepBreaks OutOfMemory steps (Err e) a b → Rose a.faults b.faults

@@ -4,6 +4,7 @@ use Rattle.std.specs.Prelude.{◌==◌, nat_lt, nat_le}
 use Rattle.std.proofs.lemmas.Bool.{and_left, and_right, lt-ltb, le-leb, lt-leb}
 use Rattle.std.proofs.lemmas.Bool.Decides.{nat_tests}
 use Rattle.seg_common.specs.LittleEndian.{u32_at}
+use Rattle.seg_common.proofs.Numbers.{zero_plus}
 use Rattle.seg_store.specs.Ends.{last_bytes, but_last, numbers_of, cut_from}
 use Rattle.seg_doc_bytes.specs.StoredDocument.{is_stored_document}
 use Rattle.seg_store.specs.Block.{block_count, block_body, documents_in, is_block}
@@ -79,12 +80,9 @@ split_count bytes count body table s =
 abbrev store_test : (count size last total : ℕ) → List ℕ → List ℕ → Bool
 store_test count size last total table body = nat_le (9 + 12 * count) size && ((last == 0) && are_blocks 0 total 0 (checkpoints_of count table) body)
 
-no_sum : (n : ℕ) → 0 + n ≡ n
-no_sum n = omega arith
-
 store_by : (bytes : List ℕ) → is_store bytes ≡ store_test (store_count bytes) (length bytes) (slice_index (footer bytes) 8) (u32_at (footer bytes) 4) (last_bytes (12 * store_count bytes) (but_last 9 bytes)) (store_body bytes)
 unfolding is_store
-store_by bytes = rw (no_sum (document_count (map documents_in (cut_from 0 (map (λ c. c.1) (store_checkpoints bytes)) (store_body bytes))))) refl
+store_by bytes = rw (zero_plus (document_count (map documents_in (cut_from 0 (map (λ c. c.1) (store_checkpoints bytes)) (store_body bytes))))) refl
 
 pub no_store_footer : (bytes : List ℕ) → length bytes < 9 → is_store bytes ≡ false
 no_store_footer bytes lt = store_by bytes ∙ and_left (nat_le (9 + 12 * store_count bytes) (length bytes)) _ (lt-leb (9 + 12 * store_count bytes) (length bytes) (omega (arith, lt)))

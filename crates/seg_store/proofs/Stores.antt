@@ -6,9 +6,9 @@ use Rattle.std.specs.Int.{w32, w64, to_le_bytes}
 use Rattle.std.specs.Str.{bytes_eq}
 use Rattle.std.proofs.lemmas.List.{length-append, drop_at}
 use Rattle.std.proofs.lemmas.Bool.{le-leb, eq-eqb}
-use Rattle.std.proofs.lemmas.Slice.Eq.{bytes_eq-Decides}
 use Rattle.seg_common.specs.LittleEndian.{u32_at, u64_at}
-use Rattle.seg_common.proofs.Bytes.{u32_at-written, u64_at-written}
+use Rattle.seg_common.proofs.Bytes.{u32_at-written, u64_at-written, bytes_are}
+use Rattle.seg_doc_bytes.proofs.Exports.{member_grouped}
 use Rattle.seg_store.specs.declared.checkpoint.Checkpoint.{Checkpoint}
 use Rattle.seg_store.specs.Ends.{are_ends, cut_from, last_bytes, but_last}
 use Rattle.seg_store.specs.Block.{documents_in, is_block}
@@ -90,19 +90,13 @@ pub record AreParts (body : List ℕ) (cs : List Checkpoint) (documents : ℕ) (
   pub few : length cs < 2 ^ 32
   pub small : documents < 2 ^ 32
 
-same-bytes : (xs ys : List ℕ) → xs ≡ ys → bytes_eq xs ys ≡ true
-same-bytes xs ys e = (bytes_eq-Decides xs ys).1 e
-
-grouped : (a b c d : List ℕ) → ((a ++ b) ++ c) ++ d ≡ a ++ (b ++ (c ++ d))
-grouped a b c d = simp append_assoc
-
 pub store_read : (body : List ℕ) (cs : List Checkpoint) (documents : ℕ) (parts : List (List ℕ)) → AreParts body cs documents parts → store_of (store_form body cs documents) ≡ Some (map documents_in parts)
 store_read body cs documents parts are =
     let n = length cs in
     let table = flat_map checkpoint_form cs in
     let foot : List ℕ = to_le_bytes w32 n ++ (to_le_bytes w32 documents ++ 0 ∷ []) in
     let all : List ℕ = store_form body cs documents in
-    let split : all ≡ (body ++ table) ++ foot = grouped (body ++ table) (to_le_bytes w32 n) (to_le_bytes w32 documents) (0 ∷ []) in
+    let split : all ≡ (body ++ table) ++ foot = member_grouped (body ++ table) (to_le_bytes w32 n) (to_le_bytes w32 documents) (0 ∷ []) in
     let nine : length foot ≡ 9 = refl in
     let room : length table ≡ 12 * n = length-checkpoints cs in
     let foot_is : footer all ≡ foot = ap (last_bytes 9) split ∙ last-appended (body ++ table) foot 9 (sym nine) in
@@ -121,7 +115,7 @@ store_read body cs documents parts are =
     let ends : are_ends 0 (length body) (byte_ends (map pair_of cs)) ≡ true = ap (are_ends 0 (length body)) (seconds cs) ∙ are.ends in
     let blocks : list_all is_block (cut_from 0 (byte_ends (map pair_of cs)) body) ≡ true = ap (list_all is_block) cut ∙ are.blocks in
     let read : map documents_in (cut_from 0 (byte_ends (map pair_of cs)) body) ≡ map documents_in parts = ap (map documents_in) cut in
-    let ids : bytes_eq (counts (map pair_of cs)) (id_ends 0 (map documents_in (cut_from 0 (byte_ends (map pair_of cs)) body))) ≡ true = same-bytes _ _ (firsts cs ∙ are.ids ∙ ap (id_ends 0) (sym read)) in
+    let ids : bytes_eq (counts (map pair_of cs)) (id_ends 0 (map documents_in (cut_from 0 (byte_ends (map pair_of cs)) body))) ≡ true = bytes_are _ _ (firsts cs ∙ are.ids ∙ ap (id_ends 0) (sym read)) in
     let number : (documents == document_count (map documents_in (cut_from 0 (byte_ends (map pair_of cs)) body))) ≡ true = eq-eqb _ _ (are.count ∙ ap document_count (sym read)) in
     let by : store_test (store_count all) (length all) (slice_index (footer all) 8) (u32_at (footer all) 4) (store_body all) (store_checkpoints all) ≡ store_test n (length all) 0 documents body (map pair_of cs) = λ i. store_test (count i) (length all) (last i) (total i) (body_is i) (cs_are i) in
     let good : is_store all ≡ true = store_by all ∙ by ∙ all-true (le-leb (9 + 12 * n) (length all) size) ends blocks ids number in

@@ -48,7 +48,7 @@ are_taken_last document w =
 
 -- ---- blocks that are stacked
 
-last_size : (b : Block) → block_bytes (last_block b) ≡ byte_count b
+pub last_size : (b : Block) → block_bytes (last_block b) ≡ byte_count b
 last_size [] = refl
 last_size (d ∷ ds) = omega arith
 

@@ -9,10 +9,11 @@ use Rattle.std.specs.declared.ops.Bound.{Bound}
 use Rattle.std.specs.declared.ops.Bound.TheVariants.{Included, Excluded}
 use Rattle.std.proofs.lemmas.Bool.{cases_lt, false≢true}
 use Rattle.std.proofs.lemmas.Cmp.{nat_list_cmp_total}
+use Rattle.seg_common.proofs.Bytes.{same_term}
 use Rattle.seg_termdict.specs.SortedTerms.{is_from}
 use Rattle.seg_termdict.specs.Dictionary.{Term, key_of, AreKeys}
 use Rattle.seg_termdict.specs.Ranges.{comes_before, key_at, IsCut}
-use Rattle.seg_termdict.proofs.KeyOrder.{rising, same_keys}
+use Rattle.seg_termdict.proofs.KeyOrder.{rising}
 
 less_before : (through : Bool) (bound a : List ℕ) → slice_cmp nat_cmp a bound ≡ Less → comes_before through bound a ≡ true
 less_before false bound a h = ap is_lt h
@@ -28,7 +29,7 @@ module _ (through : Bool) (bound a b : List ℕ) (less : slice_cmp nat_cmp a b �
     where
       by : (r : Ordering) → slice_cmp nat_cmp b bound ≡ r → comes_before through bound a ≡ true
       by Less e = less_before through bound a (nat_list_cmp_total.trans a b bound less e)
-      by Equal e = less_before through bound a (subst (λ (k : List ℕ). slice_cmp nat_cmp a k ≡ Less) (same_keys b bound e) less)
+      by Equal e = less_before through bound a (subst (λ (k : List ℕ). slice_cmp nat_cmp a k ≡ Less) (same_term b bound e) less)
       by Greater e = absurd (false≢true (sym (greater_behind through bound b e) ∙ h))
 
   higher_behind : comes_before through bound a ≡ false → comes_before through bound b ≡ false

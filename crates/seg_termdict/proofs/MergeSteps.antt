@@ -16,11 +16,11 @@ use Rattle.std.proofs.lemmas.Map.Text.{is_eq-slice_cmp}
 use Rattle.std.proofs.lemmas.Slice.Eq.{bytes_eq-Decides}
 use Rattle.seg_common.proofs.Tables.{texts_apart}
 use Rattle.seg_common.specs.declared.term_info.TermInfo.{TermInfo}
+use Rattle.seg_common.proofs.Bytes.{same_term}
 use Rattle.seg_termdict.specs.SortedTerms.{RankedTerm, SortedTerms, key_cmp}
 use Rattle.seg_termdict.specs.MergedTerms.{Standing, standing_in, standings_from, if_stands, keys_in, merged_terms}
 use Rattle.seg_termdict.proofs.MergedTerms.{merged_terms_answer}
 use Rattle.seg_termdict.specs.Merging.{MergedTerm, Ascends, first, first_with, behind, standing_first, standings_first, NotBelow}
-use Rattle.seg_termdict.proofs.KeyOrder.{same_keys}
 
 -- ---- keys
 
@@ -29,7 +29,7 @@ at_most_then_less a b c le less = by (key_cmp a b) refl
   where
     by : (o : Ordering) → key_cmp a b ≡ o → key_cmp a c ≡ Less
     by Less e = nat_list_cmp_total.trans a b c e less
-    by Equal e = subst (λ (k : List ℕ). key_cmp k c ≡ Less) (sym (same_keys a b e)) less
+    by Equal e = subst (λ (k : List ℕ). key_cmp k c ≡ Less) (sym (same_term a b e)) less
     by Greater e = absurd (false≢true (sym (ap is_le e) ∙ le))
 
 pub differs : (a b : List ℕ) → key_cmp a b ≡ Less → bytes_eq a b ≡ false

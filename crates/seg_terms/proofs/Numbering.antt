@@ -6,7 +6,7 @@ use Rattle.std.specs.List.{list_any, position}
 use Rattle.std.specs.Str.{bytes_eq}
 use Rattle.std.specs.Map.{lookup}
 use Rattle.std.specs.FinMap.{get}
-use Rattle.std.proofs.lemmas.Bool.{false≢true}
+use Rattle.std.proofs.lemmas.Bool.{false≢true, or_parts}
 use Rattle.std.proofs.lemmas.Bool.Decides.{Decides-eqb}
 use Rattle.std.proofs.lemmas.List.{length_push}
 use Rattle.std.proofs.lemmas.List.Quantifiers.{position-Some}
@@ -143,14 +143,10 @@ lookup-added first (suc n) (k ∷ ks) hits h bs q at is =
 
 -- ---- one more key
 
-both_false : (a b : Bool) → (a || b) ≡ false → (a ≡ false) × (b ≡ false)
-both_false true b e = absurd (false≢true (sym e))
-both_false false b e = (refl, e)
-
 IsFirstAt-push : (bs : List ℕ) (keys : List (List ℕ)) → list_any (bytes_eq bs) keys ≡ false
     → IsFirstAt bs (length keys) (keys ++ bs ∷ [])
 IsFirstAt-push bs [] none = (bytes_decides bs bs).1 refl
-IsFirstAt-push bs (k ∷ ks) none = let both = both_false (bytes_eq bs k) (list_any (bytes_eq bs) ks) none in
+IsFirstAt-push bs (k ∷ ks) none = let both = or_parts (bytes_eq bs k) (list_any (bytes_eq bs) ks) none in
     (both.0, IsFirstAt-push bs ks both.1)
 
 numbered_from-push : (first count : ℕ) (keys : List (List ℕ)) (hits : List NumberedHit) (bs : List ℕ)
@@ -324,9 +320,9 @@ key_number-there keys bs n is =
 none_at : (keys : List (List ℕ)) (bs : List ℕ) (k : ℕ) → list_any (bytes_eq bs) keys ≡ false → k < length keys
     → bytes_eq bs (get_or keys k []) ≡ false
 none_at [] bs k none lt = absurd (omega (arith, lt))
-none_at (x ∷ xs) bs zero none lt = (both_false (bytes_eq bs x) (list_any (bytes_eq bs) xs) none).0
+none_at (x ∷ xs) bs zero none lt = (or_parts (bytes_eq bs x) (list_any (bytes_eq bs) xs) none).0
 none_at (x ∷ xs) bs (suc k) none lt =
-    none_at xs bs k (both_false (bytes_eq bs x) (list_any (bytes_eq bs) xs) none).1 (omega (arith, lt))
+    none_at xs bs k (or_parts (bytes_eq bs x) (list_any (bytes_eq bs) xs) none).1 (omega (arith, lt))
 
 pub key_number-new : (keys : List (List ℕ)) (bs : List ℕ) → list_any (bytes_eq bs) keys ≡ false
     → key_number keys bs ≡ length keys

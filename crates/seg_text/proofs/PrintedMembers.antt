@@ -1,14 +1,14 @@
 -- Members that are printed as they come, since each key is above the one before.
-use Rattle.std.proofs.Common.{◌≡◌, ◌≤◌, ◌<◌, ℕ, ◌+◌, ◌-◌, Bool, true, false, List, [], ◌∷◌, ◌++◌, Some, Ordering, Less, Equal, Greater, nat_cmp, refl, sym, ap, ◌∙◌, append_assoc, append-nil}
-use Rattle.std.proofs.lemmas.Bool.{false≢true}
+use Rattle.std.proofs.Common.{◌≡◌, ◌≤◌, ◌<◌, ℕ, ◌+◌, ◌-◌, Bool, true, false, List, [], ◌∷◌, ◌++◌, Some, Less, Greater, nat_cmp, refl, sym, ap, ◌∙◌, append_assoc, append-nil}
 use Rattle.std.proofs.lemmas.Cmp.{nat_list_cmp_total}
 use Rattle.std.specs.Cmp.Lexicographic.{slice_cmp}
-use Rattle.std.specs.Ordering.{is_lt, ordering_reverse}
+use Rattle.std.specs.Ordering.{ordering_reverse}
 use Rattle.json.specs.Print.{quoted}
 use Rattle.serde_json.specs.Data as json
 use Rattle.serde_json.specs.Data.{put}
 use Rattle.serde_json.specs.Written.{comma_if, compact_text, members_text}
 use Rattle.seg_common.specs.Varint.{varint_at}
+use Rattle.seg_common.proofs.Numbers.{is_less}
 use Rattle.seg_doc_bytes.specs.Reader.{Reader, counted_at, text_at}
 use Rattle.seg_doc_bytes.specs.StoredTree.{member_at}
 use Rattle.seg_doc_bytes.proofs.Exports.{Gathered, none_yet, one_more, all_made, counted, member_made}
@@ -41,11 +41,6 @@ put_behind before (m ∷ ms) k t = put_behind (put m.0 (value_json m.1) before) 
 below_next : (ms : List (List ℕ × Tree)) (key k : List ℕ) (t : Tree) → AreBelow key ms → slice_cmp nat_cmp key k ≡ Less → AreBelow k (ms ++ (key, t) ∷ [])
 below_next [] key k t below less = (less, tt)
 below_next (m ∷ ms) key k t below less = (nat_list_cmp_total.trans m.0 key k below.0 less, below_next ms key k t below.1 less)
-
-less_by : (o : Ordering) → is_lt o ≡ true → o ≡ Less
-less_by Less h = refl
-less_by Equal h = absurd (false≢true h)
-less_by Greater h = absurd (false≢true h)
 
 -- some were printed after `before`, and this many are left
 pub record MembersPrinted (inner : Reader Tree) (count : ℕ) (old : List ℕ) (left : ℕ) (now before out : List ℕ) (later : Bool) (last : List ℕ) : Type 0 where
@@ -87,7 +82,7 @@ one_member inner count old i now left next before out a b c after key last later
           ap (λ ys. before ++ members_text false (members_listed ys)) (append_assoc ms ((key, t) ∷ []) xs) ∙ s.so_far ((key, t) ∷ xs) ∙ sym spelled;
       grown = more_then before out after s.grown (more_by out after (comma_if later ++ (quoted key ++ 58 ∷ compact_text (value_json t))) split);
       ordered = put_behind json.no_members ms key t ∙ ap (put key (value_json t)) s.ordered ∙ put_last ms key t (s.below key follows);
-      below = λ k h. below_next ms key k t (s.below key follows) (less_by (slice_cmp nat_cmp key k) h);
+      below = λ k h. below_next ms key k t (s.below key follows) (is_less (slice_cmp nat_cmp key k) h);
     }
 
 -- one whose value was given up

@@ -16,7 +16,7 @@ use Rattle.seg_tokens.specs.Registered.{item_named, Registers}
 apart : (a b c : List ℕ) → a ≡ b → bytes_eq b c ≡ false → bytes_eq a c ≡ false
 apart a b c e n = ap (λ x. bytes_eq x c) e ∙ n
 
-option_or-None : {X : Type 0} (o : Option X) → option_or o None ≡ o
+pub option_or-None : {X : Type 0} (o : Option X) → option_or o None ≡ o
 option_or-None None = refl
 option_or-None (Some x) = refl
 

@@ -18,7 +18,7 @@ use Rattle.seg_segment.specs.SegmentRead.{IsNoDamage, IsReadError}
 use Rattle.seg_index_build.specs.Builds.{IsWhyUntold}
 use Rattle.seg_index_build.specs.IndexFiles.{IsMergedIndexOf, IsOutputIndexOf, IsWorkIndexOf}
 use Rattle.seg_index_build.specs.Turns.{Directories, goes_on, stops}
-use Rattle.seg_index_build.proofs.Exports.{IsBuildError, RoseIn, build_error}
+use Rattle.seg_index_build.proofs.Exports.{IsBuildError, RoseIn, build_error, read_unrefused}
 use Rattle.seg_tool.specs.Jobs.{AreEmpty, Built, BuildsText, NotBuilt}
 use Rattle.seg_tool.specs.Printing.{opening}
 use Rattle.seg_tool.specs.ReadingBack.{PrintsIndex}
@@ -35,18 +35,6 @@ rose_between : (a b c d : ℕ) → a ≤ b → Rose b c → c ≤ d → Rose a d
 rose_between a b c d first rose last = omega (arith, first, rose, last)
 
 -- ---- errors of reading
-
-read_refuses : (P : TantivyError → Type 0) (e : TantivyError) → IsReadError e → IfRefusal P e
-read_refuses P (DataCorruption name) h = tt
-read_refuses P OpenReadError h = tt
-read_refuses P OutOfMemory h = tt
-read_refuses P (SchemaError cause) h = absurd h
-read_refuses P (InvalidArgument cause) h = absurd h
-read_refuses P IndexAlreadyExists h = absurd h
-read_refuses P OpenWriteError h = absurd h
-read_refuses P IoError h = absurd h
-read_refuses P SystemError h = absurd h
-read_refuses P FieldNotFound h = absurd h
 
 pub read_exists : (e : TantivyError) → IsReadError e → e ≢ IndexAlreadyExists
 read_exists e h is = subst IsReadError is h
@@ -179,14 +167,14 @@ module _ (known : Known) (analyzer : Analyzer) (input : Input) (detail : Detail)
     pub not_refused : IsTrue a.work.tells → IsTrue a.output.tells → NotPrinted e a b → IfRefusal (λ x. build_refusal known analyzer input ≡ Some x) e
     not_refused told told_out h = elim (reads_so told told_out h) [
       | inl built ↦ built.refused told
-      | inr so ↦ read_refuses (λ x. build_refusal known analyzer input ≡ Some x) e so.0
+      | inr so ↦ read_unrefused (λ x. build_refusal known analyzer input ≡ Some x) e so.0
     ]
 
     -- why it is refused where they need not tell
     pub not_untold : NotPrinted e a b → IfRefusal (IsWhyUntold known analyzer input) e
     not_untold h = elim (ends_so h) [
       | inl built ↦ built.untold
-      | inr so ↦ read_refuses (IsWhyUntold known analyzer input) e so
+      | inr so ↦ read_unrefused (IsWhyUntold known analyzer input) e so
     ]
 
     pub not_fresh : AreEmpty a → NotPrinted e a b → e ≢ IndexAlreadyExists

@@ -23,7 +23,7 @@ use Rattle.seg_model.specs.Fields.{Schema}
 use Rattle.seg_segment.specs.Forms.{segment_forms}
 use Rattle.seg_segment.specs.HoldsAlive.{HoldsAlive}
 use Rattle.seg_segment.specs.SegmentRead.{IsNoDamage, IsReadError}
-use Rattle.seg_segment.proofs.Exports.{FindWhole, FindsDamage, OnlyReads, Unchanged, found_whole, reads_rose, reads_so, reads_stay}
+use Rattle.seg_segment.proofs.Exports.{FindWhole, FindsDamage, OnlyReads, Unchanged, found_whole, reads_rose, reads_so, reads_stay, then_same}
 use Rattle.seg_open.specs.OpenSegment.{OpenSegment}
 use Rattle.seg_open.specs.SegmentOpened.{Asked, OpensSegments}
 use Rattle.seg_open.proofs.Exports.{EachRead, HoldsMarks as HoldsRead, IsHeld, IsOf, Whole, segments_held, segments_of_schema, segments_rose, segments_so, segments_stay, segments_undamaged}
@@ -34,9 +34,6 @@ use Rattle.seg_tool.specs.ReadingBack.{PrintsIndex, ReadsText, all_of, fails, li
 use Rattle.seg_tool.specs.declared.words.Detail.{Detail}
 
 -- ---- two stretches in which no file changes
-
-pub then_same : (a b c : DirectoryState) → Unchanged a b → Unchanged b c → Unchanged a c
-then_same a b c h k = record { files = k.files ∙ h.files; tells = k.tells ∙ h.tells; later = omega (arith, h.later, k.later) }
 
 pub tells_on : (a b : DirectoryState) → Unchanged a b → IsTrue a.tells → IsTrue b.tells
 tells_on a b same told = subst (λ t. IsTrue t) (sym same.tells) told

@@ -19,7 +19,7 @@ use Rattle.seg_model.specs.Fields.{Schema}
 use Rattle.seg_model.specs.Valid.{settings_fit}
 use Rattle.seg_segment.specs.Forms.{segment_forms}
 use Rattle.seg_segment.specs.SegmentRead.{IsNoDamage}
-use Rattle.seg_segment.proofs.Exports.{Unchanged}
+use Rattle.seg_segment.proofs.Exports.{Unchanged, rose_before}
 use Rattle.seg_merger.specs.Merger.{all_fit}
 use Rattle.seg_open.specs.OpenSegment.{OpenSegment}
 use Rattle.seg_index_build.specs.MergeAnswers.{AllHaveHeld, CanBeMerged, LiveAreWhole}
@@ -156,9 +156,6 @@ module _ (a m : DirectoryState) (told : IsTrue a.tells) (has : HasWholeLiveSegme
       subst (λ (files : NamedFiles). LiveAreWhole files (listed_in metas)) (sym same_files.files)
       (live_whole metas.schema a.files metas.segments
       (subst (λ (x : Meta). AllByRecursion (λ (s : ListedSegment). is_live s ≡ true → index.IsWhole segment_forms a.files x.schema s) x.segments) meta_is has.whole))
-
-rose_before : (a b c : ℕ) → a ≤ b → Rose b c → Rose a c
-rose_before a b c before rose = omega (arith, before, rose)
 
 -- ---- no file is found in an empty output directory
 

@@ -3,8 +3,7 @@ use Rattle.std.proofs.Common.{◌≡◌, ℕ, zero, suc, ◌+◌, ◌<◌, ◌�
 use Rattle.std.specs.Prelude.{Any, Bool, IsSomeAnd, count_by, is_some, nat_lt, if◌then◌else◌, replicate, unwrap_or, Result, OnOk}
 use Rattle.std.specs.FinMap.{entries}
 use Rattle.std.specs.List.{slice_get, slice_index_or, enumerate_from, flat_map, AllByRecursion}
-use Rattle.std.proofs.lemmas.Bool.{ltb-true}
-use Rattle.std.proofs.lemmas.Bool.Decides.{nat_tests}
+use Rattle.std.proofs.lemmas.Bool.{ltb-true, ltb-false}
 use Rattle.std.proofs.lemmas.List.{append-nil, drop_all, length-map}
 use Rattle.std.proofs.lemmas.Option.{same_Some}
 use Rattle.std.proofs.lemmas.Result.{on_ok_weaker}
@@ -84,9 +83,6 @@ index_as [] i d = refl
 index_as (x ∷ xs) zero d = refl
 index_as (x ∷ xs) (suc i) d = index_as xs i d
 
-not_less : (n m : ℕ) → nat_lt n m ≡ false → m ≤ n
-not_less n m h = grind (arith, nat_tests)
-
 abbrev pub one_further : Stream → Stream
 one_further s = record { terms = s.terms; backward = s.backward; taken = s.taken + 1 }
 
@@ -133,7 +129,7 @@ module _ (f : OpenField) (s after : Stream) (of : s.terms ≡ ranked_terms (dict
 pub terms_done : (f : OpenField) (s : Stream) → s.terms ≡ ranked_terms (dictionary_terms f) → nat_lt s.taken (length s.terms) ≡ false → (before all : List ℕ)
     → before ++ flat_map term_line (map pair_of (drop s.taken f.terms)) ≡ all → before ≡ all
 terms_done f s of done before all is =
-    let le : length s.terms ≤ s.taken = not_less s.taken (length s.terms) done in
+    let le : length s.terms ≤ s.taken = ltb-false s.taken (length s.terms) done in
     let none : drop s.taken f.terms ≡ [] = drop_all s.taken f.terms (omega (arith, le, ap length of, ranked_length (dictionary_terms f), length-map f.terms term_of)) in
     sym (append-nil before) ∙ ap (λ (ts : List ReadTerm). before ++ flat_map term_line (map pair_of ts)) (sym none) ∙ is
 

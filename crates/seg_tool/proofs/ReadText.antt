@@ -1,14 +1,13 @@
 -- The text of the indexes of an input, where the directories tell their files.
-use Rattle.std.proofs.Common.{◌≡◌, ◌∙◌, ℕ, ◌-◌, suc, List, [], ◌∷◌, ◌++◌, take, drop, length, map, Bool, true, false, cond, Option, None, Some, refl, sym, ap, subst, codes}
+use Rattle.std.proofs.Common.{◌≡◌, ◌∙◌, ℕ, ◌-◌, List, [], ◌∷◌, ◌++◌, take, drop, length, map, Bool, true, false, cond, Option, None, Some, refl, sym, ap, subst, codes}
 use Rattle.std.specs.Prelude.{not, replicate, unwrap_or}
 use Rattle.std.specs.List.{AllByRecursion, count_by, list_all}
 use Rattle.std.specs.FinMap.{empty}
-use Rattle.std.proofs.lemmas.Bool.{false≢true}
 use Rattle.std.proofs.lemmas.List.{append-nil}
 use Rattle.std.proofs.lemmas.Option.{same_Some}
+use Rattle.seg_common.proofs.Lists.{all_marked}
 use Rattle.seg_values.specs.Tree.{Document}
 use Rattle.seg_directory.specs.Files.{NamedFiles}
-use Rattle.seg_bits.specs.BitSets.{set_of}
 use Rattle.seg_meta.specs.IndexOfFiles as index
 use Rattle.seg_meta.specs.IndexOfFiles.{Deletes, ListedSegment, Meta}
 use Rattle.seg_meta.specs.View.{meta_of}
@@ -18,15 +17,16 @@ use Rattle.seg_model.specs.Contents.{Contents, full_reading, reading_part}
 use Rattle.seg_model.specs.Fields.{Schema, Analyzer}
 use Rattle.seg_model.specs.Input.{Input, input_batches, input_survivors}
 use Rattle.seg_model.specs.Norms.{all_norms}
-use Rattle.seg_model.specs.Operations.{Batch, Operation, add, additions, alive_after, batches_from, delete, delete_all}
+use Rattle.seg_model.specs.Operations.{Batch, Operation, batches_from}
 use Rattle.seg_model.proofs.Exports.{was_read}
 use Rattle.seg_segment.specs.Forms.{segment_forms}
-use Rattle.seg_segment.specs.HoldsAlive.{HoldsAlive}
 use Rattle.seg_segment.specs.Laws.{HoldsOneContents}
 use Rattle.seg_open.specs.OpenSegment.{OpenSegment, contents_of}
 use Rattle.seg_batches.specs.Segments.{AllStand, AllTellAlive, TellsAlive, all_listed, deletes_of, segment_of, segments_of}
+use Rattle.seg_batches.proofs.Exports.{length-alive_after}
 use Rattle.seg_index_build.specs.IndexFiles.{IsOutputIndexOf, IsWorkIndexOf, output_id, undeleted, work_ids}
 use Rattle.seg_index_build.specs.MergeAnswers.{HoldsMarks}
+use Rattle.seg_index_build.proofs.Exports.{one_set, counts}
 use Rattle.seg_tool.specs.Indexes.{AreReadOf, IsPrinted, IsReadOf}
 use Rattle.seg_tool.specs.Printing.{opening, printed_text, read_segment_text, read_texts}
 use Rattle.seg_tool.specs.Run.{build_text, documents_text, output_text, segment, work_text}
@@ -60,13 +60,6 @@ module _ (detail : Detail) (label : List ℕ) where
 abbrev IsCounted : Batch → Type 0
 IsCounted b = length b.alive ≡ length b.documents
 
-length-alive_after : (schema : Schema) (analyzer : Analyzer) (operations after : List Operation)
-    → length (alive_after schema analyzer operations after) ≡ length (additions operations)
-length-alive_after schema analyzer [] after = refl
-length-alive_after schema analyzer (add document ∷ operations) after = ap (λ n. suc n) (length-alive_after schema analyzer operations after)
-length-alive_after schema analyzer (delete term ∷ operations) after = length-alive_after schema analyzer operations after
-length-alive_after schema analyzer (delete_all terms ∷ operations) after = length-alive_after schema analyzer operations after
-
 batches_counted : (schema : Schema) (analyzer : Analyzer) (from : ℕ) (cuts : List ℕ) (operations : List Operation)
     → AllByRecursion IsCounted (batches_from schema analyzer from cuts operations)
 batches_counted schema analyzer from [] operations = (length-alive_after schema analyzer operations [], tt)
@@ -74,17 +67,6 @@ batches_counted schema analyzer from (cut ∷ cuts) operations = (
   length-alive_after schema analyzer (take (cut - from) operations) (drop (cut - from) operations),
   batches_counted schema analyzer cut cuts (drop (cut - from) operations),
 )
-
-all_marked : (alive : List Bool) → list_all (λ b. b) alive ≡ true → alive ≡ replicate (length alive) true
-all_marked [] h = refl
-all_marked (true ∷ bs) h = ap (λ l. true ∷ l) (all_marked bs h)
-all_marked (false ∷ bs) h = absurd (false≢true h)
-
--- an alive file tells one set
-one_set : (files : NamedFiles) (id stamp documents : ℕ) (bs cs : List Bool) → HoldsAlive files id stamp documents bs
-    → HoldsAlive files id stamp documents cs → bs ≡ cs
-one_set files id stamp documents bs cs h k =
-    same_Some bs cs (sym h.set ∙ ap set_of (same_Some h.file k.file (sym h.there ∙ k.there)) ∙ k.set)
 
 module _ (files : NamedFiles) (stamp id documents : ℕ) (alive read : List Bool) (counted : length alive ≡ documents) where
   abbrev removed : Deletes
@@ -173,11 +155,6 @@ module _ (law : HoldsOneContents) (detail : Detail) (analyzer : Analyzer) (input
       ∙ ap (λ xs. xs ++ output_text detail input.schema analyzer (output_id input.ids) (input_survivors analyzer input)) (work_read (opening detail) work_files work p is)
 
 -- ---- segments that stand for documents are whole
-
-counts : (schema : Schema) (analyzer : Analyzer) (documents : List Document) (contents : Contents)
-    → full_reading schema analyzer documents ≡ Some contents → contents.documents ≡ length documents
-counts schema analyzer documents contents is =
-    ap (λ (c : Contents). c.documents) (was_read schema analyzer documents contents is).is_reading
 
 module _ (schema : Schema) (analyzer : Analyzer) (files : NamedFiles) where
   agrees : (stamp id : ℕ) (batch : Batch) (t : Bool) → IsCounted batch

@@ -1,16 +1,15 @@
 -- The printing of an index changes no image.
-use Rattle.std.proofs.Common.{ℕ, List, [], ◌∷◌, ◌++◌, Option, Some, None, Result, Ok, Err, IsTrue}
+use Rattle.std.proofs.Common.{ℕ, List, [], ◌∷◌, ◌++◌, Result, Ok, Err, IsTrue}
 use Rattle.seg_values.specs.declared.error.TantivyError.{TantivyError}
 use Rattle.seg_directory.proofs.Exports.{AllCalls, OnlyReads, keeps_disk, turns_kept, turns_on}
 use Rattle.seg_directory.specs.DiskChanges.{KeepsDisk}
 use Rattle.seg_directory.specs.State.{DirectoryState}
 use Rattle.seg_directory.specs.Works.{Step, calls, passes}
-use Rattle.seg_meta.specs.IndexOfFiles.{Deletes}
 use Rattle.seg_meta.specs.MetaSteps.{LoadsMetas, load_steps}
-use Rattle.seg_meta.specs.Metas.{SegmentParts}
 use Rattle.seg_meta.specs.declared.index_meta.IndexMeta.{IndexMeta}
 use Rattle.seg_open.specs.OpenSegment.{OpenSegment}
-use Rattle.seg_open.specs.SegmentOpened.{Asked, Found, OpensSegments, alive_steps, all_steps, segment_steps}
+use Rattle.seg_open.specs.SegmentOpened.{Asked, Found, OpensSegments, all_steps, segment_steps}
+use Rattle.seg_open.proofs.Exports.{segment_only}
 use Rattle.seg_tool.specs.ReadingBack.{PrintsIndex, ReadsText, all_of, fails, listed_in, loaded, not_loaded, reads}
 use Rattle.seg_tool.specs.declared.words.Detail.{Detail}
 
@@ -20,13 +19,6 @@ all_on : (xs ys : List Step) → AllCalls OnlyReads xs → AllCalls OnlyReads ys
 all_on [] ys first next = next
 all_on (calls call ∷ xs) ys first next = (first.0, all_on xs ys first.1 next)
 all_on (passes refusal ∷ xs) ys first next = all_on xs ys first next
-
-alive_only : (id documents : ℕ) (deletes : Option Deletes) (bytes : List ℕ) → AllCalls OnlyReads (alive_steps id documents deletes bytes)
-alive_only id documents None bytes = tt
-alive_only id documents (Some d) bytes = (tt, tt)
-
-segment_only : (s : SegmentParts) (found : Found) → AllCalls OnlyReads (segment_steps s found)
-segment_only s found = (tt, (tt, (tt, (tt, (tt, (tt, alive_only s.meta.id s.meta.documents s.meta.deletes found.alive_file))))))
 
 segments_only : (asked : List Asked) (found : List Found) → AllCalls OnlyReads (all_steps asked found)
 segments_only [] found = tt

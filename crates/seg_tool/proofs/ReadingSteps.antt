@@ -1,5 +1,5 @@
 -- The reading and printing of an index, step by step.
-use Rattle.std.proofs.Common.{◌≡◌, ◌≤◌, ◌∙◌, ℕ, zero, suc, ◌+◌, List, [], ◌∷◌, ◌++◌, Option, Some, None, Result, Ok, Err, refl, sym, ap, subst, inl, inr, map, take, length, append_assoc, arith}
+use Rattle.std.proofs.Common.{◌≡◌, ◌≤◌, ◌∙◌, ℕ, zero, suc, ◌+◌, List, [], ◌∷◌, ◌++◌, Option, Some, Result, Ok, Err, refl, sym, ap, subst, take, length, append_assoc, arith}
 use Rattle.std.specs.List.{slice_get}
 use Rattle.std.specs.Option.{option_map}
 use Rattle.std.proofs.lemmas.List.{append-nil, length-map, take_all}
@@ -7,58 +7,23 @@ use Rattle.std.proofs.lemmas.Option.{none-some}
 use Rattle.seg_values.specs.declared.error.TantivyError.{TantivyError}
 use Rattle.seg_values.specs.declared.error.TantivyError.TheVariants.{OutOfMemory}
 use Rattle.seg_directory.proofs.Exports.{does_nothing}
-use Rattle.seg_directory.specs.Does.{GoesOn}
 use Rattle.seg_directory.specs.State.{DirectoryState}
-use Rattle.seg_directory.specs.Works.{Step, StepBreaks, StepGoes, Works}
 use Rattle.seg_meta.specs.MetaSteps.{LoadsMetas, load_steps}
 use Rattle.seg_meta.specs.Metas.{SegmentParts}
 use Rattle.seg_meta.specs.declared.index_meta.IndexMeta.{IndexMeta}
 use Rattle.seg_open.specs.OpenSegment.{OpenSegment}
-use Rattle.seg_open.specs.SegmentOpened.{AreFound, Asked, Found, Opens, OpensSegments, all_steps, segment_steps}
-use Rattle.seg_open.proofs.Exports.{none_yet, opens_turn, stops_turn}
+use Rattle.seg_open.specs.SegmentOpened.{Asked, Opens, OpensSegments, segment_steps}
+use Rattle.seg_open.proofs.Exports.{none_yet, opens_turn, stops_turn, starves_after}
+use Rattle.seg_index_build.proofs.Exports.{starved}
 use Rattle.seg_tool.specs.Printing.{read_segment_text, read_texts}
 use Rattle.seg_tool.specs.ReadingBack.{PrintsIndex, ReadsText, all_of, all_of_one, fails, listed_in, loaded, not_loaded, reads}
 use Rattle.seg_tool.specs.declared.words.Detail.{Detail}
 
 -- ---- memory runs out
 
-starves_on : (T U : Type 0) (steps : List Step) (x : T) (a b : DirectoryState)
-    → GoesOn {T = T} StepGoes StepBreaks OutOfMemory steps (Ok x) a b
-    → GoesOn {T = U} StepGoes StepBreaks OutOfMemory steps (Err OutOfMemory) a b
-starves_on T U [] x a b h = (h.0, refl)
-starves_on T U (step ∷ steps) x a b (inl w) = inl (w.0, w.1, starves_on T U steps x w.0 b w.2)
-starves_on T U (step ∷ steps) x a b (inr no_error) = absurd no_error
-
--- after steps that all went well
-starves_after : {T U : Type 0} {steps : List Step} {x : T} {a b : DirectoryState}
-    → Works {T = T} steps (Ok x) a b → Works {T = U} steps (Err OutOfMemory) a b
-starves_after works = record { on = starves_on _ _ _ _ _ _ works.on }
-
 -- once a segment is open
 pub starved_open : (x : Asked) (s : OpenSegment) (a b : DirectoryState) → Opens x (Ok s) a b → Opens x (Err OutOfMemory) a b
 starved_open x s a b h = record { found = h.found; damaged = h.damaged; works = starves_after h.works; is = tt }
-
--- once all segments are
-pub starved_all : (asked : List Asked) (opened : List OpenSegment) (a b : DirectoryState)
-    → OpensSegments asked (Ok opened) a b → OpensSegments asked (Err OutOfMemory) a b
-starved_all asked opened a b h = record { found = h.found; damaged = h.damaged; works = starves_after h.works; are = tt }
-
--- nothing is found
-abbrev nothing : Found
-nothing = record { files = record { terms = []; store = []; postings = []; positions = []; fast_fields = []; field_norms = [] }; refusal = None; alive_file = [] }
-
-none_found : (asked : List Asked) → AreFound asked (map (λ (x : Asked). nothing) asked)
-none_found [] = tt
-none_found (x ∷ asked) = (tt, none_found asked)
-
--- before the first segment
-pub all_starve : (asked : List Asked) (a : DirectoryState) → OpensSegments asked (Err OutOfMemory) a a
-all_starve asked a = record {
-  found = map (λ (x : Asked). nothing) asked;
-  damaged = none_found asked;
-  works = does_nothing (all_steps asked (map (λ (x : Asked). nothing) asked));
-  are = tt;
-}
 
 -- ---- one segment more
 
@@ -121,7 +86,7 @@ all_printed front label detail segments i text a b done so =
 module _ (front label : List ℕ) (detail : Detail) (metas : IndexMeta) (a b : DirectoryState) (load : LoadsMetas (Ok metas) a b) where
   -- there is no memory for the list of its segments
   pub unlisted : PrintsIndex front label detail (Err OutOfMemory) a b
-  unlisted = loaded metas b load (fails OutOfMemory refl (all_starve (all_of (listed_in metas)) b))
+  unlisted = loaded metas b load (fails OutOfMemory refl (starved (all_of (listed_in metas)) b))
 
   -- they are printed, or not
   pub listed : (segments : List SegmentParts) (r : Result (List ℕ) TantivyError) (c : DirectoryState) → segments ≡ listed_in metas

@@ -1,8 +1,7 @@
 -- The terms of a field, one after another.
 use Rattle.std.proofs.Common.{◌≡◌, ℕ, zero, suc, ◌+◌, ◌<◌, ◌≤◌, List, [], ◌∷◌, map, drop, length, true, false, sym, ap, ◌∙◌, arith, add-one, get_or}
 use Rattle.std.specs.Prelude.{nat_lt, if◌then◌else◌}
-use Rattle.std.proofs.lemmas.Bool.{ltb-true}
-use Rattle.std.proofs.lemmas.Bool.Decides.{nat_tests}
+use Rattle.std.proofs.lemmas.Bool.{ltb-true, ltb-false}
 use Rattle.std.proofs.lemmas.List.{drop_all, length-map}
 use Rattle.seg_termdict.specs.Dictionary.{Term}
 use Rattle.seg_termdict.specs.SortedTerms.{RankedTerm}
@@ -27,9 +26,6 @@ next_bytes : (ts : List ReadTerm) (i : ℕ) (key : List ℕ) → i < length ts �
 next_bytes [] i key lt is = absurd (omega (arith, lt))
 next_bytes (t ∷ ts) zero key lt is = ap (λ k. k ∷ map bytes_of ts) (sym is)
 next_bytes (t ∷ ts) (suc i) key lt is = next_bytes ts i key (omega (arith, lt)) is
-
-not_less : (n m : ℕ) → nat_lt n m ≡ false → m ≤ n
-not_less n m h = grind (arith, nat_tests)
 
 abbrev one_further : Stream → Stream
 one_further s = record { terms = s.terms; backward = s.backward; taken = s.taken + 1 }
@@ -69,6 +65,6 @@ module _ (f : OpenField) (s after : Stream) (of : s.terms ≡ ranked_terms (dict
 pub terms_done : (f : OpenField) (s : Stream) → s.terms ≡ ranked_terms (dictionary_terms f) → nat_lt s.taken (length s.terms) ≡ false → (t all : TermTotals)
     → with_terms t (map bytes_of (drop s.taken f.terms)) ≡ all → t ≡ all
 terms_done f s of done t all is =
-    let le : length s.terms ≤ s.taken = not_less s.taken (length s.terms) done in
+    let le : length s.terms ≤ s.taken = ltb-false s.taken (length s.terms) done in
     let none : drop s.taken f.terms ≡ [] = drop_all s.taken f.terms (omega (arith, le, ap length of, ranked_length (dictionary_terms f), length-map f.terms term_of)) in
     sym (with_none t) ∙ ap (λ (ts : List ReadTerm). with_terms t (map bytes_of ts)) (sym none) ∙ is

@@ -1,9 +1,10 @@
 -- What was taken of the batches is told by the answers before the meta was last read: the text is read back from there on.
-use Rattle.std.proofs.Common.{◌≡◌, ◌∙◌, ℕ, Bool, true, false, cond, List, [], ◌∷◌, ◌++◌, append_assoc, Option, Some, None, Ok, IsTrue, refl, sym, ap, subst, codes}
+use Rattle.std.proofs.Common.{◌≡◌, ◌∙◌, ℕ, true, false, cond, List, [], ◌∷◌, ◌++◌, append_assoc, Option, Some, None, Ok, IsTrue, refl, sym, ap, subst, codes}
 use Rattle.std.specs.Prelude.{◌||◌}
 use Rattle.std.specs.List.{list_any}
 use Rattle.std.proofs.lemmas.Bool.{or_from}
 use Rattle.std.proofs.lemmas.List.Folds.{list_any-append}
+use Rattle.std.proofs.Math.Bool.{or-true}
 use Rattle.seg_common.specs.declared.name.FileName.TheVariants.{Meta}
 use Rattle.seg_directory.proofs.Exports.{all_went}
 use Rattle.seg_directory.specs.Files.{NamedFiles}
@@ -27,17 +28,13 @@ use Rattle.seg_tool.proofs.BuildLaws.{Printed, output_stays}
 
 -- ---- answers among which the meta is read
 
-or_certain : (b : Bool) → (b || true) ≡ true
-or_certain true = refl
-or_certain false = refl
-
 module _ (bytes : List ℕ) (rest : List Answer) where
   abbrev from_meta : List Answer
   from_meta = answer.Read Meta bytes ∷ rest
 
   has_meta : (front : List Answer) → list_any reads_meta (front ++ from_meta) ≡ true
   has_meta [] = refl
-  has_meta (x ∷ front) = ap (λ b. reads_meta x || b) (has_meta front) ∙ or_certain (reads_meta x)
+  has_meta (x ∷ front) = ap (λ b. reads_meta x || b) (has_meta front) ∙ or-true (reads_meta x)
 
   -- what came before its last reading
   front_is : list_any reads_meta rest ≡ false → (front : List Answer) → before_meta (front ++ from_meta) ≡ front

@@ -3,7 +3,7 @@ use Rattle.std.proofs.Common.{◌≡◌, ◌≢◌, ℕ, zero, suc, ◌+◌, ◌
 use Rattle.std.specs.Prelude.{filter, ◌&&◌}
 use Rattle.std.specs.Str.{bytes_eq}
 use Rattle.std.specs.List.{list_any, list_all}
-use Rattle.std.proofs.lemmas.Bool.{false≢true, and_parts, or_parts}
+use Rattle.std.proofs.lemmas.Bool.{false≢true, and_parts, or_parts, not-true}
 use Rattle.std.proofs.lemmas.Bool.Decides.{nat_tests}
 use Rattle.std.proofs.lemmas.List.{map-append}
 use Rattle.std.proofs.lemmas.List.Elements.{filter-append}
@@ -50,10 +50,6 @@ values-other k field document t other =
     values-more k document (field, t) ∙ ap (λ (b : Bool). values_of k document ++ cond b (t ∷ []) []) apart ∙ append-nil (values_of k document)
 
 -- ---- names
-
-not_true : (b : Bool) → not b ≡ true → b ≡ false
-not_true false h = refl
-not_true true h = absurd (false≢true h)
 
 differ : (a b : List ℕ) → bytes_eq a b ≡ false → a ≡ b → ⊥
 differ a b no_match same = false≢true (sym no_match ∙ (bytes_eq-Decides a b).1 same)
@@ -110,7 +106,7 @@ module _ (document : Document) (field : ℕ) (t : Tree) where
   from k (x ∷ es) zero e distinct at is =
       let here : k ≡ field = omega arith in
       let same : x.name ≡ e.name = ap (λ (y : FieldEntry). y.name) (same_Some x e at) in
-      let none : list_any (λ y. bytes_eq y.name x.name) es ≡ false = not_true (list_any (λ y. same_name y x) es) (and_parts (not (list_any (λ y. same_name y x) es)) (all_distinct same_name es) distinct).0 in
+      let none : list_any (λ y. bytes_eq y.name x.name) es ≡ false = not-true (list_any (λ y. same_name y x) es) (and_parts (not (list_any (λ y. same_name y x) es)) (all_distinct same_name es) distinct).0 in
       ap (put_values x.name (values_of k (document ++ (field, t) ∷ []))) (later (k + 1) es (omega arith))
       ∙ ap (λ ts. put_values x.name ts (fields_json (k + 1) es document)) (ap (λ j. values_of j (document ++ (field, t) ∷ [])) here ∙ values-here field document t ∙ ap (λ j. values_of j document ++ t ∷ []) (sym here))
       ∙ put-first x.name (values_of k document) t (fields_json (k + 1) es document) (absent x.name (k + 1) es document none)
@@ -120,7 +116,7 @@ module _ (document : Document) (field : ℕ) (t : Tree) where
       let parts = and_parts (not (list_any (λ y. same_name y x) es)) (all_distinct same_name es) distinct in
       ap (λ ts. put_values x.name ts (fields_json (k + 1) es (document ++ (field, t) ∷ []))) (values-other k field document t other)
       ∙ ap (put_values x.name (values_of k document)) (from (k + 1) es i e parts.1 at (omega arith))
-      ∙ put-behind e.name x.name (values_of k document) t (fields_json (k + 1) es document) (other_name x.name es i e (not_true (list_any (λ y. same_name y x) es) parts.0) at)
+      ∙ put-behind e.name x.name (values_of k document) t (fields_json (k + 1) es document) (other_name x.name es i e (not-true (list_any (λ y. same_name y x) es) parts.0) at)
 
 -- the object gets the value at the end of the list of the field's name
 pub object_more : (document : Document) (schema : Schema) (i field : ℕ) (t : Tree) (e : FieldEntry) (name : List ℕ) (d : json.Data) (before after : json.Members)

@@ -1,9 +1,9 @@
 -- The last values of fields, as pairs are put into a map one after another.
-use Rattle.std.proofs.Common.{◌≡◌, ◌<◌, ℕ, Bool, true, false, cond, nat_eq, nat_lt, nat_cmp, is_eq, Less, Equal, Greater, List, [], ◌∷◌, map, Option, Some, None, refl, sym, ap, ◌∙◌, arith}
-use Rattle.std.proofs.lemmas.Bool.Decides.{nat_tests}
+use Rattle.std.proofs.Common.{◌≡◌, ℕ, Bool, true, false, cond, nat_eq, nat_cmp, List, [], ◌∷◌, map, Option, Some, None, refl, sym, ap, ◌∙◌}
 use Rattle.std.specs.BTreeMap.{is_at}
 use Rattle.std.specs.Map.{lookup}
 use Rattle.std.specs.Option.{option_map, option_or}
+use Rattle.seg_common.proofs.Numbers.{is_eq-nat_cmp, nat_eq-sym}
 use Rattle.seg_values.specs.LastValues.{last_value, HasLastValues, PutsValue}
 use Rattle.seg_values.specs.Tree.{Tree, Document}
 
@@ -36,22 +36,6 @@ one_less entries more p left rest all step found so_far field =
     ∙ ap (λ l. option_or (last_value field l) (lookup (nat_eq field) entries)) (sym step)
     ∙ so_far field
 
-flipped : (x y : ℕ) → nat_eq x y ≡ nat_eq y x
-flipped x y = grind (arith, nat_tests)
-
--- an order of numbers finds what equality finds
-at-eq : (x y : ℕ) → is_eq (nat_cmp x y) ≡ nat_eq x y
-at-eq x y = by (nat_lt x y) (nat_eq x y) refl refl
-  where
-    by : (b d : Bool) → nat_lt x y ≡ b → nat_eq x y ≡ d → is_eq (cond b Less (cond d Equal Greater)) ≡ d
-    by true true p q =
-        let less : x < y = grind (arith, nat_tests) in
-        let same : x ≡ y = grind (arith, nat_tests) in
-        absurd (omega arith)
-    by true false p q = refl
-    by false true p q = refl
-    by false false p q = refl
-
 module _ {X : Type 0} (tree : X → Tree) where
   shown-cond : (b : Bool) (x : X) (old : Option X) → option_map tree (cond b (Some x) old) ≡ cond b (Some (tree x)) (option_map tree old)
   shown-cond true x old = refl
@@ -67,9 +51,9 @@ module _ {X : Type 0} (tree : X → Tree) where
   found_more es fs k x h field =
       lookup-shown (nat_eq field) fs ∙ ap (option_map tree) (h field) ∙ shown-cond (nat_eq k field) x (lookup (nat_eq field) es)
       ∙ ap (λ o. cond (nat_eq k field) (Some (tree x)) o) (sym (lookup-shown (nat_eq field) es))
-      ∙ ap (λ (b : Bool). cond b (Some (tree x)) (lookup (nat_eq field) (map (λ e. (e.0, tree e.1)) es))) (flipped k field)
+      ∙ ap (λ (b : Bool). cond b (Some (tree x)) (lookup (nat_eq field) (map (λ e. (e.0, tree e.1)) es))) (nat_eq-sym k field)
 
   -- the same, where fields are found by their order
   pub ordered_more : (es fs : List (ℕ × X)) (k : ℕ) (x : X) → ((q : ℕ) → lookup (is_at (nat_cmp q)) fs ≡ cond (is_at (nat_cmp k) q) (Some x) (lookup (is_at (nat_cmp q)) es))
       → (field : ℕ) → lookup (nat_eq field) (map (λ e. (e.0, tree e.1)) fs) ≡ cond (nat_eq field k) (Some (tree x)) (lookup (nat_eq field) (map (λ e. (e.0, tree e.1)) es))
-  ordered_more es fs k x h = found_more es fs k x (λ q. sym (λ i. lookup (λ j. at-eq q j i) fs) ∙ h q ∙ (λ i. cond (at-eq k q i) (Some x) (lookup (λ j. at-eq q j i) es)))
+  ordered_more es fs k x h = found_more es fs k x (λ q. sym (λ i. lookup (λ j. is_eq-nat_cmp q j i) fs) ∙ h q ∙ (λ i. cond (is_eq-nat_cmp k q i) (Some x) (lookup (λ j. is_eq-nat_cmp q j i) es)))

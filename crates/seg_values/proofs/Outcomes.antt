@@ -2,11 +2,6 @@
 use Rattle.std.proofs.Common.{Result, Ok, Err}
 use Rattle.std.specs.Prelude.{OnOk}
 
--- what follows where it is Ok
-pub when_ok : {T E P Q : Type 0} (r : Result T E) → OnOk r P → (P → Q) → OnOk r Q
-when_ok (Ok x) p f = f p
-when_ok (Err e) p f = tt
-
 pub when_both_ok : {T E P Q R : Type 0} (r : Result T E) → OnOk r P → OnOk r Q → (P → Q → R) → OnOk r R
 when_both_ok (Ok x) p q f = f p q
 when_both_ok (Err e) p q f = tt

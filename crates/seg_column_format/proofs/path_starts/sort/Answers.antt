@@ -1,6 +1,6 @@
 use Rattle.std.proofs.Common.{List, ℕ, rules}
 use Rattle.std.specs.Cmp.Lexicographic.{nat_list_cmp_total}
-use Rattle.seg_column_format.proofs.ByOrder.{sorted_by}
+use Rattle.seg_common.proofs.ByOrder.{sorted_by}
 use Rattle.seg_column_format.proofs.ByteOrder.{ascend_sorted}
 use Rattle.seg_column_format.proofs.path_starts.sort.Goals as goal
 

@@ -1,9 +1,11 @@
 use Rattle.std.proofs.Common.{List, ℕ}
 use Rattle.std.specs.List.{flat_map}
+use Rattle.std.proofs.lemmas.Result.{on_ok_weaker}
+use Rattle.seg_common.proofs.Results.{at_ok}
 use Rattle.seg_column_format.specs.ColumnBytes.{column_bytes, ends_from, number_bytes}
 use Rattle.seg_column_file.specs.RowOrders.{Place, rows_in_order}
 use Rattle.seg_column_merge_parts.specs.Sources.{joined}
-use Rattle.seg_column_merge_parts.proofs.JoinSteps.{both_parts, on_ok_always, on_ok_then}
+use Rattle.seg_column_merge_parts.proofs.JoinSteps.{both_parts}
 use Rattle.seg_column_merge_parts.proofs.column_joining.put_joined.Goals as goal
 
 pub returns : goal.returns
@@ -15,9 +17,9 @@ returns c =
     let ends = λ (r : List Place). number_bytes (ends_from 0 (joined sources r)) in
     let values = λ (r : List Place). flat_map (flat_map {X = List ℕ} {A = ℕ} (λ code. code)) (joined sources r) in
     record {
-      ok = on_ok_then c.put_values.result
+      ok = on_ok_weaker c.put_values.result
           (both_parts out (ends rows) (values rows) c.put_row_ends.new.out.items c.put_values.new.out.items
           c.in_ok-put_row_ends.ensures.ok)
           c.put_values.ensures;
-      few = on_ok_always c.put_values.result c.in_ok-put_row_ends.ensures.few;
+      few = at_ok c.put_values.result c.in_ok-put_row_ends.ensures.few;
     }

@@ -3,8 +3,9 @@ use Rattle.std.specs.Ordering.{nat_cmp}
 use Rattle.std.specs.Cmp.Lexicographic.{slice_cmp}
 use Rattle.std.specs.declared.cmp.Ordering.TheVariants.{Less, Greater}
 use Rattle.std.proofs.lemmas.Bool.{cases_lt}
+use Rattle.seg_common.proofs.Bytes.{same_term}
 use Rattle.seg_columns.specs.Dictionaries.{term_at}
-use Rattle.seg_columns.proofs.TermOrder.{above_middle, below_middle, itself, same_term}
+use Rattle.seg_columns.proofs.TermOrder.{above_middle, below_middle, itself}
 use Rattle.seg_columns.proofs.terms.find_term.Goals as goal
 
 pub loop-low-preserved-in-Less : goal.loop-low-preserved-in-Less

@@ -1,9 +1,9 @@
 use Rattle.std.proofs.Common.{rules, ◌≡◌, ◌++◌, [], ◌∷◌, false, map, string_bytes, ◌∙◌}
+use Rattle.seg_common.proofs.Results.{when_ok}
 use Rattle.seg_model.specs.Fields.{is_json}
 use Rattle.seg_postings.specs.FieldReading.{dictionary_terms}
 use Rattle.seg_field_metadata.specs.Known.{entry_of}
 use Rattle.seg_field_metadata.specs.Indexed.{indexed_entry}
-use Rattle.seg_field_metadata.proofs.Escaping.{when_ok}
 use Rattle.seg_field_metadata.proofs.FieldAdds.{whole_adds}
 use Rattle.seg_field_metadata.proofs.field_entries.add_field.Goals as goal
 

@@ -5,11 +5,11 @@ use Rattle.std.proofs.lemmas.List.{drop_all}
 use Rattle.serde_json.specs.View.{view, items_view}
 use Rattle.seg_values.specs.Names.{field_named, kept_entry}
 use Rattle.seg_values.specs.SchemaRules.{same_name}
-use Rattle.seg_values.proofs.Exports.{named, same_name-sym, unnamed}
+use Rattle.seg_values.proofs.Exports.{named, same_name-sym, unnamed, name-kept_entry}
 use Rattle.seg_meta.proofs.Exports.{distinct_list-again, distinct_list-long, distinct_list-whole, left-cons, step}
 use Rattle.seg_script.specs.Fields.{entry_from}
 use Rattle.seg_script.specs.declared.error.ScriptError.TheVariants.{NotScript}
-use Rattle.seg_script.proofs.Schema.{schema_from-is, kept_entry-name}
+use Rattle.seg_script.proofs.Schema.{schema_from-is}
 use Rattle.seg_script.proofs.fields.schema_from.Goals as goal
 
 pub returns-then-len-clause-none : goal.returns-then-len-clause-none
@@ -25,7 +25,7 @@ returns-in_err-add_entry-clause-none c is =
     schema_from-is (view c.args.json.now)
     ∙ distinct_list-again entry_from same_name (2 ^ 32 - 1) same_name-sym (view c.args.json.now) (view c.item-item.result) c.loop-item.builder
     (items_view (drop (c.loop-item.item-index + 1) c.deref-item-items.result.now)) c.loop-item.item-index (kept_entry entry) (rw left at c.loop-item.invariant)
-    c.in_ok-entry.ensures.ok (named (kept_entry entry).name c.loop-item.builder (subst (λ name. IsSome (field_named c.loop-item.builder name)) (sym (kept_entry-name entry)) (c.add_entry.ensures.none why)))
+    c.in_ok-entry.ensures.ok (named (kept_entry entry).name c.loop-item.builder (subst (λ name. IsSome (field_named c.loop-item.builder name)) (sym (name-kept_entry entry)) (c.add_entry.ensures.none why)))
 
 pub loop-item-preserved : goal.loop-item-preserved
 loop-item-preserved c =
@@ -33,7 +33,7 @@ loop-item-preserved c =
     let entry = c.in_ok-entry.entry in
     step entry_from same_name same_name-sym (view c.args.json.now) (view c.item-item.result) c.loop-item.builder c.add_entry.new.builder
     (items_view (drop (c.loop-item.item-index + 1) c.deref-item-items.result.now)) c.loop-item.item-index (kept_entry entry) (rw left at c.loop-item.invariant)
-    c.in_ok-entry.ensures.ok c.in_ok-add_entry.ensures.ok (unnamed (kept_entry entry).name c.loop-item.builder (subst (λ name. field_named c.loop-item.builder name ≡ None) (sym (kept_entry-name entry)) c.in_ok-add_entry.ensures.distinct))
+    c.in_ok-entry.ensures.ok c.in_ok-add_entry.ensures.ok (unnamed (kept_entry entry).name c.loop-item.builder (subst (λ name. field_named c.loop-item.builder name ≡ None) (sym (name-kept_entry entry)) c.in_ok-add_entry.ensures.distinct))
 
 pub returns-clause-ok : goal.returns-clause-ok
 returns-clause-ok c =

@@ -3,9 +3,10 @@ use Rattle.std.specs.Ordering.{nat_cmp}
 use Rattle.std.specs.Cmp.Lexicographic.{slice_cmp}
 use Rattle.std.specs.declared.cmp.Ordering.TheVariants.{Less, Greater}
 use Rattle.std.proofs.lemmas.Bool.{cases_lt}
+use Rattle.seg_common.proofs.Bytes.{same_term}
 use Rattle.seg_termdict.specs.Dictionary.{key_of}
 use Rattle.seg_termdict.proofs.KeyLemmas.{start_within}
-use Rattle.seg_termdict.proofs.KeyOrder.{below_middle, above_middle, same_keys, not_same}
+use Rattle.seg_termdict.proofs.KeyOrder.{below_middle, above_middle, not_same}
 use Rattle.seg_termdict.proofs.keys.find_key.Goals as goal
 
 pub key_at-requires-clause-order : goal.key_at-requires-clause-order
@@ -37,7 +38,7 @@ loop-low-preserved c =
     }
 
 pub returns-in-Equal : goal.returns-in-Equal
-returns-in-Equal c = (omega arith, sym c.key_at.ensures ∙ same_keys c.key_at.result.now c.args.key.now (sym c.in-Equal.ensures))
+returns-in-Equal c = (omega arith, sym c.key_at.ensures ∙ same_term c.key_at.result.now c.args.key.now (sym c.in-Equal.ensures))
 
 pub returns : goal.returns
 returns c = λ i h e.

@@ -1,9 +1,9 @@
 use Rattle.std.proofs.Common.{lit<, ◌≡◌, ◌++◌, [], ◌∷◌, Some, map, string_bytes, refl, sym, ap, subst, ◌∙◌, rules}
 use Rattle.std.proofs.lemmas.Str.Pattern.{split_parts}
 use Rattle.seg_common.specs.JsonPaths.{written_key}
+use Rattle.seg_common.proofs.Results.{when_ok}
 use Rattle.seg_values.specs.JsonPathTexts.{before_first, keys_in}
 use Rattle.seg_values.proofs.JsonPathTexts.{before_none, taken_last}
-use Rattle.seg_values.proofs.Outcomes.{when_ok}
 use Rattle.seg_values.proofs.json_path.push_keys.Goals as goal
 
 pub loop-part-init : goal.loop-part-init
