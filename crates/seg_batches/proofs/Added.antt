@@ -21,6 +21,7 @@ use Rattle.seg_segment.specs.Standing.{StandFor}
 use Rattle.seg_build.specs.declared.memory_segment.MemorySegment.{MemorySegment}
 use Rattle.seg_build.specs.FieldTerms.{FieldTerms, fields_of}
 use Rattle.seg_build.specs.Kept.{Kept}
+use Rattle.seg_build.specs.StoredBlocks.{HasBlocks}
 use Rattle.seg_build.specs.SegmentWriting.{SegmentWriting, AddsNone, IsKeptOf, IsFull, Tells, Writes}
 use Rattle.seg_build.specs.Totals.{TotalsAreCounts}
 use Rattle.seg_batches.specs.Indexing.{AreOfBatch, HasAdditions, IsNotTaken, IsTaken, IsUnused}
@@ -30,13 +31,14 @@ use Rattle.seg_batches.proofs.Refused.{refused_from, refused_at}
 use Rattle.seg_batches.proofs.SegmentTurns.{additions-append}
 
 -- a writer that was started has no documents
-pub started_unused : {Z E : Type 0} (schema given : Schema) (analyzer : Analyzer) (analyzers : Z) (id : ℕ) (r : Result (Z × SegmentWriting) E)
+pub started_unused : {Z E : Type 0} (schema given : Schema) (size : ℕ) (analyzer : Analyzer) (analyzers : Z) (id : ℕ) (r : Result (Z × SegmentWriting) E)
     → given ≡ schema
     → IfOk r (λ (w : Z × SegmentWriting). Writes analyzer [] [] w.1) → IfOk r (λ (w : Z × SegmentWriting). (w.0 ≡ analyzers) × (w.1.schema ≡ given) × (w.1.id ≡ id))
-    → IfOk r (λ (w : Z × SegmentWriting). (w.0 ≡ analyzers) × IsUnused schema analyzer w.1)
-started_unused schema given analyzer analyzers id (Ok w) same none of =
-    (of.0, record { none = none; of_schema = of.1 ∙ same })
-started_unused schema given analyzer analyzers id (Err e) same none of = tt
+    → IfOk r (λ (w : Z × SegmentWriting). w.1.block_size ≡ size)
+    → IfOk r (λ (w : Z × SegmentWriting). (w.0 ≡ analyzers) × IsUnused schema size analyzer w.1)
+started_unused schema given size analyzer analyzers id (Ok w) same none of sized =
+    (of.0, record { none = none; of_schema = of.1 ∙ same; of_size = sized })
+started_unused schema given size analyzer analyzers id (Err e) same none of sized = tt
 
 -- ---- one more operation
 
@@ -181,18 +183,23 @@ module _ (schema : Schema) (analyzer : Analyzer) (first : ℕ) (operations : Lis
       ∙ ap (λ d. Some d) (sym told))
 
   -- the segment that is made of the writer
-  pub of_batch : (given : Analyzer) (segment : MemorySegment) → given ≡ analyzer
+  pub of_batch : (size : ℕ) (given : Analyzer) (segment : MemorySegment) → writer.block_size ≡ size → given ≡ analyzer
       → length (additions operations) < 2 ^ 31
       → ((ds : List Document) (stamps : List ℕ) → Writes given ds stamps writer → StandFor writer.schema given ds segment.files)
       → ((ds : List Document) (stamps : List ℕ) → Writes given ds stamps writer → segment.fields ≡ fields_of writer.schema given ds)
       → TotalsAreCounts segment.files.postings segment.fields
+      → ((ds : List Document) (stamps : List ℕ) → Writes given ds stamps writer → HasBlocks writer.schema writer.block_size ds segment.files.store)
       → ((ds : List Document) (stamps : List ℕ) → Writes given ds stamps writer → segment.stamps.items ≡ stamps)
-      → AreOfBatch schema analyzer first operations segment.files segment.stamps.items
-  of_batch given segment is few stand fields counts stamps = record {
+      → AreOfBatch schema size analyzer first operations segment.files segment.stamps.items
+  of_batch size given segment sized is few stand fields counts blocks stamps = record {
     stand = stands;
     totals =
         counts_told schema analyzer (additions operations) segment.files stands
         (subst (λ (fs : List FieldTerms). TotalsAreCounts segment.files.postings fs) gathered counts);
+    blocks =
+        subst (λ n. HasBlocks schema n (additions operations) segment.files.store) sized
+        (subst (λ s. HasBlocks s writer.block_size (additions operations) segment.files.store) same
+        (blocks (additions operations) (addition_stamps first operations) (writes given is)));
     stamped = stamps (additions operations) (addition_stamps first operations) (writes given is);
     few = few;
   }

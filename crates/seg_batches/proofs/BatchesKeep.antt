@@ -52,25 +52,25 @@ module _ (schema : Schema) (analyzer : Analyzer) where
   stands_on id documents old new kept h =
       record { contents = h.contents; read = h.read; held = held_on id old new kept schema h.contents h.held }
 
-  steps_stand : (ids : List ℕ) (causes : List (Option TantivyError)) (files : List SegmentFiles) (batches : List Batch) (old : NamedFiles)
+  steps_stand : (size : ℕ) (ids : List ℕ) (causes : List (Option TantivyError)) (files : List SegmentFiles) (batches : List Batch) (old : NamedFiles)
       → length files ≡ length ids → length causes ≡ length ids → are_distinct ids ≡ true
-      → AllStandFor schema analyzer files batches → AllStand schema analyzer (all_files_after (batches_steps ids causes files) old) ids batches
-  steps_stand [] causes files batches old many as_many distinct stand = tt
-  steps_stand (id ∷ ids) [] files batches old many as_many distinct stand = absurd (omega (arith, as_many))
-  steps_stand (id ∷ ids) (cause ∷ causes) [] batches old many as_many distinct stand = absurd (omega (arith, many))
-  steps_stand (id ∷ ids) (cause ∷ causes) (f ∷ files) [] old many as_many distinct stand = absurd stand
-  steps_stand (id ∷ ids) (cause ∷ causes) (f ∷ files) (batch ∷ batches) old many as_many distinct stand =
+      → AllStandFor schema size analyzer files batches → AllStand schema analyzer (all_files_after (batches_steps ids causes files) old) ids batches
+  steps_stand size [] causes files batches old many as_many distinct stand = tt
+  steps_stand size (id ∷ ids) [] files batches old many as_many distinct stand = absurd (omega (arith, as_many))
+  steps_stand size (id ∷ ids) (cause ∷ causes) [] batches old many as_many distinct stand = absurd (omega (arith, many))
+  steps_stand size (id ∷ ids) (cause ∷ causes) (f ∷ files) [] old many as_many distinct stand = absurd stand
+  steps_stand size (id ∷ ids) (cause ∷ causes) (f ∷ files) (batch ∷ batches) old many as_many distinct stand =
       let now = all_files_after (write_steps id f) old in
       let rest = batches_steps ids causes files in (
         stands_on id batch.documents now (all_files_after rest now) (λ c. after_keeps rest now (Part id c) (batches_apart ids causes files id c (others_are id ids distinct)))
             (stands_there schema analyzer batch.documents f now id stand.0.stand (six_there id f old)),
-        steps_stand ids causes files batches now (omega (arith, many)) (omega (arith, as_many)) (rest_distinct id ids distinct) stand.1,
+        steps_stand size ids causes files batches now (omega (arith, many)) (omega (arith, as_many)) (rest_distinct id ids distinct) stand.1,
       )
 
   -- the files of each id stand for its batch
-  pub all_stand : {T : Type 0} (causes : List (Option TantivyError)) (ids : List ℕ) (batches : List Batch) (r : Result T TantivyError) (a b : DirectoryState)
-      → length causes ≡ length ids → are_distinct ids ≡ true → MakesBatches causes schema analyzer ids batches r a b
+  pub all_stand : {T : Type 0} (size : ℕ) (causes : List (Option TantivyError)) (ids : List ℕ) (batches : List Batch) (r : Result T TantivyError) (a b : DirectoryState)
+      → length causes ≡ length ids → are_distinct ids ≡ true → MakesBatches causes schema size analyzer ids batches r a b
       → IsTrue a.tells → OnOk r (AllStand schema analyzer b.files ids batches)
-  all_stand causes ids batches (Ok x) a b as_many distinct w told =
-      subst (λ (now : NamedFiles). AllStand schema analyzer now ids batches) (sym ((all_went w.works).files told)) (steps_stand ids causes w.files batches a.files w.many as_many distinct w.stand)
-  all_stand causes ids batches (Err e) a b as_many distinct w told = tt
+  all_stand size causes ids batches (Ok x) a b as_many distinct w told =
+      subst (λ (now : NamedFiles). AllStand schema analyzer now ids batches) (sym ((all_went w.works).files told)) (steps_stand size ids causes w.files batches a.files w.many as_many distinct w.stand)
+  all_stand size causes ids batches (Err e) a b as_many distinct w told = tt

@@ -19,7 +19,7 @@ use Rattle.seg_batches.proofs.BatchTurns.{Turn, batches_left, part_here, parts_l
 abbrev pub no_files : SegmentFiles
 no_files = record { terms = []; store = []; postings = []; positions = []; fast_fields = []; field_norms = [] }
 
-module _ (causes : List (Option TantivyError)) (schema : Schema) (analyzer : Analyzer) (ids : List ℕ)
+module _ (causes : List (Option TantivyError)) (schema : Schema) (size : ℕ) (analyzer : Analyzer) (ids : List ℕ)
     (batches : List Batch) where
   -- some batches are written, and with those that are left they are all
   pub record SoFar (ids_left : List ℕ) (causes_left : List (Option TantivyError)) (left : List Batch)
@@ -30,8 +30,8 @@ module _ (causes : List (Option TantivyError)) (schema : Schema) (analyzer : Ana
     pub many : length files + length ids_left ≡ length ids
     pub are : (next : List SegmentFiles)
         → batches_steps ids causes (files ++ next) ≡ steps ++ batches_steps ids_left causes_left next
-    pub stand : (next : List SegmentFiles) → length next ≤ length ids_left → AllStandFor schema analyzer next left
-        → AllStandFor schema analyzer (files ++ next) batches
+    pub stand : (next : List SegmentFiles) → length next ≤ length ids_left → AllStandFor schema size analyzer next left
+        → AllStandFor schema size analyzer (files ++ next) batches
 
   pub none_yet : (a : DirectoryState) → SoFar ids causes batches a a
   none_yet a =
@@ -40,7 +40,7 @@ module _ (causes : List (Option TantivyError)) (schema : Schema) (analyzer : Ana
   module _ (ids_left : List ℕ) (causes_left : List (Option TantivyError)) (left : List Batch) (a b : DirectoryState)
       (so_far : SoFar ids_left causes_left left a b) where
     -- there is no memory for the others
-    pub starves : {T : Type 0} → MakesBatches {T = T} causes schema analyzer ids batches (Err OutOfMemory) a b
+    pub starves : {T : Type 0} → MakesBatches {T = T} causes schema size analyzer ids batches (Err OutOfMemory) a b
     starves {T = T} = record {
       files = so_far.files ++ map (λ _. no_files) ids_left;
       many =
@@ -52,7 +52,7 @@ module _ (causes : List (Option TantivyError)) (schema : Schema) (analyzer : Ana
     }
 
     -- none is left
-    pub all_written : {T : Type 0} (x : T) → ids_left ≡ [] → MakesBatches causes schema analyzer ids batches (Ok x) a b
+    pub all_written : {T : Type 0} (x : T) → ids_left ≡ [] → MakesBatches causes schema size analyzer ids batches (Ok x) a b
     all_written x gone = record {
       files = so_far.files ++ [];
       many =
@@ -64,7 +64,7 @@ module _ (causes : List (Option TantivyError)) (schema : Schema) (analyzer : Ana
 
 -- ---- a batch more
 
-module _ (start : Option TantivyError) (schema : Schema) (analyzer : Analyzer) (operations : List Operation)
+module _ (start : Option TantivyError) (schema : Schema) (size : ℕ) (analyzer : Analyzer) (operations : List Operation)
     (cuts : List ℕ) (at first end : ℕ) (t : Turn schema analyzer operations cuts at first end) (ids : List ℕ)
     (many : length ids ≡ length cuts + 1) (id : ℕ) (found : slice_get ids at ≡ Some id) where
   -- this batch, and those after it
@@ -115,15 +115,15 @@ module _ (start : Option TantivyError) (schema : Schema) (analyzer : Analyzer) (
   ]
 
   -- and what its files stand for
-  stand_here : (f : SegmentFiles) (next : List SegmentFiles) → AllStandFor schema analyzer (f ∷ []) (this ∷ [])
-      → length next ≤ length (drop (at + 1) ids) → AllStandFor schema analyzer next left_then
-      → AllStandFor schema analyzer (f ∷ next) left_now
+  stand_here : (f : SegmentFiles) (next : List SegmentFiles) → AllStandFor schema size analyzer (f ∷ []) (this ∷ [])
+      → length next ≤ length (drop (at + 1) ids) → AllStandFor schema size analyzer next left_then
+      → AllStandFor schema size analyzer (f ∷ next) left_now
   stand_here f next here few rest = elim t.is_first [
-    | inl more ↦ subst (AllStandFor schema analyzer (f ∷ next)) (sym more.1) (here.0, rest)
-    | inr last ↦ subst (AllStandFor schema analyzer (f ∷ next)) (sym last.1) (here.0, none next (omega (arith, few, ap length (no_ids last.0))))
+    | inl more ↦ subst (AllStandFor schema size analyzer (f ∷ next)) (sym more.1) (here.0, rest)
+    | inr last ↦ subst (AllStandFor schema size analyzer (f ∷ next)) (sym last.1) (here.0, none next (omega (arith, few, ap length (no_ids last.0))))
   ]
     where
-      none : (fs : List SegmentFiles) → length fs ≤ 0 → AllStandFor schema analyzer fs []
+      none : (fs : List SegmentFiles) → length fs ≤ 0 → AllStandFor schema size analyzer fs []
       none [] le = tt
       none (f ∷ fs) le = absurd (omega (arith, le))
 
@@ -131,10 +131,10 @@ module _ (start : Option TantivyError) (schema : Schema) (analyzer : Analyzer) (
   left_is = let same : length (drop at ids) ≡ length (id ∷ drop (at + 1) ids) = ap length (drop-slice_get ids at id found) in omega (arith, same)
 
   module _ (causes : List (Option TantivyError)) (batches : List Batch) (a b c : DirectoryState)
-      (so_far : SoFar causes schema analyzer ids batches (drop at ids) causes_now left_now a b) where
+      (so_far : SoFar causes schema size analyzer ids batches (drop at ids) causes_now left_now a b) where
     -- it is written
-    pub batch_more : {T : Type 0} (x : T) → MakesBatch cause schema analyzer id this (Ok x) b c
-        → SoFar causes schema analyzer ids batches (drop (at + 1) ids) causes_then left_then a c
+    pub batch_more : {T : Type 0} (x : T) → MakesBatch cause schema size analyzer id this (Ok x) b c
+        → SoFar causes schema size analyzer ids batches (drop (at + 1) ids) causes_then left_then a c
     batch_more x here = record {
       files = so_far.files ++ here.files ∷ [];
       steps = so_far.steps ++ batch_steps id cause here.files;
@@ -146,13 +146,13 @@ module _ (start : Option TantivyError) (schema : Schema) (analyzer : Analyzer) (
           ∙ ap (λ steps. so_far.steps ++ steps) (steps_here here.files next)
           ∙ sym (append_assoc so_far.steps (batch_steps id cause here.files) (batches_steps (drop (at + 1) ids) causes_then next));
       stand = λ next few h.
-          subst (λ fs. AllStandFor schema analyzer fs batches) (sym (append_assoc so_far.files (here.files ∷ []) next))
+          subst (λ fs. AllStandFor schema size analyzer fs batches) (sym (append_assoc so_far.files (here.files ∷ []) next))
           (so_far.stand (here.files ∷ next) (omega (arith, few, left_is)) (stand_here here.files next (here.stand, tt) few h));
     }
 
     -- or not, which ends all
-    pub batch_ends : {S T : Type 0} (e : TantivyError) → MakesBatch {T = S} cause schema analyzer id this (Err e) b c
-        → MakesBatches {T = T} causes schema analyzer ids batches (Err e) a c
+    pub batch_ends : {S T : Type 0} (e : TantivyError) → MakesBatch {T = S} cause schema size analyzer id this (Err e) b c
+        → MakesBatches {T = T} causes schema size analyzer ids batches (Err e) a c
     batch_ends {T = T} e here =
         let others = map (λ _. no_files) (drop (at + 1) ids) in
         record {

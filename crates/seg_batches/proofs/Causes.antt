@@ -70,10 +70,10 @@ IsFirst causes e = first_of (λ o. o) causes ≡ Some e
 
 -- ---- a batch
 
-module _ (cause : Option TantivyError) (schema : Schema) (analyzer : Analyzer) (id : ℕ) (batch : Batch) where
+module _ (cause : Option TantivyError) (schema : Schema) (block_size : ℕ) (analyzer : Analyzer) (id : ℕ) (batch : Batch) where
   -- no file of it is made
   pub not_begun : {T : Type 0} (e : TantivyError) (a : DirectoryState) → (cause ≡ Some e) ⊎ (e ≡ OutOfMemory)
-      → MakesBatch {T = T} cause schema analyzer id batch (Err e) a a
+      → MakesBatch {T = T} cause schema block_size analyzer id batch (Err e) a a
   not_begun e a h = record {
     files = no_files;
     stand = tt;
@@ -87,14 +87,14 @@ module _ (cause : Option TantivyError) (schema : Schema) (analyzer : Analyzer) (
 
   -- its files are written
   pub begun : {T : Type 0} (files : SegmentFiles) (r : Result T TantivyError) (a b : DirectoryState) → cause ≡ None
-      → StandAndTell schema analyzer batch.documents files → Works (write_steps id files) r a b
-      → MakesBatch cause schema analyzer id batch r a b
+      → StandAndTell schema block_size analyzer batch.documents files → Works (write_steps id files) r a b
+      → MakesBatch cause schema block_size analyzer id batch r a b
   begun files r a b none stand works = record {
     files = files;
     stand = on_ok r;
     works = record { on = inl (a, (none, refl), works.on) };
   }
     where
-      on_ok : {T : Type 0} (x : Result T TantivyError) → OnOk x (StandAndTell schema analyzer batch.documents files)
+      on_ok : {T : Type 0} (x : Result T TantivyError) → OnOk x (StandAndTell schema block_size analyzer batch.documents files)
       on_ok (Ok y) = stand
       on_ok (Err e) = tt

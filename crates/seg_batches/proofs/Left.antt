@@ -64,11 +64,13 @@ read_of schema analyzer documents contents read = by (columns schema analyzer do
         let same = sym (same_Some (reading_with schema analyzer documents cs) contents e) in
         (ap (λ (c : Contents). c.documents) same, ap (λ (c : Contents). c.terms) same)
 
-pub of_given : (given schema : Schema) (by analyzer : Analyzer) (first : ℕ) (operations : List Operation) (files : SegmentFiles) (stamps : List ℕ)
-    → given ≡ schema → by ≡ analyzer → AreOfBatch given by first operations files stamps
-    → AreOfBatch schema analyzer first operations files stamps
-of_given given schema by analyzer first operations files stamps same_schema same of =
-    subst (λ s. AreOfBatch s analyzer first operations files stamps) same_schema (subst (λ a. AreOfBatch given a first operations files stamps) same of)
+pub of_given : (given schema : Schema) (size block_size : ℕ) (by analyzer : Analyzer) (first : ℕ) (operations : List Operation) (files : SegmentFiles) (stamps : List ℕ)
+    → given ≡ schema → size ≡ block_size → by ≡ analyzer → AreOfBatch given size by first operations files stamps
+    → AreOfBatch schema block_size analyzer first operations files stamps
+of_given given schema size block_size by analyzer first operations files stamps same_schema same_size same of =
+    subst (λ s. AreOfBatch s block_size analyzer first operations files stamps) same_schema
+    (subst (λ n. AreOfBatch given n analyzer first operations files stamps) same_size
+    (subst (λ a. AreOfBatch given size a first operations files stamps) same of))
 
 pub made_whole : (schema : Schema) (analyzer : Analyzer) (documents : List Document) (files : SegmentFiles) (n : ℕ)
     → StandFor schema analyzer documents files → length documents ≡ n → AreWhole schema files n

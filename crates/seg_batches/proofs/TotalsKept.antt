@@ -28,28 +28,28 @@ totals_on id schema total old new kept h =
     subst (λ (file : Option (List ℕ)). IsSomeAnd file (TellTotals schema total)) (sym kept) h
 
 module _ (schema : Schema) (analyzer : Analyzer) where
-  steps_tell : (ids : List ℕ) (causes : List (Option TantivyError)) (files : List SegmentFiles) (batches : List Batch) (old : NamedFiles)
+  steps_tell : (size : ℕ) (ids : List ℕ) (causes : List (Option TantivyError)) (files : List SegmentFiles) (batches : List Batch) (old : NamedFiles)
       → length files ≡ length ids → length causes ≡ length ids → are_distinct ids ≡ true
-      → AllStandFor schema analyzer files batches
+      → AllStandFor schema size analyzer files batches
       → AllHaveTotals schema analyzer (all_files_after (batches_steps ids causes files) old) ids batches
-  steps_tell [] causes files batches old many as_many distinct tell = tt
-  steps_tell (id ∷ ids) [] files batches old many as_many distinct tell = absurd (omega (arith, as_many))
-  steps_tell (id ∷ ids) (cause ∷ causes) [] batches old many as_many distinct tell = absurd (omega (arith, many))
-  steps_tell (id ∷ ids) (cause ∷ causes) (f ∷ files) [] old many as_many distinct tell = absurd tell
-  steps_tell (id ∷ ids) (cause ∷ causes) (f ∷ files) (batch ∷ batches) old many as_many distinct tell =
+  steps_tell size [] causes files batches old many as_many distinct tell = tt
+  steps_tell size (id ∷ ids) [] files batches old many as_many distinct tell = absurd (omega (arith, as_many))
+  steps_tell size (id ∷ ids) (cause ∷ causes) [] batches old many as_many distinct tell = absurd (omega (arith, many))
+  steps_tell size (id ∷ ids) (cause ∷ causes) (f ∷ files) [] old many as_many distinct tell = absurd tell
+  steps_tell size (id ∷ ids) (cause ∷ causes) (f ∷ files) (batch ∷ batches) old many as_many distinct tell =
       let now = all_files_after (write_steps id f) old in
       let rest = batches_steps ids causes files in
       let total = documents_total schema analyzer batch.documents in (
         totals_on id schema total now (all_files_after rest now)
             (after_keeps rest now (Part id Postings) (batches_apart ids causes files id Postings (others_are id ids distinct)))
             (subst (λ (file : Option (List ℕ)). IsSomeAnd file (TellTotals schema total)) (sym (six_there id f old).1.1.0) tell.0.totals),
-        steps_tell ids causes files batches now (omega (arith, many)) (omega (arith, as_many)) (rest_distinct id ids distinct) tell.1,
+        steps_tell size ids causes files batches now (omega (arith, many)) (omega (arith, as_many)) (rest_distinct id ids distinct) tell.1,
       )
 
   -- that of each id tells the totals of its batch
-  pub all_totals : {T : Type 0} (causes : List (Option TantivyError)) (ids : List ℕ) (batches : List Batch) (r : Result T TantivyError) (a b : DirectoryState)
-      → length causes ≡ length ids → are_distinct ids ≡ true → MakesBatches causes schema analyzer ids batches r a b
+  pub all_totals : {T : Type 0} (size : ℕ) (causes : List (Option TantivyError)) (ids : List ℕ) (batches : List Batch) (r : Result T TantivyError) (a b : DirectoryState)
+      → length causes ≡ length ids → are_distinct ids ≡ true → MakesBatches causes schema size analyzer ids batches r a b
       → IsTrue a.tells → OnOk r (AllHaveTotals schema analyzer b.files ids batches)
-  all_totals causes ids batches (Ok x) a b as_many distinct w told =
-      subst (λ (now : NamedFiles). AllHaveTotals schema analyzer now ids batches) (sym ((all_went w.works).files told)) (steps_tell ids causes w.files batches a.files w.many as_many distinct w.stand)
-  all_totals causes ids batches (Err e) a b as_many distinct w told = tt
+  all_totals size causes ids batches (Ok x) a b as_many distinct w told =
+      subst (λ (now : NamedFiles). AllHaveTotals schema analyzer now ids batches) (sym ((all_went w.works).files told)) (steps_tell size ids causes w.files batches a.files w.many as_many distinct w.stand)
+  all_totals size causes ids batches (Err e) a b as_many distinct w told = tt

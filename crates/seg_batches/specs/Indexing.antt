@@ -5,6 +5,7 @@ use Rattle.seg_values.specs.declared.error.TantivyError.TheVariants.{OutOfMemory
 use Rattle.seg_model.specs.Fields.{Schema, Analyzer}
 use Rattle.seg_model.specs.Operations.{Operation, add, delete, delete_all, additions}
 use Rattle.seg_model.specs.Stamps.{addition_stamps}
+use Rattle.seg_build.specs.StoredBlocks.{HasBlocks}
 use Rattle.seg_build.specs.SegmentWriting.{SegmentWriting, Adds, AddsNone, IsOfSame, Writes}
 use Rattle.seg_segment.specs.Standing.{StandFor}
 use Rattle.seg_segment.specs.Totals.{TellTotals}
@@ -43,10 +44,11 @@ pub record Takes {T Z : Type 0} (tokens_of : Z → Analyzer) (at : ℕ) (operati
   pub analyzers : new.0 ≡ old.0
   pub same : IsOfSame old.1 new.1
 
--- a writer of no documents
-pub record IsUnused (schema : Schema) (analyzer : Analyzer) (writer : SegmentWriting) : Type 0 where
+-- a writer of no documents, whose store will have blocks of this size
+pub record IsUnused (schema : Schema) (block_size : ℕ) (analyzer : Analyzer) (writer : SegmentWriting) : Type 0 where
   pub none : Writes analyzer [] [] writer
   pub of_schema : writer.schema ≡ schema
+  pub of_size : writer.block_size ≡ block_size
 
 -- the documents of operations are added to such a writer, up to the first that is refused
 pub record AddsAll {T Z : Type 0} (tokens_of : Z → Analyzer) (first : ℕ) (operations : List Operation)
@@ -54,12 +56,14 @@ pub record AddsAll {T Z : Type 0} (tokens_of : Z → Analyzer) (first : ℕ) (op
   pub added : OnOk result (HasAdditions (tokens_of old.0) first operations new.1)
   pub analyzers : new.0 ≡ old.0
   pub schema : new.1.schema ≡ old.1.schema
+  pub block_size : new.1.block_size ≡ old.1.block_size
   pub err : IfErr result (λ e. (batch_error old.1.schema (tokens_of old.0) first operations ≡ Some e) ⊎ (e ≡ OutOfMemory))
 
--- six files and stamps are those of a batch, whose first operation has the place `first`: the files stand for the documents that it adds, and tell their totals
-pub record AreOfBatch (schema : Schema) (analyzer : Analyzer) (first : ℕ) (operations : List Operation)
+-- six files and stamps are those of a batch, whose first operation has the place `first`: the files stand for the documents that it adds, tell their totals, and have them in blocks of a size
+pub record AreOfBatch (schema : Schema) (block_size : ℕ) (analyzer : Analyzer) (first : ℕ) (operations : List Operation)
     (files : SegmentFiles) (stamps : List ℕ) : Type 0 where
   pub stand : StandFor schema analyzer (additions operations) files
   pub totals : TellTotals schema (documents_total schema analyzer (additions operations)) files.postings
+  pub blocks : HasBlocks schema block_size (additions operations) files.store
   pub stamped : stamps ≡ addition_stamps first operations
   pub few : length (additions operations) < 2 ^ 31

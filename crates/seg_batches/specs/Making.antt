@@ -5,6 +5,7 @@ use Rattle.seg_model.specs.Contents.{Contents}
 use Rattle.seg_model.specs.Fields.{Schema, Analyzer}
 use Rattle.seg_model.specs.Operations.{Operation, additions, alive_after}
 use Rattle.seg_model.specs.Stamps.{addition_stamps, stamped_deletes}
+use Rattle.seg_build.specs.StoredBlocks.{HasBlocks}
 use Rattle.seg_batches.specs.Queues.{Queue}
 use Rattle.seg_batches.specs.declared.operation.DeleteOperation.{DeleteOperation}
 use Rattle.seg_segment.specs.Spelling.{Spell}
@@ -40,13 +41,14 @@ pub record FindsLeft {E : Type 0} (schema : Schema) (files : SegmentFiles) (firs
   pub left : IfOk result (IsLeft schema files first stamps old.operations)
   pub earlier : PassesEarlier first old new cursor
 
--- the segment of a batch: its six files with their totals, how many documents it has, and what is told of those that deletes leave; its first
+-- the segment of a batch: its six files with their totals and the blocks of their store, how many documents it has, and what is told of those that deletes leave; its first
 -- operation has the place `first`
-pub record IsSegmentOf (schema : Schema) (analyzer : Analyzer) (first : ℕ) (operations : List Operation)
+pub record IsSegmentOf (schema : Schema) (block_size : ℕ) (analyzer : Analyzer) (first : ℕ) (operations : List Operation)
     (waiting : List (DeleteOperation TermTarget)) (files : SegmentFiles) (documents : ℕ) (told : Option (List Bool))
     : Type 0 where
   pub stand : StandFor schema analyzer (additions operations) files
   pub totals : TellTotals schema (documents_total schema analyzer (additions operations)) files.postings
+  pub blocks : HasBlocks schema block_size (additions operations) files.store
   pub number : documents ≡ length (additions operations)
   pub few : documents < 2 ^ 31
   pub left : (before after : List Operation) → length before ≡ first

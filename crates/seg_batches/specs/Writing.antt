@@ -9,6 +9,7 @@ use Rattle.seg_model.specs.Operations.{Operation, Batch, additions, alive_after}
 use Rattle.seg_model.specs.Refused.{batch_refusal, cut_from}
 use Rattle.seg_directory.specs.State.{DirectoryState}
 use Rattle.seg_directory.specs.Works.{Step, Works, passes}
+use Rattle.seg_build.specs.StoredBlocks.{HasBlocks}
 use Rattle.seg_batches.specs.Queues.{Queue}
 use Rattle.seg_segment.specs.SegmentFiles.{write_steps}
 use Rattle.seg_segment.specs.Standing.{StandFor}
@@ -50,39 +51,40 @@ batches_steps (id ∷ ids) [] files = []
 batches_steps (id ∷ ids) (cause ∷ causes) [] = []
 batches_steps (id ∷ ids) (cause ∷ causes) (f ∷ files) = batch_steps id cause f ++ batches_steps ids causes files
 
--- six files stand for documents, and tell how often their terms occur
-pub record StandAndTell (schema : Schema) (analyzer : Analyzer) (documents : List Document) (files : SegmentFiles)
+-- six files stand for documents, tell how often their terms occur, and have them in blocks of a size
+pub record StandAndTell (schema : Schema) (block_size : ℕ) (analyzer : Analyzer) (documents : List Document) (files : SegmentFiles)
     : Type 0 where
   pub stand : StandFor schema analyzer documents files
   pub totals : TellTotals schema (documents_total schema analyzer documents) files.postings
+  pub blocks : HasBlocks schema block_size documents files.store
 
 -- the segment of a batch is written: six files that stand for its documents
-pub record MakesBatch {T : Type 0} (cause : Option TantivyError) (schema : Schema) (analyzer : Analyzer) (id : ℕ)
-    (batch : Batch) (result : Result T TantivyError) (before after : DirectoryState) : Type 0 where
+pub record MakesBatch {T : Type 0} (cause : Option TantivyError) (schema : Schema) (block_size : ℕ) (analyzer : Analyzer)
+    (id : ℕ) (batch : Batch) (result : Result T TantivyError) (before after : DirectoryState) : Type 0 where
   pub files : SegmentFiles
-  pub stand : OnOk result (StandAndTell schema analyzer batch.documents files)
+  pub stand : OnOk result (StandAndTell schema block_size analyzer batch.documents files)
   pub works : Works (batch_steps id cause files) result before after
 
 -- and its segment is answered, while the deletes that wait are passed by; its first operation has the place `first`
-pub record WritesBatch (cause : Option TantivyError) (schema : Schema) (analyzer : Analyzer) (id first : ℕ)
-    (batch : Batch) (result : Result WrittenSegment TantivyError) (old new : Queue TermTarget) (cursor : ℕ)
+pub record WritesBatch (cause : Option TantivyError) (schema : Schema) (block_size : ℕ) (analyzer : Analyzer)
+    (id first : ℕ) (batch : Batch) (result : Result WrittenSegment TantivyError) (old new : Queue TermTarget) (cursor : ℕ)
     (before after : DirectoryState) : Type 0 where
-  pub does : MakesBatch cause schema analyzer id batch result before after
+  pub does : MakesBatch cause schema block_size analyzer id batch result before after
   pub segment : IfOk result (λ s. s ≡ segment_of id batch)
   pub earlier : PassesEarlier first old new cursor
 
--- each of these files stand for the documents of a batch, and tell their totals
-abbrev pub AllStandFor : Schema → Analyzer → List SegmentFiles → List Batch → Type 0
-AllStandFor schema analyzer [] batches = Unit {0}
-AllStandFor schema analyzer (f ∷ files) [] = ⊥
-AllStandFor schema analyzer (f ∷ files) (batch ∷ batches) =
-    StandAndTell schema analyzer batch.documents f × AllStandFor schema analyzer files batches
+-- each of these files stand for the documents of a batch, tell their totals, and have them in blocks of a size
+abbrev pub AllStandFor : Schema → ℕ → Analyzer → List SegmentFiles → List Batch → Type 0
+AllStandFor schema block_size analyzer [] batches = Unit {0}
+AllStandFor schema block_size analyzer (f ∷ files) [] = ⊥
+AllStandFor schema block_size analyzer (f ∷ files) (batch ∷ batches) =
+    StandAndTell schema block_size analyzer batch.documents f × AllStandFor schema block_size analyzer files batches
 
 -- the segments of batches are written, each under its id: six files for each
-pub record MakesBatches {T : Type 0} (causes : List (Option TantivyError)) (schema : Schema) (analyzer : Analyzer)
-    (ids : List ℕ) (batches : List Batch) (result : Result T TantivyError) (before after : DirectoryState)
+pub record MakesBatches {T : Type 0} (causes : List (Option TantivyError)) (schema : Schema) (block_size : ℕ)
+    (analyzer : Analyzer) (ids : List ℕ) (batches : List Batch) (result : Result T TantivyError) (before after : DirectoryState)
     : Type 0 where
   pub files : List SegmentFiles
   pub many : length files ≡ length ids
-  pub stand : OnOk result (AllStandFor schema analyzer files batches)
+  pub stand : OnOk result (AllStandFor schema block_size analyzer files batches)
   pub works : Works (batches_steps ids causes files) result before after

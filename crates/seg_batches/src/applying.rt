@@ -1,5 +1,6 @@
 //! The deletes of a queue.
 ghost use Rattle.std.specs.Prelude.{◌≡◌, ◌≤◌, length, drop, take, IfOk, IfErr, OnOk, OnErr};
+ghost use Rattle.seg_open.specs.OpenSegment.{contents_of};
 ghost use Rattle.seg_batches.specs.Applying.{Advances, Applies, AreMapped, IsTold, left_by};
 
 use crate::delete_target::DeleteTarget;
@@ -24,7 +25,8 @@ pub fn apply_deletes<T: DeleteTarget>(
 ) -> TResult<Option<BitSet>>
     requires stamps { AreMapped mapping.now reader.old.documents }
     requires cursor { cursor.old ≤ queue.old.flushed }
-    ensures left { IfOk result (IsTold reader.old.documents (left_by (λ target. T.names target reader.old) mapping.now
+    ensures left { IfOk result (IsTold reader.old.documents
+        (left_by (λ target. T.names target reader.old.schema (contents_of reader.old)) mapping.now
         reader.old.documents (drop cursor.old queue.old.operations))) }
     ensures end { OnOk result (cursor.new ≡ length queue.old.operations) }
     ensures unchanged { OnErr result (cursor.new ≡ cursor.old) }
@@ -68,8 +70,8 @@ fn apply_rest<T: DeleteTarget>(
     requires size { length alive.old ≡ reader.old.documents }
     requires cursor { cursor.old ≤ queue.old.flushed }
     ensures end { OnOk result (cursor.new ≡ length queue.old.operations) }
-    ensures applies { Applies (λ target. T.names target reader.old) mapping.now (drop cursor.old queue.old.operations)
-        result alive.old alive.new cursor.new queue.old queue.new }
+    ensures applies { Applies (λ target. T.names target reader.old.schema (contents_of reader.old)) mapping.now
+        (drop cursor.old queue.old.operations) result alive.old alive.new cursor.new queue.old queue.new }
     ensures same { reader.new ≡ reader.old }
 {
     while apply_next(alloc, reader, queue, cursor, mapping, alive)? {}
@@ -89,7 +91,7 @@ fn apply_next<T: DeleteTarget>(
     requires size { length alive.old ≡ reader.old.documents }
     requires cursor { cursor.old ≤ queue.old.flushed }
     ensures advances { IfOk result (Advances (length queue.old.operations) cursor.old cursor.new) }
-    ensures applies { Applies (λ target. T.names target reader.old) mapping.now
+    ensures applies { Applies (λ target. T.names target reader.old.schema (contents_of reader.old)) mapping.now
         (take 1 (drop cursor.old queue.old.operations)) result alive.old alive.new cursor.new queue.old queue.new }
     ensures same { reader.new ≡ reader.old }
 {
@@ -109,7 +111,7 @@ fn apply_current<T: DeleteTarget>(
     requires stamps { AreMapped mapping.now (length alive.old) }
     requires size { length alive.old ≡ reader.old.documents }
     requires cursor { cursor.now ≤ queue.old.flushed }
-    ensures applies { Applies (λ target. T.names target reader.old) mapping.now
+    ensures applies { Applies (λ target. T.names target reader.old.schema (contents_of reader.old)) mapping.now
         (take 1 (drop cursor.now queue.old.operations)) result alive.old alive.new cursor.now queue.old queue.new }
     ensures same { reader.new ≡ reader.old }
 {

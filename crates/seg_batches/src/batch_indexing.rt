@@ -26,8 +26,10 @@ pub(crate) fn index_batch<Z: Analyzers>(
 ) -> TResult<MemorySegment>
     requires places { first + length operations.now < 2 ^ 64 }
     requires fresh { Writes (Z.tokens_of writer.0) [] [] writer.1 }
-    ensures segment { IfOk result (λ s. AreOfBatch writer.entry.1.schema (Z.tokens_of writer.entry.0) first (map operation_of operations.now) s.files s.stamps.items) }
-    ensures tells { Tells (batch_error writer.entry.1.schema (Z.tokens_of writer.entry.0) first (map operation_of operations.now)) result }
+    ensures segment { IfOk result (λ s. AreOfBatch writer.entry.1.schema writer.entry.1.block_size
+        (Z.tokens_of writer.entry.0) first (map operation_of operations.now) s.files s.stamps.items) }
+    ensures tells { Tells (batch_error writer.entry.1.schema (Z.tokens_of writer.entry.0) first
+        (map operation_of operations.now)) result }
 {
     if count_additions(operations) > MAX_DOCUMENTS {
         return Err(TantivyError::InvalidArgument(ArgumentCause::Documents));
@@ -103,7 +105,8 @@ pub(crate) fn new_writer<'a, Z: Analyzers>(
     analyzers: &'a Z,
     id: SegmentId,
 ) -> TResult<SegmentWriter<'a, Z>>
-    ensures unused { IfOk result (λ w. (w.0 ≡ analyzers.now) × IsUnused schema.now (Z.tokens_of analyzers.now) w.1) }
+    ensures unused { IfOk result (λ w. (w.0 ≡ analyzers.now)
+        × IsUnused schema.now settings.now.docstore_blocksize (Z.tokens_of analyzers.now) w.1) }
     ensures tells { Tells (start_refusal (Z.knows analyzers.now) 15000 schema.now settings.now) result }
 {
     let segment = Segment::new(schema.share(), SegmentMeta::new(id, 0, None));

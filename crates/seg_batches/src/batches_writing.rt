@@ -44,7 +44,7 @@ pub fn write_batches<Z: Analyzers, W: Directory>(
     requires cuts { cuts_fit (map operation_of operations.now) cuts.now ≡ true }
     requires ids { length ids.now ≡ length cuts.now + 1 }
     ensures does { MakesBatches (batch_causes (start_refusal (Z.knows analyzers.now) 15000 schema.now settings.now) schema.now (Z.tokens_of analyzers.now) cuts.now (map operation_of operations.now))
-        schema.now (Z.tokens_of analyzers.now) ids.now (batches schema.now (Z.tokens_of analyzers.now) cuts.now (map operation_of operations.now)) result
+        schema.now settings.now.docstore_blocksize (Z.tokens_of analyzers.now) ids.now (batches schema.now (Z.tokens_of analyzers.now) cuts.now (map operation_of operations.now)) result
         (W.state directory.old)
         (W.state directory.new) }
     ensures segments { IfOk result (λ ws. ws.items ≡ segments_of ids.now (batches schema.now (Z.tokens_of analyzers.now) cuts.now (map operation_of operations.now))) }
@@ -117,7 +117,7 @@ fn write_batch<Z: Analyzers, W: Directory>(
     requires cursor { cursor.old ≤ queue.old.flushed }
     requires passed { passed_below first (take cursor.old queue.old.operations) }
     ensures { WritesBatch (batch_cause (start_refusal (Z.knows analyzers.now) 15000 schema.now settings.now) schema.now (Z.tokens_of analyzers.now) (enumerate_from first (slice_range (map operation_of operations.now) first end)))
-        schema.now (Z.tokens_of analyzers.now) id first (batch_between schema.now (Z.tokens_of analyzers.now) first end (map operation_of operations.now)) result
+        schema.now settings.now.docstore_blocksize (Z.tokens_of analyzers.now) id first (batch_between schema.now (Z.tokens_of analyzers.now) first end (map operation_of operations.now)) result
         queue.old queue.new cursor.new
         (W.state directory.old)
         (W.state directory.new) }

@@ -1,6 +1,8 @@
 //! What deletes name.
 ghost use Rattle.std.specs.Prelude.{◌≡◌, ℕ, Bool, IfOk, IfErr};
-ghost use Rattle.seg_open.specs.OpenSegment.{OpenSegment};
+ghost use Rattle.seg_model.specs.Contents.{Contents};
+ghost use Rattle.seg_model.specs.Fields.{Schema};
+ghost use Rattle.seg_open.specs.OpenSegment.{contents_of};
 ghost use Rattle.seg_batches.specs.Applying.{named_below};
 
 use seg_open::SegmentReader;
@@ -9,12 +11,14 @@ use std::alloc::Global;
 
 /// What a delete names: of each segment some documents.
 pub trait DeleteTarget {
-    /// Whether a document of a segment is named.
-    ghost names: { Self → OpenSegment → ℕ → Bool };
+    /// Whether a document is named, of a segment with a schema and contents. Which of its documents are alive, its id and
+    /// its files play no part in it.
+    ghost names: { Self → Schema → Contents → ℕ → Bool };
 
     /// The ids of the documents of a segment that are named, ascending. The reader stays as it was.
     fn documents(&self, alloc: Global, reader: &mut SegmentReader) -> TResult<Vec<u32>>
-        ensures ok { IfOk result (λ docs. docs.items ≡ named_below reader.old.documents (names self.now reader.old)) }
+        ensures ok { IfOk result (λ docs. docs.items ≡ named_below reader.old.documents
+            (names self.now reader.old.schema (contents_of reader.old))) }
         ensures same { reader.new ≡ reader.old }
         ensures err { IfErr result (λ e. e ≡ TantivyError.OutOfMemory) };
 }

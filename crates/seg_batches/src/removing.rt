@@ -2,6 +2,7 @@
 ghost use Rattle.std.specs.Prelude.{◌≡◌, [], ◌∷◌, not, ◌&&◌, length, OnOk};
 ghost use Rattle.seg_model.specs.Postings.{is_member};
 ghost use Rattle.seg_batches.specs.Deleted.{is_deleted};
+ghost use Rattle.seg_open.specs.OpenSegment.{contents_of};
 ghost use Rattle.seg_batches.specs.Applying.{AreMapped, is_left_by, staying};
 
 use crate::delete_target::DeleteTarget;
@@ -20,8 +21,9 @@ pub(crate) fn apply_delete<T: DeleteTarget>(
 ) -> Result<(), AllocError>
     requires stamps { AreMapped mapping.now (length alive.old) }
     requires size { length alive.old ≡ reader.old.documents }
-    ensures left { OnOk result (alive.new
-        ≡ staying (is_left_by (λ target. T.names target reader.old) mapping.now (operation.now ∷ [])) alive.old) }
+    ensures left { OnOk result (alive.new ≡ staying
+        (is_left_by (λ target. T.names target reader.old.schema (contents_of reader.old)) mapping.now
+        (operation.now ∷ [])) alive.old) }
     ensures same { reader.new ≡ reader.old }
 {
     let Ok(docs) = operation.target.documents(alloc, reader) else {

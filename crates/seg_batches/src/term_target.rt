@@ -11,11 +11,9 @@ use std::alloc::Global;
 pub struct TermTarget(pub Term);
 
 impl DeleteTarget for TermTarget {
-    ghost use Rattle.std.specs.Prelude.{map};
     ghost use Rattle.seg_model.specs.Cleared.{has_posting};
-    ghost use Rattle.seg_open.specs.OpenSegment.{terms_in};
 
-    ghost names = { λ target segment document. has_posting (map terms_in segment.fields) document target.0 };
+    ghost names = { λ target schema contents document. has_posting contents.terms document target.0 };
 
     fn documents(&self, alloc: Global, reader: &mut SegmentReader) -> TResult<Vec<u32>> {
         match term_documents(alloc, reader, &self.0) {

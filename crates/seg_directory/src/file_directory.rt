@@ -1,5 +1,5 @@
 //! A directory over a folder of the system.
-ghost use Rattle.std.specs.Prelude.{◌≡◌, ◌≢◌, ◌++◌, ◌<◌, ◌≤◌, [], false, IfOk};
+ghost use Rattle.std.specs.Prelude.{◌≡◌, ◌≢◌, ◌++◌, ◌<◌, ◌≤◌, [], false, IfOk, IfErr};
 ghost use Rattle.std.specs.FinMap.{empty};
 ghost use Rattle.std.proofs.Common.{sym};
 ghost use mathlib.Core.Bool.{true≢false};
@@ -37,7 +37,8 @@ impl<R: Files> Model for FileDirectory<R> {
 impl<R: Files + AllocGlobal + Clone + Drop> FileDirectory<R> {
     /// The directory over the folder at this path.
     pub fn new(rt: R, alloc: Global, folder: &str) -> Result<FileDirectory<R>, DirectoryError>
-        ensures { IfOk result (λ d. d ≡ record { answers = []; faults = 0 }) }
+        ensures ok { IfOk result (λ d. d ≡ record { answers = []; faults = 0 }) }
+        ensures err { IfErr result (λ e. e ≡ DirectoryError.OutOfMemory) }
     {
         Ok(FileDirectory {
             rt,

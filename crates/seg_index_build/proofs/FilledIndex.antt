@@ -111,7 +111,7 @@ module _ (settings : Settings) (schema : Schema) (analyzer : Analyzer) (ids cuts
   Fills r a c = FillsIndex settings schema analyzer ids cuts operations r a c
 
   abbrev Makes : {T : Type 0} → Result T TantivyError → DirectoryState → DirectoryState → Type 0
-  Makes r a c = MakesBatches causes schema analyzer ids all r a c
+  Makes r a c = MakesBatches causes schema settings.block_size analyzer ids all r a c
 
   end_of : {S T : Type 0} (e : TantivyError) (a b : DirectoryState) → Makes {T = S} (Err e) a b → Fills {T = T} (Err e) a b
   end_of e a b w = record { files = w.files; many = w.many; stand = tt; alive = []; tell = tt; whole = tt; works = stops (last_steps []) w.works }
@@ -123,12 +123,12 @@ module _ (settings : Settings) (schema : Schema) (analyzer : Analyzer) (ids cuts
   -- where a writer can be started
   module _ (start : Option TantivyError) (none : start ≡ None) where
     abbrev Started : {T : Type 0} → Result T TantivyError → DirectoryState → DirectoryState → Type 0
-    Started r a b = MakesBatches (batch_causes start schema analyzer cuts operations) schema analyzer ids all r a b
+    Started r a b = MakesBatches (batch_causes start schema analyzer cuts operations) schema settings.block_size analyzer ids all r a b
 
     makes_of : {T : Type 0} (r : Result T TantivyError) (a b : DirectoryState) → Started r a b → Makes r a b
     makes_of r a b w =
         subst
-        (λ (o : Option TantivyError). MakesBatches (batch_causes o schema analyzer cuts operations) schema analyzer ids
+        (λ (o : Option TantivyError). MakesBatches (batch_causes o schema analyzer cuts operations) schema settings.block_size analyzer ids
         all r a b)
         none w
 
@@ -252,13 +252,13 @@ module _ (settings : Settings) (schema : Schema) (analyzer : Analyzer) (ids cuts
         pub filled_stand : AllStand schema analyzer c.files ids all
         filled_stand =
             stand_kept listed parts.batches_at.files c.files batches_kept schema analyzer ids all
-            (all_stand schema analyzer causes ids all (Ok x) a parts.batches_at each distinct parts.makes told)
+            (all_stand schema analyzer settings.block_size causes ids all (Ok x) a parts.batches_at each distinct parts.makes told)
 
         -- and tell its totals
         pub filled_totals : AllHaveTotals schema analyzer c.files ids all
         filled_totals =
             totals_kept listed parts.batches_at.files c.files batches_kept schema analyzer ids all
-            (all_totals schema analyzer causes ids all (Ok x) a parts.batches_at each distinct parts.makes told)
+            (all_totals schema analyzer settings.block_size causes ids all (Ok x) a parts.batches_at each distinct parts.makes told)
 
         -- and alive files tell what is left of it
         pub filled_alive : AllTellAlive c.files (length operations) written

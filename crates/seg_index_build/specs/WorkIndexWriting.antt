@@ -35,13 +35,13 @@ pub record FinishesIndex {T : Type 0} (settings : Settings) (schema : Schema) (s
   pub whole : OnOk result (length alive ≡ length segments)
   pub works : Works (finish_steps (listing_meta settings schema stamp segments) stamp alive segments) result before after
 
--- an index that was begun is filled: the segment of each batch is written, six files that stand for its documents; and
--- then it is finished
+-- an index that was begun is filled: the segment of each batch is written, six files that stand for its documents, with
+-- a store in blocks of the size that the settings say; and then it is finished
 pub record FillsIndex {T : Type 0} (settings : Settings) (schema : Schema) (analyzer : Analyzer) (ids cuts : List ℕ)
     (operations : List Operation) (result : Result T TantivyError) (before after : DirectoryState) : Type 0 where
   pub files : List SegmentFiles
   pub many : length files ≡ length ids
-  pub stand : OnOk result (AllStandFor schema analyzer files (batches schema analyzer cuts operations))
+  pub stand : OnOk result (AllStandFor schema settings.block_size analyzer files (batches schema analyzer cuts operations))
   pub alive : List (List ℕ)
   pub tell : AllTellMarks (length operations) alive (written_of schema analyzer ids cuts operations)
   pub whole : OnOk result (length alive ≡ length (written_of schema analyzer ids cuts operations))

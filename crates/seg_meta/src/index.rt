@@ -1,5 +1,5 @@
 //! An index.
-ghost use Rattle.std.specs.Prelude.{◌≡◌, map, IfOk, IsTrue, OnOk};
+ghost use Rattle.std.specs.Prelude.{◌≡◌, map, IfOk, IfErr, IsTrue, OnOk};
 ghost use Rattle.std.specs.FinMap.{insert};
 ghost use Rattle.seg_common.specs.declared.name.FileName.TheVariants.{Meta};
 ghost use Rattle.seg_directory.specs.Disk.{exactly, with_change};
@@ -113,6 +113,7 @@ impl Index {
     /// The segments that the meta lists, in order. They share the schema.
     pub fn searchable_segments(&self, alloc: Global) -> TResult<Vec<Segment>>
         ensures ok { IfOk result (λ segments. segments.items ≡ map (segment_of self.now.schema) self.now.segments) }
+        ensures err { IfErr result (λ e. e ≡ TantivyError.OutOfMemory) }
     {
         let mut segments = Vec::new(alloc);
         for meta in self.metas.segments.as_slice() {

@@ -1,13 +1,14 @@
 use Rattle.std.proofs.Common.{◌≡◌, ℕ, Bool, take, drop, sym, subst, ap, arith, rules}
 use Rattle.std.specs.Prelude.{OnOk}
 use Rattle.seg_common.proofs.Lists.{drop-slice_get_none}
+use Rattle.seg_open.specs.OpenSegment.{contents_of}
 use Rattle.seg_batches.specs.Applying.{is_left_by, staying}
 use Rattle.seg_batches.proofs.Leaving.{first_left, left_by_none}
 use Rattle.seg_batches.proofs.applying.apply_current.Goals as goal
 
 pub returns-in-Some-clause-applies : goal.returns-in-Some-clause-applies
 returns-in-Some-clause-applies g c =
-    let names : g.row.T.Denot → ℕ → Bool = λ target. g.T.DeleteTarget.names target c.args.reader.now in
+    let names : g.row.T.Denot → ℕ → Bool = λ target. g.T.DeleteTarget.names target c.args.reader.now.schema (contents_of c.args.reader.now) in
     record {
       alive =
           subst (λ operations. OnOk c.apply_delete.result (c.apply_delete.new.alive ≡ staying (is_left_by names c.args.mapping.now operations) c.args.alive.now))
@@ -18,7 +19,7 @@ returns-in-Some-clause-applies g c =
 
 pub returns-in-None-clause-applies : goal.returns-in-None-clause-applies
 returns-in-None-clause-applies g c =
-    let names : g.row.T.Denot → ℕ → Bool = λ target. g.T.DeleteTarget.names target c.args.reader.now in
+    let names : g.row.T.Denot → ℕ → Bool = λ target. g.T.DeleteTarget.names target c.args.reader.now.schema (contents_of c.args.reader.now) in
     let operations = c.args.queue.now.operations in
     record {
       alive =

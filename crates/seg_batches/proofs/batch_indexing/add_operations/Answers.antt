@@ -19,6 +19,7 @@ returns-in-Err g c =
       added = tt;
       analyzers = c.in-Err.ensures.analyzers ∙ so_far.analyzers;
       schema = c.in-Err.ensures.same.schema ∙ so_far.schema;
+      block_size = c.in-Err.ensures.same.block_size ∙ so_far.block_size;
       err = not_taken c.args.writer.now.1.schema (F c.args.writer.now.0) c.args.first operations i c.requires.few so_far.rest c.loop-at.writer.1 c.add_operation.new.writer.1 so_far.schema so_far.has (operation_of item.result) c.in-Err.e at
           (subst (λ z. IsNotTaken (F z) (c.args.first + i) (operation_of item.result) c.loop-at.writer.1 c.add_operation.new.writer.1 c.in-Err.e) so_far.analyzers c.in-Err.ensures.err);
     }
@@ -40,6 +41,7 @@ loop-at-preserved g c =
     record {
       analyzers = c.in-Ok.ensures.analyzers ∙ so_far.analyzers;
       schema = c.in-Ok.ensures.same.schema ∙ so_far.schema;
+      block_size = c.in-Ok.ensures.same.block_size ∙ so_far.block_size;
       has = one_more schema analyzer c.args.first operations i operation old new at so_far.has taken;
       rest =
           still_none schema analyzer c.args.first operations i operation at (taken_unrefused analyzer (c.args.first + i) old new schema operation so_far.schema taken) so_far.rest;
@@ -51,5 +53,6 @@ returns g c = record {
       (omega (arith, c.loop-at-test.false, length-map c.args.operations.now operation_of)) c.loop-at.invariant.has;
   analyzers = c.loop-at.invariant.analyzers;
   schema = c.loop-at.invariant.schema;
+  block_size = c.loop-at.invariant.block_size;
   err = tt;
 }

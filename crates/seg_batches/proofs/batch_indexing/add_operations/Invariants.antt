@@ -13,6 +13,7 @@ invariant-loop-at g l =
     record {
       analyzers : l.writer.0 ≡ l.initial.writer.0;
       schema : l.writer.1.schema ≡ fields;
+      block_size : l.writer.1.block_size ≡ l.initial.writer.1.block_size;
       has : HasAdditions analyzer l.first (take l.at operations) l.writer.1;
       rest : refused_from fields analyzer (l.first + l.at) (drop l.at operations) ≡ refused_from fields analyzer l.first operations;
     }

@@ -21,14 +21,15 @@ returns-in-Ok-into_segment-clause-segment g c =
     let writer = c.add_operations.new.writer in
     let few : length (additions operations) < 2 ^ 31 = omega (arith, c.if-count_additions-gt-MAX_DOCUMENTS.false, c.count_additions.ensures) in
     of_batch c.args.writer.1.schema (F c.args.writer.0) c.args.first operations writer.1 c.in-Ok.ensures.schema c.in-Ok.ensures.added
-    (F writer.0) made.segment (ap F c.in-Ok.ensures.analyzers) few made.ensures.stands made.ensures.fields made.ensures.totals made.ensures.stamps
+    c.args.writer.1.block_size (F writer.0) made.segment c.in-Ok.ensures.block_size (ap F c.in-Ok.ensures.analyzers) few
+    made.ensures.stands made.ensures.fields made.ensures.totals made.ensures.blocks made.ensures.stamps
 
 pub returns-in-Ok-into_segment-clause-tells : goal.returns-in-Ok-into_segment-clause-tells
 returns-in-Ok-into_segment-clause-tells g c =
     let F = g.Z.Analyzers.tokens_of c.args.writer.0 in
     let schema = c.args.writer.1.schema in
     let operations = map operation_of c.args.operations.now in
-    let made : AreOfBatch schema F c.args.first operations c.in-Ok-into_segment.segment.files c.in-Ok-into_segment.segment.stamps.items = returns-in-Ok-into_segment-clause-segment g c in
+    let made : AreOfBatch schema c.args.writer.1.block_size F c.args.first operations c.in-Ok-into_segment.segment.files c.in-Ok-into_segment.segment.stamps.items = returns-in-Ok-into_segment-clause-segment g c in
     let taken = were_taken schema F c.args.first operations c.add_operations.new.writer.1 c.in-Ok.ensures.schema c.in-Ok.ensures.added in
     not_refused schema F c.args.first operations c.in-Ok-into_segment.segment.files made.few taken made.stand
 

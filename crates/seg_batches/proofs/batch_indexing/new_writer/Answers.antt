@@ -6,8 +6,8 @@ use Rattle.seg_batches.proofs.batch_indexing.new_writer.Goals as goal
 
 pub returns-clause-unused : goal.returns-clause-unused
 returns-clause-unused g c =
-    started_unused c.args.schema.now c.new-segment.result.schema (g.Z.Analyzers.tokens_of c.args.analyzers.now) c.args.analyzers.now c.new-segment.result.meta.id c.for_segment.result
-    (ap (λ (s : SegmentParts). s.schema) c.new-segment.ensures ∙ c.share.ensures) c.for_segment.ensures.ok c.for_segment.ensures.of
+    started_unused c.args.schema.now c.new-segment.result.schema c.args.settings.now.docstore_blocksize (g.Z.Analyzers.tokens_of c.args.analyzers.now) c.args.analyzers.now c.new-segment.result.meta.id c.for_segment.result
+    (ap (λ (s : SegmentParts). s.schema) c.new-segment.ensures ∙ c.share.ensures) c.for_segment.ensures.ok c.for_segment.ensures.of c.for_segment.ensures.blocks
 
 pub returns-clause-tells : goal.returns-clause-tells
 returns-clause-tells g c =

@@ -18,7 +18,7 @@ pub returns-in-Ok-index_batch-clause-made : goal.returns-in-Ok-index_batch-claus
 returns-in-Ok-index_batch-clause-made g c =
     let F = g.Z.Analyzers.tokens_of in
     let writer = c.in-Ok.writer in
-    of_given writer.1.schema c.args.schema.now (F writer.0) (F c.args.analyzers.now) c.args.first (map operation_of c.args.operations.now) _ _ c.in-Ok.ensures.unused.1.of_schema (ap F c.in-Ok.ensures.unused.0) c.in-Ok-index_batch.ensures.segment
+    of_given writer.1.schema c.args.schema.now writer.1.block_size c.args.settings.now.docstore_blocksize (F writer.0) (F c.args.analyzers.now) c.args.first (map operation_of c.args.operations.now) _ _ c.in-Ok.ensures.unused.1.of_schema c.in-Ok.ensures.unused.1.of_size (ap F c.in-Ok.ensures.unused.0) c.in-Ok-index_batch.ensures.segment
 
 pub returns-in-Ok-index_batch-clause-tells : goal.returns-in-Ok-index_batch-clause-tells
 returns-in-Ok-index_batch-clause-tells g c =

@@ -52,6 +52,7 @@ returns-clause-segment g c =
     record {
       stand = made.stand;
       totals = made.totals;
+      blocks = made.blocks;
       number = omega (arith, counted, c.len-max_doc.ensures);
       few = omega (arith, counted, c.len-max_doc.ensures, made.few);
       left = λ before after place all.

@@ -20,7 +20,7 @@ returns-in-Err g c =
     let start = start_refusal (g.Z.Analyzers.knows c.args.analyzers.now) 15000 schema c.args.settings.now in
     record {
       does =
-          not_begun (batch_cause start schema F (enumerate_from first (slice_range operations first c.args.end))) schema F c.args.id (batch_between schema F first c.args.end operations) c.in-Err.e _
+          not_begun (batch_cause start schema F (enumerate_from first (slice_range operations first c.args.end))) schema c.args.settings.now.docstore_blocksize F c.args.id (batch_between schema F first c.args.end operations) c.in-Err.e _
           (subst (λ (os : List Operation). Tells {T = Unit {0}} (batch_cause start schema F (enumerate_from first os)) (Err c.in-Err.e)) (range_mapped c.args.operations.now first c.args.end) c.in-Err.ensures.makes.tells);
       segment = tt;
       earlier = c.in-Err.ensures.makes.earlier;
@@ -42,9 +42,10 @@ returns g c =
     let made = c.in-Ok.ensures in
     record {
       does =
-          begun (batch_cause start schema F (enumerate_from first (slice_range operations first c.args.end))) schema F c.args.id (batch_between schema F first c.args.end operations) c.in-Ok.made.files c.write_made.result _ _
+          begun (batch_cause start schema F (enumerate_from first (slice_range operations first c.args.end))) schema c.args.settings.now.docstore_blocksize F c.args.id (batch_between schema F first c.args.end operations) c.in-Ok.made.files c.write_made.result _ _
           (subst (λ (os : List Operation). batch_cause start schema F (enumerate_from first os) ≡ None) same made.makes.tells)
-          (subst (λ (os : List Operation). StandAndTell schema F (additions os) c.in-Ok.made.files) same (record { stand = made.segment.stand; totals = made.segment.totals }))
+          (subst (λ (os : List Operation). StandAndTell schema c.args.settings.now.docstore_blocksize F (additions os) c.in-Ok.made.files) same
+          (record { stand = made.segment.stand; totals = made.segment.totals; blocks = made.segment.blocks }))
           c.write_made.ensures.works;
       segment = IfOk-weaker c.write_made.result _ _ (λ s is.
           segment_here c.args.operations.now first c.args.end c.requires.rises c.requires.within schema F c.args.queue.now.operations c.requires.waits

@@ -21,7 +21,7 @@ returns-in_default-clause-does g c =
     let ids = c.args.ids.now in
     let causes = batch_causes (start_refusal (g.Z.Analyzers.knows c.args.analyzers.now) 15000 schema c.args.settings.now) schema F c.args.cuts.now operations in
     let all = batches schema F c.args.cuts.now operations in
-    starves causes schema F ids all ids causes all _ _ (none_yet causes schema F ids all _)
+    starves causes schema c.args.settings.now.docstore_blocksize F ids all ids causes all _ _ (none_yet causes schema c.args.settings.now.docstore_blocksize F ids all _)
 
 pub write_batch-requires-clause-rises : goal.write_batch-requires-clause-rises
 write_batch-requires-clause-rises g c =
@@ -48,7 +48,7 @@ returns-in-Err-clause-does g c =
     let end = c.batch_end-end.result in
     let t = turn_here schema F operations cuts at c.loop-at.first c.loop-at.invariant.place end (ends_here c.args.operations.now cuts at end c.batch_end-end.ensures) in
     let found = slice_get_read ids _ at c.index-ids-at.result refl c.loop-at-test.true c.index-ids-at.is in
-    batch_ends start schema F operations cuts at c.loop-at.first end t ids c.requires.ids c.index-ids-at.result found (batch_causes start schema F cuts operations) (batches schema F cuts operations) _ _ _ c.loop-at.invariant.so_far c.in-Err.e c.in-Err.ensures.does
+    batch_ends start schema c.args.settings.now.docstore_blocksize F operations cuts at c.loop-at.first end t ids c.requires.ids c.index-ids-at.result found (batch_causes start schema F cuts operations) (batches schema F cuts operations) _ _ _ c.loop-at.invariant.so_far c.in-Err.e c.in-Err.ensures.does
 
 pub returns-in_default-keep-clause-does : goal.returns-in_default-keep-clause-does
 returns-in_default-keep-clause-does g c =
@@ -64,7 +64,7 @@ returns-in_default-keep-clause-does g c =
     let all = batches schema F cuts operations in
     let t = turn_here schema F operations cuts at c.loop-at.first c.loop-at.invariant.place end (ends_here c.args.operations.now cuts at end c.batch_end-end.ensures) in
     let found = slice_get_read ids _ at c.index-ids-at.result refl c.loop-at-test.true c.index-ids-at.is in
-    starves causes schema F ids all _ _ _ _ _ (batch_more start schema F operations cuts at c.loop-at.first end t ids c.requires.ids c.index-ids-at.result found causes all _ _ _ c.loop-at.invariant.so_far c.in-Ok-write_batch.segment c.in-Ok-write_batch.ensures.does)
+    starves causes schema c.args.settings.now.docstore_blocksize F ids all _ _ _ _ _ (batch_more start schema c.args.settings.now.docstore_blocksize F operations cuts at c.loop-at.first end t ids c.requires.ids c.index-ids-at.result found causes all _ _ _ c.loop-at.invariant.so_far c.in-Ok-write_batch.segment c.in-Ok-write_batch.ensures.does)
 
 pub loop-at-init : goal.loop-at-init
 loop-at-init g c =
@@ -78,7 +78,7 @@ loop-at-init g c =
       cursor = search (rules, arith);
       passed = search (rules, arith);
       segments = search (rules, arith);
-      so_far = none_yet causes schema F c.args.ids.now (batches schema F c.args.cuts.now operations) _;
+      so_far = none_yet causes schema c.args.settings.now.docstore_blocksize F c.args.ids.now (batches schema F c.args.cuts.now operations) _;
     }
 
 pub loop-at-preserved : goal.loop-at-preserved
@@ -104,9 +104,9 @@ loop-at-preserved g c =
       cursor = here.earlier.within;
       passed = passed_further first end _ _ _ t.rises here.earlier;
       segments =
-          segments_turn start schema F operations cuts at first end t ids c.requires.ids id found c.loop-at.written.items c.keep.new.written.items (segments_of ids all) c.in-Ok-write_batch.segment c.in-Ok-keep.ensures here.segment so_far.segments;
+          segments_turn start schema c.args.settings.now.docstore_blocksize F operations cuts at first end t ids c.requires.ids id found c.loop-at.written.items c.keep.new.written.items (segments_of ids all) c.in-Ok-write_batch.segment c.in-Ok-keep.ensures here.segment so_far.segments;
       so_far =
-          batch_more start schema F operations cuts at first end t ids c.requires.ids id found (batch_causes start schema F cuts operations) all _ _ _ so_far.so_far c.in-Ok-write_batch.segment here.does;
+          batch_more start schema c.args.settings.now.docstore_blocksize F operations cuts at first end t ids c.requires.ids id found (batch_causes start schema F cuts operations) all _ _ _ so_far.so_far c.in-Ok-write_batch.segment here.does;
     }
 
 pub returns-clause-does : goal.returns-clause-does
@@ -118,7 +118,7 @@ returns-clause-does g c =
     let ids = c.args.ids.now in
     let causes = batch_causes (start_refusal (g.Z.Analyzers.knows c.args.analyzers.now) 15000 schema c.args.settings.now) schema F cuts operations in
     let le : length ids ≤ c.loop-at.at = omega (arith, c.loop-at-test.false) in
-    all_written causes schema F ids (batches schema F cuts operations) _ _ _ _ _ c.loop-at.invariant.so_far c.loop-at.written (drop_all c.loop-at.at ids le)
+    all_written causes schema c.args.settings.now.docstore_blocksize F ids (batches schema F cuts operations) _ _ _ _ _ c.loop-at.invariant.so_far c.loop-at.written (drop_all c.loop-at.at ids le)
 
 pub returns-clause-segments : goal.returns-clause-segments
 returns-clause-segments g c =

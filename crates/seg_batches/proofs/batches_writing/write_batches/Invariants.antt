@@ -26,7 +26,7 @@ invariant-loop-at g l =
       cursor : l.cursor ≤ l.queue.flushed;
       passed : passed_below l.first (take l.cursor l.queue.operations);
       segments : l.written.items ++ segments_of ids_left left ≡ segments_of l.ids all;
-      so_far : SoFar (batch_causes start l.schema analyzer l.cuts operations) l.schema analyzer l.ids all ids_left (map (batch_cause start l.schema analyzer) (parts_left operations l.cuts l.at l.first)) left
+      so_far : SoFar (batch_causes start l.schema analyzer l.cuts operations) l.schema l.settings.docstore_blocksize analyzer l.ids all ids_left (map (batch_cause start l.schema analyzer) (parts_left operations l.cuts l.at l.first)) left
           (g.W.Directory.state l.fn.directory)
           (g.W.Directory.state l.directory);
     }
