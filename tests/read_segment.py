@@ -103,7 +103,7 @@ is_meta = is_object({
 
 
 def goes_with_kind(entry):
-    """Whether the kind of a field allows what else is said of it."""
+    """Whether the kind of a field allows what else is told of it."""
     if entry['kind'] == 'facet':
         return entry['index'] == 'basic' and entry['fast'] and not entry['norms']
     return entry['kind'] in ('text', 'json') or entry['index'] in ('no', 'basic')

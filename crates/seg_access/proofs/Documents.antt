@@ -4,7 +4,7 @@ use Rattle.seg_values.specs.Tree.{Tree, Document}
 use Rattle.seg_access.specs.Pieces.{Mark, field, spelling, document_spelling, SpellsNone, SpellsNoDocument}
 use Rattle.seg_access.proofs.Spelling.{spelling_once}
 
--- behind pairs that were read there are those that are left of the document
+-- after pairs that were read there are those that are left of the document
 left_pairs : (done d : Document) (left : List Mark) → document_spelling done ++ left ≡ document_spelling d → (rest : Document) × (left ≡ document_spelling rest)
 left_pairs [] d left e = (d, e)
 left_pairs (p ∷ ps) [] left e = absurd cc

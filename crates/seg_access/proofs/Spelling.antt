@@ -85,7 +85,7 @@ none_at_members marks left n h none (object ms) rest e = let f : member_count ms
 
 -- ---- parts one after the other
 
--- where what is left spells no tree, and one is missing, so many aren't spelled
+-- where what is left spells no tree, and one is missing, this many aren't spelled
 missing_value : (done : Trees) (n : ℕ) (all left : List Mark) → all ≡ spellings done ++ left → tree_count done < n → SpellsNone left → SpellsNoValues n all
 missing_value no_trees n all left p h none no_trees rest c e = absurd (omega arith)
 missing_value no_trees n all left p h none (tree t ts) rest c e = none t (spellings ts ++ rest) (sym p ∙ e ∙ append_assoc (spelling t) (spellings ts) rest)
@@ -133,7 +133,7 @@ member_count_last (m ∷ ms) k t = omega (arith, member_count_last ms k t)
 
 -- ---- what was read, and what is left
 
--- so many values were read from all the pieces
+-- this many values were read from all the pieces
 pub record Read (all left : List Mark) (vs : List Tree) (n : ℕ) : Type 0 where
   pub count : tree_count (trees_from vs) ≡ n
   pub spelled : all ≡ spellings (trees_from vs) ++ left
@@ -163,7 +163,7 @@ none_more all left vs n total r h none = missing_value (trees_from vs) total all
 pub no_key_more : (all left : List Mark) (ms : List (List ℕ × Tree)) (n total : ℕ) → ReadMembers all left ms n → n < total → SpellsNoKey left → SpellsNoMembers total all
 no_key_more all left ms n total r h none = missing_member (members_from ms) total all left r.spelled (omega (arith, r.count)) (λ k t rest e. none k (spelling t ++ rest) e)
 
--- where no value is behind a key
+-- where no value is after a key
 pub no_value_more : (all left behind : List Mark) (ms : List (List ℕ × Tree)) (n total : ℕ) (k : List ℕ) → ReadMembers all left ms n → n < total → left ≡ key k ∷ behind → SpellsNone behind → SpellsNoMembers total all
 no_value_more all left behind ms n total k r h f none =
     missing_member (members_from ms) total all left r.spelled (omega (arith, r.count)) (λ j t rest e. none t rest (let b : behind ≡ spelling t ++ rest = cc in b))

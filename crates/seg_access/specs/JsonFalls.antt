@@ -22,6 +22,7 @@ pub most_deep-le : (vs : List JsonValue) → most deep-JsonValue vs ≤ most_lev
 most_deep-le [] = omega arith
 most_deep-le (v ∷ vs) = omega (arith, deep-le v, most_deep-le vs)
 
-pub most_member_deep-le : (ms : List JsonMember) → most deep-JsonMember ms ≤ most_member_levels (members_from (map member_of_json ms))
+pub most_member_deep-le : (ms : List JsonMember)
+    → most deep-JsonMember ms ≤ most_member_levels (members_from (map member_of_json ms))
 most_member_deep-le [] = omega arith
 most_member_deep-le (m ∷ ms) = omega (arith, deep-le m.value, most_member_deep-le ms)

@@ -35,4 +35,6 @@ sum_mark-mark_sum (field n) = refl
 sum_mark-mark_sum unknown = refl
 
 abbrev pub mark_code : Coded Mark
-mark_code = code_by MarkSum (coded⊎ leaf_code (coded⊎ coded_ℕ (coded⊎ coded_ℕ (coded⊎ (coded_list coded_ℕ) (coded⊎ coded_ℕ coded_unit))))) mark_sum sum_mark sum_mark-mark_sum
+mark_code = code_by MarkSum
+    (coded⊎ leaf_code (coded⊎ coded_ℕ (coded⊎ coded_ℕ (coded⊎ (coded_list coded_ℕ) (coded⊎ coded_ℕ coded_unit)))))
+    mark_sum sum_mark sum_mark-mark_sum

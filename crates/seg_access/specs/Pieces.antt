@@ -55,12 +55,13 @@ SpellsNone marks = (t : Tree) (rest : List Mark) → marks ≡ spelling t ++ res
 abbrev pub SpellsNoKey : List Mark → Type 0
 SpellsNoKey marks = (k : List ℕ) (rest : List Mark) → marks ≡ key k ∷ rest → ⊥
 
--- not so many values are spelled from the first piece on
+-- not this many values are spelled from the first piece on
 abbrev pub SpellsNoValues : ℕ → List Mark → Type 0
 SpellsNoValues count marks = (ts : Trees) (rest : List Mark) → tree_count ts ≡ count → marks ≡ spellings ts ++ rest → ⊥
 
 abbrev pub SpellsNoMembers : ℕ → List Mark → Type 0
-SpellsNoMembers count marks = (ms : Members) (rest : List Mark) → member_count ms ≡ count → marks ≡ member_spellings ms ++ rest → ⊥
+SpellsNoMembers count marks = (ms : Members) (rest : List Mark) → member_count ms ≡ count
+    → marks ≡ member_spellings ms ++ rest → ⊥
 
 -- what a leaf says to JSON: whole numbers have one type, and a leaf that JSON lacks says nothing
 abbrev pub json_value : Leaf → Mark

@@ -29,7 +29,7 @@ tree_read array_left object_left (AsLeaf l) = leaf (leaf_of l)
 tree_read array_left object_left (Array a) = array (trees_from (array_left a))
 tree_read array_left object_left (Object o) = object (members_from (object_left o))
 
--- the tree that is read, where a leaf is a value of its own
+-- the tree that is read, where a leaf is an owned value
 abbrev pub tree_of_reading : {R K A O : Type 0} → (A → List Tree) → (O → List (List ℕ × Tree)) → Reading R K A O → Tree
 tree_of_reading items_left members_left (OwnedLeaf v) = tree_of v
 tree_of_reading items_left members_left (Items a) = array (trees_from (items_left a))

@@ -11,7 +11,7 @@ use seg_values::{Field, OwnedValue, TantivyDocument, ValueError};
 use std::alloc::Global;
 use std::collections::{BTreeMap, HashMap};
 
-/// A document that pieces spell. Nothing is said of the place among the pieces after an error.
+/// A document that pieces spell. Nothing is told of the place among the pieces after an error.
 pub trait DocumentDeserialize: Sized {
     /// Whether this is what is kept of a document.
     ghost keeps: { Self → Document → Type 0 };
@@ -20,7 +20,8 @@ pub trait DocumentDeserialize: Sized {
     fn from_pieces(alloc: Global, pieces: &mut Pieces) -> Result<Self, ValueError>
         ensures ok { IfOk result (λ kept. (d : Document) × (pieces.old ≡ document_spelling d) × keeps kept d) }
         ensures end { IfOk result (λ _. pieces.new ≡ []) }
-        ensures err { IfErr result (λ e. (e ≡ ValueError.OutOfMemory) ⊎ ((e ≡ ValueError.Malformed) × SpellsNoDocument pieces.old)) };
+        ensures err { IfErr result (λ e. (e ≡ ValueError.OutOfMemory)
+            ⊎ ((e ≡ ValueError.Malformed) × SpellsNoDocument pieces.old)) };
 }
 
 impl DocumentDeserialize for TantivyDocument {
@@ -64,7 +65,8 @@ impl DocumentDeserialize for HashMap<Field, OwnedValue> {
 fn document_from(alloc: Global, pieces: &mut Pieces) -> Result<TantivyDocument, ValueError>
     ensures ok { IfOk result (λ d. pieces.old ≡ document_spelling d) }
     ensures end { IfOk result (λ _. pieces.new ≡ []) }
-    ensures err { IfErr result (λ e. (e ≡ ValueError.OutOfMemory) ⊎ ((e ≡ ValueError.Malformed) × SpellsNoDocument pieces.old)) }
+    ensures err { IfErr result (λ e. (e ≡ ValueError.OutOfMemory)
+        ⊎ ((e ≡ ValueError.Malformed) × SpellsNoDocument pieces.old)) }
 {
     let mut document = TantivyDocument::new(alloc);
     while let Some(piece) = pieces.take_next() {

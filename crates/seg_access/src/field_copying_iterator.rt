@@ -28,7 +28,8 @@ impl<'a, V, I: Iterator<Item = (&'a Field, &'a V)>> Iterator for FieldCopyingIte
 
     ghost can_next = { λ s. I.can_next s.inner };
 
-    ghost next_gives = { λ s r t. (lent : Option (Bor ℕ × Bor V)) × I.next_gives s.inner lent t.inner × (r ≡ option_map (λ p. (p.0.now, p.1)) lent) };
+    ghost next_gives = { λ s r t. (lent : Option (Bor ℕ × Bor V)) × I.next_gives s.inner lent t.inner
+        × (r ≡ option_map (λ p. (p.0.now, p.1)) lent) };
 
     ghost remaining = { λ s. I.remaining s.inner };
 

@@ -9,7 +9,7 @@ use crate::json_value::{JsonMembers, JsonValue, JsonValues};
 use crate::value::{ReferenceValue, ReferenceValueLeaf, Value};
 use std::marker::Model;
 
-/// Goes over the values of an array. It is seen as the trees that are left.
+/// Iterates over the values of an array. It is seen as the trees that are left.
 #[derive(Drop)]
 pub struct JsonArrayIter<'a> {
     values: &'a JsonValues,
@@ -48,7 +48,7 @@ impl<'a> Iterator for JsonArrayIter<'a> {
     }
 }
 
-/// Goes over the members of an object. It is seen as the keys and trees that are left.
+/// Iterates over the members of an object. It is seen as the keys and trees that are left.
 #[derive(Drop)]
 pub struct JsonObjectIter<'a> {
     members: &'a JsonMembers,

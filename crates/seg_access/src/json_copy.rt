@@ -17,7 +17,8 @@ impl JsonValue {
     pub fn new(alloc: Global, value: &Value) -> Result<JsonValue, ValueError>
         ensures ok { IfOk result (λ copy. tree_of_json copy ≡ data_tree (view value.now)) }
         ensures whole { IfOk result (λ _. has_float (view value.now) ≡ false) }
-        ensures err { IfErr result (λ e. (e ≡ ValueError.OutOfMemory) ⊎ ((e ≡ ValueError.Float) × (has_float (view value.now) ≡ true))) }
+        ensures err { IfErr result (λ e. (e ≡ ValueError.OutOfMemory)
+            ⊎ ((e ≡ ValueError.Float) × (has_float (view value.now) ≡ true))) }
     {
         copy(alloc, value)
     }
@@ -27,7 +28,8 @@ impl JsonValue {
 fn copy(alloc: Global, value: &Value) -> Result<JsonValue, ValueError>
     ensures ok { IfOk result (λ copy. tree_of_json copy ≡ data_tree (view value.now)) }
     ensures whole { IfOk result (λ _. has_float (view value.now) ≡ false) }
-    ensures err { IfErr result (λ e. (e ≡ ValueError.OutOfMemory) ⊎ ((e ≡ ValueError.Float) × (has_float (view value.now) ≡ true))) }
+    ensures err { IfErr result (λ e. (e ≡ ValueError.OutOfMemory)
+        ⊎ ((e ≡ ValueError.Float) × (has_float (view value.now) ≡ true))) }
 {
     match value {
         Value::Null => Ok(JsonValue::Null),
@@ -57,7 +59,8 @@ fn copy_number(number: &Number) -> Result<JsonValue, ValueError>
 fn copy_items(alloc: Global, items: &Vec<Value>) -> Result<JsonValues, ValueError>
     ensures ok { IfOk result (λ copies. trees_from copies ≡ item_trees (items_view items.now.items)) }
     ensures whole { IfOk result (λ _. items_have_float (items_view items.now.items) ≡ false) }
-    ensures err { IfErr result (λ e. (e ≡ ValueError.OutOfMemory) ⊎ ((e ≡ ValueError.Float) × (items_have_float (items_view items.now.items) ≡ true))) }
+    ensures err { IfErr result (λ e. (e ≡ ValueError.OutOfMemory)
+        ⊎ ((e ≡ ValueError.Float) × (items_have_float (items_view items.now.items) ≡ true))) }
 {
     let mut copies = JsonValues::new(alloc);
     for item in items {
@@ -70,7 +73,8 @@ fn copy_items(alloc: Global, items: &Vec<Value>) -> Result<JsonValues, ValueErro
 fn copy_members(alloc: Global, members: &Map<String, Value>) -> Result<JsonMembers, ValueError>
     ensures ok { IfOk result (λ copies. members_from copies ≡ member_trees (members_view members.now.entries)) }
     ensures whole { IfOk result (λ _. members_have_float (members_view members.now.entries) ≡ false) }
-    ensures err { IfErr result (λ e. (e ≡ ValueError.OutOfMemory) ⊎ ((e ≡ ValueError.Float) × (members_have_float (members_view members.now.entries) ≡ true))) }
+    ensures err { IfErr result (λ e. (e ≡ ValueError.OutOfMemory)
+        ⊎ ((e ≡ ValueError.Float) × (members_have_float (members_view members.now.entries) ≡ true))) }
 {
     let mut copies = JsonMembers::new(alloc);
     for (key, member) in members.iter() {

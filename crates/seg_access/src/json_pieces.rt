@@ -23,7 +23,8 @@ impl ValueDeserialize for JsonValue {
 #[cycle(reading)]
 fn read_value(alloc: Global, pieces: &mut Pieces) -> Result<JsonValue, ValueError>
     ensures ok { IfOk result (λ v. map json_mark pieces.old ≡ spelling (tree_of_json v) ++ map json_mark pieces.new) }
-    ensures err { IfErr result (λ e. (e ≡ ValueError.OutOfMemory) ⊎ ((e ≡ ValueError.Malformed) × SpellsNone (map json_mark pieces.old))) }
+    ensures err { IfErr result (λ e. (e ≡ ValueError.OutOfMemory)
+        ⊎ ((e ≡ ValueError.Malformed) × SpellsNone (map json_mark pieces.old))) }
 {
     let Some(piece) = pieces.take_next() else {
         return Err(ValueError::Malformed);
@@ -46,12 +47,13 @@ fn read_value(alloc: Global, pieces: &mut Pieces) -> Result<JsonValue, ValueErro
     }
 }
 
-/// Reads so many values. What they take grows with the pieces that are there, and not with the count that is told.
+/// Reads this many values. What they take grows with the pieces that are there, and not with the count that is told.
 #[cycle(reading)]
 fn read_values(alloc: Global, pieces: &mut Pieces, count: u64) -> Result<JsonValues, ValueError>
     ensures count { IfOk result (λ vs. tree_count (trees_from vs) ≡ count) }
     ensures ok { IfOk result (λ vs. map json_mark pieces.old ≡ spellings (trees_from vs) ++ map json_mark pieces.new) }
-    ensures err { IfErr result (λ e. (e ≡ ValueError.OutOfMemory) ⊎ ((e ≡ ValueError.Malformed) × SpellsNoValues count (map json_mark pieces.old))) }
+    ensures err { IfErr result (λ e. (e ≡ ValueError.OutOfMemory)
+        ⊎ ((e ≡ ValueError.Malformed) × SpellsNoValues count (map json_mark pieces.old))) }
 {
     let mut values = JsonValues::new(alloc);
     for _ in 0..count {
@@ -63,8 +65,10 @@ fn read_values(alloc: Global, pieces: &mut Pieces, count: u64) -> Result<JsonVal
 #[cycle(reading)]
 fn read_members(alloc: Global, pieces: &mut Pieces, count: u64) -> Result<JsonMembers, ValueError>
     ensures count { IfOk result (λ ms. member_count (members_from ms) ≡ count) }
-    ensures ok { IfOk result (λ ms. map json_mark pieces.old ≡ member_spellings (members_from ms) ++ map json_mark pieces.new) }
-    ensures err { IfErr result (λ e. (e ≡ ValueError.OutOfMemory) ⊎ ((e ≡ ValueError.Malformed) × SpellsNoMembers count (map json_mark pieces.old))) }
+    ensures ok { IfOk result (λ ms. map json_mark pieces.old
+        ≡ member_spellings (members_from ms) ++ map json_mark pieces.new) }
+    ensures err { IfErr result (λ e. (e ≡ ValueError.OutOfMemory)
+        ⊎ ((e ≡ ValueError.Malformed) × SpellsNoMembers count (map json_mark pieces.old))) }
 {
     let mut members = JsonMembers::new(alloc);
     for _ in 0..count {

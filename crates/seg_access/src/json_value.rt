@@ -5,8 +5,8 @@ use seg_tokens::Text;
 use std::alloc::{AllocError, Global};
 use std::marker::Model;
 
-/// A JSON value whose numbers are whole. A number has no type of its own: it stands for an i64 where it is one, else for
-/// a u64, whichever variant holds it.
+/// A JSON value whose numbers are whole. A number has no type of its own: it stands for an i64 where it is one, else
+/// for a u64, whichever variant holds it.
 #[cycle(json)]
 #[derive(Drop)]
 pub enum JsonValue {

@@ -1,4 +1,4 @@
-//! A leaf of its own, made of a leaf that is lent.
+//! An owned leaf, made from a leaf that is lent.
 ghost use Rattle.std.specs.Prelude.{◌≡◌, IfOk};
 ghost use Rattle.seg_access.specs.Reading.{leaf_of};
 ghost use Rattle.seg_values.specs.Tree.{leaf};

@@ -1,10 +1,10 @@
-//! The iterator of an array or an object that a leaf hasn't.
+//! The iterator of an array or an object that a leaf doesn't have.
 ghost use Rattle.std.specs.Prelude.{[]};
 ghost use Rattle.std.specs.Iterator.{YieldsFirst, at_most};
 
 use std::marker::PhantomData;
 
-/// Goes over nothing.
+/// Iterates over nothing.
 #[derive(Drop)]
 pub struct NoItems<T> {
     of: PhantomData<T>,

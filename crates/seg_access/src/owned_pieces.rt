@@ -22,7 +22,8 @@ impl ValueDeserialize for OwnedValue {
 #[cycle(reading)]
 fn read_value(alloc: Global, pieces: &mut Pieces) -> Result<OwnedValue, ValueError>
     ensures ok { IfOk result (λ v. pieces.old ≡ spelling (tree_of v) ++ pieces.new) }
-    ensures err { IfErr result (λ e. (e ≡ ValueError.OutOfMemory) ⊎ ((e ≡ ValueError.Malformed) × SpellsNone pieces.old)) }
+    ensures err { IfErr result (λ e. (e ≡ ValueError.OutOfMemory)
+        ⊎ ((e ≡ ValueError.Malformed) × SpellsNone pieces.old)) }
 {
     let Some(piece) = pieces.take_next() else {
         return Err(ValueError::Malformed);
@@ -44,12 +45,13 @@ fn read_value(alloc: Global, pieces: &mut Pieces) -> Result<OwnedValue, ValueErr
     }
 }
 
-/// Reads so many values. What they take grows with the pieces that are there, and not with the count that is told.
+/// Reads this many values. What they take grows with the pieces that are there, and not with the count that is told.
 #[cycle(reading)]
 fn read_values(alloc: Global, pieces: &mut Pieces, count: u64) -> Result<Values, ValueError>
     ensures count { IfOk result (λ vs. tree_count (trees_from vs) ≡ count) }
     ensures ok { IfOk result (λ vs. pieces.old ≡ spellings (trees_from vs) ++ pieces.new) }
-    ensures err { IfErr result (λ e. (e ≡ ValueError.OutOfMemory) ⊎ ((e ≡ ValueError.Malformed) × SpellsNoValues count pieces.old)) }
+    ensures err { IfErr result (λ e. (e ≡ ValueError.OutOfMemory)
+        ⊎ ((e ≡ ValueError.Malformed) × SpellsNoValues count pieces.old)) }
 {
     let mut values = Values::new(alloc);
     for _ in 0..count {
@@ -62,7 +64,8 @@ fn read_values(alloc: Global, pieces: &mut Pieces, count: u64) -> Result<Values,
 fn read_members(alloc: Global, pieces: &mut Pieces, count: u64) -> Result<Members, ValueError>
     ensures count { IfOk result (λ ms. member_count (members_from ms) ≡ count) }
     ensures ok { IfOk result (λ ms. pieces.old ≡ member_spellings (members_from ms) ++ pieces.new) }
-    ensures err { IfErr result (λ e. (e ≡ ValueError.OutOfMemory) ⊎ ((e ≡ ValueError.Malformed) × SpellsNoMembers count pieces.old)) }
+    ensures err { IfErr result (λ e. (e ≡ ValueError.OutOfMemory)
+        ⊎ ((e ≡ ValueError.Malformed) × SpellsNoMembers count pieces.old)) }
 {
     let mut members = Members::new(alloc);
     for _ in 0..count {

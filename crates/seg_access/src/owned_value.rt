@@ -8,7 +8,7 @@ use crate::value::{ReferenceValue, ReferenceValueLeaf, Value};
 use seg_values::{Members, OwnedValue, Values};
 use std::marker::Model;
 
-/// Goes over the values of an array. It is seen as the trees that are left.
+/// Iterates over the values of an array. It is seen as the trees that are left.
 #[derive(Drop)]
 pub struct ArrayIter<'a> {
     values: &'a Values,
@@ -47,7 +47,7 @@ impl<'a> Iterator for ArrayIter<'a> {
     }
 }
 
-/// Goes over the members of an object. It is seen as the keys and trees that are left.
+/// Iterates over the members of an object. It is seen as the keys and trees that are left.
 #[derive(Drop)]
 pub struct ObjectMapIter<'a> {
     members: &'a Members,

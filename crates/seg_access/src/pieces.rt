@@ -20,9 +20,9 @@ pub enum Piece {
     Facet(Facet),
     Bytes(Bytes),
     IpAddr(Ipv6Addr),
-    /// So many values follow.
+    /// This many values follow.
     Array(u64),
-    /// So many keys follow, each with its value behind it.
+    /// This many keys follow, each with its value after it.
     Object(u64),
     Key(Text),
     FieldOf(Field),

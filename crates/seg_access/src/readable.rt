@@ -11,7 +11,7 @@ use std::alloc::{AllocError, Global};
 use std::convert::AsStr;
 use std::marker::PhantomData;
 
-/// A leaf of its own, or what goes over the values of an array or an object.
+/// An owned leaf, or what iterates over the values of an array or an object.
 pub(crate) enum Reading<R: Readable> {
     Leaf(OwnedValue),
     Array(R::Items),
@@ -36,11 +36,13 @@ pub(crate) trait Readable: Drop {
 
     ghost items_end: { (it : Self.Items) → Self.Items.can_next it × IsFinite (Self.Items.remaining it) };
 
-    ghost items_step: { (it after : Self.Items) (r : Option Self) → Self.Items.next_gives it r after → YieldsFirstBy tree items_left it r after };
+    ghost items_step: { (it after : Self.Items) (r : Option Self) → Self.Items.next_gives it r after
+        → YieldsFirstBy tree items_left it r after };
 
     ghost members_end: { (it : Self.Members) → Self.Members.can_next it × IsFinite (Self.Members.remaining it) };
 
-    ghost members_step: { (it after : Self.Members) (r : Option (Self.Key × Self)) → Self.Members.next_gives it r after → YieldsFirstBy (λ m. (Self.Key.text m.0, tree m.1)) members_left it r after };
+    ghost members_step: { (it after : Self.Members) (r : Option (Self.Key × Self)) → Self.Members.next_gives it r after
+        → YieldsFirstBy (λ m. (Self.Key.text m.0, tree m.1)) members_left it r after };
 }
 
 /// A value that was lent.

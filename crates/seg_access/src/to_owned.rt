@@ -1,4 +1,4 @@
-//! A value of its own, made of what a reference is read as.
+//! An owned value, made from what a reference is read as.
 ghost use Rattle.std.specs.Prelude.{◌≡◌, IfOk, IsOkUnless};
 ghost use Rattle.seg_values.specs.View.{tree_of};
 

@@ -1,4 +1,4 @@
-//! Access to a value: a leaf, or what goes over the values of an array or an object. tantivy's
+//! Access to a value: a leaf, or what iterates over the values of an array or an object. tantivy's
 //! `schema::document::value`.
 ghost use Rattle.std.specs.Prelude.{◌≡◌, List, ℕ, [], Option};
 ghost use Rattle.std.specs.Borrow.{Bor};
@@ -49,9 +49,12 @@ pub trait Value<'a>: Copy {
 
     ghost array_ends: { (it : Self.ArrayIter) → Self.ArrayIter.can_next it × IsFinite (Self.ArrayIter.remaining it) };
 
-    ghost array_steps: { (it after : Self.ArrayIter) (r : Option Self) → Self.ArrayIter.next_gives it r after → YieldsFirstBy tree array_left it r after };
+    ghost array_steps: { (it after : Self.ArrayIter) (r : Option Self) → Self.ArrayIter.next_gives it r after
+        → YieldsFirstBy tree array_left it r after };
 
-    ghost object_ends: { (it : Self.ObjectIter) → Self.ObjectIter.can_next it × IsFinite (Self.ObjectIter.remaining it) };
+    ghost object_ends: { (it : Self.ObjectIter)
+        → Self.ObjectIter.can_next it × IsFinite (Self.ObjectIter.remaining it) };
 
-    ghost object_steps: { (it after : Self.ObjectIter) (r : Option (Bor (List ℕ) × Self)) → Self.ObjectIter.next_gives it r after → YieldsFirstBy (λ m. (m.0.now, tree m.1)) object_left it r after };
+    ghost object_steps: { (it after : Self.ObjectIter) (r : Option (Bor (List ℕ) × Self))
+        → Self.ObjectIter.next_gives it r after → YieldsFirstBy (λ m. (m.0.now, tree m.1)) object_left it r after };
 }

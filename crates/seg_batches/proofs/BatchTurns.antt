@@ -70,7 +70,7 @@ IsFirstLeft schema analyzer operations cuts at first end =
     ((at < length cuts) × (batches_left schema analyzer operations cuts at first ≡ batch_between schema analyzer first end operations ∷ batches_left schema analyzer operations cuts (at + 1) end) × (parts_left operations cuts at first ≡ part_here operations first end ∷ parts_left operations cuts (at + 1) end))
     ⊎ ((length cuts ≤ at) × (batches_left schema analyzer operations cuts at first ≡ batch_between schema analyzer first end operations ∷ []) × (parts_left operations cuts at first ≡ part_here operations first end ∷ []))
 
--- what there is to say of a batch that begins and ends here
+-- what there is to say about a batch that begins and ends here
 pub record Turn (schema : Schema) (analyzer : Analyzer) (operations : List Operation) (cuts : List ℕ) (at first end : ℕ)
     : Type 0 where
   pub rises : first ≤ end

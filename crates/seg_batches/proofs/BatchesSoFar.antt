@@ -62,7 +62,7 @@ module _ (causes : List (Option TantivyError)) (schema : Schema) (size : ℕ) (a
           subst (λ steps. Works steps (Ok x) a b) (sym (so_far.are [] ∙ ap (λ is. so_far.steps ++ batches_steps is causes_left []) gone)) (then_does so_far.works (record { on = (refl, tt) }));
     }
 
--- ---- a batch more
+-- ---- one more batch
 
 module _ (start : Option TantivyError) (schema : Schema) (size : ℕ) (analyzer : Analyzer) (operations : List Operation)
     (cuts : List ℕ) (at first end : ℕ) (t : Turn schema analyzer operations cuts at first end) (ids : List ℕ)

@@ -19,7 +19,7 @@ is_addition (add document) = true
 is_addition (delete term) = false
 is_addition (delete_all terms) = false
 
--- a writer has the documents that operations add, with their places as stamps; the first operation has the place `first`
+-- a writer has the documents that operations add, their places as stamps; the first operation has the place `first`
 abbrev pub HasAdditions : Analyzer → ℕ → List Operation → SegmentWriting → Type 0
 HasAdditions analyzer first operations writer =
     Writes analyzer (additions operations) (addition_stamps first operations) writer

@@ -12,4 +12,5 @@ pub record IsFirst {T : Type 0} (target : ℕ) (operations : List (DeleteOperati
 
 -- skipping stops at the first
 abbrev pub SkippingFindsTheFirst : Type 0 → Type 0
-SkippingFindsTheFirst T = (target : ℕ) (operations : List (DeleteOperation T)) (position : ℕ) → position ≤ length operations → IsFirst target operations position (skipped target operations position)
+SkippingFindsTheFirst T = (target : ℕ) (operations : List (DeleteOperation T)) (position : ℕ)
+    → position ≤ length operations → IsFirst target operations position (skipped target operations position)

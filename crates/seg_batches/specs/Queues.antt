@@ -29,7 +29,7 @@ module _ {T : Type 0} where
   abbrev pub skipped : ℕ → List (DeleteOperation T) → ℕ → ℕ
   skipped target operations position = position + prefix_len (is_below target) (drop position operations)
 
--- what is left of a queue by a call that comes to a position: it lies within what is flushed, which is not less than before
+-- what a call that comes to a position leaves of a queue: it lies within what is flushed, which is no less than before
 pub record IsFlushedAt {T : Type 0} (position : ℕ) (old new : Queue T) : Type 0 where
   pub queue : new ≡ flushed_at position old
   pub within : position ≤ new.flushed

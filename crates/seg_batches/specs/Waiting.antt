@@ -1,4 +1,4 @@
--- Deletes that wait, and a cursor that goes over them from batch to batch.
+-- Deletes that wait, and a cursor that passes over them from batch to batch.
 use Rattle.std.specs.Prelude.{ℕ, ◌≡◌, ◌≤◌, ◌<◌, ◌++◌, List, [], ◌∷◌, take, drop, Bool, false}
 use Rattle.std.specs.List.{AllByRecursion}
 use Rattle.seg_model.specs.Operations.{Operation}

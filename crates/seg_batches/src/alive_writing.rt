@@ -11,8 +11,8 @@ use seg_directory::{Directory, write_file};
 use seg_values::{TResult, TantivyError};
 use std::alloc::{AllocError, Global};
 
-/// Writes the alive file of each segment some of whose documents are not alive, one segment after another, under the stamp
-/// of the meta that lists them. `IndexAlreadyExists`: a file of that name is there.
+/// Writes the alive file of each segment some of whose documents are not alive, one segment after another, under the
+/// stamp of the meta that lists them. `IndexAlreadyExists`: a file of that name is there.
 pub fn write_alive_files<W: Directory>(
     alloc: Global,
     stamp: Opstamp,

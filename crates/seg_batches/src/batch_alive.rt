@@ -21,8 +21,8 @@ use std::alloc::{AllocError, Global};
 /// Which documents of a segment the deletes of a queue leave, and `None` where they leave all. The files are those of a
 /// batch whose first operation has the place `first`, and `stamps` are those of its documents.
 ///
-/// The cursor comes to the first delete with a place from `first` on: those before it reach no document of this batch, nor
-/// of a later one. Where none is left the files aren't opened.
+/// The cursor comes to the first delete with a place from `first` on: those before it reach no document of this batch,
+/// nor of a later one. Where none is left the files aren't opened.
 pub(crate) fn alive_documents(
     alloc: Global,
     segment: &Segment,

@@ -23,8 +23,8 @@ use seg_tokens::Analyzers;
 use seg_values::{Schema, TResult, TantivyDocument, TantivyError};
 use std::alloc::Global;
 
-/// The segment of a batch, whose files aren't made yet, and which of its documents later deletes leave; `None` where they
-/// leave all.
+/// The segment of a batch, whose files aren't made yet, and which of its documents later deletes leave; `None` where
+/// they leave all.
 #[derive(Drop)]
 pub(crate) struct MadeBatch {
     pub(crate) files: SegmentFiles,
@@ -35,8 +35,8 @@ pub(crate) struct MadeBatch {
 /// Makes the segment of a batch, whose first operation has the place `first`. The queue is of the deletes of all
 /// operations, in the batch and after it too, and the cursor may be handed on from batch to batch.
 ///
-/// Refusals come in the order of a writer that is started, the number of documents, the first document that does not pass
-/// its check, and `Numbers` of all documents, of those too that deletes remove.
+/// Refusals come in the order of a writer that is started, the number of documents, the first document that does not
+/// pass its check, and `Numbers` of all documents, of those too that deletes remove.
 pub(crate) fn make_batch<Z: Analyzers>(
     alloc: Global,
     schema: &Schema,

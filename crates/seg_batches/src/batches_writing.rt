@@ -26,11 +26,11 @@ use seg_tokens::Analyzers;
 use seg_values::{Schema, TResult, TantivyDocument, TantivyError};
 use std::alloc::{AllocError, Global};
 
-/// Writes the segment of each batch, one after another: the operations up to each cut, and those after the last. Each has
-/// all documents that its batch adds; which of them the deletes of all operations leave is told beside its files.
+/// Writes the segment of each batch, one after another: the operations up to each cut, and those after the last. Each
+/// has all documents that its batch adds; which of them the deletes of all operations leave is told beside its files.
 ///
-/// An error ends it, with the segments of the batches before written. `SchemaError` and `InvalidArgument` tell a refusal,
-/// and no file of its batch is made; `IndexAlreadyExists`: a file of that name is there.
+/// It ends at an error, with the segments of the batches before it written. `SchemaError` and `InvalidArgument` tell a
+/// refusal, and no file of its batch is made; `IndexAlreadyExists`: a file of that name is there.
 pub fn write_batches<Z: Analyzers, W: Directory>(
     alloc: Global,
     schema: &Schema,
@@ -47,7 +47,9 @@ pub fn write_batches<Z: Analyzers, W: Directory>(
         schema.now settings.now.docstore_blocksize (Z.tokens_of analyzers.now) ids.now (batches schema.now (Z.tokens_of analyzers.now) cuts.now (map operation_of operations.now)) result
         (W.state directory.old)
         (W.state directory.new) }
-    ensures segments { IfOk result (λ ws. ws.items ≡ segments_of ids.now (batches schema.now (Z.tokens_of analyzers.now) cuts.now (map operation_of operations.now))) }
+    ensures segments { IfOk result (λ ws. ws.items
+        ≡ segments_of ids.now
+        (batches schema.now (Z.tokens_of analyzers.now) cuts.now (map operation_of operations.now))) }
 {
     let Ok(mut queue) = delete_queue(alloc, operations) else {
         return Err(TantivyError::OutOfMemory);
@@ -140,7 +142,7 @@ fn write_batch<Z: Analyzers, W: Directory>(
     write_made(alloc, id, made, directory)
 }
 
-/// Writes the files of a segment that was made; their bytes are let go.
+/// Writes the files of a segment that was made; their bytes are released.
 fn write_made<W: Directory>(
     alloc: Global,
     id: SegmentId,
@@ -149,7 +151,8 @@ fn write_made<W: Directory>(
 ) -> TResult<WrittenSegment>
     requires few { made.max_doc < 2 ^ 31 }
     requires set { LacksSome made.max_doc made.alive }
-    ensures segment { IfOk result (λ s. s ≡ record { id = id; documents = made.max_doc; alive = alive_of made.max_doc made.alive }) }
+    ensures segment { IfOk result (λ s. s
+        ≡ record { id = id; documents = made.max_doc; alive = alive_of made.max_doc made.alive }) }
     ensures works { Works (write_steps id made.files) result (W.state directory.old) (W.state directory.new) }
 {
     let MadeBatch {

@@ -8,7 +8,7 @@ use crate::delete_queue::DeleteQueue;
 use crate::operation::{DeleteOperation, Opstamp};
 use std::marker::Model;
 
-/// Goes over the operations of a queue, by itself: a copy is at the same operation, and goes on alone.
+/// Iterates over the operations of a queue, by itself: a copy is at the same operation, and goes on alone.
 ///
 /// Its calls take the queue that it is of.
 #[derive(Clone, Copy)]

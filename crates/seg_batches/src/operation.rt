@@ -2,7 +2,7 @@
 
 pub type Opstamp = u64;
 
-/// Deletes what its target says of the documents with a smaller stamp.
+/// Deletes those that its target names of the documents with a smaller stamp.
 #[derive(Drop)]
 pub struct DeleteOperation<T> {
     pub opstamp: Opstamp,

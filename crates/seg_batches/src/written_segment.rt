@@ -48,7 +48,7 @@ impl WrittenSegment {
         self.id
     }
 
-    /// How many documents the segment has, those that are not alive with them.
+    /// How many documents the segment has, including those that are not alive.
     pub fn max_doc(&self) -> u32
         ensures value { result ≡ self.now.documents }
         ensures few { result < 2 ^ 31 }

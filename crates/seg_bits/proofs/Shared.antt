@@ -86,7 +86,7 @@ module _ (size : ℕ) (left right : List ℕ) (left_enough : length left ≡ wor
 
 -- ---- in bytes
 
--- one word more is there
+-- one more word is there
 pub spelled_more : (size : ℕ) (left right : List ℕ) (i word : ℕ) (bytes new : List ℕ) → bytes ≡ spelled size (shared left right i) → word ≡ shared_word left right i → new ≡ bytes ++ to_le_bytes w64 word → new ≡ spelled size (shared left right (i + 1))
 spelled_more size left right i word bytes new so_far is grown =
     let some : List ℕ = flat_map (to_le_bytes w64) (shared left right i) in

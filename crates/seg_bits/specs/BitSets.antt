@@ -1,4 +1,6 @@
--- Sets of the numbers below a size: for each number whether it is in. In bytes: the size in four bytes, and a bit for each number, the lowest first, 64 in a word of eight bytes; the bits after the last number are 0, and nothing follows.
+-- Sets of the numbers below a size: for each number whether it is in. In bytes: the size in four
+-- bytes, and a bit for each number, the lowest first, 64 in a word of eight bytes; the bits after the
+-- last number are 0, and nothing follows.
 use Rattle.std.specs.Prelude.{ℕ, ◌+◌, ◌*◌, ◌≡◌, ◌==◌, ◌&&◌, if◌then◌else◌, ◌^◌, ◌<◌, List, Bool, true, not, length, take, drop, get_or, map, Option, Some, None}
 use Rattle.std.specs.Int.{bit_at, div_ceil}
 use Rattle.std.specs.List.{flat_map, list_all, range_with_len, count_by}
@@ -48,7 +50,8 @@ words_of bytes = map (λ i. u64_at bytes (4 + 8 * i)) (range_with_len 0 (words_f
 
 -- whether bytes are a set
 unfoldable pub is_bit_set : List ℕ → Bool
-is_bit_set bytes = (length bytes == 4 + 8 * words_for (u32_at bytes 0)) && is_clear_from (u32_at bytes 0) (words_of bytes)
+is_bit_set bytes = (length bytes == 4 + 8 * words_for (u32_at bytes 0))
+    && is_clear_from (u32_at bytes 0) (words_of bytes)
 
 -- the set that bytes have
 abbrev pub set_in : List ℕ → List Bool
@@ -62,7 +65,7 @@ set_of bytes = if is_bit_set bytes then Some (set_in bytes) else None
 abbrev pub AppendsSet : Option (List ℕ) → Option (List ℕ) → List Bool → Type 0
 AppendsSet old new set = (bytes : List ℕ) × (set_of bytes ≡ Some set) × Appends old new bytes
 
--- some first bytes of such were appended
+-- some first bytes of such bytes were appended
 abbrev pub AppendsPartOfSet : Option (List ℕ) → Option (List ℕ) → List Bool → Type 0
 AppendsPartOfSet old new set = (bytes : List ℕ) × (set_of bytes ≡ Some set) × AppendsPart old new bytes
 
@@ -72,7 +75,8 @@ AreBytes bytes = (i : ℕ) → get_or bytes i 0 < 256
 
 -- bytes that read as one set are the same
 abbrev pub SetsHaveOneForm : Type 0
-SetsHaveOneForm = (a b : List ℕ) (set : List Bool) → AreBytes a → AreBytes b → set_of a ≡ Some set → set_of b ≡ Some set → a ≡ b
+SetsHaveOneForm = (a b : List ℕ) (set : List Bool) → AreBytes a → AreBytes b
+    → set_of a ≡ Some set → set_of b ≡ Some set → a ≡ b
 
 -- what two alive sets share does not depend on their order or grouping
 pub record AliveSetsMeet : Type 0 where

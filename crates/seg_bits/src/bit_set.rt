@@ -104,7 +104,8 @@ impl BitSet {
         self.max_value
     }
 
-    /// Writes the bytes that `ReadOnlyBitSet::open` reads as this set. At an error some first bytes of them were written.
+    /// Writes the bytes that `ReadOnlyBitSet::open` reads as this set. At an error some first bytes of them were
+    /// written.
     pub fn serialize<K: Sink>(&self, writer: &mut K) -> Result<(), CommonError>
         ensures ok { OnOk result (spec.AppendsSet (K.written writer.old) (K.written writer.new) self.now) }
         ensures err { OnErr result (spec.AppendsPartOfSet (K.written writer.old) (K.written writer.new) self.now) }

@@ -36,7 +36,8 @@ pub(crate) fn first_member(bytes: &[u8], max_value: u32, from: u32) -> Option<u3
     requires size { max_value ≡ little_endian.u32_at bytes.now 0 }
     requires set { is_bit_set bytes.now ≡ true }
     ensures first { MatchOption result (numbers_from from (drop from (set_in bytes.now)) ≡ [])
-        (λ n. numbers_from from (drop from (set_in bytes.now)) ≡ n ∷ numbers_from (n + 1) (drop (n + 1) (set_in bytes.now))) }
+        (λ n. numbers_from from (drop from (set_in bytes.now))
+        ≡ n ∷ numbers_from (n + 1) (drop (n + 1) (set_in bytes.now))) }
     ensures within { IfSome result (λ n. n < max_value) }
 {
     let mut at = from as usize;

@@ -78,7 +78,7 @@ module _ (document : ℕ) (before after : JsonTerms) (texts : List (List Token))
       ∙ (λ i q. one_kept document (json_gathered before).starts own.0 own.1 q i) in
       subst (λ f. LeavesFit f others) (sym starts) (fit_cut fit).1
 
-  -- the texts that are left behind the leaf
+  -- the texts that are left after the leaf
   module _ (behind : List (List Token)) (moved : behind ≡ texts_behind texts l) where
     pub leaves_turn : with_leaves document (json_gathered after) (with_texts behind rest)
         ≡ with_leaves document (json_gathered before) (with_texts texts left)

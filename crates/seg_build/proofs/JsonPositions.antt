@@ -163,7 +163,7 @@ module _ (analyze : List ℕ → List Token) (q : List ℕ) (path : List ℕ) (p
 
 -- ---- positions that are 0
 
--- positions that are all 0, and are at most so many
+-- positions that are all 0, and are at most this many
 pub record ZeroUpTo (n : ℕ) (ps : List ℕ) : Type 0 where
   pub are_zero : AllByRecursion (λ p. p ≡ 0) ps
   pub few : length ps ≤ n

@@ -39,7 +39,7 @@ record HasLength (id : ℕ) (now : List FieldSoFar) (k n : ℕ) : Type 0 where
   at : slice_get now k ≡ Some field
   len : length_of id field ≡ n
 
--- ---- one document more
+-- ---- one more document
 
 with_documents-more : (schema : Schema) (analyzer : Analyzer) (first : ℕ) (now : List FieldSoFar) (ds : List Document) (d : Document) → with_documents schema analyzer first now (ds ++ d ∷ []) ≡ with_pairs schema analyzer (first + length ds) (with_documents schema analyzer first now ds) (indexed_part schema d)
 with_documents-more schema analyzer first now [] d = ap (λ n. with_pairs schema analyzer n now (indexed_part schema d)) (let z : first ≡ first + 0 = omega arith in z)

@@ -54,7 +54,7 @@ path_start-kept id starts (l ∷ ls) path =
 
 -- ---- stamps
 
--- no text is of a document past this one
+-- no text is of a document after this one
 pub record AreStamped (id : ℕ) (starts : PathStarts) : Type 0 where
   pub at : (path : List ℕ) (s : PathStart) → get starts path ≡ Some s → s.document ≤ id
 

@@ -36,7 +36,7 @@ module _ (start : ℕ) (path : List ℕ) (document : ℕ) where
   placed-append (x ∷ xs) ys = ap (λ l. record { bytes = prefix ++ x.text; position = start + x.position } ∷ l)
       (placed-append xs ys)
 
-  -- one token more
+  -- one more token
   pub token_turn : (before after : Terms) (t : Token) (rest left : List Token) → left ≡ t ∷ rest → after
       ≡ with_occurrences before document (placed_from start prefix (t ∷ []))
       → with_occurrences after document (placed_from start prefix rest)

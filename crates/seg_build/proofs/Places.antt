@@ -34,7 +34,7 @@ slice_get-set_other (y ∷ ys) (suc i) (suc k) v ne = slice_get-set_other ys i k
 
 -- ---- values one after another
 
--- a field with some values of a document more
+-- a field with some more values of a document
 abbrev pub added_all : ℕ → FieldSoFar → List IndexedContent → FieldSoFar
 added_all id field [] = field
 added_all id field (v ∷ vs) = added_all id (added id field v) vs

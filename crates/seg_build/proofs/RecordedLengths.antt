@@ -143,7 +143,7 @@ module _ (id : ℕ) (fields : List FieldSoFar) where
           | inr h ↦ at_other (recorded_once id (length_at id (slice_get fields p))) kept p k h.1 ∙ at
         ]
 
-    -- a length that is lacking is recorded where the field is among these, and lacks where it isn't
+    -- a length that is lacking is recorded where the field is among these, and is lacking where it isn't
     abbrev Comes : List ℕ → Kept → List ℕ → Type 0
     Comes places kept ids =
         (slice_get (with_lengths id fields places kept) k ≡ Some (Some (with_length id (length_at id (slice_get fields k)) ids)))

@@ -39,7 +39,7 @@ read_in_order : (blocks : List Block) → documents_of blocks ≡ flat_map readi
 read_in_order [] = refl
 read_in_order (b ∷ bs) = ap (λ ds. flat_map reading b ++ ds) (read_in_order bs) ∙ sym (flat_map-append reading b (flat_map (λ (b : Block). b) bs))
 
--- one document more
+-- one more document
 stored-last : (size : ℕ) (forms : List (List ℕ)) (form : List ℕ) → stored_with size (forms ++ form ∷ []) ≡ with_document form (stored_with size forms)
 stored-last size forms form = fold-append (λ (w : Taken) (d : List ℕ). with_document d w) (record { block_size = size; closed = []; open_block = [] }) forms (form ∷ [])
 

@@ -91,7 +91,7 @@ documents_count ps = documents_from 0 ps ∙ (let z : 0 + length ps ≡ length p
 abbrev pub and_total : ℕ → List Posting → ℕ
 and_total a ps = a + count_total ps
 
--- one term more
+-- one more term
 total_more : (total n : ℕ) (terms : List (List Posting)) (i : ℕ) (ps : List Posting) → slice_get terms i ≡ Some ps → n ≡ count_total ps → fold and_total (total + n) (drop (i + 1) terms) ≡ fold and_total total (drop i terms)
 total_more total n terms i ps at many =
     ap (λ m. fold and_total (total + m) (drop (i + 1) terms)) many
@@ -105,7 +105,7 @@ total_from total (t ∷ terms) =
     let rest = total_from (0 + count_total t) terms in
     omega (arith, here, rest)
 
--- one term more, where the sum stays at the greatest u64
+-- one more term, where the sum stays at the greatest u64
 pub saturated_more : (total n next : ℕ) (terms : List (List Posting)) (i : ℕ) (ps : List Posting) → slice_get terms i ≡ Some ps → n ≡ count_total ps → next ≡ min (total + n) (2 ^ 64 - 1) → min (2 ^ 64 - 1) (fold and_total next (drop (i + 1) terms)) ≡ min (2 ^ 64 - 1) (fold and_total total (drop i terms))
 saturated_more total n next terms i ps at many is =
     let all = total_more total n terms i ps at many in

@@ -61,7 +61,7 @@ saved_as f meta (Ok x) works is reads told =
     ∙ ap (λ (m : index.Meta). Some m) (sym is)
 saved_as f meta (Err e) works is reads told = tt
 
--- ---- what is said of a segment stays, once the meta is saved
+-- ---- what is told of a segment stays, once the meta is saved
 
 module _ (P : List Document → List ℕ → Type 0) {T : Type 0} (meta : index.Meta) where
   pub still_stands : (r : Result T TantivyError) {a b : DirectoryState} → Works (publish_steps meta) r a b

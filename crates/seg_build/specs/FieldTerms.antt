@@ -33,7 +33,8 @@ positional entry = record entry { kind = Text; index = options.Positions }
 
 -- the terms of each field of documents, each with its positions, whatever the field records
 abbrev pub positional_terms : Schema → Analyzer → List Document → List Terms
-positional_terms schema analyzer documents = map (λ f. terms_of (positional f.1) (map (λ d. occurrences schema analyzer d f.0) documents)) (fields schema)
+positional_terms schema analyzer documents =
+    map (λ f. terms_of (positional f.1) (map (λ d. occurrences schema analyzer d f.0) documents)) (fields schema)
 
 -- what a kind keeps of what is recorded with positions
 abbrev pub kept_as : RecordKind → Recorded → Recorded
@@ -54,8 +55,10 @@ entries_as asked terms = map (λ e. (e.0, postings_as (kind_in asked e.0) e.1)) 
 abbrev pub recorded_fields : Schema → List TermEntries → List FieldTerms
 recorded_fields [] terms = []
 recorded_fields (entry ∷ schema) [] = []
-recorded_fields (entry ∷ schema) (terms ∷ others) = record { asked = asked_by entry; terms = entries_as (asked_by entry) terms } ∷ recorded_fields schema others
+recorded_fields (entry ∷ schema) (terms ∷ others) =
+    record { asked = asked_by entry; terms = entries_as (asked_by entry) terms } ∷ recorded_fields schema others
 
 -- the terms of each field of documents
 abbrev pub fields_of : Schema → Analyzer → List Document → List FieldTerms
-fields_of schema analyzer documents = map (λ f. record { asked = asked_by f.1; terms = entries (field_terms schema analyzer documents f) }) (fields schema)
+fields_of schema analyzer documents = map
+    (λ f. record { asked = asked_by f.1; terms = entries (field_terms schema analyzer documents f) }) (fields schema)

@@ -25,11 +25,16 @@ pub record AreFieldsOf (schema : Schema) (fields : List FieldTerms) (held : List
 -- files of these parts hold the terms of fields
 abbrev pub HoldFields : Schema → List FieldTerms → FieldFiles → Type 0
 HoldFields schema fields parts =
-    (terms postings positions : List ℕ) → composite terms ≡ Some parts.terms → composite postings ≡ Some parts.postings → composite positions ≡ Some parts.positions → ((held : List Terms) → AreFieldsOf schema fields held → HoldTerms schema terms postings positions held) × TotalsAreCounts postings fields
+    (terms postings positions : List ℕ) → composite terms ≡ Some parts.terms → composite postings ≡ Some parts.postings
+    → composite positions ≡ Some parts.positions
+    → ((held : List Terms) → AreFieldsOf schema fields held → HoldTerms schema terms postings positions held)
+    × TotalsAreCounts postings fields
 
 -- a file has the length ids of documents, where these were kept
 abbrev pub HoldsNorms : Schema → IndexedBatch → List ℕ → Type 0
-HoldsNorms schema batch file = (analyzer : Analyzer) (documents : List Document) → batch.norms ≡ Some (kept_norms schema analyzer documents) → composite file ≡ Some (norms_parts schema (all_norms schema analyzer documents))
+HoldsNorms schema batch file = (analyzer : Analyzer) (documents : List Document)
+    → batch.norms ≡ Some (kept_norms schema analyzer documents)
+    → composite file ≡ Some (norms_parts schema (all_norms schema analyzer documents))
 
 -- a serializer of a segment has a store, the bytes of columns, and what a batch has
 pub record IsFilled (segment : SegmentParts) (store : Option Taken) (fast : List ℕ) (batch : IndexedBatch)

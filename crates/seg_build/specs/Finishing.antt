@@ -63,12 +63,16 @@ Fails schema kept e =
 
 -- what is kept is written: before any call its documents have no columns or it is out of memory, or six files of it are
 -- made under the id
-pub data Finishes {T : Type 0} (schema : Schema) (id : ℕ) (kept : Kept) (result : Result T TantivyError) (before after : DirectoryState) : Type 0 where
-  fails : (e : TantivyError) → Fails schema kept e → result ≡ Err e → after ≡ before → Finishes schema id kept result before after
-  makes : (files : SegmentFiles) → AreOfKept schema kept files → Works (write_steps id files) result before after → Finishes schema id kept result before after
+pub data Finishes {T : Type 0} (schema : Schema) (id : ℕ) (kept : Kept) (result : Result T TantivyError)
+    (before after : DirectoryState) : Type 0 where
+  fails : (e : TantivyError) → Fails schema kept e → result ≡ Err e → after ≡ before
+      → Finishes schema id kept result before after
+  makes : (files : SegmentFiles) → AreOfKept schema kept files → Works (write_steps id files) result before after
+      → Finishes schema id kept result before after
 
 -- where anything is kept; else there is only an error
-abbrev pub FinishesKept : {T : Type 0} → Schema → ℕ → Option Kept → Result T TantivyError → DirectoryState → DirectoryState → Type 0
+abbrev pub FinishesKept : {T : Type 0} → Schema → ℕ → Option Kept → Result T TantivyError
+    → DirectoryState → DirectoryState → Type 0
 FinishesKept schema id None result before after = (result ≡ Err SystemError) × (after ≡ before)
 FinishesKept schema id (Some kept) result before after = Finishes schema id kept result before after
 

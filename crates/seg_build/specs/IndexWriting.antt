@@ -52,8 +52,8 @@ index_files id = segment_names id ++ name.Meta ∷ []
 abbrev pub publish_steps : Meta → List Step
 publish_steps meta = save_steps (meta_text meta) ++ calls synced ∷ []
 
--- an index of what is kept is written: before any call its documents have no columns or it is out of memory; or six files
--- of it are made, and then this meta is saved
+-- an index of what is kept is written: before any call its documents have no columns or it is out of memory; or six
+-- files of it are made, and then this meta is saved
 pub data FinishesIndex {T : Type 0} (meta : Meta) (schema : Schema) (id : ℕ) (kept : Kept)
     (result : Result T TantivyError) (before after : DirectoryState) : Type 0 where
   fails : (e : TantivyError) → Fails schema kept e → result ≡ Err e → after ≡ before

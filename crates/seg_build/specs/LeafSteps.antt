@@ -27,7 +27,7 @@ abbrev pub leaf_next : ℕ → LeafContent → ℕ
 leaf_next start (text_leaf ts) = start_after start ts
 leaf_next start (coded_leaf coded) = start
 
--- that is a u32, behind a text
+-- that is a u32, after a text
 abbrev pub LeafFits : ℕ → LeafContent → Type 0
 LeafFits start (text_leaf ts) = start_after start ts < 2 ^ 32
 LeafFits start (coded_leaf coded) = Unit {0}

@@ -13,7 +13,8 @@ abbrev pub AreUpTo : ℕ → List (Option (List ℕ)) → Type 0
 AreUpTo document kept = AllByRecursion (λ k. IfSome k (λ ids. length ids ≤ document)) kept
 
 -- the ids of these documents, where those that a field lacks at its end are 0
-pub record HaveLengths (schema : Schema) (analyzer : Analyzer) (documents : List Document) (kept : List (Option (List ℕ))) : Type 0 where
+pub record HaveLengths (schema : Schema) (analyzer : Analyzer) (documents : List Document)
+    (kept : List (Option (List ℕ))) : Type 0 where
   pub up_to : AreUpTo (length documents) kept
   pub filled : map (option_map (filled (length documents))) kept ≡ kept_norms schema analyzer documents
 
@@ -33,15 +34,18 @@ length_at document (Some field) = length_of document field
 
 -- the ids of all fields with that of a document's length in one field
 abbrev pub with_length_of : ℕ → List FieldSoFar → ℕ → List (Option (List ℕ)) → List (Option (List ℕ))
-with_length_of document fields place kept = at_field place (recorded_once document (length_at document (slice_get fields place))) kept
+with_length_of document fields place kept = at_field place
+    (recorded_once document (length_at document (slice_get fields place))) kept
 
 -- and in some fields
 abbrev pub with_lengths : ℕ → List FieldSoFar → List ℕ → List (Option (List ℕ)) → List (Option (List ℕ))
 with_lengths document fields [] kept = kept
-with_lengths document fields (place ∷ places) kept = with_lengths document fields places (with_length_of document fields place kept)
+with_lengths document fields (place ∷ places) kept = with_lengths document fields places
+    (with_length_of document fields place kept)
 
 -- the ids of each field that has lengths, with the id of a document's length
 abbrev pub with_each_length : ℕ → List FieldSoFar → List (Option (List ℕ)) → List (Option (List ℕ))
 with_each_length document [] kept = kept
 with_each_length document (f ∷ fs) [] = []
-with_each_length document (f ∷ fs) (k ∷ ks) = option_map (with_length document (length_of document f)) k ∷ with_each_length document fs ks
+with_each_length document (f ∷ fs) (k ∷ ks) = option_map (with_length document (length_of document f)) k
+    ∷ with_each_length document fs ks

@@ -12,7 +12,8 @@ use Rattle.seg_build.specs.Field.{count_in}
 
 -- how often terms occur in a document, in all its fields
 abbrev pub occurrence_count : Schema → Analyzer → Document → ℕ
-occurrence_count schema analyzer document = total (λ f. length (occurrences schema analyzer document f.0)) (fields schema)
+occurrence_count schema analyzer document =
+    total (λ f. length (occurrences schema analyzer document f.0)) (fields schema)
 
 -- how often terms occur in values
 abbrev pub value_count : List (ℕ × IndexedContent) → ℕ

@@ -106,7 +106,8 @@ pub record IsOfSame (old new : SegmentWriting) : Type 0 where
 pub record Adds (analyzer : Analyzer) (document : Document) (stamp : ℕ) (old new : SegmentWriting) : Type 0 where
   pub place : IsSomeAnd old.kept HasPlace
   pub taken : is_taken old.schema analyzer document ≡ true
-  pub behind : (documents : List Document) (stamps : List ℕ) → Writes analyzer documents stamps old → Writes analyzer (documents ++ document ∷ []) (stamps ++ stamp ∷ []) new
+  pub behind : (documents : List Document) (stamps : List ℕ) → Writes analyzer documents stamps old
+      → Writes analyzer (documents ++ document ∷ []) (stamps ++ stamp ∷ []) new
 
 -- an error tells why a document is not taken; `stamp` is the place that it tells
 abbrev pub Tells : Schema → Analyzer → Document → ℕ → TantivyError → Type 0
@@ -117,7 +118,8 @@ abbrev pub AddsNone : Analyzer → Document → ℕ → SegmentWriting → Segme
 AddsNone analyzer document stamp old new SystemError = (old.kept ≡ None) × (new ≡ old)
 AddsNone analyzer document stamp old new (InvalidArgument Documents) = IsSomeAnd old.kept IsFull × (new ≡ old)
 AddsNone analyzer document stamp old new OutOfMemory = IsSomeAnd old.kept HasPlace × (new.kept ≡ None)
-AddsNone analyzer document stamp old new e = IsSomeAnd old.kept HasPlace × Tells old.schema analyzer document stamp e × (new ≡ old)
+AddsNone analyzer document stamp old new e = IsSomeAnd old.kept HasPlace
+    × Tells old.schema analyzer document stamp e × (new ≡ old)
 
 -- one more document can be taken, of which these are the indexed values
 pub record HasRoom (known : Known) (analyzer : Analyzer) (document : Document) (values : List IndexedValue)
@@ -142,4 +144,5 @@ pub record HasTaken (schema : Schema) (analyzer : Analyzer) (document : Document
   pub store : HasGrown old.store new.store (with_document (stored_form schema document))
   pub reads : stored_document_of (stored_form schema document) ≡ Some (stored_document schema document)
   pub stamps : new.stamps ≡ old.stamps ++ stamp ∷ []
-  pub occurrences : new.occurrences ≡ saturated (old.occurrences + saturated (value_count (map (value_in document) values)))
+  pub occurrences : new.occurrences
+      ≡ saturated (old.occurrences + saturated (value_count (map (value_in document) values)))

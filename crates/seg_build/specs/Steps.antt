@@ -1,4 +1,4 @@
--- The fields of a schema while documents come, value by value: what the steps between say, of which no public clause speaks.
+-- The fields of a schema while documents come, value by value: steps of which no public clause speaks.
 use Rattle.std.specs.Prelude.{ℕ, ◌+◌, List, [], ◌∷◌, Option, Some, None, IsSomeAnd, slice_set}
 use Rattle.std.specs.FinMap as fin
 use Rattle.std.specs.List.{slice_get}

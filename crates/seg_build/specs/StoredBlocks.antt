@@ -10,7 +10,8 @@ use Rattle.seg_store.specs.Writing.{Taken, with_document, all_blocks}
 -- the bytes of these documents in order, in blocks that are closed once they have `size` bytes
 abbrev pub stored_with : ℕ → List (List ℕ) → Taken
 stored_with size documents =
-    fold (λ taken document. with_document document taken) (record { block_size = size; closed = []; open_block = [] }) documents
+    fold (λ taken document. with_document document taken)
+    (record { block_size = size; closed = []; open_block = [] }) documents
 
 -- the bytes of a store have the blocks that documents make, as they are stored
 abbrev pub HasBlocks : Schema → ℕ → List Document → List ℕ → Type 0

@@ -18,4 +18,6 @@ pub record CanBeWritten (field : FieldTerms) : Type 0 where
 
 -- the terms of fewer than 2^31 documents that pass their check can be written, field by field
 abbrev pub TakenTermsCanBeWritten : Type 0
-TakenTermsCanBeWritten = (schema : Schema) (analyzer : Analyzer) (documents : List Document) → list_all (is_taken schema analyzer) documents ≡ true → length documents < 2 ^ 31 → AllByRecursion CanBeWritten (fields_of schema analyzer documents)
+TakenTermsCanBeWritten = (schema : Schema) (analyzer : Analyzer) (documents : List Document)
+    → list_all (is_taken schema analyzer) documents ≡ true → length documents < 2 ^ 31
+    → AllByRecursion CanBeWritten (fields_of schema analyzer documents)

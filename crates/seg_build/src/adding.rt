@@ -12,7 +12,7 @@ use seg_check::{IndexedValue, ValueForm, given_tokens};
 use seg_values::{OwnedValue, Pairs};
 use std::alloc::{AllocError, Global};
 
-/// Adds values of a document that no other one is past, and answers how often terms occur in them, at most
+/// Adds values of a document that no other one comes after, and answers how often terms occur in them, at most
 /// `usize::MAX`.
 pub(crate) fn add_values(
     alloc: Global,

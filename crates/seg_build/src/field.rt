@@ -64,8 +64,8 @@ impl FieldPostings {
         }
     }
 
-    /// Adds a text of a document that no other one is past, and answers how many of its tokens give terms. After an error
-    /// some of its tokens may have been added.
+    /// Adds a text of a document that no other one comes after, and answers how many of its tokens give terms. After an
+    /// error some of its tokens may have been added.
     pub fn add_text(
         &mut self,
         alloc: Global,
@@ -89,9 +89,9 @@ impl FieldPostings {
         Ok(more)
     }
 
-    /// Adds a JSON value that passed the check of leaves and keys, of a document that no other one is past, with the
-    /// tokens of its texts, and answers how many terms it gives, at most `usize::MAX`. After an error some of them may
-    /// have been added.
+    /// Adds a JSON value that passed the check of leaves and keys, of a document that no other one comes after, with
+    /// the tokens of its texts, and answers how many terms it gives, at most `usize::MAX`. After an error some of them
+    /// may have been added.
     pub fn add_leaves(
         &mut self,
         alloc: Global,
@@ -120,8 +120,8 @@ impl FieldPostings {
         Ok(more)
     }
 
-    /// Adds a value that is neither a text nor JSON, of a document that no other one is past, and answers how many terms
-    /// it gives. After an error some of them may have been added.
+    /// Adds a value that is neither a text nor JSON, of a document that no other one comes after, and answers how many
+    /// terms it gives. After an error some of them may have been added.
     pub fn add_terms(
         &mut self,
         alloc: Global,
@@ -129,8 +129,10 @@ impl FieldPostings {
         value: &OwnedValue,
     ) -> Result<usize, AllocError>
         requires { Fits document (content.terms (value_terms (tree_of value.now))) self.old }
-        ensures added { OnOk result (self.new ≡ added document self.old (content.terms (value_terms (tree_of value.now)))) }
-        ensures counted { IfOk result (λ more. more ≡ saturated (count_in (content.terms (value_terms (tree_of value.now))))) }
+        ensures added { OnOk result
+            (self.new ≡ added document self.old (content.terms (value_terms (tree_of value.now)))) }
+        ensures counted { IfOk result (λ more. more
+            ≡ saturated (count_in (content.terms (value_terms (tree_of value.now))))) }
     {
         let start = self.start_of(document);
         let len = self.length_of(document);

@@ -45,9 +45,11 @@ impl IndexedFields {
         schema: &[FieldEntry],
         fields: Vec<FieldPostings>,
     ) -> Result<IndexedFields, AllocError>
-        requires writable { AllByRecursion CanBeWritten (recorded_fields schema.now (map (λ f. entries f.terms) fields.items)) }
+        requires writable { AllByRecursion CanBeWritten
+            (recorded_fields schema.now (map (λ f. entries f.terms) fields.items)) }
         requires as_many { length fields.items ≡ length schema.now }
-        ensures { IfOk result (λ sorted. sorted ≡ recorded_fields schema.now (map (λ f. entries f.terms) fields.items)) }
+        ensures { IfOk result (λ sorted. sorted
+            ≡ recorded_fields schema.now (map (λ f. entries f.terms) fields.items)) }
     {
         let fields = sort_fields(alloc, schema, fields)?;
         Ok(IndexedFields { fields })
@@ -103,7 +105,8 @@ fn sort_fields(
     fields: Vec<FieldPostings>,
 ) -> Result<Vec<SortedTerms>, AllocError>
     requires as_many { length fields.items ≡ length schema.now }
-    ensures { IfOk result (λ sorted. sorted.items ≡ recorded_fields schema.now (map (λ f. entries f.terms) fields.items)) }
+    ensures { IfOk result (λ sorted. sorted.items
+        ≡ recorded_fields schema.now (map (λ f. entries f.terms) fields.items)) }
 {
     let mut sorted = Vec::new(alloc);
     for field in fields {

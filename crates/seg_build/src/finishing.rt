@@ -25,7 +25,8 @@ pub(crate) fn finish<W: Directory>(
     directory: &mut W,
 ) -> TResult<Vec<Opstamp>>
     requires under_way { (analyzer : Analyzer) × IsUnderWay segment.schema analyzer (kept_of parts) }
-    ensures does { Finishes segment.schema segment.meta.id (kept_of parts) result (W.state directory.old) (W.state directory.new) }
+    ensures does { Finishes segment.schema segment.meta.id (kept_of parts) result
+        (W.state directory.old) (W.state directory.new) }
     ensures stamps { IfOk result (λ stamps. stamps.items ≡ parts.stamps.items) }
 {
     let id = segment.id();

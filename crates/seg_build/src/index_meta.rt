@@ -48,7 +48,8 @@ pub(crate) fn save_one_segment<W: Directory>(
     ensures meta { IfOk result (λ saved. meta_of saved
         ≡ one_segment_meta (settings_of index.now.index_settings) index.now.schema id documents) }
     ensures back { IfOk result (λ saved. meta_read (meta_text (meta_of saved)) ≡ Some (meta_of saved)) }
-    ensures does { Works (publish_steps (one_segment_meta (settings_of index.now.index_settings) index.now.schema id documents))
+    ensures does { Works
+        (publish_steps (one_segment_meta (settings_of index.now.index_settings) index.now.schema id documents))
         result (W.state directory.old) (W.state directory.new) }
 {
     let Ok(metas) = one_segment_metas(alloc, index, id, documents) else {

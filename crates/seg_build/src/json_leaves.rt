@@ -27,9 +27,9 @@ use seg_values::OwnedValue;
 use std::alloc::{AllocError, Global};
 
 impl JsonTerms {
-    /// Adds the leaves of a value that passed the check of leaves and keys, of a document that no other one is past, with
-    /// the tokens of its texts, and answers how many terms they give, at most `usize::MAX`. After an error some of them
-    /// may have been added.
+    /// Adds the leaves of a value that passed the check of leaves and keys, of a document that no other one comes
+    /// after, with the tokens of its texts, and answers how many terms they give, at most `usize::MAX`. After an error
+    /// some of them may have been added.
     pub fn add_leaves(
         &mut self,
         alloc: Global,
@@ -90,7 +90,8 @@ impl JsonTerms {
         room: &mut Vec<u8>,
     ) -> Result<usize, AllocError>
         requires number { number_of self.old.terms.paths (slice_index_or self.old.terms.paths path []) ≡ Some path }
-        requires fits { LeafFits (path_start document (json_gathered self.old).starts (slice_index_or self.old.terms.paths path []))
+        requires fits { LeafFits
+            (path_start document (json_gathered self.old).starts (slice_index_or self.old.terms.paths path []))
             (contents.leaf_with (tokens.now ∷ []) (leaf_in (tree_of leaf.now))) }
         ensures added { OnOk result (AddsLeaf document self.old self.new (
           slice_index_or self.old.terms.paths path [],
@@ -138,7 +139,8 @@ impl JsonTerms {
     /// Where the next text of the path with a number begins in a document.
     fn start_of(&self, document: u32, path: u32) -> u32
         requires { number_of self.now.terms.paths (slice_index_or self.now.terms.paths path []) ≡ Some path }
-        ensures { result ≡ path_start document (json_gathered self.now).starts (slice_index_or self.now.terms.paths path []) }
+        ensures { result
+            ≡ path_start document (json_gathered self.now).starts (slice_index_or self.now.terms.paths path []) }
     {
         let kept = value_of(&self.starts, path, PathStart::NONE);
         kept.in_document(document)
@@ -154,9 +156,12 @@ impl JsonTerms {
         room: &mut Vec<u8>,
     ) -> Result<usize, AllocError>
         requires number { number_of self.old.terms.paths (slice_index_or self.old.terms.paths path []) ≡ Some path }
-        ensures added { OnOk result (AddsLeaf document self.old self.new
-            (slice_index_or self.old.terms.paths path [], contents.coded_leaf (coded_value (leaf_in (tree_of leaf.now))))) }
-        ensures counted { IfOk result (λ count. count ≡ leaf_count (contents.coded_leaf (coded_value (leaf_in (tree_of leaf.now))))) }
+        ensures added { OnOk result (AddsLeaf document self.old self.new (
+          slice_index_or self.old.terms.paths path [],
+          contents.coded_leaf (coded_value (leaf_in (tree_of leaf.now))),
+        )) }
+        ensures counted { IfOk result (λ count. count
+            ≡ leaf_count (contents.coded_leaf (coded_value (leaf_in (tree_of leaf.now))))) }
     {
         let Some(coded) = coded_leaf(leaf) else {
             return Ok(0);
@@ -188,7 +193,7 @@ fn first_tokens(texts: &[Tokens]) -> &[Token]
     }
 }
 
-/// The texts of the leaves behind this one.
+/// The texts of the leaves after this one.
 fn texts_behind<'a>(texts: &'a [Tokens], leaf: &OwnedValue) -> &'a [Tokens]
     ensures { result.now ≡ contents.texts_behind texts.now (leaf_in (tree_of leaf.now)) }
 {

@@ -16,7 +16,8 @@ pub(crate) fn record_lengths(
     fields: &[FieldPostings],
     norms: &mut FieldNormsWriter,
 ) -> Result<(), AllocError>
-    ensures { OnOk result (norms.new ≡ option_map (with_lengths document fields.now (map (λ v. v.field) values.now)) norms.old) }
+    ensures { OnOk result
+        (norms.new ≡ option_map (with_lengths document fields.now (map (λ v. v.field) values.now)) norms.old) }
 {
     for value in values {
         record_length(document, value.field, fields, norms)?;
@@ -51,7 +52,9 @@ fn record_length(
 
 /// Whether a field has lengths, and none of a document yet.
 fn lacks_length(document: u32, field: Field, norms: &FieldNormsWriter) -> bool
-    ensures { result ≡ lacks_length document (option_and_then (λ kept. option_and_then (λ ids. ids) (slice_get kept field)) norms.now) }
+    ensures { result
+        ≡ lacks_length document
+        (option_and_then (λ kept. option_and_then (λ ids. ids) (slice_get kept field)) norms.now) }
 {
     match norms.ids(field) {
         Some(ids) => ids.len() <= document as usize,

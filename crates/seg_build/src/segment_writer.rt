@@ -84,9 +84,11 @@ impl<'a, Z: Analyzers> SegmentWriter<'a, Z> {
         analyzers: &'a Z,
     ) -> TResult<SegmentWriter<'a, Z>>
         ensures ok { IfOk result (λ w. Writes (Z.tokens_of analyzers.now) [] [] w.1) }
-        ensures of { IfOk result (λ w. (w.0 ≡ analyzers.now) × (w.1.schema ≡ segment.schema) × (w.1.id ≡ segment.meta.id)) }
+        ensures of { IfOk result (λ w. (w.0 ≡ analyzers.now) × (w.1.schema ≡ segment.schema)
+            × (w.1.id ≡ segment.meta.id)) }
         ensures blocks { IfOk result (λ w. w.1.block_size ≡ settings.now.docstore_blocksize) }
-        ensures refused { IfSome (start_refusal (Z.knows analyzers.now) memory_budget_in_bytes segment.schema settings.now)
+        ensures refused { IfSome
+            (start_refusal (Z.knows analyzers.now) memory_budget_in_bytes segment.schema settings.now)
             (λ e. result ≡ Err e) }
         ensures errors { IfErr result IsStartError }
         ensures causes { IfErr result (λ e.
@@ -131,7 +133,8 @@ impl<'a, Z: Analyzers> SegmentWriter<'a, Z> {
     /// term and for each value in a fast field, and one for each document and field with lengths; at most `usize::MAX`.
     /// Nothing, once out of memory.
     pub fn mem_usage(&self) -> usize
-        ensures of { (documents : List Document) → (stamps : List ℕ) → Writes (Z.tokens_of self.now.0) documents stamps self.now.1
+        ensures of { (documents : List Document) → (stamps : List ℕ)
+            → Writes (Z.tokens_of self.now.0) documents stamps self.now.1
             → result ≡ saturated (memory_usage self.now.1.schema (Z.tokens_of self.now.0) documents) }
         ensures nothing { self.now.1.kept ≡ None → result ≡ 0 }
     {
@@ -154,7 +157,8 @@ impl<'a, Z: Analyzers> SegmentWriter<'a, Z> {
         ensures ok { OnOk result
             (Adds (Z.tokens_of self.old.0) (D.pairs_of operation.document) operation.opstamp self.old.1 self.new.1) }
         ensures err { IfErr result
-            (AddsNone (Z.tokens_of self.old.0) (D.pairs_of operation.document) operation.opstamp self.old.1 self.new.1) }
+            (AddsNone (Z.tokens_of self.old.0)
+            (D.pairs_of operation.document) operation.opstamp self.old.1 self.new.1) }
         ensures analyzers { self.new.0 ≡ self.old.0 }
         ensures same { IsOfSame self.old.1 self.new.1 }
     {
@@ -229,22 +233,30 @@ impl<'a, Z: Analyzers> SegmentWriter<'a, Z> {
         }
     }
 
-    /// Makes the six files of the segment, which then stands for the documents that were added, and answers their stamps.
-    /// Where the numbers of a path have no common type, that is told before anything is written.
-    /// Of any other name a crash leaves what it might have left before.
+    /// Makes the six files of the segment, which then stands for the documents that were added, and answers their
+    /// stamps. Where the numbers of a path have no common type, that is told before anything is written. Of any other
+    /// name a crash leaves what it might have left before.
     pub fn finalize<W: Directory>(self, directory: &mut W) -> TResult<Vec<Opstamp>>
-        ensures stands { IsTrue (W.state directory.old).tells → OnOk result ((documents : List Document) (stamps : List ℕ)
+        ensures stands { IsTrue (W.state directory.old).tells
+            → OnOk result ((documents : List Document) (stamps : List ℕ)
             → Writes (Z.tokens_of self.entry.0) documents stamps self.entry.1
-            → index.StandsFor segment_forms (W.state directory.new).files self.entry.1.schema (Z.tokens_of self.entry.0) self.entry.1.id documents) }
-        ensures totals { IsTrue (W.state directory.old).tells → OnOk result ((documents : List Document) (stamps : List ℕ)
+            → index.StandsFor segment_forms (W.state directory.new).files self.entry.1.schema
+            (Z.tokens_of self.entry.0) self.entry.1.id documents) }
+        ensures totals { IsTrue (W.state directory.old).tells
+            → OnOk result ((documents : List Document) (stamps : List ℕ)
             → Writes (Z.tokens_of self.entry.0) documents stamps self.entry.1
-            → (postings : List ℕ) → get (W.state directory.new).files (FileName.Part self.entry.1.id SegmentComponent.Postings) ≡ Some postings
+            → (postings : List ℕ)
+            → get (W.state directory.new).files (FileName.Part self.entry.1.id SegmentComponent.Postings)
+            ≡ Some postings
             → TotalsAreCounts postings (fields_of self.entry.1.schema (Z.tokens_of self.entry.0) documents)) }
-        ensures blocks { IsTrue (W.state directory.old).tells → OnOk result ((documents : List Document) (stamps : List ℕ)
+        ensures blocks { IsTrue (W.state directory.old).tells
+            → OnOk result ((documents : List Document) (stamps : List ℕ)
             → Writes (Z.tokens_of self.entry.0) documents stamps self.entry.1
-            → (store : List ℕ) → get (W.state directory.new).files (FileName.Part self.entry.1.id SegmentComponent.Store) ≡ Some store
+            → (store : List ℕ)
+            → get (W.state directory.new).files (FileName.Part self.entry.1.id SegmentComponent.Store) ≡ Some store
             → HasBlocks self.entry.1.schema self.entry.1.block_size documents store) }
-        ensures stamps { IfOk result (λ answer. (documents : List Document) (stamps : List ℕ) → Writes (Z.tokens_of self.entry.0) documents stamps self.entry.1 → answer.items ≡ stamps) }
+        ensures stamps { IfOk result (λ answer. (documents : List Document) (stamps : List ℕ)
+            → Writes (Z.tokens_of self.entry.0) documents stamps self.entry.1 → answer.items ≡ stamps) }
         ensures does { Finalizes self.entry.1 result (W.state directory.old) (W.state directory.new) }
         ensures disk { IsTrue (W.state directory.old).disk.told → KeepsOnDisk (IsOtherName self.entry.1.id)
             (W.state directory.old).disk (W.state directory.new).disk }
@@ -274,14 +286,18 @@ impl<'a, Z: Analyzers> SegmentWriter<'a, Z> {
         ensures blocks { IfOk result (λ made. (documents : List Document) (stamps : List ℕ)
             → Writes (Z.tokens_of self.entry.0) documents stamps self.entry.1
             → HasBlocks self.entry.1.schema self.entry.1.block_size documents made.files.store) }
-        ensures stamps { IfOk result (λ made. (documents : List Document) (stamps : List ℕ) → Writes (Z.tokens_of self.entry.0) documents stamps self.entry.1 → made.stamps.items ≡ stamps) }
+        ensures stamps { IfOk result (λ made. (documents : List Document) (stamps : List ℕ)
+            → Writes (Z.tokens_of self.entry.0) documents stamps self.entry.1 → made.stamps.items ≡ stamps) }
         ensures lacking { self.entry.1.kept ≡ None → result ≡ Err TantivyError.SystemError }
-        ensures mixed { (documents : List Document) (stamps : List ℕ) → Writes (Z.tokens_of self.entry.0) documents stamps self.entry.1
+        ensures mixed { (documents : List Document) (stamps : List ℕ)
+            → Writes (Z.tokens_of self.entry.0) documents stamps self.entry.1
             → columns self.entry.1.schema (Z.tokens_of self.entry.0) documents ≡ None
             → result ≡ Err (TantivyError.InvalidArgument ArgumentCause.Numbers) }
         ensures errors { IfErr result (λ e. ((e ≡ TantivyError.SystemError) × (self.entry.1.kept ≡ None))
-            ⊎ ((e ≡ TantivyError.OutOfMemory) ⊎ ((e ≡ TantivyError.InvalidArgument ArgumentCause.Numbers)
-            × ((documents : List Document) (stamps : List ℕ) → Writes (Z.tokens_of self.entry.0) documents stamps self.entry.1
+            ⊎ ((e ≡ TantivyError.OutOfMemory)
+            ⊎ ((e ≡ TantivyError.InvalidArgument ArgumentCause.Numbers)
+            × ((documents : List Document) (stamps : List ℕ)
+            → Writes (Z.tokens_of self.entry.0) documents stamps self.entry.1
             → columns self.entry.1.schema (Z.tokens_of self.entry.0) documents ≡ None)))) }
     {
         let SegmentWriter {

@@ -24,8 +24,8 @@ use seg_values::{Document, TResult, TantivyDocument, TantivyError};
 use std::alloc::Global;
 use std::marker::{Model, PhantomData};
 
-/// Takes documents one by one, and makes an index of one segment of them. Their stamps are 0, 1 and so on: a document that
-/// is refused uses up none. Once out of memory it has nothing any more.
+/// Takes documents one by one, and makes an index of one segment of them. Their stamps are 0, 1 and so on: a document
+/// that is refused uses up none. Once out of memory it has nothing any more.
 #[derive(Drop)]
 pub struct SingleSegmentIndexWriter<'a, Z: Analyzers, D = TantivyDocument> {
     alloc: Global,
@@ -59,8 +59,8 @@ impl<'a, Z: Analyzers, D> Model for SingleSegmentIndexWriter<'a, Z, D> {
 }
 
 impl<'a, Z: Analyzers, D: Document + Drop> SingleSegmentIndexWriter<'a, Z, D> {
-    /// A writer of no documents, for an index with the settings and the schema of this one: what segments it lists is not
-    /// looked at.
+    /// A writer of no documents, for an index with the settings and the schema of this one: what segments it lists is
+    /// not looked at.
     pub fn new(
         alloc: Global,
         index: Index,
@@ -69,7 +69,8 @@ impl<'a, Z: Analyzers, D: Document + Drop> SingleSegmentIndexWriter<'a, Z, D> {
         analyzers: &'a Z,
     ) -> TResult<SingleSegmentIndexWriter<'a, Z, D>>
         ensures ok { IfOk result (λ w. Writes (Z.tokens_of analyzers.now) [] [] w.1.segment) }
-        ensures of { IfOk result (λ w. (w.0 ≡ analyzers.now) × (w.1.segment.schema ≡ index.schema) × (w.1.segment.id ≡ id)) }
+        ensures of { IfOk result (λ w. (w.0 ≡ analyzers.now)
+            × (w.1.segment.schema ≡ index.schema) × (w.1.segment.id ≡ id)) }
         ensures settings { IfOk result (λ w. (w.1.settings ≡ settings_of index.index_settings)
             × (w.1.segment.block_size ≡ index.index_settings.docstore_blocksize)) }
         ensures refused { IfSome (start_refusal (Z.knows analyzers.now) mem_budget index.schema index.index_settings)
@@ -118,23 +119,27 @@ impl<'a, Z: Analyzers, D: Document + Drop> SingleSegmentIndexWriter<'a, Z, D> {
     }
 
     /// Makes the index: the six files of its segment, and then its meta, with stamp 0 and without a payload. Where the
-    /// numbers of a path have no common type, that is told before anything is written. Other files of the directory stay,
-    /// but for its meta, which is replaced.
+    /// numbers of a path have no common type, that is told before anything is written. Other files of the directory
+    /// stay, but for its meta, which is replaced.
     pub fn finalize<W: Directory>(self, directory: &mut W) -> TResult<Index>
-        ensures stands { IsTrue (W.state directory.old).tells → OnOk result ((documents : List Document) (stamps : List ℕ)
+        ensures stands { IsTrue (W.state directory.old).tells
+            → OnOk result ((documents : List Document) (stamps : List ℕ)
             → Writes (Z.tokens_of self.entry.0) documents stamps self.entry.1.segment
             → index_of_files.StandsFor segment_forms (W.state directory.new).files self.entry.1.segment.schema
             (Z.tokens_of self.entry.0) self.entry.1.segment.id documents) }
-        ensures totals { IsTrue (W.state directory.old).tells → OnOk result ((documents : List Document) (stamps : List ℕ)
+        ensures totals { IsTrue (W.state directory.old).tells
+            → OnOk result ((documents : List Document) (stamps : List ℕ)
             → Writes (Z.tokens_of self.entry.0) documents stamps self.entry.1.segment
             → (postings : List ℕ)
             → get (W.state directory.new).files (FileName.Part self.entry.1.segment.id SegmentComponent.Postings)
             ≡ Some postings
             → TotalsAreCounts postings (fields_of self.entry.1.segment.schema (Z.tokens_of self.entry.0) documents)) }
-        ensures blocks { IsTrue (W.state directory.old).tells → OnOk result ((documents : List Document) (stamps : List ℕ)
+        ensures blocks { IsTrue (W.state directory.old).tells
+            → OnOk result ((documents : List Document) (stamps : List ℕ)
             → Writes (Z.tokens_of self.entry.0) documents stamps self.entry.1.segment
             → (store : List ℕ)
-            → get (W.state directory.new).files (FileName.Part self.entry.1.segment.id SegmentComponent.Store) ≡ Some store
+            → get (W.state directory.new).files (FileName.Part self.entry.1.segment.id SegmentComponent.Store)
+            ≡ Some store
             → HasBlocks self.entry.1.segment.schema self.entry.1.segment.block_size documents store) }
         ensures meta { IfOk result (λ index. (documents : List Document) (stamps : List ℕ)
             → Writes (Z.tokens_of self.entry.0) documents stamps self.entry.1.segment

@@ -65,7 +65,8 @@ impl SortedTerms {
     #[inline]
     pub fn hits_at(&self, index: usize) -> &[Hit]
         requires { index < length self.now.terms }
-        ensures { IsSomeAnd (slice_get self.now.terms index) (λ e. e.1 ≡ postings_as (kind_in self.now.asked e.0) (grouped result.now)) }
+        ensures { IsSomeAnd (slice_get self.now.terms index) (λ e. e.1
+            ≡ postings_as (kind_in self.now.asked e.0) (grouped result.now)) }
     {
         self.terms.hits_at(index)
     }
@@ -103,7 +104,8 @@ pub(crate) fn sort_terms(
     asked: AskedKind,
     field: FieldPostings,
 ) -> Result<SortedTerms, AllocError>
-    ensures { IfOk result (λ sorted. sorted ≡ record { asked = asked; terms = entries_as asked (entries field.terms) }) }
+    ensures { IfOk result (λ sorted. sorted
+        ≡ record { asked = asked; terms = entries_as asked (entries field.terms) }) }
 {
     let FieldPostings { terms, .. } = field;
     let terms = order_field(alloc, terms)?;

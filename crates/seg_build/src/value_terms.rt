@@ -19,7 +19,8 @@ pub(crate) fn add_value_terms(
     document: u32,
     value: &OwnedValue,
 ) -> Result<usize, AllocError>
-    ensures added { OnOk result (terms.new ≡ with_occurrences terms.old document (map at_zero (value_terms (tree_of value.now)))) }
+    ensures added { OnOk result
+        (terms.new ≡ with_occurrences terms.old document (map at_zero (value_terms (tree_of value.now)))) }
     ensures counted { IfOk result (λ count. count ≡ length (value_terms (tree_of value.now))) }
 {
     match value {
@@ -64,7 +65,8 @@ fn add_number(
     document: u32,
     number: u64,
 ) -> Result<usize, AllocError>
-    ensures added { OnOk result (terms.new ≡ with_occurrences terms.old document (map at_zero (to_be_bytes w64 number ∷ []))) }
+    ensures added { OnOk result
+        (terms.new ≡ with_occurrences terms.old document (map at_zero (to_be_bytes w64 number ∷ []))) }
     ensures counted { IfOk result (λ count. count ≡ 1) }
 {
     add_term(terms, alloc, document, &number.to_be_bytes())
@@ -77,7 +79,8 @@ fn add_prefixes(
     document: u32,
     encoded: &[u8],
 ) -> Result<usize, AllocError>
-    ensures added { OnOk result (terms.new ≡ with_occurrences terms.old document (map at_zero (facet_prefixes encoded.now))) }
+    ensures added { OnOk result
+        (terms.new ≡ with_occurrences terms.old document (map at_zero (facet_prefixes encoded.now))) }
     ensures counted { IfOk result (λ count. count ≡ length (facet_prefixes encoded.now)) }
 {
     terms.add(alloc, &[], document, 0)?;
@@ -102,7 +105,8 @@ fn add_prefix(
     at: usize,
 ) -> Result<usize, AllocError>
     requires { at < length encoded.now }
-    ensures added { OnOk result (terms.new ≡ with_occurrences terms.old document (map at_zero (prefix_at encoded.now at))) }
+    ensures added { OnOk result
+        (terms.new ≡ with_occurrences terms.old document (map at_zero (prefix_at encoded.now at))) }
     ensures counted { IfOk result (λ count. count ≡ length (prefix_at encoded.now at)) }
 {
     if encoded[at] != 0 {

@@ -39,7 +39,8 @@ impl WriterParts {
         block_size: u32,
     ) -> Result<WriterParts, AllocError>
         requires { names_fit schema.now ≡ true }
-        ensures { IfOk result (λ parts. (analyzer : Analyzer) → IsKeptOf schema.now analyzer block_size [] [] (kept_of parts)) }
+        ensures { IfOk result (λ parts. (analyzer : Analyzer)
+            → IsKeptOf schema.now analyzer block_size [] [] (kept_of parts)) }
     {
         let fields = new_fields(alloc, schema.fields())?;
         let Ok(norms) = FieldNormsWriter::for_schema(alloc, schema) else {
@@ -72,7 +73,8 @@ impl WriterParts {
         values: &[IndexedValue],
         stamp: Opstamp,
     ) -> Result<WriterParts, AllocError>
-        requires room { HasRoom (Z.knows analyzers.now) (Z.tokens_of analyzers.now) document.now values.now (kept_of self) }
+        requires room { HasRoom (Z.knows analyzers.now)
+            (Z.tokens_of analyzers.now) document.now values.now (kept_of self) }
         ensures { IfOk result (λ parts. HasTaken schema.now (Z.tokens_of analyzers.now) document.now values.now stamp
             (kept_of self) (kept_of parts)) }
     {

@@ -48,7 +48,8 @@ fn write_term(
 ) -> Result<(), AllocError>
     requires opens { IsSomeAnd writer.old (λ w. MayOpen w bytes.now) }
     requires writable { AreWritable kind 0 0 (postings_as kind (grouped hits.now)) }
-    ensures { OnOk result (HasGrown writer.old writer.new (with_whole_term bytes.now (postings_as kind (grouped hits.now)))) }
+    ensures { OnOk result
+        (HasGrown writer.old writer.new (with_whole_term bytes.now (postings_as kind (grouped hits.now)))) }
 {
     let mut rest = hits;
     while !rest.is_empty() {
@@ -69,8 +70,10 @@ fn write_run(
     writer: &mut TermWriter,
 ) -> Result<(), AllocError>
     requires kept { IsOfKind kind (kept_hits kind run.now) }
-    requires takes { IsSomeAnd writer.old (MayTake bytes.now (record { document = document; recorded = kept_hits kind run.now } ∷ [])) }
-    ensures { OnOk result (HasGrown writer.old writer.new (with_more bytes.now (record { document = document; recorded = kept_hits kind run.now } ∷ []))) }
+    requires takes { IsSomeAnd writer.old
+        (MayTake bytes.now (record { document = document; recorded = kept_hits kind run.now } ∷ [])) }
+    ensures { OnOk result (HasGrown writer.old writer.new
+        (with_more bytes.now (record { document = document; recorded = kept_hits kind run.now } ∷ []))) }
 {
     set_places(kind, places, run)?;
     writer.add_document(bytes, kind, document, kept_count(kind, run), places)

@@ -23,8 +23,8 @@ impl Case<'_> {
         }
     }
 
-    /// The text that a step is to print, or else its status and the line on standard error, which its folder may have for
-    /// all cases.
+    /// The text that a step is to print, or else its status and the line on standard error, which its folder may have
+    /// for all cases.
     pub(crate) fn expected<R: Files + AllocGlobal>(
         &self,
         rt: &R,

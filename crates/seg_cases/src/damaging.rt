@@ -86,8 +86,8 @@ fn edit_outcome(alloc: Global, meta: &str, old: &str, new: &str) -> Result<Outco
 }
 
 impl DamageCase {
-    /// Prints how many of the damaged forms of each file are refused; a script stays as it is, and makes the index of which
-    /// the others are.
+    /// Prints how many of the damaged forms of each file are refused; a script stays as it is, and makes the index of
+    /// which the others are.
     fn print<R: Print + AllocGlobal>(&self, rt: &R) -> Result<(), Failure> {
         let mut work = directory(rt.alloc(), "work", None)?;
         let mut files = self.files.iter().enumerate();
@@ -102,7 +102,7 @@ impl DamageCase {
         Ok(())
     }
 
-    /// Prints it of one file, which is whole again in the directory afterwards.
+    /// Prints it for one file, which is whole again in the directory afterwards.
     fn print_file<R: Print + AllocGlobal>(
         &self,
         rt: &R,

@@ -17,7 +17,7 @@ struct Calls<'a> {
     end: u64,
 }
 
-/// What comes first of a step that isn't as expected where one call of it fails; each of the calls that its file lists
+/// What differs first in a step of which one call fails, if anything does; each of the calls that its file lists
 /// fails in turn, and then the one after them, to which the step doesn't come.
 pub(crate) fn first_unexpected<R: Files + AllocGlobal>(
     rt: &R,
@@ -71,7 +71,7 @@ fn kind_named(name: &str) -> Option<(CallKind, &'static str)> {
     }
 }
 
-/// What comes first of a step that isn't as expected where one of these calls fails, or the one after them.
+/// What differs first in a step of which one of these calls fails, or the one after them, if anything does.
 fn unexpected<R: Files + AllocGlobal>(
     rt: &R,
     case: Case<'_>,

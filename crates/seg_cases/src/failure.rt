@@ -9,7 +9,7 @@ use std::io;
 #[derive(Clone, Copy, Debug)]
 pub(crate) enum Failure {
     OutOfMemory,
-    /// A file can't be read, or the text not be printed.
+    /// A file can't be read, or the text can't be printed.
     Io(io::Error),
     /// The files of a case aren't those of one: why.
     Case(&'static str),

@@ -1,17 +1,17 @@
-//! Runs every case in the folders of `data`, and says of each whether it went as expected. Then it damages the files in the
-//! folder `damage`, and says how many of the damaged are refused.
+//! Runs every case in the folders of `data`, and says for each whether it went as expected. Then it damages the files
+//! in the folder `damage`, and says how many of the damaged are refused.
 //!
-//! A case is a script, `NAME.json`, and what is to come of it: `NAME.txt`, the printed text, or `NAME.status`, the status
-//! and below it the line on standard error. Where a case has neither, its folder has an `all.status`. It runs `build`, or
-//! the words that `NAME.words` has, a word a line; where these read no script, `NAME.json` is empty. A second step over the
-//! same directories is `NAME.2.json` with files of its own beside it, a third one `NAME.3.json`, and so on. Where there is a
-//! file `NAME.fresh`, the output directory is emptied before the step; a file `NAME.meta` is put into the work directory
-//! before it, as its meta.
+//! A case is a script, `NAME.json`, and what is to come of it: `NAME.txt`, the printed text, or `NAME.status`, the
+//! status and below it the line on standard error. Where a case has neither, its folder has an `all.status`. It runs
+//! `build`, or the words that `NAME.words` has, a word a line; where these read no script, `NAME.json` is empty. A
+//! second step over the same directories is `NAME.2.json` with files of its own beside it, a third one `NAME.3.json`,
+//! and so on. Where there is a file `NAME.fresh`, the output directory is emptied before the step; a file `NAME.meta`
+//! is put into the work directory before it, as its meta.
 //!
 //! `NAME.fails` says which calls of the directories a step makes: a line `work open_read 0 13` says that its calls of
 //! `open_read` in the work directory have the numbers 0 to 12, counted from where the directory was made. The directory
-//! `output` is that of the first step, and `fresh` one that was emptied. The case is run again for each of them, up to this
-//! step; it fails, and so does the step. Where the call of number 13 is to fail, the step goes as ever.
+//! `output` is that of the first step, and `fresh` one that was emptied. The case is run again for each of them, up to
+//! this step; it fails, and so does the step. Where the call of number 13 is to fail, the step runs as usual.
 //!
 //! What is damaged is listed in `damage/cases`, which says at its head what a line has.
 #![tactic(auto)]
@@ -50,7 +50,7 @@ fn main(rt: HostRuntime) -> Result<(), Failure> {
     print_damage(&rt)
 }
 
-/// Prints of each case of a folder how it went.
+/// Prints for each case of a folder how it went.
 fn print_folder<R: Files + Print + AllocGlobal + Clone + Drop>(
     rt: &R,
     folder: &str,
@@ -67,7 +67,7 @@ fn print_folder<R: Files + Print + AllocGlobal + Clone + Drop>(
     Ok(())
 }
 
-/// What is said of a case: that each step went as expected, or what differs first.
+/// What is told of a case: that each step went as expected, or what differs first.
 fn verdict<R: Files + AllocGlobal>(rt: &R, case: Case<'_>) -> Result<String, Failure> {
     let alloc = rt.alloc();
     let mut directories = Directories::new(alloc, None)?;

@@ -16,7 +16,7 @@ within a b n h = by_case (nat_le b n) refl
     by_case true e = let all : nat_le (max a b) n ≡ true = grind (arith, nat_tests) in all ∙ sym e
     by_case false e = let all : nat_le (max a b) n ≡ false = grind (arith, nat_tests) in all ∙ sym e
 
--- one level more is within one more
+-- one more level is within one more
 pub level_more : (k most : ℕ) → (most ≡ 0 → ⊥) → nat_le k (most - 1) ≡ nat_le (suc k) most
 level_more k most some = by_case (nat_le k (most - 1)) refl
   where

@@ -18,5 +18,6 @@ pub record Fits (analyzer : Analyzer) (input : Input) : Type 0 where
 pub record IsValidIf (told : Type 0) (known : Known) (analyzer : Analyzer) (input : Input) : Type 0 where
   pub accepted : input_refusal known analyzer input ≡ None
   pub taken : AllByRecursion (λ d. document_refusal input.schema analyzer d ≡ None) (additions input.operations)
-  pub batches : AllByRecursion (λ (b : Batch). FitsSegment input.schema analyzer b.documents) (input_batches analyzer input)
+  pub batches : AllByRecursion (λ (b : Batch). FitsSegment input.schema analyzer b.documents)
+      (input_batches analyzer input)
   pub survivors : told → FitsSegment input.schema analyzer (input_survivors analyzer input)

@@ -20,11 +20,14 @@ StandsAt entry analyze (Some t) values = Stands entry analyze t values
 -- the totals of each indexed field tell of the values that the document has in it
 abbrev pub AllStand : {S : Type 0} → Schema → Analyzer → HashMap ℕ FieldTotals S → Document → Type 0
 AllStand schema analyzer totals document =
-    (place : ℕ) (entry : FieldEntry) → slice_get schema place ≡ Some entry → is_indexed entry ≡ true → StandsAt entry (analyzer (indexing_tokenizer entry)) (get nat_eq totals place) (values_of place document)
+    (place : ℕ) (entry : FieldEntry) → slice_get schema place ≡ Some entry → is_indexed entry ≡ true
+    → StandsAt entry (analyzer (indexing_tokenizer entry)) (get nat_eq totals place) (values_of place document)
 
 -- the totals tell of one more pair
-abbrev pub TellMore : {S : Type 0} → Schema → Analyzer → ℕ × Tree → HashMap ℕ FieldTotals S → HashMap ℕ FieldTotals S → Type 0
-TellMore schema analyzer p old new = (came : Document) → AllStand schema analyzer old came → AllStand schema analyzer new (came ++ p ∷ [])
+abbrev pub TellMore : {S : Type 0} → Schema → Analyzer → ℕ × Tree → HashMap ℕ FieldTotals S
+    → HashMap ℕ FieldTotals S → Type 0
+TellMore schema analyzer p old new = (came : Document) → AllStand schema analyzer old came
+    → AllStand schema analyzer new (came ++ p ∷ [])
 
 -- these pairs of a document came: their values are kept, each text cut, and the totals tell of them
 pub record HasCut (schema : Schema) (analyzer : Analyzer) (document came : Document) (cut : CutDocument) : Type 0 where
@@ -34,7 +37,8 @@ pub record HasCut (schema : Schema) (analyzer : Analyzer) (document came : Docum
 
 -- one more pair came, which is at a place of its document
 abbrev pub CutsMore : Schema → Analyzer → ℕ → ℕ × Tree → CutDocument → CutDocument → Type 0
-CutsMore schema analyzer at p old new = (document came : Document) → slice_get document at ≡ Some p → HasCut schema analyzer document came old → HasCut schema analyzer document (came ++ p ∷ []) new
+CutsMore schema analyzer at p old new = (document came : Document) → slice_get document at ≡ Some p
+    → HasCut schema analyzer document came old → HasCut schema analyzer document (came ++ p ∷ []) new
 
 -- the values that a document has in a field are within the limits, if the field is in the schema
 abbrev pub fits_at : Analyzer → Document → ℕ → Option FieldEntry → Bool

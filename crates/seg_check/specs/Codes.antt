@@ -31,4 +31,5 @@ sum_operation-operation_sum (delete_all terms) = refl
 
 -- an operation is stored as its alternative
 abbrev pub operation_code : Coded Operation
-operation_code = code_by OperationSum (coded⊎ document_code (coded⊎ term_code (coded_list term_code))) operation_sum sum_operation sum_operation-operation_sum
+operation_code = code_by OperationSum (coded⊎ document_code (coded⊎ term_code (coded_list term_code)))
+    operation_sum sum_operation sum_operation-operation_sum

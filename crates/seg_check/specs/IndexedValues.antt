@@ -34,7 +34,8 @@ content_by Whole value = terms (value_terms value)
 abbrev pub content_from : FieldKind → Bool → Option (List Token) → List (List Token) → Tree → IndexedContent
 content_from Text expand_dots (Some ts) texts value = tokens ts
 content_from Text expand_dots None texts value = tokens (value_tokens (λ _. []) value)
-content_from Json expand_dots cut texts value = leaves (with_texts texts (map (at_path expand_dots) (model.leaves value)))
+content_from Json expand_dots cut texts value =
+    leaves (with_texts texts (map (at_path expand_dots) (model.leaves value)))
 content_from _ expand_dots cut texts value = terms (value_terms value)
 
 -- what the value of a pair gives, if it is there
@@ -52,7 +53,8 @@ HasPlainKeys (Leaves expand_dots texts) value = tree_refusal value ≡ None
 HasPlainKeys _ value = Unit {0}
 
 -- a form gives what a value was cut into, or the texts of its leaves, and is of a value that has such keys
-pub record IsFormOf (entry : FieldEntry) (cut : Option (List Token)) (texts : List (List Token)) (form : ValueForm) : Type 0 where
+pub record IsFormOf (entry : FieldEntry) (cut : Option (List Token)) (texts : List (List Token))
+    (form : ValueForm) : Type 0 where
   pub content : (value : Tree) → content_by form value ≡ content_from entry.kind entry.expand_dots cut texts value
   pub keys : (value : Tree) → (entry.kind ≡ Json → tree_refusal value ≡ None) → HasPlainKeys form value
 

@@ -9,5 +9,13 @@ use Rattle.seg_check.specs.View.{operation_of}
 use Rattle.seg_check.specs.declared.user_operation.UserOperation.{UserOperation}
 
 -- what is handed in, as the definitions have it
-abbrev pub input_of : Schema → IndexSettings → List (UserOperation Document) → List ℕ → List (Option Filter) → List ℕ → Input
-input_of schema settings operations cuts filters ids = record { schema = schema; settings = settings_of settings; operations = map operation_of operations; cuts = cuts; filters = filters; ids = ids }
+abbrev pub input_of : Schema → IndexSettings → List (UserOperation Document) → List ℕ
+    → List (Option Filter) → List ℕ → Input
+input_of schema settings operations cuts filters ids = record {
+  schema = schema;
+  settings = settings_of settings;
+  operations = map operation_of operations;
+  cuts = cuts;
+  filters = filters;
+  ids = ids;
+}

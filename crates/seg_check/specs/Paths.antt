@@ -59,12 +59,12 @@ pub record AreLeaves (paths : List (List ℕ)) (found : List (List ℕ × Leaf))
   pub are : map (path_leaf paths) leaves ≡ found
   pub numbered : AllByRecursion (IsNumbered paths) leaves
 
--- what totals say of a number
+-- what totals say about a number
 abbrev pub total_in : List Totals → Option ℕ → Totals
 total_in totals None = no_totals
 total_in totals (Some number) = slice_index_or totals number no_totals
 
--- what they say of a joined path
+-- what they say about a joined path
 abbrev pub total_at : PathTotals → List ℕ → Totals
 total_at paths path = total_in paths.totals.items (number_of paths.table path)
 

@@ -22,6 +22,7 @@ abbrev pub rises : Analyzer → FieldEntry → Tree → Bool
 rises analyzer entry value = all_rise (value_texts entry.kind (analyzer (indexing_tokenizer entry)) value)
 
 -- the totals of a field tell of these values
-pub record Stands (entry : FieldEntry) (analyze : List ℕ → List Token) (t : FieldTotals) (values : List Tree) : Type 0 where
+pub record Stands (entry : FieldEntry) (analyze : List ℕ → List Token) (t : FieldTotals)
+    (values : List Tree) : Type 0 where
   pub whole : t.whole ≡ totals_of (length values) (flat_map (value_texts entry.kind analyze) values)
   pub paths : entry.kind ≡ Json → PathsStand analyze t.paths (found_in entry.expand_dots values)

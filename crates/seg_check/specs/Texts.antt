@@ -14,4 +14,5 @@ cut_or_given None value = value_tokens (λ _. []) value
 
 -- a value of a text field has its tokens
 abbrev pub IsCut : Analyzer → FieldEntry → Option (List Token) → Tree → Type 0
-IsCut analyzer entry cut value = entry.kind ≡ Text → cut_or_given cut value ≡ value_tokens (analyzer (indexing_tokenizer entry)) value
+IsCut analyzer entry cut value = entry.kind ≡ Text
+    → cut_or_given cut value ≡ value_tokens (analyzer (indexing_tokenizer entry)) value

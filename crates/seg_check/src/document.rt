@@ -23,8 +23,12 @@ pub fn check_document<D: Document, Z: Analyzers>(
     at: usize,
 ) -> TResult<()>
     requires { AllByRecursion (KnowsTexts (Z.knows analyzers.now)) schema.now }
-    ensures ok { OnOk result (checked.document_refusal schema.now (Z.tokens_of analyzers.now) (D.pairs_of document.now) ≡ None) }
-    ensures err { IfErr result (λ e. (e ≡ TantivyError.OutOfMemory) ⊎ (checked.at_place at (checked.document_refusal schema.now (Z.tokens_of analyzers.now) (D.pairs_of document.now)) ≡ Some e)) }
+    ensures ok { OnOk result
+        (checked.document_refusal schema.now (Z.tokens_of analyzers.now) (D.pairs_of document.now) ≡ None) }
+    ensures err { IfErr result (λ e. (e ≡ TantivyError.OutOfMemory)
+        ⊎ (checked.at_place at
+        (checked.document_refusal schema.now (Z.tokens_of analyzers.now) (D.pairs_of document.now))
+        ≡ Some e)) }
 {
     let Ok(pairs) = document.pairs(alloc) else {
         return Err(TantivyError::OutOfMemory);
@@ -44,9 +48,12 @@ pub fn checked_values<Z: Analyzers>(
 ) -> TResult<Vec<IndexedValue>>
     requires { AllByRecursion (KnowsTexts (Z.knows analyzers.now)) schema.now }
     ensures ok { OnOk result (checked.document_refusal schema.now (Z.tokens_of analyzers.now) document.now ≡ None) }
-    ensures values { IfOk result (λ values. map (value_in document.now) values.items ≡ document_values schema.now (Z.tokens_of analyzers.now) document.now) }
+    ensures values { IfOk result (λ values. map (value_in document.now) values.items
+        ≡ document_values schema.now (Z.tokens_of analyzers.now) document.now) }
     ensures keys { IfOk result (λ values. AllByRecursion (IsPlainIn document.now) values.items) }
-    ensures err { IfErr result (λ e. (e ≡ TantivyError.OutOfMemory) ⊎ (checked.at_place at (checked.document_refusal schema.now (Z.tokens_of analyzers.now) document.now) ≡ Some e)) }
+    ensures err { IfErr result (λ e. (e ≡ TantivyError.OutOfMemory)
+        ⊎ (checked.at_place at (checked.document_refusal schema.now (Z.tokens_of analyzers.now) document.now)
+        ≡ Some e)) }
 {
     if let Some(refusal) = fields_refusal(schema, document, at) {
         return Err(refusal);

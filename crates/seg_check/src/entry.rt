@@ -1,4 +1,4 @@
-//! What the entry of a field says of its texts.
+//! What the entry of a field says about its texts.
 ghost use Rattle.std.specs.Prelude.{◌≡◌};
 ghost use Rattle.seg_model.specs.Fields as fields;
 

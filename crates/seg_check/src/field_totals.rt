@@ -41,7 +41,7 @@ impl FieldTotals {
     }
 
     /// One more value, which in a text field is cut, unless positions decrease in one of its texts. The texts of a JSON
-    /// value are cut here, and come behind those before them.
+    /// value are cut here, and come after those before them.
     pub fn add_value<Z: Analyzers>(
         &mut self,
         alloc: Global,
@@ -51,11 +51,21 @@ impl FieldTotals {
         value: &OwnedValue,
         texts: &mut Vec<Tokens>,
     ) -> Result<bool, AllocError>
-        requires { IsReady (Z.knows analyzers.now) (Z.tokens_of analyzers.now) entry.now text.now.cut (tree_of value.now) }
-        ensures rises { IfOk result (λ rises. rises ≡ rises_in (Z.tokens_of analyzers.now) entry.now (tree_of value.now)) }
-        ensures stands { (done : List Tree) → Stands entry.now (Z.tokens_of analyzers.now (fields.indexing_tokenizer entry.now)) self.old done → IfOk result (λ rises. rises ≡ true → Stands entry.now (Z.tokens_of analyzers.now (fields.indexing_tokenizer entry.now)) self.new (done ++ tree_of value.now ∷ [])) }
-        ensures cut { entry.now.kind ≡ FieldKind.Json → IfOk result (λ rises. rises ≡ true → texts.new.items
-            ≡ texts.old.items ++ checked.value_texts entry.now.kind (Z.tokens_of analyzers.now (fields.indexing_tokenizer entry.now)) (tree_of value.now)) }
+        requires { IsReady (Z.knows analyzers.now)
+            (Z.tokens_of analyzers.now) entry.now text.now.cut (tree_of value.now) }
+        ensures rises { IfOk result (λ rises. rises
+            ≡ rises_in (Z.tokens_of analyzers.now) entry.now (tree_of value.now)) }
+        ensures stands { (done : List Tree)
+            → Stands entry.now (Z.tokens_of analyzers.now (fields.indexing_tokenizer entry.now)) self.old done
+            → IfOk result (λ rises. rises ≡ true
+            → Stands entry.now (Z.tokens_of analyzers.now (fields.indexing_tokenizer entry.now)) self.new
+            (done ++ tree_of value.now ∷ [])) }
+        ensures cut { entry.now.kind ≡ FieldKind.Json
+            → IfOk result (λ rises. rises ≡ true
+            → texts.new.items
+            ≡ texts.old.items
+            ++ checked.value_texts entry.now.kind
+            (Z.tokens_of analyzers.now (fields.indexing_tokenizer entry.now)) (tree_of value.now)) }
     {
         match texts_size(&mut self.paths, alloc, analyzers, entry, text, value, texts)? {
             Some(size) => {
@@ -68,7 +78,9 @@ impl FieldTotals {
 
     /// Whether all is within the limits.
     pub fn fits(&self, entry: &FieldEntry) -> bool
-        ensures { (analyze : List ℕ → List Token) → (done : List Tree) → Stands entry.now analyze self.now done → result ≡ (checked.is_u32 (length done) && checked.kind_fits entry.now.kind entry.now.expand_dots analyze done) }
+        ensures { (analyze : List ℕ → List Token) → (done : List Tree) → Stands entry.now analyze self.now done
+            → result
+            ≡ (checked.is_u32 (length done) && checked.kind_fits entry.now.kind entry.now.expand_dots analyze done) }
     {
         match entry.kind {
             FieldKind::Text => self.whole.fits(),
@@ -78,7 +90,9 @@ impl FieldTotals {
     }
 
     fn fits_by_path(&self) -> bool
-        ensures { result ≡ (checked.is_u32 self.now.whole.count && (checked.is_u32 self.now.whole.size.tokens && self.now.paths.are_within)) }
+        ensures { result
+            ≡ (checked.is_u32 self.now.whole.count
+            && (checked.is_u32 self.now.whole.size.tokens && self.now.paths.are_within)) }
     {
         is_u32(self.whole.count) && is_u32(self.whole.size.tokens) && self.paths.are_within
     }
@@ -96,10 +110,21 @@ fn texts_size<Z: Analyzers>(
     texts: &mut Vec<Tokens>,
 ) -> Result<Option<TextSize>, AllocError>
     requires { IsReady (Z.knows analyzers.now) (Z.tokens_of analyzers.now) entry.now text.now.cut (tree_of value.now) }
-    ensures size { IfOk result (λ size. size ≡ measured (checked.value_texts entry.now.kind (Z.tokens_of analyzers.now (fields.indexing_tokenizer entry.now)) (tree_of value.now))) }
-    ensures stands { (done : List Tree) → entry.now.kind ≡ FieldKind.Json → PathsStand (Z.tokens_of analyzers.now (fields.indexing_tokenizer entry.now)) paths.old (found_in entry.now.expand_dots done) → IfOk result (λ size. IsSome size → PathsStand (Z.tokens_of analyzers.now (fields.indexing_tokenizer entry.now)) paths.new (found_in entry.now.expand_dots (done ++ tree_of value.now ∷ []))) }
-    ensures cut { entry.now.kind ≡ FieldKind.Json → IfOk result (λ size. IsSome size → texts.new.items
-        ≡ texts.old.items ++ checked.value_texts entry.now.kind (Z.tokens_of analyzers.now (fields.indexing_tokenizer entry.now)) (tree_of value.now)) }
+    ensures size { IfOk result (λ size. size
+        ≡ measured (checked.value_texts entry.now.kind
+        (Z.tokens_of analyzers.now (fields.indexing_tokenizer entry.now)) (tree_of value.now))) }
+    ensures stands { (done : List Tree) → entry.now.kind ≡ FieldKind.Json
+        → PathsStand (Z.tokens_of analyzers.now (fields.indexing_tokenizer entry.now)) paths.old
+        (found_in entry.now.expand_dots done)
+        → IfOk result (λ size. IsSome size
+        → PathsStand (Z.tokens_of analyzers.now (fields.indexing_tokenizer entry.now)) paths.new
+        (found_in entry.now.expand_dots (done ++ tree_of value.now ∷ []))) }
+    ensures cut { entry.now.kind ≡ FieldKind.Json
+        → IfOk result (λ size. IsSome size
+        → texts.new.items
+        ≡ texts.old.items
+        ++ checked.value_texts entry.now.kind
+        (Z.tokens_of analyzers.now (fields.indexing_tokenizer entry.now)) (tree_of value.now)) }
 {
     match entry.kind {
         FieldKind::Text => Ok(text_size(text.tokens(value))),

@@ -32,7 +32,8 @@ fn value_refusal(
     value: &OwnedValue,
     at: usize,
 ) -> Option<TantivyError>
-    ensures { result ≡ checked.at_place at (checked.value_refusal field (tree_of value.now) (slice_get schema.now field)) }
+    ensures { result
+        ≡ checked.at_place at (checked.value_refusal field (tree_of value.now) (slice_get schema.now field)) }
 {
     match schema.fields().get(field.field_id() as usize) {
         Some(entry) if takes(entry, value) => None,

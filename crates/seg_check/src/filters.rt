@@ -17,7 +17,8 @@ pub(crate) fn filters_fit(
     filters: &[Option<AliveBitSet>],
 ) -> bool
     requires { cuts_fit (map operation_of operations.now) cuts.now ≡ true }
-    ensures { (schema : model.Schema) (analyzer : model.Analyzer) → result ≡ filters_fit filters.now (batches schema analyzer cuts.now (map operation_of operations.now)) }
+    ensures { (schema : model.Schema) (analyzer : model.Analyzer)
+        → result ≡ filters_fit filters.now (batches schema analyzer cuts.now (map operation_of operations.now)) }
 {
     if filters.len() != cuts.len() + 1 {
         return false;
@@ -36,7 +37,9 @@ pub(crate) fn filters_fit(
 }
 
 fn filter_fits(filter: &Option<AliveBitSet>, batch: &[UserOperation<TantivyDocument>]) -> bool
-    ensures { (alive : List Bool) → result ≡ filter_fits filter.now (record { documents = additions (map operation_of batch.now); alive = alive }) }
+    ensures { (alive : List Bool)
+        → result
+        ≡ filter_fits filter.now (record { documents = additions (map operation_of batch.now); alive = alive }) }
 {
     match filter {
         Some(filter) => filter.bitset().max_value() as usize == num_additions(batch),

@@ -18,8 +18,8 @@ use seg_tokens::Analyzers;
 use seg_values::{ArgumentCause, SchemaCause, TResult, TantivyDocument, TantivyError};
 use std::alloc::Global;
 
-/// Checks what an index is to be built from. The first test that fails tells, in this order: `Cuts`, `Batches`, `Filters`,
-/// `SegmentIds`, `FieldName`, `Settings`, `Tokenizer`, `FastTokenizer`, `DeleteField`.
+/// Checks what an index is to be built from. The first test that fails tells, in this order: `Cuts`, `Batches`,
+/// `Filters`, `SegmentIds`, `FieldName`, `Settings`, `Tokenizer`, `FastTokenizer`, `DeleteField`.
 pub fn check_input<Z: Analyzers>(
     alloc: Global,
     analyzers: &Z,
@@ -53,7 +53,10 @@ fn check_shape(
     ids: &[SegmentId],
 ) -> TResult<()>
     ensures { (schema : model.Schema) (analyzer : model.Analyzer)
-        → Tells (shape_refusal (map operation_of operations.now) cuts.now filters.now (batches schema analyzer cuts.now (map operation_of operations.now)) ids.now) result }
+        → Tells
+        (shape_refusal (map operation_of operations.now) cuts.now filters.now
+        (batches schema analyzer cuts.now (map operation_of operations.now)) ids.now)
+        result }
 {
     if !cuts_fit(operations, cuts) {
         return Err(TantivyError::InvalidArgument(ArgumentCause::Cuts));

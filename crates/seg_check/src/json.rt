@@ -8,7 +8,8 @@ ghost use Rattle.seg_values.specs.View.{tree_of};
 use crate::kinds::is_json;
 use seg_values::{ArgumentCause, Field, FieldEntry, OwnedValue, Pairs, Schema, TantivyError};
 
-/// The first leaf or key that a JSON field which is indexed or fast may not have, in a document that is added at `place`.
+/// The first leaf or key that a JSON field which is indexed or fast may not have, in a document that is added at
+/// `place`.
 #[tactic(auto, using(crate::proofs::Places::drop_at))]
 pub(crate) fn leaves_refusal(
     schema: &Schema,

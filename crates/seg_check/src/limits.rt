@@ -19,7 +19,8 @@ pub(crate) fn is_within_limits(
     totals: &HashMap<u32, FieldTotals>,
     document: &Pairs<'_>,
 ) -> bool
-    ensures { (analyzer : fields.Analyzer) → AllStand schema.now analyzer totals.now document.now → result ≡ checked.is_within_limits schema.now analyzer document.now }
+    ensures { (analyzer : fields.Analyzer) → AllStand schema.now analyzer totals.now document.now
+        → result ≡ checked.is_within_limits schema.now analyzer document.now }
 {
     fields_fit(schema.fields(), totals, document)
         && is_u32(stored_len(schema, document))
@@ -32,7 +33,8 @@ fn fields_fit(
     totals: &HashMap<u32, FieldTotals>,
     document: &Pairs<'_>,
 ) -> bool
-    ensures { (analyzer : fields.Analyzer) → AllStand schema.now analyzer totals.now document.now → result ≡ list_all (checked.field_fits analyzer document.now) (fields.fields schema.now) }
+    ensures { (analyzer : fields.Analyzer) → AllStand schema.now analyzer totals.now document.now
+        → result ≡ list_all (checked.field_fits analyzer document.now) (fields.fields schema.now) }
 {
     for at in 0..document.len() {
         let (field, _) = document.pair(at);
@@ -45,7 +47,8 @@ fn fields_fit(
 
 /// Whether the values of a field are within the limits.
 fn field_fits(schema: &[FieldEntry], totals: &HashMap<u32, FieldTotals>, field: u32) -> bool
-    ensures { (analyzer : fields.Analyzer) → (document : Document) → AllStand schema.now analyzer totals.now document → result ≡ fits_at analyzer document field (slice_get schema.now field) }
+    ensures { (analyzer : fields.Analyzer) → (document : Document) → AllStand schema.now analyzer totals.now document
+        → result ≡ fits_at analyzer document field (slice_get schema.now field) }
 {
     let Some(entry) = schema.get(field as usize) else {
         return true;

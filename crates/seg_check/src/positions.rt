@@ -36,8 +36,10 @@ pub(crate) fn cut_texts<Z: Analyzers>(
 ) -> Result<Option<CutDocument>, AllocError>
     requires known { AllByRecursion (KnowsTexts (Z.knows analyzers.now)) schema.now }
     requires json { checked.leaves_refusal schema.now document.now ≡ None }
-    ensures order { IfOk result (λ found. is_some found ≡ is_none (checked.order_refusal schema.now (Z.tokens_of analyzers.now) document.now)) }
-    ensures cut { IfOk result (λ found. IfSome found (HasCut schema.now (Z.tokens_of analyzers.now) document.now document.now)) }
+    ensures order { IfOk result (λ found. is_some found
+        ≡ is_none (checked.order_refusal schema.now (Z.tokens_of analyzers.now) document.now)) }
+    ensures cut { IfOk result (λ found. IfSome found
+        (HasCut schema.now (Z.tokens_of analyzers.now) document.now document.now)) }
 {
     let mut cut = CutDocument::new(alloc);
     for at in 0..document.len() {
@@ -52,7 +54,8 @@ pub(crate) fn cut_texts<Z: Analyzers>(
 impl CutDocument {
     /// Before any pair.
     fn new(alloc: Global) -> CutDocument
-        ensures { (schema : fields.Schema) → (analyzer : fields.Analyzer) → (document : Document) → HasCut schema analyzer document [] result }
+        ensures { (schema : fields.Schema) → (analyzer : fields.Analyzer) → (document : Document)
+            → HasCut schema analyzer document [] result }
     {
         CutDocument {
             values: Vec::new(alloc),
@@ -72,8 +75,11 @@ impl CutDocument {
     ) -> Result<bool, AllocError>
         requires known { AllByRecursion (KnowsTexts (Z.knows analyzers.now)) schema.now }
         requires json { checked.json_refusal (tree_of value.now) (slice_get schema.now field) ≡ None }
-        ensures order { IfOk result (λ rises. rises ≡ is_none (checked.positions_refusal (Z.tokens_of analyzers.now) (tree_of value.now) (slice_get schema.now field))) }
-        ensures cut { IfOk result (λ rises. rises ≡ true → CutsMore schema.now (Z.tokens_of analyzers.now) at (field, tree_of value.now) self.old self.new) }
+        ensures order { IfOk result (λ rises. rises
+            ≡ is_none (checked.positions_refusal (Z.tokens_of analyzers.now) (tree_of value.now)
+            (slice_get schema.now field))) }
+        ensures cut { IfOk result (λ rises. rises ≡ true
+            → CutsMore schema.now (Z.tokens_of analyzers.now) at (field, tree_of value.now) self.old self.new) }
     {
         let field = field.field_id();
         let Some(entry) = schema.get(field as usize) else {
@@ -96,8 +102,11 @@ impl CutDocument {
         value: &OwnedValue,
     ) -> Result<bool, AllocError>
         requires { IsReady (Z.knows analyzers.now) (Z.tokens_of analyzers.now) entry.now text.cut (tree_of value.now) }
-        ensures rises { IfOk result (λ rises. rises ≡ rises_in (Z.tokens_of analyzers.now) entry.now (tree_of value.now)) }
-        ensures cut { (schema : fields.Schema) → slice_get schema text.field ≡ Some entry.now → IfOk result (λ rises. rises ≡ true → CutsMore schema (Z.tokens_of analyzers.now) text.at (text.field, tree_of value.now) self.old self.new) }
+        ensures rises { IfOk result (λ rises. rises
+            ≡ rises_in (Z.tokens_of analyzers.now) entry.now (tree_of value.now)) }
+        ensures cut { (schema : fields.Schema) → slice_get schema text.field ≡ Some entry.now
+            → IfOk result (λ rises. rises ≡ true
+            → CutsMore schema (Z.tokens_of analyzers.now) text.at (text.field, tree_of value.now) self.old self.new) }
     {
         let mut texts = Vec::new(alloc);
         let rises = add_value(
@@ -129,9 +138,15 @@ fn add_value<Z: Analyzers>(
 ) -> Result<bool, AllocError>
     requires { IsReady (Z.knows analyzers.now) (Z.tokens_of analyzers.now) entry.now text.now.cut (tree_of value.now) }
     ensures rises { IfOk result (λ rises. rises ≡ rises_in (Z.tokens_of analyzers.now) entry.now (tree_of value.now)) }
-    ensures stand { (schema : fields.Schema) → slice_get schema text.now.field ≡ Some entry.now → IfOk result (λ rises. rises ≡ true → TellMore schema (Z.tokens_of analyzers.now) (text.now.field, tree_of value.now) totals.old totals.new) }
-    ensures cut { entry.now.kind ≡ FieldKind.Json → IfOk result (λ rises. rises ≡ true → texts.new.items
-        ≡ texts.old.items ++ checked.value_texts entry.now.kind (Z.tokens_of analyzers.now (fields.indexing_tokenizer entry.now)) (tree_of value.now)) }
+    ensures stand { (schema : fields.Schema) → slice_get schema text.now.field ≡ Some entry.now
+        → IfOk result (λ rises. rises ≡ true
+        → TellMore schema (Z.tokens_of analyzers.now) (text.now.field, tree_of value.now) totals.old totals.new) }
+    ensures cut { entry.now.kind ≡ FieldKind.Json
+        → IfOk result (λ rises. rises ≡ true
+        → texts.new.items
+        ≡ texts.old.items
+        ++ checked.value_texts entry.now.kind
+        (Z.tokens_of analyzers.now (fields.indexing_tokenizer entry.now)) (tree_of value.now)) }
 {
     if let Some(found) = totals.get_mut(&text.field) {
         return found.add_value(alloc, analyzers, entry, text, value, texts);

@@ -11,7 +11,7 @@ use seg_tokens::{Analyzers, Tokens};
 use seg_values::OwnedValue;
 use std::alloc::{AllocError, Global};
 
-/// Cuts a leaf of a JSON field, where it is a text, whose tokens come behind those of the texts before it. The size of
+/// Cuts a leaf of a JSON field, where it is a text, whose tokens come after those of the texts before it. The size of
 /// the leaf; none where positions decrease.
 pub(crate) fn cut_leaf<Z: Analyzers>(
     texts: &mut Vec<Tokens>,
@@ -21,7 +21,9 @@ pub(crate) fn cut_leaf<Z: Analyzers>(
     leaf: &OwnedValue,
 ) -> Result<Option<TextSize>, AllocError>
     requires { IsTrue (Z.knows analyzers.now tokenizer.now) }
-    ensures size { IfOk result (λ size. size ≡ measured (map (Z.tokens_of analyzers.now tokenizer.now) (occurrences.leaf_text (leaf_in (tree_of leaf.now))))) }
+    ensures size { IfOk result (λ size. size
+        ≡ measured (map (Z.tokens_of analyzers.now tokenizer.now)
+        (occurrences.leaf_text (leaf_in (tree_of leaf.now))))) }
     ensures cut { OnOk result (texts.new.items ≡ texts.old.items
         ++ map (Z.tokens_of analyzers.now tokenizer.now) (occurrences.leaf_text (leaf_in (tree_of leaf.now)))) }
 {

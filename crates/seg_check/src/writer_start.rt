@@ -27,7 +27,8 @@ pub fn start_refusal<Z: Analyzers>(
     ensures first { result ≡ start_refusal (Z.knows analyzers.now) budget schema.now settings.now }
     ensures errors { IfSome result IsStartError }
     ensures names { result ≡ None → valid.names_fit schema.now ≡ true }
-    ensures known { result ≡ None → AllByRecursion (λ e. IsTrue (Z.knows analyzers.now (indexing_tokenizer e))) schema.now
+    ensures known { result ≡ None
+        → AllByRecursion (λ e. IsTrue (Z.knows analyzers.now (indexing_tokenizer e))) schema.now
         × AreKnown (Z.knows analyzers.now) schema.now }
 {
     if budget < LEAST_BUDGET {
@@ -77,7 +78,8 @@ pub fn settings_fit(settings: &IndexSettings) -> bool
 fn unknown_tokenizer<Z: Analyzers>(analyzers: &Z, schema: &[FieldEntry]) -> Option<Field>
     requires few { length schema.now < 2 ^ 32 }
     ensures first { result ≡ valid.unknown_tokenizer_of (Z.knows analyzers.now) schema.now }
-    ensures known { result ≡ None → AllByRecursion (λ e. IsTrue (Z.knows analyzers.now (indexing_tokenizer e))) schema.now }
+    ensures known { result ≡ None
+        → AllByRecursion (λ e. IsTrue (Z.knows analyzers.now (indexing_tokenizer e))) schema.now }
 {
     for (place, entry) in schema.iter().enumerate() {
         if !analyzers.known(indexing_tokenizer(entry)) {

@@ -23,7 +23,7 @@ unfolding stacked_from
 all_stacked [] = refl
 all_stacked (count ∷ counts) = refl
 
--- all that is left behind a file
+-- all that is left after a file
 rest_of : (file : ℕ) (counts : List ℕ)
     → stacked file (drop file counts)
     ≡ rows_from file 0 (get_or counts file 0) ++ stacked (file + 1) (drop (file + 1) counts)

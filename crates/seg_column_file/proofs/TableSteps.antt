@@ -19,7 +19,7 @@ pub column_start-next : (table : List ℕ) (i : ℕ) → column_start table (i +
 unfolding column_start
 column_start-next table i = rw (add-one i) refl
 
--- one entry more, behind another
+-- one more entry, after another
 module _ (table : List ℕ) (i at before : ℕ) (is : at ≡ place_of table i)
     (last : (k : ℕ) → k + 1 ≡ i → before ≡ place_of table k) where
   pub each_more : ((k : ℕ) → k < i → IsEntry table (place_of table k)) → IsEntry table at

@@ -13,7 +13,7 @@ use Rattle.seg_column_file.specs.ColumnTable.{AreEntries, code_in, column_start,
 unfoldable pub column_bytes : List ℕ → List ℕ → ℕ → List ℕ
 column_bytes bytes table i = slice_range bytes (column_start table i) (column_start table (i + 1))
 
--- the columns of a table with so many entries are the first bytes, as many as are told
+-- the columns of a table with this many entries are the first bytes, as many as are told
 pub record HoldsColumns (bytes table : List ℕ) (count size rows : ℕ) : Type 0 where
   pub rise : (i : ℕ) → i < count → column_start table i ≤ column_start table (i + 1)
   pub fill : column_start table count ≡ size
@@ -89,7 +89,7 @@ pub record IsOfFile (file : ColumnFile) : Type 0 where
 
 -- ---- the columns of a path
 
--- whether a path goes on behind another one, after a byte 1
+-- whether a path goes on after another one, after a byte 1
 abbrev pub is_below : List ℕ → List ℕ → Bool
 is_below path longer = nat_lt (length path) (length longer) &&
     ((get_or longer (length path) 0 == 1) && bytes_eq (take (length path) longer) path)

@@ -38,7 +38,7 @@ type_of_code code =
 abbrev pub are_apart : ℕ → ℕ → Bool
 are_apart first second = nat_lt first second && not ((first == 0) && (second == 1))
 
--- whether an entry may stand behind another: paths ascend in byte order, and of one path the types
+-- whether an entry may stand after another: paths ascend in byte order, and of one path the types
 unfoldable pub may_follow : List ℕ → ℕ → ℕ → Bool
 may_follow table before at =
     is_lt (slice_cmp nat_cmp (path_in table before) (path_in table at))
@@ -47,7 +47,7 @@ may_follow table before at =
 
 -- ---- all entries
 
--- where an entry begins: the first behind the number of entries, each other one where the one before it ends
+-- where an entry begins: the first after the number of entries, each other one where the one before it ends
 unfoldable pub place_of : List ℕ → ℕ → ℕ
 place_of table zero = 8
 place_of table (suc i) = next_place table (place_of table i)
@@ -58,7 +58,7 @@ pub record IsEntry (table : List ℕ) (at : ℕ) : Type 0 where
   pub known : code_in table at < 7
   pub utf8 : IsUtf8 (path_in table at)
 
--- so many entries fill the table, in order
+-- this many entries fill the table, in order
 pub record AreEntries (table : List ℕ) (count : ℕ) : Type 0 where
   pub each : (i : ℕ) → i < count → IsEntry table (place_of table i)
   pub fill : place_of table count ≡ length table

@@ -9,11 +9,11 @@ use Rattle.seg_column_file.specs.declared.row_order.MergeRowOrder.TheVariants.{S
 abbrev pub Place : Type 0
 Place = ℕ × ℕ
 
--- the rows of a file from one on, where it has so many
+-- the rows of a file from one on, where it has this many
 abbrev pub rows_from : ℕ → ℕ → ℕ → List Place
 rows_from file row count = map (λ r. (file, r)) (range_with_len row (count - row))
 
--- all rows of files that have so many, one file after another; the first has the number `file`
+-- all rows of files that have this many each, one file after another; the first has the number `file`
 abbrev pub stacked : ℕ → List ℕ → List Place
 stacked file [] = []
 stacked file (count ∷ counts) = rows_from file 0 count ++ stacked (file + 1) counts
@@ -30,6 +30,6 @@ abbrev pub rows_in_order : List ℕ → MergeRowOrder → List Place
 rows_in_order counts Stack = stacked 0 counts
 rows_in_order counts (Shuffled addresses) = map place_of addresses.items
 
--- files of so many rows have this one
+-- files of this many rows have this one
 abbrev pub IsRow : List ℕ → Place → Type 0
 IsRow counts place = place.1 < get_or counts place.0 0

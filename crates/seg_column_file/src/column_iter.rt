@@ -12,7 +12,8 @@ use seg_common::OwnedBytes;
 use std::iter::FusedIterator;
 use std::marker::Model;
 
-/// Goes over the columns of a file in order of path and type, and takes no memory. It is seen as those that are left.
+/// Iterates over the columns of a file in order of path and type, and takes no memory. It is seen as those that are
+/// left.
 #[derive(Drop)]
 pub struct ColumnIter<'a> {
     bytes: &'a OwnedBytes,

@@ -91,7 +91,7 @@ pub(crate) fn type_in(table: &[u8], at: usize) -> ColumnType
     }
 }
 
-/// Whether an entry may stand behind another.
+/// Whether an entry may stand after another.
 #[tactic(auto, unfolding(crate::specs::ColumnTable::may_follow))]
 pub(crate) fn may_follow(table: &[u8], before: usize, at: usize) -> bool
     requires first { spec.next_place table.now before ≤ length table.now }

@@ -22,7 +22,7 @@ impl Model for KeptRows {
 }
 
 impl KeptRows {
-    /// Marks these rows of files that have so many.
+    /// Marks these rows of files that have this many each.
     pub fn new(alloc: Global, counts: &[u32], rows: OrderedRows<'_>) -> Result<KeptRows, AllocError>
         requires { All (IsRow counts.now) rows }
         ensures { IfOk result (λ kept. AreMarks counts.now rows.entry kept) }
@@ -34,7 +34,7 @@ impl KeptRows {
         Ok(kept)
     }
 
-    /// Marks the rows that a merge of files with so many keeps. Where they are stacked, none is looked at.
+    /// Marks the rows that a merge keeps of files that have this many each. Where they are stacked, none is looked at.
     pub fn of_order(
         alloc: Global,
         counts: &[u32],

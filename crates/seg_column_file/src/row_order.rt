@@ -16,8 +16,8 @@ pub enum MergeRowOrder {
     Shuffled(Vec<RowAddr>),
 }
 
-/// Goes over rows without memory, each by the number of its file and its own there. It is seen as those that are left:
-/// the rest of the files that are stacked, and then the rest of the addresses.
+/// Iterates over rows without memory, each by the number of its file and its own number there. It is seen as those that
+/// are left: the rest of the files that are stacked, and then the rest of the addresses.
 #[derive(Drop)]
 pub struct OrderedRows<'a> {
     counts: &'a [u32],
@@ -36,7 +36,7 @@ impl<'a> Model for OrderedRows<'a> {
 }
 
 impl<'a> OrderedRows<'a> {
-    /// The rows of files that have so many.
+    /// The rows of files that have this many each.
     pub fn new(counts: &'a [u32], order: &'a MergeRowOrder) -> OrderedRows<'a>
         ensures { result ≡ rows_in_order counts.now order.now }
     {

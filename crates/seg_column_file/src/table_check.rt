@@ -5,7 +5,7 @@ ghost use Rattle.seg_column_file.specs.ColumnTable as spec;
 use crate::entry::{checked_entry, may_follow};
 use crate::format::COUNT;
 
-/// Whether so many entries fill the table, in order.
+/// Whether this many entries fill the table, in order.
 pub(crate) fn are_entries(table: &[u8], count: u64) -> bool
     requires { 8 ≤ length table.now }
     ensures { MatchBool result (spec.AreEntries table.now count) (spec.AreEntries table.now count → ⊥) }
@@ -28,7 +28,7 @@ pub(crate) fn are_entries(table: &[u8], count: u64) -> bool
     true
 }
 
-/// Whether an entry is the first, or may stand behind the one before it.
+/// Whether an entry is the first, or may stand after the one before it.
 fn is_in_order(table: &[u8], i: u64, before: usize, at: usize) -> bool
     requires first { 0 < i → spec.next_place table.now before ≤ length table.now }
     requires second { spec.next_place table.now at ≤ length table.now }

@@ -12,7 +12,7 @@ use Rattle.seg_column_format.specs.ColumnBytes.{IsReadAs, IsReadBack, column_byt
 use Rattle.seg_column_format.proofs.Parts.{apart, flat_split, last_end, length-number_bytes, range_of, start_at-parts, starts_rise}
 
 module _ {S T : Type 0} (width : ℕ) (decoded : List ℕ → Option T) (encoded : S → List ℕ) (seen : S → T) where
-  -- ---- values behind others
+  -- ---- values after others
 
   value_behind : (front back : List ℕ) (k : ℕ) (value : S) → length front ≡ width * k
       → IsReadAs width decoded encoded seen value

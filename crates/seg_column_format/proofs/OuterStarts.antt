@@ -7,13 +7,13 @@ use Rattle.std.proofs.lemmas.List.Folds.{list_any-append}
 use Rattle.seg_column_format.specs.PathStarts.{AreApart, Ascend, begins, begins_as_last, is_up_to}
 use Rattle.seg_column_format.proofs.ByteOrder.{begins_through, up_to_next}
 
--- the last of some is not behind others
+-- the last of some is not after others
 abbrev pub EndsUpTo : List (List ℕ) → List ℕ → Type 0
 EndsUpTo [] s = Unit {0}
 EndsUpTo (k ∷ []) s = is_up_to s k ≡ true
 EndsUpTo (k ∷ l ∷ ks) s = EndsUpTo (l ∷ ks) s
 
--- nor behind the first of those that are left
+-- nor after the first of those that are left
 abbrev pub MeetsUpTo : List (List ℕ) → List (List ℕ) → Type 0
 MeetsUpTo ks [] = Unit {0}
 MeetsUpTo ks (s ∷ ss) = EndsUpTo ks s

@@ -9,7 +9,7 @@ use Rattle.seg_common.proofs.Bytes.{length-numbers, u64_at-written}
 use Rattle.seg_columns.specs.Ends.{start_at, EndsRise}
 use Rattle.seg_column_format.specs.ColumnBytes.{ends_from, number_bytes, total}
 
--- what is before a place, at it and behind it
+-- what is before a place, at it and after it
 pub split : {X : Type 0} (xs : List X) (i : ℕ) (d : X) → i < length xs
     → xs ≡ take i xs ++ (get_or xs i d ∷ drop (i + 1) xs)
 split xs i d lt = sym (take-append-drop i xs) ∙ ap (λ (l : List _). take i xs ++ l) (drop_more xs i d lt)
@@ -39,7 +39,7 @@ module _ {X : Type 0} where
   total-append [] more = omega arith
   total-append (part ∷ some) more = omega (arith, total-append some more)
 
-  -- the parts up to one and with it
+  -- the parts up to and including one
   pub total-more : (parts : List (List X)) (i : ℕ) → i < length parts
       → total (take (i + 1) parts) ≡ total (take i parts) + length (get_or parts i [])
   total-more parts i lt =
@@ -70,7 +70,7 @@ module _ {X : Type 0} where
     length-number_bytes =
         length-numbers (ends_from 0 parts) ∙ ap (λ (k : ℕ). 8 * k) (length-ends parts 0)
 
-    -- a part begins behind those before it
+    -- a part begins after those before it
     pub start_at-parts : (i : ℕ) → i ≤ length parts
         → start_at (number_bytes (ends_from 0 parts) ++ rest) i ≡ total (take i parts)
     unfolding start_at
@@ -109,7 +109,7 @@ module _ {X : Type 0} where
           total-more parts i lt,
         )
 
--- a piece behind others
+-- a piece after others
 pub range_of : {X : Type 0} (front piece back : List X) (s e : ℕ) → length front ≡ s → e ≡ s + length piece
     → slice_range (front ++ (piece ++ back)) s e ≡ piece
 range_of front piece back s e at end =

@@ -80,7 +80,7 @@ module _ {V : Type 0} (row : V → ℕ) where
   rise_behind low [] rise = tt
   rise_behind low (v ∷ vs) rise = behind_by low v vs (here low v) refl rise.0 rise.1 (rise_behind low vs)
 
-  -- the first row, and the rows behind it
+  -- the first row, and the rows after it
   pub record IsStep (low m : ℕ) (vs : List V) : Type 0 where
     pub rows : rows_from row low (suc m) vs ≡ take (count low vs) vs ∷ rows_from row (low + 1) m (drop (count low vs) vs)
     pub rise : Rise row (low + 1) (drop (count low vs) vs)

@@ -31,7 +31,7 @@ use Rattle.seg_column_format.proofs.FoundColumns.{FoundColumn, Rows, entry, fail
 
 -- ---- what each column of a file has
 
--- a text as path, so many rows, and values of its type
+-- a text as path, this many rows, and values of its type
 pub record HasShape (documents : ℕ) (c : NamedColumn) : Type 0 where
   pub utf8 : IsUtf8 c.path
   pub rows : length (rows_at c) ≡ documents

@@ -3,7 +3,7 @@ use Rattle.std.specs.Prelude.{◌≡◌, ℕ, ◌+◌, List, [], ◌∷◌, ◌+
 use Rattle.std.specs.List.{flat_map}
 use Rattle.std.specs.Int.{w64, to_le_bytes}
 
--- where each part ends, counted in items that come after so many others
+-- where each part ends, counted in items that come after this many others
 abbrev pub ends_from : {X : Type 0} → ℕ → List (List X) → List ℕ
 ends_from before [] = []
 ends_from before (part ∷ parts) = (before + length part) ∷ ends_from (before + length part) parts
@@ -17,7 +17,7 @@ total (part ∷ parts) = length part + total parts
 abbrev pub number_bytes : List ℕ → List ℕ
 number_bytes numbers = flat_map (to_le_bytes w64) numbers
 
--- a value has so many bytes, which are read as what is seen of it
+-- a value has this many bytes, which are read as what is seen of it
 pub record IsReadAs {S T : Type 0} (width : ℕ) (decoded : List ℕ → Option T) (encoded : S → List ℕ) (seen : S → T)
     (value : S) : Type 0 where
   pub wide : length (encoded value) ≡ width
@@ -27,7 +27,7 @@ pub record IsReadAs {S T : Type 0} (width : ℕ) (decoded : List ℕ → Option 
 abbrev pub IsReadBack : {T : Type 0} → ℕ → (List ℕ → Option T) → (T → List ℕ) → T → Type 0
 IsReadBack width decoded encoded value = IsReadAs width decoded encoded (λ v. v) value
 
--- how many values there are up to each row and with it, and then the values
+-- how many values there are up to and including each row, and then the values
 unfoldable pub column_bytes : {T : Type 0} → (T → List ℕ) → List (List T) → List ℕ
 column_bytes encoded rows = number_bytes (ends_from 0 rows) ++ flat_map (flat_map encoded) rows
 

@@ -34,7 +34,7 @@ data_bytes columns = flat_map (λ c. c.bytes) columns
 abbrev pub entry_bytes : ℕ → List ℕ → ColumnType → List ℕ
 entry_bytes end path type = to_le_bytes w64 (length path) ++ (path ++ (code_of type ∷ to_le_bytes w64 end))
 
--- the entries of columns whose bytes come after so many others
+-- the entries of columns whose bytes come after this many others
 abbrev pub entries_bytes : ℕ → List WrittenColumn → List ℕ
 entries_bytes before [] = []
 entries_bytes before (c ∷ cs) =
@@ -54,24 +54,24 @@ file_bytes rows columns =
 
 -- ---- which columns a file may have
 
--- whether a column may stand behind another: paths ascend in byte order, and of one path the types, not I64 and U64
+-- whether a column may stand after another: paths ascend in byte order, and of one path the types, not I64 and U64
 abbrev pub may_stand_behind : WrittenColumn → WrittenColumn → Bool
 may_stand_behind c d =
     is_lt (slice_cmp nat_cmp c.path d.path)
     || (is_eq (slice_cmp nat_cmp c.path d.path) && are_apart (code_of c.type) (code_of d.type))
 
--- each column may stand behind the one before it
+-- each column may stand after the one before it
 abbrev pub AreInOrder : List WrittenColumn → Type 0
 AreInOrder [] = Unit {0}
 AreInOrder (c ∷ []) = Unit {0}
 AreInOrder (c ∷ d ∷ cs) = (may_stand_behind c d ≡ true) × AreInOrder (d ∷ cs)
 
--- a column of so many rows
+-- a column of this many rows
 pub record IsWritten (rows : ℕ) (c : WrittenColumn) : Type 0 where
   pub utf8 : IsUtf8 c.path
   pub column : IsColumnOf c.type rows c.bytes
 
--- columns that a file of so many rows may have
+-- columns that a file of this many rows may have
 pub record AreColumns (rows : ℕ) (columns : List WrittenColumn) : Type 0 where
   pub each : AllByRecursion (IsWritten rows) columns
   pub order : AreInOrder columns

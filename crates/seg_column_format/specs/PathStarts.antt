@@ -14,7 +14,7 @@ use Rattle.seg_column_format.specs.SchemaColumns.{is_fast_json}
 abbrev pub begins : List ℕ → List ℕ → Bool
 begins path start = bytes_eq start (take (length start) path)
 
--- whether bytes are not behind others in byte order
+-- whether bytes are not after others in byte order
 abbrev pub is_up_to : List ℕ → List ℕ → Bool
 is_up_to path start = not (is_gt (slice_cmp nat_cmp start path))
 
@@ -22,7 +22,7 @@ is_up_to path start = not (is_gt (slice_cmp nat_cmp start path))
 abbrev pub is_below_json : List ℕ → FieldEntry → Bool
 is_below_json path e = is_fast_json e && is_below e.name path
 
--- each of some is not behind the next one
+-- each of some is not after the next one
 abbrev pub Ascend : List (List ℕ) → Type 0
 Ascend [] = Unit {0}
 Ascend (s ∷ []) = Unit {0}
@@ -43,7 +43,7 @@ pub record AreStarts (schema : Schema) (starts : List (List ℕ)) : Type 0 where
   pub apart : AreApart starts
   pub tell : TellBelow schema starts
 
--- those before a place are not behind a path, and all others are
+-- those before a place are not after a path, and all others are
 abbrev pub EndsAt : List ℕ → List (List ℕ) → ℕ → Type 0
 EndsAt path = IsPartitionPoint (λ y. is_up_to path y ≡ true) (λ y. is_up_to path y ≡ false)
 

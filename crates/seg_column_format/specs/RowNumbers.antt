@@ -19,7 +19,8 @@ abbrev pub term_bytes : List (List ℕ) → RowNumber → List ℕ
 term_bytes terms v = get_or terms v.number []
 
 -- the ends of rows, and the bytes of values, were added
-pub record AddsBytes (encoded : RowNumber → List ℕ) (numbers : List RowNumber) (count : ℕ) (old new : List ℕ) : Type 0 where
+pub record AddsBytes (encoded : RowNumber → List ℕ) (numbers : List RowNumber) (count : ℕ)
+    (old new : List ℕ) : Type 0 where
   pub few : length numbers < 2 ^ 64
   pub fit : AllByRecursion (λ v. v.number < 2 ^ 64) numbers
   pub bytes : new ≡ old ++ (end_bytes count numbers ++ flat_map encoded numbers)

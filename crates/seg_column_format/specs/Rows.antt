@@ -12,6 +12,6 @@ module _ {V : Type 0} (row : V → ℕ) where
   abbrev pub of_row : List V → ℕ → List V
   of_row values r = filter (λ v. row v == r) values
 
-  -- the values of each of so many rows, from one on
+  -- the values of each of this many rows, from one on
   abbrev pub rows_from : ℕ → ℕ → List V → List (List V)
   rows_from low count values = map (of_row values) (range_with_len low count)

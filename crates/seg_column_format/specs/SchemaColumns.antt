@@ -16,7 +16,7 @@ use Rattle.seg_model.specs.Shape.{AreRowsOf, IsFreeColumn, is_json_type}
 
 -- ---- what contents of full shape have as columns
 
--- columns of so many documents, as contents of full shape have them
+-- columns of this many documents, as contents of full shape have them
 pub record SuitColumns (schema : Schema) (documents : ℕ) (columns : Columns) : Type 0 where
   pub declared : (key : ColumnKey) → is_declared (declared_columns schema) key ≡ true → is_some (get columns key) ≡ true
   pub free : (key : ColumnKey) (rows : List (List ColumnValue)) → get columns key ≡ Some rows
@@ -28,13 +28,13 @@ pub record SuitColumns (schema : Schema) (documents : ℕ) (columns : Columns) :
       → (is_declared (declared_columns schema) (record { path = path; type = I64 }) ≡ true)
       × (is_declared (declared_columns schema) (record { path = path; type = U64 }) ≡ true)
 
--- bytes are a file of so many rows, which has these columns
+-- bytes are a file of this many rows, which has these columns
 pub record HaveColumns (documents : ℕ) (bytes : List ℕ) (columns : Columns) : Type 0 where
   pub file : IsColumnFile bytes
   pub rows : row_count bytes ≡ documents
   pub are : columns_in (column_file_of bytes) ≡ columns
 
--- bytes are a file of columns of so many documents, and its columns are such
+-- bytes are a file of columns of this many documents, and its columns are such
 pub record HoldColumns (schema : Schema) (documents : ℕ) (bytes : List ℕ) : Type 0 where
   pub file : IsColumnFile bytes
   pub rows : row_count bytes ≡ documents

@@ -38,7 +38,7 @@ pub fn put_ordered_terms(
     Ok(())
 }
 
-/// Adds, for each row, how many values there are up to it and with it.
+/// Adds, for each row, how many values there are up to and including it.
 fn put_row_ends(out: &mut Vec<u8>, values: &[RowNumber], num_rows: u32) -> Result<(), AllocError>
     requires { Rise (λ v. v.row) 0 values.now }
     ensures ok { OnOk result (out.new.items ≡ out.old.items ++ end_bytes num_rows values.now) }

@@ -11,8 +11,8 @@ use crate::term_table::TermTable;
 use seg_common::put_u64;
 use std::alloc::AllocError;
 
-/// Adds the dictionary of the terms with these numbers, in this order. Its memory is taken once, before the first byte. A
-/// number without a term is as that of the empty one.
+/// Adds the dictionary of the terms with these numbers, in this order. Its memory is taken once, before the first byte.
+/// A number without a term is as that of the empty one.
 pub fn put_dictionary(
     out: &mut Vec<u8>,
     table: &TermTable,

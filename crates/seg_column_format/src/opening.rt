@@ -11,7 +11,7 @@ use seg_common::OwnedBytes;
 use seg_values::Schema;
 use std::alloc::Global;
 
-/// Checks whole that bytes are the columns of so many documents in the fields of a schema, in time near-linear in
+/// Checks whole that bytes are the columns of this many documents in the fields of a schema, in time near-linear in
 /// them: the columns that the schema declares are there, and others only at paths of its fast JSON fields, each with a
 /// value of a type that JSON has.
 pub fn open_columns(

@@ -46,7 +46,7 @@ impl PathStart {
         self.as_slice().cmp(&other.as_slice())
     }
 
-    /// Whether this is not behind some bytes in byte order.
+    /// Whether this is not after some bytes in byte order.
     pub fn is_up_to(&self, path: &[u8]) -> bool
         ensures { result ≡ spec.is_up_to path.now self.now }
     {

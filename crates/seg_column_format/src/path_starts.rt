@@ -11,7 +11,7 @@ use seg_values::FieldEntry;
 use std::alloc::{AllocError, Global};
 
 /// Those of all fast JSON fields, in byte order. One that begins with another one is left out, since whatever begins
-/// with it begins with that other one too: so a path begins with one at the most, the last one that isn't behind it.
+/// with it begins with that other one too: so a path begins with one at most, the last one that isn't after it.
 pub(crate) fn path_starts(
     alloc: Global,
     schema: &[FieldEntry],
@@ -99,7 +99,7 @@ pub(crate) fn is_below_some(starts: &[PathStart], path: &[u8]) -> bool
     starts[up_to - 1].begins(path)
 }
 
-/// How many are not behind a path in byte order.
+/// How many are not after a path in byte order.
 fn count_up_to(starts: &[PathStart], path: &[u8]) -> usize
     requires { spec.AreApart starts.now }
     ensures bound { result ≤ length starts.now }

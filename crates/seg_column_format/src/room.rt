@@ -3,7 +3,7 @@ ghost use Rattle.std.specs.Prelude.{◌≡◌, ◌+◌, IfOk};
 
 use std::alloc::AllocError;
 
-/// Both together; more bytes than there can be are want of memory.
+/// Both together; more bytes than there can be count as out of memory.
 pub fn sum(first: usize, second: usize) -> Result<usize, AllocError>
     ensures { IfOk result (λ sum. sum ≡ first + second) }
 {

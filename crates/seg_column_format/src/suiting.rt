@@ -16,7 +16,7 @@ use std::alloc::{AllocError, Global};
 
 /// Whether a file has each column that is declared, and no others but those of JSON fields that have a value. It takes
 /// a byte for each field and the names of fast JSON fields, and gives them back; its time is the bytes of the paths
-/// times the logarithm of the number of these fields, beside what the values cost.
+/// times the logarithm of the number of these fields, besides what the values cost.
 pub(crate) fn suits(
     alloc: Global,
     columnar: &ColumnarReader,

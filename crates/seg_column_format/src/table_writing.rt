@@ -1,4 +1,4 @@
-//! The table of a file of columns, and what stands behind it.
+//! The table of a file of columns, and what stands after it.
 ghost use Rattle.std.specs.Prelude.{◌≡◌, ◌+◌, ◌++◌, length, OnOk};
 ghost use Rattle.std.specs.Int.{w64, to_le_bytes};
 ghost use Rattle.seg_column_format.specs.FileBytes.{code_of, entry_bytes, footer_bytes};
@@ -23,7 +23,7 @@ pub fn put_entry(
     Ok(())
 }
 
-/// Adds the table of so many entries, and the footer, to the bytes of all columns.
+/// Adds the table of this many entries, and the footer, to the bytes of all columns.
 pub fn put_table(
     out: &mut Vec<u8>,
     count: u64,

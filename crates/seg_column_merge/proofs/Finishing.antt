@@ -58,7 +58,7 @@ module _ (merge : Merge) (is_merge : IsMerge merge) (table : List TableRow)
     cut = record { below = λ k d lt more. absurd (omega (arith, lt)) };
   }
 
-  -- ---- behind the last one
+  -- ---- after the last one
 
   module _ (q : ColumnKey) (uncovered : covers table q ≡ false) where
     no_rows : rows_with q.path (kind_of q.type) all ≡ []

@@ -106,7 +106,7 @@ module _ (path : List ℕ) (kind file : ℕ) where
       ap (λ (b : Bool). cond b (file_row file d ∷ found ds) (found ds)) (other c d mine all.0)
       ∙ none_found c mine ds all.1
 
-  -- a row has a column of the file, with so many rows
+  -- a row has a column of the file, with this many rows
   abbrev pub IsIn : ℕ → Option PlacedColumn → Type 0
   IsIn rows o = (c : PlacedColumn) × (o ≡ Some c) × (c.file ≡ file) × (row_count_of (c.stored).column ≡ rows)
 

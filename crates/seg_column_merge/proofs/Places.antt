@@ -18,7 +18,7 @@ module _ {X : Type 0} where
   none_present (None ∷ slots) none = none_present slots (λ i x is. none (suc i) x is)
   none_present (Some x ∷ slots) none = absurd (none 0 x refl)
 
-  -- what is at a place is between what is in front of it and behind it
+  -- what is at a place is between what is before it and after it
   pub cut_at : (slots : List (Option X)) (at : ℕ) (x : X) → get_or slots at None ≡ Some x
       → present slots ≡ present (take at slots) ++ x ∷ present (drop (suc at) slots)
   cut_at [] at x is = absurd (none-some x is)

@@ -167,7 +167,7 @@ module _ (rows done : List TableRow) (slots : Slots) (heads : List Head) (so_far
         Contains-permutation (next_heads least (h.2 + 1) (row_at left (h.2 + 1)) ++ rest) new g goes
         (Contains-append_right (next_heads least (h.2 + 1) (row_at left (h.2 + 1))) rest g there)
 
-    -- the row behind it, if it goes on
+    -- the row after it, if it goes on
     put_in : (at : ℕ) (row : TableRow) → h.2 + 1 ≡ at → row_at left at ≡ Some row → row_lt row least ≡ false
         → Contains new (row_head row at)
     put_in at row next there not_below =

@@ -19,7 +19,7 @@ pub record IsGroup (table : List TableRow) (start stop : ℕ) : Type 0 where
 
 -- ---- the columns of a group
 
--- a column is of a file from one on, with all rows of that file; the files behind it come next
+-- a column is of a file from one on, with all rows of that file; the files after it come next
 abbrev pub FileFits : List ℕ → ℕ → Option FileColumn → ℕ → Type 0
 FileFits counts first None next = next ≡ first
 FileFits counts first (Some c) next =

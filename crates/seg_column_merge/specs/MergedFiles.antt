@@ -52,7 +52,7 @@ AreGroupColumns path (Some type) values rows [] = ⊥
 AreGroupColumns path (Some type) values rows (c ∷ []) = IsMergedColumn path type values rows c
 AreGroupColumns path (Some type) values rows (c ∷ d ∷ cs) = ⊥
 
--- a group was put behind other columns
+-- a group was put after other columns
 pub record AddsGroup (merge : Merge) (path : List ℕ) (rows : List TableRow) (columns : List WrittenColumn)
     (file : MergedFile) : Type 0 where
   pub type : Option ColumnType

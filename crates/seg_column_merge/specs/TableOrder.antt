@@ -56,7 +56,7 @@ pub record Begins (slots : Slots) (at : ℕ) (old new : List Head) : Type 0 wher
 
 -- ---- one row
 
--- the head of the row behind another one, if it goes on from it
+-- the head of the row after another one, if it goes on from it
 abbrev pub next_heads : TableRow → ℕ → Option TableRow → List Head
 next_heads row next None = []
 next_heads row next (Some behind) = cond (row_lt behind row) [] (row_head behind next ∷ [])
@@ -64,7 +64,7 @@ next_heads row next (Some behind) = cond (row_lt behind row) [] (row_head behind
 abbrev pub Advances : Slots → TableRow → ℕ → List Head → List Head → Type 0
 Advances slots row at old new = IsPermutation (next_heads row (at + 1) (row_at slots (at + 1)) ++ old) new
 
--- the row at a place, if there is one, was moved behind others, and its run goes on
+-- the row at a place, if there is one, was moved after others, and its run goes on
 abbrev pub Moves : Option TableRow → ℕ → Slots × List TableRow × List Head → Slots × List TableRow × List Head → Type 0
 Moves None at old new = new ≡ old
 Moves (Some row) at old new =

@@ -14,7 +14,7 @@ use seg_column_merge_parts::TableRow;
 use seg_common::ColumnType;
 use std::alloc::AllocError;
 
-/// Puts the column of rows with one key, if there is one, behind those that were put.
+/// Puts the column of rows with one key, if there is one, after those that were put.
 pub(crate) fn put_group(
     merge: &Merge<'_>,
     rows: &[TableRow<'_>],

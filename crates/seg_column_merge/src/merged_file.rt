@@ -49,7 +49,7 @@ impl MergedFile {
         Ok(())
     }
 
-    /// The whole file, of so many rows.
+    /// The whole file, of this many rows.
     pub(crate) fn finish(self, num_rows: u32) -> Result<Vec<u8>, AllocError>
         ensures { (columns : List WrittenColumn) → IsFileOf columns self
             → IfOk result (λ bytes. (bytes.items ≡ file_bytes num_rows columns) × (length bytes.items < 2 ^ 64)) }

@@ -23,7 +23,7 @@ pub(crate) struct PlannedGroup {
     pub(crate) entry_room: usize,
 }
 
-/// Decides on the rows that have the key of the one at a place, for a file of so many rows.
+/// Decides on the rows that have the key of the one at a place, for a file of this many rows.
 pub(crate) fn planned_group(
     merge: &Merge<'_>,
     table: &[TableRow<'_>],

@@ -11,7 +11,7 @@ use seg_column_merge_parts::TableRow;
 use seg_columns::ColumnError;
 use std::alloc::AllocError;
 
-/// Goes over the kept values of all columns once, for a file of so many rows.
+/// Scans the kept values of all columns once, for a file of this many rows.
 pub(crate) fn planned_groups(
     merge: &Merge<'_>,
     table: &[TableRow<'_>],

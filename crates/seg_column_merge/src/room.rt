@@ -1,5 +1,5 @@
 //! How much memory a merged file takes, so that it is taken once. No number here is above what a usize holds: more than
-//! that are want of memory.
+//! that counts as out of memory.
 
 use crate::planned_group::PlannedGroup;
 use seg_column_file::{ENTRY_BYTES, LEAST_BYTES};
@@ -65,7 +65,7 @@ pub(crate) fn entries_room(groups: &[PlannedGroup]) -> usize {
     room
 }
 
-/// How many bytes the file has, with entries that have so many.
+/// How many bytes the file has, with entries of this many bytes.
 pub(crate) fn file_room(groups: &[PlannedGroup], entries: usize) -> usize {
     let mut room: usize = LEAST_BYTES;
     for group in groups {

@@ -42,7 +42,7 @@ pub(crate) fn merge_sorted(
     Ok(bytes)
 }
 
-/// Puts the columns of all groups into a file of so many rows, whose memory is taken once.
+/// Puts the columns of all groups into a file of this many rows, whose memory is taken once.
 fn put_groups(
     merge: &Merge<'_>,
     table: &[TableRow<'_>],

@@ -95,7 +95,7 @@ fn push_slot<'a>(slots: &mut Vec<Option<TableRow<'a>>>, row: TableRow<'a>) -> Re
     Ok(())
 }
 
-/// Moves the row at a place, if it is still there, behind those that were moved before. Its run goes on.
+/// Moves the row at a place, if it is still there, after those that were moved before. Its run goes on.
 fn move_row<'a>(
     table: &mut Vec<TableRow<'a>>,
     slots: &mut Vec<Option<TableRow<'a>>>,
@@ -121,7 +121,7 @@ fn take_row<'a>(slots: &mut Vec<Option<TableRow<'a>>>, at: usize) -> Option<Tabl
     slots[at].take()
 }
 
-/// Puts in the row behind one that was at a place, if it goes on with the run.
+/// Puts in the row after one that was at a place, if it goes on with the run.
 fn advance<'a>(
     heads: &mut HeadHeap<'a>,
     slots: &[Option<TableRow<'a>>],

@@ -84,7 +84,7 @@ all_back : (P : Place → Type 0) (xs ys : List Place) → All P (xs ++ ys) → 
 all_back P [] ys all = all
 all_back P (x ∷ xs) ys all = all_back P xs ys (All-tail P x (xs ++ ys) all)
 
--- the rows that are left behind a file
+-- the rows that are left after a file
 abbrev pub behind : List ℕ → ℕ → List Place
 behind counts file = stacked (file + 1) (drop (file + 1) counts)
 

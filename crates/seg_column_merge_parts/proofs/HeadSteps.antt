@@ -79,7 +79,7 @@ module _ (columns : List MarkedTerms) where
             at_most (inl before) = absurd (false≢true (sym (is_next.none h.2 le before) ∙ used_here))
             at_most (inr past) = past
 
-    -- terms behind the one before the ordinal follow it
+    -- terms after the one before the ordinal follow it
     pub next_low : (ord : ℕ) → ord + 1 ≡ from → (P : Head → Type 0) → All P old
         → ((next : ℕ) → slice_cmp nat_cmp (get_or m.terms ord []) (get_or m.terms next []) ≡ Less
         → P (get_or m.terms next [], place, next)) → All P new
@@ -182,7 +182,7 @@ module _ (columns : List MarkedTerms) where
       by h (inl done) = done
       by h (inr waits) = let (k, lt, is) = waits.there in absurd (omega (arith, lt))
 
-  -- ---- a head is taken out, its term is put behind the others, and its column goes on
+  -- ---- a head is taken out, its term is put after the others, and its column goes on
 
   module _ (heads rest : List Head) (h : Head) (terms ordinals : List (List ℕ)) (so_far : SoFar heads terms ordinals)
       (pops : Pops heads rest h) where

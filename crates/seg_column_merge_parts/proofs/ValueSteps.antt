@@ -121,7 +121,7 @@ module _ {T : Type 0} (width : ℕ) (decoded : List ℕ → Option T) (encoded :
         ∙ ap (λ (m : ℕ). row ++ (rest ++ drop (width * start_at bytes m) (drop (8 * docs) bytes))) next
         ∙ sym (append_assoc row rest left)
 
-    -- the values of the first rows are the first bytes behind the ends
+    -- the values of the first rows are the first bytes after the ends
     pub first_rows : (count : ℕ) → count ≤ docs
         → slice_range bytes (8 * docs) (8 * docs + width * start_at bytes count)
         ≡ flat_map (flat_map encoded) (take count (rows_of width decoded docs bytes))

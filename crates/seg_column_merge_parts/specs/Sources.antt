@@ -40,7 +40,7 @@ CanPut Nothing row = Unit {0}
 CanPut (Numbers source) row = (row < length source.numbers) × All (CanMap source.written) (get_or source.numbers row [])
 CanPut (Addresses rows) row = row < length rows
 
--- so it is of so many rows from the first on
+-- so it is of this many rows from the first on
 abbrev pub CanPutFirst : Source → ℕ → Type 0
 CanPutFirst source rows = (row : ℕ) → row < rows → CanPut source row
 
@@ -48,7 +48,7 @@ CanPutFirst source rows = (row : ℕ) → row < rows → CanPut source row
 abbrev pub first_rows : Source → ℕ → List (List (List ℕ))
 first_rows source rows = map (row_codes source) (range_with_len 0 rows)
 
--- the ends of rows are added behind so many values, which are then so many with their own
+-- the ends of rows are added after this many values, which with their own are then this many
 pub record AddsEnds (rows : List (List (List ℕ))) (before : ℕ) (old new : List ℕ) (end : ℕ) : Type 0 where
   pub ends : new ≡ old ++ number_bytes (ends_from before rows)
   pub all : end ≡ before + total rows

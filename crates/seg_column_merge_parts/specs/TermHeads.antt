@@ -57,12 +57,12 @@ pub record IsTermOf (columns : List MarkedTerms) (term : List ℕ) : Type 0 wher
 abbrev pub IsLast : List (List ℕ) → List ℕ → Type 0
 IsLast terms term = slice_get terms (length terms - 1) ≡ Some term
 
--- terms with one of a column behind them, if it isn't the last already
+-- terms with one of a column after them, if it isn't the last already
 abbrev pub EndsWith : MarkedTerms → List (List ℕ) → List ℕ → List (List ℕ) → Type 0
 EndsWith m old term new = ((new ≡ old) × IsLast old term)
     ⊎ ((new ≡ old ++ term ∷ []) × (IsLast old term → ⊥) × (m.texts ≡ true → IsUtf8 term))
 
--- so many ordinals as terms, for each column
+-- this many ordinals as terms, for each column
 pub record AreLong (columns : List MarkedTerms) (ordinals : List (List ℕ)) : Type 0 where
   pub many : length ordinals ≡ length columns
   pub each : (place : ℕ) → length (get_or ordinals place []) ≡ length (column_at columns place).terms

@@ -26,7 +26,7 @@ pub fn put_joined(
     put_values(counts, order, sources, out)
 }
 
-/// Adds how many values there are up to each row and with it.
+/// Adds how many values there are up to and including each row.
 fn put_row_ends(
     counts: &[u32],
     order: &MergeRowOrder,
@@ -58,7 +58,8 @@ fn put_stacked_ends(counts: &[u32], sources: &[Source], out: &mut Vec<u8>) -> Re
     Ok(())
 }
 
-/// Adds those of a file, which has so many rows, behind so many values; then it says how many these are with its own.
+/// Adds those of a file, which has this many rows, after this many values; then it says how many these are with its
+/// own.
 fn put_file_ends(
     sources: &[Source],
     file: usize,
@@ -102,7 +103,8 @@ fn put_values(
 ) -> Result<(), AllocError>
     requires { All (IsPut sources.now) (rows_in_order counts.now order.now) }
     ensures { OnOk result (out.new.items
-        ≡ out.old.items ++ flat_map (flat_map (λ code. code)) (joined sources.now (rows_in_order counts.now order.now))) }
+        ≡ out.old.items
+        ++ flat_map (flat_map (λ code. code)) (joined sources.now (rows_in_order counts.now order.now))) }
 {
     match order {
         MergeRowOrder::Stack => put_stacked(counts, sources, out),
@@ -122,7 +124,7 @@ fn put_stacked(counts: &[u32], sources: &[Source], out: &mut Vec<u8>) -> Result<
     Ok(())
 }
 
-/// Adds the values of all rows of a file, which has so many.
+/// Adds the values of all rows of a file, which has this many.
 fn put_file(
     sources: &[Source],
     file: usize,

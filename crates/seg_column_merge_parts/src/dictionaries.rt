@@ -73,7 +73,7 @@ fn begin<'a>(
     push_head(heads, column, place, column.next_used(0))
 }
 
-/// Puts in the first term that is used behind one.
+/// Puts in the first term that is used after one.
 fn advance<'a>(
     heads: &mut HeadHeap<'a>,
     column: &'a UsedTerms,
@@ -102,7 +102,7 @@ fn push_head<'a>(
     heads.push(column.term(ord), place, ord)
 }
 
-/// Puts a term of a column behind others, if it isn't the last of them, and tells its place.
+/// Puts a term of a column after others, if it isn't the last of them, and tells its place.
 fn put_last<'a>(
     terms: &mut Vec<&'a [u8]>,
     column: &UsedTerms,

@@ -1,4 +1,4 @@
-//! Where the first rows of a column end, behind the rows of other files.
+//! Where the first rows of a column end, after the rows of other files.
 ghost use Rattle.std.specs.Prelude.{◌≡◌, ◌+◌, ◌*◌, ◌^◌, ◌≤◌, ◌<◌, ◌++◌, ℕ, length, map, replicate, take, get_or, IfOk, OnOk};
 ghost use Rattle.std.specs.List.{range_with_len};
 ghost use Rattle.seg_columns.specs.Ends as spec;
@@ -8,7 +8,7 @@ use seg_columns::{END_BYTES, start_at};
 use seg_common::put_u64;
 use std::alloc::AllocError;
 
-/// Adds the ends of so many rows without a value, behind so many values, and answers how many these are.
+/// Adds the ends of this many rows without a value, after this many values, and answers how many these are.
 pub(crate) fn put_same_ends(rows: u32, before: u64, out: &mut Vec<u8>) -> Result<u64, AllocError>
     ensures bytes { OnOk result (out.new.items ≡ out.old.items ++ number_bytes (replicate rows before)) }
     ensures end { IfOk result (λ end. end ≡ before) }
@@ -18,8 +18,8 @@ pub(crate) fn put_same_ends(rows: u32, before: u64, out: &mut Vec<u8>) -> Result
     Ok(before)
 }
 
-/// Adds the ends of the first rows of a column, behind so many values, and answers how many these are with theirs: as one
-/// slice where they are the first.
+/// Adds the ends of the first rows of a column, after this many values, and answers how many these are with theirs: as
+/// one slice where they are the first.
 pub(crate) fn put_ends_after(
     ends: &[u8],
     rows: u32,
@@ -28,7 +28,8 @@ pub(crate) fn put_ends_after(
 ) -> Result<u64, AllocError>
     requires { 8 * rows ≤ length ends.now }
     ensures bytes { OnOk result (out.new.items
-        ≡ out.old.items ++ number_bytes (map (λ row. before + spec.start_at ends.now (row + 1)) (range_with_len 0 rows))) }
+        ≡ out.old.items
+        ++ number_bytes (map (λ row. before + spec.start_at ends.now (row + 1)) (range_with_len 0 rows))) }
     ensures end { IfOk result (λ end. end ≡ before + spec.start_at ends.now rows) }
     ensures fits { IfOk result (λ end. end < 2 ^ 64) }
 {

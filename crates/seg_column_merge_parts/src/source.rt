@@ -28,7 +28,7 @@ pub enum Source {
 }
 
 impl Source {
-    /// So many, and the values of a row beside them; nothing where no u64 counts them.
+    /// This many, and the values of a row in addition; nothing where no u64 counts them.
     pub fn count(&self, row: u32, before: u64) -> Option<u64>
         requires { CanPut self.now row }
         ensures count { IfSome result (λ count. count ≡ before + length (row_codes self.now row)) }
@@ -55,8 +55,8 @@ impl Source {
         }
     }
 
-    /// Adds how many values there are up to each of so many rows from the first on, behind so many; then it says how many
-    /// these are with those of all the rows.
+    /// Adds how many values there are up to each of this many rows from the first on, after this many; then it says how
+    /// many these are with those of all the rows.
     pub fn put_first_ends(
         &self,
         rows: u32,
@@ -73,7 +73,8 @@ impl Source {
         }
     }
 
-    /// Adds the bytes of the values of so many rows from the first on: as one slice, where all are written as they are.
+    /// Adds the bytes of the values of this many rows from the first on: as one slice, where all are written as they
+    /// are.
     pub fn put_first(&self, rows: u32, out: &mut Vec<u8>) -> Result<(), AllocError>
         requires { CanPutFirst self.now rows }
         ensures { OnOk result (out.new.items
@@ -111,7 +112,7 @@ impl Source {
 }
 
 impl NumberSource {
-    /// The bytes of the numbers of so many rows from the first on, where they stand in the file as they are written.
+    /// The bytes of the numbers of this many rows from the first on, where they stand in the file as they are written.
     fn first_bytes(&self, rows: u32) -> Option<&[u8]>
         requires { rows ≤ length self.now.numbers }
         ensures { IfSome result (λ bytes. bytes.now

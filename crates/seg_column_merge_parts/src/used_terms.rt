@@ -94,7 +94,8 @@ impl UsedTerms {
 
     /// The ordinal of the first term that a kept row has, from one on.
     pub(crate) fn next_used(&self, from: usize) -> Option<usize>
-        ensures { MatchOption result (NoneUsed self.now.used from (length self.now.used)) (IsNextUsed self.now.used from) }
+        ensures { MatchOption result (NoneUsed self.now.used from (length self.now.used))
+            (IsNextUsed self.now.used from) }
     {
         for ord in from..self.used.len() {
             if self.used[ord] {
@@ -104,7 +105,7 @@ impl UsedTerms {
         None
     }
 
-    /// That of the first one behind an ordinal.
+    /// That of the first one after an ordinal.
     pub(crate) fn used_behind(&self, ord: usize) -> Option<usize>
         requires { ord < length self.now.used }
         ensures { MatchOption result (NoneUsed self.now.used (ord + 1) (length self.now.used))

@@ -24,7 +24,7 @@ pub(crate) fn address_bytes(column: &Column<Ipv6Addr>, rows: u32) -> &[u8]
     first_addresses(column.as_bytes(), column.num_docs() as usize, rows as usize)
 }
 
-/// The bytes behind the ends of a column of so many documents, as far as the values of the first rows go.
+/// The bytes after the ends of a column of this many documents, as far as the values of the first rows go.
 fn first_numbers(bytes: &[u8], docs: usize, rows: usize) -> &[u8]
     requires ends { 8 * rows ≤ length bytes.now }
     requires within { 8 * docs + 8 * spec.start_at bytes.now rows ≤ length bytes.now }

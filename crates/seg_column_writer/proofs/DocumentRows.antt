@@ -47,7 +47,7 @@ rows_split count key (c ∷ cs) = by (is_named key.path (kind_of key.type) c) (r
     by true rest = refl
     by false rest = rest
 
--- ---- a value more
+-- ---- one more value
 
 -- whether a column of this name is at a key
 abbrev pub is_at : ColumnKey → List ℕ → ValueKind → Bool
@@ -232,7 +232,7 @@ abbrev pub all_added : ℕ → ℕ → ColumnKey → List FastValue → List Col
 all_added at row key vs = cond (row == at) (values_at key vs) []
 
 module _ (at row : ℕ) (key : ColumnKey) where
-  -- of the first value, and of those behind it
+  -- of the first value, and of those after it
   parts : (v : FastValue) (vs : List FastValue)
       → added at row (is_at key v.path (kind_of_value v.value)) v.value ++ all_added at row key vs
       ≡ all_added at row key (v ∷ vs)

@@ -354,7 +354,7 @@ pub known_written : (count : ℕ) (known : KnownColumns) (names : List PathKind)
 known_written count known names columns bytes names_are columns_are is =
     subst (λ (X : Type 0). X) (λ j. IsRecordedFile count (named (names_are j) (columns_are j)) bytes) is
 
--- the values of all columns are of so many rows
+-- the values of all columns are of this many rows
 pub within_known : (count : ℕ) (names : List PathKind) (rs : List Recording) → AreNamed names rs
     → AllByRecursion (λ c. IsWithin count c.recording) (named names rs) → AllByRecursion (IsWithin count) rs
 within_known count [] [] are within = tt

@@ -144,7 +144,7 @@ count_placed cs path kind = by (list_any (is_named path kind) cs)
     by true = refl
     by false = more cs
 
--- a change adds so many values to a column
+-- a change adds this many values to a column
 count_changed : (P : Recording → Type 0) (change : Recording → Recording) (more : ℕ)
     → ((r : Recording) → length (change r).values ≡ length r.values + more)
     → (i : ℕ) (cs : List ColumnRecord) → At P i cs → value_count (changed_at change i cs) ≡ value_count cs + more

@@ -222,7 +222,7 @@ module _ (path : List ℕ) (kind : ValueKind) where
       ∙ ap (λ (i : ℕ). changed_at change i (c ∷ (cs ++ new_column path kind ∷ []))) s
       ∙ ap (λ (l : List ColumnRecord). c ∷ l) (changed_behind change cs parts.1)
 
-  -- it comes behind all others
+  -- it comes after all others
   pub with_change_new : (change : Recording → Recording) (cs : List ColumnRecord) → has_column path kind cs ≡ false
       → with_change path kind change cs ≡ cs ++ record { path = path; recording = change (without_value kind) } ∷ []
   with_change_new change cs none =

@@ -1,4 +1,4 @@
--- A column while values come, with one value more.
+-- A column while values come, with one more value.
 use Rattle.std.proofs.Common.{◌≡◌, ℕ, zero, suc, ◌+◌, ◌^◌, ◌<◌, ◌≤◌, Bool, true, false, cond, List, [], ◌∷◌, ◌++◌, length, map, get_or, Option, Some, None, sym, refl, ap, subst, ◌∙◌, arith, inl, inr}
 use Rattle.std.specs.Prelude.{◌||◌, ◌&&◌, All, nat_eq, nat_lt, not, Result, Ok, Err, OnOk, OnErr}
 use Rattle.std.specs.List.{AllByRecursion, list_all, list_any}

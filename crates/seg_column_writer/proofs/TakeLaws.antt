@@ -119,7 +119,7 @@ module _ (path : List ℕ) (kind : ValueKind) (P Q : Recording → Type 0)
           let s : suc (place_of cs path kind) ≡ 1 + place_of cs path kind = omega arith in
           subst (λ (i : ℕ). At Q i (c ∷ cs)) s (rest any)
 
-  -- behind them
+  -- after them
   behind : (cs : List ColumnRecord) → list_any test cs ≡ false
       → At Q (place_of cs path kind) (cs ++ record { path = path; recording = without_value kind } ∷ [])
   behind [] none = new

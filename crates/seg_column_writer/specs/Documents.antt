@@ -40,4 +40,5 @@ AreArranged columns [] [] = Unit {0}
 AreArranged columns [] (d ∷ ds) = ⊥
 AreArranged columns (r ∷ rs) [] = ⊥
 AreArranged columns (r ∷ rs) (d ∷ ds) =
-    ((key : ColumnKey) → values_at key d ≡ arranged (sorts_at columns key) (values_at key r)) × AreArranged columns rs ds
+    ((key : ColumnKey) → values_at key d ≡ arranged (sorts_at columns key) (values_at key r))
+    × AreArranged columns rs ds

@@ -42,7 +42,7 @@ row_values r row =
     if r.sorts then in_order (map (λ v. v.value) (filter (λ v. v.row == row) r.values))
     else map (λ v. v.value) (filter (λ v. v.row == row) r.values)
 
--- and those of so many rows
+-- and those of this many rows
 abbrev pub rows_in : ℕ → Recording → List (List ColumnValue)
 rows_in count r = map (row_values r) (range_with_len 0 count)
 
@@ -70,7 +70,7 @@ rows_at count [] key = map (λ _. []) (range_with_len 0 count)
 rows_at count (c ∷ cs) key =
     if is_named key.path (kind_of key.type) c then rows_in count c.recording else rows_at count cs key
 
--- the columns of so many rows: undefined where the numbers of a path have no type
+-- the columns of this many rows: undefined where the numbers of a path have no type
 abbrev pub recorded_columns : ℕ → List ColumnRecord → Option Columns
 recorded_columns count columns = columns_from (declared_in columns) (rows_at count columns)
     (declared_in columns ++ keys_in columns)

@@ -13,15 +13,15 @@ pub record RowedValue : Type 0 where
   pub row : ℕ
   pub value : ColumnValue
 
--- what is recorded in a column: the kind of its values, its declared type, whether the values of a row are to be sorted,
--- and the values in the order in which they came
+-- what is recorded in a column: the kind of its values, its declared type, whether the values of a row are to be
+-- sorted, and the values in the order in which they came
 pub record Recording : Type 0 where
   pub kind : ValueKind
   pub declared : Option ColumnType
   pub sorts : Bool
   pub values : List RowedValue
 
--- with one value more
+-- with one more value
 abbrev pub with_value : ℕ → ColumnValue → Recording → Recording
 with_value row value c = record {
   kind = c.kind;

@@ -10,7 +10,7 @@ use Rattle.seg_column_writer.specs.declared.value_kind.ValueKind.{ValueKind}
 abbrev pub Declared : Type 0
 Declared = List ℕ → ValueKind → Option ColumnType
 
--- no value is of a row past so many, and what is declared is what this says
+-- no value is of a row beyond this many, and what is declared is what this says
 pub record IsBelow (declared : Declared) (count : ℕ) (c : ColumnRecord) : Type 0 where
   pub within : IsWithin count c.recording
   pub declared_is : c.recording.declared ≡ declared c.path c.recording.kind

@@ -48,7 +48,7 @@ MayDeclare path type columns =
 abbrev pub with_change : List ℕ → ValueKind → (Recording → Recording) → List ColumnRecord → List ColumnRecord
 with_change path kind change columns = changed_at change (place_of columns path kind) (with_column columns path kind)
 
--- with a value more
+-- with one more value
 abbrev pub with_recorded : List ℕ → ValueKind → ℕ → ColumnValue → List ColumnRecord → List ColumnRecord
 with_recorded path kind row value columns = with_change path kind (with_value row value) columns
 

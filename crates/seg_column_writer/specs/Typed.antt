@@ -21,7 +21,7 @@ path_in names place = (get_or names place (record { kind = 0; path = [] })).path
 abbrev pub key_at : List PathKind → TypedColumn → ColumnKey
 key_at names t = record { path = path_in names t.place; type = t.column_type }
 
--- its key, and the rows that it has in a file of so many
+-- its key, and the rows that it has in a file of this many rows
 abbrev pub entry_at : ℕ → List PathKind → List Recording → TypedColumn → ColumnKey × List (List ColumnValue)
 entry_at count names columns t = (key_at names t, rows_in count (column_in columns t.place))
 
@@ -29,23 +29,24 @@ entry_at count names columns t = (key_at names t, rows_in count (column_in colum
 abbrev pub in_table : List PathKind → TypedColumn → WrittenColumn
 in_table names t = record { path = path_in names t.place; type = t.column_type; bytes = [] }
 
--- no value is of a row past so many
+-- no value is of a row beyond this many
 abbrev pub IsWithin : ℕ → Recording → Type 0
 IsWithin count r = All (λ v. v.row < count) r.values
 
--- a column of a file of so many rows, with its type
+-- a column of a file of this many rows, with its type
 pub record IsTyped (count : ℕ) (names : List PathKind) (columns : List Recording) (t : TypedColumn) : Type 0 where
   pub place : t.place < length columns
   pub type : column_type_of (column_in columns t.place) ≡ Some t.column_type
   pub utf8 : IsUtf8 (path_in names t.place)
   pub within : IsWithin count (column_in columns t.place)
 
--- columns that a file of so many rows may have, in its order
-pub record AreTyped (count : ℕ) (names : List PathKind) (columns : List Recording) (typed : List TypedColumn) : Type 0 where
+-- columns that a file of this many rows may have, in its order
+pub record AreTyped (count : ℕ) (names : List PathKind) (columns : List Recording)
+    (typed : List TypedColumn) : Type 0 where
   pub each : AllByRecursion (IsTyped count names columns) typed
   pub order : AreInOrder (map (in_table names) typed)
 
--- bytes are a file of so many rows, whose columns are these
+-- bytes are a file of this many rows, whose columns are these
 pub record IsFileOf (count : ℕ) (entries : List (ColumnKey × List (List ColumnValue))) (bytes : List ℕ) : Type 0 where
   pub file : IsColumnFile bytes
   pub rows : row_count bytes ≡ count
@@ -68,7 +69,7 @@ typed_from place (r ∷ rs) = typed_at place (written_type r) ++ typed_from (suc
 
 -- ---- the whole
 
--- columns with distinct names, whose numbers have a type, and whose values are of so many rows
+-- columns with distinct names, whose numbers have a type, and whose values are of this many rows
 pub record AreReady (count : ℕ) (names : List PathKind) (columns : List Recording) : Type 0 where
   pub are_named : AreNamed names columns
   pub distinct : IsDistinct name_eq names
@@ -76,7 +77,7 @@ pub record AreReady (count : ℕ) (names : List PathKind) (columns : List Record
   pub within : AllByRecursion (IsWithin count) columns
   pub typed : list_any lacks_type columns ≡ false
 
--- bytes are a file of so many rows, whose columns are those that were recorded
+-- bytes are a file of this many rows, whose columns are those that were recorded
 pub record IsRecordedFile (count : ℕ) (columns : List ColumnRecord) (bytes : List ℕ) : Type 0 where
   pub file : IsColumnFile bytes
   pub rows : row_count bytes ≡ count

@@ -13,7 +13,7 @@ use seg_common::ColumnType;
 use std::alloc::{AllocError, Global};
 
 impl RecordedColumn {
-    /// Adds the bytes of the column in a file of so many rows.
+    /// Adds the bytes of the column in a file of this many rows.
     pub fn put(
         &self,
         alloc: Global,
@@ -46,7 +46,7 @@ impl RecordedColumn {
         }
     }
 
-    /// How many bytes `put` adds in a file of so many rows. More than there can be are want of memory.
+    /// How many bytes `put` adds in a file of this many rows. More than there can be counts as out of memory.
     pub fn room(&self, num_rows: u32) -> Result<usize, AllocError> {
         let ends = (num_rows as usize).saturating_mul(8);
         let values = self.known.values.len();
@@ -79,7 +79,8 @@ fn put_texts(
     num_rows: u32,
 ) -> Result<(), AllocError>
     requires { Rise (λ v. v.row) 0 known.now.values.items }
-    ensures { OnOk result (AddsTexts known.now.terms sorts known.now.values.items num_rows out.old.items out.new.items) }
+    ensures { OnOk result
+        (AddsTexts known.now.terms sorts known.now.values.items num_rows out.old.items out.new.items) }
 {
     let order = known.terms.order(alloc)?;
     put_ordinals(alloc, out, &known.values, &order, sorts, num_rows)?;

@@ -25,7 +25,8 @@ impl ColumnarWriter {
         value: NumericalValue,
     ) -> Result<(), ColumnError>
         requires { At (CanTake kinds.Number doc (number (number_in value))) column.place self.old }
-        ensures ok { OnOk result (self.new ≡ changed_at (with_value doc (number (number_in value))) column.place self.old) }
+        ensures ok { OnOk result
+            (self.new ≡ changed_at (with_value doc (number (number_in value))) column.place self.old) }
         ensures err { IfErr result (λ e. e ≡ OutOfMemory) }
         ensures kept { OnErr result (self.new ≡ self.old) }
     {
@@ -57,7 +58,8 @@ impl ColumnarWriter {
         value: &[u8],
     ) -> Result<(), ColumnError>
         requires { At (CanTake kinds.Bytes doc (bytes_value value.now)) column.place self.old }
-        ensures ok { OnOk result (self.new ≡ changed_at (with_value doc (bytes_value value.now)) column.place self.old) }
+        ensures ok { OnOk result
+            (self.new ≡ changed_at (with_value doc (bytes_value value.now)) column.place self.old) }
         ensures err { IfErr result (λ e. e ≡ OutOfMemory) }
         ensures kept { OnErr result (self.new ≡ self.old) }
     {
@@ -105,7 +107,8 @@ impl ColumnarWriter {
         value: Ipv6Addr,
     ) -> Result<(), ColumnError>
         requires { At (CanTake kinds.IpAddr doc (ip_value (ipv6_octets value))) column.place self.old }
-        ensures ok { OnOk result (self.new ≡ changed_at (with_value doc (ip_value (ipv6_octets value))) column.place self.old) }
+        ensures ok { OnOk result
+            (self.new ≡ changed_at (with_value doc (ip_value (ipv6_octets value))) column.place self.old) }
         ensures err { IfErr result (λ e. e ≡ OutOfMemory) }
         ensures kept { OnErr result (self.new ≡ self.old) }
     {

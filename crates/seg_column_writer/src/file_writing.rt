@@ -71,7 +71,7 @@ fn entries_room(names: &[ColumnName], typed: &[TypedColumn]) -> Result<usize, Al
     Ok(room)
 }
 
-/// How many bytes columns have in a file of so many rows.
+/// How many bytes columns have in a file of this many rows.
 fn data_room(
     columns: &[RecordedColumn],
     typed: &[TypedColumn],

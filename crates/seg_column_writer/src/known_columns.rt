@@ -45,7 +45,8 @@ impl KnownColumns {
         path: &[u8],
         kind: ValueKind,
     ) -> Result<usize, AllocError>
-        ensures ok { OnOk result (IsPlaced (record { kind = kind_place kind; path = path.now }) kind self.old self.new) }
+        ensures ok { OnOk result
+            (IsPlaced (record { kind = kind_place kind; path = path.now }) kind self.old self.new) }
         ensures place { IfOk result (λ place. place
             ≡ position_or_len (name_eq (record { kind = kind_place kind; path = path.now })) self.old.names.keys) }
         ensures err { OnErr result (AreKept self.old self.new) }
@@ -69,7 +70,8 @@ impl KnownColumns {
     ) -> Result<usize, AllocError>
         requires { list_any (name_eq (asked name)) self.old.names.keys ≡ false }
         ensures ok { OnOk result (IsPlaced (asked name.entry) kind self.old self.new) }
-        ensures place { IfOk result (λ place. place ≡ position_or_len (name_eq (asked name.entry)) self.old.names.keys) }
+        ensures place { IfOk result (λ place. place
+            ≡ position_or_len (name_eq (asked name.entry)) self.old.names.keys) }
         ensures err { OnErr result (AreKept self.old self.new) }
     {
         let place = self.names.len();
@@ -122,7 +124,7 @@ impl KnownColumns {
         Ok(())
     }
 
-    /// The file of so many rows, unless the numbers of a column have no type.
+    /// The file of this many rows, unless the numbers of a column have no type.
     pub fn write(&self, alloc: Global, num_rows: u32) -> Result<Vec<u8>, ColumnError>
         requires sound { IsSound self.now }
         requires within { AllByRecursion (IsWithin num_rows) self.now.columns.items }

@@ -24,7 +24,8 @@ impl ColumnarWriter {
         value: NumericalValue,
     ) -> Result<(), ColumnError>
         requires { MayRecord name.now kinds.Number doc (number (number_in value)) self.old }
-        ensures ok { OnOk result (self.new ≡ with_recorded name.now kinds.Number doc (number (number_in value)) self.old) }
+        ensures ok { OnOk result
+            (self.new ≡ with_recorded name.now kinds.Number doc (number (number_in value)) self.old) }
         ensures err { IfErr result (λ e. e ≡ OutOfMemory) }
         ensures kept { OnErr result (AreKeptBut name.now kinds.Number self.old self.new) }
     {
@@ -94,7 +95,8 @@ impl ColumnarWriter {
         value: Ipv6Addr,
     ) -> Result<(), ColumnError>
         requires { MayRecord name.now kinds.IpAddr doc (ip_value (ipv6_octets value)) self.old }
-        ensures ok { OnOk result (self.new ≡ with_recorded name.now kinds.IpAddr doc (ip_value (ipv6_octets value)) self.old) }
+        ensures ok { OnOk result
+            (self.new ≡ with_recorded name.now kinds.IpAddr doc (ip_value (ipv6_octets value)) self.old) }
         ensures err { IfErr result (λ e. e ≡ OutOfMemory) }
         ensures kept { OnErr result (AreKeptBut name.now kinds.IpAddr self.old self.new) }
     {

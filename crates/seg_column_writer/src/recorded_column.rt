@@ -15,8 +15,8 @@ use seg_common::ColumnType;
 use std::alloc::{AllocError, Global};
 use std::marker::Model;
 
-/// The values of a column in the order in which they came. Of numbers two marks say whether all fit i64, and whether none
-/// is negative, so that their type is known without a second look.
+/// The values of a column in the order in which they came. Of numbers two marks say whether all fit i64, and whether
+/// none is negative, so that their type is known without a second look.
 #[derive(Drop)]
 pub(crate) struct RecordedColumn {
     pub(crate) kind: ValueKind,

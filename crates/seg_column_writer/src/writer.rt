@@ -25,8 +25,8 @@ pub struct ColumnId {
     place: usize,
 }
 
-/// Takes the values of documents, column by column, and writes them as a file. It is seen as the columns in the order in
-/// which they came, each with what was declared and recorded.
+/// Takes the values of documents, column by column, and writes them as a file. It is seen as the columns in the order
+/// in which they came, each with what was declared and recorded.
 #[derive(Drop)]
 pub struct ColumnarWriter {
     alloc: Global,
@@ -130,7 +130,8 @@ impl ColumnarWriter {
         Ok(())
     }
 
-    /// The bytes of a file of so many rows, one for each document. Columns are written that are declared or have a value.
+    /// The bytes of a file of this many rows, one for each document. Columns are written that are declared or have a
+    /// value.
     pub fn serialize(self, num_docs: u32) -> Result<Vec<u8>, ColumnError>
         requires { AllByRecursion (λ c. IsWithin num_docs c.recording) self }
         ensures file { IfOk result (λ bytes. IsColumnFile bytes.items × (row_count bytes.items ≡ num_docs)) }

@@ -9,7 +9,7 @@ module _ (ends : List ℕ) (count : ℕ) (rise : EndsRise ends count) where
       let e : i + suc k ≡ i + k + 1 = omega arith in
       rw e (omega (arith, rising i k (omega (arith, h)), rise (i + k) (omega (arith, h))))
 
-  -- no part begins behind the end of all
+  -- no part begins after the end of all
   pub at_most_all : (i : ℕ) → i ≤ count → start_at ends i ≤ start_at ends count
   at_most_all i h =
       let e : i + (count - i) ≡ count = omega arith in

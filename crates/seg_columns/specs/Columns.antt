@@ -7,13 +7,13 @@ use Rattle.seg_columns.specs.Ends.{start_at, EndsRise}
 abbrev pub first_or : {T : Type 0} → T → List T → T
 first_or default values = get_or values 0 default
 
--- of values that take so many bytes, each decoded by itself
+-- of values that take this many bytes, each decoded by itself
 module _ {T : Type 0} (width : ℕ) (decoded : List ℕ → Option T) where
   -- the value at a place
   unfoldable pub value_at : List ℕ → ℕ → Option T
   value_at values k = decoded (slice_range values (width * k) (width * k + width))
 
-  -- there are so many values
+  -- there are this many values
   abbrev pub AreKnown : List ℕ → ℕ → Type 0
   AreKnown values count = (k : ℕ) → k < count → IsSome (value_at values k)
 
@@ -21,7 +21,7 @@ module _ {T : Type 0} (width : ℕ) (decoded : List ℕ → Option T) where
   abbrev pub values_between : List ℕ → ℕ → ℕ → List T
   values_between values start end = filter_map (value_at values) (range_with_len start (end - start))
 
-  -- bytes are a column of so many documents: the ends of their values, counted in values, and nothing but these values
+  -- bytes are a column of this many documents: the ends of their values, counted in values, and then just these values
   pub record IsColumn (docs : ℕ) (bytes : List ℕ) : Type 0 where
     pub ends : 8 * docs ≤ length bytes
     pub rise : EndsRise bytes docs

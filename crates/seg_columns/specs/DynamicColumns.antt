@@ -57,7 +57,7 @@ numbers_of (columns.DateTime rows) = Some (map (map raised) rows)
 
 -- ---- their bytes
 
--- bytes are a column of a type for so many documents
+-- bytes are a column of a type for this many documents
 abbrev pub IsColumnOf : ColumnType → ℕ → List ℕ → Type 0
 IsColumnOf types.I64 docs bytes = IsColumn 8 signed docs bytes
 IsColumnOf types.U64 docs bytes = IsColumn 8 unsigned docs bytes

@@ -7,6 +7,6 @@ unfoldable pub start_at : List ℕ → ℕ → ℕ
 start_at ends zero = 0
 start_at ends (suc i) = u64_at ends (8 * i)
 
--- none of so many parts ends before it begins
+-- none of this many parts ends before it begins
 abbrev pub EndsRise : List ℕ → ℕ → Type 0
 EndsRise ends count = (i : ℕ) → i < count → start_at ends i ≤ start_at ends (i + 1)

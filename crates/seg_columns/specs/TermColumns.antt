@@ -28,13 +28,13 @@ ordinals_in docs bytes = take (ordinals_length docs bytes) bytes
 abbrev pub dictionary_in : ℕ → List ℕ → List ℕ
 dictionary_in docs bytes = drop (ordinals_length docs bytes) bytes
 
--- bytes are a column of bytes for so many documents
+-- bytes are a column of bytes for this many documents
 pub record IsBytesColumn (docs : ℕ) (bytes : List ℕ) : Type 0 where
   pub ordinals : IsColumn 8 unsigned docs (ordinals_in docs bytes)
   pub dictionary : IsDictionary (dictionary_in docs bytes)
   pub uses : UsesEach (count_of (dictionary_in docs bytes)) (rows_of 8 unsigned docs (ordinals_in docs bytes))
 
--- bytes are a column of texts for so many documents
+-- bytes are a column of texts for this many documents
 pub record IsStrColumn (docs : ℕ) (bytes : List ℕ) : Type 0 where
   pub terms : IsBytesColumn docs bytes
   pub utf8 : All IsUtf8 (terms_of (dictionary_in docs bytes))

@@ -30,7 +30,7 @@ impl<T: ColumnValue> Model for Column<T> {
 }
 
 impl<T: ColumnValue> Column<T> {
-    /// The column that has these bytes, if one has: they are gone over once, and it takes no memory.
+    /// The column that has these bytes, if one has: they are scanned once, and it takes no memory.
     pub fn open(bytes: OwnedBytes, num_docs: u32) -> Option<Column<T>>
         ensures { MatchOption result (IsColumn T.WIDTH T.decoded num_docs bytes → ⊥)
             (λ c. IsColumn T.WIDTH T.decoded num_docs bytes × (c ≡ rows_of T.WIDTH T.decoded num_docs bytes)) }

@@ -5,7 +5,7 @@ ghost use Rattle.seg_columns.specs.Columns.{IsColumn, AreKnown, value_at};
 use crate::column_value::ColumnValue;
 use crate::ends::{END_BYTES, ends_rise, start_at};
 
-/// Whether bytes are a column of this type for so many documents: one pass over them, without memory.
+/// Whether bytes are a column of this type for this many documents: one pass over them, without memory.
 pub fn is_column<T: ColumnValue>(bytes: &[u8], num_docs: u32) -> bool
     ensures { MatchBool result (IsColumn T.WIDTH T.decoded num_docs bytes.now)
         (IsColumn T.WIDTH T.decoded num_docs bytes.now → ⊥) }
@@ -33,7 +33,7 @@ pub(crate) fn values_of(bytes: &[u8], rows: usize) -> &[u8]
     &bytes[END_BYTES * rows..]
 }
 
-/// Whether so many values fill so many bytes.
+/// Whether this many values fill this many bytes.
 fn fill<T: ColumnValue>(count: u64, len: usize) -> bool
     ensures { MatchBool result (T.WIDTH * count ≡ len) (T.WIDTH * count ≡ len → ⊥) }
 {

@@ -7,7 +7,7 @@ use crate::column_value::ColumnValue;
 use std::iter::FusedIterator;
 use std::marker::{Model, PhantomData};
 
-/// Goes over the values of a document without memory. It is seen as those that are left.
+/// Iterates over the values of a document without memory. It is seen as those that are left.
 #[derive(Drop)]
 pub struct ColumnValues<'a, T: ColumnValue> {
     values: &'a [u8],

@@ -29,7 +29,7 @@ impl Model for Dictionary {
 }
 
 impl Dictionary {
-    /// The dictionary that has these bytes, if one has: they are gone over once, and it takes no memory.
+    /// The dictionary that has these bytes, if one has: they are scanned once, and it takes no memory.
     pub fn open(bytes: OwnedBytes) -> Option<Dictionary>
         ensures { MatchOption result (IsDictionary bytes → ⊥) (λ d. IsDictionary bytes × (d ≡ terms_of bytes)) }
     {
@@ -59,7 +59,7 @@ impl Dictionary {
         self.count
     }
 
-    /// The place of a term, by halving.
+    /// The place of a term, by binary search.
     pub fn term_ord(&self, key: &[u8]) -> Option<u64>
         ensures { MatchOption result (All (λ term. term ≢ key.now) self.now)
             (λ ord. slice_get self.now ord ≡ Some key.now) }

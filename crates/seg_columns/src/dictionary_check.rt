@@ -21,7 +21,7 @@ pub(crate) fn checked_count(bytes: &[u8]) -> Option<usize>
     Some(count)
 }
 
-/// The number of terms, where so many fill the bytes.
+/// The number of terms, where this many fill the bytes.
 fn terms_held(bytes: &[u8]) -> Option<usize>
     ensures { MatchOption result (HoldsTerms bytes.now → ⊥)
         (λ count. (count ≡ count_of bytes.now) × HoldsTerms bytes.now) }

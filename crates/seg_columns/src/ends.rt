@@ -20,7 +20,7 @@ pub fn start_at(ends: &[u8], part: usize) -> u64
     }
 }
 
-/// Whether none of so many parts ends before it begins.
+/// Whether none of this many parts ends before it begins.
 pub(crate) fn ends_rise(ends: &[u8], count: usize) -> bool
     requires { 8 * count ≤ length ends.now }
     ensures { MatchBool result (spec.EndsRise ends.now count) (spec.EndsRise ends.now count → ⊥) }

@@ -52,7 +52,7 @@ fn part(bytes: &[u8], start: usize, end: usize) -> &[u8]
     &bytes[start..end]
 }
 
-/// The place of a term, by halving.
+/// The place of a term, by binary search.
 pub(crate) fn find_term(bytes: &[u8], count: usize, term: &[u8]) -> Option<usize>
     requires count { count ≡ spec.count_of bytes.now }
     requires dictionary { spec.IsDictionary bytes.now }

@@ -48,7 +48,7 @@ nine_digits i n h few =
 pub bound_at : (k j n : ℕ) → n < 10 ^ k → k ≡ j → n < 10 ^ j
 bound_at k j n h e = subst (λ i. n < 10 ^ i) e h
 
--- one more digit behind the point
+-- one more digit after the point
 pub parts_more : (whole : ℕ) (digits : List ℕ) (i : ℕ) → i < length digits → parts_of whole (drop i digits) ≡ (get_or digits i 0 - 48) * (whole / 10) + parts_of (whole / 10) (drop (i + 1) digits)
 parts_more whole digits i h = at_drop_more (parts_of whole) digits i 0 h
 

@@ -109,7 +109,7 @@ nine_parts n small =
         let last : x % 10 ≡ x = omega arith in
         omega arith
 
--- a fraction and `Z` behind it
+-- a fraction and `Z` after it
 leading : (ds : List ℕ) → list_all is_ascii_digit ds ≡ true → prefix_len is_ascii_digit (ds ++ 90 ∷ []) ≡ length ds
 leading [] h = refl
 leading (d ∷ ds) h = by_digit (is_ascii_digit d) h (leading ds)

@@ -15,7 +15,7 @@ no_day : (front : Bool) (day : Option ℤ) (seconds nanos : Option ℕ) (offset 
 no_day true day seconds nanos offset h = rw h
 no_day false day seconds nanos offset h = refl
 
--- a text without a digit at its begin tells no moment
+-- a text without a digit at its beginning tells no moment
 other_first : (text : List ℕ) → is_ascii_digit (slice_index text 0) ≡ false → date_of text ≡ None
 unfolding date_of
 other_first [] h = refl

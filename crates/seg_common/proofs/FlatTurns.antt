@@ -17,7 +17,7 @@ module _ {T E : Type 0} where
   rest_ok (p ∷ ps) rest h = rest_ok ps rest h.1
 
 module _ {X T E I : Type 0} (post : X → MutBor (Vec T) → Result (Unit {0}) E → MutBor (Vec T) → Type 0) (next : I → Option X → I → Type 0) where
-  -- in turn behind pieces that are left
+  -- in turn after pieces that are left
   abbrev TurnFrom : I → List T → List (Result T E) → Type 0
   TurnFrom it left all = (rest : List (Result T E)) × InTurn post next it rest × (all ≡ map (λ p. Ok p) left ++ rest)
 

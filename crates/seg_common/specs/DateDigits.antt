@@ -18,8 +18,8 @@ without_last_zeros (d ∷ ds) = if list_all (λ c. c == 48) (d ∷ ds) then [] e
 abbrev pub number_of : List ℕ → Option ℕ
 number_of bytes = if list_all is_ascii_digit bytes then Some (digits_value 10 bytes) else None
 
--- what the digits behind a point are worth of a whole: the first counts tenths of it, and the others are worth of a tenth what
--- they would be of the whole
+-- what the digits after a point are worth of a whole: the first counts tenths of it, and the others are worth of a
+-- tenth what they would be of the whole
 abbrev pub parts_of : ℕ → List ℕ → ℕ
 parts_of whole [] = 0
 parts_of whole (d ∷ ds) = (d - 48) * (whole / 10) + parts_of (whole / 10) ds

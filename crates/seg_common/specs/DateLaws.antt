@@ -6,7 +6,8 @@ use Rattle.seg_common.specs.DateText.{date_text}
 
 -- each moment that 64 bits hold is read from its text
 abbrev pub PrintedMomentsAreRead : Type 0
-PrintedMomentsAreRead = (moment : ℤ) → neg_ℤ (pos (2 ^ 63)) ≤ℤ moment → moment <ℤ pos (2 ^ 63) → date_of (date_text moment) ≡ Some moment
+PrintedMomentsAreRead = (moment : ℤ) → neg_ℤ (pos (2 ^ 63)) ≤ℤ moment → moment <ℤ pos (2 ^ 63)
+    → date_of (date_text moment) ≡ Some moment
 
 -- a text that tells a moment begins with a digit
 abbrev pub ReadTextsBeginWithADigit : Type 0

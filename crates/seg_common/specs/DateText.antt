@@ -10,7 +10,8 @@ day_nanos = 86400 * 10 ^ 9
 
 -- `yyyy-mm-dd`
 abbrev pub civil_text : ℕ → ℕ → ℕ → List ℕ
-civil_text year month day = digits_text 4 year ++ (codes "-" ++ (digits_text 2 month ++ (codes "-" ++ digits_text 2 day)))
+civil_text year month day = digits_text 4 year
+    ++ (codes "-" ++ (digits_text 2 month ++ (codes "-" ++ digits_text 2 day)))
 
 -- the date of a day number
 abbrev pub day_text : ℤ → List ℕ
@@ -22,7 +23,8 @@ fraction_text nanos = if nanos == 0 then [] else 46 ∷ without_last_zeros (digi
 
 -- `hh:mm:ss`, of the seconds since midnight
 abbrev pub clock_text : ℕ → List ℕ
-clock_text seconds = digits_text 2 (seconds / 3600) ++ (codes ":" ++ (digits_text 2 (seconds / 60 % 60) ++ (codes ":" ++ digits_text 2 (seconds % 60))))
+clock_text seconds = digits_text 2 (seconds / 3600)
+    ++ (codes ":" ++ (digits_text 2 (seconds / 60 % 60) ++ (codes ":" ++ digits_text 2 (seconds % 60))))
 
 -- the time of day and its fraction, of the nanoseconds since midnight
 abbrev pub time_text : ℕ → List ℕ

@@ -28,12 +28,14 @@ module _ {X T E : Type 0} (post : X → MutBor (Vec T) → Result (Unit {0}) E �
       filled : (it middle after : I) (x : X) (pieces left : List T) (r : Option (Result T E)) → next it (Some x) middle
           → Fills x (Ok tt) pieces → Gives middle pieces r after left → Gives it [] r after left
 
-module _ {X T E : Type 0} (post : X → MutBor (Vec T) → Result (Unit {0}) E → MutBor (Vec T) → Type 0) {I : Type 0} (next : I → Option X → I → Type 0) where
+module _ {X T E : Type 0} (post : X → MutBor (Vec T) → Result (Unit {0}) E → MutBor (Vec T) → Type 0) {I : Type 0}
+    (next : I → Option X → I → Type 0) where
   -- one after another, to the end, it gives these
   pub data GivesAll : I → List T → List (Result T E) → Type 0 where
     no_more : (it after : I) (left behind : List T) → Gives post next it left None after behind → GivesAll it left []
     one_more : (it after : I) (left behind : List T) (given : Result T E) (rest : List (Result T E))
-        → Gives post next it left (Some given) after behind → GivesAll after behind rest → GivesAll it left (given ∷ rest)
+        → Gives post next it left (Some given) after behind → GivesAll after behind rest
+        → GivesAll it left (given ∷ rest)
 
   -- of each item to the end the pieces, or in their place its refusal
   pub data InTurn : I → List (Result T E) → Type 0 where

@@ -32,7 +32,7 @@ pub(crate) fn leading_digits(text: &[u8]) -> usize
     text.len()
 }
 
-/// The nanoseconds of the digits behind the point of a second.
+/// The nanoseconds of the digits after the point of a second.
 pub(crate) fn nanos_of(digits: &[u8]) -> u32
     requires { IsTrue (list_all is_ascii_digit digits.now) }
     ensures value { result ≡ parts_of (10 ^ 9) digits.now }

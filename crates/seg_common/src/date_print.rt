@@ -12,8 +12,8 @@ const NANOS_IN_SECOND: u64 = 1_000_000_000;
 const NANOS_IN_DAY: i64 = 86_400_000_000_000;
 
 impl DateTime {
-    /// The moment as RFC 3339 in UTC, with `T` and `Z`: `1969-12-31T23:59:59.5Z`. The fraction has no zeros at its end, and
-    /// there is none for a whole second.
+    /// The moment as RFC 3339 in UTC, with `T` and `Z`: `1969-12-31T23:59:59.5Z`. The fraction has no zeros at its end,
+    /// and there is none for a whole second.
     pub fn to_rfc3339(self, alloc: Global) -> Result<String, CommonError>
         ensures ok { IfOk result (λ text. string_bytes text ≡ date_text self) }
         ensures err { IfErr result (λ e. e ≡ CommonError.OutOfMemory) }

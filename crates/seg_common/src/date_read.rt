@@ -20,9 +20,9 @@ pub fn can_be_rfc3339_date_time(text: &str) -> bool
 }
 
 impl DateTime {
-    /// The moment of a text of RFC 3339, `yyyy-mm-ddThh:mm:ss`, with a fraction or without one, and then `Z` or an offset
-    /// from UTC. Of a fraction nine digits count. None where the calendar or the clock doesn't have it (a minute has no
-    /// second 60), and where an `i64` of nanoseconds doesn't reach it.
+    /// The moment of a text of RFC 3339, `yyyy-mm-ddThh:mm:ss`, with a fraction or without one, and then `Z` or an
+    /// offset from UTC. Of a fraction nine digits count. None where the calendar or the clock doesn't have it (a minute
+    /// has no second 60), and where an `i64` of nanoseconds doesn't reach it.
     pub fn parse_rfc3339(text: &str) -> Option<DateTime>
         ensures { result ≡ date_of text.now }
     {
@@ -127,7 +127,7 @@ fn read_offset(text: &[u8]) -> Option<i64>
     }
 }
 
-/// The moment at which a clock that is so many minutes ahead of UTC shows this.
+/// The moment at which a clock that is this many minutes ahead of UTC shows this.
 fn moment(day: i64, seconds: u32, nanos: u32, offset: i64) -> Option<DateTime>
     requires day { IsEpochDay day }
     requires seconds { seconds < 86400 }

@@ -23,7 +23,9 @@ impl<T: Drop, E, F: Fn(I::Item, &mut Vec<T>) -> Result<(), E>, I: Iterator> Iter
 
     ghost can_next = { λ s. I.can_next s.items × IsFinite (I.remaining s.items) × F.IsAlwaysCallable s.fill_buffer };
 
-    ghost next_gives = { λ s r t. Gives (F.post s.fill_buffer) I.next_gives s.items (reverse s.buffer.items) r t.items (reverse t.buffer.items) × (t.fill_buffer ≡ s.fill_buffer) };
+    ghost next_gives = { λ s r t. Gives (F.post s.fill_buffer) I.next_gives s.items
+        (reverse s.buffer.items) r t.items (reverse t.buffer.items)
+        × (t.fill_buffer ≡ s.fill_buffer) };
 
     ghost remaining = { λ s. piece_count (I.remaining s.items) (vec_len s.buffer) };
 
@@ -50,9 +52,9 @@ impl<T: Drop, E, F: Fn(I::Item, &mut Vec<T>) -> Result<(), E>, I: Iterator> Iter
 
 /// Iterators whose items have pieces.
 pub trait FlatMapWithBufferIter: Iterator {
-    /// The pieces that `fill_buffer` puts into an empty buffer, item after item. Where it refuses one, the refusal is given in
-    /// place of the item's pieces, and the next item comes after it. Only the buffer takes memory, as `fill_buffer` lets it
-    /// grow.
+    /// The pieces that `fill_buffer` puts into an empty buffer, item after item. Where it refuses one, the refusal is
+    /// given in place of the item's pieces, and the next item comes after it. Only the buffer takes memory, as
+    /// `fill_buffer` lets it grow.
     final fn flat_map_with_buffer<T: Drop, E, F: Fn(Self::Item, &mut Vec<T>) -> Result<(), E>>(
         self,
         alloc: Global,

@@ -27,7 +27,7 @@ entries_step table count i f e lt p q = rw (p, q) (entries_more table count i lt
 pub entries_end : (table : List ℕ) (count i : ℕ) → count ≤ i → entries_of (count - i) (drop (12 * i) table) ≡ []
 entries_end table count i le = let k : count - i ≡ 0 = omega arith in rw k refl
 
--- one entry that has the field, or hasn't
+-- one entry that has the field, or lacks it
 pub field_of-here : (start field : ℕ) (e : ℕ × ℕ) (es : List (ℕ × ℕ)) (body : List ℕ) → e.0 ≡ field → field_of (parts_from start (e ∷ es) body) field ≡ Some (slice_range body start e.1)
 field_of-here start field e es body h = rw (eq-eqb e.0 field h) refl
 

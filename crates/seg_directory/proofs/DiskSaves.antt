@@ -101,7 +101,7 @@ pub saved_on_disk : (name : FileName) (bytes : List ℕ) {T : Type 0} (r : Resul
 saved_on_disk name bytes (Ok x) told works = saved_at name bytes x _ _ told works.on
 saved_on_disk name bytes (Err e) told works = tt
 
--- ---- and then all files reach the disk once more
+-- ---- and then all files reach the disk again
 
 -- the file is saved, and reaches the disk
 abbrev pub publishing : FileName → List ℕ → List Step

@@ -82,14 +82,14 @@ abbrev now : DiskRecordState → FileDisk
 now r = disk_after no_files r.kept.calls
 
 module _ (calls earlier : List DiskCall) (call : DiskCall) (is : calls ≡ earlier ++ call ∷ []) where
-  -- the image of one call more is the same
+  -- the image of one more call is the same
   pub same_image : (from to : Pick) (result : Result DiskRecordState AllocError) → ((d : FileDisk) → picked from d ≡ picked to (after_call d call))
       → IfOk result (λ r. now r ≡ settled (picked from (disk_after no_files earlier))) → IfOk result (λ r. now r ≡ settled (picked to (disk_after no_files calls)))
   same_image from to (Ok r) same so_far =
       so_far ∙ ap settled (same (disk_after no_files earlier) ∙ ap (picked to) (sym (disk_step no_files earlier call) ∙ ap (disk_after no_files) (sym is)))
   same_image from to (Err e) same so_far = tt
 
-  -- or it has one file more
+  -- or it has one more file
   pub more_image : (from to : Pick) (name : FileName) (bytes : List ℕ) (files : DiskRecordState) (result : Result DiskRecordState AllocError)
       → ((d : FileDisk) → insert (picked from d) name bytes ≡ picked to (after_call d call))
       → now files ≡ settled (picked from (disk_after no_files earlier)) → IfOk result (λ r. now r ≡ after_call (now files) (Put name bytes))

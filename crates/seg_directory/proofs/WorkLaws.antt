@@ -46,6 +46,6 @@ went_on (passes refusal ∷ steps) x a b h = elim h [
   | inr no_error ↦ absurd no_error
 ]
 
--- what steps that all went well say of the directory
+-- what steps that all went well say about the directory
 pub all_went : {T : Type 0} {steps : List Step} {x : T} {a b : DirectoryState} → Works steps (Ok x) a b → AllWent steps a b
 all_went works = went_on _ _ _ _ works.on

@@ -1,4 +1,4 @@
--- What a call of a directory says of the files, and what it makes of them.
+-- What a call of a directory says about the files, and what it makes of them.
 use Rattle.std.specs.Prelude.{ℕ, ◌≡◌, ◌≢◌, ◌⊎◌, List, Option, Some, None, IsSome, Result, Ok, Err, ⊤}
 use Rattle.std.specs.FinMap.{get, insert}
 use Rattle.seg_common.specs.declared.name.FileName.{FileName}

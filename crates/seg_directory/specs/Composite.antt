@@ -1,4 +1,4 @@
--- A composite file: the parts of fields one after the other, then for each its field and where it ends, then their number.
+-- A composite file: the parts of fields in turn, then for each its field and where it ends, then their number.
 use Rattle.std.specs.Prelude.{ℕ, zero, suc, ◌+◌, ◌*◌, ◌-◌, ◌==◌, nat_le, ◌&&◌, if◌then◌else◌, List, [], ◌∷◌, Bool, length, drop, slice_range, Option, Some, None}
 use Rattle.seg_common.specs.LittleEndian.{u32_at, u64_at}
 
@@ -35,7 +35,8 @@ table_of bytes = entries_of (count_of bytes) (drop (body_len bytes) bytes)
 
 -- whether bytes are a composite file
 unfoldable pub is_composite : List ℕ → Bool
-is_composite bytes = nat_le (4 + 12 * count_of bytes) (length bytes) && are_entries 0 0 (body_len bytes) (table_of bytes)
+is_composite bytes = nat_le (4 + 12 * count_of bytes) (length bytes)
+    && are_entries 0 0 (body_len bytes) (table_of bytes)
 
 -- its parts
 unfoldable pub parts_of : List ℕ → List Part

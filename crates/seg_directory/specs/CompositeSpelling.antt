@@ -11,7 +11,8 @@ bodies ps = flat_map (λ p. p.1) ps
 -- for each part its field and where it ends
 abbrev pub table_from : ℕ → List Part → List ℕ
 table_from start [] = []
-table_from start (p ∷ ps) = (to_le_bytes w32 p.0 ++ to_le_bytes w64 (start + length p.1)) ++ table_from (start + length p.1) ps
+table_from start (p ∷ ps) = (to_le_bytes w32 p.0 ++ to_le_bytes w64 (start + length p.1))
+    ++ table_from (start + length p.1) ps
 
 -- the whole file
 abbrev pub spelling : List Part → List ℕ

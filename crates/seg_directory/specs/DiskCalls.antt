@@ -33,7 +33,8 @@ without name (c ∷ cs) = cond (eq_by_cmp name_cmp name c.name) (without name cs
 
 -- the disk after a call
 abbrev pub after_call : FileDisk → DiskCall → FileDisk
-after_call disk (Put name bytes) = record { stable = insert disk.stable name bytes; pending = without name disk.pending }
+after_call disk (Put name bytes) =
+    record { stable = insert disk.stable name bytes; pending = without name disk.pending }
 after_call disk Unchanged = disk
 after_call disk (Created name bytes) = with_change disk name (exactly bytes)
 after_call disk (Replaced name bytes) = with_change disk name (exactly bytes)
@@ -75,7 +76,7 @@ pub record DiskRecordState : Type 0 where
   pub kept : DiskCalls
   pub room : ℕ
 
--- one call more
+-- one more call
 abbrev pub with_disk_call : DiskCalls → DiskCall → DiskCalls
 with_disk_call kept call = record kept { calls = kept.calls ++ call ∷ [] }
 
@@ -83,7 +84,7 @@ with_disk_call kept call = record kept { calls = kept.calls ++ call ∷ [] }
 abbrev pub calls_of : DiskCalls → ℕ
 calls_of kept = length kept.calls - kept.before
 
--- the disk after so many of them
+-- the disk after this many of them
 abbrev pub disk_at : DiskCalls → ℕ → FileDisk
 disk_at kept number = disk_after no_files (take (kept.before + number) kept.calls)
 

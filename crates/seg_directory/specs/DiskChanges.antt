@@ -22,15 +22,18 @@ KeepsDisk old new = Turns (λ d. d ≡ old.now) (λ d. d ≡ old.now) old new
 abbrev pub DiskGoes : Call → NamedFiles → DiskState → DiskState → Type 0
 DiskGoes (listed n) files old new = KeepsDisk old new
 DiskGoes (read name bytes) files old new = KeepsDisk old new
-DiskGoes (made name bytes) files old new = Turns (MayTear name old.now) (λ d. d ≡ with_change old.now name (exactly bytes)) old new
-DiskGoes (replaced name bytes) files old new = Turns (MayReplace name bytes old.now) (λ d. d ≡ with_change old.now name (exactly bytes)) old new
+DiskGoes (made name bytes) files old new = Turns (MayTear name old.now)
+    (λ d. d ≡ with_change old.now name (exactly bytes)) old new
+DiskGoes (replaced name bytes) files old new = Turns (MayReplace name bytes old.now)
+    (λ d. d ≡ with_change old.now name (exactly bytes)) old new
 DiskGoes synced files old new = Turns (IsWithin old.now) (λ d. IsWithin old.now d × (d ≡ settled files)) old new
 
 -- a call that fails
 abbrev pub DiskFails : Call → DirectoryError → DiskState → DiskState → Type 0
 DiskFails (made name bytes) Exists old new = KeepsDisk old new
 DiskFails (made name bytes) e old new = Turns (MayTear name old.now) (MayTear name old.now) old new
-DiskFails (replaced name bytes) e old new = Turns (MayReplace name bytes old.now) (MayReplace name bytes old.now) old new
+DiskFails (replaced name bytes) e old new = Turns (MayReplace name bytes old.now)
+    (MayReplace name bytes old.now) old new
 DiskFails synced e old new = Turns (IsWithin old.now) (IsWithin old.now) old new
 DiskFails call e old new = KeepsDisk old new
 

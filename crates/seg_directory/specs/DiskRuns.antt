@@ -12,7 +12,8 @@ pub record SavesOnDisk (saved : NamedFiles) (old new : DiskState) : Type 0 where
 
 -- each such name may be as it might before
 abbrev pub IsSameAt : (FileName → Type 0) → FileDisk → FileDisk → Type 0
-IsSameAt IsSo old new = (name : FileName) (state : Option (List ℕ)) → IsSo name → may_hold new name state ≡ may_hold old name state
+IsSameAt IsSo old new = (name : FileName) (state : Option (List ℕ)) → IsSo name
+    → may_hold new name state ≡ may_hold old name state
 
 -- during a run and after it, a crash leaves each such name as it might before
 pub record KeepsOnDisk (IsSo : FileName → Type 0) (old new : DiskState) : Type 0 where

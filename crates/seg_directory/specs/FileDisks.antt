@@ -38,4 +38,5 @@ SettledFilesAreTheOnlyImage = (safe files : NamedFiles) → IsImage (settled saf
 abbrev pub SavedFilesAreOneOfTwo : Type 0
 SavedFilesAreOneOfTwo =
     (safe files : NamedFiles) (name : FileName) (bytes : List ℕ)
-    → IsImage (with_change (settled safe) name (exactly bytes)) files → (files ≡ safe) ⊎ (files ≡ insert safe name bytes)
+    → IsImage (with_change (settled safe) name (exactly bytes)) files
+    → (files ≡ safe) ⊎ (files ≡ insert safe name bytes)

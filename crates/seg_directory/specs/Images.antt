@@ -11,8 +11,12 @@ StableFilesAreAnImage order = (disk : Disk order) → IsImage disk disk.stable
 
 -- a name of which no change is pending has in each image what is safe
 abbrev pub UntouchedNamesStay : {Name : Type 0} → (Name → Name → Ordering) → Type 0
-UntouchedNamesStay {Name} order = (disk : Disk order) (files : Files order) (name : Name) → IsImage disk files → is_pending disk name ≡ false → get files name ≡ get disk.stable name
+UntouchedNamesStay {Name} order = (disk : Disk order) (files : Files order) (name : Name) → IsImage disk files
+    → is_pending disk name ≡ false → get files name ≡ get disk.stable name
 
 -- one more change lets its own name, and no other, be as the change leaves it
 abbrev pub ChangesLeaveTheirName : {Name : Type 0} → (Name → Name → Ordering) → Type 0
-ChangesLeaveTheirName {Name} order = (disk : Disk order) (changed : Name) (written : Written) (name : Name) (state : Option (List ℕ)) → may_hold (with_change disk changed written) name state ≡ (may_hold disk name state || (eq_by_cmp order changed name && may_leave written state))
+ChangesLeaveTheirName {Name} order =
+    (disk : Disk order) (changed : Name) (written : Written) (name : Name) (state : Option (List ℕ))
+    → may_hold (with_change disk changed written) name state
+    ≡ (may_hold disk name state || (eq_by_cmp order changed name && may_leave written state))

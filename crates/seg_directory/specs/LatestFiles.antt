@@ -47,22 +47,29 @@ holds_latest : (stable : NamedFiles) (changes : List (PendingChange FileName)) (
 holds_latest stable [] name = left_true _ _ (own_state (get stable name))
 holds_latest stable (c ∷ cs) name =
     let state : Option (List ℕ) = get (latest_over (insert stable c.name (bytes_left c.written)) cs) name in
-    let rest : Bool = list_any (λ (d : PendingChange FileName). eq_by_cmp name_cmp d.name name && may_leave d.written state) cs in
+    let rest : Bool =
+    list_any (λ (d : PendingChange FileName). eq_by_cmp name_cmp d.name name && may_leave d.written state) cs in
     let here : Bool = eq_by_cmp name_cmp c.name name && may_leave c.written state in
-    elim (either (option_eq bytes_eq (get (insert stable c.name (bytes_left c.written)) name) state) rest (holds_latest (insert stable c.name (bytes_left c.written)) cs name)) [
+    elim (either (option_eq bytes_eq (get (insert stable c.name (bytes_left c.written)) name) state) rest
+    (holds_latest (insert stable c.name (bytes_left c.written)) cs name)) [
       | inr e ↦ right_true (option_eq bytes_eq (get stable name) state) (here || rest) (right_true here rest e)
       | inl e ↦
           let is : state ≡ cond (eq_by_cmp name_cmp name c.name) (Some (bytes_left c.written)) (get stable name) =
           same_state _ state e ∙ get-insert name_cmp_total stable c.name (bytes_left c.written) name in
-          elim (eq_by_cmp name_cmp name c.name) as (λ b. eq_by_cmp name_cmp name c.name ≡ b → (option_eq bytes_eq (get stable name) state || (here || rest)) ≡ true) [
+          elim (eq_by_cmp name_cmp name c.name) as (λ b. eq_by_cmp name_cmp name c.name ≡ b
+          → (option_eq bytes_eq (get stable name) state || (here || rest)) ≡ true) [
             | true ↦ λ same.
-                let now : state ≡ Some (bytes_left c.written) = is ∙ ap (λ b. cond b (Some (bytes_left c.written)) (get stable name)) same in
-                let leaves : here ≡ true = ap (λ b. b && may_leave c.written state) ((eq_by_cmp_equiv name_cmp_total).symm c.name name ∙ same)
+                let now : state ≡ Some (bytes_left c.written) =
+                is ∙ ap (λ b. cond b (Some (bytes_left c.written)) (get stable name)) same in
+                let leaves : here ≡ true =
+                ap (λ b. b && may_leave c.written state) ((eq_by_cmp_equiv name_cmp_total).symm c.name name ∙ same)
                 ∙ ap (λ s. may_leave c.written s) now ∙ leaves_latest c.written in
                 right_true (option_eq bytes_eq (get stable name) state) (here || rest) (left_true here rest leaves)
             | false ↦ λ apart.
-                let now : state ≡ get stable name = is ∙ ap (λ b. cond b (Some (bytes_left c.written)) (get stable name)) apart in
-                left_true _ (here || rest) (ap (λ s. option_eq bytes_eq (get stable name) s) now ∙ own_state (get stable name))
+                let now : state ≡ get stable name =
+                is ∙ ap (λ b. cond b (Some (bytes_left c.written)) (get stable name)) apart in
+                left_true _ (here || rest)
+                (ap (λ s. option_eq bytes_eq (get stable name) s) now ∙ own_state (get stable name))
           ] refl
     ]
 

@@ -31,7 +31,13 @@ told_disk kept = record { told = true; now = disk_after no_files kept.calls; pas
 
 -- what is seen of it as a directory
 abbrev pub memory_state : MemoryState → DirectoryState
-memory_state s = record { tells = true; files = files_of s; seen = s.calls.answers; faults = s.calls.faults; disk = told_disk s.disk }
+memory_state s = record {
+  tells = true;
+  files = files_of s;
+  seen = s.calls.answers;
+  faults = s.calls.faults;
+  disk = told_disk s.disk;
+}
 
 -- a call fails exactly where it is one of those that fail, but for one that is out of memory
 abbrev pub FailsAsListed : {T : Type 0} → MemoryState → CallKind → Result T DirectoryError → Type 0
@@ -51,13 +57,23 @@ change_of synced = Synced
 
 -- what a call that goes well makes of it
 abbrev pub memory_went : Call → MemoryState → MemoryState
-memory_went call s = record { disk = with_disk_call s.disk (change_of call); calls = with_answers s.calls (kind_of call) (told call) }
+memory_went call s =
+    record { disk = with_disk_call s.disk (change_of call); calls = with_answers s.calls (kind_of call) (told call) }
 
 -- what a failing call makes of it: one that is out of memory changes nothing
 abbrev pub memory_failed : Call → DirectoryError → MemoryState → MemoryState
-memory_failed call Missing s = record { disk = with_disk_call s.disk Unchanged; calls = with_answers s.calls (kind_of call) (told_failing call Missing) }
-memory_failed call Exists s = record { disk = with_disk_call s.disk Unchanged; calls = with_answers s.calls (kind_of call) (told_failing call Exists) }
-memory_failed call Fault s = record { disk = with_disk_call s.disk Unchanged; calls = with_failure s.calls (kind_of call) (told_failing call Fault) }
+memory_failed call Missing s = record {
+  disk = with_disk_call s.disk Unchanged;
+  calls = with_answers s.calls (kind_of call) (told_failing call Missing);
+}
+memory_failed call Exists s = record {
+  disk = with_disk_call s.disk Unchanged;
+  calls = with_answers s.calls (kind_of call) (told_failing call Exists);
+}
+memory_failed call Fault s = record {
+  disk = with_disk_call s.disk Unchanged;
+  calls = with_failure s.calls (kind_of call) (told_failing call Fault);
+}
 memory_failed call OutOfMemory s = s
 
 -- what a call makes of it, by its answer at Ok and else by the call itself

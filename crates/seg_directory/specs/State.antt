@@ -17,7 +17,7 @@ pub record DiskState : Type 0 where
 abbrev pub untold : DiskState
 untold = record { told = false; now = settled empty; past = [] }
 
--- whether it tells its files, the files where it tells them, its answers, how many of its calls failed, at most the last u64, and its disk
+-- whether it tells its files, these where it does, its answers, how many calls failed, at most the last u64, its disk
 pub record DirectoryState : Type 0 where
   pub tells : Bool
   pub files : NamedFiles

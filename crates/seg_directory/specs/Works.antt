@@ -22,8 +22,10 @@ StepGoes (passes refusal) before after = (refusal ≡ None) × (after ≡ before
 
 -- a call fails, or lists files where there are to be none
 pub data CallBreaks (call : Call) (e : TantivyError) (before after : DirectoryState) : Type 0 where
-  failed : (d : DirectoryError) → e ≡ error_of (kind_of call) (name_of call) d → Fails call d before after → CallBreaks call e before after
-  has_files : (n : ℕ) → call ≡ listed 0 → 0 < n → e ≡ IndexAlreadyExists → Goes (listed n) before after → CallBreaks call e before after
+  failed : (d : DirectoryError) → e ≡ error_of (kind_of call) (name_of call) d → Fails call d before after
+      → CallBreaks call e before after
+  has_files : (n : ℕ) → call ≡ listed 0 → 0 < n → e ≡ IndexAlreadyExists → Goes (listed n) before after
+      → CallBreaks call e before after
 
 -- it breaks off
 abbrev pub StepBreaks : Step → TantivyError → DirectoryState → DirectoryState → Type 0
@@ -56,7 +58,7 @@ AllSuit [] files = Unit {0}
 AllSuit (calls call ∷ steps) files = Suits call files × AllSuit steps (files_after call files)
 AllSuit (passes refusal ∷ steps) files = (refusal ≡ None) × AllSuit steps files
 
--- what steps that all went well say of the directory
+-- what steps that all went well say about the directory
 pub record AllWent (steps : List Step) (before after : DirectoryState) : Type 0 where
   pub seen : after.seen ≡ before.seen ++ all_told steps
   pub files : IsTrue before.tells → after.files ≡ all_files_after steps before.files

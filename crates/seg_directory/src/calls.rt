@@ -49,7 +49,8 @@ pub fn read_file<D: Directory>(
     directory: &mut D,
     name: FileName,
 ) -> TResult<OwnedBytes>
-    ensures does { WorksFor (λ bytes. calls (read name bytes) ∷ []) result (D.state directory.old) (D.state directory.new) }
+    ensures does { WorksFor (λ bytes. calls (read name bytes) ∷ []) result
+        (D.state directory.old) (D.state directory.new) }
     ensures file { IsTrue (D.state directory.old).tells
         → ReadsFile (get (D.state directory.old).files name) result }
     ensures files { (D.state directory.new).files ≡ (D.state directory.old).files }

@@ -31,8 +31,8 @@ impl Model for CompositeFile {
 }
 
 impl CompositeFile {
-    /// Checks the table whole. `Malformed`: the bytes are too short for it, its fields don't ascend, its ends fall, or the
-    /// last of them isn't where the table begins.
+    /// Checks the table whole. `Malformed`: the bytes are too short for it, its fields don't ascend, its ends fall, or
+    /// the last of them isn't where the table begins.
     pub fn open(bytes: OwnedBytes) -> Result<CompositeFile, CommonError>
         ensures read { MatchResult result (λ parts. composite bytes ≡ Some parts) (λ _. composite bytes ≡ None) }
         ensures err { IfErr result (λ e. e ≡ CommonError.Malformed) }
@@ -43,7 +43,7 @@ impl CompositeFile {
         }
     }
 
-    /// The same file once more, of the same bytes; this takes no memory.
+    /// The same file again, over the same bytes; this takes no memory.
     pub fn share(&self) -> CompositeFile
         ensures { result ≡ self.now }
     {
@@ -53,7 +53,7 @@ impl CompositeFile {
         }
     }
 
-    /// The bytes of a field, which share those of the file: found in the table by halving.
+    /// The bytes of a field, which share those of the file: found in the table by binary search.
     pub fn open_read(&self, field: Field) -> Option<OwnedBytes>
         ensures { result ≡ field_of self.now field }
     {
@@ -96,7 +96,8 @@ impl CompositeFile {
 
 /// The number of parts, where the bytes are a composite file.
 fn checked_count(bytes: &[u8]) -> Option<u32>
-    ensures { MatchOption result (is_composite bytes.now ≡ false) (λ n. (is_composite bytes.now ≡ true) × (n ≡ count_of bytes.now)) }
+    ensures { MatchOption result (is_composite bytes.now ≡ false)
+        (λ n. (is_composite bytes.now ≡ true) × (n ≡ count_of bytes.now)) }
 {
     if bytes.len() < COUNT {
         return None;
@@ -158,7 +159,9 @@ fn entry_range(table: &[u8], count: u32, total: usize, place: u32) -> (usize, us
 fn find_entry(table: &[u8], count: u32, total: usize, field: u32) -> Option<(usize, usize)>
     requires room { 12 * count ≤ length table.now }
     requires good { are_entries 0 0 total (entries_of count table.now) ≡ true }
-    ensures found { (body : List ℕ) → field_of (parts_from 0 (entries_of count table.now) body) field ≡ option_map (λ r. slice_range body r.0 r.1) result }
+    ensures found { (body : List ℕ)
+        → field_of (parts_from 0 (entries_of count table.now) body) field
+        ≡ option_map (λ r. slice_range body r.0 r.1) result }
     ensures within { IfSome result (λ r. (r.0 ≤ r.1) × (r.1 ≤ total)) }
 {
     let place = first_not_below(table, count, field);

@@ -157,7 +157,7 @@ impl DiskRecord {
         (self.calls.len() - self.before) as u64
     }
 
-    /// The files that a crash after so many calls of the record may leave, all of them stable.
+    /// The files that a crash after this many calls of the record may leave, all of them stable.
     pub(crate) fn image(
         &self,
         alloc: Global,
@@ -165,7 +165,8 @@ impl DiskRecord {
         pick: Pick,
     ) -> Result<DiskRecord, AllocError>
         requires { number ≤ calls_of self.now.kept }
-        ensures { IfOk result (λ r. disk_after no_files r.kept.calls ≡ settled (picked pick (disk_at self.now.kept number))) }
+        ensures { IfOk result (λ r. disk_after no_files r.kept.calls
+            ≡ settled (picked pick (disk_at self.now.kept number))) }
     {
         image_after(alloc, &self.calls[..self.before + number as usize], pick)
     }
@@ -198,14 +199,15 @@ fn owned(alloc: Global, bytes: &[u8]) -> Result<OwnedBytes, AllocError>
     }
 }
 
-/// A file more, which is stable.
+/// One more file, which is stable.
 fn with_file(
     mut files: DiskRecord,
     alloc: Global,
     name: &FileName,
     bytes: &[u8],
 ) -> Result<DiskRecord, AllocError>
-    ensures { IfOk result (λ r. disk_after no_files r.kept.calls ≡ after_call (disk_after no_files files.kept.calls) (DiskCall.Put name.now bytes.now)) }
+    ensures { IfOk result (λ r. disk_after no_files r.kept.calls
+        ≡ after_call (disk_after no_files files.kept.calls) (DiskCall.Put name.now bytes.now)) }
 {
     files.make_room()?;
     files.put(alloc, name, bytes)?;
@@ -214,7 +216,8 @@ fn with_file(
 
 /// What of the calls is stable, or was done at the latest.
 fn image_after(alloc: Global, calls: &[DiskCall], pick: Pick) -> Result<DiskRecord, AllocError>
-    ensures { IfOk result (λ r. disk_after no_files r.kept.calls ≡ settled (picked pick (disk_after no_files calls.now))) }
+    ensures { IfOk result (λ r. disk_after no_files r.kept.calls
+        ≡ settled (picked pick (disk_after no_files calls.now))) }
 {
     let count = calls.len();
     if count == 0 {

@@ -15,8 +15,8 @@ use seg_common::{FileName, OwnedBytes};
 use std::alloc::Global;
 use std::marker::Model;
 
-/// A directory that tells all, keeps a record of its calls, and fails at chosen ones. A call that finds no memory changes
-/// nothing, and is neither counted nor in the record.
+/// A directory that tells all, keeps a record of its calls, and fails at chosen ones. A call that finds no memory
+/// changes nothing, and is neither counted nor in the record.
 #[derive(Drop)]
 pub struct MemoryDirectory {
     alloc: Global,
@@ -63,8 +63,8 @@ impl MemoryDirectory {
         self.disk.count()
     }
 
-    /// What a crash after so many calls of the record may leave: each name in its stable state, or each in its latest one.
-    /// It is a directory of its own, of which no call fails.
+    /// What a crash after this many calls of the record may leave: each name in its stable state, or each in its latest
+    /// one. It is a directory of its own, of which no call fails.
     pub fn image(
         &self,
         alloc: Global,
@@ -142,7 +142,8 @@ impl Directory for MemoryDirectory {
     ) -> Result<(), DirectoryError>
         ensures does { Makes name.now bytes.now result (memory_state self.old) (memory_state self.new) }
         ensures fails { FailsAsListed self.old CallKind.WriteNew result }
-        ensures after { self.new ≡ memory_after (λ _. made name.now bytes.now) (made name.now bytes.now) result self.old }
+        ensures after { self.new
+            ≡ memory_after (λ _. made name.now bytes.now) (made name.now bytes.now) result self.old }
     {
         self.disk.make_room()?;
         if self.calls.begin(CallKind::WriteNew)? {
@@ -168,7 +169,8 @@ impl Directory for MemoryDirectory {
     ) -> Result<(), DirectoryError>
         ensures does { Replaces name.now bytes.now result (memory_state self.old) (memory_state self.new) }
         ensures fails { FailsAsListed self.old CallKind.AtomicWrite result }
-        ensures after { self.new ≡ memory_after (λ _. replaced name.now bytes.now) (replaced name.now bytes.now) result self.old }
+        ensures after { self.new
+            ≡ memory_after (λ _. replaced name.now bytes.now) (replaced name.now bytes.now) result self.old }
     {
         self.disk.make_room()?;
         if self.calls.begin(CallKind::AtomicWrite)? {

@@ -30,7 +30,7 @@ all-append : (P : ℕ × Tree → Type 0) (xs ys : Document) → AllByRecursion 
 all-append P [] ys one others = others
 all-append P (x ∷ xs) ys one others = (one.0, all-append P xs ys one.1 others)
 
--- one pair more is written
+-- one more pair is written
 pub one_pair : (schema : Schema) (document : Document) (at : ℕ) (p : ℕ × Tree) (out after : List ℕ) → slice_get document at ≡ Some p → after ≡ out ++ flat_map pair_form (stored_document schema (p ∷ []))
     → after ++ flat_map pair_form (stored_document schema (drop (at + 1) document)) ≡ out ++ flat_map pair_form (stored_document schema (drop at document))
 one_pair schema document at p out after here more =
@@ -52,7 +52,7 @@ one_storable_pair schema document at p here one others =
 pub all_storable : (schema : Schema) (document : Document) (at : ℕ) → length document ≤ at → AllByRecursion IsStoredPair (stored_document schema (drop at document))
 all_storable schema document at end = subst (λ (ps : Document). AllByRecursion IsStoredPair (stored_document schema ps)) (sym (drop_all at document end)) tt
 
--- one pair more is counted
+-- one more pair is counted
 pub one_counted : (schema : Schema) (document : Document) (at : ℕ) (p : ℕ × Tree) (b : Bool) (n : ℕ) → slice_get document at ≡ Some p → b ≡ is_stored schema p → n ≡ bool_byte b → n + length (stored_document schema (drop (at + 1) document)) ≡ length (stored_document schema (drop at document))
 one_counted schema document at p b n here is counts =
     ap (λ (m : ℕ). m + length rest) (counts ∙ ap bool_byte is)

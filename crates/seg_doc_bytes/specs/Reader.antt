@@ -20,7 +20,8 @@ made_of make read = then_read read (λ x rest. Some (make x, rest))
 -- this many, one after another
 abbrev pub times_at : {A : Type 0} → Reader A → ℕ → Reader (List A)
 times_at read zero bytes = Some ([], bytes)
-times_at read (suc n) bytes = then_read (read bytes) (λ x rest. then_read (times_at read n rest) (λ xs after. Some (x ∷ xs, after)))
+times_at read (suc n) bytes = then_read (read bytes)
+    (λ x rest. then_read (times_at read n rest) (λ xs after. Some (x ∷ xs, after)))
 
 -- their number as a varint, and these
 abbrev pub counted_at : {A : Type 0} → Reader A → Reader (List A)

@@ -18,7 +18,8 @@ is_top (object ms) = true
 
 -- a field, and its tree
 abbrev pub pair_at : Reader (ℕ × Tree)
-pair_at bytes = then_read (small_at bytes) (λ field rest. then_read (stored_tree_at most_levels_read rest) (λ t after. if is_top t then Some ((field, t), after) else None))
+pair_at bytes = then_read (small_at bytes) (λ field rest.
+    then_read (stored_tree_at most_levels_read rest) (λ t after. if is_top t then Some ((field, t), after) else None))
 
 -- what was read, where nothing is left
 abbrev pub all_read : {A : Type 0} → Option (A × List ℕ) → Option A

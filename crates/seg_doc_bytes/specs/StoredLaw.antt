@@ -14,4 +14,5 @@ AreShallow document = AllByRecursion (λ p. levels p.1 ≤ most_levels_read) doc
 
 -- the stored form of a document reads as its stored pairs
 abbrev pub IsReadBack : Type 0
-IsReadBack = (schema : Schema) (document : Document) → IsStorableDocument document → AreShallow document → stored_document_of (stored_form schema document) ≡ Some (stored_document schema document)
+IsReadBack = (schema : Schema) (document : Document) → IsStorableDocument document → AreShallow document
+    → stored_document_of (stored_form schema document) ≡ Some (stored_document schema document)

@@ -9,12 +9,20 @@ use Rattle.seg_doc_bytes.specs.Reader.{Reader, then_read, made_of, counted_at, f
 -- a token: its byte range, its position, how many positions it spans, and its text
 abbrev pub token_at : Reader Token
 token_at bytes =
-    then_read (varint_at bytes) (λ from rest1. then_read (varint_at rest1) (λ to rest2. then_read (small_at rest2) (λ position rest3. then_read (small_at rest3) (λ span rest4. then_read (text_at rest4) (λ text after.
-    Some (record { offset_from = from; offset_to = to; position = position; position_length = span; text = text }, after))))))
+    then_read (varint_at bytes) (λ from rest1.
+    then_read (varint_at rest1) (λ to rest2.
+    then_read (small_at rest2) (λ position rest3.
+    then_read (small_at rest3) (λ span rest4.
+    then_read (text_at rest4) (λ text after. Some (
+      record { offset_from = from; offset_to = to; position = position; position_length = span; text = text },
+      after,
+    ))))))
 
 -- a text with its tokens
 abbrev pub pre_tokenized_at : Reader Leaf
-pre_tokenized_at bytes = then_read (text_at bytes) (λ text rest. then_read (counted_at token_at rest) (λ tokens after. Some (pre_tokenized (record { text = text; tokens = tokens }), after)))
+pre_tokenized_at bytes = then_read (text_at bytes) (λ text rest.
+    then_read (counted_at token_at rest) (λ tokens after.
+    Some (pre_tokenized (record { text = text; tokens = tokens }), after)))
 
 -- a byte 0 or 1
 abbrev pub bit_at : Reader Bool
@@ -37,7 +45,8 @@ leaf_at tag bytes =
 
 -- a key with its tree
 abbrev pub member_at : Reader Tree → Reader (List ℕ × Tree)
-member_at inner bytes = then_read (text_at bytes) (λ key rest. then_read (inner rest) (λ t after. Some ((key, t), after)))
+member_at inner bytes = then_read (text_at bytes)
+    (λ key rest. then_read (inner rest) (λ t after. Some ((key, t), after)))
 
 -- a tree, of which `inner` reads the trees below
 abbrev pub tree_at : Reader Tree → Reader Tree

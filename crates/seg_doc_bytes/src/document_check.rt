@@ -48,7 +48,8 @@ fn pass_pair(bytes: &mut &[u8]) -> Option<()>
 ///
 /// Where no pair can follow, some of the bytes may be gone.
 pub fn take_field(bytes: &mut &[u8]) -> Option<u32>
-    ensures { MatchOption result (documents.pair_at bytes.old.now ≡ None) (λ field. documents.pair_at bytes.old.now ≡ read.made_of (λ t. (field, t)) (stored_tree_at documents.most_levels_read bytes.new.now)) }
+    ensures { MatchOption result (documents.pair_at bytes.old.now ≡ None) (λ field. documents.pair_at bytes.old.now
+        ≡ read.made_of (λ t. (field, t)) (stored_tree_at documents.most_levels_read bytes.new.now)) }
 {
     let field = take_small(bytes)?;
     if begins_with(bytes, PRE_TOKENIZED) {

@@ -1,4 +1,4 @@
-//! Documents out of their stored bytes.
+//! Documents from their stored bytes.
 ghost use Rattle.std.specs.Prelude.{◌≡◌, ◌<◌, ℕ, List, Some, None, IfOk, MatchOption};
 ghost use Rattle.seg_values.specs.Tree.{Document};
 ghost use Rattle.seg_values.specs.View.{tree_of};
@@ -15,7 +15,8 @@ use std::alloc::{AllocError, Global};
 ///
 /// The one error is that there isn't memory enough.
 pub fn document_of(alloc: Global, stored: &[u8]) -> Result<Option<TantivyDocument>, AllocError>
-    ensures { IfOk result (λ o. MatchOption o (documents.stored_document_of stored.now ≡ None) (λ d. documents.stored_document_of stored.now ≡ Some d)) }
+    ensures { IfOk result (λ o. MatchOption o (documents.stored_document_of stored.now ≡ None)
+        (λ d. documents.stored_document_of stored.now ≡ Some d)) }
 {
     let mut left = stored;
     let Some(document) = read_pairs(alloc, &mut left)? else {
@@ -29,7 +30,8 @@ pub fn document_of(alloc: Global, stored: &[u8]) -> Result<Option<TantivyDocumen
 
 /// Pairs after their number.
 fn read_pairs(alloc: Global, bytes: &mut &[u8]) -> Result<Option<TantivyDocument>, AllocError>
-    ensures { IfOk result (Makes (read.counted_at documents.pair_at) (λ (d : Document). d) bytes.old.now bytes.new.now) }
+    ensures { IfOk result
+        (Makes (read.counted_at documents.pair_at) (λ (d : Document). d) bytes.old.now bytes.new.now) }
 {
     let Some(count) = take_varint(bytes) else {
         return Ok(None);

@@ -16,8 +16,8 @@ use std::alloc::AllocError;
 
 /// Adds to `out` the bytes that a document is stored as: how many of its pairs are stored, and these, in its order.
 ///
-/// Each value has at most 200 levels. A field that the schema lacks isn't stored. The one error is that there isn't memory
-/// enough; `out` may then have some of these bytes.
+/// Each value has at most 200 levels. A field that the schema lacks isn't stored. The one error is that there isn't
+/// memory enough; `out` may then have some of these bytes.
 pub fn put_document(
     out: &mut Vec<u8>,
     document: &Pairs<'_>,
@@ -25,7 +25,8 @@ pub fn put_document(
 ) -> Result<(), AllocError>
     requires { AreShallow document.now }
     ensures form { OnOk result (out.new.items ≡ out.old.items ++ stored_form schema.now document.now) }
-    ensures reads { OnOk result (stored_document_of (stored_form schema.now document.now) ≡ Some (reading.stored_document schema.now document.now)) }
+    ensures reads { OnOk result (stored_document_of (stored_form schema.now document.now)
+        ≡ Some (reading.stored_document schema.now document.now)) }
 {
     put_varint(out, count_stored(document, schema))?;
     for at in 0..document.len() {
@@ -63,8 +64,10 @@ fn put_if_stored(
     value: &OwnedValue,
 ) -> Result<(), AllocError>
     requires { levels (tree_of value.now) ≤ most_levels_read }
-    ensures form { OnOk result (out.new.items ≡ out.old.items ++ flat_map pair_form (reading.stored_document schema.now ((field, tree_of value.now) ∷ []))) }
-    ensures storable { OnOk result (AllByRecursion IsStoredPair (reading.stored_document schema.now ((field, tree_of value.now) ∷ []))) }
+    ensures form { OnOk result (out.new.items
+        ≡ out.old.items ++ flat_map pair_form (reading.stored_document schema.now ((field, tree_of value.now) ∷ []))) }
+    ensures storable { OnOk result
+        (AllByRecursion IsStoredPair (reading.stored_document schema.now ((field, tree_of value.now) ∷ []))) }
 {
     if is_stored(schema, field) {
         put_varint(out, field.field_id() as u64)?;

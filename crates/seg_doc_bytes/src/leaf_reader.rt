@@ -1,4 +1,4 @@
-//! Values out of stored leaves: each call makes one of what is at the front of bytes, or answers that there is none.
+//! Values from stored leaves: each call makes one of what is at the front of bytes, or answers that there is none.
 ghost use Rattle.std.specs.Prelude.{ℕ, List, IfOk};
 ghost use Rattle.std.specs.Int.{w64, cast_signed};
 ghost use Rattle.seg_tokens.specs.declared.token.Token.{Token};
@@ -22,7 +22,8 @@ pub(crate) fn read_leaf(
     bytes: &mut &[u8],
     tag: u8,
 ) -> Result<Option<OwnedValue>, AllocError>
-    ensures { IfOk result (Makes (λ b. read.made_of tree.leaf (trees.leaf_at tag b)) tree_of bytes.old.now bytes.new.now) }
+    ensures { IfOk result
+        (Makes (λ b. read.made_of tree.leaf (trees.leaf_at tag b)) tree_of bytes.old.now bytes.new.now) }
 {
     match tag {
         0 => Ok(Some(OwnedValue::Null)),
@@ -50,7 +51,8 @@ pub(crate) fn read_text(alloc: Global, bytes: &mut &[u8]) -> Result<Option<Text>
 }
 
 fn read_str(alloc: Global, bytes: &mut &[u8]) -> Result<Option<OwnedValue>, AllocError>
-    ensures { IfOk result (Makes (λ b. read.made_of tree.leaf (read.made_of tree.text (read.text_at b))) tree_of bytes.old.now bytes.new.now) }
+    ensures { IfOk result (Makes (λ b. read.made_of tree.leaf (read.made_of tree.text (read.text_at b)))
+        tree_of bytes.old.now bytes.new.now) }
 {
     let Some(text) = read_text(alloc, bytes)? else {
         return Ok(None);
@@ -59,7 +61,8 @@ fn read_str(alloc: Global, bytes: &mut &[u8]) -> Result<Option<OwnedValue>, Allo
 }
 
 fn read_facet(alloc: Global, bytes: &mut &[u8]) -> Result<Option<OwnedValue>, AllocError>
-    ensures { IfOk result (Makes (λ b. read.made_of tree.leaf (read.made_of tree.facet (read.text_at b))) tree_of bytes.old.now bytes.new.now) }
+    ensures { IfOk result (Makes (λ b. read.made_of tree.leaf (read.made_of tree.facet (read.text_at b)))
+        tree_of bytes.old.now bytes.new.now) }
 {
     let Some(text) = take_text(bytes) else {
         return Ok(None);
@@ -69,7 +72,8 @@ fn read_facet(alloc: Global, bytes: &mut &[u8]) -> Result<Option<OwnedValue>, Al
 }
 
 fn read_bytes(alloc: Global, bytes: &mut &[u8]) -> Result<Option<OwnedValue>, AllocError>
-    ensures { IfOk result (Makes (λ b. read.made_of tree.leaf (read.made_of tree.byte_string (read.sized_at b))) tree_of bytes.old.now bytes.new.now) }
+    ensures { IfOk result (Makes (λ b. read.made_of tree.leaf (read.made_of tree.byte_string (read.sized_at b)))
+        tree_of bytes.old.now bytes.new.now) }
 {
     let Some(stored) = take_sized(bytes) else {
         return Ok(None);
@@ -79,14 +83,17 @@ fn read_bytes(alloc: Global, bytes: &mut &[u8]) -> Result<Option<OwnedValue>, Al
 }
 
 fn read_unsigned(bytes: &mut &[u8]) -> Option<OwnedValue>
-    ensures { Makes (λ b. read.made_of tree.leaf (read.made_of tree.unsigned (read.number_at b))) tree_of bytes.old.now bytes.new.now result }
+    ensures { Makes (λ b. read.made_of tree.leaf (read.made_of tree.unsigned (read.number_at b)))
+        tree_of bytes.old.now bytes.new.now result }
 {
     let number = take_number(bytes)?;
     Some(OwnedValue::U64(number))
 }
 
 fn read_signed(bytes: &mut &[u8]) -> Option<OwnedValue>
-    ensures { Makes (λ b. read.made_of tree.leaf (read.made_of (λ n. tree.signed (cast_signed w64 n)) (read.number_at b))) tree_of bytes.old.now bytes.new.now result }
+    ensures { Makes
+        (λ b. read.made_of tree.leaf (read.made_of (λ n. tree.signed (cast_signed w64 n)) (read.number_at b)))
+        tree_of bytes.old.now bytes.new.now result }
 {
     let number = take_number(bytes)?;
     Some(OwnedValue::I64(number.cast_signed()))
@@ -94,21 +101,24 @@ fn read_signed(bytes: &mut &[u8]) -> Option<OwnedValue>
 
 /// A moment, as its nanoseconds since 1970.
 fn read_date(bytes: &mut &[u8]) -> Option<OwnedValue>
-    ensures { Makes (λ b. read.made_of tree.leaf (read.made_of (λ n. tree.date (cast_signed w64 n)) (read.number_at b))) tree_of bytes.old.now bytes.new.now result }
+    ensures { Makes (λ b. read.made_of tree.leaf (read.made_of (λ n. tree.date (cast_signed w64 n)) (read.number_at b)))
+        tree_of bytes.old.now bytes.new.now result }
 {
     let number = take_number(bytes)?;
     Some(OwnedValue::Date(DateTime::from_timestamp_nanos(number.cast_signed())))
 }
 
 fn read_bool(bytes: &mut &[u8]) -> Option<OwnedValue>
-    ensures { Makes (λ b. read.made_of tree.leaf (read.made_of tree.boolean (trees.bit_at b))) tree_of bytes.old.now bytes.new.now result }
+    ensures { Makes (λ b. read.made_of tree.leaf (read.made_of tree.boolean (trees.bit_at b)))
+        tree_of bytes.old.now bytes.new.now result }
 {
     let bit = take_bit(bytes)?;
     Some(OwnedValue::Bool(bit))
 }
 
 fn read_address(bytes: &mut &[u8]) -> Option<OwnedValue>
-    ensures { Makes (λ b. read.made_of tree.leaf (read.made_of tree.ip (read.front 16 b))) tree_of bytes.old.now bytes.new.now result }
+    ensures { Makes (λ b. read.made_of tree.leaf (read.made_of tree.ip (read.front 16 b)))
+        tree_of bytes.old.now bytes.new.now result }
 {
     let address = take_address(bytes)?;
     Some(OwnedValue::IpAddr(address))
@@ -116,7 +126,8 @@ fn read_address(bytes: &mut &[u8]) -> Option<OwnedValue>
 
 /// A text with its tokens.
 fn read_pre_tokenized(alloc: Global, bytes: &mut &[u8]) -> Result<Option<OwnedValue>, AllocError>
-    ensures { IfOk result (Makes (λ b. read.made_of tree.leaf (trees.pre_tokenized_at b)) tree_of bytes.old.now bytes.new.now) }
+    ensures { IfOk result
+        (Makes (λ b. read.made_of tree.leaf (trees.pre_tokenized_at b)) tree_of bytes.old.now bytes.new.now) }
 {
     let Some(text) = read_text(alloc, bytes)? else {
         return Ok(None);
@@ -129,7 +140,8 @@ fn read_pre_tokenized(alloc: Global, bytes: &mut &[u8]) -> Result<Option<OwnedVa
 
 /// Tokens after their number.
 fn read_tokens(alloc: Global, bytes: &mut &[u8]) -> Result<Option<Tokens>, AllocError>
-    ensures { IfOk result (Makes (read.counted_at trees.token_at) (λ (ts : List Token). ts) bytes.old.now bytes.new.now) }
+    ensures { IfOk result
+        (Makes (read.counted_at trees.token_at) (λ (ts : List Token). ts) bytes.old.now bytes.new.now) }
 {
     let Some(count) = take_varint(bytes) else {
         return Ok(None);

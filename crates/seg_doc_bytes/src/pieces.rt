@@ -13,7 +13,8 @@ use std::net::Ipv6Addr;
 /// Takes this many bytes.
 #[inline]
 pub fn take_front<'a>(bytes: &mut &'a [u8], count: u64) -> Option<&'a [u8]>
-    ensures { MatchOption result (read.front count bytes.old.now ≡ None) (λ x. read.front count bytes.old.now ≡ Some (x.now, bytes.new.now)) }
+    ensures { MatchOption result (read.front count bytes.old.now ≡ None)
+        (λ x. read.front count bytes.old.now ≡ Some (x.now, bytes.new.now)) }
 {
     if count > bytes.len() as u64 {
         return None;
@@ -26,7 +27,8 @@ pub fn take_front<'a>(bytes: &mut &'a [u8], count: u64) -> Option<&'a [u8]>
 /// Takes a varint.
 #[inline]
 pub fn take_varint(bytes: &mut &[u8]) -> Option<u64>
-    ensures { MatchOption result (varint_at bytes.old.now ≡ None) (λ n. varint_at bytes.old.now ≡ Some (n, bytes.new.now)) }
+    ensures { MatchOption result (varint_at bytes.old.now ≡ None)
+        (λ n. varint_at bytes.old.now ≡ Some (n, bytes.new.now)) }
 {
     match VInt::deserialize_u64(bytes) {
         Ok(number) => Some(number),
@@ -37,7 +39,8 @@ pub fn take_varint(bytes: &mut &[u8]) -> Option<u64>
 /// Takes a varint that is a u32.
 #[inline]
 pub fn take_small(bytes: &mut &[u8]) -> Option<u32>
-    ensures { MatchOption result (read.small_at bytes.old.now ≡ None) (λ n. read.small_at bytes.old.now ≡ Some (n, bytes.new.now)) }
+    ensures { MatchOption result (read.small_at bytes.old.now ≡ None)
+        (λ n. read.small_at bytes.old.now ≡ Some (n, bytes.new.now)) }
 {
     let number = take_varint(bytes)?;
     u32::try_from(number).ok()
@@ -46,7 +49,8 @@ pub fn take_small(bytes: &mut &[u8]) -> Option<u32>
 /// Takes the bytes after their number.
 #[inline]
 pub fn take_sized<'a>(bytes: &mut &'a [u8]) -> Option<&'a [u8]>
-    ensures { MatchOption result (read.sized_at bytes.old.now ≡ None) (λ x. read.sized_at bytes.old.now ≡ Some (x.now, bytes.new.now)) }
+    ensures { MatchOption result (read.sized_at bytes.old.now ≡ None)
+        (λ x. read.sized_at bytes.old.now ≡ Some (x.now, bytes.new.now)) }
 {
     let count = take_varint(bytes)?;
     take_front(bytes, count)
@@ -55,7 +59,8 @@ pub fn take_sized<'a>(bytes: &mut &'a [u8]) -> Option<&'a [u8]>
 /// Takes a text after the number of its bytes.
 #[inline]
 pub fn take_text<'a>(bytes: &mut &'a [u8]) -> Option<&'a str>
-    ensures { MatchOption result (read.text_at bytes.old.now ≡ None) (λ x. read.text_at bytes.old.now ≡ Some (x.now, bytes.new.now)) }
+    ensures { MatchOption result (read.text_at bytes.old.now ≡ None)
+        (λ x. read.text_at bytes.old.now ≡ Some (x.now, bytes.new.now)) }
 {
     let text = take_sized(bytes)?;
     match str::from_utf8(text) {
@@ -66,7 +71,8 @@ pub fn take_text<'a>(bytes: &mut &'a [u8]) -> Option<&'a str>
 
 /// Takes a number of eight bytes, the lowest first.
 pub fn take_number(bytes: &mut &[u8]) -> Option<u64>
-    ensures { MatchOption result (read.number_at bytes.old.now ≡ None) (λ n. read.number_at bytes.old.now ≡ Some (n, bytes.new.now)) }
+    ensures { MatchOption result (read.number_at bytes.old.now ≡ None)
+        (λ n. read.number_at bytes.old.now ≡ Some (n, bytes.new.now)) }
 {
     let word = take_front(bytes, 8)?;
     Some(u64_at(word, 0))
@@ -74,7 +80,8 @@ pub fn take_number(bytes: &mut &[u8]) -> Option<u64>
 
 /// Takes a byte 0 or 1.
 pub fn take_bit(bytes: &mut &[u8]) -> Option<bool>
-    ensures { MatchOption result (trees.bit_at bytes.old.now ≡ None) (λ b. trees.bit_at bytes.old.now ≡ Some (b, bytes.new.now)) }
+    ensures { MatchOption result (trees.bit_at bytes.old.now ≡ None)
+        (λ b. trees.bit_at bytes.old.now ≡ Some (b, bytes.new.now)) }
 {
     let bit = take_byte(bytes)?;
     match bit {
@@ -96,7 +103,8 @@ pub fn take_byte(bytes: &mut &[u8]) -> Option<u8>
 
 /// Takes an address of sixteen octets.
 pub fn take_address(bytes: &mut &[u8]) -> Option<Ipv6Addr>
-    ensures { MatchOption result (read.front 16 bytes.old.now ≡ None) (λ a. read.front 16 bytes.old.now ≡ Some (ipv6_octets a, bytes.new.now)) }
+    ensures { MatchOption result (read.front 16 bytes.old.now ≡ None)
+        (λ a. read.front 16 bytes.old.now ≡ Some (ipv6_octets a, bytes.new.now)) }
 {
     let octets = take_front(bytes, 16)?;
     address_of(octets)

@@ -131,7 +131,8 @@ fn pass_trees(bytes: &mut &[u8], levels: u32) -> Option<()>
 /// Passes keys with their trees, after their number.
 #[cycle(pass_tree)]
 fn pass_members(bytes: &mut &[u8], levels: u32) -> Option<()>
-    ensures { Passes (read.counted_at (trees.member_at (trees.stored_tree_at levels))) bytes.old.now bytes.new.now result }
+    ensures { Passes (read.counted_at (trees.member_at (trees.stored_tree_at levels)))
+        bytes.old.now bytes.new.now result }
 {
     let count = take_varint(bytes)?;
     for _ in 0..count {

@@ -1,4 +1,4 @@
-//! Values out of stored trees: each call makes one of what is at the front of bytes, or answers that there is none.
+//! Values from stored trees: each call makes one of what is at the front of bytes, or answers that there is none.
 ghost use Rattle.std.specs.Prelude.{IfOk};
 ghost use Rattle.seg_values.specs.Tree as tree;
 ghost use Rattle.seg_values.specs.View.{tree_of};
@@ -40,7 +40,9 @@ fn read_array(
     bytes: &mut &[u8],
     levels: u32,
 ) -> Result<Option<OwnedValue>, AllocError>
-    ensures { IfOk result (Makes (λ b. read.made_of (λ ts. tree.array (tree.trees_from ts)) (read.counted_at (trees.stored_tree_at levels) b)) tree_of bytes.old.now bytes.new.now) }
+    ensures { IfOk result (Makes
+        (λ b. read.made_of (λ ts. tree.array (tree.trees_from ts)) (read.counted_at (trees.stored_tree_at levels) b))
+        tree_of bytes.old.now bytes.new.now) }
 {
     let Some(count) = take_varint(bytes) else {
         return Ok(None);
@@ -62,7 +64,10 @@ fn read_object(
     bytes: &mut &[u8],
     levels: u32,
 ) -> Result<Option<OwnedValue>, AllocError>
-    ensures { IfOk result (Makes (λ b. read.made_of (λ ms. tree.object (tree.members_from ms)) (read.counted_at (trees.member_at (trees.stored_tree_at levels)) b)) tree_of bytes.old.now bytes.new.now) }
+    ensures { IfOk result (Makes
+        (λ b. read.made_of (λ ms. tree.object (tree.members_from ms))
+        (read.counted_at (trees.member_at (trees.stored_tree_at levels)) b))
+        tree_of bytes.old.now bytes.new.now) }
 {
     let Some(count) = take_varint(bytes) else {
         return Ok(None);

@@ -220,7 +220,7 @@ join_more first (k ∷ ks) key =
     ap (λ (l : List ℕ). first ++ 1 ∷ l) (join_more k ks key)
     ∙ sym (append_assoc first (1 ∷ join_with_byte 1 (k ∷ ks)) (1 ∷ key))
 
--- a key behind those of a place
+-- a key after those of a place
 pub key_behind : (entry : FieldEntry) (keys : List (List ℕ)) (path pushed : JsonPath) (key : List ℕ)
     (number : Option ℕ) (paths : List (List ℕ)) → path ≡ path_at entry keys
     → pushed ≡ record { keys = path.keys ++ written_key path.expand_dots key ∷ []; expand_dots = path.expand_dots }

@@ -1,4 +1,4 @@
--- A path belongs to one field at the most.
+-- A path belongs to one field at most.
 use Rattle.std.proofs.Common.{◌≡◌, ℕ, zero, suc, Bool, true, false, List, [], ◌∷◌, ◌++◌, Some, refl, sym, ap, ◌∙◌, arith}
 use Rattle.std.specs.Prelude.{◌&&◌, nat_eq, nat_lt, not}
 use Rattle.std.specs.List.{list_all, list_any, slice_get}

@@ -1,4 +1,4 @@
--- One turn more of the loops over fields, tokens, pairs, arrays and objects.
+-- One more turn of the loops over fields, tokens, pairs, arrays and objects.
 use Rattle.std.proofs.Common.{◌≡◌, ℕ, zero, suc, ◌+◌, ◌<◌, Bool, true, false, cond, List, [], ◌∷◌, ◌++◌, length, drop, get_or, Option, None, Some, Result, Ok, Err, OnOk, refl, sym, ap, subst, ◌∙◌, append-nil, append_assoc}
 use Rattle.std.specs.Prelude.{◌&&◌, ◌||◌, nat_eq, not}
 use Rattle.std.specs.List.{AllByRecursion, flat_map, list_any, slice_get}

@@ -19,7 +19,8 @@ pub record GoesBy {T : Type 0} (fields : FastFields) (name : List ℕ) (given : 
 abbrev pub IsRefused : FastFields → List ℕ → TantivyError → Type 0
 IsRefused fields name e = ((e ≡ InvalidArgument NotFast) × FindsNotFast fields.schema name None) ⊎ (e ≡ OutOfMemory)
 
-abbrev pub Answers : {T : Type 0} → FastFields → List ℕ → (Option (List ℕ) → T → Type 0) → Result T TantivyError → Type 0
+abbrev pub Answers : {T : Type 0} → FastFields → List ℕ → (Option (List ℕ) → T → Type 0)
+    → Result T TantivyError → Type 0
 Answers fields name given result = MatchResult result (GoesBy fields name given) (IsRefused fields name)
 
 -- an answer by the columns of the path alone
@@ -31,4 +32,5 @@ abbrev pub Needs : {T : Type 0} → FastFields → List ℕ → (List StoredColu
 Needs fields name answer result = MatchResult result
     (GoesBy fields name (λ path x. Some x ≡ answer (columns_at fields.file path)))
     (λ e. IsRefused fields name e
-    ⊎ ((e ≡ SchemaError NoColumn) × GoesBy fields name (λ path (_ : Unit {0}). answer (columns_at fields.file path) ≡ None) tt))
+    ⊎ ((e ≡ SchemaError NoColumn)
+    × GoesBy fields name (λ path (_ : Unit {0}). answer (columns_at fields.file path) ≡ None) tt))

@@ -36,7 +36,8 @@ MayBeFast schema None = Unit {0}
 MayBeFast schema (Some found) = is_fast (slice_get schema found.0) ≡ true
 
 -- a name stands for the columns of a path, or for none: it finds no field, or a fast one
-pub record StandsFor (schema : List FieldEntry) (name : List ℕ) (default : Option ℕ) (path : Option (List ℕ)) : Type 0 where
+pub record StandsFor (schema : List FieldEntry) (name : List ℕ) (default : Option ℕ)
+    (path : Option (List ℕ)) : Type 0 where
   pub found : Option (ℕ × List ℕ)
   pub finds : Finds schema name default found
   pub fast : MayBeFast schema found

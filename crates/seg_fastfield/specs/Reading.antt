@@ -1,4 +1,4 @@
--- The columns of a segment behind the names of its fields.
+-- The columns of a segment, by the names of its fields.
 use Rattle.std.specs.Prelude.{ℕ, ◌^◌, ◌-◌, min, List, [], ◌∷◌, Bool, true, false, Option, Some, None, sum_by, nat_eq, if◌then◌else◌, option_map}
 use Rattle.std.specs.List.{list_any}
 use Rattle.std.specs.Borrow.{Bor}
@@ -60,7 +60,8 @@ is_asked (Some types) type = list_any (is_same_type type) types.now
 -- the numbers that stand for the values of a column with an asked type, where they have any, and the type
 abbrev pub lenient : Option (Bor (List ColumnType)) → StoredColumn → Option (List (List ℕ) × ColumnType)
 lenient types c =
-    if is_asked types (type_of c.column) then option_map (λ rows. (rows, type_of c.column)) (numbers_of c.column) else None
+    if is_asked types (type_of c.column)
+    then option_map (λ rows. (rows, type_of c.column)) (numbers_of c.column) else None
 
 -- the bytes of columns, at most 2^64 - 1
 abbrev pub bytes_in : List StoredColumn → ℕ

@@ -27,7 +27,7 @@ pub record Holds (documents : List (List FastValue)) (w : FastWriting) : Type 0 
 
 -- ---- what holds of the columns at any time
 
--- no value is of a row past so many, declared types are those of the schema, and its columns are at their places
+-- no value is of a row beyond this many, declared types are those of the schema, and its columns are at their places
 pub record AreUnderWay (schema : Schema) (rows : ℕ) (columns : List ColumnRecord) : Type 0 where
   pub below : AreBelow (declared_by schema) rows columns
   pub there : AreThere (first_columns schema) columns

@@ -1,4 +1,4 @@
-//! The columns behind a name, not opened yet.
+//! The columns of a name, not opened yet.
 ghost use Rattle.std.specs.Prelude.{◌≡◌, option_map, string_bytes};
 ghost use Rattle.seg_columns.specs.DynamicColumns.{type_of};
 ghost use Rattle.seg_fastfield.specs.Answers.{Answers, AnswersBy};
@@ -17,7 +17,8 @@ impl FastFieldReaders {
         alloc: Global,
         field_name: &str,
     ) -> TResult<Vec<DynamicColumnHandle>>
-        ensures { Answers self.now field_name.now (λ path handles. handles.items ≡ columns_at self.now.file path) result }
+        ensures { Answers self.now field_name.now
+            (λ path handles. handles.items ≡ columns_at self.now.file path) result }
     {
         let Some(name) = self.column_name(alloc, field_name)? else {
             return Ok(Vec::new(alloc));
@@ -34,7 +35,8 @@ impl FastFieldReaders {
         alloc: Global,
         field_name: &str,
     ) -> TResult<Vec<DynamicColumnHandle>>
-        ensures { Answers self.now field_name.now (λ path handles. handles.items ≡ columns_below self.now.file path) result }
+        ensures { Answers self.now field_name.now
+            (λ path handles. handles.items ≡ columns_below self.now.file path) result }
     {
         let Some(name) = self.column_name(alloc, field_name)? else {
             return Ok(Vec::new(alloc));
@@ -60,7 +62,8 @@ impl FastFieldReaders {
 
     /// How many bytes the columns of a name have.
     pub fn column_num_bytes(&self, alloc: Global, field_name: &str) -> TResult<ByteCount>
-        ensures { Answers self.now field_name.now (λ path size. size.0 ≡ bytes_in (columns_at self.now.file path)) result }
+        ensures { Answers self.now field_name.now
+            (λ path size. size.0 ≡ bytes_in (columns_at self.now.file path)) result }
     {
         let handles = self.dynamic_column_handles(alloc, field_name)?;
         Ok(ByteCount(num_bytes(&handles)))

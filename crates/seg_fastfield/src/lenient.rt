@@ -11,8 +11,8 @@ use seg_values::TResult;
 use std::alloc::{AllocError, Global};
 
 impl FastFieldReaders {
-    /// The first column of a name that has numbers, with its type. Texts and byte strings have their ordinals, addresses
-    /// none, and other values the numbers whose order is theirs.
+    /// The first column of a name that has numbers, with its type. Texts and byte strings have their ordinals,
+    /// addresses none, and other values the numbers whose order is theirs.
     pub fn u64_lenient(
         &self,
         alloc: Global,
@@ -44,7 +44,8 @@ impl FastFieldReaders {
         field_name: &str,
     ) -> TResult<Vec<(Column<u64>, ColumnType)>>
         ensures { Answers self.now field_name.now
-            (λ path columns. columns.items ≡ filter_map (spec.lenient types.entry) (columns_at self.now.file path)) result }
+            (λ path columns. columns.items ≡ filter_map (spec.lenient types.entry) (columns_at self.now.file path))
+            result }
     {
         let handles = self.dynamic_column_handles(alloc, field_name)?;
         Ok(all_numbers(alloc, &handles, types)?)

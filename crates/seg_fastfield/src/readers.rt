@@ -11,7 +11,7 @@ use std::alloc::Global;
 use std::marker::Model;
 
 /// The columns of a segment by the names of its fields. A name is that of a fast field, or of a fast JSON field with a
-/// path behind a dot: `attributes.color`. In a path a dot of a key is written `\.`.
+/// path after a dot: `attributes.color`. In a path a dot of a key is written `\.`.
 #[derive(Drop)]
 pub struct FastFieldReaders {
     columnar: ColumnarReader,

@@ -65,7 +65,8 @@ impl FastFieldReaders {
         field_name: &str,
     ) -> TResult<ColumnFirstOrDefault<T>>
         ensures { Needs self.now field_name.now
-            (λ columns. option_map (map (first_or T.default_value)) (first_of (λ c. T.column_of c.column) columns)) result }
+            (λ columns. option_map (map (first_or T.default_value)) (first_of (λ c. T.column_of c.column) columns))
+            result }
     {
         let column = self.column::<T>(alloc, field_name)?;
         Ok(column.first_or_default_col(T::default_value()))

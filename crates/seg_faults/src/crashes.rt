@@ -16,7 +16,7 @@ const BUILT: &[u8] = b"0\nsegment 00000000000000000000000000000002 docs 1 alive 
 
 const MERGED: &[u8] = b"0\nsegment ffffffffffffffffffffffffffffffff docs 1 alive 1\n";
 
-/// What `show` says of a directory: `-` no index, `0` the empty one, `1` the whole.
+/// What `show` says about a directory: `-` no index, `0` the empty one, `1` the whole.
 fn mark_of(alloc: Global, directory: &mut MemoryDirectory) -> Result<char, AllocError> {
     let mut other = memory(alloc)?;
     let shown = outcome(alloc, "show", "", directory, &mut other)?;
@@ -32,7 +32,7 @@ fn mark_of(alloc: Global, directory: &mut MemoryDirectory) -> Result<char, Alloc
     }
 }
 
-/// What a crash after so many calls leaves.
+/// What a crash after this many calls leaves.
 fn mark(alloc: Global, output: &MemoryDirectory, calls: u64, pick: Pick) -> Result<char, AllocError>
     requires { calls ≤ calls_of output.now.disk }
 {
@@ -88,8 +88,8 @@ fn is_text(answer: Result<String, AllocError>, text: &str) -> bool {
     }
 }
 
-/// The output is listed twice, synced, gets the empty meta and six files, is synced, gets its meta, and is synced; that of
-/// a merge is listed once. Then its meta and six files are read to be printed.
+/// The output is listed twice, synced, gets the empty meta and six files, is synced, gets its meta, and is synced; that
+/// of a merge is listed once. Then its meta and six files are read to be printed.
 #[test]
 fn each_call_of_a_build_and_of_a_merge(rt: HostRuntime) {
     assert!(rt;

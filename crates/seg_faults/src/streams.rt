@@ -1,4 +1,4 @@
-//! Streams that fail in the midst of a build.
+//! Streams that fail in the middle of a build.
 
 use crate::running::{Limits, WHOLE, both_segments, run_word, script_of_titles, streams_over};
 use seg_testing::memory;

@@ -17,7 +17,7 @@ escaped_plain (b ∷ part) rest plain =
     ap (λ t. cond t (92 ∷ 46 ∷ []) (replacement 1 46 b ∷ []) ++ escaped_path (part ++ rest)) (not_equal b (plain 0 (omega arith)))
     ∙ ap (λ l. replacement 1 46 b ∷ l) (escaped_plain part rest (λ i lt. plain (suc i) (omega (arith, lt))))
 
--- a part, a dot, and what is behind it
+-- a part, a dot, and what is after it
 pub escaped_cut : (text part others : List ℕ) → text ≡ part ++ 46 ∷ others → HasNoDot part
     → escaped_path text ≡ (dotted_path part ++ 92 ∷ 46 ∷ []) ++ escaped_path others
 escaped_cut text part others is plain =

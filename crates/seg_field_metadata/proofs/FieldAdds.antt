@@ -45,7 +45,7 @@ module _ {S : Type 0} (entry : FieldEntry) (terms : List Term) (old new : List E
     named = named;
   }
 
--- ---- a space more of a JSON field
+-- ---- one more space of a JSON field
 
 upto : {X : Type 0} (xs : List X) (i : ℕ) (x : X) → i < length xs → x ≡ get_or xs i x → take i xs ++ x ∷ [] ≡ take (i + 1) xs
 upto xs i x lt is = ap (λ y. take i xs ++ y ∷ []) is ∙ sym (take_more xs i x lt)

@@ -1,4 +1,4 @@
--- What the files of a segment say of its fields: how long their parts are.
+-- What the files of a segment say about its fields: how long their parts are.
 use Rattle.std.specs.Prelude.{◌≡◌, ℕ, ◌+◌, ◌<◌, ◌^◌, Bool, true, false, List, [], ◌∷◌, ◌++◌, length, map, Some, is_some, string_bytes}
 use Rattle.seg_values.specs.FieldTypes.{type_of}
 use Rattle.seg_values.specs.declared.schema.FieldEntry.{FieldEntry}
@@ -48,12 +48,12 @@ PartsSayBy false entry b es = es ≡ indexed_entry entry entry.name (type_of ent
 abbrev pub PartsSay : FieldEntry → FieldBytes → List Entry → Type 0
 PartsSay entry b es = PartsSayBy (is_json entry.kind) entry b es
 
--- what the files say of a field: what its parts say, where it is indexed, and nothing elsewhere
+-- what the files say about a field: what its parts say, where it is indexed, and nothing elsewhere
 abbrev pub FieldSaysIn : Bool → SegmentFiles → ℕ → FieldEntry → List Entry → Type 0
 FieldSaysIn true files field entry es = (b : FieldBytes) × ArePartsOf files field b × PartsSay entry b es
 FieldSaysIn false files field entry es = es ≡ []
 
--- what they say of the fields of a schema, one after another from a field on
+-- what they say about the fields of a schema, one after another from a field on
 abbrev pub FilesSay : SegmentFiles → ℕ → Schema → List Entry → Type 0
 FilesSay files field [] es = es ≡ []
 FilesSay files field (entry ∷ schema) es =
@@ -63,6 +63,7 @@ FilesSay files field (entry ∷ schema) es =
 -- what the indexed fields of a reader say is what its files say
 abbrev pub ReadersSayFiles : Type 0
 ReadersSayFiles =
-    (segment : SegmentParts) (files : SegmentFiles) (s : OpenSegment) (said : Said) → HasFilesOf segment files s → AreShort files
+    (segment : SegmentParts) (files : SegmentFiles) (s : OpenSegment) (said : Said)
+    → HasFilesOf segment files s → AreShort files
     → map is_some s.fields ≡ map is_indexed s.schema → FieldsSay s.schema s.fields said
     → FilesSay files 0 s.schema said.entries

@@ -1,4 +1,4 @@
--- What is known of a field, and what several say of it together.
+-- What is known of a field, and what several say about it together.
 use Rattle.std.specs.Prelude.{ℕ, ◌&&◌, ◌^◌, Bool, true, List, Option, Some, None, if◌then◌else◌, is_some, map, nat_lt, string_bytes}
 use Rattle.std.specs.List.{list_any, sum_by}
 use Rattle.std.specs.Option.{unwrap_or}

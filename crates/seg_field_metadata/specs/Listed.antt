@@ -12,7 +12,7 @@ use Rattle.seg_values.specs.declared.schema.FieldEntry.{FieldEntry}
 abbrev pub dotted_path : List ℕ → List ℕ
 dotted_path path = map (replacement 1 46) path
 
--- the same, with each dot of the path itself behind a backslash
+-- the same, with each dot of the path itself after a backslash
 abbrev pub escaped_path : List ℕ → List ℕ
 escaped_path path = flat_map (λ b. if b == 46 then 92 ∷ 46 ∷ [] else replacement 1 46 b ∷ []) path
 

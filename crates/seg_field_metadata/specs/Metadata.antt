@@ -1,4 +1,4 @@
--- What a segment that is open says of its fields.
+-- What a segment that is open says about its fields.
 use Rattle.std.specs.Prelude.{◌≡◌, ◌++◌, List, [], ◌∷◌, Option, Some, None}
 use Rattle.seg_values.specs.declared.schema.FieldEntry.{FieldEntry}
 use Rattle.seg_model.specs.Fields.{Schema}

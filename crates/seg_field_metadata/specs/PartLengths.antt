@@ -22,7 +22,7 @@ pub record FieldBytes : Type 0 where
 abbrev pub lengths_of : FieldBytes → Sizes
 lengths_of b = record { terms = length b.dictionary; postings = length b.postings; positions = length b.positions }
 
--- a field is opened from parts of fewer than 2^64 bytes: they spell terms, and the dictionary has the infos of the field
+-- a field is opened from parts of fewer than 2^64 bytes: they spell terms, and the dictionary has the field's infos
 pub record IsOpenedFrom (b : FieldBytes) (f : OpenField) : Type 0 where
   pub total : ℕ
   pub terms : List TermWritten
@@ -49,7 +49,7 @@ FieldsSayLengths =
 abbrev pub sum_of : (Known → Option ℕ) → List Entry → ℕ
 sum_of size es = sum_by (λ e. unwrap_or (size e.1) 0) es
 
--- entries have all positions, all postings after the total of tokens, and the dictionary but for less than a byte an entry
+-- entries have all positions, all postings after the token total, and the dictionary but for less than a byte an entry
 pub record MakeUp (b : FieldBytes) (es : List Entry) : Type 0 where
   pub postings : 8 + sum_of (λ k. k.postings) es ≡ length b.postings
   pub positions : sum_of (λ k. k.positions) es ≡ length b.positions

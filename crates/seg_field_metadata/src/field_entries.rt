@@ -84,8 +84,10 @@ fn add_space(
     terms_size: u64,
     entries: &mut Vec<FieldMetadata>,
 ) -> Result<(), AllocError>
-    ensures { OnOk result (map entry_of entries.new.items ≡ map entry_of entries.old.items
-        ++ indexed_entry entry.now (listed.listed_name entry.now (string_bytes space.now.field_name)) space.now.field_type
+    ensures { OnOk result (map entry_of entries.new.items
+        ≡ map entry_of entries.old.items
+        ++ indexed_entry entry.now
+        (listed.listed_name entry.now (string_bytes space.now.field_name)) space.now.field_type
         (record { terms = terms_size; postings = space.now.postings_size.0; positions = space.now.positions_size.0 })
         ∷ []) }
 {

@@ -34,7 +34,7 @@ impl FieldMetadata {
         self.fast_size.is_some()
     }
 
-    /// Adds what another one says of the same fields.
+    /// Adds what another one says about the same fields.
     pub fn merge(&mut self, other: FieldMetadata) -> TResult<()>
         requires same_key { key_of other ≡ key_of self.old }
         ensures key { key_of self.new ≡ key_of self.old }

@@ -1,4 +1,4 @@
-//! What a segment says of its fields.
+//! What a segment says about its fields.
 ghost use Rattle.std.specs.Prelude.{◌≡◌, ◌-◌, ◌<◌, ◌^◌, ◌++◌, [], ◌∷◌, List, Option, Some, true, length, map, IfErr, IfOk, OnOk};
 ghost use Rattle.std.specs.List.{slice_get};
 ghost use Rattle.seg_postings.specs.FieldReading.{OpenField};
@@ -17,8 +17,8 @@ use seg_values::{Field, FieldEntry, TResult, TantivyError};
 use std::alloc::{AllocError, Global};
 
 /// The fields of a segment that are indexed or have columns, by name and then by type. A JSON field has an entry for
-/// each path and type, and a facet field with a column two. The sizes of an indexed field are summed over its terms, the
-/// bytes of its parts aren't read. A sum of several entries that passes 64 bits is `SizeOverflow`.
+/// each path and type, and a facet field with a column two. The sizes of an indexed field are summed over its terms,
+/// the bytes of its parts aren't read. A sum of several entries that passes 64 bits is `SizeOverflow`.
 pub fn fields_metadata(alloc: Global, reader: &SegmentReader) -> TResult<Vec<FieldMetadata>>
     ensures ok { IfOk result (λ list. (entries : List Entry) × SegmentSays reader.now entries
         × (map entry_of list.items ≡ merged entries) × (sizes_fit (merged entries) ≡ true)) }

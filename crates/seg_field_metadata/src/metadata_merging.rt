@@ -66,7 +66,7 @@ fn merge_sorted(alloc: Global, sorted: Vec<FieldMetadata>) -> TResult<Vec<FieldM
     finish(merged, last)
 }
 
-/// Adds what is next to the last one, if it is of its key, and else puts the last one behind those before it.
+/// Adds what is next to the last one, if it is of its key, and else puts the last one after those before it.
 fn add(
     merged: &mut Vec<FieldMetadata>,
     last: Option<FieldMetadata>,
@@ -117,7 +117,7 @@ fn push(merged: &mut Vec<FieldMetadata>, last: FieldMetadata) -> Result<(), Allo
     Ok(())
 }
 
-/// Puts the last one behind those before it.
+/// Puts the last one after those before it.
 fn finish(
     mut merged: Vec<FieldMetadata>,
     last: Option<FieldMetadata>,

@@ -20,7 +20,8 @@ summary_line label id documents alive totals =
 abbrev pub indexed_terms : Schema → List Terms → List (List ℕ)
 indexed_terms [] terms = []
 indexed_terms (entry ∷ schema) [] = []
-indexed_terms (entry ∷ schema) (terms ∷ others) = (if is_indexed entry then map (λ e. e.0) (entries terms) else []) ++ indexed_terms schema others
+indexed_terms (entry ∷ schema) (terms ∷ others) = (if is_indexed entry then map (λ e. e.0) (entries terms) else [])
+    ++ indexed_terms schema others
 
 -- their number, and the sum of their lengths
 abbrev pub totals_of : List (List ℕ) → TermTotals

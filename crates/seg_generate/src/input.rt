@@ -42,7 +42,7 @@ fn cuts(alloc: Global) -> Result<Vec<usize>, AllocError>
     Vec::from_slice(alloc, &[450usize, 900, 1350, 1800])
 }
 
-/// For each batch no filter.
+/// No filter for any batch.
 fn no_filters(alloc: Global) -> Result<Vec<Option<AliveBitSet>>, AllocError>
     ensures { IfOk result (λ f. f.items ≡ replicate 5 None) }
 {

@@ -19,7 +19,7 @@ const GROUPS: u32 = 250;
 /// How many documents a group adds.
 const DOCUMENTS: u32 = 8;
 
-/// A group deletes from the one that is so many groups before it.
+/// A group deletes from the one that is this many groups before it.
 const DISTANCE: u32 = 25;
 
 /// All operations, in order.

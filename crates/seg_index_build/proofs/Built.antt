@@ -53,7 +53,7 @@ not_begun known analyzer input e state cause =
       any_moment = not_begun_leaves analyzer input state;
     }
 
--- ---- what is said of the answer
+-- ---- what is told of the answer
 
 abbrev failing : (T : Type 0) → TantivyError → Result T TantivyError
 failing T e = Err e

@@ -207,7 +207,7 @@ module _ (indices : List IndexMeta) (id : ℕ) (e : TantivyError) (a b : Places)
         (filling_fresh {T = Meta} (indices_input indices id) e opened a.output begun b.output can.output_tells can.output_empty begins h)
   ]
 
--- ---- what is said of any answer
+-- ---- what is told of any answer
 
 module _ {T : Type 0} (f : T → Meta) (indices : List IndexMeta) (id : ℕ) (a b : Places) where
   pub said_errors : (r : Result T TantivyError) → MergesIndices indices id (seen_as f r) a b → IfErr r (IsMergeError indices id a b)

@@ -152,7 +152,7 @@ module _ (indices : List IndexMeta) (id : ℕ) (meta : Meta) (a b : Places) (h :
         merged.made.joins.totals;
   }
 
--- ---- what is said of any answer
+-- ---- what is told of any answer
 
 module _ {T : Type 0} (f : T → Meta) (indices : List IndexMeta) (id : ℕ) (a b : Places) where
   pub said_meta : (r : Result T TantivyError) → MergesIndices indices id (seen_as f r) a b

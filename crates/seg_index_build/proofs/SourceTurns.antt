@@ -53,7 +53,7 @@ module _ {I W : Type 0} (asked : I → List Asked) (state : W → DirectoryState
   abbrev Opens : List I → Result (List OpenSegment) TantivyError → List W → List DirectoryState → Type 0
   Opens left r before after = OpensSources (map asked left) r (map state before) after
 
-  -- whatever comes of those that are left, comes of all, behind what is open
+  -- whatever comes of those that are left, comes of all, after what is open
   abbrev pub SoFar : ℕ → List W → List OpenSegment → Type 0
   SoFar at now readers =
       (last : Result (List OpenSegment) TantivyError) (states : List DirectoryState)

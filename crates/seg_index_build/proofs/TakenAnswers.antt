@@ -64,7 +64,7 @@ module _ (name : FileName) where
   written_front xs ys none =
       written_both xs ys ∙ ap (λ b. was_written name xs || b) none ∙ or-false (was_written name xs)
 
-  -- ---- one reading more
+  -- ---- one more reading
 
   -- of another file
   pub skip : (other : FileName) (bytes : List ℕ) (rest : List Answer) → same_name name other ≡ false

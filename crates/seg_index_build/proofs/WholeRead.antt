@@ -32,7 +32,7 @@ use Rattle.seg_index_build.specs.SegmentsMerged.{is_live, live_asked}
 
 -- ---- batches
 
--- it is said of each document whether it is alive
+-- it is told for each document whether it is alive
 abbrev pub IsCounted : Batch → Type 0
 IsCounted b = length b.alive ≡ length b.documents
 

@@ -55,7 +55,7 @@ module _ (analyzer : Analyzer) (input : Input) (fits : Fits analyzer input) wher
   pub work_schema : first_schema (map (metas.segment_of input.schema) (work_listed analyzer input)) ≡ input.schema
   work_schema = first_is input.schema (work_listed analyzer input) some_listed
 
-  -- what the output index says of itself
+  -- what the output index says about itself
   pub work_merged_meta : (documents : ℕ) → output_meta_of (merge_of analyzer input) documents
       ≡ merged_meta input.settings input.schema (work_ids input.ids) (output_id input.ids) documents
   work_merged_meta documents =

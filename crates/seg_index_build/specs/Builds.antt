@@ -27,7 +27,7 @@ pub record IsBuilt (analyzer : Analyzer) (input : Input) (before after : Directo
   pub work_read : IsReadBack (work_meta analyzer input)
   pub merged : IsMergedAs (merge_of analyzer input) before after meta
 
--- a work directory that tells its files has the index of the batches, and the other the index of the survivors; each with its totals
+-- a work directory that tells its files has the index of the batches, the other that of the survivors, each with totals
 pub record IsRead (analyzer : Analyzer) (input : Input) (meta : Meta) (before after : Directories) : Type 0 where
   pub was_empty : len before.work.files ≡ 0
   pub index : IsWorkIndexOf analyzer input after.work.files

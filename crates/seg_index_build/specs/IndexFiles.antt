@@ -28,7 +28,7 @@ output_id (id ∷ other ∷ ids) = output_id (other ∷ ids)
 
 -- ---- metas
 
--- what an index says of itself whose segment was merged from these
+-- what an index says about itself whose segment was merged from these
 abbrev pub merge_payload : List ℕ → List ℕ
 merge_payload ids = codes "Segments Merge: [" ++ (join_with_byte 32 (map id_text ids) ++ codes "]")
 
@@ -38,7 +38,8 @@ written_of schema analyzer ids cuts operations = segments_of ids (batches schema
 
 -- as a meta lists them: deletes count up to the number of operations
 abbrev pub listed_of : Schema → Analyzer → List ℕ → List ℕ → List Operation → List ListedSegment
-listed_of schema analyzer ids cuts operations = all_listed (length operations) (written_of schema analyzer ids cuts operations)
+listed_of schema analyzer ids cuts operations = all_listed (length operations)
+    (written_of schema analyzer ids cuts operations)
 
 -- those of an input
 abbrev pub work_segments : Analyzer → Input → List WrittenSegment
@@ -50,7 +51,8 @@ work_listed analyzer input = listed_of input.schema analyzer (work_ids input.ids
 
 -- an index of segments with deletes
 abbrev pub segments_meta : Settings → Schema → ℕ → List ListedSegment → Meta
-segments_meta settings schema stamp segments = record { settings = settings; schema = schema; stamp = stamp; payload = None; segments = segments }
+segments_meta settings schema stamp segments =
+    record { settings = settings; schema = schema; stamp = stamp; payload = None; segments = segments }
 
 -- a segment without deletes
 abbrev pub undeleted : ℕ → ℕ → ListedSegment
@@ -68,15 +70,18 @@ merged_meta settings schema ids id documents = record {
 
 -- the meta of the work index: one segment a batch, and the number of operations as its stamp
 abbrev pub work_meta : Analyzer → Input → Meta
-work_meta analyzer input = segments_meta input.settings input.schema (length input.operations) (work_listed analyzer input)
+work_meta analyzer input = segments_meta input.settings input.schema (length input.operations)
+    (work_listed analyzer input)
 
 -- the meta of the output index: one segment, of the survivors
 abbrev pub output_meta : Analyzer → Input → Meta
-output_meta analyzer input = merged_meta input.settings input.schema (work_ids input.ids) (output_id input.ids) (length (input_survivors analyzer input))
+output_meta analyzer input = merged_meta input.settings input.schema (work_ids input.ids) (output_id input.ids)
+    (length (input_survivors analyzer input))
 
 -- ---- files
 
--- the files are the work index of an input: each segment stands for the documents of its batch, and an alive file tells what deletes leave of it, where they remove some
+-- the files are the work index of an input: each segment stands for the documents of its batch, and an alive file tells
+-- what deletes leave of it, where they remove some
 pub record IsWorkIndexOf (analyzer : Analyzer) (input : Input) (files : NamedFiles) : Type 0 where
   pub index_of : index.index_of segment_forms files ≡ Some (work_meta analyzer input)
   pub stand : AllStand input.schema analyzer files (work_ids input.ids) (input_batches analyzer input)
@@ -85,12 +90,14 @@ pub record IsWorkIndexOf (analyzer : Analyzer) (input : Input) (files : NamedFil
 -- the files are the output index of an input
 pub record IsOutputIndexOf (analyzer : Analyzer) (input : Input) (files : NamedFiles) : Type 0 where
   pub index_of : index.index_of segment_forms files ≡ Some (output_meta analyzer input)
-  pub stands : index.StandsFor segment_forms files input.schema analyzer (output_id input.ids) (input_survivors analyzer input)
+  pub stands : index.StandsFor segment_forms files input.schema analyzer (output_id input.ids)
+      (input_survivors analyzer input)
 
 -- the files are an index of one segment that was merged from those of an input, of this many documents
 abbrev pub IsMergedIndexOf : Input → ℕ → NamedFiles → Type 0
 IsMergedIndexOf input documents files =
-    index.index_of segment_forms files ≡ Some (merged_meta input.settings input.schema (work_ids input.ids) (output_id input.ids) documents)
+    index.index_of segment_forms files
+    ≡ Some (merged_meta input.settings input.schema (work_ids input.ids) (output_id input.ids) documents)
 
 -- ---- while they are written
 

@@ -46,8 +46,8 @@ SourcesAreWhole (first ∷ files) (i ∷ indices) = LiveAreWhole first (listed_s
 
 -- ---- what is merged
 
--- the segments that are open are those that each directory was asked for, one directory after another, and have what its
--- files hold
+-- the segments that are open are those that each directory was asked for, one directory after another, and have what
+-- its files hold
 abbrev pub HaveHeld : List NamedFiles → List IndexMeta → List OpenSegment → Type 0
 HaveHeld files [] opened = opened ≡ []
 HaveHeld [] (i ∷ indices) opened = ⊥
@@ -72,9 +72,9 @@ MayBeMergedIndices indices id sources files =
 
 -- ---- what ends well
 
--- nothing refuses these indices, of which each segment with a live document is whole, in directories that tell their files;
--- they have fewer than 2^31 live documents by their metas, and what the files hold of them joins; the output directory tells
--- that it has no file; and no directory fails
+-- nothing refuses these indices, of which each segment with a live document is whole, in directories that tell their
+-- files; they have fewer than 2^31 live documents by their metas, and what the files hold of them joins; the output
+-- directory tells that it has no file; and no directory fails
 pub record CanBeMerged (indices : List IndexMeta) (id : ℕ) (before after : Places) : Type 0 where
   pub alike : AreAlike indices
   pub merged : AreMerged (indices_input indices id)

@@ -87,8 +87,8 @@ places sources output = record { sources = sources; output = output }
 abbrev pub Begins : MergeInput → Result (Unit {0}) TantivyError → DirectoryState → DirectoryState → Type 0
 Begins m result before after = Works (begin_steps m.settings (first_schema m.segments)) result before after
 
--- the output index is begun; the segments are opened, index by index; they are counted; and then the output is filled. It
--- ends where one of these does
+-- the output index is begun; the segments are opened, index by index; they are counted; and then the output is filled.
+-- It ends where one of these does
 pub data MergesSources (m : MergeInput) (asked : List (List Asked)) (result : Result Meta TantivyError)
     (before after : Places) : Type 0 where
   not_begun : (e : TantivyError) → result ≡ Err e → Begins m (Err e) before.output after.output
@@ -102,8 +102,8 @@ pub data MergesSources (m : MergeInput) (asked : List (List Asked)) (result : Re
       → OpensSources asked (Ok opened) before.sources after.sources → too_many (kept_count opened) ≡ None
       → FillsTo m opened result begun after.output → MergesSources m asked result before after
 
--- indices with one set of settings are merged: nothing is done, where memory runs out first or their segments are refused;
--- or what stands above, and the meta is read as it was saved
+-- indices with one set of settings are merged: nothing is done, where memory runs out first or their segments are
+-- refused; or what stands above, and the meta is read as it was saved
 pub data MergesAlike (indices : List IndexMeta) (id : ℕ) (result : Result Meta TantivyError)
     (before after : Places) : Type 0 where
   starves : result ≡ Err OutOfMemory → after ≡ before → MergesAlike indices id result before after

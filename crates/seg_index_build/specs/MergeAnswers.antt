@@ -26,8 +26,8 @@ use Rattle.seg_index_build.specs.Turns.{Directories}
 
 -- ---- errors
 
--- with which errors a merge ends: a refusal, too many documents, or numbers without a type; a file that is there, damage,
--- or out of memory; or a call failed, and then a fault of that directory was counted
+-- with which errors a merge ends: a refusal, too many documents, or numbers without a type; a file that is there,
+-- damage, or out of memory; or a call failed, and then a fault of that directory was counted
 abbrev pub IsMergeError : MergeInput → Directories → Directories → TantivyError → Type 0
 IsMergeError m before after (InvalidArgument cause) =
     IsRefusal m m.segments (Some (InvalidArgument cause)) ⊎ ((cause ≡ Documents) ⊎ (cause ≡ Numbers))
@@ -52,8 +52,8 @@ abbrev pub HoldsMarks : NamedFiles → ℕ → ℕ → Option Deletes → List B
 HoldsMarks files id documents None alive = alive ≡ replicate documents true
 HoldsMarks files id documents (Some d) alive = HoldsAlive files id d.stamp documents alive
 
--- an open segment has what files hold of one that is asked for: its contents, of the documents that are alive there those
--- that its filter keeps, and the totals of its open fields
+-- an open segment has what files hold of one that is asked for: its contents, of the documents that are alive there
+-- those that its filter keeps, and the totals of its open fields
 pub record HasHeld (files : NamedFiles) (a : Asked) (s : OpenSegment) : Type 0 where
   pub contents : Holds files a.segment.meta.id a.segment.schema (contents_of s)
   pub marks : List Bool
@@ -101,9 +101,9 @@ pub record IsMergedAs (m : MergeInput) (before after : Directories) (meta : Meta
 
 -- ---- what ends well
 
--- nothing refuses these segments, of which each with a live document is whole, in a directory that tells its files; they have
--- fewer than 2^31 live documents by their metas, and what the files hold of them joins; the output directory tells that it
--- has no file; and neither directory fails
+-- nothing refuses these segments, of which each with a live document is whole, in a directory that tells its files;
+-- they have fewer than 2^31 live documents by their metas, and what the files hold of them joins; the output directory
+-- tells that it has no file; and neither directory fails
 pub record CanBeMerged (m : MergeInput) (before after : Directories) : Type 0 where
   pub merged : AreMerged m
   pub whole : LiveAreWhole before.work.files m.segments

@@ -98,8 +98,8 @@ output_meta_of m documents =
 
 -- ---- what is done
 
--- the output index, which was begun, is filled with one segment, of what the open segments join to; or memory runs out; or
--- they join to nothing, which is told before a file is made
+-- the output index, which was begun, is filled with one segment, of what the open segments join to; or memory runs out;
+-- or they join to nothing, which is told before a file is made
 pub data FillsOutput {T : Type 0} (m : MergeInput) (opened : List OpenSegment)
     (result : Result T TantivyError) (before after : DirectoryState) : Type 0 where
   starves : result ≡ Err OutOfMemory → after ≡ before → FillsOutput m opened result before after

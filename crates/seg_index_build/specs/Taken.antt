@@ -81,7 +81,8 @@ was_taken stamp answers batch =
     nat_lt 0 batch.documents
     && (not (was_written (Alive batch.id stamp) answers) || is_some (read_after_write (Alive batch.id stamp) answers))
 
--- which of this many documents are alive: all where no alive file was written, and else those of the set that it was read as afterwards
+-- which of this many documents are alive: all where no alive file was written, and else those of the
+-- set that it was read as afterwards
 abbrev pub marks_read : FileName → ℕ → List Answer → Option (List Bool)
 marks_read name documents answers =
     if was_written name answers then option_and_then set_of (read_after_write name answers)
@@ -91,8 +92,10 @@ marks_read name documents answers =
 abbrev pub WereRead : ℕ → SegmentFiles → List Answer → Type 0
 WereRead id files answers = AllByRecursion (λ c. last_read (Part id c) answers ≡ Some (bytes_of files c)) read_order
 
--- a part was taken of a batch: what its six files spell as they were last read, and of the documents that are alive those that its filter keeps
-pub record IsPartOf (schema : Schema) (stamp : ℕ) (answers : List Answer) (batch : NamedBatch) (part : join.Part) : Type 0 where
+-- a part was taken of a batch: what its six files spell as they were last read, and of the documents that
+-- are alive those that its filter keeps
+pub record IsPartOf (schema : Schema) (stamp : ℕ) (answers : List Answer) (batch : NamedBatch)
+    (part : join.Part) : Type 0 where
   pub files : SegmentFiles
   pub read : WereRead batch.id files answers
   pub spell : Spell schema files part.contents

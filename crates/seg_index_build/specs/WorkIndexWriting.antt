@@ -14,8 +14,8 @@ use Rattle.seg_batches.specs.Writing.{AllStandFor, batch_causes, batches_steps}
 use Rattle.seg_index_build.specs.IndexFiles.{segments_meta, written_of}
 use Rattle.seg_index_build.specs.WritingSteps.{publish_steps}
 
--- the alive files of segments are made of these bytes, one after another, and then the meta is saved: not before each has
--- its bytes
+-- the alive files of segments are made of these bytes, one after another, and then the meta is saved: not before each
+-- has its bytes
 abbrev pub finish_steps : Meta → ℕ → List (List ℕ) → List WrittenSegment → List Step
 finish_steps meta stamp [] [] = publish_steps meta
 finish_steps meta stamp [] (s ∷ segments) = []
@@ -28,12 +28,14 @@ abbrev pub listing_meta : Settings → Schema → ℕ → List WrittenSegment �
 listing_meta settings schema stamp segments = segments_meta settings schema stamp (all_listed stamp segments)
 
 -- an index whose segments are written is finished, with alive files that tell
-pub record FinishesIndex {T : Type 0} (settings : Settings) (schema : Schema) (stamp : ℕ) (segments : List WrittenSegment)
+pub record FinishesIndex {T : Type 0} (settings : Settings) (schema : Schema) (stamp : ℕ)
+    (segments : List WrittenSegment)
     (result : Result T TantivyError) (before after : DirectoryState) : Type 0 where
   pub alive : List (List ℕ)
   pub tell : AllTellMarks stamp alive segments
   pub whole : OnOk result (length alive ≡ length segments)
-  pub works : Works (finish_steps (listing_meta settings schema stamp segments) stamp alive segments) result before after
+  pub works : Works (finish_steps (listing_meta settings schema stamp segments) stamp alive segments)
+      result before after
 
 -- an index that was begun is filled: the segment of each batch is written, six files that stand for its documents, with
 -- a store in blocks of the size that the settings say; and then it is finished
@@ -45,6 +47,9 @@ pub record FillsIndex {T : Type 0} (settings : Settings) (schema : Schema) (anal
   pub alive : List (List ℕ)
   pub tell : AllTellMarks (length operations) alive (written_of schema analyzer ids cuts operations)
   pub whole : OnOk result (length alive ≡ length (written_of schema analyzer ids cuts operations))
-  pub works : Works (batches_steps ids (batch_causes None schema analyzer cuts operations) files
-      ++ finish_steps (listing_meta settings schema (length operations) (written_of schema analyzer ids cuts operations))
-      (length operations) alive (written_of schema analyzer ids cuts operations)) result before after
+  pub works : Works
+      (batches_steps ids (batch_causes None schema analyzer cuts operations) files
+      ++ finish_steps
+      (listing_meta settings schema (length operations) (written_of schema analyzer ids cuts operations))
+      (length operations) alive (written_of schema analyzer ids cuts operations))
+      result before after

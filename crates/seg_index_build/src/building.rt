@@ -33,9 +33,10 @@ use seg_values::{ArgumentCause, Schema, TResult, TantivyDocument, TantivyError};
 use std::alloc::Global;
 
 /// Builds the index of some operations: writes a segment a batch into the directory `work`, and one of all that is left
-/// into the directory `output`. Batch b is of the operations up to cut b, its segment has id b, and the output's has the
-/// last id; a filter says which documents of its batch are kept. A delete removes the documents added before it that have
-/// its term, in whatever batch; an alive file says which documents of a segment are left, where deletes remove some.
+/// into the directory `output`. Batch b is of the operations up to cut b, its segment has id b, and the output's has
+/// the last id; a filter says which documents of its batch are kept. A delete removes the documents added before it
+/// that have its term, in whatever batch; an alive file says which documents of a segment are left, where deletes
+/// remove some.
 ///
 /// First both directories are listed. The work index is begun and filled, and then its segments are merged into the
 /// output index by `merge_filtered_segments`, as the work directory answers them: each file of a segment with a live
@@ -46,9 +47,10 @@ use std::alloc::Global;
 /// answers Ok, as the whole.
 ///
 /// Refusals come in this order: `Cuts`, `Batches`, `Filters`, `SegmentIds`, `FieldName`, `Settings`, `Tokenizer`,
-/// `FastTokenizer`, `DeleteField`; then each directory that has files; then, batch by batch after the files of those before
-/// it, `Documents`, the first document that does not pass its check, and `Numbers` of all its documents; and last, when the
-/// output index is begun, `Documents`, where more are left than one segment can hold, and `Numbers` of those.
+/// `FastTokenizer`, `DeleteField`; then each directory that has files; then, batch by batch after the files of those
+/// before it, `Documents`, the first document that does not pass its check, and `Numbers` of all its documents; and
+/// last, when the output index is begun, `Documents`, where more are left than one segment can hold, and `Numbers` of
+/// those.
 pub fn build_index<Z: Analyzers, W: Directory, O: Directory>(
     alloc: Global,
     schema: &Schema,
@@ -77,15 +79,27 @@ pub fn build_index<Z: Analyzers, W: Directory, O: Directory>(
         ⊎ (e ≡ TantivyError.InvalidArgument ArgumentCause.Numbers)))) }
     ensures valid { OnOk result (IsValidIf (IsTrue (W.state work.old).tells) (Z.knows analyzers.now)
         (Z.tokens_of analyzers.now) (input_of schema.now settings.now operations.now cuts.now filters.now ids.now)) }
-    ensures index { IsTrue (W.state work.old).tells → IfOk result (λ built. meta_of built ≡ output_meta (Z.tokens_of analyzers.now) (input_of schema.now settings.now operations.now cuts.now filters.now ids.now)) }
+    ensures index { IsTrue (W.state work.old).tells
+        → IfOk result (λ built. meta_of built
+        ≡ output_meta (Z.tokens_of analyzers.now)
+        (input_of schema.now settings.now operations.now cuts.now filters.now ids.now)) }
     ensures meta { IfOk result (λ built. (documents : ℕ) × (meta_of built
         ≡ merged_meta (settings_of settings.now) schema.now (work_ids ids.now) (output_id ids.now) documents)) }
-    ensures work_index { IsTrue (W.state work.old).tells → OnOk result (IsWorkIndexOf (Z.tokens_of analyzers.now) (input_of schema.now settings.now operations.now cuts.now filters.now ids.now) (W.state work.new).files) }
+    ensures work_index { IsTrue (W.state work.old).tells
+        → OnOk result (IsWorkIndexOf (Z.tokens_of analyzers.now)
+        (input_of schema.now settings.now operations.now cuts.now filters.now ids.now) (W.state work.new).files) }
     ensures work_was_empty { IsTrue (W.state work.old).tells → OnOk result (len (W.state work.old).files ≡ 0) }
-    ensures output_index { IsTrue (W.state work.old).tells → IsTrue (O.state output.old).tells → OnOk result (IsOutputIndexOf (Z.tokens_of analyzers.now) (input_of schema.now settings.now operations.now cuts.now filters.now ids.now) (O.state output.new).files) }
-    ensures work_totals { IsTrue (W.state work.old).tells → OnOk result (HasWorkTotals (Z.tokens_of analyzers.now) (input_of schema.now settings.now operations.now cuts.now filters.now ids.now) (W.state work.new).files) }
-    ensures output_totals { IsTrue (W.state work.old).tells → IsTrue (O.state output.old).tells → OnOk result (HasOutputTotals (Z.tokens_of analyzers.now) (input_of schema.now settings.now operations.now cuts.now filters.now ids.now) (O.state output.new).files) }
-    ensures output_meta { IsTrue (O.state output.old).tells → IfOk result (λ built. index.index_of segment_forms (O.state output.new).files ≡ Some (meta_of built)) }
+    ensures output_index { IsTrue (W.state work.old).tells → IsTrue (O.state output.old).tells
+        → OnOk result (IsOutputIndexOf (Z.tokens_of analyzers.now)
+        (input_of schema.now settings.now operations.now cuts.now filters.now ids.now) (O.state output.new).files) }
+    ensures work_totals { IsTrue (W.state work.old).tells
+        → OnOk result (HasWorkTotals (Z.tokens_of analyzers.now)
+        (input_of schema.now settings.now operations.now cuts.now filters.now ids.now) (W.state work.new).files) }
+    ensures output_totals { IsTrue (W.state work.old).tells → IsTrue (O.state output.old).tells
+        → OnOk result (HasOutputTotals (Z.tokens_of analyzers.now)
+        (input_of schema.now settings.now operations.now cuts.now filters.now ids.now) (O.state output.new).files) }
+    ensures output_meta { IsTrue (O.state output.old).tells
+        → IfOk result (λ built. index.index_of segment_forms (O.state output.new).files ≡ Some (meta_of built)) }
     ensures output_was_empty { IsTrue (O.state output.old).tells → OnOk result (len (O.state output.old).files ≡ 0) }
     ensures reads { IsTrue (O.state output.old).tells → OnOk result (HoldsTaken (Z.tokens_of analyzers.now)
         (input_of schema.now settings.now operations.now cuts.now filters.now ids.now)
@@ -94,11 +108,15 @@ pub fn build_index<Z: Analyzers, W: Directory, O: Directory>(
         → IsTrue (O.state output.old).tells → len (O.state output.old).files ≡ 0
         → result ≢ Err TantivyError.IndexAlreadyExists }
     ensures whole { IsTrue (W.state work.old).tells → IfErr result IsNoDamage }
-    ensures any_moment { IsTrue (W.state work.old).tells → IsEmptyDisk (O.state output.old).disk → LeavesOnly
-        (MayBeBuilt (Z.tokens_of analyzers.now) (input_of schema.now settings.now operations.now cuts.now filters.now ids.now))
+    ensures any_moment { IsTrue (W.state work.old).tells → IsEmptyDisk (O.state output.old).disk
+        → LeavesOnly
+        (MayBeBuilt (Z.tokens_of analyzers.now)
+        (input_of schema.now settings.now operations.now cuts.now filters.now ids.now))
         (O.state output.old).disk (O.state output.new).disk }
-    ensures at_rest { IsTrue (W.state work.old).tells → IsEmptyDisk (O.state output.old).disk → OnOk result (HasOnly
-        (IsOutputIndexOf (Z.tokens_of analyzers.now) (input_of schema.now settings.now operations.now cuts.now filters.now ids.now))
+    ensures at_rest { IsTrue (W.state work.old).tells → IsEmptyDisk (O.state output.old).disk
+        → OnOk result (HasOnly
+        (IsOutputIndexOf (Z.tokens_of analyzers.now)
+        (input_of schema.now settings.now operations.now cuts.now filters.now ids.now))
         (O.state output.new).disk.now) }
     ensures calls { BuildsIndexes (Z.knows analyzers.now) (Z.tokens_of analyzers.now)
         (input_of schema.now settings.now operations.now cuts.now filters.now ids.now) result
@@ -118,7 +136,7 @@ pub fn build_index<Z: Analyzers, W: Directory, O: Directory>(
     }
 }
 
-/// Builds the index of an input, as `build_index` does. The operations are let go of once the work index is filled, so
+/// Builds the index of an input, as `build_index` does. The operations are released once the work index is filled, so
 /// that they and the output segment are never in memory together.
 pub fn build_index_of<Z: Analyzers, W: Directory, O: Directory>(
     alloc: Global,

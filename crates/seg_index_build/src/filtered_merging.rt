@@ -44,10 +44,10 @@ use std::alloc::{AllocError, Global};
 /// The output is saved so that a crash at any moment leaves it as no index, as the empty one, or whole; once the call
 /// answers Ok, as the whole.
 ///
-/// Refusals come in this order: `NoSegments`; `DifferentSchemas`; `Filters`, where there is not one for each segment, of as
-/// many documents; `Settings`. Then the output index is begun, which must have no file; then come the errors of
-/// `SegmentReader::open`, segment by segment; `Documents`, where 2^31 documents or more are left; `Numbers`, where those of a
-/// path that are left have no type; and those of writing.
+/// Refusals come in this order: `NoSegments`; `DifferentSchemas`; `Filters`, where there is not one for each segment,
+/// of as many documents; `Settings`. Then the output index is begun, which must have no file; then come the errors of
+/// `SegmentReader::open`, segment by segment; `Documents`, where 2^31 documents or more are left; `Numbers`, where
+/// those of a path that are left have no type; and those of writing.
 pub fn merge_filtered_segments<W: Directory, O: Directory>(
     alloc: Global,
     segments: &[Segment],
@@ -317,7 +317,8 @@ pub fn fill_output<O: Directory>(
     requires schema { merger.schema ≡ first_schema segments.now }
     requires settings { settings_fit (settings_of settings.now) ≡ true }
     ensures { (filters : List (Option Filter))
-        → FillsTo (merge_input segments.now settings.now filters id) merger.readers (seen_as (λ merged. meta_of merged) result) (O.state output.old) (O.state output.new) }
+        → FillsTo (merge_input segments.now settings.now filters id) merger.readers
+        (seen_as (λ merged. meta_of merged) result) (O.state output.old) (O.state output.new) }
 {
     let mut merger = merger;
     let documents = merger.max_doc();

@@ -19,7 +19,7 @@ pub(crate) struct MergePlan {
     pub id: SegmentId,
 }
 
-/// An input, borrowed or owned. Where it is owned, its operations are let go of before the work segments are merged.
+/// An input, borrowed or owned. Where it is owned, its operations are released before the work segments are merged.
 pub(crate) trait HeldInput: Drop {
     /// The input that is held.
     ghost input: { Self → Input };
@@ -27,7 +27,7 @@ pub(crate) trait HeldInput: Drop {
     fn as_ref(&self) -> BuildInputRef<'_>
         ensures { result ≡ input self.now };
 
-    /// What the merge needs. All else is let go of.
+    /// What the merge needs. All else is released.
     fn into_plan(self, alloc: Global) -> Result<MergePlan, AllocError>
         requires { 2 ≤ length (input self).ids }
         ensures { IfOk result (IsMergePlan (input self)) };
@@ -93,7 +93,7 @@ pub(crate) fn split_ids(ids: &[SegmentId]) -> (&[SegmentId], SegmentId)
     (&ids[..last], ids[last])
 }
 
-/// The filters once more. They share their bytes.
+/// The filters again. They share their bytes.
 fn copied_filters(
     alloc: Global,
     filters: &[Option<AliveBitSet>],

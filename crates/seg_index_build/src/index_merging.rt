@@ -28,8 +28,8 @@ use std::alloc::Global;
 /// are read from the source at its place; one of which the meta counts no live document is not read. The output has the
 /// settings of the first index.
 ///
-/// Refusals come in this order: `NoIndices`; `DifferentSettings`; `NoSegments`; `DifferentSchemas`; `Settings`. Then all is
-/// done as by `merge_filtered_segments`.
+/// Refusals come in this order: `NoIndices`; `DifferentSettings`; `NoSegments`; `DifferentSchemas`; `Settings`. Then
+/// all is done as by `merge_filtered_segments`.
 pub fn merge_indices<W: Directory, O: Directory>(
     alloc: Global,
     indices: &[Index],
@@ -39,7 +39,8 @@ pub fn merge_indices<W: Directory, O: Directory>(
 ) -> TResult<Index>
     requires many { length sources.old ≡ length indices.now }
     ensures does { MergesIndices indices.now id (seen_as (λ merged. meta_of merged) result)
-        (places (map W.state sources.old) (O.state output.old)) (places (map W.state sources.new) (O.state output.new)) }
+        (places (map W.state sources.old) (O.state output.old))
+        (places (map W.state sources.new) (O.state output.new)) }
     ensures meta { IfOk result (λ merged. (documents : ℕ)
         × (meta_of merged ≡ output_meta_of (indices_input indices.now id) documents)) }
     ensures unlike { (e : TantivyError) → IsUnlike indices.now e → (result ≡ Err e)
@@ -48,7 +49,8 @@ pub fn merge_indices<W: Directory, O: Directory>(
         → ((result ≡ Err e) ⊎ (result ≡ Err TantivyError.OutOfMemory))
         × (map W.state sources.new ≡ map W.state sources.old) × (O.state output.new ≡ O.state output.old) }
     ensures errors { IfErr result (IsMergeError indices.now id
-        (places (map W.state sources.old) (O.state output.old)) (places (map W.state sources.new) (O.state output.new))) }
+        (places (map W.state sources.old) (O.state output.old))
+        (places (map W.state sources.new) (O.state output.new))) }
     ensures index { AllTell (map W.state sources.old) → IfOk result (λ merged.
         IsMergeOfIndices indices.now id (files_of (map W.state sources.old)) (IsTrue (O.state output.old).tells)
         (O.state output.new).files (meta_of merged)) }
@@ -84,7 +86,8 @@ fn compare_and_merge<W: Directory, O: Directory>(
 ) -> TResult<Index>
     requires many { length sources.old ≡ length indices.now }
     ensures { MergesIndices indices.now id (seen_as (λ merged. meta_of merged) result)
-        (places (map W.state sources.old) (O.state output.old)) (places (map W.state sources.new) (O.state output.new)) }
+        (places (map W.state sources.old) (O.state output.old))
+        (places (map W.state sources.new) (O.state output.new)) }
 {
     let Some(first) = indices.first() else {
         return Err(TantivyError::InvalidArgument(ArgumentCause::NoIndices));
@@ -107,7 +110,8 @@ fn merge_alike<W: Directory, O: Directory>(
     requires many { length sources.old ≡ length indices.now }
     requires settings { settings_of settings.now ≡ first_settings indices.now }
     ensures { MergesAlike indices.now id (seen_as (λ merged. meta_of merged) result)
-        (places (map W.state sources.old) (O.state output.old)) (places (map W.state sources.new) (O.state output.new)) }
+        (places (map W.state sources.old) (O.state output.old))
+        (places (map W.state sources.new) (O.state output.new)) }
 {
     let Ok(segments) = all_segments(alloc, indices) else {
         return Err(TantivyError::OutOfMemory);
@@ -136,7 +140,8 @@ fn merge_checked<W: Directory, O: Directory>(
     requires merged { AreMerged (merge_input segments.now settings.now (unfiltered segments.now) id) }
     ensures { MergesSources (indices_input indices.now id) (map asked_of_index indices.now)
         (seen_as (λ merged. meta_of merged) result)
-        (places (map W.state sources.old) (O.state output.old)) (places (map W.state sources.new) (O.state output.new)) }
+        (places (map W.state sources.old) (O.state output.old))
+        (places (map W.state sources.new) (O.state output.new)) }
 {
     let schema = segments[0].schema();
     match begin_index(alloc, schema, settings, output) {

@@ -23,7 +23,7 @@ use std::alloc::Global;
 
 /// Writes both indexes into directories that have no files: into the work directory a segment a batch; and into the
 /// output directory what these segments, as the work directory answers them, are merged into. The output index is begun
-/// before the first of them is opened, and where the input is owned its operations are let go of before.
+/// before the first of them is opened, and where the input is owned its operations are released before.
 pub(crate) fn write_indexes<Z: Analyzers, W: Directory, O: Directory, H: HeldInput>(
     alloc: Global,
     input: H,

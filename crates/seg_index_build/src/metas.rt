@@ -39,7 +39,8 @@ pub(crate) fn output_metas(
     documents: u32,
 ) -> Result<IndexMeta, AllocError>
     requires few { documents < 2 ^ 31 }
-    ensures meta { IfOk result (λ metas. meta_of metas ≡ merged_meta (settings_of settings.now) schema.now ids.now id documents) }
+    ensures meta { IfOk result (λ metas. meta_of metas
+        ≡ merged_meta (settings_of settings.now) schema.now ids.now id documents) }
     ensures list { IfOk result (λ metas. IsMetaList metas.segments) }
 {
     let mut segments = SegmentMetas::new(alloc);

@@ -1,4 +1,4 @@
-//! What a merged index says of itself.
+//! What a merged index says about itself.
 ghost use Rattle.std.specs.Prelude.{◌≡◌, ◌++◌, ◌∷◌, map, string_bytes, IfOk, OnOk};
 ghost use Rattle.std.specs.List.{join_with_byte};
 ghost use Rattle.seg_common.specs.SegmentIds.{id_text};

@@ -13,8 +13,8 @@ use seg_open::{SegmentReader, open_segments};
 use seg_values::{TResult, TantivyError};
 use std::alloc::{AllocError, Global};
 
-/// Opens the segments of all indices that have a live document, one index after another. The first that is not opened ends
-/// it.
+/// Opens the segments of all indices that have a live document, one index after another. The first that is not opened
+/// ends it.
 pub(crate) fn open_indices<W: Directory>(
     alloc: Global,
     indices: &[Index],
@@ -74,7 +74,7 @@ fn open_index<W: Directory>(
     open_segments(alloc, &live, &filters, source)
 }
 
-/// Puts readers behind others.
+/// Puts readers after others.
 fn append(readers: &mut Vec<SegmentReader>, more: Vec<SegmentReader>) -> Result<(), AllocError>
     ensures { OnOk result (readers.new.items ≡ readers.old.items ++ more.items) }
 {

@@ -20,8 +20,8 @@ use seg_tokens::Analyzers;
 use seg_values::{Schema, TResult, TantivyError};
 use std::alloc::Global;
 
-/// Fills an index that was begun: writes the segment of each batch, then the alive file of each of which deletes remove a
-/// document, and then the meta, whose stamp is the number of operations.
+/// Fills an index that was begun: writes the segment of each batch, then the alive file of each of which deletes remove
+/// a document, and then the meta, whose stamp is the number of operations.
 pub(crate) fn fill_work_index<Z: Analyzers, W: Directory>(
     alloc: Global,
     input: &BuildInputRef<'_>,
@@ -63,8 +63,10 @@ fn finish_work_index<W: Directory>(
 ) -> TResult<IndexMeta>
     requires few { length segments.now < 2 ^ 32 }
     requires distinct { are_distinct (map (λ s. s.id) segments.now) ≡ true }
-    ensures meta { IfOk result (λ metas. meta_of metas ≡ listing_meta (settings_of settings.now) schema.now stamp segments.now) }
-    ensures does { FinishesIndex (settings_of settings.now) schema.now stamp segments.now result (W.state work.old) (W.state work.new) }
+    ensures meta { IfOk result (λ metas. meta_of metas
+        ≡ listing_meta (settings_of settings.now) schema.now stamp segments.now) }
+    ensures does { FinishesIndex (settings_of settings.now) schema.now stamp segments.now result
+        (W.state work.old) (W.state work.new) }
 {
     match write_alive_files(alloc, stamp, segments, work) {
         Ok(()) => {}
@@ -84,7 +86,8 @@ fn save_work_index<W: Directory>(
 ) -> TResult<IndexMeta>
     requires few { length segments.now < 2 ^ 32 }
     requires distinct { are_distinct (map (λ s. s.id) segments.now) ≡ true }
-    ensures meta { IfOk result (λ metas. meta_of metas ≡ listing_meta (settings_of settings.now) schema.now stamp segments.now) }
+    ensures meta { IfOk result (λ metas. meta_of metas
+        ≡ listing_meta (settings_of settings.now) schema.now stamp segments.now) }
     ensures works { Works (publish_steps (listing_meta (settings_of settings.now) schema.now stamp segments.now)) result
         (W.state work.old)
         (W.state work.new) }

@@ -140,7 +140,7 @@ module _ (p : OpenSegment) where
 
 -- ---- what a writer has then taken
 
--- documents more, after all that it had
+-- more documents, after all that it had
 pub record Adds (ds : List (List ℕ)) (before after : Taken) : Type 0 where
   pub order : all_documents after ≡ all_documents before ++ ds
   pub count : taken_count after ≡ taken_count before + length ds

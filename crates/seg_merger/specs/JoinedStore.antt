@@ -26,7 +26,7 @@ joined_documents parts = live_of (λ p. p.contents.stored) (map part_of parts)
 abbrev pub no_documents : ℕ → Taken
 no_documents block_size = record { block_size = block_size; closed = []; open_block = [] }
 
--- documents more, one after another
+-- more documents, one after another
 abbrev pub with_documents : List (List ℕ) → Taken → Taken
 with_documents [] w = w
 with_documents (d ∷ ds) w = with_documents ds (with_document d w)
@@ -35,11 +35,11 @@ with_documents (d ∷ ds) w = with_documents ds (with_document d w)
 abbrev pub is_stacked : OpenSegment → Bool
 is_stacked p = list_all (λ b. b) p.alive && nat_le 6 (length p.blocks)
 
--- a segment more: its blocks as they are, or else its kept documents one after another
+-- one more segment: its blocks as they are, or else its kept documents one after another
 abbrev pub with_segment : OpenSegment → Taken → Taken
 with_segment p w = if is_stacked p then with_stacked p.blocks w else with_documents (kept_bytes p) w
 
--- segments more, one after another
+-- more segments, one after another
 abbrev pub with_segments : List OpenSegment → Taken → Taken
 with_segments [] w = w
 with_segments (p ∷ parts) w = with_segments parts (with_segment p w)

@@ -38,7 +38,8 @@ pub record IsOfField (entry : FieldEntry) (field : ℕ) (p : OpenSegment) : Type
   pub opened : OpenField
   pub is_open : slice_get p.fields field ≡ Some (Some opened)
   pub marked : IsMarked p
-  pub shape : (term : List ℕ) (postings : List Posting) → get (terms_held (written_terms opened)) term ≡ Some postings → IsTermWith entry p.documents term postings
+  pub shape : (term : List ℕ) (postings : List Posting) → get (terms_held (written_terms opened)) term ≡ Some postings
+      → IsTermWith entry p.documents term postings
 
 -- the terms of a field can be joined: it is open in each segment, and the kept documents have their new ids
 pub record CanJoin (numbered : List NumberedSegment) (field : ℕ) : Type 0 where
@@ -49,5 +50,7 @@ pub record CanJoin (numbered : List NumberedSegment) (field : ℕ) : Type 0 wher
 
 -- these are the joined terms of a field, each recorded as the field asks
 pub record AreJoined (numbered : List NumberedSegment) (field : ℕ) (terms : List TermWritten) : Type 0 where
-  pub kinds : (entry : FieldEntry) → AllByRecursion (IsOfField entry field) (parts_of numbered) → AllByRecursion (λ t. t.kind ≡ kind_of (term_option entry t.bytes)) terms
-  pub are : (entry : FieldEntry) → AllByRecursion (IsOfField entry field) (parts_of numbered) → map (λ t. (t.bytes, t.postings)) terms ≡ entries (joined_terms (map part_of (parts_of numbered)) (field, entry))
+  pub kinds : (entry : FieldEntry) → AllByRecursion (IsOfField entry field) (parts_of numbered)
+      → AllByRecursion (λ t. t.kind ≡ kind_of (term_option entry t.bytes)) terms
+  pub are : (entry : FieldEntry) → AllByRecursion (IsOfField entry field) (parts_of numbered)
+      → map (λ t. (t.bytes, t.postings)) terms ≡ entries (joined_terms (map part_of (parts_of numbered)) (field, entry))

@@ -31,7 +31,8 @@ have_lengths (Some entry) = has_lengths entry
 abbrev pub tokens_at : ℕ → OpenSegment → ℕ
 tokens_at field s =
     if list_all (λ b. b) s.alive then total_read (slice_get s.fields field)
-    else (if have_lengths (slice_get s.schema field) then sum (map length_of_id (kept s.alive (norms_at (contents_of s) field)))
+    else (if have_lengths (slice_get s.schema field)
+    then sum (map length_of_id (kept s.alive (norms_at (contents_of s) field)))
     else total_read (slice_get s.fields field) * live_count s.alive / s.documents)
 
 -- and in those of segments, at most the greatest u64

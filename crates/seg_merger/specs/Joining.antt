@@ -28,7 +28,8 @@ HoldsJoinedNorms schema readers file =
     composite file ≡ Some (norms_parts schema (map (joined_norms (map part_of readers)) (fields schema)))
 
 -- a serializer of a segment has what segments are joined to, with blocks that are stacked or of this size
-pub record IsJoined (segment : SegmentParts) (block_size : ℕ) (readers : List OpenSegment) (s : Serializing) : Type 0 where
+pub record IsJoined (segment : SegmentParts) (block_size : ℕ) (readers : List OpenSegment)
+    (s : Serializing) : Type 0 where
   pub segment_is : s.segment ≡ segment
   pub postings : IsSomeAnd s.postings (HoldJoined segment.schema readers)
   pub store : s.store ≡ Some (with_segments readers (no_documents block_size))

@@ -30,7 +30,7 @@ pub record Merging : Type 0 where
   pub schema : Schema
   pub readers : List OpenSegment
 
--- so many documents are more than one segment can hold
+-- this many documents are more than one segment can hold
 abbrev pub too_many : ℕ → Option TantivyError
 too_many documents = unless (nat_lt documents (2 ^ 31)) (InvalidArgument Documents)
 
@@ -62,7 +62,8 @@ pub data OpensMerger (schema : Schema) (segments : List SegmentParts) (filters :
       → OpensMerger schema segments filters result before after
   starves : result ≡ Err OutOfMemory → after ≡ before → OpensMerger schema segments filters result before after
   stops : (e : TantivyError) → result ≡ Err e → merger_refusal segments filters ≡ None
-      → OpensSegments (asked_of segments filters) (Err e) before after → OpensMerger schema segments filters result before after
+      → OpensSegments (asked_of segments filters) (Err e) before after
+      → OpensMerger schema segments filters result before after
   opens : (opened : List OpenSegment) → merger_refusal segments filters ≡ None
       → OpensSegments (asked_of segments filters) (Ok opened) before after
       → Tells (too_many (kept_count opened)) result → IfOk result (IsMergerOf schema opened)
@@ -76,19 +77,21 @@ refusal_of Mixed = InvalidArgument Numbers
 refusal_of Malformed = OutOfMemory
 refusal_of column_error.OutOfMemory = OutOfMemory
 
--- six files are those of what segments join to, with the estimated totals of tokens, and with blocks that are stacked or of this size
-pub record AreJoinedFiles (schema : Schema) (block_size : ℕ) (readers : List OpenSegment) (files : SegmentFiles) : Type 0 where
+-- six files are those of what segments join to, with the estimated token totals, and blocks stacked or of this size
+pub record AreJoinedFiles (schema : Schema) (block_size : ℕ) (readers : List OpenSegment)
+    (files : SegmentFiles) : Type 0 where
   pub contents : Contents
   pub joined : join schema (map part_of readers) ≡ Some contents
   pub spell : Spell schema files contents
   pub totals : TellTotals schema (joined_total readers) files.postings
   pub store : store_of files.store ≡ Some (merged_blocks block_size readers)
 
--- they are made: out of memory or without a type for the numbers of a path before any call, or the six files of the segment
+-- they are made: out of memory or no type for the numbers of a path before any call, or the six files of the segment
 pub data WritesJoined {T : Type 0} (segment : SegmentParts) (block_size : ℕ) (readers : List OpenSegment)
     (result : Result T TantivyError) (before after : DirectoryState) : Type 0 where
   runs_out : result ≡ Err OutOfMemory → after ≡ before → WritesJoined segment block_size readers result before after
   mixes : result ≡ Err (InvalidArgument Numbers) → join segment.schema (map part_of readers) ≡ None → after ≡ before
       → WritesJoined segment block_size readers result before after
   makes : (files : SegmentFiles) → AreJoinedFiles segment.schema block_size readers files
-      → Works (write_steps segment.meta.id files) result before after → WritesJoined segment block_size readers result before after
+      → Works (write_steps segment.meta.id files) result before after
+      → WritesJoined segment block_size readers result before after

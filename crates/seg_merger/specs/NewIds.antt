@@ -21,7 +21,8 @@ pub record NumberedSegment : Type 0 where
 -- segments one after another; the first document that is kept has the id `first`
 abbrev pub numbered_from : ℕ → List OpenSegment → List NumberedSegment
 numbered_from first [] = []
-numbered_from first (p ∷ parts) = record { part = p; ids = new_ids first p.alive } ∷ numbered_from (first + member_count p.alive) parts
+numbered_from first (p ∷ parts) = record { part = p; ids = new_ids first p.alive }
+    ∷ numbered_from (first + member_count p.alive) parts
 
 -- the segments without the ids
 abbrev pub parts_of : List NumberedSegment → List OpenSegment

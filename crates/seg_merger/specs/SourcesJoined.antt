@@ -12,7 +12,8 @@ use Rattle.seg_merger.specs.MovedPostings.{SourceTerms, Ascend, moved_from_all, 
 -- the terms of a segment ascend, and each document in which one occurs has a place among the ids
 pub record IsJoinable (source : SourceTerms) : Type 0 where
   pub ascend : Ascend source.terms
-  pub within : AllByRecursion (λ (t : ReadTerm). AllByRecursion (λ p. p.document < length source.ids) t.postings) source.terms
+  pub within : AllByRecursion (λ (t : ReadTerm). AllByRecursion (λ p. p.document < length source.ids) t.postings)
+      source.terms
 
 -- so do those of each segment, and the postings of a key in all of them are those of a term
 pub record AreJoinable (sources : List SourceTerms) : Type 0 where

@@ -16,7 +16,7 @@ use seg_open::SegmentReader;
 use seg_values::Schema;
 use std::alloc::{AllocError, Global};
 
-/// The file of the columns of documents that are alive, one segment after another, beside those that the schema
+/// The file of the columns of documents that are alive, one segment after another, besides those that the schema
 /// declares.
 pub(crate) fn join_columns(
     alloc: Global,
@@ -77,7 +77,7 @@ fn live_order(alloc: Global, parts: &[SegmentReader]) -> Result<MergeRowOrder, A
     }
 }
 
-/// Lists them. Addresses have room for 2^32 segments; so many fit into no memory.
+/// Lists them. Addresses have room for 2^32 segments; no memory holds that many.
 fn live_addresses(alloc: Global, parts: &[SegmentReader]) -> Result<MergeRowOrder, AllocError>
     ensures { IfOk result (λ order. (counts : List ℕ)
         → rows_in_order counts order ≡ live_rows 0 (map part_of parts.now)) }

@@ -6,7 +6,7 @@ use seg_bits::AliveBitSet;
 use seg_meta::Segment;
 use std::alloc::{AllocError, Global};
 
-/// As many times no filter.
+/// No filter, this many times.
 pub(crate) fn no_filters(
     alloc: Global,
     count: usize,

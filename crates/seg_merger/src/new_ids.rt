@@ -54,7 +54,8 @@ impl NewIds {
 /// Adds the next id where a document is kept, and else none.
 fn push_id(ids: &mut Vec<u32>, next: &mut u32, is_kept: bool) -> Result<(), AllocError>
     requires { next.old + (if is_kept then 1 else 0) < 2 ^ 31 }
-    ensures ids { OnOk result (map id_of ids.new.items ≡ map id_of ids.old.items ++ (if is_kept then Some next.old else None) ∷ []) }
+    ensures ids { OnOk result (map id_of ids.new.items
+        ≡ map id_of ids.old.items ++ (if is_kept then Some next.old else None) ∷ []) }
     ensures next { OnOk result (next.new ≡ next.old + (if is_kept then 1 else 0)) }
 {
     if !is_kept {

@@ -23,7 +23,8 @@ pub(crate) fn join_norms(
     parts: &[SegmentReader],
 ) -> Result<Vec<u8>, AllocError>
     requires schema { AllByRecursion (λ p. p.schema ≡ schema.now) parts.now }
-    ensures { IfOk result (λ file. composite file.items ≡ Some (norms_parts schema.now (map (joined_norms (map part_of parts.now)) (model.fields schema.now)))) }
+    ensures { IfOk result (λ file. composite file.items
+        ≡ Some (norms_parts schema.now (map (joined_norms (map part_of parts.now)) (model.fields schema.now)))) }
 {
     let lengths = JoinedLengths { alloc, parts };
     write_lengths(alloc, schema, &lengths)
@@ -102,7 +103,8 @@ fn add_id(
     doc: u32,
     ids: &mut Vec<u8>,
 ) -> Result<(), AllocError>
-    ensures { OnOk result (ids.new.items ≡ ids.old.items ++ kept (take 1 (drop doc part.now.alive)) (take 1 (drop doc norms.now))) }
+    ensures { OnOk result (ids.new.items
+        ≡ ids.old.items ++ kept (take 1 (drop doc part.now.alive)) (take 1 (drop doc norms.now))) }
 {
     if doc as usize >= norms.num_docs() {
         return Ok(());

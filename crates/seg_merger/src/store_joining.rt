@@ -8,17 +8,19 @@ ghost use Rattle.seg_merger.specs.JoinedStore.{IsStored, is_stacked, joined_docu
 use seg_open::SegmentReader;
 use seg_store::{StoreError, StoreWriter, documents_stay_in_order, stacked_blocks_stay_in_order};
 
-/// So many blocks at least stay as they are; fewer are cut anew.
+/// At least this many blocks stay as they are; fewer are cut anew.
 const LEAST_STACKED: usize = 6;
 
-/// Adds the kept documents of segments, one segment after another. Their stored bytes are copied, and nothing is decoded.
+/// Adds the kept documents of segments, one segment after another. Their stored bytes are copied, and nothing is
+/// decoded.
 pub(crate) fn join_stores(
     parts: &[SegmentReader],
     writer: &mut StoreWriter,
 ) -> Result<(), StoreError>
     requires limit { IfSome writer.old (λ w. taken_count w + length (joined_documents parts.now) < 2 ^ 31) }
     ensures ok { OnOk result (writer.new ≡ option_map (with_segments parts.now) writer.old) }
-    ensures documents { OnOk result (option_map taken_documents writer.new ≡ option_map (λ w. taken_documents w ++ joined_documents parts.now) writer.old) }
+    ensures documents { OnOk result (option_map taken_documents writer.new
+        ≡ option_map (λ w. taken_documents w ++ joined_documents parts.now) writer.old) }
     ensures err { IfErr result (λ e. (e ≡ StoreError.OutOfMemory) × (writer.new ≡ None)) }
 {
     documents_stay_in_order();
@@ -32,7 +34,8 @@ pub(crate) fn join_stores(
 /// Adds the kept documents of a segment: its blocks as they are, where they are many and all documents are alive, and
 /// else one document after another.
 fn add_part(part: &SegmentReader, writer: &mut StoreWriter) -> Result<(), StoreError>
-    requires limit { IfSome writer.old (λ w. taken_count w + length (kept part.now.alive (documents_of part.now.blocks)) < 2 ^ 31) }
+    requires limit { IfSome writer.old
+        (λ w. taken_count w + length (kept part.now.alive (documents_of part.now.blocks)) < 2 ^ 31) }
     ensures ok { OnOk result (writer.new ≡ option_map (with_segment part.now) writer.old) }
     ensures stored { IsStored part.now }
     ensures err { IfErr result (λ e. (e ≡ StoreError.OutOfMemory) × (writer.new ≡ None)) }
@@ -83,7 +86,10 @@ fn stored_count(part: &SegmentReader) -> u32
 fn add_document(part: &SegmentReader, doc: u32, writer: &mut StoreWriter) -> Result<(), StoreError>
     requires is { doc < document_count part.now.blocks }
     requires limit { get_or part.now.alive doc false ≡ true → IfSome writer.old (λ w. taken_count w < 2 ^ 31 - 1) }
-    ensures ok { OnOk result (writer.new ≡ option_map (with_documents (kept (take 1 (drop doc part.now.alive)) (take 1 (drop doc (raw_documents part.now.blocks))))) writer.old) }
+    ensures ok { OnOk result (writer.new
+        ≡ option_map
+        (with_documents (kept (take 1 (drop doc part.now.alive)) (take 1 (drop doc (raw_documents part.now.blocks)))))
+        writer.old) }
     ensures err { IfErr result (λ e. (e ≡ StoreError.OutOfMemory) × (writer.new ≡ None)) }
 {
     if !part.is_alive(doc) {

@@ -45,7 +45,8 @@ pub(crate) fn write_terms(
 }
 
 fn merge_terms<'a>(alloc: Global, sources: &[TermSource<'a>]) -> Result<TermMerger<'a>, AllocError>
-    ensures { IfOk result (λ merger. merger ≡ Some (record { left = entries (merged_terms (map ranked_of sources.now)); current = None })) }
+    ensures { IfOk result (λ merger. merger
+        ≡ Some (record { left = entries (merged_terms (map ranked_of sources.now)); current = None })) }
 {
     let streams = streams_of(alloc, sources)?;
     match TermMerger::new(alloc, streams) {
@@ -91,7 +92,8 @@ fn join_term(
     requires joinable { AreJoinable sources.now }
     requires standings { standings.now ≡ map info_of (standings_from 0 key.now (map ranked_of sources.now)) }
     requires opens { IsSomeAnd writer.old (λ w. MayOpen w key.now) }
-    ensures { OnOk result (HasGrown writer.old writer.new (with_whole_term key.now (moved_from_all key.now sources.now))) }
+    ensures { OnOk result
+        (HasGrown writer.old writer.new (with_whole_term key.now (moved_from_all key.now sources.now))) }
 {
     for (segment, info) in standings {
         add_postings(key, &sources[*segment], info, places, writer)?;
@@ -132,7 +134,8 @@ fn add_current(
     requires kind { kept_kind_of postings.now.left ≡ Some kind }
     requires within { AllByRecursion (λ p. p.document < length source.now.ids) postings.now.left }
     requires takes { IsSomeAnd writer.old (MayTake key.now (moved source.now.ids (take 1 postings.now.left))) }
-    ensures { OnOk result (HasGrown writer.old writer.new (with_more key.now (moved source.now.ids (take 1 postings.now.left)))) }
+    ensures { OnOk result
+        (HasGrown writer.old writer.new (with_more key.now (moved source.now.ids (take 1 postings.now.left)))) }
 {
     match source.new_id(postings.doc()) {
         Some(id) => add_posting(key, kind, id, postings, places, writer),
@@ -151,7 +154,8 @@ fn add_posting(
 ) -> Result<(), AllocError>
     requires kind { kept_kind_of postings.now.left ≡ Some kind }
     requires takes { IsSomeAnd writer.old (MayTake key.now (map (under id) (take 1 postings.now.left))) }
-    ensures { OnOk result (HasGrown writer.old writer.new (with_more key.now (map (under id) (take 1 postings.now.left)))) }
+    ensures { OnOk result
+        (HasGrown writer.old writer.new (with_more key.now (map (under id) (take 1 postings.now.left)))) }
 {
     let Ok(()) = postings.positions(places) else {
         return Err(AllocError);

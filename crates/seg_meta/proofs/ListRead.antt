@@ -77,12 +77,12 @@ module _ {A : Type 0} (read : Data → Option A) (alike : A → A → Bool) (lim
         ∙ ap (λ o. given (option_map (λ rest. done ++ rest) (given o (λ a. option_map (λ xs. a ∷ xs) (each read left)))) kept) is
         ∙ twice done x (each read left) there
 
--- one item more joins what was read before
+-- one more item joins what was read before
 pub one_behind : {A : Type 0} (done : List A) (x : A) (r : Option (List A)) → option_map (λ rest. (done ++ x ∷ []) ++ rest) r ≡ option_map (λ rest. done ++ rest) (option_map (λ xs. x ∷ xs) r)
 one_behind done x None = refl
 one_behind done x (Some xs) = ap Some (append_assoc done (x ∷ []) xs)
 
--- one item more, unlike all before it
+-- one more item, unlike all before it
 pub step : {A : Type 0} (read : Data → Option A) (alike : A → A → Bool) → ((x y : A) → alike x y ≡ alike y x)
     → (d v : Data) (done new : List A) (left : Items) (count : ℕ) (x : A)
     → IsReadSoFar read alike d done (item v left) count → read v ≡ Some x → new ≡ done ++ x ∷ [] → list_any (λ y. alike y x) done ≡ false → IsReadSoFar read alike d new left (count + 1)

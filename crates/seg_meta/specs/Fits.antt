@@ -39,5 +39,6 @@ abbrev pub AreReadBack : Settings → Schema → Type 0
 AreReadBack settings schema =
     (stamp : ℕ) (payload : Option (List ℕ)) (segments : List ListedSegment) → stamp < 2 ^ 64 → IsText payload
     → AllByRecursion SegmentFits segments → IsMetaList segments
-    → meta_read (meta_text (record { settings = settings; schema = schema; stamp = stamp; payload = payload; segments = segments }))
+    → meta_read
+    (meta_text (record { settings = settings; schema = schema; stamp = stamp; payload = payload; segments = segments }))
     ≡ Some (record { settings = settings; schema = schema; stamp = stamp; payload = payload; segments = segments })

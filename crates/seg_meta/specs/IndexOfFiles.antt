@@ -29,7 +29,8 @@ pub record Meta : Type 0 where
   pub payload : Option (List ℕ)
   pub segments : List ListedSegment
 
--- the forms of files: the meta's name and what its bytes say; when the files of an id hold the contents of a segment; and when the alive file of an id and a stamp holds, of this many documents, which are alive
+-- the forms of files: the meta's name and what its bytes say; when the files of an id hold the contents of a segment;
+-- and when the alive file of an id and a stamp holds, of this many documents, which are alive
 pub record Forms {Name : Type 0} (order : Name → Name → Ordering) : Type 1 where
   pub meta_name : Name
   pub meta_of : List ℕ → Option Meta
@@ -45,16 +46,17 @@ module _ {Name : Type 0} {order : Name → Name → Ordering} (forms : Forms ord
   abbrev pub DeletesAgree : ListedSegment → Option Deletes → Type 0
   DeletesAgree segment None = Unit {0}
   DeletesAgree segment (Some deletes) =
-      (alive : List Bool) × forms.HoldsAlive files segment.id deletes.stamp segment.documents alive × (length alive ≡ segment.documents) × (count_by not alive ≡ deletes.number)
+      (alive : List Bool) × forms.HoldsAlive files segment.id deletes.stamp segment.documents alive
+      × (length alive ≡ segment.documents) × (count_by not alive ≡ deletes.number)
 
-  -- a listed segment is whole: its files hold contents of as many documents as the meta lists, and its alive file agrees
+  -- a listed segment is whole: its files hold contents of as many documents as the meta lists; its alive file agrees
   pub record IsWhole (schema : Schema) (segment : ListedSegment) : Type 0 where
     pub contents : Contents
     pub held : forms.Holds files segment.id schema contents
     pub number : contents.documents ≡ segment.documents
     pub deletes_agree : DeletesAgree segment segment.deletes
 
-  -- the files read so far agree with what the meta lists: with other files beside them they hold contents of this many documents
+  -- the files read so far agree with what the meta lists: with further files they hold contents of this many documents
   pub record CanBeCompleted (read : Name → Bool) (schema : Schema) (segment : ListedSegment) : Type 0 where
     pub completed : Files order
     pub as_read : (name : Name) → read name ≡ true → get completed name ≡ get files name
@@ -90,7 +92,7 @@ module _ {Name : Type 0} {order : Name → Name → Ordering} (forms : Forms ord
   abbrev pub OpensAsEmpty : Settings → Schema → Type 0
   OpensAsEmpty settings schema = OpensWith settings schema []
 
-  -- the whole: the meta lists one segment, without deletes, of as many documents as these contents, which its files hold
+  -- the whole: the meta lists one segment, without deletes, of as many documents as these contents, held by its files
   pub record OpensAsWhole (settings : Settings) (schema : Schema) (contents : Contents) : Type 0 where
     pub id : ℕ
     pub opens : OpensWith settings schema (record { id = id; documents = contents.documents; deletes = None } ∷ [])

@@ -45,7 +45,8 @@ entry_json e =
 -- the deletes of a segment, or null where there are none
 abbrev pub deletes_json : Option Deletes → Data
 deletes_json None = null
-deletes_json (Some d) = object (member (codes "num_deleted_docs") (count_json d.number) (member (codes "opstamp") (count_json d.stamp) no_members))
+deletes_json (Some d) = object (member (codes "num_deleted_docs") (count_json d.number)
+    (member (codes "opstamp") (count_json d.stamp) no_members))
 
 -- the id of a segment
 abbrev pub id_json : ℕ → Data

@@ -14,7 +14,8 @@ use Rattle.seg_meta.specs.Saving.{same_id}
 
 -- a list of fewer than this many items, no two of them alike
 abbrev pub distinct_list : {A : Type 0} → (Data → Option A) → (A → A → Bool) → ℕ → Data → Option (List A)
-distinct_list read alike limit d = given (list_of read d) (λ xs. provided (all_distinct alike xs && nat_lt (length xs) limit) (Some xs))
+distinct_list read alike limit d = given (list_of read d)
+    (λ xs. provided (all_distinct alike xs && nat_lt (length xs) limit) (Some xs))
 
 -- fields with distinct names, whose number is below the largest of 32 bits
 abbrev pub schema_from : Data → Option (List FieldEntry)

@@ -27,7 +27,8 @@ abbrev pub load_steps : List ℕ → List Step
 load_steps bytes = calls (read name.Meta bytes) ∷ (passes (meta_damage bytes) ∷ [])
 
 -- the meta is loaded from bytes that the directory answers
-pub record LoadsFrom (bytes : List ℕ) (result : Result IndexMeta TantivyError) (before after : DirectoryState) : Type 0 where
+pub record LoadsFrom (bytes : List ℕ) (result : Result IndexMeta TantivyError)
+    (before after : DirectoryState) : Type 0 where
   pub works : Works (load_steps bytes) result before after
   pub says : IfOk result (λ m. meta_read bytes ≡ Some (meta_of m))
 

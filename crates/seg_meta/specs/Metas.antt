@@ -13,7 +13,8 @@ abbrev pub delete_meta_of : Deletes → DeleteMeta
 delete_meta_of d = record { num_deleted_docs = d.number; opstamp = d.stamp }
 
 -- the way back undoes the way there
-pub delete_metas_back : (deletes : Option DeleteMeta) → option_map delete_meta_of (option_map deletes_of deletes) ≡ deletes
+pub delete_metas_back : (deletes : Option DeleteMeta)
+    → option_map delete_meta_of (option_map deletes_of deletes) ≡ deletes
 delete_metas_back None = refl
 delete_metas_back (Some d) = refl
 

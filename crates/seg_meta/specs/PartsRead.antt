@@ -23,20 +23,24 @@ compressions = (codes "none", uncompressed) ∷ (codes "lz4", lz4) ∷ (codes "z
 -- the kinds of a field by their words
 abbrev pub kinds : List (List ℕ × FieldKind)
 kinds =
-    (codes "text", kind.Text) ∷ (codes "u64", kind.U64) ∷ (codes "i64", kind.I64) ∷ (codes "bool", kind.Bool) ∷ (codes "date", kind.Date) ∷ (codes "facet", kind.Facet)
+    (codes "text", kind.Text) ∷ (codes "u64", kind.U64) ∷ (codes "i64", kind.I64) ∷ (codes "bool", kind.Bool)
+    ∷ (codes "date", kind.Date) ∷ (codes "facet", kind.Facet)
     ∷ (codes "bytes", kind.Bytes) ∷ (codes "ip", kind.IpAddr) ∷ (codes "json", kind.Json) ∷ []
 
 -- what terms record, by its words
 abbrev pub index_options : List (List ℕ × IndexOption)
-index_options = (codes "no", index.No) ∷ (codes "basic", index.Basic) ∷ (codes "freqs", index.Freqs) ∷ (codes "positions", index.Positions) ∷ []
+index_options = (codes "no", index.No) ∷ (codes "basic", index.Basic) ∷ (codes "freqs", index.Freqs)
+    ∷ (codes "positions", index.Positions) ∷ []
 
 -- the units of time by their words
 abbrev pub precisions : List (List ℕ × DateTimePrecision)
-precisions = (codes "seconds", precision.Seconds) ∷ (codes "milliseconds", precision.Milliseconds) ∷ (codes "microseconds", precision.Microseconds) ∷ (codes "nanoseconds", precision.Nanoseconds) ∷ []
+precisions = (codes "seconds", precision.Seconds) ∷ (codes "milliseconds", precision.Milliseconds)
+    ∷ (codes "microseconds", precision.Microseconds) ∷ (codes "nanoseconds", precision.Nanoseconds) ∷ []
 
 -- the members of settings
 abbrev pub settings_members : List (List ℕ)
-settings_members = codes "docstore_blocksize" ∷ codes "docstore_compress_dedicated_thread" ∷ codes "docstore_compression" ∷ []
+settings_members = codes "docstore_blocksize" ∷ codes "docstore_compress_dedicated_thread"
+    ∷ codes "docstore_compression" ∷ []
 
 -- settings: each member must be there
 abbrev pub settings_from : Data → Option Settings
@@ -50,7 +54,8 @@ settings_from d =
 -- the members of a field
 abbrev pub entry_members : List (List ℕ)
 entry_members =
-    codes "expand_dots" ∷ codes "fast" ∷ codes "fast_tokenizer" ∷ codes "index" ∷ codes "kind" ∷ codes "name" ∷ codes "norms" ∷ codes "precision" ∷ codes "stored" ∷ codes "tokenizer" ∷ []
+    codes "expand_dots" ∷ codes "fast" ∷ codes "fast_tokenizer" ∷ codes "index" ∷ codes "kind" ∷ codes "name"
+    ∷ codes "norms" ∷ codes "precision" ∷ codes "stored" ∷ codes "tokenizer" ∷ []
 
 -- a field: each member must be there
 abbrev pub entry_from : Data → Option FieldEntry
@@ -66,7 +71,18 @@ entry_from d =
     given (required (word_of precisions) (codes "precision") d) (λ precision.
     given (required as_bool (codes "stored") d) (λ stored.
     given (required (nullable as_str) (codes "tokenizer") d) (λ tokenizer.
-    let e : FieldEntry = record { name = name; kind = kind; stored = stored; index = index; tokenizer = tokenizer; norms = norms; fast = fast; fast_tokenizer = fast_tokenizer; precision = precision; expand_dots = expand_dots } in
+    let e : FieldEntry = record {
+      name = name;
+      kind = kind;
+      stored = stored;
+      index = index;
+      tokenizer = tokenizer;
+      norms = norms;
+      fast = fast;
+      fast_tokenizer = fast_tokenizer;
+      precision = precision;
+      expand_dots = expand_dots;
+    } in
     provided (is_entry e) (Some e))))))))))))
 
 -- the members of deletes
@@ -92,7 +108,9 @@ digits_value before (c ∷ cs) = digits_value (before * 16 + digit_value c) cs
 
 -- the id that a text of 32 digits in lower case is
 abbrev pub id_from : List ℕ → Option ℕ
-id_from text = let id = digits_value 0 text in if nat_lt id (2 ^ 128) && bytes_eq text (id_text id) then Some id else None
+id_from text =
+    let id = digits_value 0 text in
+    if nat_lt id (2 ^ 128) && bytes_eq text (id_text id) then Some id else None
 
 -- the members of a segment
 abbrev pub segment_members : List (List ℕ)

@@ -14,8 +14,18 @@ compression_of compressor.Zstd = zstd
 
 -- the settings of an index
 abbrev pub settings_of : IndexSettings → Settings
-settings_of s = record { compression = compression_of s.docstore_compression; block_size = s.docstore_blocksize; dedicated_thread = s.docstore_compress_dedicated_thread }
+settings_of s = record {
+  compression = compression_of s.docstore_compression;
+  block_size = s.docstore_blocksize;
+  dedicated_thread = s.docstore_compress_dedicated_thread;
+}
 
 -- the whole meta
 abbrev pub meta_of : IndexMeta → Meta
-meta_of m = record { settings = settings_of m.index_settings; schema = m.schema; stamp = m.opstamp; payload = m.payload; segments = m.segments }
+meta_of m = record {
+  settings = settings_of m.index_settings;
+  schema = m.schema;
+  stamp = m.opstamp;
+  payload = m.payload;
+  segments = m.segments;
+}

@@ -50,7 +50,8 @@ impl Index {
         ensures does { Works (create_steps (meta_text (empty_meta (settings_of settings) schema)))
             result (O.state directory.old) (O.state directory.new) }
         ensures disk { IsTrue (O.state directory.old).disk.told
-            → SavesOnDisk (insert (O.state directory.old).files Meta (meta_text (empty_meta (settings_of settings) schema)))
+            → SavesOnDisk
+            (insert (O.state directory.old).files Meta (meta_text (empty_meta (settings_of settings) schema)))
             (O.state directory.old).disk (O.state directory.new).disk }
         ensures safe { IsTrue (O.state directory.old).disk.told → OnOk result ((O.state directory.new).disk.now
             ≡ with_change (settled (O.state directory.old).files) Meta

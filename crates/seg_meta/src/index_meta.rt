@@ -4,7 +4,7 @@ use crate::{IndexSettings, SegmentMetas};
 use seg_tokens::Text;
 use seg_values::Schema;
 
-/// What an index says of itself.
+/// What an index says about itself.
 #[derive(Debug, Drop)]
 pub struct IndexMeta {
     pub index_settings: IndexSettings,

@@ -15,15 +15,15 @@ use seg_common::SegmentId;
 use seg_tokens::Text;
 use seg_values::{FieldEntry, Schema};
 
-/// The text of a meta reads as it, where its numbers and texts are such as their types hold, its segments such as can be
-/// saved, and its fields such as a builder of schemas lets in.
+/// The text of a meta reads as it, where its numbers and texts are such as their types hold, its segments such as can
+/// be saved, and its fields such as a builder of schemas lets in.
 pub fn meta_texts_read_back()
     ensures { (meta : Meta) → MetaFits meta → IsMetaList meta.segments → is_schema meta.schema ≡ true
         → meta_read (meta_text meta) ≡ Some meta }
 {}
 
-/// The same of the metas that there are: what their types hold is known. So each word that is written is read as what it
-/// was written for.
+/// The same of the metas that there are: what their types hold is known. So each word that is written is read as what
+/// it was written for.
 pub fn metas_read_back(metas: &IndexMeta)
     ensures { IsMetaList metas.now.segments → meta_read (meta_text (meta_of metas.now)) ≡ Some (meta_of metas.now) }
 {

@@ -19,11 +19,13 @@ use std::alloc::Global;
 
 /// Saves a meta: has the files of its segments reach the disk, and then replaces the file of the meta in one step.
 ///
-/// A crash during the call, or after it, leaves what it might have left before, or the files as they were with this meta.
-/// At Ok all that was written before is safe, and the meta may still be the old one until the directory is synced.
+/// A crash during the call, or after it, leaves what it might have left before, or the files as they were with this
+/// meta. At Ok all that was written before is safe, and the meta may still be the old one until the directory is
+/// synced.
 pub fn save_metas<O: Directory>(alloc: Global, metas: &IndexMeta, directory: &mut O) -> TResult<()>
     requires { IsMetaList metas.now.segments }
-    ensures does { Works (save_steps (meta_text (meta_of metas.now))) result (O.state directory.old) (O.state directory.new) }
+    ensures does { Works (save_steps (meta_text (meta_of metas.now))) result
+        (O.state directory.old) (O.state directory.new) }
     ensures disk { IsTrue (O.state directory.old).disk.told
         → SavesOnDisk (insert (O.state directory.old).files Meta (meta_text (meta_of metas.now)))
         (O.state directory.old).disk (O.state directory.new).disk }

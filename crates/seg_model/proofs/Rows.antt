@@ -1,4 +1,4 @@
--- Worked rows: what the definitions say of small documents.
+-- Worked rows: what the definitions say about small documents.
 use Rattle.std.proofs.Common.{◌≡◌, ℕ, zero, suc, ◌+◌, true, false, List, [], ◌∷◌, ◌++◌, map, Some, None, Option, refl}
 use Rattle.std.specs.Prelude.{pos, negsuc, ◌==◌, if◌then◌else◌, codes, is_some}
 use Rattle.seg_tokens.specs.declared.token.Token.{Token}

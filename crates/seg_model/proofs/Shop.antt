@@ -1,4 +1,4 @@
--- A shop catalogue: what the definitions say of its operations, and of what survives them.
+-- A shop catalogue: what the definitions say about its operations, and about what survives them.
 use Rattle.std.proofs.Common.{◌≡◌, ℕ, ◌+◌, Bool, true, false, List, [], ◌∷◌, ◌++◌, map, Some, None, Option, refl}
 use Rattle.std.specs.Prelude.{pos, ◌==◌, ◌&&◌, ◌||◌, nat_le, if◌then◌else◌, codes, is_some, is_none}
 use Rattle.std.specs.List.{flat_map, list_all}

@@ -43,7 +43,7 @@ module _ (group_in_order : JoinsGroupInOrder) (full_shape : JoinsHaveFullShape) 
   none : Grouped [] []
   none = record { first_groups = []; last_groups = []; contents = []; first_joined = tt; last_joined = tt; first_are = refl; last_are = refl; shape_first = tt; shape_last = tt }
 
-  -- one index more
+  -- one more index
   one_more : (first last firsts lasts : List Part) (c : Contents) → JoinTo first c → JoinTo last c → Grouped firsts lasts → Grouped (first ++ firsts) (last ++ lasts)
   one_more first last firsts lasts c f l g = record {
     first_groups = first ∷ g.first_groups;

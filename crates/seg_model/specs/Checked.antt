@@ -1,4 +1,4 @@
--- The check of a document that is to be added: four passes over its pairs, of which the first that finds something answers.
+-- The check of a document to be added: four passes over its pairs, of which the first to find something answers.
 use Rattle.std.specs.Prelude.{ℕ, ◌+◌, ◌^◌, List, [], ◌∷◌, map, filter, length, Option, Some, None, Bool, true, false, ◌&&◌, ◌||◌, ◌==◌, nat_le, nat_lt, if◌then◌else◌, ◌≡◌}
 use Rattle.std.specs.List.{slice_get, list_all, flat_map}
 use Rattle.std.specs.Option.{option_or, option_map}
@@ -90,7 +90,8 @@ abbrev mutual
 
   pub members_refusal : Members → Option Cause
   members_refusal no_members = None
-  members_refusal (member key t ms) = option_or (unless (has_no_zero key) json_key) (option_or (tree_refusal t) (members_refusal ms))
+  members_refusal (member key t ms) = option_or (unless (has_no_zero key) json_key)
+      (option_or (tree_refusal t) (members_refusal ms))
 
 -- a JSON field that is indexed or fast
 abbrev pub is_checked_json : FieldEntry → Bool
@@ -119,7 +120,11 @@ value_texts _ analyze t = []
 abbrev pub positions_refusal : Analyzer → Tree → Option FieldEntry → Option Cause
 positions_refusal analyzer t None = None
 positions_refusal analyzer t (Some entry) =
-    if is_indexed entry then unless (list_all (λ tokens. is_rising (counted tokens)) (value_texts entry.kind (analyzer (indexing_tokenizer entry)) t)) positions_fall else None
+    if is_indexed entry
+    then unless
+    (list_all (λ tokens. is_rising (counted tokens)) (value_texts entry.kind (analyzer (indexing_tokenizer entry)) t))
+    positions_fall
+    else None
 
 -- ---- the fourth pass: limits
 
@@ -142,7 +147,8 @@ leaves_with_path expand_dots path found = filter (λ p. bytes_eq path (joined_pa
 
 -- the texts and the leaves of a joined path
 abbrev pub path_fits : Bool → (List ℕ → List Token) → List PlacedLeaf → List ℕ → Bool
-path_fits expand_dots analyze found path = texts_fit (texts_at expand_dots analyze path found) && is_u32 (length (leaves_with_path expand_dots path found))
+path_fits expand_dots analyze found path = texts_fit (texts_at expand_dots analyze path found)
+    && is_u32 (length (leaves_with_path expand_dots path found))
 
 -- the texts of a text field; of JSON each joined path, and the tokens of the field
 abbrev pub kind_fits : FieldKind → Bool → (List ℕ → List Token) → List Tree → Bool
@@ -155,12 +161,16 @@ kind_fits _ expand_dots analyze values = true
 -- the values of an indexed field are within the limits
 abbrev pub field_fits : Analyzer → Document → ℕ × FieldEntry → Bool
 field_fits analyzer document f =
-    if is_indexed f.1 then is_u32 (length (values_of f.0 document)) && kind_fits f.1.kind f.1.expand_dots (analyzer (indexing_tokenizer f.1)) (values_of f.0 document) else true
+    if is_indexed f.1
+    then is_u32 (length (values_of f.0 document))
+    && kind_fits f.1.kind f.1.expand_dots (analyzer (indexing_tokenizer f.1)) (values_of f.0 document)
+    else true
 
 -- within the limits: those of each field, of the bytes that are stored, and of the levels
 abbrev pub is_within_limits : Schema → Analyzer → Document → Bool
 is_within_limits schema analyzer document =
-    list_all (field_fits analyzer document) (fields schema) && is_u32 (length (stored_form schema document)) && list_all (λ p. nat_le (levels p.1) most_levels_read) document
+    list_all (field_fits analyzer document) (fields schema) && is_u32 (length (stored_form schema document))
+    && list_all (λ p. nat_le (levels p.1) most_levels_read) document
 
 -- ---- all passes
 

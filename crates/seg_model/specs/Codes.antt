@@ -37,10 +37,12 @@ sum_recorded-recorded_sum (frequency n) = refl
 sum_recorded-recorded_sum (positions ps) = refl
 
 abbrev pub recorded_code : Coded Recorded
-recorded_code = code_by (Unit {0} ⊎ (ℕ ⊎ List ℕ)) (coded⊎ coded_unit (coded⊎ coded_ℕ bytes_code)) recorded_sum sum_recorded sum_recorded-recorded_sum
+recorded_code = code_by (Unit {0} ⊎ (ℕ ⊎ List ℕ))
+    (coded⊎ coded_unit (coded⊎ coded_ℕ bytes_code)) recorded_sum sum_recorded sum_recorded-recorded_sum
 
 abbrev pub posting_code : Coded Posting
-posting_code = code_by (ℕ × Recorded) (coded× coded_ℕ recorded_code) (λ p. (p.document, p.recorded)) (λ p. record { document = p.0; recorded = p.1 }) (λ _. refl)
+posting_code = code_by (ℕ × Recorded) (coded× coded_ℕ recorded_code) (λ p. (p.document, p.recorded))
+    (λ p. record { document = p.0; recorded = p.1 }) (λ _. refl)
 
 abbrev pub terms_code : Coded Terms
 terms_code = fin.code bytes_code (coded_list posting_code)
@@ -69,7 +71,8 @@ abbrev pub type_code : Coded ColumnType
 type_code = code_by ℕ coded_ℕ type_place type_of_place type_of_place-type_place
 
 abbrev pub column_key_code : Coded ColumnKey
-column_key_code = code_by (List ℕ × ColumnType) (coded× bytes_code type_code) (λ k. (k.path, k.type)) (λ p. record { path = p.0; type = p.1 }) (λ _. refl)
+column_key_code = code_by (List ℕ × ColumnType) (coded× bytes_code type_code) (λ k. (k.path, k.type))
+    (λ p. record { path = p.0; type = p.1 }) (λ _. refl)
 
 abbrev pub ValueSum : Type 0
 ValueSum = ℤ ⊎ (List ℕ ⊎ (List ℕ ⊎ (Bool ⊎ (List ℕ ⊎ ℤ))))
@@ -99,7 +102,9 @@ sum_value-value_sum (ip_value a) = refl
 sum_value-value_sum (date_value z) = refl
 
 abbrev pub column_value_code : Coded ColumnValue
-column_value_code = code_by ValueSum (coded⊎ coded_ℤ (coded⊎ bytes_code (coded⊎ bytes_code (coded⊎ coded_bool (coded⊎ bytes_code coded_ℤ))))) value_sum sum_value sum_value-value_sum
+column_value_code = code_by ValueSum
+    (coded⊎ coded_ℤ (coded⊎ bytes_code (coded⊎ bytes_code (coded⊎ coded_bool (coded⊎ bytes_code coded_ℤ)))))
+    value_sum sum_value sum_value-value_sum
 
 abbrev pub columns_code : Coded Columns
 columns_code = fin.code column_key_code (coded_list (coded_list column_value_code))
@@ -108,15 +113,20 @@ columns_code = fin.code column_key_code (coded_list (coded_list column_value_cod
 
 abbrev pub reading_code : Coded Reading
 reading_code =
-    code_by (ℕ × (List Terms × List Document)) (coded× coded_ℕ (coded× (coded_list terms_code) (coded_list document_code)))
-    (λ r. (r.documents, (r.terms, r.stored))) (λ p. record { documents = p.0; terms = p.1.0; stored = p.1.1 }) (λ _. refl)
+    code_by (ℕ × (List Terms × List Document))
+    (coded× coded_ℕ (coded× (coded_list terms_code) (coded_list document_code)))
+    (λ r. (r.documents, (r.terms, r.stored)))
+    (λ p. record { documents = p.0; terms = p.1.0; stored = p.1.1 }) (λ _. refl)
 
 abbrev pub contents_code : Coded Contents
 contents_code =
-    code_by (ℕ × (List Terms × (List Document × (List (List ℕ) × Columns)))) (coded× coded_ℕ (coded× (coded_list terms_code) (coded× (coded_list document_code) (coded× (coded_list bytes_code) columns_code))))
+    code_by (ℕ × (List Terms × (List Document × (List (List ℕ) × Columns))))
+    (coded× coded_ℕ
+    (coded× (coded_list terms_code) (coded× (coded_list document_code) (coded× (coded_list bytes_code) columns_code))))
     (λ c. (c.documents, (c.terms, (c.stored, (c.norms, c.columns)))))
     (λ p. record { documents = p.0; terms = p.1.0; stored = p.1.1.0; norms = p.1.1.1.0; columns = p.1.1.1.1 })
     (λ _. refl)
 
 abbrev pub part_code : Coded Part
-part_code = code_by (Contents × List Bool) (coded× contents_code (coded_list coded_bool)) (λ p. (p.contents, p.alive)) (λ p. record { contents = p.0; alive = p.1 }) (λ _. refl)
+part_code = code_by (Contents × List Bool) (coded× contents_code (coded_list coded_bool)) (λ p. (p.contents, p.alive))
+    (λ p. record { contents = p.0; alive = p.1 }) (λ _. refl)

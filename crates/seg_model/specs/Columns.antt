@@ -85,7 +85,8 @@ column_tokenizer entry = if entry.fast && (is_text entry.kind || is_json entry.k
 -- the values of a field with a declared column: its arrays are walked
 abbrev pub declared_values : Analyzer → FieldEntry → List Tree → List ColumnValue
 declared_values analyzer entry values =
-    flat_map (λ p. leaf_values analyzer (column_tokenizer entry) (cut_to (precision_unit entry.precision)) p.leaf) (leaves_of values)
+    flat_map (λ p. leaf_values analyzer (column_tokenizer entry) (cut_to (precision_unit entry.precision)) p.leaf)
+    (leaves_of values)
 
 -- the text of a value
 abbrev pub value_text : ColumnValue → List ℕ
@@ -116,7 +117,8 @@ json_cut (key ∷ keys) nanos = nanos
 abbrev pub json_leaf_values : Analyzer → FieldEntry → PlacedLeaf → List FastValue
 json_leaf_values analyzer entry p =
     if nat_le p.level 20
-    then map (λ v. record { path = json_column_path entry p.keys; value = v }) (leaf_values analyzer entry.fast_tokenizer (json_cut p.keys) p.leaf)
+    then map (λ v. record { path = json_column_path entry p.keys; value = v })
+    (leaf_values analyzer entry.fast_tokenizer (json_cut p.keys) p.leaf)
     else []
 
 -- values under the name of their field
@@ -227,7 +229,8 @@ without_values rows = map (λ _. []) rows
 -- the rows of a column: numbers are in the one column of their type
 abbrev pub rows_of : List ColumnKey → ColumnKey → List (List ColumnValue) → List (List ColumnValue)
 rows_of declared key rows =
-    if not (is_number key.type) || is_type key.type (number_type declared key.path rows) then rows else without_values rows
+    if not (is_number key.type) || is_type key.type (number_type declared key.path rows)
+    then rows else without_values rows
 
 -- a row with a value
 abbrev pub is_filled : List ColumnValue → Bool
@@ -244,7 +247,8 @@ column_at declared key rows = if_there (is_declared declared key) (rows_of decla
 
 -- whether the numbers of a path have no type
 abbrev pub is_mixed : List ColumnKey → ColumnKey → List (List ColumnValue) → Bool
-is_mixed declared key rows = is_number key.type && not (is_type I64 (number_type declared key.path rows) || is_type U64 (number_type declared key.path rows))
+is_mixed declared key rows = is_number key.type
+    && not (is_type I64 (number_type declared key.path rows) || is_type U64 (number_type declared key.path rows))
 
 -- the columns at some keys, from what the documents record at each: undefined where the numbers of a path have no type
 abbrev pub columns_from : List ColumnKey → (ColumnKey → List (List ColumnValue)) → List ColumnKey → Option Columns
@@ -252,7 +256,7 @@ columns_from declared rows_at keys =
     if list_any (λ k. is_mixed declared k (rows_at k)) keys then None
     else Some (tabulated (λ k. column_at declared k (rows_at k)) keys)
 
--- the columns of documents that record these values, beside declared columns
+-- the columns of documents that record these values, besides declared columns
 abbrev pub columns_of : List ColumnKey → List (List FastValue) → Option Columns
 columns_of declared documents =
     columns_from declared (λ key. map (values_at key) documents) (declared ++ flat_map (flat_map value_keys) documents)

@@ -29,7 +29,8 @@ reading_part contents = record { documents = contents.documents; terms = content
 
 -- what is read of documents without their columns and lengths
 abbrev pub reading : Schema → Analyzer → List Document → Reading
-reading schema analyzer ds = record { documents = length ds; terms = all_terms schema analyzer ds; stored = map (stored_document schema) ds }
+reading schema analyzer ds =
+    record { documents = length ds; terms = all_terms schema analyzer ds; stored = map (stored_document schema) ds }
 
 -- the terms of a field
 abbrev pub terms_at : Contents → ℕ → Terms

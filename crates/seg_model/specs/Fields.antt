@@ -30,7 +30,8 @@ is_facet _ = false
 
 -- the named tokenizer of an indexed text or JSON field, else `default`
 abbrev pub indexing_tokenizer : FieldEntry → List ℕ
-indexing_tokenizer entry = if is_indexed entry && (is_text entry.kind || is_json entry.kind) then unwrap_or entry.tokenizer (codes "default") else codes "default"
+indexing_tokenizer entry = if is_indexed entry && (is_text entry.kind || is_json entry.kind)
+    then unwrap_or entry.tokenizer (codes "default") else codes "default"
 
 -- the values of a field, in the document's order
 abbrev pub values_of : ℕ → Document → List Tree

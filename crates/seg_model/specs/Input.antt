@@ -10,7 +10,7 @@ pub data Compression : Type 0 where
   lz4 : Compression
   zstd : Compression
 
--- the settings of an index: its store's compression, the bytes from which a block is closed, and whether a thread of its own compresses
+-- the settings of an index: its store's compression, the bytes that close a block, if a thread of its own compresses
 pub record Settings : Type 0 where
   pub compression : Compression
   pub block_size : ℕ

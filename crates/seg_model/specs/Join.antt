@@ -33,7 +33,8 @@ all_recorded first (suc n) ps = recorded_at first ps ∷ all_recorded (first + 1
 
 -- what each document of a part records of a term
 abbrev pub term_column : ℕ → List ℕ → Part → List (Option Recorded)
-term_column field bytes part = all_recorded 0 part.contents.documents (unwrap_or (get (terms_at part.contents field) bytes) [])
+term_column field bytes part = all_recorded 0 part.contents.documents
+    (unwrap_or (get (terms_at part.contents field) bytes) [])
 
 -- the postings of a term in the live documents
 abbrev pub joined_postings : List Part → ℕ → List ℕ → List Posting
@@ -41,7 +42,8 @@ joined_postings parts field bytes = postings_from 0 (live_of (term_column field 
 
 -- the terms of a field in the live documents: a term is there where one of them has it
 abbrev pub joined_terms : List Part → ℕ × FieldEntry → Terms
-joined_terms parts f = tabulated (λ term. if_any (joined_postings parts f.0 term)) (flat_map (λ p. keys (terms_at p.contents f.0)) parts)
+joined_terms parts f = tabulated (λ term. if_any (joined_postings parts f.0 term))
+    (flat_map (λ p. keys (terms_at p.contents f.0)) parts)
 
 -- the length ids of a field in the live documents
 abbrev pub joined_norms : List Part → ℕ × FieldEntry → List ℕ
@@ -61,17 +63,20 @@ side_by_side (x ∷ xs) (y ∷ ys) = (x ++ y) ∷ side_by_side xs ys
 abbrev pub part_rows : ColumnKey → Part → List (List ColumnValue)
 part_rows key part =
     if is_number key.type
-    then side_by_side (part_column (record { path = key.path; type = I64 }) part) (part_column (record { path = key.path; type = U64 }) part)
+    then side_by_side (part_column (record { path = key.path; type = I64 }) part)
+    (part_column (record { path = key.path; type = U64 }) part)
     else part_column key part
 
 -- the keys at which the values of a column may be in a joined one: numbers may change their type
 abbrev pub joined_keys : ColumnKey → List ColumnKey
-joined_keys key = if is_number key.type then record { path = key.path; type = I64 } ∷ record { path = key.path; type = U64 } ∷ [] else key ∷ []
+joined_keys key = if is_number key.type
+    then record { path = key.path; type = I64 } ∷ record { path = key.path; type = U64 } ∷ [] else key ∷ []
 
--- the columns of the live documents, beside declared columns
+-- the columns of the live documents, besides declared columns
 abbrev pub joined_columns : Schema → List Part → Option Columns
 joined_columns schema parts =
-    columns_from (declared_columns schema) (λ key. live_of (part_rows key) parts) (declared_columns schema ++ flat_map (λ p. flat_map joined_keys (keys p.contents.columns)) parts)
+    columns_from (declared_columns schema) (λ key. live_of (part_rows key) parts)
+    (declared_columns schema ++ flat_map (λ p. flat_map joined_keys (keys p.contents.columns)) parts)
 
 -- the contents of the live documents, with these columns
 abbrev pub joined_with : Schema → List Part → Columns → Contents

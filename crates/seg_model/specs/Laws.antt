@@ -19,13 +19,15 @@ use Rattle.seg_model.specs.Refused.{build_refusal}
 
 -- ---- terms and columns are known by what they answer
 
--- the terms of documents have at each value bytes its postings, and at bytes that do not occur nothing
+-- the terms of documents have at the bytes of each value its postings, and at bytes that do not occur nothing
 abbrev pub TermsAnswer : Type 0
-TermsAnswer = (entry : FieldEntry) (documents : List (List Occurrence)) (term : List ℕ) → get (terms_of entry documents) term ≡ if_any (postings_of entry term documents)
+TermsAnswer = (entry : FieldEntry) (documents : List (List Occurrence)) (term : List ℕ)
+    → get (terms_of entry documents) term ≡ if_any (postings_of entry term documents)
 
 -- and no other term list does
 abbrev pub NoOtherTerms : Type 0
-NoOtherTerms = (entry : FieldEntry) (documents : List (List Occurrence)) (terms : Terms) → ((term : List ℕ) → get terms term ≡ if_any (postings_of entry term documents)) → terms ≡ terms_of entry documents
+NoOtherTerms = (entry : FieldEntry) (documents : List (List Occurrence)) (terms : Terms)
+    → ((term : List ℕ) → get terms term ≡ if_any (postings_of entry term documents)) → terms ≡ terms_of entry documents
 
 -- what documents record at a key
 abbrev pub recorded_values : Schema → Analyzer → List Document → ColumnKey → List (List ColumnValue)
@@ -33,45 +35,57 @@ recorded_values schema analyzer ds key = map (values_at key) (map (fast_values s
 
 -- columns that have at each key the column of what the documents record there
 abbrev pub AreColumnsOf : Schema → Analyzer → List Document → Columns → Type 0
-AreColumnsOf schema analyzer ds cs = (key : ColumnKey) → get cs key ≡ column_at (declared_columns schema) key (recorded_values schema analyzer ds key)
+AreColumnsOf schema analyzer ds cs = (key : ColumnKey)
+    → get cs key ≡ column_at (declared_columns schema) key (recorded_values schema analyzer ds key)
 
 -- no path has numbers without a type
 abbrev pub NoneIsMixed : Schema → Analyzer → List Document → Type 0
-NoneIsMixed schema analyzer ds = (key : ColumnKey) → is_mixed (declared_columns schema) key (recorded_values schema analyzer ds key) ≡ false
+NoneIsMixed schema analyzer ds = (key : ColumnKey)
+    → is_mixed (declared_columns schema) key (recorded_values schema analyzer ds key) ≡ false
 
 -- where documents have columns, these answer so, and no path is mixed
 abbrev pub ColumnsAnswer : Type 0
-ColumnsAnswer = (schema : Schema) (analyzer : Analyzer) (ds : List Document) (cs : Columns) → columns schema analyzer ds ≡ Some cs → AreColumnsOf schema analyzer ds cs × NoneIsMixed schema analyzer ds
+ColumnsAnswer = (schema : Schema) (analyzer : Analyzer) (ds : List Document) (cs : Columns)
+    → columns schema analyzer ds ≡ Some cs → AreColumnsOf schema analyzer ds cs × NoneIsMixed schema analyzer ds
 
 -- where no path is mixed, the columns that answer so are those of the documents
 abbrev pub NoOtherColumns : Type 0
-NoOtherColumns = (schema : Schema) (analyzer : Analyzer) (ds : List Document) (cs : Columns) → NoneIsMixed schema analyzer ds → AreColumnsOf schema analyzer ds cs → columns schema analyzer ds ≡ Some cs
+NoOtherColumns = (schema : Schema) (analyzer : Analyzer) (ds : List Document) (cs : Columns)
+    → NoneIsMixed schema analyzer ds → AreColumnsOf schema analyzer ds cs → columns schema analyzer ds ≡ Some cs
 
 -- where a path is mixed, documents have no columns
 abbrev pub MixedNumbersHaveNoColumns : Type 0
-MixedNumbersHaveNoColumns = (schema : Schema) (analyzer : Analyzer) (ds : List Document) (key : ColumnKey) → is_mixed (declared_columns schema) key (recorded_values schema analyzer ds key) ≡ true → columns schema analyzer ds ≡ None
+MixedNumbersHaveNoColumns = (schema : Schema) (analyzer : Analyzer) (ds : List Document) (key : ColumnKey)
+    → is_mixed (declared_columns schema) key (recorded_values schema analyzer ds key) ≡ true
+    → columns schema analyzer ds ≡ None
 
--- ---- one document more
+-- ---- one more document
 
 -- with one more document a term has one more posting, where it occurs there
 abbrev pub PostingsGrow : Type 0
-PostingsGrow = (entry : FieldEntry) (term : List ℕ) (documents : List (List Occurrence)) (occurred : List Occurrence) → postings_of entry term (documents ++ occurred ∷ []) ≡ postings_of entry term documents ++ listed (length documents) (recorded_in entry term occurred)
+PostingsGrow = (entry : FieldEntry) (term : List ℕ) (documents : List (List Occurrence)) (occurred : List Occurrence)
+    → postings_of entry term (documents ++ occurred ∷ [])
+    ≡ postings_of entry term documents ++ listed (length documents) (recorded_in entry term occurred)
 
 -- and a column one more row
 abbrev pub ColumnsGrow : Type 0
-ColumnsGrow = (schema : Schema) (analyzer : Analyzer) (ds : List Document) (d : Document) (key : ColumnKey) → recorded_values schema analyzer (ds ++ d ∷ []) key ≡ recorded_values schema analyzer ds key ++ values_at key (fast_values schema analyzer d) ∷ []
+ColumnsGrow = (schema : Schema) (analyzer : Analyzer) (ds : List Document) (d : Document) (key : ColumnKey)
+    → recorded_values schema analyzer (ds ++ d ∷ []) key
+    ≡ recorded_values schema analyzer ds key ++ values_at key (fast_values schema analyzer d) ∷ []
 
 -- ---- batches
 
 -- what is alive in the end does not depend on how the operations are cut
 abbrev pub BatchesPlayNoPart : Type 0
-BatchesPlayNoPart = (schema : Schema) (analyzer : Analyzer) (cuts : List ℕ) (operations : List Operation) → flat_map live (batches schema analyzer cuts operations) ≡ flat_map live (batches schema analyzer [] operations)
+BatchesPlayNoPart = (schema : Schema) (analyzer : Analyzer) (cuts : List ℕ) (operations : List Operation)
+    → flat_map live (batches schema analyzer cuts operations) ≡ flat_map live (batches schema analyzer [] operations)
 
 -- ---- valid inputs
 
 -- an input is valid exactly where nothing refuses it
 abbrev pub ValidInputsAreNotRefused : Type 0
-ValidInputsAreNotRefused = (known : Known) (analyzer : Analyzer) (input : Input) → IsValid known analyzer input ↔ (build_refusal known analyzer input ≡ None)
+ValidInputsAreNotRefused = (known : Known) (analyzer : Analyzer) (input : Input)
+    → IsValid known analyzer input ↔ (build_refusal known analyzer input ≡ None)
 
 -- ---- joining is invisible
 
@@ -89,11 +103,13 @@ AreReadingsOf schema analyzer (b ∷ bs) (p ∷ ps) = IsReadingOf schema analyze
 
 -- the full readings of documents join to the full reading of the live ones, each undefined exactly where the other is
 abbrev pub JoiningIsInvisible : Type 0
-JoiningIsInvisible = (schema : Schema) (analyzer : Analyzer) (bs : List Batch) (ps : List Part) → AreReadingsOf schema analyzer bs ps → join schema ps ≡ full_reading schema analyzer (flat_map live bs)
+JoiningIsInvisible = (schema : Schema) (analyzer : Analyzer) (bs : List Batch) (ps : List Part)
+    → AreReadingsOf schema analyzer bs ps → join schema ps ≡ full_reading schema analyzer (flat_map live bs)
 
 -- the reading is a part of the full reading
 abbrev pub FullReadingsHaveTheReading : Type 0
-FullReadingsHaveTheReading = (schema : Schema) (analyzer : Analyzer) (ds : List Document) (contents : Contents) → full_reading schema analyzer ds ≡ Some contents → reading_part contents ≡ reading schema analyzer ds
+FullReadingsHaveTheReading = (schema : Schema) (analyzer : Analyzer) (ds : List Document) (contents : Contents)
+    → full_reading schema analyzer ds ≡ Some contents → reading_part contents ≡ reading schema analyzer ds
 
 -- ---- joins of joins
 
@@ -111,16 +127,21 @@ abbrev pub AreJoinsOf : Schema → List (List Part) → List Contents → Type 0
 AreJoinsOf schema [] [] = Unit {0}
 AreJoinsOf schema [] (c ∷ cs) = ⊥
 AreJoinsOf schema (group ∷ groups) [] = ⊥
-AreJoinsOf schema (group ∷ groups) (c ∷ cs) = AreOfFullShape schema group × (join schema group ≡ Some c) × AreJoinsOf schema groups cs
+AreJoinsOf schema (group ∷ groups) (c ∷ cs) = AreOfFullShape schema group
+    × (join schema group ≡ Some c) × AreJoinsOf schema groups cs
 
 -- joined group by group, in order, parts join to what they join to at once
 abbrev pub JoinsGroupInOrder : Type 0
-JoinsGroupInOrder = (schema : Schema) (groups : List (List Part)) (cs : List Contents) → AreJoinsOf schema groups cs → join schema (map whole cs) ≡ join schema (flat_map (λ group. group) groups)
+JoinsGroupInOrder = (schema : Schema) (groups : List (List Part)) (cs : List Contents) → AreJoinsOf schema groups cs
+    → join schema (map whole cs) ≡ join schema (flat_map (λ group. group) groups)
 
 -- parts of full shape join to contents of full shape
 abbrev pub JoinsHaveFullShape : Type 0
-JoinsHaveFullShape = (schema : Schema) (ps : List Part) (contents : Contents) → AreOfFullShape schema ps → join schema ps ≡ Some contents → HasFullShape schema contents
+JoinsHaveFullShape = (schema : Schema) (ps : List Part) (contents : Contents) → AreOfFullShape schema ps
+    → join schema ps ≡ Some contents → HasFullShape schema contents
 
 -- the full reading of sound documents is of full shape
 abbrev pub ReadingsHaveFullShape : Type 0
-ReadingsHaveFullShape = (schema : Schema) (analyzer : Analyzer) (ds : List Document) (contents : Contents) → AllByRecursion (IsSound schema) ds → full_reading schema analyzer ds ≡ Some contents → HasFullShape schema contents
+ReadingsHaveFullShape = (schema : Schema) (analyzer : Analyzer) (ds : List Document) (contents : Contents)
+    → AllByRecursion (IsSound schema) ds → full_reading schema analyzer ds ≡ Some contents
+    → HasFullShape schema contents

@@ -28,7 +28,8 @@ abbrev mutual
 
   pub leaves_of_members : List (List ℕ) → ℕ → Members → List PlacedLeaf
   leaves_of_members keys level no_members = []
-  leaves_of_members keys level (member key t ms) = leaves_at (keys ++ key ∷ []) level t ++ leaves_of_members keys level ms
+  leaves_of_members keys level (member key t ms) = leaves_at (keys ++ key ∷ []) level t
+      ++ leaves_of_members keys level ms
 
 -- the leaves of a tree
 abbrev pub leaves : Tree → List PlacedLeaf

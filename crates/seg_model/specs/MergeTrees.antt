@@ -25,8 +25,8 @@ abbrev mutual
   all_first_segments no_trees = []
   all_first_segments (tree t ts) = first_segments t ++ all_first_segments ts
 
--- the segments that an index has in the end: its own, which could be merged alone; or one, of what the segments of those
--- that were merged to it join to
+-- the segments that an index has in the end: its own, which could be merged alone; or one, of what the segments of
+-- those that were merged to it join to
 abbrev mutual
   pub HasSegments : Schema → MergeTree → List Part → Type 0
   HasSegments schema (index segments) last =

@@ -37,14 +37,16 @@ start_after_all start (tokens ∷ values) = start_after_all (start_after start t
 
 -- the occurrences in a value that begins at `start`, each with these bytes before its own
 abbrev pub placed_from : ℕ → List ℕ → List Token → List Occurrence
-placed_from start prefix tokens = map (λ t. record { bytes = prefix ++ t.text; position = start + t.position }) (counted tokens)
+placed_from start prefix tokens =
+    map (λ t. record { bytes = prefix ++ t.text; position = start + t.position }) (counted tokens)
 
 -- the occurrences in the values of a text field, of which the first begins at `start`
 abbrev pub text_occurrences : ℕ → List (List Token) → List Occurrence
 text_occurrences start [] = []
-text_occurrences start (tokens ∷ values) = placed_from start [] tokens ++ text_occurrences (start_after start tokens) values
+text_occurrences start (tokens ∷ values) = placed_from start [] tokens
+    ++ text_occurrences (start_after start tokens) values
 
--- the encoded texts of a facet's prefixes, of which `before` came first: one ends before each byte 0, and one at the end
+-- the encoded texts of a facet's prefixes, of which `before` came first: one ends before each byte 0, one at the end
 abbrev pub prefixes_from : List ℕ → List ℕ → List (List ℕ)
 prefixes_from before [] = before ∷ []
 prefixes_from before (zero ∷ rest) = before ∷ prefixes_from (before ++ 0 ∷ []) rest
@@ -97,7 +99,7 @@ abbrev pub leaf_occurrences : (List ℕ → List Token) → List ℕ → ℕ →
 leaf_occurrences analyze path start (text s) = placed_from start (path ++ 0 ∷ 115 ∷ []) (analyze s)
 leaf_occurrences analyze path start l = map (λ coded. at_zero (path ++ 0 ∷ coded)) (coded_value l)
 
--- the occurrences of the leaves of a JSON field, of which `before` came first: a text begins where the texts of its joined path end
+-- the occurrences of JSON leaves, of which `before` came first: a text begins where the texts of its joined path end
 abbrev pub json_occurrences : Bool → (List ℕ → List Token) → List PlacedLeaf → List PlacedLeaf → List Occurrence
 json_occurrences expand_dots analyze before [] = []
 json_occurrences expand_dots analyze before (p ∷ found) =
@@ -114,7 +116,8 @@ kind_occurrences _ expand_dots analyze values = map at_zero (flat_map value_term
 -- the occurrences in the values of an indexed field
 abbrev pub field_occurrences : Analyzer → FieldEntry → List Tree → List Occurrence
 field_occurrences analyzer entry values =
-    if is_indexed entry then kind_occurrences entry.kind entry.expand_dots (analyzer (indexing_tokenizer entry)) values else []
+    if is_indexed entry
+    then kind_occurrences entry.kind entry.expand_dots (analyzer (indexing_tokenizer entry)) values else []
 
 -- the occurrences of a document in a field of the schema
 abbrev pub occurrences_at : Analyzer → Document → ℕ → Option FieldEntry → List Occurrence
@@ -127,4 +130,5 @@ occurrences schema analyzer document field = occurrences_at analyzer document fi
 
 -- whether a document has a term, a field with value bytes
 abbrev pub has_term : Schema → Analyzer → Document → ℕ → List ℕ → Bool
-has_term schema analyzer document field bytes = list_any (λ o. bytes_eq bytes o.bytes) (occurrences schema analyzer document field)
+has_term schema analyzer document field bytes = list_any (λ o. bytes_eq bytes o.bytes)
+    (occurrences schema analyzer document field)

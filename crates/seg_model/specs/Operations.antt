@@ -31,7 +31,8 @@ is_empty (x ∷ xs) = false
 abbrev pub deletes : Schema → Analyzer → Document → Operation → Bool
 deletes schema analyzer document (add other) = false
 deletes schema analyzer document (delete term) = has_term schema analyzer document term.field term.bytes
-deletes schema analyzer document (delete_all terms) = not (is_empty terms) && list_all (λ (t : TermKey). has_term schema analyzer document t.field t.bytes) terms
+deletes schema analyzer document (delete_all terms) = not (is_empty terms)
+    && list_all (λ (t : TermKey). has_term schema analyzer document t.field t.bytes) terms
 
 -- whether a document is removed by an operation that comes later, in whatever batch
 abbrev pub is_removed : Schema → Analyzer → Document → List Operation → Bool
@@ -59,7 +60,8 @@ batches_from schema analyzer from [] operations =
 batches_from schema analyzer from (cut ∷ cuts) operations =
     let batch = take (cut - from) operations in
     let rest = drop (cut - from) operations in
-    record { documents = additions batch; alive = alive_after schema analyzer batch rest } ∷ batches_from schema analyzer cut cuts rest
+    record { documents = additions batch; alive = alive_after schema analyzer batch rest }
+    ∷ batches_from schema analyzer cut cuts rest
 
 -- the batches of a list of operations: what each adds, and what of it is alive in the end
 abbrev pub batches : Schema → Analyzer → List ℕ → List Operation → List Batch
@@ -78,4 +80,5 @@ filtered (f ∷ fs) (b ∷ bs) = record { documents = b.documents; alive = filte
 
 -- the added documents, in order, that no later operation removes and their batch's filter keeps
 abbrev pub survivors : Schema → Analyzer → List (Option (List Bool)) → List ℕ → List Operation → List Document
-survivors schema analyzer filters cuts operations = flat_map live (filtered filters (batches schema analyzer cuts operations))
+survivors schema analyzer filters cuts operations = flat_map live
+    (filtered filters (batches schema analyzer cuts operations))

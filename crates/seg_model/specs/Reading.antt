@@ -37,7 +37,8 @@ type_code (b ∷ c ∷ rest) = if b == 0 then c else type_code (c ∷ rest)
 
 -- what a term records: a text, and a JSON text, what `index` says; every other term its documents alone
 abbrev pub term_option : FieldEntry → List ℕ → IndexOption
-term_option entry bytes = if is_text entry.kind || (is_json entry.kind && nat_eq (type_code bytes) 115) then entry.index else Basic
+term_option entry bytes = if is_text entry.kind || (is_json entry.kind && nat_eq (type_code bytes) 115)
+    then entry.index else Basic
 
 -- what is recorded of a term that occurs at these positions
 abbrev pub record_of : IndexOption → List ℕ → Recorded
@@ -78,9 +79,10 @@ abbrev pub if_any : List Posting → Option (List Posting)
 if_any [] = None
 if_any (p ∷ ps) = Some (p ∷ ps)
 
--- each value bytes that occurs in a field of documents, with its postings
+-- the bytes of each value that occurs in a field of documents, with its postings
 abbrev pub terms_of : FieldEntry → List (List Occurrence) → Terms
-terms_of entry documents = tabulated (λ term. if_any (postings_of entry term documents)) (flat_map (map (λ o. o.bytes)) documents)
+terms_of entry documents = tabulated (λ term. if_any (postings_of entry term documents))
+    (flat_map (map (λ o. o.bytes)) documents)
 
 -- the terms of one field of documents
 abbrev pub field_terms : Schema → Analyzer → List Document → ℕ × FieldEntry → Terms

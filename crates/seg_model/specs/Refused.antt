@@ -30,7 +30,8 @@ count_refusal documents = unless (nat_lt (length documents) (2 ^ 31)) (InvalidAr
 
 -- and its documents have columns
 abbrev pub numbers_refusal : Schema → Analyzer → List Document → Option TantivyError
-numbers_refusal schema analyzer documents = unless (is_some (columns schema analyzer documents)) (InvalidArgument argument.Numbers)
+numbers_refusal schema analyzer documents = unless (is_some (columns schema analyzer documents))
+    (InvalidArgument argument.Numbers)
 
 -- what a part of the operations adds
 abbrev pub added_by : List (ℕ × Operation) → List Document
@@ -49,13 +50,15 @@ batch_error schema analyzer first operations = batch_refusal schema analyzer (en
 
 -- why the operations from a place on are refused, cut in batches: by the first batch that is
 abbrev pub batches_error : Schema → Analyzer → ℕ → List ℕ → List Operation → Option TantivyError
-batches_error schema analyzer from cuts operations = first_of (batch_refusal schema analyzer) (cut_from from cuts (enumerate_from from operations))
+batches_error schema analyzer from cuts operations = first_of (batch_refusal schema analyzer)
+    (cut_from from cuts (enumerate_from from operations))
 
 -- why nothing is built of an input, if so: by the input alone, by the first batch that is refused, or by the survivors
 abbrev pub build_refusal : Known → Analyzer → Input → Option TantivyError
 build_refusal known analyzer input =
     option_or (input_refusal known analyzer input)
-    (option_or (first_of (batch_refusal input.schema analyzer) (cut_from 0 input.cuts (enumerate_from 0 input.operations)))
+    (option_or
+    (first_of (batch_refusal input.schema analyzer) (cut_from 0 input.cuts (enumerate_from 0 input.operations)))
     (option_or (count_refusal (input_survivors analyzer input))
     (numbers_refusal input.schema analyzer (input_survivors analyzer input))))
 

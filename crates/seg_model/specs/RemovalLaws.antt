@@ -22,15 +22,17 @@ PostingsTellTerms = (schema : Schema) (analyzer : Analyzer) (documents : List Do
 
 -- what later operations leave alive of a batch is told by stamps, and deletes that came before it play no part
 abbrev pub AliveByStamps : Type 0
-AliveByStamps = (schema : Schema) (analyzer : Analyzer) (before batch after : List Operation) →
-    alive_after schema analyzer batch after
-    ≡ undeleted_by schema analyzer (addition_stamps (length before) batch) (additions batch) (stamped_deletes 0 (before ++ batch ++ after))
+AliveByStamps = (schema : Schema) (analyzer : Analyzer) (before batch after : List Operation)
+    → alive_after schema analyzer batch after
+    ≡ undeleted_by schema analyzer (addition_stamps (length before) batch) (additions batch)
+    (stamped_deletes 0 (before ++ batch ++ after))
 
 -- the same, as the postings of the batch's documents tell it
 abbrev pub AliveByPostings : Type 0
-AliveByPostings = (schema : Schema) (analyzer : Analyzer) (before batch after : List Operation) →
-    alive_after schema analyzer batch after
-    ≡ uncleared_by (all_terms schema analyzer (additions batch)) (addition_stamps (length before) batch) (stamped_deletes 0 (before ++ batch ++ after))
+AliveByPostings = (schema : Schema) (analyzer : Analyzer) (before batch after : List Operation)
+    → alive_after schema analyzer batch after
+    ≡ uncleared_by (all_terms schema analyzer (additions batch)) (addition_stamps (length before) batch)
+    (stamped_deletes 0 (before ++ batch ++ after))
 
 -- ---- one delete after another
 
@@ -38,12 +40,15 @@ AliveByPostings = (schema : Schema) (analyzer : Analyzer) (before batch after : 
 abbrev pub ArePassed : List ℕ → List (ℕ × Operation) → Type 0
 ArePassed stamps stamped = All (λ s. All (λ (d : ℕ × Operation). d.0 ≤ s) stamped) stamps
 
--- deletes may be applied in turn: one by a term clears the documents with smaller stamps that its postings name, and one that is passed none
+-- deletes may be applied in turn: one by a term clears the documents with smaller stamps that its
+-- postings name, and one that is passed none
 pub record DeletesClearInTurn : Type 0 where
   pub none : (terms : List Terms) (stamps : List ℕ) → uncleared_by terms stamps [] ≡ replicate (length stamps) true
-  pub one : (terms : List Terms) (stamps : List ℕ) (stamp : ℕ) (term : TermKey) →
-      uncleared_by terms stamps ((stamp, delete term) ∷ []) ≡ map (λ s. not (nat_lt s.1 stamp && has_posting terms s.0 term)) (enumerate_from 0 stamps)
-  pub more : (terms : List Terms) (stamps : List ℕ) (first second : List (ℕ × Operation)) →
-      uncleared_by terms stamps (first ++ second) ≡ both_marked (uncleared_by terms stamps first) (uncleared_by terms stamps second)
+  pub one : (terms : List Terms) (stamps : List ℕ) (stamp : ℕ) (term : TermKey)
+      → uncleared_by terms stamps ((stamp, delete term) ∷ [])
+      ≡ map (λ s. not (nat_lt s.1 stamp && has_posting terms s.0 term)) (enumerate_from 0 stamps)
+  pub more : (terms : List Terms) (stamps : List ℕ) (first second : List (ℕ × Operation))
+      → uncleared_by terms stamps (first ++ second)
+      ≡ both_marked (uncleared_by terms stamps first) (uncleared_by terms stamps second)
   pub passed : (terms : List Terms) (stamps : List ℕ) (stamped : List (ℕ × Operation)) → ArePassed stamps stamped →
       uncleared_by terms stamps stamped ≡ replicate (length stamps) true

@@ -37,7 +37,8 @@ IsRecordOf Positions r = (ps : List ℕ) × (0 < length ps) × (r ≡ positions 
 abbrev pub ArePostings : IndexOption → ℕ → ℕ → List Posting → Type 0
 ArePostings option first last [] = Unit {0}
 ArePostings option first last (p ∷ ps) =
-    (first ≤ p.document) × (p.document < last) × IsRecordOf option p.recorded × ArePostings option (p.document + 1) last ps
+    (first ≤ p.document) × (p.document < last) × IsRecordOf option p.recorded
+    × ArePostings option (p.document + 1) last ps
 
 -- a term has the form of its field, and a posting
 pub record IsTermWith (entry : FieldEntry) (documents : ℕ) (term : List ℕ) (postings : List Posting) : Type 0 where
@@ -84,13 +85,25 @@ AreRowsOf type rows = AllByRecursion (AllByRecursion (λ v. has_type type v ≡ 
 -- contents of full shape; a path has at most one of the columns I64 and U64, unless both are declared
 pub record HasFullShape (schema : Schema) (contents : Contents) : Type 0 where
   pub terms_per_field : length contents.terms ≡ length schema
-  pub terms : (field : ℕ) (entry : FieldEntry) → slice_get schema field ≡ Some entry → is_indexed entry ≡ true → (term : List ℕ) (postings : List Posting) → get (terms_at contents field) term ≡ Some postings → IsTermWith entry contents.documents term postings
-  pub no_terms : (field : ℕ) (entry : FieldEntry) → slice_get schema field ≡ Some entry → is_indexed entry ≡ false → (term : List ℕ) → get (terms_at contents field) term ≡ None
+  pub terms : (field : ℕ) (entry : FieldEntry) → slice_get schema field ≡ Some entry → is_indexed entry ≡ true
+      → (term : List ℕ) (postings : List Posting) → get (terms_at contents field) term ≡ Some postings
+      → IsTermWith entry contents.documents term postings
+  pub no_terms : (field : ℕ) (entry : FieldEntry) → slice_get schema field ≡ Some entry → is_indexed entry ≡ false
+      → (term : List ℕ) → get (terms_at contents field) term ≡ None
   pub stored : length contents.stored ≡ contents.documents
   pub norms_per_field : length contents.norms ≡ length schema
-  pub norms : (field : ℕ) (entry : FieldEntry) → slice_get schema field ≡ Some entry → has_lengths entry ≡ true → (length (norms_at contents field) ≡ contents.documents) × AllByRecursion (λ id. id < 256) (norms_at contents field)
-  pub no_norms : (field : ℕ) (entry : FieldEntry) → slice_get schema field ≡ Some entry → has_lengths entry ≡ false → norms_at contents field ≡ []
-  pub declared : (key : ColumnKey) → is_declared (declared_columns schema) key ≡ true → is_some (get contents.columns key) ≡ true
-  pub free : (key : ColumnKey) (rows : List (List ColumnValue)) → get contents.columns key ≡ Some rows → is_declared (declared_columns schema) key ≡ false → IsFreeColumn schema key rows
-  pub rows : (key : ColumnKey) (rows : List (List ColumnValue)) → get contents.columns key ≡ Some rows → (length rows ≡ contents.documents) × AreRowsOf key.type rows
-  pub one_number_type : (path : List ℕ) → is_some (get contents.columns (record { path = path; type = I64 })) ≡ true → is_some (get contents.columns (record { path = path; type = U64 })) ≡ true → (is_declared (declared_columns schema) (record { path = path; type = I64 }) ≡ true) × (is_declared (declared_columns schema) (record { path = path; type = U64 }) ≡ true)
+  pub norms : (field : ℕ) (entry : FieldEntry) → slice_get schema field ≡ Some entry → has_lengths entry ≡ true
+      → (length (norms_at contents field) ≡ contents.documents)
+      × AllByRecursion (λ id. id < 256) (norms_at contents field)
+  pub no_norms : (field : ℕ) (entry : FieldEntry) → slice_get schema field ≡ Some entry → has_lengths entry ≡ false
+      → norms_at contents field ≡ []
+  pub declared : (key : ColumnKey) → is_declared (declared_columns schema) key ≡ true
+      → is_some (get contents.columns key) ≡ true
+  pub free : (key : ColumnKey) (rows : List (List ColumnValue)) → get contents.columns key ≡ Some rows
+      → is_declared (declared_columns schema) key ≡ false → IsFreeColumn schema key rows
+  pub rows : (key : ColumnKey) (rows : List (List ColumnValue)) → get contents.columns key ≡ Some rows
+      → (length rows ≡ contents.documents) × AreRowsOf key.type rows
+  pub one_number_type : (path : List ℕ) → is_some (get contents.columns (record { path = path; type = I64 })) ≡ true
+      → is_some (get contents.columns (record { path = path; type = U64 })) ≡ true
+      → (is_declared (declared_columns schema) (record { path = path; type = I64 }) ≡ true)
+      × (is_declared (declared_columns schema) (record { path = path; type = U64 }) ≡ true)

@@ -21,8 +21,10 @@ addition_stamps from operations = map (λ o. o.0) (filter (λ o. not (is_delete 
 
 -- whether a delete with a greater stamp than the document's deletes it
 abbrev pub is_deleted_by : Schema → Analyzer → Document → ℕ → List (ℕ × Operation) → Bool
-is_deleted_by schema analyzer document stamp stamped = list_any (λ d. nat_lt stamp d.0 && deletes schema analyzer document d.1) stamped
+is_deleted_by schema analyzer document stamp stamped =
+    list_any (λ d. nat_lt stamp d.0 && deletes schema analyzer document d.1) stamped
 
 -- for each document, beside its stamp, whether no delete with a greater stamp deletes it
 abbrev pub undeleted_by : Schema → Analyzer → List ℕ → List Document → List (ℕ × Operation) → List Bool
-undeleted_by schema analyzer stamps documents stamped = map (λ d. not (is_deleted_by schema analyzer d.1 d.0 stamped)) (zip stamps documents)
+undeleted_by schema analyzer stamps documents stamped =
+    map (λ d. not (is_deleted_by schema analyzer d.1 d.0 stamped)) (zip stamps documents)

@@ -77,7 +77,8 @@ unknown_tokenizer_of known schema = position (λ e. not (known (indexing_tokeniz
 -- whether a fast text or JSON field names a fast tokenizer that is unknown
 abbrev pub has_unknown_fast_tokenizer : Known → FieldEntry → Bool
 has_unknown_fast_tokenizer known entry =
-    entry.fast && (is_text entry.kind || is_json entry.kind) && unwrap_or (option_map (λ name. not (known name)) entry.fast_tokenizer) false
+    entry.fast && (is_text entry.kind || is_json entry.kind)
+    && unwrap_or (option_map (λ name. not (known name)) entry.fast_tokenizer) false
 
 -- ---- deletes
 
@@ -115,7 +116,8 @@ schema_refusal known schema settings =
 
 -- why a delete is refused
 abbrev pub delete_refusal : Schema → List Operation → Option TantivyError
-delete_refusal schema operations = option_map (λ at. SchemaError (schema_cause.DeleteField at)) (unindexed_delete_of schema operations)
+delete_refusal schema operations = option_map (λ at. SchemaError (schema_cause.DeleteField at))
+    (unindexed_delete_of schema operations)
 
 -- why an input is refused, if it is: the first test that fails tells
 abbrev pub input_refusal : Known → Analyzer → Input → Option TantivyError
@@ -131,9 +133,11 @@ pub record FitsSegment (schema : Schema) (analyzer : Analyzer) (documents : List
   pub few : length documents < 2 ^ 31
   pub columns : is_some (columns schema analyzer documents) ≡ true
 
--- an input is valid where no test refuses it, each added document passes the check, and a segment can hold each batch and the survivors
+-- an input is valid where no test refuses it, each added document passes the check, and a segment can
+-- hold each batch and the survivors
 pub record IsValid (known : Known) (analyzer : Analyzer) (input : Input) : Type 0 where
   pub accepted : input_refusal known analyzer input ≡ None
   pub taken : AllByRecursion (λ d. document_refusal input.schema analyzer d ≡ None) (additions input.operations)
-  pub batches : AllByRecursion (λ (b : Batch). FitsSegment input.schema analyzer b.documents) (input_batches analyzer input)
+  pub batches : AllByRecursion (λ (b : Batch). FitsSegment input.schema analyzer b.documents)
+      (input_batches analyzer input)
   pub survivors : FitsSegment input.schema analyzer (input_survivors analyzer input)

@@ -1,13 +1,14 @@
 //! Laws of the definitions.
 ghost use Rattle.seg_model.specs.Laws.{TermsAnswer, NoOtherTerms, ColumnsAnswer, NoOtherColumns, MixedNumbersHaveNoColumns, BatchesPlayNoPart, PostingsGrow, ColumnsGrow, JoiningIsInvisible, JoinsGroupInOrder, JoinsHaveFullShape, ReadingsHaveFullShape, FullReadingsHaveTheReading, ValidInputsAreNotRefused};
 
-/// A term list is known by what it answers at each value bytes.
+/// A term list is known by what it answers at the bytes of each value.
 pub fn terms_are_known_by_their_answers()
     ensures answers { TermsAnswer }
     ensures only { NoOtherTerms }
 {}
 
-/// Columns are known by what they answer at each key, and there are none exactly where the numbers of a path have no type.
+/// Columns are known by what they answer at each key, and there are none exactly where the numbers of a path have no
+/// type.
 pub fn columns_are_known_by_their_answers()
     ensures answers { ColumnsAnswer }
     ensures only { NoOtherColumns }

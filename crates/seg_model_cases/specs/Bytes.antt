@@ -12,18 +12,17 @@ pub record ByteCases : Type 0 where
       (127 ∷ [])
       ∷ (172 ∷ 2 ∷ [])
       ∷ (128 ∷ 128 ∷ 1 ∷ [])
-      ∷ (replicate 9 255 ++ (1 ∷ []))
-      ∷ []
+      ∷ (replicate 9 255 ++ (1 ∷ [])) ∷ []
   -- a last byte is missing, or the number is longer than need be
   pub none : map varint_at ([] ∷ (128 ∷ []) ∷ (128 ∷ 0 ∷ []) ∷ []) ≡ None ∷ None ∷ None ∷ []
   -- of seven documents 1, 4 and 5 are alive
   pub alive : set_of (7 ∷ 0 ∷ 0 ∷ 0 ∷ 50 ∷ replicate 7 0) ≡
       Some (false ∷ true ∷ false ∷ false ∷ true ∷ true ∷ false ∷ [])
   -- of which 4 alone is alive in another set
-  pub meet : both_marked (false ∷ true ∷ false ∷ false ∷ true ∷ true ∷ false ∷ []) (replicate 4 false ++ (true ∷ false ∷ false ∷ [])) ≡
-      replicate 4 false ++ (true ∷ false ∷ false ∷ [])
+  pub meet : both_marked (false ∷ true ∷ false ∷ false ∷ true ∷ true ∷ false ∷ [])
+      (replicate 4 false ++ (true ∷ false ∷ false ∷ []))
+      ≡ replicate 4 false ++ (true ∷ false ∷ false ∷ [])
   pub names : map name_text (Meta ∷ Part (2 ^ 65 + 255) FieldNorms ∷ Alive 255 17 ∷ []) ≡
       codes "meta.json"
       ∷ codes "000000000000000200000000000000ff.fieldnorm"
-      ∷ codes "000000000000000000000000000000ff.17.del"
-      ∷ []
+      ∷ codes "000000000000000000000000000000ff.17.del" ∷ []

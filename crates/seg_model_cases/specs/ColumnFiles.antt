@@ -42,7 +42,8 @@ entry_of_foo type end = eight 8 ++ foo ++ type ∷ eight end
 
 abbrev pub three_types : List ℕ
 three_types =
-    (eight 1 ++ 42 ∷ replicate 6 0 ++ 128 ∷ []) ++ (eight 1 ++ eight 0 ++ eight 1 ++ eight 3 ++ codes "bar") ++ (eight 1 ++ eight 1)
+    (eight 1 ++ 42 ∷ replicate 6 0 ++ 128 ∷ [])
+    ++ (eight 1 ++ eight 0 ++ eight 1 ++ eight 3 ++ codes "bar") ++ (eight 1 ++ eight 1)
     ++ (eight 3 ++ entry_of_foo 0 16 ++ entry_of_foo 3 51 ++ entry_of_foo 4 67)
     ++ (eight 83 ++ four 1 ++ four 1)
 
@@ -51,8 +52,7 @@ abbrev pub of_foo : List StoredColumn
 of_foo =
     record { column = columns.I64 ((pos 42 ∷ []) ∷ []); size = 16 }
     ∷ record { column = columns.Str (record { terms = codes "bar" ∷ []; ords = (0 ∷ []) ∷ [] }); size = 35 }
-    ∷ record { column = columns.Bool ((true ∷ []) ∷ []); size = 16 }
-    ∷ []
+    ∷ record { column = columns.Bool ((true ∷ []) ∷ []); size = 16 } ∷ []
 
 abbrev pub under_foo : StoredColumn → NamedColumn
 under_foo c = record { path = foo; stored = c }

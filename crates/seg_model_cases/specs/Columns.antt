@@ -27,24 +27,30 @@ signed_n = record { path = 102 ∷ 1 ∷ 110 ∷ []; type = types.I64 }
 
 pub record ColumnCases : Type 0 where
   -- a text is one value, or one for each of its tokens
-  pub texts : map (λ e. map (values e) (said (codes "Red mug") ∷ cut (token 0 (codes "x") ∷ token 1 (codes "y") ∷ []) ∷ [])) (entry Text No ∷ tokenized ∷ []) ≡
-      ((text_value (codes "Red mug") ∷ []) ∷ (text_value (codes "x") ∷ text_value (codes "y") ∷ []) ∷ [])
-      ∷ ((text_value (codes "red") ∷ text_value (codes "mug") ∷ []) ∷ (text_value (codes "x") ∷ text_value (codes "y") ∷ []) ∷ [])
-      ∷ []
-  pub leaves : map (leaf_values analyzer None (λ nanos. nanos)) (null ∷ unsigned 5 ∷ signed (negsuc 0) ∷ boolean true ∷ date (negsuc 1) ∷ facet (codes "a") ∷ byte_string (codes "b") ∷ ip (replicate 16 9) ∷ []) ≡
-      []
-      ∷ (number (pos 5) ∷ [])
+  pub texts :
+      map (λ e. map (values e) (said (codes "Red mug") ∷ cut (token 0 (codes "x") ∷ token 1 (codes "y") ∷ []) ∷ []))
+      (entry Text No ∷ tokenized ∷ [])
+      ≡ ((text_value (codes "Red mug") ∷ []) ∷ (text_value (codes "x") ∷ text_value (codes "y") ∷ []) ∷ [])
+      ∷ ((text_value (codes "red") ∷ text_value (codes "mug") ∷ [])
+      ∷ (text_value (codes "x") ∷ text_value (codes "y") ∷ []) ∷ []) ∷ []
+  pub leaves : map (leaf_values analyzer None (λ nanos. nanos)) (null ∷ unsigned 5 ∷ signed (negsuc 0) ∷ boolean true
+      ∷ date (negsuc 1) ∷ facet (codes "a") ∷ byte_string (codes "b") ∷ ip (replicate 16 9) ∷ [])
+      ≡ [] ∷ (number (pos 5) ∷ [])
       ∷ (number (negsuc 0) ∷ [])
       ∷ (boolean_value true ∷ [])
       ∷ (date_value (negsuc 1) ∷ [])
       ∷ (text_value (codes "a") ∷ [])
       ∷ (bytes_value (codes "b") ∷ [])
-      ∷ (ip_value (replicate 16 9) ∷ [])
-      ∷ []
+      ∷ (ip_value (replicate 16 9) ∷ []) ∷ []
   -- a moment is cut at the precision, toward 1970
-  pub precisions : map (λ precision. values (record (entry Date No) { precision = precision }) (leaf (date (negsuc 1234567890)))) (Seconds ∷ Milliseconds ∷ Microseconds ∷ Nanoseconds ∷ []) ≡
-      (date_value (negsuc 999999999) ∷ []) ∷ (date_value (negsuc 1233999999) ∷ []) ∷ (date_value (negsuc 1234566999) ∷ []) ∷ (date_value (negsuc 1234567890) ∷ []) ∷ []
+  pub precisions :
+      map (λ precision. values (record (entry Date No) { precision = precision }) (leaf (date (negsuc 1234567890))))
+      (Seconds ∷ Milliseconds ∷ Microseconds ∷ Nanoseconds ∷ [])
+      ≡ (date_value (negsuc 999999999) ∷ []) ∷ (date_value (negsuc 1233999999) ∷ [])
+      ∷ (date_value (negsuc 1234566999) ∷ []) ∷ (date_value (negsuc 1234567890) ∷ []) ∷ []
   -- the root of facets is a value without bytes
   pub root : values (entry Facet Basic) (leaf (facet [])) ≡ text_value [] ∷ []
   -- -1 and 7 are in one column
-  pub numbers : column_at (declared_columns (only Json No)) signed_n (recorded_values (only Json No) analyzer small_numbers signed_n) ≡ Some ((number (negsuc 0) ∷ []) ∷ (number (pos 7) ∷ []) ∷ [])
+  pub numbers : column_at (declared_columns (only Json No)) signed_n
+      (recorded_values (only Json No) analyzer small_numbers signed_n)
+      ≡ Some ((number (negsuc 0) ∷ []) ∷ (number (pos 7) ∷ []) ∷ [])

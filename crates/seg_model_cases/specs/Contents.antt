@@ -17,14 +17,23 @@ documents = one (said (codes "a b a")) ∷ one (said (codes "b")) ∷ []
 
 -- their terms, where `a` occurs this often in the first
 abbrev pub term_entries : ℕ → List (List ℕ × List Posting)
-term_entries often = (codes "a", posting 0 (frequency often) ∷ []) ∷ (codes "b", posting 0 (frequency 1) ∷ posting 1 (frequency 1) ∷ []) ∷ []
+term_entries often = (codes "a", posting 0 (frequency often) ∷ [])
+    ∷ (codes "b", posting 0 (frequency 1) ∷ posting 1 (frequency 1) ∷ []) ∷ []
 
 abbrev pub column_entries : List (ColumnKey × List (List ColumnValue))
-column_entries = (record { path = codes "f"; type = Str }, (text_value (codes "a b a") ∷ []) ∷ (text_value (codes "b") ∷ []) ∷ []) ∷ []
+column_entries =
+    (record { path = codes "f"; type = Str }, (text_value (codes "a b a") ∷ []) ∷ (text_value (codes "b") ∷ []) ∷ [])
+    ∷ []
 
 -- contents of them, but for how often `a` occurs, the length of the first, and what is stored
 abbrev pub contents : ℕ → ℕ → List Document → Contents
-contents often length stored = record { documents = 2; terms = from_sorted (term_entries often) ∷ []; stored = stored; norms = (length ∷ 1 ∷ []) ∷ []; columns = from_sorted column_entries }
+contents often length stored = record {
+  documents = 2;
+  terms = from_sorted (term_entries often) ∷ [];
+  stored = stored;
+  norms = (length ∷ 1 ∷ []) ∷ [];
+  columns = from_sorted column_entries;
+}
 
 pub record ContentsCases : Type 0 where
   pub told : IsSelfTold (only Text Freqs) analyzer (contents 2 3 documents)

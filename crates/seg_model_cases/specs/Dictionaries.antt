@@ -45,14 +45,22 @@ abbrev pub standing : ℕ → ℕ → ℕ → Standing ℕ
 standing segment ord info = record { segment = segment; ord = ord; info = info }
 
 pub record DictionaryCases : Type 0 where
-  pub ordinals : map (term_ord terms) (codes "a" ∷ codes "ab" ∷ codes "b" ∷ codes "aa" ∷ []) ≡ Some 0 ∷ Some 1 ∷ Some 2 ∷ None ∷ []
+  pub ordinals : map (term_ord terms) (codes "a" ∷ codes "ab" ∷ codes "b" ∷ codes "aa" ∷ [])
+      ≡ Some 0 ∷ Some 1 ∷ Some 2 ∷ None ∷ []
   pub infos : map (info_at terms) (1 ∷ 3 ∷ []) ≡ Some 8 ∷ None ∷ []
-  pub all : streamed all_terms_range terms ≡ ranked 0 (codes "a") 7 ∷ ranked 1 (codes "ab") 8 ∷ ranked 2 (codes "b") 9 ∷ []
-  pub bounds : map given (range (Included (codes "a")) (Excluded (codes "b")) ∷ range (Excluded (codes "a")) (Included (codes "b")) ∷ range (Included (codes "aa")) Unbounded ∷ range Unbounded (Excluded (codes "a")) ∷ []) ≡ (0 ∷ 1 ∷ []) ∷ (1 ∷ 2 ∷ []) ∷ (1 ∷ 2 ∷ []) ∷ [] ∷ []
+  pub all : streamed all_terms_range terms
+      ≡ ranked 0 (codes "a") 7 ∷ ranked 1 (codes "ab") 8 ∷ ranked 2 (codes "b") 9 ∷ []
+  pub bounds : map given (range (Included (codes "a")) (Excluded (codes "b"))
+      ∷ range (Excluded (codes "a")) (Included (codes "b"))
+      ∷ range (Included (codes "aa")) Unbounded ∷ range Unbounded (Excluded (codes "a")) ∷ [])
+      ≡ (0 ∷ 1 ∷ []) ∷ (1 ∷ 2 ∷ []) ∷ (1 ∷ 2 ∷ []) ∷ [] ∷ []
   pub backward : given (record (range (Excluded (codes "a")) Unbounded) { backward = true }) ≡ 2 ∷ 1 ∷ []
   -- forward, backward, and between bounds that are reversed
-  pub between : map words_in (from_b_to_d ∷ record from_b_to_d { backward = true } ∷ range (Included (codes "d")) (Excluded (codes "b")) ∷ []) ≡
-      (1 ∷ 2 ∷ []) ∷ (2 ∷ 1 ∷ []) ∷ [] ∷ []
+  pub between : map words_in
+      (from_b_to_d ∷ record from_b_to_d { backward = true } ∷ range (Included (codes "d")) (Excluded (codes "b")) ∷ [])
+      ≡ (1 ∷ 2 ∷ []) ∷ (2 ∷ 1 ∷ []) ∷ [] ∷ []
   -- of the keys of one byte
-  pub accepted : map (λ (t : RankedTerm ℕ). t.ord) (searched all_terms_range (λ key. nat_lt (length key) 2) terms) ≡ 0 ∷ 2 ∷ []
-  pub merged : map (get (merged_terms segments)) (codes "a" ∷ codes "b" ∷ codes "c" ∷ []) ≡ Some (standing 1 0 6 ∷ []) ∷ Some (standing 0 0 5 ∷ standing 1 1 7 ∷ []) ∷ None ∷ []
+  pub accepted : map (λ (t : RankedTerm ℕ). t.ord) (searched all_terms_range (λ key. nat_lt (length key) 2) terms)
+      ≡ 0 ∷ 2 ∷ []
+  pub merged : map (get (merged_terms segments)) (codes "a" ∷ codes "b" ∷ codes "c" ∷ [])
+      ≡ Some (standing 1 0 6 ∷ []) ∷ Some (standing 0 0 5 ∷ standing 1 1 7 ∷ []) ∷ None ∷ []

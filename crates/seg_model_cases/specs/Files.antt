@@ -17,7 +17,8 @@ disk = record { stable = file (1 ∷ []); pending = record { name = 0; written =
 
 pub record DiskCases : Type 0 where
   -- the state of a name is its safe one or its pending one
-  pub changed : map (may_hold disk 0) (None ∷ Some (1 ∷ []) ∷ Some (2 ∷ []) ∷ Some (3 ∷ []) ∷ []) ≡ false ∷ true ∷ true ∷ false ∷ []
+  pub changed : map (may_hold disk 0) (None ∷ Some (1 ∷ []) ∷ Some (2 ∷ []) ∷ Some (3 ∷ []) ∷ [])
+      ≡ false ∷ true ∷ true ∷ false ∷ []
   pub unchanged : map (may_hold disk 1) (None ∷ Some (2 ∷ []) ∷ []) ≡ true ∷ false ∷ []
   -- a change that was cut off leaves any bytes, and a file
   pub cut_off : map (may_hold (with_change disk 1 torn) 1) (None ∷ Some (3 ∷ []) ∷ []) ≡ true ∷ true ∷ []
@@ -43,7 +44,7 @@ segments_of (b ∷ c ∷ bytes) = segment (Some (record { number = 1; stamp = 3 
 abbrev pub meta : List ℕ → Meta
 meta bytes = record { settings = settings; schema = []; stamp = 0; payload = None; segments = segments_of bytes }
 
--- the file 0 is the meta, whose number of bytes tells its segments; each id holds three documents, of which the last is dead
+-- the file 0 is the meta, whose number of bytes tells its segments; each id holds three documents, the last one dead
 abbrev pub forms : Forms nat_cmp
 forms = record {
   meta_name = 0;
@@ -62,5 +63,6 @@ pub record OpeningCases : Type 0 where
   -- the whole has no deletes
   pub with_deletes : ¬ OpensAsWhole forms (file (1 ∷ 2 ∷ [])) settings [] three
   -- a segment's deletes are as many as its alive file has dead documents
-  pub whole_segments : IsWhole forms empty [] (segment None) × IsWhole forms empty [] (segment (Some (record { number = 1; stamp = 3 })))
+  pub whole_segments : IsWhole forms empty [] (segment None)
+      × IsWhole forms empty [] (segment (Some (record { number = 1; stamp = 3 })))
   pub other_number : ¬ IsWhole forms empty [] (segment (Some (record { number = 2; stamp = 3 })))

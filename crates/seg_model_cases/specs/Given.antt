@@ -17,7 +17,18 @@ analyzer name s = default_tokens s
 
 -- a field `f` that is stored and fast, with lengths where it is indexed
 abbrev pub entry : FieldKind → IndexOption → FieldEntry
-entry kind index = record { name = codes "f"; kind = kind; stored = true; index = index; tokenizer = None; norms = true; fast = true; fast_tokenizer = None; precision = Seconds; expand_dots = false }
+entry kind index = record {
+  name = codes "f";
+  kind = kind;
+  stored = true;
+  index = index;
+  tokenizer = None;
+  norms = true;
+  fast = true;
+  fast_tokenizer = None;
+  precision = Seconds;
+  expand_dots = false;
+}
 
 -- a schema of this field alone
 abbrev pub only : FieldKind → IndexOption → Schema
@@ -55,4 +66,5 @@ posting document recorded = record { document = document; recorded = recorded }
 
 -- the postings of a term of the only field in one document
 abbrev pub recorded_of : FieldKind → IndexOption → Tree → List ℕ → List Posting
-recorded_of kind index value term = postings_of (entry kind index) term (occurrences (only kind index) analyzer (one value) 0 ∷ [])
+recorded_of kind index value term = postings_of (entry kind index) term
+    (occurrences (only kind index) analyzer (one value) 0 ∷ [])

@@ -78,8 +78,7 @@ pub record PostingsCases : Type 0 where
   pub terms_read : terms_of dictionary ≡ terms
   pub postings_read : map (read_term postings places) terms ≡
       record { bytes = codes "a"; info = info 2 0 5 0 3; kind = Positions; postings = of_a }
-      ∷ record { bytes = codes "b"; info = info 1 5 8 3 4; kind = Positions; postings = of_b }
-      ∷ []
+      ∷ record { bytes = codes "b"; info = info 1 5 8 3 4; kind = Positions; postings = of_b } ∷ []
   -- each is a term of the field
   pub taken : list_all (is_read rules postings places) terms ≡ true
   -- not so in a segment of two documents, nor where no positions are asked for
@@ -101,4 +100,6 @@ pub record PostingsCases : Type 0 where
   -- three paths and types
   pub spaces : map (λ (t : Term). path_and_type t.0) (terms_of json_dictionary) ≡
       (97 ∷ 0 ∷ 105 ∷ []) ∷ (97 ∷ 0 ∷ 115 ∷ []) ∷ (97 ∷ 0 ∷ 115 ∷ []) ∷ (98 ∷ 0 ∷ 115 ∷ []) ∷ []
-  pub json_taken : list_all (is_read (record rules { kind = Json }) json_postings json_places) (terms_of json_dictionary) ≡ true
+  pub json_taken : list_all (is_read (record rules { kind = Json }) json_postings json_places)
+      (terms_of json_dictionary)
+      ≡ true

@@ -13,7 +13,7 @@ use Rattle.seg_model_cases.specs.Given.{one}
 abbrev pub document : List ℕ
 document = 1 ∷ 0 ∷ 3 ∷ eight 7
 
--- a store of one block with this document: the block, where it ends, how many blocks and documents there are, and a byte 0
+-- a store of one block with this document: the block, where it ends, how many blocks and documents there are, a byte 0
 abbrev pub store : List ℕ
 store = (document ++ eight 11 ++ four 1) ++ (four 1 ++ eight 23) ++ (four 1 ++ four 1 ++ 0 ∷ [])
 
@@ -40,11 +40,12 @@ pub record StoreCases : Type 0 where
   pub cut_off : store_of (take 43 store) ≡ None
   pub compressed : store_of (take 43 store ++ 1 ∷ []) ≡ None
   -- a document that fills its block closes it
-  pub closes : map (λ size. (with_document document (empty_writer size)).closed) (0 ∷ 11 ∷ 12 ∷ []) ≡ blocks ∷ blocks ∷ [] ∷ []
+  pub closes : map (λ size. (with_document document (empty_writer size)).closed) (0 ∷ 11 ∷ 12 ∷ [])
+      ≡ blocks ∷ blocks ∷ [] ∷ []
   -- six times, a block each
   pub six : length (all_blocks (stacked 6 (empty_writer 16384))) ≡ 6
   -- the second of three documents is alive
   pub alive : alive_behind {X = ℕ} 0 (Some (false ∷ true ∷ false ∷ [])) (1 ∷ 2 ∷ 3 ∷ []) ≡ 2 ∷ []
-  -- of the documents 0, 1, 0 and 2 the third is in a block that is kept, and the last in place of the one used longest ago
+  -- of the documents 0, 1, 0 and 2 the third is in a block that is kept, the last in place of the one used longest ago
   pub used : after_get 2 (after_get 0 (after_get 1 (after_get 0 cached))) ≡
       record cached { entries = 2 ∷ 0 ∷ []; hits = 1; misses = 3 }

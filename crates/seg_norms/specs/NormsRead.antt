@@ -29,8 +29,10 @@ HaveIds parts = AllByRecursion (λ p. AreIds p.1) parts
 -- ids for each field of a schema: one for each document where it has lengths, else none
 pub record AreNorms (schema : Schema) (documents : ℕ) (norms : List (List ℕ)) : Type 0 where
   pub per_field : length norms ≡ length schema
-  pub norms_are : (field : ℕ) (entry : FieldEntry) → slice_get schema field ≡ Some entry → has_lengths entry ≡ true → (length (slice_index_or norms field []) ≡ documents) × AreIds (slice_index_or norms field [])
-  pub no_norms : (field : ℕ) (entry : FieldEntry) → slice_get schema field ≡ Some entry → has_lengths entry ≡ false → slice_index_or norms field [] ≡ []
+  pub norms_are : (field : ℕ) (entry : FieldEntry) → slice_get schema field ≡ Some entry → has_lengths entry ≡ true
+      → (length (slice_index_or norms field []) ≡ documents) × AreIds (slice_index_or norms field [])
+  pub no_norms : (field : ℕ) (entry : FieldEntry) → slice_get schema field ≡ Some entry → has_lengths entry ≡ false
+      → slice_index_or norms field [] ≡ []
 
 -- the parts of a file are those of such ids, and each field has the ids of its part
 pub record HoldNorms (schema : Schema) (documents : ℕ) (parts : List Part) (norms : List (List ℕ)) : Type 0 where

@@ -1,4 +1,5 @@
-//! Ids of lengths: how many tokens a document has in a field is kept in one byte, exactly up to 40 and then to an eighth.
+//! Ids of lengths: how many tokens a document has in a field is kept in one byte, exactly up to 40 and then to an
+//! eighth.
 ghost use Rattle.std.specs.Prelude.{◌≡◌};
 ghost use Rattle.seg_model.specs.Norms as norms;
 

@@ -10,8 +10,8 @@ use seg_directory::CompositeFile;
 use seg_values::{Field, FieldEntry, PostingsError, Schema};
 use std::marker::Model;
 
-/// The length ids of the fields of a segment that have lengths, in the bytes of their file: a composite file with a part
-/// for each of these fields.
+/// The length ids of the fields of a segment that have lengths, in the bytes of their file: a composite file with a
+/// part for each of these fields.
 #[derive(Drop)]
 pub struct FieldNormReaders {
     parts: CompositeFile,
@@ -42,7 +42,7 @@ impl FieldNormReaders {
         }
     }
 
-    /// The same ids once more, of the same bytes; this takes no memory.
+    /// The same ids again, over the same bytes; this takes no memory.
     pub fn share(&self) -> FieldNormReaders
         ensures { result ≡ self.now }
     {
@@ -65,7 +65,8 @@ impl FieldNormReaders {
     /// document below `max_doc`.
     pub fn fit(&self, schema: &Schema, max_doc: u32) -> bool
         ensures fits { IsTrue result → HoldNorms schema.now max_doc self.now (norms_of schema.now self.now) }
-        ensures differs { IsFalse result → (norms : List (List ℕ)) → AreNorms schema.now max_doc norms → self.now ≢ norms_parts schema.now norms }
+        ensures differs { IsFalse result → (norms : List (List ℕ)) → AreNorms schema.now max_doc norms
+            → self.now ≢ norms_parts schema.now norms }
         ensures exact { MatchBool result
             (lengths_of_parts self.now ≡ lengths_for schema.now max_doc)
             (lengths_of_parts self.now ≢ lengths_for schema.now max_doc) }

@@ -49,7 +49,8 @@ impl FieldNormsWriter {
 
     /// Records the length of a document in a field that has lengths. Documents in between have length 0.
     pub fn record(&mut self, doc: u32, field: Field, length: u32) -> Result<(), PostingsError>
-        requires field { IfSome self.old (λ fs. (ids : List ℕ) × (slice_get fs field ≡ Some (Some ids)) × (Rattle.std.specs.Prelude.length ids ≤ doc)) }
+        requires field { IfSome self.old (λ fs. (ids : List ℕ) × (slice_get fs field ≡ Some (Some ids))
+            × (Rattle.std.specs.Prelude.length ids ≤ doc)) }
         ensures ok { OnOk result (HasGrown self.old self.new (at_field field (with_length doc length))) }
         ensures err { IfErr result (λ e. (e ≡ PostingsError.OutOfMemory) × (self.new ≡ None)) }
     {
@@ -80,7 +81,8 @@ impl FieldNormsWriter {
 
     /// The ids of a field; none where it has no lengths, and none at all once out of memory.
     pub fn ids(&self, field: Field) -> Option<&[u8]>
-        ensures { option_map (λ ids. ids.now) result ≡ option_and_then (λ fs. option_and_then (λ f. f) (slice_get fs field)) self.now }
+        ensures { option_map (λ ids. ids.now) result
+            ≡ option_and_then (λ fs. option_and_then (λ f. f) (slice_get fs field)) self.now }
     {
         let ids = self
             .fields

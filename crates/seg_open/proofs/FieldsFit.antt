@@ -1,4 +1,4 @@
--- The fields of parts that are gone through along those of a schema, place by place.
+-- The fields of parts that are walked along those of a schema, place by place.
 use Rattle.std.proofs.Common.{◌≡◌, ℕ, ◌+◌, ◌<◌, List, [], ◌∷◌, ◌++◌, length, sym, ap, ◌∙◌, drop, get_or, Bool, true, false}
 use Rattle.std.proofs.lemmas.List.{drop_more}
 use Rattle.std.specs.Prelude.{if◌then◌else◌}

@@ -25,14 +25,18 @@ read_before FieldNorms = Terms ∷ Store ∷ Postings ∷ Positions ∷ FastFiel
 abbrev pub up_to : SegmentComponent → List SegmentComponent
 up_to component = read_before component ++ component ∷ []
 
--- the files up to and with that of a component can't be completed: whatever the others are, they spell no contents of this many documents
+-- the files up to and including that of a component can't be completed: whatever the others are, they
+-- spell no contents of this many documents
 abbrev pub Disagree : Schema → ℕ → SegmentFiles → SegmentComponent → Type 0
 Disagree schema documents files component =
-    (completed : SegmentFiles) (contents : Contents) → AllByRecursion (λ c. bytes_of completed c ≡ bytes_of files c) (up_to component)
+    (completed : SegmentFiles) (contents : Contents)
+    → AllByRecursion (λ c. bytes_of completed c ≡ bytes_of files c) (up_to component)
     → Spell schema completed contents → contents.documents ≡ documents → ⊥
 
--- the file of a component is the first that is wrong, by itself or with those before it: each of these is sound, and they can't be completed
-pub record IsFirstWrong (schema : Schema) (documents : ℕ) (files : SegmentFiles) (component : SegmentComponent) : Type 0 where
+-- the file of a component is the first that is wrong, by itself or with those before it: each of these
+-- is sound, and they can't be completed
+pub record IsFirstWrong (schema : Schema) (documents : ℕ) (files : SegmentFiles)
+    (component : SegmentComponent) : Type 0 where
   pub disagree : Disagree schema documents files component
   pub first : AllByRecursion (IsSound schema documents files) (read_before component)
 

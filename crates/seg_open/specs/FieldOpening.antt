@@ -10,14 +10,16 @@ use Rattle.seg_postings.specs.FieldReading.{OpenField, IsFieldBy, dictionary_ter
 use Rattle.seg_segment.specs.HoldTerms.{HoldsField}
 
 -- the parts of a field in three composite files are these terms
-pub record IsOpened (entry : FieldEntry) (field documents : ℕ) (terms postings positions : List Part) (opened : OpenField) : Type 0 where
+pub record IsOpened (entry : FieldEntry) (field documents : ℕ) (terms postings positions : List Part)
+    (opened : OpenField) : Type 0 where
   pub dictionary : List ℕ
   pub postings_part : List ℕ
   pub positions_part : List ℕ
   pub in_terms : field_of terms field ≡ Some dictionary
   pub in_postings : field_of postings field ≡ Some postings_part
   pub in_positions : field_of positions field ≡ Some positions_part
-  pub by : IsFieldBy (rules_of entry documents) dictionary postings_part positions_part opened.total (written_terms opened)
+  pub by : IsFieldBy (rules_of entry documents)
+      dictionary postings_part positions_part opened.total (written_terms opened)
   pub infos : dictionary_terms opened ≡ terms_of dictionary
 
 -- the parts of a field hold terms in this many documents

@@ -30,21 +30,25 @@ pub record IsFirst (entry : FieldEntry) (field documents : ℕ) (parts : List Pa
 -- it is where the field is indexed, and none stands for it elsewhere
 abbrev pub IsFirstAt : FieldEntry → ℕ → ℕ → List Part → Option FirstPart → Type 0
 IsFirstAt entry field documents parts None = is_indexed entry ≡ false
-IsFirstAt entry field documents parts (Some first) = (is_indexed entry ≡ true) × IsFirst entry field documents parts first
+IsFirstAt entry field documents parts (Some first) = (is_indexed entry ≡ true)
+    × IsFirst entry field documents parts first
 
 -- so is each of the first fields of a schema
 abbrev pub EachIsFirst : Schema → ℕ → List Part → List (Option FirstPart) → Type 0
 EachIsFirst schema documents parts fields =
-    (field : ℕ) (entry : FieldEntry) (first : Option FirstPart) → slice_get schema field ≡ Some entry → slice_get fields field ≡ Some first → IsFirstAt entry field documents parts first
+    (field : ℕ) (entry : FieldEntry) (first : Option FirstPart) → slice_get schema field ≡ Some entry
+    → slice_get fields field ≡ Some first → IsFirstAt entry field documents parts first
 
 -- one place for each field of a schema, with its dictionary where it is indexed
-pub record AreFirst (schema : Schema) (documents : ℕ) (parts : List Part) (fields : List (Option FirstPart)) : Type 0 where
+pub record AreFirst (schema : Schema) (documents : ℕ) (parts : List Part)
+    (fields : List (Option FirstPart)) : Type 0 where
   pub per_field : length fields ≡ length schema
   pub each : EachIsFirst schema documents parts fields
 
 -- the part of a field, if there is one, is no dictionary of its terms
 abbrev pub LacksDictionary : FieldEntry → List Part → ℕ → Type 0
-LacksDictionary entry parts field = (bytes : List ℕ) → field_of parts field ≡ Some bytes → IsDictionaryOf entry.kind bytes → ⊥
+LacksDictionary entry parts field = (bytes : List ℕ) → field_of parts field ≡ Some bytes
+    → IsDictionaryOf entry.kind bytes → ⊥
 
 -- a field of a schema that is indexed lacks its dictionary
 pub record OneLacksDictionary (schema : Schema) (parts : List Part) : Type 0 where
@@ -55,7 +59,8 @@ pub record OneLacksDictionary (schema : Schema) (parts : List Part) : Type 0 whe
   pub lacks : LacksDictionary entry parts field
 
 -- bytes are opened as the file of terms
-pub record TermsOpened (schema : Schema) (documents : ℕ) (bytes : List ℕ) (fields : List (Option FirstPart)) : Type 0 where
+pub record TermsOpened (schema : Schema) (documents : ℕ) (bytes : List ℕ)
+    (fields : List (Option FirstPart)) : Type 0 where
   pub parts : List Part
   pub file : HaveIndexedParts schema bytes parts
   pub are : AreFirst schema documents parts fields
@@ -74,9 +79,11 @@ GoesOn Adds (Some x) None = ⊥
 GoesOn Adds (Some x) (Some y) = Adds x y
 
 -- so has each place
-pub record AllGoOn {X Y : Type 0} (Adds : ℕ → X → Y → Type 0) (before : List (Option X)) (after : List (Option Y)) : Type 0 where
+pub record AllGoOn {X Y : Type 0} (Adds : ℕ → X → Y → Type 0) (before : List (Option X))
+    (after : List (Option Y)) : Type 0 where
   pub per_field : length after ≡ length before
-  pub each : (field : ℕ) (x : Option X) (y : Option Y) → slice_get before field ≡ Some x → slice_get after field ≡ Some y → GoesOn (Adds field) x y
+  pub each : (field : ℕ) (x : Option X) (y : Option Y) → slice_get before field ≡ Some x
+      → slice_get after field ≡ Some y → GoesOn (Adds field) x y
 
 -- with the value of one place nothing goes
 pub record OneStops {X : Type 0} (Lacks : ℕ → X → Type 0) (fields : List (Option X)) : Type 0 where
@@ -95,17 +102,20 @@ pub record AddsPostings (parts : List Part) (field : ℕ) (first : FirstPart) (b
 
 -- the part of a field, if there is one, is completed by no positions
 abbrev pub LacksPostings : List Part → ℕ → FirstPart → Type 0
-LacksPostings parts field first = (bytes : List ℕ) → field_of parts field ≡ Some bytes → NoneComplete first.rules first.dictionary bytes
+LacksPostings parts field first = (bytes : List ℕ) → field_of parts field ≡ Some bytes
+    → NoneComplete first.rules first.dictionary bytes
 
 -- bytes are opened as the file of postings
-pub record PostingsOpened (schema : Schema) (bytes : List ℕ) (before : List (Option FirstPart)) (after : List (Option FirstParts)) : Type 0 where
+pub record PostingsOpened (schema : Schema) (bytes : List ℕ) (before : List (Option FirstPart))
+    (after : List (Option FirstParts)) : Type 0 where
   pub parts : List Part
   pub file : HaveIndexedParts schema bytes parts
   pub all : AllGoOn (AddsPostings parts) before after
 
 -- why not
 abbrev pub PostingsUnopened : Schema → List ℕ → List (Option FirstPart) → Type 0
-PostingsUnopened schema bytes before = (parts : List Part) → HaveIndexedParts schema bytes parts → OneStops (LacksPostings parts) before
+PostingsUnopened schema bytes before = (parts : List Part) → HaveIndexedParts schema bytes parts
+    → OneStops (LacksPostings parts) before
 
 -- ---- positions
 
@@ -119,14 +129,17 @@ pub record AddsPositions (parts : List Part) (field : ℕ) (both : FirstParts) (
 -- the part of a field, if there is one, completes it to none
 abbrev pub LacksPositions : List Part → ℕ → FirstParts → Type 0
 LacksPositions parts field both =
-    (bytes : List ℕ) (total : ℕ) (terms : List TermWritten) → field_of parts field ≡ Some bytes → IsFieldBy both.rules both.dictionary both.postings bytes total terms → ⊥
+    (bytes : List ℕ) (total : ℕ) (terms : List TermWritten) → field_of parts field ≡ Some bytes
+    → IsFieldBy both.rules both.dictionary both.postings bytes total terms → ⊥
 
 -- bytes are opened as the file of positions
-pub record PositionsOpened (schema : Schema) (bytes : List ℕ) (before : List (Option FirstParts)) (after : List (Option OpenField)) : Type 0 where
+pub record PositionsOpened (schema : Schema) (bytes : List ℕ) (before : List (Option FirstParts))
+    (after : List (Option OpenField)) : Type 0 where
   pub parts : List Part
   pub file : HaveIndexedParts schema bytes parts
   pub all : AllGoOn (AddsPositions parts) before after
 
 -- why not
 abbrev pub PositionsUnopened : Schema → List ℕ → List (Option FirstParts) → Type 0
-PositionsUnopened schema bytes before = (parts : List Part) → HaveIndexedParts schema bytes parts → OneStops (LacksPositions parts) before
+PositionsUnopened schema bytes before = (parts : List Part) → HaveIndexedParts schema bytes parts
+    → OneStops (LacksPositions parts) before

@@ -17,7 +17,9 @@ use Rattle.seg_postings.specs.HeldTerms.{terms_held}
 use Rattle.seg_norms.specs.NormsRead.{norms_of}
 use Rattle.seg_open.specs.declared.file_sizes.FileSizes.{FileSizes}
 
--- the id, the schema and the number of documents; for each field its terms, where it is indexed; the blocks of the store; the parts of the file of length ids; the columns as their file has them; for each document whether it is alive; the stamp up to which deletes count, where there are some; and the sizes of the six files
+-- the id, the schema and the number of documents; for each field its terms, where it is indexed; the blocks of the
+-- store; the parts of the file of length ids; the columns as their file has them; for each document whether it is
+-- alive; the stamp up to which deletes count, where there are some; and the sizes of the six files
 pub record OpenSegment : Type 0 where
   pub id : ℕ
   pub schema : Schema
@@ -66,7 +68,7 @@ abbrev pub alive_of : ℕ → Option (List Bool) → List Bool
 alive_of documents None = replicate documents true
 alive_of documents (Some set) = set
 
--- where there is a set it says of each of this many documents whether it is alive, and one is not
+-- where there is a set it says for each of this many documents whether it is alive, and one is not
 abbrev pub LacksSome : ℕ → Option (List Bool) → Type 0
 LacksSome documents None = Unit {0}
 LacksSome documents (Some set) = (length set ≡ documents) × Contains set false

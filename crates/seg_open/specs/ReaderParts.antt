@@ -11,7 +11,8 @@ abbrev pub IsIndexOf : Option (Option OpenField) → OpenField → Type 0
 IsIndexOf (Some (Some opened)) answered = answered ≡ opened
 IsIndexOf _ answered = (answered.terms ≡ []) × (answered.total ≡ 0)
 
--- the number of documents that are alive, the sizes of the files, and that of the set of these documents in memory, where one is missing from it
+-- the number of documents that are alive, the sizes of the files, and that of the set of these documents in
+-- memory, where one is missing from it
 pub record IsSpaceOf (s : OpenSegment) (usage : SegmentSpaceUsage) : Type 0 where
   pub num_docs : usage.num_docs ≡ member_count s.alive
   pub termdict : usage.termdict.0 ≡ s.sizes.terms

@@ -36,8 +36,10 @@ abbrev pub error_of : ℕ → OpenError → TantivyError
 error_of id (open_error.Damaged component) = DataCorruption (Part id component)
 error_of id open_error.OutOfMemory = OutOfMemory
 
--- an error tells that the file of a component is damaged: whatever those after it are, the files spell no contents of this many documents; and each before it is sound
-pub record IsDamageOf (id : ℕ) (schema : Schema) (documents : ℕ) (files : SegmentFiles) (e : TantivyError) : Type 0 where
+-- an error tells that the file of a component is damaged: whatever those after it are, the files spell no contents of
+-- this many documents; and each before it is sound
+pub record IsDamageOf (id : ℕ) (schema : Schema) (documents : ℕ) (files : SegmentFiles)
+    (e : TantivyError) : Type 0 where
   pub component : SegmentComponent
   pub told : e ≡ DataCorruption (Part id component)
   pub disagree : Disagree schema documents files component
@@ -113,7 +115,8 @@ IsFound s found = IfSome found.refusal (IsDamageOf s.meta.id s.schema s.meta.doc
 -- the total of each open field is that which the file of postings tells
 abbrev pub HaveTotals : List (Option OpenField) → List ℕ → Type 0
 HaveTotals fields postings =
-    (field : ℕ) (opened : OpenField) → slice_get fields field ≡ Some (Some opened) → token_total postings field ≡ Some opened.total
+    (field : ℕ) (opened : OpenField) → slice_get fields field ≡ Some (Some opened)
+    → token_total postings field ≡ Some opened.total
 
 -- the infos of each open field are those which the file of terms has of it
 abbrev pub HaveInfos : List (Option OpenField) → List ℕ → Type 0

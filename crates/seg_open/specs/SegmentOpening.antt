@@ -13,7 +13,8 @@ use Rattle.seg_open.specs.OpenSegment.{OpenSegment}
 use Rattle.seg_segment.specs.declared.segment_files.SegmentFiles.{SegmentFiles}
 
 -- three files have a part for each field that is indexed, and each of these is open
-pub record TermsAreOpen (schema : Schema) (documents : ℕ) (terms postings positions : List ℕ) (fields : List (Option OpenField)) : Type 0 where
+pub record TermsAreOpen (schema : Schema) (documents : ℕ) (terms postings positions : List ℕ)
+    (fields : List (Option OpenField)) : Type 0 where
   pub term_parts : List Part
   pub posting_parts : List Part
   pub position_parts : List Part

@@ -61,7 +61,7 @@ fn read_alive_file<W: Directory>(
     }
 }
 
-/// The set that bytes have, where it says of this many documents which are alive, and as many are not as there are
+/// The set that bytes have, where it says which of this many documents are alive, and as many are not as there are
 /// deletes.
 fn agreeing_set(bytes: OwnedBytes, max_doc: u32, deletes: DeleteMeta) -> Option<AliveBitSet>
     ensures { result ≡ alive_in max_doc (deletes_of deletes) bytes }
@@ -85,7 +85,7 @@ pub(crate) fn num_deleted(alive: &AliveBitSet) -> u32
     alive.bitset().max_value() - alive.num_alive_docs() as u32
 }
 
-/// Which of the documents that are alive are asked for; none where that are all.
+/// Which of the documents that are alive are asked for; none where those are all.
 pub(crate) fn cut_by(
     alloc: Global,
     alive: Option<AliveBitSet>,

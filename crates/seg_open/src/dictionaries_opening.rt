@@ -77,7 +77,8 @@ fn open_entry(
 ) -> Result<Option<FieldTerms>, OpenError>
     requires few { place < 2 ^ 32 - 1 }
     ensures ok { IfOk result (IsFirstAt entry.now place max_doc parts.now) }
-    ensures err { IfErr result (IsTold SegmentComponent.Terms ((is_indexed entry.now ≡ true) × LacksDictionary entry.now parts.now place)) }
+    ensures err { IfErr result
+        (IsTold SegmentComponent.Terms ((is_indexed entry.now ≡ true) × LacksDictionary entry.now parts.now place)) }
 {
     if !entry.is_indexed() {
         return Ok(None);

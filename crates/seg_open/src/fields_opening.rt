@@ -19,7 +19,8 @@ pub(crate) fn open_fields(
 ) -> Result<Vec<Option<Shared<InvertedIndexReader>>>, OpenError>
     requires few { length fields.items < 2 ^ 32 - 1 }
     ensures ok { IfOk result (λ opened. PositionsOpened schema.now positions fields.items opened.items) }
-    ensures err { IfErr result (IsTold SegmentComponent.Positions (PositionsUnopened schema.now positions fields.items)) }
+    ensures err { IfErr result
+        (IsTold SegmentComponent.Positions (PositionsUnopened schema.now positions fields.items)) }
 {
     let Some(parts) = open_parts(positions, schema) else {
         return Err(OpenError::Damaged(SegmentComponent::Positions));
@@ -59,7 +60,8 @@ fn field_at(
 ) -> Result<Option<Shared<InvertedIndexReader>>, OpenError>
     requires few { place < 2 ^ 32 - 1 }
     ensures ok { IfOk result (GoesOn (AddsPositions parts.now place) field.now) }
-    ensures err { IfErr result (IsTold SegmentComponent.Positions (IsSomeAnd field.now (LacksPositions parts.now place))) }
+    ensures err { IfErr result
+        (IsTold SegmentComponent.Positions (IsSomeAnd field.now (LacksPositions parts.now place))) }
 {
     match field {
         None => Ok(None),
@@ -117,7 +119,7 @@ fn push_field(
     Ok(())
 }
 
-/// The same fields once more, of the same bytes.
+/// The same fields again, over the same bytes.
 pub(crate) fn share_fields(
     alloc: Global,
     fields: &[Option<Shared<InvertedIndexReader>>],

@@ -60,7 +60,8 @@ pub(crate) fn open_norms(
     max_doc: u32,
 ) -> Option<FieldNormReaders>
     ensures { MatchOption result
-        ((norms : List (List ℕ)) → AreNorms schema.now max_doc norms → composite bytes ≢ Some (norms_parts schema.now norms))
+        ((norms : List (List ℕ)) → AreNorms schema.now max_doc norms
+        → composite bytes ≢ Some (norms_parts schema.now norms))
         (λ r. (composite bytes ≡ Some r) × HoldNorms schema.now max_doc r (norms_of schema.now r)) }
 {
     let Ok(norms) = FieldNormReaders::open(bytes) else {

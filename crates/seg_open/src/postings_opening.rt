@@ -60,7 +60,8 @@ fn postings_at(
 ) -> Result<Option<FieldPostings>, OpenError>
     requires few { place < 2 ^ 32 - 1 }
     ensures ok { IfOk result (GoesOn (AddsPostings parts.now place) field.now) }
-    ensures err { IfErr result (IsTold SegmentComponent.Postings (IsSomeAnd field.now (LacksPostings parts.now place))) }
+    ensures err { IfErr result
+        (IsTold SegmentComponent.Postings (IsSomeAnd field.now (LacksPostings parts.now place))) }
 {
     match field {
         None => Ok(None),

@@ -27,7 +27,7 @@ use std::fmt;
 use std::fmt::{Debug, Formatter, Write};
 
 impl SegmentReader {
-    /// The same reader once more, of the same bytes, which takes memory for the list of its fields alone. `OutOfMemory`
+    /// The same reader again, over the same bytes, which takes memory for the list of its fields alone. `OutOfMemory`
     /// is its only error.
     pub fn try_clone(&self, alloc: Global) -> TResult<SegmentReader>
         ensures ok { IfOk result (λ r. r ≡ self.now) }
@@ -69,7 +69,7 @@ impl SegmentReader {
         &self.schema
     }
 
-    /// How many documents the segment has, those that are not alive with them.
+    /// How many documents the segment has, including those that are not alive.
     pub fn max_doc(&self) -> u32
         ensures { result ≡ self.now.documents }
     {

@@ -29,9 +29,9 @@ use seg_values::{Schema, TResult, TantivyError};
 use std::alloc::Global;
 use std::marker::Model;
 
-/// Reads what the files of a segment hold, out of their bytes. It is seen as its id, its schema and number of documents,
-/// the terms of its fields, the blocks of its store, its length ids and columns, which documents are alive, the stamp of
-/// their deletes, and the sizes of its files.
+/// Reads what the files of a segment hold, from their bytes. It is seen as its id, its schema and number of documents,
+/// the terms of its fields, the blocks of its store, its length ids and columns, which documents are alive, the stamp
+/// of their deletes, and the sizes of its files.
 #[derive(Drop)]
 pub struct SegmentReader {
     pub(crate) alloc: Global,
@@ -74,11 +74,11 @@ impl Model for SegmentReader {
 }
 
 impl SegmentReader {
-    /// Opens a segment of a directory: reads its six files and then, where it has deletes, its alive file, each once, in
-    /// the order terms, store, postings, positions, fast fields, field norms, alive. Once the six are read, each is
+    /// Opens a segment of a directory: reads its six files and then, where it has deletes, its alive file, each once,
+    /// in the order terms, store, postings, positions, fast fields, field norms, alive. Once the six are read, each is
     /// checked whole and against those before it. `DataCorruption` names the first that is missing, or else the first
-    /// that is wrong by itself or with those before it. `OpenReadError`: a file can't be read. What a crash may leave of
-    /// the directory stays.
+    /// that is wrong by itself or with those before it. `OpenReadError`: a file can't be read. What a crash may leave
+    /// of the directory stays.
     pub fn open<W: Directory>(
         alloc: Global,
         segment: &Segment,

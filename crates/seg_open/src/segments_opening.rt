@@ -59,7 +59,7 @@ fn open_next<W: Directory>(
     }
 }
 
-/// The same set once more, where there is one.
+/// The same set again, where there is one.
 fn copy_of(filter: &Option<AliveBitSet>) -> Result<Option<AliveBitSet>, AllocError>
     ensures { IfOk result (λ copy. copy ≡ filter.now) }
 {

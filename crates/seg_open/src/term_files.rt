@@ -9,7 +9,8 @@ use seg_values::{FieldEntry, Schema};
 
 /// A file that has a part for each field that is indexed, and no other.
 pub(crate) fn open_parts(bytes: OwnedBytes, schema: &Schema) -> Option<CompositeFile>
-    ensures { MatchOption result (LackIndexedParts schema.now bytes) (λ parts. HaveIndexedParts schema.now bytes parts) }
+    ensures { MatchOption result (LackIndexedParts schema.now bytes)
+        (λ parts. HaveIndexedParts schema.now bytes parts) }
 {
     let Ok(file) = CompositeFile::open(bytes) else {
         return None;

@@ -169,7 +169,7 @@ pub new-path : (ns : List Node) (m : Node) → AreSound [] ns → IsDistinct byt
     → list_any (bytes_eq (node_path (paths_with [] ns) m)) (paths_with [] ns) ≡ false
 new-path ns m sounds distinct sound none = not_among (paths_with [] ns) distinct m sound [] ns refl sounds none refl
 
--- ---- one node more
+-- ---- one more node
 
 abbrev Grown : List Node → Type 0
 Grown ns = (length ns ≤ 2 ^ 32) × AreSound [] ns × IsDistinct bytes_eq (paths_with [] ns)

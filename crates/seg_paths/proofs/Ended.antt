@@ -1,4 +1,4 @@
--- Paths without a byte 0, each with a byte 0 and more behind it.
+-- Paths without a byte 0, each with a byte 0 and more after it.
 use Rattle.std.proofs.Common.{Ordering, ◌≡◌, ℕ, ◌<◌, List, [], ◌∷◌, ◌++◌, true, get_or, drop, refl, sym, ap, ◌∙◌, arith}
 use Rattle.std.specs.Ordering.{nat_cmp, ordering_then}
 use Rattle.std.specs.declared.cmp.Ordering.TheVariants.{Less, Equal, Greater}
@@ -10,7 +10,7 @@ use Rattle.seg_paths.proofs.Zeros.{no_zero-cons}
 abbrev first : List ℕ → ℕ
 first bytes = get_or bytes 0 0
 
--- the path and what is behind it are told apart
+-- the path and what is after it are told apart
 pub ended-apart : (p q x y : List ℕ) → has_no_zero p ≡ true → has_no_zero q ≡ true → p ++ 0 ∷ x ≡ q ++ 0 ∷ y
     → (p ≡ q) × (x ≡ y)
 ended-apart [] [] x y hp hq e = (refl, ap (λ (l : List ℕ). drop 1 l) e)
@@ -33,7 +33,7 @@ zero-less c some = grind (arith, nat_tests)
 zero-greater : (b : ℕ) → 0 < b → nat_cmp b 0 ≡ Greater
 zero-greater b some = grind (arith, nat_tests)
 
--- the paths decide first, and then what is behind them
+-- the paths decide first, and then what is after them
 pub cmp-ended : (p q x y : List ℕ) → has_no_zero p ≡ true → has_no_zero q ≡ true
     → slice_cmp nat_cmp (p ++ 0 ∷ x) (q ++ 0 ∷ y)
     ≡ ordering_then (slice_cmp nat_cmp (p ++ 0 ∷ []) (q ++ 0 ∷ [])) (slice_cmp nat_cmp x y)

@@ -60,7 +60,7 @@ module _ (e : Bool) where
       λ i. one-kept old new l p more first i ∷ rest i
 
   module _ (paths : List (List ℕ)) (out : List NumberedLeaf) (all : List PlacedLeaf) where
-    -- one value of an array more
+    -- one more value of an array
     pub one-tree : (keys : List (List ℕ)) (level : ℕ) (old : List (List ℕ)) (before : List NumberedLeaf)
         (ts : List Tree) (i : ℕ) (t : Tree) → slice_get ts i ≡ Some t
         → (so_far : HasFound e old before (leaves_of_trees keys level (trees_from (drop i ts))) all)
@@ -75,7 +75,7 @@ module _ (e : Bool) where
           ∙ so_far.with_left;
     }
 
-    -- one member of an object more
+    -- one more member of an object
     pub one-member : (keys : List (List ℕ)) (level : ℕ) (old : List (List ℕ)) (before : List NumberedLeaf)
         (ms : List (List ℕ × Tree)) (i : ℕ) (key : List ℕ) (t : Tree) → slice_get ms i ≡ Some (key, t)
         → (so_far : HasFound e old before (leaves_of_members keys level (members_from (drop i ms))) all)
@@ -99,7 +99,7 @@ module _ (e : Bool) where
         so_far.numbered ∙ ap (map (in_table paths e)) (sym (append-nil so_far.found)
         ∙ ap (λ l. so_far.found ++ l) (sym none) ∙ so_far.with_left)
 
-  -- a leaf more
+  -- one more leaf
   pub leaf-found : (keys : List (List ℕ)) (level : ℕ) (old new : List (List ℕ)) (found : List PlacedLeaf)
       (before after : List NumberedLeaf) (l : NumberedLeaf)
       → Extends old new → map numbered before ≡ map (in_table old e) found → after ≡ before ++ l ∷ []

@@ -1,4 +1,4 @@
--- The nodes of a table of paths: each is a part without a byte 0 or 1, below the path of a node before it or at the top.
+-- The nodes of a table of paths: each a part without a byte 0 or 1, below the path of a node before it or at the top.
 use Rattle.std.specs.Prelude.{◌≡◌, ◌<◌, ℕ, List, [], ◌∷◌, ◌++◌, Bool, true, Option, None, Some, IsTrue, nat_eq}
 use Rattle.std.proofs.Common.{refl, ap}
 use Rattle.std.proofs.lemmas.Bool.{false≢true, and_parts}
@@ -29,7 +29,7 @@ asked n = record { above = n.above; part = n.part.now }
 abbrev pub node_path : List (List ℕ) → Node → List ℕ
 node_path paths n = below paths n.above n.part
 
--- the paths of nodes, behind those of the nodes before them
+-- the paths of nodes, after those of the nodes before them
 abbrev pub paths_with : List (List ℕ) → List Node → List (List ℕ)
 paths_with before [] = before
 paths_with before (n ∷ ns) = paths_with (before ++ node_path before n ∷ []) ns

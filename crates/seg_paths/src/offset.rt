@@ -1,4 +1,4 @@
-//! How far behind its slot each node is.
+//! How far after its slot each node is.
 ghost use Rattle.std.specs.Prelude.{IfOk, length};
 ghost use Rattle.std.specs.List.{range_with_len};
 ghost use Rattle.std.specs.List.Sorted.{IsPermutation};
@@ -6,7 +6,7 @@ ghost use Rattle.seg_paths.specs.Slots.{AreOffsets, AreSizes, AreSlots};
 
 use std::alloc::{AllocError, Global};
 
-/// How far behind its slot each node is, where those of one slot follow one another in this order.
+/// How far after its slot each node is, where those of one slot follow one another in this order.
 pub(crate) fn offsets(
     alloc: Global,
     slots: &[usize],

@@ -15,8 +15,8 @@ use indexmap::IndexSet;
 use std::alloc::{AllocError, Global};
 use std::marker::Model;
 
-/// Distinct paths, without a byte 0. The number of a path is its place among them, in the order in which they came; with
-/// a path come those that it is below. More than 2^32 are want of memory.
+/// Distinct paths, without a byte 0. The number of a path is its place among them, in the order in which they came;
+/// with a path come those that it is below. More than 2^32 count as out of memory.
 #[derive(Drop)]
 pub struct PathTable {
     pub(crate) nodes: IndexSet<PathNode>,
@@ -54,8 +54,8 @@ impl PathTable {
         self.nodes.len()
     }
 
-    /// The rank of each path, by its number: its place in the order of terms, where a byte 0 is behind each path. It costs
-    /// the bytes of the parts times a logarithm, and never those of whole paths.
+    /// The rank of each path, by its number: its place in the order of terms, where a byte 0 follows each path. It
+    /// costs the bytes of the parts times a logarithm, and never those of whole paths.
     pub fn ranks(&self, alloc: Global) -> Result<Vec<u32>, AllocError>
         ensures { IfOk result (λ ranks. AreRanks self.now ranks.items) }
     {
@@ -100,8 +100,8 @@ impl PathTable {
         self.add_part(alloc, None, &[])
     }
 
-    /// The number of the path of a key below the path with a number, or at the top. Paths that come stay, also where
-    /// memory ends.
+    /// The number of the path of a key below the path with a number, or at the top. Paths that come stay, even where
+    /// memory runs out.
     pub fn add_key(
         &mut self,
         alloc: Global,

@@ -28,7 +28,7 @@ head_is (b ∷ c ∷ rest) coded = by (b == 0) refl coded (head_is (c ∷ rest))
 pub begins_so : (bytes name : List ℕ) (code : ℕ) → is_type_code (type_code bytes) ≡ true → name ≡ path_part bytes → code ≡ type_code bytes → name ++ 0 ∷ code ∷ [] ≡ path_and_type bytes
 begins_so bytes name code coded named is = rw (named, is) (sym (head_is bytes coded))
 
--- it ends after the byte behind the first byte 0
+-- it ends after the byte after the first byte 0
 ends_at : (at : ℕ) (bytes : List ℕ) → at < length bytes → slice_index_or bytes at 0 ≡ 0 → take at bytes ++ path_and_type (drop at bytes) ≡ take (at + 2) bytes
 ends_at at [] lt is = absurd (omega (arith, lt))
 ends_at zero (b ∷ bytes) lt is = ap (λ (x : Bool). b ∷ cond x (take 1 bytes) (path_and_type bytes)) (ap (λ (n : ℕ). n == 0) is)
@@ -36,7 +36,7 @@ ends_at (suc at) (b ∷ bytes) lt is =
     let more : suc (at + 2) ≡ suc at + 2 = omega arith in
     ap (λ (l : List ℕ). b ∷ l) (ends_at at bytes (omega (arith, lt)) is) ∙ ap (λ (n : ℕ). take n (b ∷ bytes)) more
 
--- and at the end of the bytes, if there is none behind it
+-- and at the end of the bytes, if there is none after it
 pub ends_by : (at n : ℕ) (bytes : List ℕ) → at < length bytes → slice_index_or bytes at 0 ≡ 0 → n ≡ min (length bytes) (at + 2) → take at bytes ++ path_and_type (drop at bytes) ≡ path_and_type bytes → take n bytes ≡ path_and_type bytes
 ends_by at n bytes lt is short so_far = elim (cases_lt (length bytes) (at + 2)) [
   | inl less ↦ take_all n bytes (omega (arith, short, less)) ∙ sym (take_all (at + 2) bytes (omega (arith, less))) ∙ sym (ends_at at bytes lt is) ∙ so_far

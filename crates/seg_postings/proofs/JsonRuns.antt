@@ -82,7 +82,7 @@ none_before h g below (t ∷ run) alike =
     let both = and_parts (begins_with h t) (list_all (begins_with h) run) alike in
     (ap (λ (x : List ℕ). bytes_eq x g) (begins h t both.0) ∙ unlike h g below, none_before h g below run both.1)
 
--- what begins some term behind is itself behind
+-- what begins some later term is itself later
 met : (h g : List ℕ) (us : List Term) → AllByRecursion (λ (u : Term). Below h (path_and_type u.0)) us → 0 < length (filter (begins_with g) us) → Below h g
 met h g [] behind some = absurd (omega (arith, some))
 met h g (u ∷ us) behind some = by (begins_with g u) refl some (met h g us behind.1)

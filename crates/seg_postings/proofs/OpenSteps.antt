@@ -28,7 +28,7 @@ is_of_kind Counts count ds has some few rise = (count, some, few, refl)
 is_of_kind Positions count ds has some few rise = (ds, omega (arith, has, some), omega (arith, has, few), rise, refl)
 
 module _ (p : Posting) where
-  -- one document more
+  -- one more document
   pub documents_form-push : (before : ℕ) (ps : List Posting) → documents_form before (ps ++ p ∷ []) ≡ documents_form before ps ++ document_form (last_document before ps) p
   documents_form-push before [] = append-nil (document_form before p)
   documents_form-push before (q ∷ ps) = ap (λ x. document_form before q ++ x) (documents_form-push q.document ps) ∙ sym (append_assoc (document_form before q) (documents_form q.document ps) (document_form (last_document q.document ps) p))

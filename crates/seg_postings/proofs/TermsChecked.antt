@@ -21,7 +21,7 @@ info_within m n terms i info all lt has =
     let is : (get_or terms i d).1 ≡ info = subst (λ (o : Option Term). IsSomeAnd o (λ t. t.1 ≡ info)) (slice_get-get_or terms i d lt) has in
     subst (λ (x : TermInfo). LiesWithin m n ([], x)) is (all_at (LiesWithin m n) terms i d all lt)
 
--- each term is as some test says of its kind and its info
+-- each term is as some test says about its kind and its info
 module _ (rules : FieldRules) (good : RecordKind → TermInfo → Bool) where
   abbrev passes : Term → Bool
   passes t = good (kind_by rules t.0) t.1

@@ -58,7 +58,7 @@ both None others all h = absurd (none-some all h)
 both (Some w) None all h = absurd (none-some all h)
 both (Some w) (Some ws) all h = record { w = w; ws = ws; is_first = refl; are_others = refl; are_all = same_Some _ _ h }
 
--- one term more
+-- one more term
 pub terms_at-push : (a b : List ℕ) (ts : List Term) (t : Term) (ws : List TermWritten) (w : TermWritten) → terms_at a b ts ≡ Some ws → term_at a b t ≡ Some w → terms_at a b (ts ++ t ∷ []) ≡ Some (ws ++ w ∷ [])
 unfolding terms_at
 terms_at-push a b [] t ws w read one = ap (λ o. joined o (Some [])) one ∙ ap (λ vs. Some (vs ++ w ∷ [])) (same_Some _ _ read)

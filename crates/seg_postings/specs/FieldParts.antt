@@ -35,12 +35,16 @@ abbrev pub open_term : List ℕ → List ℕ → List ℕ → OpenTerm → TermW
 open_term key postings positions o = record {
   bytes = key;
   kind = o.kind;
-  postings = unwrap_or (option_map (λ (t : TermPostings). t.postings) (term_postings o.doc_freq (drop o.postings_start postings) (drop o.positions_start positions))) [];
+  postings = unwrap_or
+      (option_map (λ (t : TermPostings). t.postings)
+      (term_postings o.doc_freq (drop o.postings_start postings) (drop o.positions_start positions)))
+      [];
 }
 
 -- what was given so far
 abbrev pub writing : ℕ → ℕ → Option Building → List ℕ → List ℕ → Option OpenTerm → FieldWriting
-writing field total None postings positions current = record { field = field; total = total; terms = []; current = None }
+writing field total None postings positions current =
+    record { field = field; total = total; terms = []; current = None }
 writing field total (Some b) postings positions current = record {
   field = field;
   total = total;
@@ -49,7 +53,8 @@ writing field total (Some b) postings positions current = record {
 }
 
 -- the bytes of the open term spell its postings
-pub record IsOpenTerm (terms : List Term) (postings positions : List ℕ) (o : OpenTerm) (ps : List Posting) : Type 0 where
+pub record IsOpenTerm (terms : List Term) (postings positions : List ℕ) (o : OpenTerm)
+    (ps : List Posting) : Type 0 where
   pub starts : postings_end (last_term None terms) ≡ o.postings_start
   pub positions_starts : positions_end (last_term None terms) ≡ o.positions_start
   pub room : o.postings_start ≤ length postings
@@ -64,16 +69,20 @@ pub record IsOpenTerm (terms : List Term) (postings positions : List ℕ) (o : O
 -- whether a term is open: then its key waits for its info, and else all bytes belong to the terms before
 abbrev pub IsOpen : Building → List ℕ → List ℕ → Option OpenTerm → Type 0
 IsOpen b postings positions None =
-    (b.waiting ≡ None) × (postings_end (last_term None b.terms) ≡ length postings) × (positions_end (last_term None b.terms) ≡ length positions)
-IsOpen b postings positions (Some o) = ((key : List ℕ) × (b.waiting ≡ Some key)) × ((ps : List Posting) × IsOpenTerm b.terms postings positions o ps)
+    (b.waiting ≡ None) × (postings_end (last_term None b.terms) ≡ length postings)
+    × (positions_end (last_term None b.terms) ≡ length positions)
+IsOpen b postings positions (Some o) = ((key : List ℕ) × (b.waiting ≡ Some key))
+    × ((ps : List Posting) × IsOpenTerm b.terms postings positions o ps)
 
 -- the ranges of a term lie within these lengths
 abbrev pub LiesWithin : ℕ → ℕ → Term → Type 0
 LiesWithin postings positions t =
-    (t.1.postings_start ≤ t.1.postings_end) × (t.1.postings_end ≤ postings) × (t.1.positions_start ≤ t.1.positions_end) × (t.1.positions_end ≤ positions)
+    (t.1.postings_start ≤ t.1.postings_end) × (t.1.postings_end ≤ postings) × (t.1.positions_start ≤ t.1.positions_end)
+    × (t.1.positions_end ≤ positions)
 
 -- the parts of a field: postings after the total of its tokens, positions, and a dictionary whose terms can be read
-pub record AreParts (total : ℕ) (dictionary : Option Building) (postings positions : List ℕ) (current : Option OpenTerm) : Type 0 where
+pub record AreParts (total : ℕ) (dictionary : Option Building) (postings positions : List ℕ)
+    (current : Option OpenTerm) : Type 0 where
   pub built : Building
   pub is_built : dictionary ≡ Some built
   pub room : 8 ≤ length postings

@@ -27,7 +27,8 @@ pub record FieldRules : Type 0 where
 
 -- the kind that the entry of a field asks a term for, by what the field is and what its texts record
 abbrev pub asked_kind : FieldKind → IndexOption → List ℕ → RecordKind
-asked_kind kind index bytes = kind_of (if is_text kind || (is_json kind && nat_eq (type_code bytes) 115) then index else options.Basic)
+asked_kind kind index bytes =
+    kind_of (if is_text kind || (is_json kind && nat_eq (type_code bytes) 115) then index else options.Basic)
 
 -- the rules of an entry, in a segment of this many documents
 abbrev pub rules_of : FieldEntry → ℕ → FieldRules
@@ -38,7 +39,8 @@ abbrev pub kind_by : FieldRules → List ℕ → RecordKind
 kind_by rules bytes = asked_kind rules.kind rules.index bytes
 
 -- three parts are a field by these rules
-pub record IsFieldBy (rules : FieldRules) (dictionary postings positions : List ℕ) (total : ℕ) (terms : List TermWritten) : Type 0 where
+pub record IsFieldBy (rules : FieldRules) (dictionary postings positions : List ℕ) (total : ℕ)
+    (terms : List TermWritten) : Type 0 where
   pub spells : IsField dictionary postings positions total terms
   pub formed : AllByRecursion (λ t. has_form rules.kind t.bytes ≡ true) terms
   pub kinds : AllByRecursion (λ t. t.kind ≡ kind_by rules t.bytes) terms
@@ -58,12 +60,18 @@ pub record FirstParts : Type 0 where
 -- whether a term can be read, occurs, and is as the rules ask
 abbrev pub is_read : FieldRules → List ℕ → List ℕ → Term → Bool
 is_read rules postings positions t =
-    nat_lt 0 t.1.doc_freq && is_term_of (kind_by rules t.0) rules.max_doc (term_postings t.1.doc_freq (slice_range postings t.1.postings_start t.1.postings_end) (slice_range positions t.1.positions_start t.1.positions_end))
+    nat_lt 0 t.1.doc_freq
+    && is_term_of (kind_by rules t.0) rules.max_doc
+    (term_postings t.1.doc_freq (slice_range postings t.1.postings_start t.1.postings_end)
+    (slice_range positions t.1.positions_start t.1.positions_end))
 
 -- what the bytes in the ranges of an info are read as
 abbrev pub postings_in : List ℕ → List ℕ → TermInfo → TermPostings
 postings_in postings positions info =
-    unwrap_or (term_postings info.doc_freq (slice_range postings info.postings_start info.postings_end) (slice_range positions info.positions_start info.positions_end)) (record { kind = Documents; postings = [] })
+    unwrap_or
+    (term_postings info.doc_freq (slice_range postings info.postings_start info.postings_end)
+    (slice_range positions info.positions_start info.positions_end))
+    (record { kind = Documents; postings = [] })
 
 -- a term that is open: its bytes, its info in the dictionary, what its postings keep, and these
 pub record ReadTerm : Type 0 where
@@ -97,5 +105,7 @@ written_terms f = map (λ t. record { bytes = t.bytes; kind = t.kind; postings =
 -- the ranges of a term lie within the parts, and are read as the postings of one document or more
 pub record IsReadable (postings positions : List ℕ) (t : Term) : Type 0 where
   pub within : LiesWithin (length postings) (length positions) t
-  pub read : term_postings t.1.doc_freq (slice_range postings t.1.postings_start t.1.postings_end) (slice_range positions t.1.positions_start t.1.positions_end) ≡ Some (postings_in postings positions t.1)
+  pub read : term_postings t.1.doc_freq (slice_range postings t.1.postings_start t.1.postings_end)
+      (slice_range positions t.1.positions_start t.1.positions_end)
+      ≡ Some (postings_in postings positions t.1)
   pub occurs : 0 < t.1.doc_freq

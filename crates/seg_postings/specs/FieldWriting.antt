@@ -32,7 +32,10 @@ with_term bytes kind w = record w { current = Some (record { bytes = bytes; kind
 -- the open term occurs in a document
 abbrev pub in_document : ℕ → ℕ → List ℕ → TermWritten → TermWritten
 in_document document count places t =
-    record t { postings = t.postings ++ record { document = document; recorded = recorded_as t.kind count places } ∷ [] }
+    record t {
+      postings = t.postings
+          ++ record { document = document; recorded = recorded_as t.kind count places } ∷ [];
+    }
 
 abbrev pub with_document : ℕ → ℕ → List ℕ → FieldWriting → FieldWriting
 with_document document count places w = record w { current = option_map (in_document document count places) w.current }
@@ -66,7 +69,8 @@ abbrev pub HasPositions : RecordKind → ℕ → List ℕ → Type 0
 HasPositions Positions count places = length places ≡ count
 HasPositions _ count places = places ≡ []
 
--- a document may be added to a term: it comes after the others, and the term occurs in it, at positions that don't fall, below 2 ^ 32
+-- a document may be added to a term: it comes after the others, and the term occurs in it, at
+-- positions that don't fall, below 2 ^ 32
 pub record MayOccur (document count : ℕ) (places : List ℕ) (t : TermWritten) : Type 0 where
   pub ascends : next_document 0 t.postings ≤ document
   pub limit : document < 2 ^ 32 - 1

@@ -25,7 +25,8 @@ with_field field dictionary postings positions files = record {
 
 -- three files, where each is kept
 abbrev pub all_files : Option (List Part) → Option (List Part) → Option (List Part) → Option FieldFiles
-all_files (Some terms) (Some postings) (Some positions) = Some (record { terms = terms; postings = postings; positions = positions })
+all_files (Some terms) (Some postings) (Some positions) =
+    Some (record { terms = terms; postings = postings; positions = positions })
 all_files _ _ _ = None
 
 -- a field was added: its parts spell what was written of it

@@ -14,8 +14,12 @@ terms_held written = from_sorted (map (λ t. (t.bytes, t.postings)) written)
 -- a map has these terms with their postings, and each has the form that contents of full shape ask for
 pub record AreHeldBy (entry : FieldEntry) (documents : ℕ) (written : List TermWritten) (held : Terms) : Type 0 where
   pub are : map (λ t. (t.bytes, t.postings)) written ≡ entries held
-  pub shape : (term : List ℕ) (postings : List Posting) → get held term ≡ Some postings → IsTermWith entry documents term postings
+  pub shape : (term : List ℕ) (postings : List Posting) → get held term ≡ Some postings
+      → IsTermWith entry documents term postings
 
 -- whatever three parts of a field spell
 abbrev pub TermsReadHaveShape : Type 0
-TermsReadHaveShape = (entry : FieldEntry) (documents : ℕ) (dictionary postings positions : List ℕ) (total : ℕ) (written : List TermWritten) → IsFieldBy (rules_of entry documents) dictionary postings positions total written → AreHeldBy entry documents written (terms_held written)
+TermsReadHaveShape = (entry : FieldEntry) (documents : ℕ) (dictionary postings positions : List ℕ)
+    (total : ℕ) (written : List TermWritten)
+    → IsFieldBy (rules_of entry documents) dictionary postings positions total written
+    → AreHeldBy entry documents written (terms_held written)

@@ -24,7 +24,8 @@ pub record AddsSpace (terms : List Term) (start end : ℕ) (before after : List 
   pub added : after ≡ before ++ space ∷ []
   pub forward : start < end
   pub within : end ≤ length terms
-  pub first : (rest : List InvertedIndexFieldSpace) → AreSpaces (drop end terms) rest → AreSpaces (drop start terms) (space ∷ rest)
+  pub first : (rest : List InvertedIndexFieldSpace) → AreSpaces (drop end terms) rest
+      → AreSpaces (drop start terms) (space ∷ rest)
 
 -- a space of the path and type of a term, with ranges from those of a first info to those of a last
 pub record IsRunOf (term : List ℕ) (first last : TermInfo) (number : ℕ) (space : InvertedIndexFieldSpace) : Type 0 where

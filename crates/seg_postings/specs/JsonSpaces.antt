@@ -43,7 +43,7 @@ pub record IsSpaceOf (terms : List Term) (space : InvertedIndexFieldSpace) : Typ
 abbrev pub IsSpaceAmong : List Term → InvertedIndexFieldSpace → Type 0
 IsSpaceAmong terms space = IsSpaceOf (filter (begins_with (beginning space)) terms) space
 
--- the spaces of the paths and types of some terms, in the order of the terms: each of a path and type of its own, and each term in one
+-- the spaces of the paths and types of some terms, in the terms' order: each of its own path and type, each term in one
 pub record AreSpaces (terms : List Term) (spaces : List InvertedIndexFieldSpace) : Type 0 where
   pub ascend : IsStrictlySortedBy (slice_cmp nat_cmp) (map beginning spaces)
   pub each : AllByRecursion (IsSpaceAmong terms) spaces

@@ -30,20 +30,28 @@ unfoldable pub counts_at : RecordKind → ℕ → ℕ → ℕ → List ℕ → O
 counts_at kind zero before least [] = Some []
 counts_at kind zero before least (b ∷ bytes) = None
 counts_at kind (suc n) before least bytes =
-    option_and_then (λ d. option_and_then (λ c. option_map (λ rest. record { document = before + d.0; count = c.0 } ∷ rest) (counts_at kind n (before + d.0) 1 c.1)) (count_at kind d.1)) (number_at least (2 ^ 32 - 1 - before) bytes)
+    option_and_then (λ d. option_and_then (λ c.
+    option_map (λ rest. record { document = before + d.0; count = c.0 } ∷ rest)
+    (counts_at kind n (before + d.0) 1 c.1))
+    (count_at kind d.1))
+    (number_at least (2 ^ 32 - 1 - before) bytes)
 
 -- this many positions, each as its difference from the one before, and the bytes after them
 unfoldable pub positions_at : ℕ → ℕ → List ℕ → Option (List ℕ × List ℕ)
 positions_at zero before bytes = Some ([], bytes)
 positions_at (suc n) before bytes =
-    option_and_then (λ p. option_map (λ r. ((before + p.0) ∷ r.0, r.1)) (positions_at n (before + p.0) p.1)) (number_at 0 (2 ^ 32 - before) bytes)
+    option_and_then (λ p. option_map (λ r. ((before + p.0) ∷ r.0, r.1)) (positions_at n (before + p.0) p.1))
+    (number_at 0 (2 ^ 32 - before) bytes)
 
 -- the postings of documents whose positions are all of the bytes
 unfoldable pub with_positions : List Counted → List ℕ → Option (List Posting)
 with_positions [] [] = Some []
 with_positions [] (b ∷ bytes) = None
 with_positions (c ∷ cs) bytes =
-    option_and_then (λ ps. option_map (λ rest. record { document = c.document; recorded = positions ps.0 } ∷ rest) (with_positions cs ps.1)) (positions_at c.count 0 bytes)
+    option_and_then
+    (λ ps. option_map (λ rest. record { document = c.document; recorded = positions ps.0 } ∷ rest)
+    (with_positions cs ps.1))
+    (positions_at c.count 0 bytes)
 
 -- what a kind keeps of counted documents, with the bytes of their positions
 abbrev pub postings_by : RecordKind → List Counted → List ℕ → Option (List Posting)
@@ -61,7 +69,8 @@ pub record TermPostings : Type 0 where
 -- this many documents of a kind, from their bytes and those of their positions
 abbrev pub postings_of_kind : ℕ → List ℕ → List ℕ → RecordKind → Option TermPostings
 postings_of_kind n bytes position_bytes kind =
-    option_map (λ ps. record { kind = kind; postings = ps }) (option_and_then (λ cs. postings_by kind cs position_bytes) (counts_at kind n 0 0 bytes))
+    option_map (λ ps. record { kind = kind; postings = ps })
+    (option_and_then (λ cs. postings_by kind cs position_bytes) (counts_at kind n 0 0 bytes))
 
 -- the kind and the postings of a term of this many documents, from all bytes of its two ranges
 abbrev pub term_postings : ℕ → List ℕ → List ℕ → Option TermPostings

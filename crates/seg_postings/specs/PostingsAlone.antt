@@ -16,12 +16,14 @@ are_counted max_doc (Some cs) = list_all (λ c. nat_lt c.document max_doc) cs
 -- whether bytes are a kind, and after it this many documents with their counts, each document below `max_doc`
 abbrev pub is_counted_term : RecordKind → ℕ → ℕ → List ℕ → Bool
 is_counted_term kind max_doc n [] = false
-is_counted_term kind max_doc n (b ∷ bytes) = nat_eq b (kind_byte kind) && are_counted max_doc (counts_at kind n 0 0 bytes)
+is_counted_term kind max_doc n (b ∷ bytes) = nat_eq b (kind_byte kind)
+    && are_counted max_doc (counts_at kind n 0 0 bytes)
 
 -- whether the bytes in the range of an info are such, of one document or more
 abbrev pub is_counted_info : ℕ → List ℕ → RecordKind → TermInfo → Bool
 is_counted_info max_doc postings kind info =
-    nat_lt 0 info.doc_freq && is_counted_term kind max_doc info.doc_freq (slice_range postings info.postings_start info.postings_end)
+    nat_lt 0 info.doc_freq
+    && is_counted_term kind max_doc info.doc_freq (slice_range postings info.postings_start info.postings_end)
 
 -- whether those of a term are, of the kind that the rules ask for
 abbrev pub is_counted : FieldRules → List ℕ → Term → Bool

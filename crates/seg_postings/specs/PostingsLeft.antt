@@ -10,7 +10,8 @@ use Rattle.seg_postings.specs.Postings.{number_at, count_at, counts_at, position
 -- a document and how often the term occurs in it, at the front of some bytes, and the bytes after them
 unfoldable pub counted_at : RecordKind → ℕ → ℕ → List ℕ → Option (ℕ × ℕ × List ℕ)
 counted_at kind before least bytes =
-    option_and_then (λ d. option_map (λ c. (before + d.0, c.0, c.1)) (count_at kind d.1)) (number_at least (2 ^ 32 - 1 - before) bytes)
+    option_and_then (λ d. option_map (λ c. (before + d.0, c.0, c.1)) (count_at kind d.1))
+    (number_at least (2 ^ 32 - 1 - before) bytes)
 
 -- what is recorded of a document in which the term occurs this often, and the bytes of positions after it
 unfoldable pub recorded_at : RecordKind → ℕ → List ℕ → Option (Recorded × List ℕ)
@@ -20,12 +21,14 @@ recorded_at Positions count bytes = option_map (λ r. (positions r.0, r.1)) (pos
 
 -- the postings of this many documents, of which the first lies at least `least` after `before`
 unfoldable pub postings_at : RecordKind → ℕ → ℕ → ℕ → List ℕ → List ℕ → Option (List Posting)
-postings_at kind n before least bytes position_bytes = option_and_then (λ cs. postings_by kind cs position_bytes) (counts_at kind n before least bytes)
+postings_at kind n before least bytes position_bytes = option_and_then (λ cs. postings_by kind cs position_bytes)
+    (counts_at kind n before least bytes)
 
 -- the postings from a document on that is known with its count, and this many after it
 unfoldable pub postings_from : RecordKind → ℕ → ℕ → ℕ → List ℕ → List ℕ → Option (List Posting)
 postings_from kind document count n bytes position_bytes =
-    option_and_then (λ cs. postings_by kind (record { document = document; count = count } ∷ cs) position_bytes) (counts_at kind n document 1 bytes)
+    option_and_then (λ cs. postings_by kind (record { document = document; count = count } ∷ cs) position_bytes)
+    (counts_at kind n document 1 bytes)
 
 -- whether there are postings, each of a document below `max_doc`
 abbrev pub are_low : ℕ → Option (List Posting) → Bool
@@ -35,4 +38,5 @@ are_low max_doc (Some ps) = list_all (λ p. nat_lt p.document max_doc) ps
 -- whether there are postings of the kind, each of a document below `max_doc`
 abbrev pub is_term_of : RecordKind → ℕ → Option TermPostings → Bool
 is_term_of kind max_doc None = false
-is_term_of kind max_doc (Some t) = nat_eq (kind_byte t.kind) (kind_byte kind) && list_all (λ p. nat_lt p.document max_doc) t.postings
+is_term_of kind max_doc (Some t) = nat_eq (kind_byte t.kind) (kind_byte kind)
+    && list_all (λ p. nat_lt p.document max_doc) t.postings

@@ -21,12 +21,14 @@ kind_at (b ∷ bytes) = option_map (λ kind. (kind, bytes)) (kind_of_byte b)
 -- the postings from the current document on, with this many after it; none at the end
 unfoldable pub left_from : RecordKind → Option CountedDocument → ℕ → List ℕ → List ℕ → List Posting
 left_from kind None n bytes position_bytes = []
-left_from kind (Some d) n bytes position_bytes = unwrap_or (postings_from kind d.document d.count n bytes position_bytes) []
+left_from kind (Some d) n bytes position_bytes =
+    unwrap_or (postings_from kind d.document d.count n bytes position_bytes) []
 
 -- whether they can be read
 unfoldable pub can_be_read : RecordKind → Option CountedDocument → ℕ → List ℕ → List ℕ → Bool
 can_be_read kind None n bytes position_bytes = true
-can_be_read kind (Some d) n bytes position_bytes = is_some (postings_from kind d.document d.count n bytes position_bytes)
+can_be_read kind (Some d) n bytes position_bytes =
+    is_some (postings_from kind d.document d.count n bytes position_bytes)
 
 -- the current document; no document's id at the end
 abbrev pub document_of : List Posting → ℕ

@@ -8,7 +8,7 @@ use Rattle.seg_model.specs.Reading.{type_code}
 use Rattle.seg_model.specs.Shape.{is_type_code, path_part}
 use Rattle.seg_termdict.specs.Dictionary.{Term, IsDictionary, terms_of}
 
--- whether bytes are a term of such a field: in a JSON field a path in UTF-8, a byte 0 and a type code, in a facet field UTF-8
+-- whether bytes are a term of such a field: of JSON a path in UTF-8, a byte 0 and a type code, of facets UTF-8
 abbrev pub has_form : FieldKind → List ℕ → Bool
 has_form Json bytes = is_utf8 (path_part bytes) && is_type_code (type_code bytes)
 has_form Facet bytes = is_utf8 bytes

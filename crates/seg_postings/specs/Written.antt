@@ -25,4 +25,5 @@ IsOfKind Positions r = (ps : List ℕ) × (1 ≤ length ps) × (length ps < 2 ^ 
 abbrev pub AreWritable : RecordKind → ℕ → ℕ → List Posting → Type 0
 AreWritable kind before least [] = Unit {0}
 AreWritable kind before least (p ∷ ps) =
-    (before + least ≤ p.document) × (p.document < 2 ^ 32 - 1) × IsOfKind kind p.recorded × AreWritable kind p.document 1 ps
+    (before + least ≤ p.document) × (p.document < 2 ^ 32 - 1) × IsOfKind kind p.recorded
+    × AreWritable kind p.document 1 ps

@@ -36,7 +36,8 @@ impl AskedKind {
         }
     }
 
-    /// The kind that the term at a place is asked for. A JSON field is asked by the bytes of the term, which `key` takes.
+    /// The kind that the term at a place is asked for. A JSON field is asked by the bytes of the term, which `key`
+    /// takes.
     pub(crate) fn of_term(
         self,
         terms: &TermDictionary,
@@ -44,7 +45,8 @@ impl AskedKind {
         key: &mut Vec<u8>,
     ) -> Result<RecordKind, PostingsError>
         requires { ord < length terms.now }
-        ensures ok { IfOk result (λ kind. IsSomeAnd (slice_get terms.now ord) (λ t. kind ≡ asked_kind self.kind self.index t.0)) }
+        ensures ok { IfOk result (λ kind. IsSomeAnd (slice_get terms.now ord) (λ t. kind
+            ≡ asked_kind self.kind self.index t.0)) }
         ensures err { IfErr result (λ e. e ≡ PostingsError.OutOfMemory) }
     {
         match self.kind {

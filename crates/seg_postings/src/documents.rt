@@ -23,7 +23,8 @@ pub(crate) struct CountedDocument {
 
 /// Takes a varint from `least` on and below `limit`.
 pub(crate) fn take_number(bytes: &mut &[u8], least: u64, limit: u64) -> Option<u64>
-    ensures read { MatchOption result (number_at least limit bytes.old.now ≡ None) (λ n. number_at least limit bytes.old.now ≡ Some (n, bytes.new.now)) }
+    ensures read { MatchOption result (number_at least limit bytes.old.now ≡ None)
+        (λ n. number_at least limit bytes.old.now ≡ Some (n, bytes.new.now)) }
     ensures bounds { IfSome result (λ n. (least ≤ n) × (n < limit)) }
 {
     let Ok(number) = VInt::deserialize_u64(bytes) else {
@@ -40,7 +41,8 @@ pub(crate) fn take_number(bytes: &mut &[u8], least: u64, limit: u64) -> Option<u
 
 /// Takes the count of a document, where the kind keeps it.
 fn take_count(bytes: &mut &[u8], kind: RecordKind) -> Option<u32>
-    ensures { MatchOption result (count_at kind bytes.old.now ≡ None) (λ n. count_at kind bytes.old.now ≡ Some (n, bytes.new.now)) }
+    ensures { MatchOption result (count_at kind bytes.old.now ≡ None)
+        (λ n. count_at kind bytes.old.now ≡ Some (n, bytes.new.now)) }
 {
     match kind {
         RecordKind::Documents => Some(1),
@@ -51,7 +53,8 @@ fn take_count(bytes: &mut &[u8], kind: RecordKind) -> Option<u32>
 
 /// Takes a varint that is a u32, and not 0.
 fn take_positive(bytes: &mut &[u8]) -> Option<u32>
-    ensures { MatchOption result (number_at 1 (2 ^ 32) bytes.old.now ≡ None) (λ n. number_at 1 (2 ^ 32) bytes.old.now ≡ Some (n, bytes.new.now)) }
+    ensures { MatchOption result (number_at 1 (2 ^ 32) bytes.old.now ≡ None)
+        (λ n. number_at 1 (2 ^ 32) bytes.old.now ≡ Some (n, bytes.new.now)) }
 {
     let number = take_number(bytes, 1, 0x1_0000_0000)?;
     Some(number as u32)
@@ -65,7 +68,8 @@ pub(crate) fn take_document(
     before: u32,
     least: u32,
 ) -> Option<CountedDocument>
-    ensures read { MatchOption result (counted_at kind before least bytes.old.now ≡ None) (λ d. counted_at kind before least bytes.old.now ≡ Some (d.document, d.count, bytes.new.now)) }
+    ensures read { MatchOption result (counted_at kind before least bytes.old.now ≡ None)
+        (λ d. counted_at kind before least bytes.old.now ≡ Some (d.document, d.count, bytes.new.now)) }
     ensures limit { IfSome result (λ d. d.document < 2 ^ 32 - 1) }
 {
     let limit = u64::from(TERMINATED) - u64::from(before);

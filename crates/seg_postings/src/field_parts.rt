@@ -145,7 +145,8 @@ impl FieldParts {
     /// The bytes of the three parts.
     pub(crate) fn finish(self) -> Result<FieldBytes, AllocError>
         requires { self.current ≡ None }
-        ensures { IfOk result (λ b. IsField b.dictionary.items b.postings.items b.positions.items self.total self.terms) }
+        ensures { IfOk result
+            (λ b. IsField b.dictionary.items b.postings.items b.positions.items self.total self.terms) }
     {
         let Ok(dictionary) = self.dictionary.finish() else {
             return Err(AllocError);

@@ -35,7 +35,8 @@ impl Model for FieldPostings {
 
     ghost view = { λ f. record { dictionary = f.field.dictionary; postings = f.postings; rules = f.field.rules } };
 
-    ghost invariant = { λ f. (8 ≤ length f.postings) × (postings_end (last_term None (terms_of f.field.dictionary)) ≡ length (drop 8 f.postings)) };
+    ghost invariant = { λ f. (8 ≤ length f.postings)
+        × (postings_end (last_term None (terms_of f.field.dictionary)) ≡ length (drop 8 f.postings)) };
 }
 
 impl FieldPostings {
@@ -43,9 +44,11 @@ impl FieldPostings {
         field: FieldTerms,
         postings: OwnedBytes,
     ) -> Result<FieldPostings, PostingsError>
-        ensures ok { IfOk result (λ parts. parts ≡ record { dictionary = field.dictionary; postings = postings; rules = field.rules }) }
+        ensures ok { IfOk result (λ parts. parts
+            ≡ record { dictionary = field.dictionary; postings = postings; rules = field.rules }) }
         ensures complete { IfOk result (λ parts. ArePostingsBy field.rules field.dictionary postings) }
-        ensures err { IfErr result (λ e. (e ≡ PostingsError.OutOfMemory) ⊎ ((e ≡ PostingsError.Malformed) × NoneComplete field.rules field.dictionary postings)) }
+        ensures err { IfErr result (λ e. (e ≡ PostingsError.OutOfMemory)
+            ⊎ ((e ≡ PostingsError.Malformed) × NoneComplete field.rules field.dictionary postings)) }
     {
         if !are_postings(&field, postings.as_slice())? {
             return Err(PostingsError::Malformed);
@@ -55,9 +58,13 @@ impl FieldPostings {
 
     /// Goes on with the positions. `Malformed`: the three parts spell no field by the rules.
     pub fn with_positions(self, positions: OwnedBytes) -> Result<InvertedIndexReader, PostingsError>
-        ensures ok { IfOk result (λ reader. IsFieldBy self.rules self.dictionary self.postings positions reader.total (written_terms reader)) }
+        ensures ok { IfOk result (λ reader. IsFieldBy self.rules self.dictionary self.postings positions reader.total
+            (written_terms reader)) }
         ensures terms { IfOk result (λ reader. dictionary_terms reader ≡ terms_of self.dictionary) }
-        ensures err { IfErr result (λ e. (e ≡ PostingsError.OutOfMemory) ⊎ ((e ≡ PostingsError.Malformed) × ((total : ℕ) (terms : List TermWritten) → IsFieldBy self.rules self.dictionary self.postings positions total terms → ⊥))) }
+        ensures err { IfErr result (λ e. (e ≡ PostingsError.OutOfMemory)
+            ⊎ ((e ≡ PostingsError.Malformed)
+            × ((total : ℕ) (terms : List TermWritten)
+            → IsFieldBy self.rules self.dictionary self.postings positions total terms → ⊥))) }
     {
         let FieldPostings { field, postings } = self;
         if last_positions_end(field.terms()) != positions.len() as u64 {
@@ -88,7 +95,8 @@ impl Clone for FieldPostings {
 
 /// Whether bytes are the total of a field's tokens, and after it the postings of its terms, whatever its positions are.
 fn are_postings(field: &FieldTerms, postings: &[u8]) -> Result<bool, PostingsError>
-    ensures ok { IfOk result (λ are. MatchBool are (ArePostingsBy field.now.rules field.now.dictionary postings.now) (NoneComplete field.now.rules field.now.dictionary postings.now)) }
+    ensures ok { IfOk result (λ are. MatchBool are (ArePostingsBy field.now.rules field.now.dictionary postings.now)
+        (NoneComplete field.now.rules field.now.dictionary postings.now)) }
     ensures err { IfErr result (λ e. e ≡ PostingsError.OutOfMemory) }
 {
     if postings.len() < TOTAL_BYTES {

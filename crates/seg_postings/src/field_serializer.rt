@@ -70,8 +70,10 @@ impl FieldSerializer {
         count: u32,
         position_deltas: &[u32],
     ) -> Result<(), PostingsError>
-        requires { IfSome self.old (λ w. IsSomeAnd w.current (MayOccur doc count (positions_after 0 position_deltas.now))) }
-        ensures ok { OnOk result (HasGrown self.old self.new (with_document doc count (positions_after 0 position_deltas.now))) }
+        requires { IfSome self.old (λ w. IsSomeAnd w.current
+            (MayOccur doc count (positions_after 0 position_deltas.now))) }
+        ensures ok { OnOk result
+            (HasGrown self.old self.new (with_document doc count (positions_after 0 position_deltas.now))) }
         ensures err { IfErr result (λ e. (e ≡ PostingsError.OutOfMemory) × (self.new ≡ None)) }
     {
         let Some(parts) = &mut self.parts else {
@@ -121,10 +123,11 @@ impl FieldSerializer {
         Ok(())
     }
 
-    /// Adds the field, which is above those added before, to the files. Where that is refused, the files too are.
+    /// Adds the field, which is above those added before, to the files. Where that is refused, so are the files.
     pub fn close(self, serializer: &mut InvertedIndexSerializer) -> Result<(), PostingsError>
         requires closed { IfSome self (λ w. w.current ≡ None) }
-        requires ascends { IfSome self (λ w. IfSome serializer.old (λ f. (low_after 0 f.terms ≤ w.field) × (low_after 0 f.postings ≤ w.field) × (low_after 0 f.positions ≤ w.field))) }
+        requires ascends { IfSome self (λ w. IfSome serializer.old (λ f. (low_after 0 f.terms ≤ w.field)
+            × (low_after 0 f.postings ≤ w.field) × (low_after 0 f.positions ≤ w.field))) }
         requires limit { IfSome self (λ w. w.field < 2 ^ 32 - 1) }
         ensures ok { OnOk result ((w : FieldWriting) × (self ≡ Some w) × AddsField serializer.old serializer.new w) }
         ensures err { IfErr result (λ e. (e ≡ PostingsError.OutOfMemory) × (serializer.new ≡ None)) }

@@ -38,21 +38,25 @@ impl Model for FieldTerms {
 
     ghost Value = { FirstPart };
 
-    ghost view = { λ f. record { dictionary = f.bytes; rules = record { kind = f.asked.kind; index = f.asked.index; max_doc = f.max_doc } } };
+    ghost view = { λ f. record {
+      dictionary = f.bytes;
+      rules = record { kind = f.asked.kind; index = f.asked.index; max_doc = f.max_doc };
+    } };
 
     ghost invariant = { λ f. IsDictionaryOf f.asked.kind f.bytes × (f.terms ≡ terms_of f.bytes) };
 }
 
 impl FieldTerms {
-    /// Opens the dictionary of the field with this entry, in a segment of `max_doc` documents. Each term has the form that
-    /// the kind of the field asks for: a JSON or a facet field is gone over once for it.
+    /// Opens the dictionary of the field with this entry, in a segment of `max_doc` documents. Each term has the form
+    /// that the kind of the field asks for: a JSON or a facet field is scanned once for it.
     pub fn open(
         alloc: Global,
         terms: OwnedBytes,
         entry: &FieldEntry,
         max_doc: u32,
     ) -> Result<FieldTerms, PostingsError>
-        ensures ok { IfOk result (λ field. IsDictionaryOf entry.now.kind terms × (field ≡ record { dictionary = terms; rules = rules_of entry.now max_doc })) }
+        ensures ok { IfOk result (λ field. IsDictionaryOf entry.now.kind terms
+            × (field ≡ record { dictionary = terms; rules = rules_of entry.now max_doc })) }
         ensures err { IfErr result (λ e. (e ≡ PostingsError.Malformed) × (IsDictionaryOf entry.now.kind terms → ⊥)) }
     {
         let bytes = terms.share();
@@ -78,9 +82,11 @@ impl FieldTerms {
     /// Goes on with the postings, each term of which is read without its positions. `Malformed`: no positions complete
     /// these parts to a field.
     pub fn with_postings(self, postings: OwnedBytes) -> Result<FieldPostings, PostingsError>
-        ensures ok { IfOk result (λ field. field ≡ record { dictionary = self.dictionary; postings = postings; rules = self.rules }) }
+        ensures ok { IfOk result (λ field. field
+            ≡ record { dictionary = self.dictionary; postings = postings; rules = self.rules }) }
         ensures complete { IfOk result (λ field. ArePostingsBy self.rules self.dictionary postings) }
-        ensures err { IfErr result (λ e. (e ≡ PostingsError.OutOfMemory) ⊎ ((e ≡ PostingsError.Malformed) × NoneComplete self.rules self.dictionary postings)) }
+        ensures err { IfErr result (λ e. (e ≡ PostingsError.OutOfMemory)
+            ⊎ ((e ≡ PostingsError.Malformed) × NoneComplete self.rules self.dictionary postings)) }
     {
         FieldPostings::new(self, postings)
     }
@@ -94,8 +100,10 @@ impl FieldTerms {
 
     /// Whether each term can be read as the rules ask.
     pub(crate) fn are_terms(&self, postings: &[u8], positions: &[u8]) -> Result<bool, PostingsError>
-        requires within { AllByRecursion (LiesWithin (length postings.now) (length positions.now)) (terms_of self.now.dictionary) }
-        ensures ok { IfOk result (λ all. all ≡ list_all (is_read self.now.rules postings.now positions.now) (terms_of self.now.dictionary)) }
+        requires within { AllByRecursion (LiesWithin (length postings.now) (length positions.now))
+            (terms_of self.now.dictionary) }
+        ensures ok { IfOk result (λ all. all
+            ≡ list_all (is_read self.now.rules postings.now positions.now) (terms_of self.now.dictionary)) }
         ensures err { IfErr result (λ e. e ≡ PostingsError.OutOfMemory) }
     {
         are_terms(
@@ -110,8 +118,11 @@ impl FieldTerms {
 
     /// Whether each term can be read as the rules ask, once it has some positions.
     pub(crate) fn are_counted(&self, postings: &[u8]) -> Result<bool, PostingsError>
-        requires within { AllByRecursion (LiesWithin (length postings.now) (positions_end (last_term None (terms_of self.now.dictionary)))) (terms_of self.now.dictionary) }
-        ensures ok { IfOk result (λ all. all ≡ list_all (is_counted self.now.rules postings.now) (terms_of self.now.dictionary)) }
+        requires within { AllByRecursion
+            (LiesWithin (length postings.now) (positions_end (last_term None (terms_of self.now.dictionary))))
+            (terms_of self.now.dictionary) }
+        ensures ok { IfOk result (λ all. all
+            ≡ list_all (is_counted self.now.rules postings.now) (terms_of self.now.dictionary)) }
         ensures err { IfErr result (λ e. e ≡ PostingsError.OutOfMemory) }
     {
         are_counted(self.alloc, &self.terms, self.asked, self.max_doc, postings)

@@ -84,9 +84,11 @@ impl InvertedIndexSerializer {
         field: Field,
         bytes: &FieldBytes,
     ) -> Result<(), PostingsError>
-        requires ascends { IfSome self.old (λ f. (low_after 0 f.terms ≤ field) × (low_after 0 f.postings ≤ field) × (low_after 0 f.positions ≤ field)) }
+        requires ascends { IfSome self.old (λ f. (low_after 0 f.terms ≤ field) × (low_after 0 f.postings ≤ field)
+            × (low_after 0 f.positions ≤ field)) }
         requires limit { field < 2 ^ 32 - 1 }
-        ensures ok { OnOk result (HasGrown self.old self.new (with_field field bytes.now.dictionary.items bytes.now.postings.items bytes.now.positions.items)) }
+        ensures ok { OnOk result (HasGrown self.old self.new
+            (with_field field bytes.now.dictionary.items bytes.now.postings.items bytes.now.positions.items)) }
         ensures err { IfErr result (λ e. (e ≡ PostingsError.OutOfMemory) × (self.new ≡ None)) }
     {
         let Some(files) = &mut self.files else {
@@ -108,7 +110,8 @@ impl InvertedIndexSerializer {
 
     /// The bytes of the files.
     pub fn close(self) -> Result<PostingsFiles, PostingsError>
-        ensures ok { IfOk result (λ b. IfSome self (λ f. (composite b.terms.items ≡ Some f.terms) × (composite b.postings.items ≡ Some f.postings) × (composite b.positions.items ≡ Some f.positions))) }
+        ensures ok { IfOk result (λ b. IfSome self (λ f. (composite b.terms.items ≡ Some f.terms)
+            × (composite b.postings.items ≡ Some f.postings) × (composite b.positions.items ≡ Some f.positions))) }
         ensures kept { OnOk result (self ≢ None) }
         ensures err { IfErr result (λ e. e ≡ PostingsError.OutOfMemory) }
     {
@@ -127,9 +130,12 @@ fn add_parts(files: &mut OpenFiles, field: Field, bytes: &FieldBytes) -> Result<
     requires postings { IfSome files.old.postings (λ ps. low_after 0 ps ≤ field) }
     requires positions { IfSome files.old.positions (λ ps. low_after 0 ps ≤ field) }
     requires limit { field < 2 ^ 32 - 1 }
-    ensures terms { OnOk result (HasGrown files.old.terms files.new.terms (λ ps. ps ++ (field, bytes.now.dictionary.items) ∷ [])) }
-    ensures postings { OnOk result (HasGrown files.old.postings files.new.postings (λ ps. ps ++ (field, bytes.now.postings.items) ∷ [])) }
-    ensures positions { OnOk result (HasGrown files.old.positions files.new.positions (λ ps. ps ++ (field, bytes.now.positions.items) ∷ [])) }
+    ensures terms { OnOk result (HasGrown files.old.terms files.new.terms
+        (λ ps. ps ++ (field, bytes.now.dictionary.items) ∷ [])) }
+    ensures postings { OnOk result (HasGrown files.old.postings files.new.postings
+        (λ ps. ps ++ (field, bytes.now.postings.items) ∷ [])) }
+    ensures positions { OnOk result (HasGrown files.old.positions files.new.positions
+        (λ ps. ps ++ (field, bytes.now.positions.items) ∷ [])) }
 {
     files.terms.write(field, &bytes.dictionary)?;
     files.postings.write(field, &bytes.postings)?;

@@ -22,8 +22,10 @@ pub(crate) fn put_occurrence(
 ) -> Result<(), AllocError>
     requires { Rise 0 places.now }
     ensures postings { OnOk result (postings.new.items ≡ postings.old.items ++ occurrence_form kind gap count) }
-    ensures positions { OnOk result (positions.new.items ≡ positions.old.items ++ flat_map varint (differences 0 places.now)) }
-    ensures err { OnErr result ((postings.new.items ≡ postings.old.items) × (positions.new.items ≡ positions.old.items)) }
+    ensures positions { OnOk result (positions.new.items
+        ≡ positions.old.items ++ flat_map varint (differences 0 places.now)) }
+    ensures err { OnErr result ((postings.new.items ≡ postings.old.items)
+        × (positions.new.items ≡ positions.old.items)) }
 {
     let before = positions.len();
     if put_gaps(positions, places).is_ok() && put_document(postings, kind, gap, count).is_ok() {

@@ -1,5 +1,5 @@
-//! Whether bytes are the postings and the positions of a term, and whether they are its postings, whatever its positions
-//! are. Nothing is made of them, so no memory is asked for.
+//! Whether bytes are the postings and the positions of a term, and whether they are its postings, whatever its
+//! positions are. Nothing is made of them, so no memory is asked for.
 ghost use Rattle.std.specs.Prelude.{◌≡◌};
 ghost use Rattle.seg_postings.specs.Postings.{counts_at, term_postings};
 ghost use Rattle.seg_postings.specs.PostingsAlone.{are_counted, is_counted_term};
@@ -77,8 +77,8 @@ fn are_documents(kind: RecordKind, count: u32, postings: &[u8], max_doc: u32) ->
     left.is_empty()
 }
 
-/// Whether all of the bytes are postings of a term of this many documents and of the kind, each document below `max_doc`.
-/// Its positions are not looked at.
+/// Whether all of the bytes are postings of a term of this many documents and of the kind, each document below
+/// `max_doc`. Its positions are not looked at.
 pub(crate) fn has_documents(kind: RecordKind, count: u32, postings: &[u8], max_doc: u32) -> bool
     ensures { result ≡ is_counted_term kind max_doc count postings.now }
 {

@@ -1,7 +1,7 @@
 //! Ranges as a dictionary keeps them.
 ghost use Rattle.std.specs.Prelude.{◌≡◌, ◌≤◌, length, slice_range};
 
-/// The bytes from a place up to, without, another.
+/// The bytes from a place up to another, which is not included.
 pub(crate) fn bytes_in(bytes: &[u8], start: u64, end: u64) -> &[u8]
     requires rise { start ≤ end }
     requires within { end ≤ length bytes.now }

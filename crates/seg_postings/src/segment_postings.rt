@@ -30,7 +30,10 @@ impl<'a> Model for SegmentPostings<'a> {
 
     ghost Value = { OpenPostings };
 
-    ghost view = { λ p. record { left = left_from p.kind p.current p.left p.postings.now p.positions.now; all = p.doc_freq } };
+    ghost view = { λ p. record {
+      left = left_from p.kind p.current p.left p.postings.now p.positions.now;
+      all = p.doc_freq;
+    } };
 
     ghost invariant = { λ p. can_be_read p.kind p.current p.left p.postings.now p.positions.now ≡ true };
 }
@@ -40,7 +43,8 @@ impl<'a> SegmentPostings<'a> {
     pub(crate) fn new(doc_freq: u32, postings: &'a [u8], positions: &'a [u8]) -> SegmentPostings<'a>
         requires read { is_some (term_postings doc_freq postings.now positions.now) ≡ true }
         requires occurs { 0 < doc_freq }
-        ensures left { option_map (λ t. t.postings) (term_postings doc_freq postings.now positions.now) ≡ Some result.left }
+        ensures left { option_map (λ t. t.postings) (term_postings doc_freq postings.now positions.now)
+            ≡ Some result.left }
         ensures all { result.all ≡ doc_freq }
     {
         let mut documents = postings;
@@ -139,7 +143,7 @@ impl<'a> SegmentPostings<'a> {
     }
 
     /// How many of the documents from the current one on are alive: at the first, of all documents with the term. One
-    /// beyond the set isn't. It goes over them once, and takes no memory.
+    /// beyond the set isn't. It scans them once, and takes no memory.
     pub fn doc_freq_given_deletes(&self, alive: &ReadOnlyBitSet) -> u32
         ensures { result ≡ alive_count alive.now self.now.left }
     {
@@ -177,7 +181,8 @@ fn count_alive(mut postings: SegmentPostings<'_>, alive: &ReadOnlyBitSet) -> u32
 
 /// Takes the kind with which postings begin.
 fn take_kind(bytes: &mut &[u8]) -> Option<RecordKind>
-    ensures { MatchOption result (kind_at bytes.old.now ≡ None) (λ kind. kind_at bytes.old.now ≡ Some (kind, bytes.new.now)) }
+    ensures { MatchOption result (kind_at bytes.old.now ≡ None)
+        (λ kind. kind_at bytes.old.now ≡ Some (kind, bytes.new.now)) }
 {
     let (first, rest) = bytes.split_first()?;
     *bytes = rest;
@@ -198,7 +203,8 @@ fn next_document(
     positions: &mut &[u8],
 ) -> Option<CountedDocument>
     requires { can_be_read kind (Some current) left postings.old.now positions.old.now ≡ true }
-    ensures left { left_from kind result (left - 1) postings.new.now positions.new.now ≡ drop 1 (left_from kind (Some current) left postings.old.now positions.old.now) }
+    ensures left { left_from kind result (left - 1) postings.new.now positions.new.now
+        ≡ drop 1 (left_from kind (Some current) left postings.old.now positions.old.now) }
     ensures read { can_be_read kind result (left - 1) postings.new.now positions.new.now ≡ true }
 {
     let _ = pass_recorded(positions, kind, current.count);
@@ -211,7 +217,8 @@ fn next_document(
 /// Adds this many positions.
 fn push_positions(bytes: &[u8], count: u32, out: &mut Vec<u32>) -> Result<(), AllocError>
     requires { is_some (positions_at count 0 bytes.now) ≡ true }
-    ensures { OnOk result (option_map (λ r. out.old.items ++ r.0) (positions_at count 0 bytes.now) ≡ Some out.new.items) }
+    ensures { OnOk result
+        (option_map (λ r. out.old.items ++ r.0) (positions_at count 0 bytes.now) ≡ Some out.new.items) }
 {
     let mut left = bytes;
     let mut before = 0u64;

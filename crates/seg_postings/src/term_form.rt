@@ -10,7 +10,8 @@ use seg_termdict::TermDictionary;
 use seg_values::{BOOL_CODE, DATE_CODE, FieldKind, I64_CODE, TEXT_CODE, U64_CODE};
 use std::str;
 
-/// Whether each term has the form that a kind of field asks for. Most kinds ask for none, and then no term is looked at.
+/// Whether each term has the form that a kind of field asks for. Most kinds ask for none, and then no term is looked
+/// at.
 pub(crate) fn are_formed(terms: &TermDictionary, kind: FieldKind) -> bool
     ensures { result ≡ list_all (forms.is_formed kind) terms.now }
 {

@@ -1,5 +1,5 @@
-//! Whether each term of a dictionary can be read from the postings and the positions of a field, and whether it can from
-//! the postings with some positions.
+//! Whether each term of a dictionary can be read from the postings and the positions of a field, and whether it can
+//! from the postings with some positions.
 ghost use Rattle.std.specs.Prelude.{◌≡◌, ◌≤◌, length, slice_range, nat_lt, ◌&&◌, None, IfOk, IfErr};
 ghost use Rattle.std.specs.List.{list_all, AllByRecursion};
 ghost use Rattle.seg_termdict.specs.Building.{last_term, positions_end};
@@ -29,7 +29,12 @@ pub(crate) fn are_terms(
     positions: &[u8],
 ) -> Result<bool, PostingsError>
     requires within { AllByRecursion (LiesWithin (length postings.now) (length positions.now)) terms.now }
-    ensures ok { IfOk result (λ all. all ≡ list_all (is_read (record { kind = asked.kind; index = asked.index; max_doc = max_doc }) postings.now positions.now) terms.now) }
+    ensures ok { IfOk result (λ all. all
+        ≡ list_all
+        (is_read
+        (record { kind = asked.kind; index = asked.index; max_doc = max_doc })
+        postings.now positions.now)
+        terms.now) }
     ensures err { IfErr result (λ e. e ≡ PostingsError.OutOfMemory) }
 {
     let mut key = Vec::new(alloc);
@@ -55,7 +60,11 @@ fn is_info(
     requires within { info.now.postings_end ≤ length postings.now }
     requires positions_rise { info.now.positions_start ≤ info.now.positions_end }
     requires positions_within { info.now.positions_end ≤ length positions.now }
-    ensures { result ≡ (nat_lt 0 info.now.doc_freq && is_term_of kind max_doc (term_postings info.now.doc_freq (slice_range postings.now info.now.postings_start info.now.postings_end) (slice_range positions.now info.now.positions_start info.now.positions_end))) }
+    ensures { result
+        ≡ (nat_lt 0 info.now.doc_freq
+        && is_term_of kind max_doc (term_postings info.now.doc_freq
+        (slice_range postings.now info.now.postings_start info.now.postings_end)
+        (slice_range positions.now info.now.positions_start info.now.positions_end))) }
 {
     if info.doc_freq == 0 {
         return false;
@@ -74,8 +83,11 @@ pub(crate) fn are_counted(
     max_doc: u32,
     postings: &[u8],
 ) -> Result<bool, PostingsError>
-    requires within { AllByRecursion (LiesWithin (length postings.now) (positions_end (last_term None terms.now))) terms.now }
-    ensures ok { IfOk result (λ all. all ≡ list_all (is_counted (record { kind = asked.kind; index = asked.index; max_doc = max_doc }) postings.now) terms.now) }
+    requires within { AllByRecursion (LiesWithin (length postings.now) (positions_end (last_term None terms.now)))
+        terms.now }
+    ensures ok { IfOk result (λ all. all
+        ≡ list_all (is_counted (record { kind = asked.kind; index = asked.index; max_doc = max_doc }) postings.now)
+        terms.now) }
     ensures err { IfErr result (λ e. e ≡ PostingsError.OutOfMemory) }
 {
     let mut key = Vec::new(alloc);

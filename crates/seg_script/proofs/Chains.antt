@@ -1,4 +1,4 @@
--- What a chain of readings says of its parts.
+-- What a chain of readings says about its parts.
 use Rattle.std.proofs.Common.{◌≡◌, List, [], ◌∷◌, Bool, true, false, Option, None, Some, option_map, refl, subst}
 use Rattle.std.specs.List.{list_all, AllByRecursion}
 use Rattle.serde_json.specs.Data.{Data, Items, no_items, item}

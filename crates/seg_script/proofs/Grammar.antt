@@ -44,7 +44,7 @@ with_member k j d old e None = refl
 with_member k j d old e (Some p) = rw e
 
 module _ (p : Parse json.Json) where
-  -- one item more
+  -- one more item
   pub item_read : (n : ℕ) (ts r : List Token) (d : Data) → 0 < n → after_end_array ts ≡ None → converted of_json (p ts) ≡ Some (d, r)
       → converted of_items (items p n ts) ≡ parse_map (item d) (converted of_items (items p (n - 1) r))
   item_read n ts r d some going e = let j = converted_some of_json (p ts) d r e in ap (converted of_items) (items_more p n ts r j.0 some going j.1) ∙ with_item j.0 d j.2 _
@@ -54,7 +54,7 @@ module _ (p : Parse json.Json) where
   items_over n ts r enough e = ap (converted of_items) (items_end p n ts r enough e)
 
   module _ (old : Members) where
-    -- one member more
+    -- one more member
     pub member_read : (n : ℕ) (k : List ℕ) (ts s r : List Token) (d : Data) → 0 < n → read_key ts ≡ Some (Some k, s) → converted of_json (p s) ≡ Some (d, r)
         → converted (λ ms. of_members ms old) (members p n ts) ≡ converted (λ ms. of_members ms (put k d old)) (members p (n - 1) r)
     member_read n k ts s r d some key e =

@@ -23,7 +23,7 @@ module _ {A : Type 0} (read : Data → Option A) (d : Data) (vs : List Value) (i
   pub unread : AtItem → read (view v) ≡ None → list_of read d ≡ None
   unread h none = sym (ap next (sym none) ∙ at_next h)
 
-  -- one item more
+  -- one more item
   pub one_more : AtItem → (new : List A) (x : A) → read (view v) ≡ Some x → new ≡ done ++ x ∷ [] → so_far read new (items_view (drop (i + 1) vs)) ≡ list_of read d
   one_more h new x some more =
       ap (λ xs. so_far read xs (items_view (drop (i + 1) vs))) more ∙ one_behind done x (each read (items_view (drop (i + 1) vs)))

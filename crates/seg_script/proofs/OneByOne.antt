@@ -58,7 +58,7 @@ pub script_of_text : (bytes text : List ℕ) (s : Input) → text ≡ bytes → 
     → (d : Data) × (converted of_json (value 127 (tokens text)) ≡ Some (d, [])) × (script_from d ≡ Some s) → script bytes ≡ Some s
 script_of_text bytes text s same utf8 h = rw (json_of-read bytes text h.0 same (utf8, whole_read text h.0 h.1)) h.2
 
--- one item more that was read
+-- one more item that was read
 pub each-item : {A : Type 0} (read : Data → Option A) (d : Data) (ds : Items) (a : A) (xs : List A) → read d ≡ Some a → each read ds ≡ Some xs → each read (item d ds) ≡ Some (a ∷ xs)
 each-item read d ds a xs first rest = rw (first, rest) refl
 

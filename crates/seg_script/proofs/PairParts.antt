@@ -43,7 +43,7 @@ module _ (schema : List FieldEntry) (ds : Items) (a b : Data) (third : Option Da
   abbrev term_with : Data → Option Data → List ℕ → Option TermKey
   term_with value path n = term_of (field_or_past schema n) (term_bytes (slice_get schema (field_or_past schema n)) value path)
 
-  -- a term of a field that the schema hasn't
+  -- a term of a field that the schema lacks
   pub term_unknown : length schema ≤ field_or_past schema name → term_from schema (array ds) ≡ empty (field_or_past schema name)
   term_unknown past =
       ap (λ (o : Option (Data × Data × Option Data)). given o (λ p. given (as_str p.0) (term_with p.1 p.2))) parts

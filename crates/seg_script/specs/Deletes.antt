@@ -11,11 +11,12 @@ use Rattle.seg_script_values.specs.Deletes.{plain_term, json_term}
 use Rattle.seg_script.specs.Fields.{field_or_past}
 use Rattle.seg_script.specs.Pairs.{two_or_three}
 
--- the bytes of a value in a field, or under a path in a JSON field; of a field that the schema hasn't neither is looked at
+-- the bytes of a value in a field, or under a path in a JSON field; of a field that the schema lacks neither counts
 abbrev pub term_bytes : Option FieldEntry → Data → Option Data → Option (List ℕ)
 term_bytes None d third = Some []
 term_bytes (Some e) value None = plain_term e.kind value
-term_bytes (Some e) path (Some value) = if is_json e.kind then given (as_str path) (λ p. json_term e.expand_dots p value) else None
+term_bytes (Some e) path (Some value) = if is_json e.kind
+    then given (as_str path) (λ p. json_term e.expand_dots p value) else None
 
 -- `[name, value]`, or `[name, path, value]` of a JSON field
 abbrev pub term_from : List FieldEntry → Data → Option TermKey
@@ -23,5 +24,6 @@ term_from schema (array ds) =
     given (two_or_three ds) (λ p.
     given (as_str p.0) (λ name.
     let field = field_or_past schema name in
-    option_map (λ (bytes : List ℕ). record { field = field; bytes = bytes }) (term_bytes (slice_get schema field) p.1 p.2)))
+    option_map (λ (bytes : List ℕ). record { field = field; bytes = bytes })
+    (term_bytes (slice_get schema field) p.1 p.2)))
 term_from schema _ = None

@@ -13,8 +13,8 @@ use Rattle.seg_meta.specs.PartsRead.{kinds, index_options, precisions, entry_mem
 use Rattle.seg_meta.specs.Reads.{given, provided, required, nullable, word_of, list_of, has_only}
 use Rattle.seg_script_values.specs.Reads.{optional}
 
--- an entry, of which the name and the kind must be there; an indexed text field has lengths where it doesn't say otherwise,
--- and a facet is kept as all facets are
+-- an entry, of which the name and the kind must be there; an indexed text field has lengths where it doesn't say
+-- otherwise, and a facet is kept as all facets are
 abbrev pub entry_from : Data → Option FieldEntry
 entry_from d =
     provided (has_only entry_members d)
@@ -29,7 +29,18 @@ entry_from d =
     given (optional Seconds (word_of precisions) (codes "precision") d) (λ precision.
     given (optional false as_bool (codes "expand_dots") d) (λ expand_dots.
     provided (is_allowed kind index)
-    (Some (kept_entry (record { name = name; kind = kind; stored = stored; index = index; tokenizer = tokenizer; norms = norms; fast = fast; fast_tokenizer = fast_tokenizer; precision = precision; expand_dots = expand_dots }))))))))))))))
+    (Some (kept_entry (record {
+      name = name;
+      kind = kind;
+      stored = stored;
+      index = index;
+      tokenizer = tokenizer;
+      norms = norms;
+      fast = fast;
+      fast_tokenizer = fast_tokenizer;
+      precision = precision;
+      expand_dots = expand_dots;
+    }))))))))))))))
 
 -- an entry has this name
 abbrev pub has_name : List ℕ → List FieldEntry → Bool
@@ -42,7 +53,8 @@ are_distinct (e ∷ es) = not (has_name e.name es) && are_distinct es
 
 -- entries with distinct names, whose number is below the largest of 32 bits
 abbrev pub schema_from : Data → Option (List FieldEntry)
-schema_from d = given (list_of entry_from d) (λ entries. provided (are_distinct entries && nat_lt (length entries) (2 ^ 32 - 1)) (Some entries))
+schema_from d = given (list_of entry_from d)
+    (λ entries. provided (are_distinct entries && nat_lt (length entries) (2 ^ 32 - 1)) (Some entries))
 
 -- the field with a name, or the number just past the fields
 abbrev pub field_or_past : List FieldEntry → List ℕ → ℕ

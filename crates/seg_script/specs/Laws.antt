@@ -23,8 +23,8 @@ is_small_filter (Some filter) = nat_lt (length filter) (2 ^ 32)
 abbrev pub is_id : ℕ → Bool
 is_id n = nat_lt n (2 ^ 128)
 
--- fields whose options go with their kinds, under distinct names, operations on them, a block size and filters of 32 bits, and
--- where there are fewer than 2^64 cuts, ids of 128 bits
+-- fields whose options go with their kinds, under distinct names, operations on them, a block size and filters of 32
+-- bits, and where there are fewer than 2^64 cuts, ids of 128 bits
 pub record IsWellFormed (input : Input) : Type 0 where
   pub entries : list_all is_entry input.schema ≡ true
   pub names : are_distinct input.schema ≡ true

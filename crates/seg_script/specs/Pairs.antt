@@ -29,7 +29,8 @@ kind_of schema field = option_map (λ (e : FieldEntry). e.kind) (slice_get schem
 
 -- `tokens`, or the word for a kind
 abbrev pub reading_named : List ℕ → Option Reading
-reading_named word = if bytes_eq word (codes "tokens") then Some WithTokens else option_map ByKind (lookup (bytes_eq word) kinds)
+reading_named word = if bytes_eq word (codes "tokens") then Some WithTokens
+    else option_map ByKind (lookup (bytes_eq word) kinds)
 
 -- as the word says in a field that the schema has, by the kind JSON in another one
 abbrev pub reading_in : Option FieldKind → Reading → Reading

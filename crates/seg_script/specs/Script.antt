@@ -17,7 +17,8 @@ use Rattle.seg_script.specs.Operations.{operation_from}
 
 -- the members of a script
 abbrev pub script_members : List (List ℕ)
-script_members = codes "schema" ∷ codes "settings" ∷ codes "operations" ∷ codes "cuts" ∷ codes "filters" ∷ codes "ids" ∷ []
+script_members = codes "schema" ∷ codes "settings" ∷ codes "operations" ∷ codes "cuts"
+    ∷ codes "filters" ∷ codes "ids" ∷ []
 
 -- a text of 32 hexadecimal digits in lower case
 abbrev pub id_of : Data → Option ℕ
@@ -33,7 +34,14 @@ script_from d =
     given (optional (replicate (length cuts + 1) None) (list_of (nullable filter_from)) (codes "filters") d) (λ filters.
     given (optional (range_with_len 1 (length cuts + 2)) (list_of id_of) (codes "ids") d) (λ ids.
     given (required (list_of (operation_from schema)) (codes "operations") d) (λ operations.
-    Some (record { schema = schema; settings = settings; operations = operations; cuts = cuts; filters = filters; ids = ids }))))))))
+    Some (record {
+      schema = schema;
+      settings = settings;
+      operations = operations;
+      cuts = cuts;
+      filters = filters;
+      ids = ids;
+    }))))))))
 
 -- the input of a schema and operations, with what the other members of a JSON value say
 abbrev pub input_with : List FieldEntry → List Operation → Data → Option Input
@@ -43,7 +51,14 @@ input_with schema operations d =
     given (optional [] (list_of natural) (codes "cuts") d) (λ cuts.
     given (optional (replicate (length cuts + 1) None) (list_of (nullable filter_from)) (codes "filters") d) (λ filters.
     given (optional (range_with_len 1 (length cuts + 2)) (list_of id_of) (codes "ids") d) (λ ids.
-    Some (record { schema = schema; settings = settings; operations = operations; cuts = cuts; filters = filters; ids = ids }))))))
+    Some (record {
+      schema = schema;
+      settings = settings;
+      operations = operations;
+      cuts = cuts;
+      filters = filters;
+      ids = ids;
+    }))))))
 
 -- the script that bytes are
 abbrev pub script : List ℕ → Option Input

@@ -12,7 +12,8 @@ use std::alloc::Global;
 /// The cuts of a script.
 pub(crate) fn cuts_at(alloc: Global, json: &Value) -> Result<Vec<usize>, ScriptError>
     ensures ok { IfOk result (λ c. optional [] (list_of natural) (codes "cuts") (view json.now) ≡ Some c.items) }
-    ensures none { result ≡ Err ScriptError.NotScript → optional [] (list_of natural) (codes "cuts") (view json.now) ≡ None }
+    ensures none { result ≡ Err ScriptError.NotScript
+        → optional [] (list_of natural) (codes "cuts") (view json.now) ≡ None }
 {
     match json.get("cuts") {
         None => Ok(Vec::new(alloc)),

@@ -43,7 +43,9 @@ fn known_term(
     value: Value,
     third: Option<Value>,
 ) -> Result<Option<Term>, AllocError>
-    ensures { IfOk result (λ term. term ≡ option_map (λ (bytes : List ℕ). record { field = field; bytes = bytes }) (term_bytes (Some entry.now) (view value) (option_map view third))) }
+    ensures { IfOk result (λ term. term
+        ≡ option_map (λ (bytes : List ℕ). record { field = field; bytes = bytes })
+        (term_bytes (Some entry.now) (view value) (option_map view third))) }
 {
     match third {
         None => plain_term_from(alloc, field, entry.kind, value),
@@ -59,7 +61,9 @@ fn path_term(
     path: Value,
     value: Value,
 ) -> Result<Option<Term>, AllocError>
-    ensures { IfOk result (λ term. term ≡ option_map (λ (bytes : List ℕ). record { field = field; bytes = bytes }) (term_bytes (Some entry.now) (view path) (Some (view value)))) }
+    ensures { IfOk result (λ term. term
+        ≡ option_map (λ (bytes : List ℕ). record { field = field; bytes = bytes })
+        (term_bytes (Some entry.now) (view path) (Some (view value)))) }
 {
     if entry.kind != FieldKind::Json {
         return Ok(None);
@@ -70,7 +74,7 @@ fn path_term(
     json_term_from(alloc, field, entry.expand_dots, path.as_str(), value)
 }
 
-/// What stands for the term of a field that the schema hasn't.
+/// What stands for the term of a field that the schema lacks.
 fn empty_term(alloc: Global, field: Field) -> Result<Option<Term>, AllocError>
     ensures { IfOk result (λ term. term ≡ Some (record { field = field; bytes = [] })) }
 {

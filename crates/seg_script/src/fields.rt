@@ -134,7 +134,7 @@ fn has_lengths(kind: FieldKind, index: IndexOption) -> bool
     kind == FieldKind::Text && index != IndexOption::No
 }
 
-/// Whether terms of a field of this kind may record so much.
+/// Whether terms of a field of this kind may record this much.
 fn is_allowed(kind: FieldKind, index: IndexOption) -> bool
     ensures { result ≡ is_allowed kind index }
 {
@@ -147,7 +147,8 @@ fn is_allowed(kind: FieldKind, index: IndexOption) -> bool
 /// The text that a member is; none where it is null or absent.
 fn text_or_null_at(alloc: Global, json: &Value, name: &str) -> Result<Option<Text>, ScriptError>
     ensures ok { IfOk result (λ t. optional None (nullable as_str) name.now (view json.now) ≡ Some t) }
-    ensures none { result ≡ Err ScriptError.NotScript → optional None (nullable as_str) name.now (view json.now) ≡ None }
+    ensures none { result ≡ Err ScriptError.NotScript
+        → optional None (nullable as_str) name.now (view json.now) ≡ None }
 {
     match json.get(name) {
         None | Some(Value::Null) => Ok(None),

@@ -20,9 +20,13 @@ pub(crate) fn filters_at(
     json: &Value,
     cuts: &[usize],
 ) -> Result<Vec<Option<AliveBitSet>>, ScriptError>
-    ensures ok { IfOk result (λ f. optional (replicate (length cuts.now + 1) None) (list_of (nullable filter_from)) (codes "filters") (view json.now) ≡ Some f.items) }
+    ensures ok { IfOk result (λ f. optional (replicate (length cuts.now + 1) None) (list_of (nullable filter_from))
+        (codes "filters") (view json.now)
+        ≡ Some f.items) }
     ensures none { result ≡ Err ScriptError.NotScript
-        → optional (replicate (length cuts.now + 1) None) (list_of (nullable filter_from)) (codes "filters") (view json.now) ≡ None }
+        → optional (replicate (length cuts.now + 1) None) (list_of (nullable filter_from))
+        (codes "filters") (view json.now)
+        ≡ None }
 {
     match json.get("filters") {
         None => Ok(no_filters(alloc, cuts)?),

@@ -19,7 +19,9 @@ pub(crate) fn ids_at(
     json: &Value,
     cuts: &[usize],
 ) -> Result<Vec<SegmentId>, ScriptError>
-    ensures ok { IfOk result (λ i. optional (range_with_len 1 (length cuts.now + 2)) (list_of id_of) (codes "ids") (view json.now) ≡ Some i.items) }
+    ensures ok { IfOk result
+        (λ i. optional (range_with_len 1 (length cuts.now + 2)) (list_of id_of) (codes "ids") (view json.now)
+        ≡ Some i.items) }
     ensures none { result ≡ Err ScriptError.NotScript
         → optional (range_with_len 1 (length cuts.now + 2)) (list_of id_of) (codes "ids") (view json.now) ≡ None }
 {

@@ -1,4 +1,4 @@
-//! JSON values, one by one off a reader.
+//! JSON values, read one by one.
 ghost use Rattle.std.specs.Prelude.{◌≡◌, ◌<◌, length, Some, None, option_map, IfOk, OnOk, OnErr};
 ghost use Rattle.json.specs.Json.{value, items, members};
 ghost use Rattle.serde_json.specs.Data.{no_members, number, put};
@@ -56,7 +56,8 @@ fn read_items(
     depth: usize,
 ) -> Result<Vec<Value>, ScriptError>
     ensures ok { IfOk result
-        (λ v. converted of_items (items (value depth) (length reader.old) reader.old) ≡ Some (items_view v.items, reader.new)) }
+        (λ v. converted of_items (items (value depth) (length reader.old) reader.old)
+        ≡ Some (items_view v.items, reader.new)) }
     ensures shorter { OnOk result (length reader.new < length reader.old) }
 {
     let mut found = Vec::new(alloc);
@@ -94,7 +95,8 @@ pub(crate) fn put(
     name: &str,
     member: Value,
 ) -> Result<(), AllocError>
-    ensures { OnOk result (members_view members.new.entries ≡ put name.now (view member) (members_view members.old.entries)) }
+    ensures { OnOk result (members_view members.new.entries
+        ≡ put name.now (view member) (members_view members.old.entries)) }
 {
     let key = String::from_str(alloc, name)?;
     drop(members.insert(key, member)?);

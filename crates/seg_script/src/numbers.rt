@@ -1,4 +1,4 @@
-//! Numbers of JSON, off their tokens.
+//! Numbers of JSON, from their tokens.
 ghost use Rattle.std.specs.Prelude.{◌≡◌, true, false, option_map};
 ghost use Rattle.serde_json.specs.Read.{number_of, number_from};
 ghost use Rattle.serde_json.specs.View.{number_view};
@@ -6,8 +6,8 @@ ghost use Rattle.serde_json.specs.View.{number_view};
 use fast_float::Numeral;
 use serde_json::Number;
 
-/// The number that a token writes, as `serde_json` reads it: an integer where it has 64 bits, else the nearest float, where
-/// that is finite.
+/// The number that a token writes, as `serde_json` reads it: an integer where it has 64 bits, else the nearest float,
+/// where that is finite.
 pub(crate) fn number_from(text: &str) -> Option<Number>
     ensures { option_map number_view result ≡ number_of text.now }
 {

@@ -1,4 +1,4 @@
-//! Reads the operations of a script one by one off its text.
+//! Reads the operations of a script one by one from its text.
 ghost use Rattle.std.specs.Prelude.{◌≡◌, ◌∷◌, [], true, List, map, length, codes, Some, None, IfOk, OnOk};
 ghost use Rattle.json.specs.Token.{Token as SpecToken, begin_object, end_object, begin_array};
 ghost use Rattle.json.specs.Json.{value, items, members};
@@ -30,7 +30,8 @@ pub(crate) fn members_before(
     alloc: Global,
     reader: &mut Reader<'_>,
 ) -> Result<Map<String, Value>, ScriptError>
-    ensures { IfOk result (λ before. (d : Data) (r : List SpecToken) → converted of_json (value 126 reader.new) ≡ Some (d, end_object ∷ r)
+    ensures { IfOk result (λ before. (d : Data) (r : List SpecToken)
+        → converted of_json (value 126 reader.new) ≡ Some (d, end_object ∷ r)
         → converted (λ ms. of_members ms no_members) (members (value 126) (length reader.old) reader.old)
         ≡ Some (put (codes "operations") d (members_view before.entries), r)) }
 {
@@ -64,7 +65,8 @@ fn operations_left(
     reader: &mut Reader<'_>,
     schema: &Schema,
 ) -> Result<Vec<UserOperation<TantivyDocument>>, ScriptError>
-    ensures { IfOk result (λ os. (ds : Items) × (converted of_items (items (value 125) (length reader.old) reader.old) ≡ Some (ds, reader.new))
+    ensures { IfOk result (λ os. (ds : Items)
+        × (converted of_items (items (value 125) (length reader.old) reader.old) ≡ Some (ds, reader.new))
         × (each (operation_from schema.now) ds ≡ Some (map operation_of os.items))) }
 {
     let mut operations = Vec::new(alloc);

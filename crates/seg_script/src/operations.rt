@@ -22,7 +22,8 @@ pub(crate) fn operations_from(
     schema: &Schema,
     json: Value,
 ) -> Result<Vec<UserOperation<TantivyDocument>>, ScriptError>
-    ensures ok { IfOk result (λ os. list_of (operation_from schema.now) (view json) ≡ Some (map operation_of os.items)) }
+    ensures ok { IfOk result (λ os. list_of (operation_from schema.now) (view json)
+        ≡ Some (map operation_of os.items)) }
     ensures none { result ≡ Err ScriptError.NotScript → list_of (operation_from schema.now) (view json) ≡ None }
 {
     let Value::Array(items) = json else {
@@ -51,7 +52,7 @@ pub(crate) fn operation_from(
     operation_named(alloc, schema, word.as_str(), value)
 }
 
-/// The addition or delete that a word says of a value.
+/// The addition or delete that a word makes of a value.
 fn operation_named(
     alloc: Global,
     schema: &Schema,

@@ -7,7 +7,8 @@ use serde_json::Value;
 
 /// The values of a list of two or of three.
 pub(crate) fn two_or_three(mut items: Vec<Value>) -> Option<(Value, Value, Option<Value>)>
-    ensures { option_map (λ p. (view p.0, view p.1, option_map view p.2)) result ≡ two_or_three (items_view items.items) }
+    ensures { option_map (λ p. (view p.0, view p.1, option_map view p.2)) result
+        ≡ two_or_three (items_view items.items) }
 {
     if items.len() == 3 {
         let third = items.pop()?;

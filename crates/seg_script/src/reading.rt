@@ -31,7 +31,7 @@ fn reading_by_word(kind: Option<FieldKind>, word: &Value) -> Option<Reading>
     Some(reading_in(kind, named))
 }
 
-/// In a field that the schema hasn't a value is read as JSON, whatever the word.
+/// In a field that the schema lacks a value is read as JSON, whatever the word.
 fn reading_in(kind: Option<FieldKind>, named: Reading) -> Reading
     ensures { result ≡ reading_in kind named }
 {

@@ -55,7 +55,8 @@ fn read_by_operations(alloc: Global, bytes: &[u8]) -> Result<BuildInput, ScriptE
 
 /// The input that all tokens of a text say.
 fn script_read(alloc: Global, reader: &mut Reader<'_>) -> Result<BuildInput, ScriptError>
-    ensures { IfOk result (λ s. (d : Data) × (converted of_json (value 127 reader.old) ≡ Some (d, [])) × (script_from d ≡ Some s)) }
+    ensures { IfOk result (λ s. (d : Data) × (converted of_json (value 127 reader.old) ≡ Some (d, []))
+        × (script_from d ≡ Some s)) }
 {
     begin_object(reader)?;
     let before = Value::Object(members_before(alloc, reader)?);
@@ -94,7 +95,7 @@ fn input_with(
     })
 }
 
-/// The input that the bytes say. They are let go as soon as their JSON value is there, and texts are moved out of it.
+/// The input that the bytes say. They are released as soon as their JSON value is there, and texts are moved out of it.
 fn read_whole(alloc: Global, bytes: Vec<u8>) -> Result<BuildInput, ScriptError>
     ensures ok { IfOk result (λ s. script bytes.items ≡ Some s) }
     ensures not_script { result ≡ Err ScriptError.NotScript → script bytes.items ≡ None }

@@ -15,7 +15,8 @@ use serde_json::Value;
 
 /// The settings of a script.
 pub(crate) fn settings_at(json: &Value) -> Option<IndexSettings>
-    ensures { option_map settings_of result ≡ optional default_settings settings_from (codes "settings") (view json.now) }
+    ensures { option_map settings_of result
+        ≡ optional default_settings settings_from (codes "settings") (view json.now) }
 {
     match json.get("settings") {
         None => Some(IndexSettings {

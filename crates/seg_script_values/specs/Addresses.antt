@@ -22,4 +22,5 @@ colon_address text = option_map octets_of (whole_value (read_ipv6 text))
 
 -- an address of either form; groups that end in dotted numbers are none
 abbrev pub address_of : List ℕ → Option (List ℕ)
-address_of text = if has_byte 58 text then (if has_byte 46 text then None else colon_address text) else dotted_address text
+address_of text = if has_byte 58 text
+    then (if has_byte 46 text then None else colon_address text) else dotted_address text

@@ -39,4 +39,5 @@ coded_tree (object ms) = None
 
 -- the term of a value under a path in a JSON field
 abbrev pub json_term : Bool → List ℕ → Data → Option (List ℕ)
-json_term expand_dots path d = option_map (λ coded. joined_path expand_dots (path_keys path) ++ 0 ∷ coded) (given (tree_from Json d) coded_tree)
+json_term expand_dots path d = option_map (λ coded. joined_path expand_dots (path_keys path) ++ 0 ∷ coded)
+    (given (tree_from Json d) coded_tree)

@@ -15,4 +15,6 @@ has_full_steps encoded = list_all (λ step. nat_lt 0 (length step)) (steps encod
 
 -- a path that is the path of the text encoded from it, no step of which is empty
 abbrev pub facet_of : List ℕ → Option (List ℕ)
-facet_of path = let encoded = encoded_from path in if bytes_eq path (path_of encoded) && has_full_steps encoded then Some encoded else None
+facet_of path =
+    let encoded = encoded_from path in
+    if bytes_eq path (path_of encoded) && has_full_steps encoded then Some encoded else None

@@ -20,11 +20,18 @@ token_from d =
     given (required (below (2 ^ 32)) (codes "position") d) (λ position.
     given (required (below (2 ^ 32)) (codes "position_length") d) (λ position_length.
     given (required as_str (codes "text") d) (λ text.
-    Some (record { offset_from = offset_from; offset_to = offset_to; position = position; position_length = position_length; text = text })))))))
+    Some (record {
+      offset_from = offset_from;
+      offset_to = offset_to;
+      position = position;
+      position_length = position_length;
+      text = text;
+    })))))))
 
 -- the values of the members `text` and `tokens`, where there are just these
 abbrev pub text_and_tokens : Members → Option (Data × Data)
-text_and_tokens (member first text (member second tokens no_members)) = provided (bytes_eq first (codes "text") && bytes_eq second (codes "tokens")) (Some (text, tokens))
+text_and_tokens (member first text (member second tokens no_members)) =
+    provided (bytes_eq first (codes "text") && bytes_eq second (codes "tokens")) (Some (text, tokens))
 text_and_tokens _ = None
 
 -- `{"text": text, "tokens": [tokens]}`

@@ -5,7 +5,8 @@ ghost use Rattle.seg_script_values.specs.Addresses.{has_byte, dotted_address, co
 
 use std::net::{Ipv4Addr, Ipv6Addr};
 
-/// The address that a text is: dotted numbers as the IPv4-mapped address, or groups of hexadecimal digits between colons.
+/// The address that a text is: dotted numbers as the IPv4-mapped address, or groups of hexadecimal digits between
+/// colons.
 pub fn address_from(text: &str) -> Option<Ipv6Addr>
     ensures { option_map ipv6_octets result ≡ address_of text.now }
 {

@@ -9,10 +9,12 @@ use base64::engine::general_purpose::STANDARD;
 use seg_tokens::Bytes;
 use std::alloc::{AllocError, Global};
 
-/// The bytes of which a text is the standard base64 with padding (RFC 4648, section 4); none where it is that of no bytes.
+/// The bytes of which a text is the standard base64 with padding (RFC 4648, section 4); none where it is that of no
+/// bytes.
 pub fn bytes_from(alloc: Global, text: &str) -> Result<Option<Bytes>, AllocError>
     ensures value { IfOk result (λ bytes. bytes ≡ bytes_of text.now) }
-    ensures strict { (bytes : List ℕ) → IsBytes bytes → (bytes_of text.now ≡ Some bytes) ↔ (text.now ≡ encode_of standard bytes) }
+    ensures strict { (bytes : List ℕ) → IsBytes bytes
+        → (bytes_of text.now ≡ Some bytes) ↔ (text.now ≡ encode_of standard bytes) }
 {
     match STANDARD.decode(alloc, text.as_bytes()) {
         Ok(bytes) => Ok(Some(Bytes::from_vec(bytes))),

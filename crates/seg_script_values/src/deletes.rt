@@ -10,15 +10,16 @@ use seg_values::{Field, FieldKind, OwnedValue, Term, ValueError};
 use serde_json::Value;
 use std::alloc::{AllocError, Global};
 
-/// The term that a value names in a field of a kind other than JSON; none where it is no leaf of that kind. A text is not
-/// cut, and a facet names itself alone.
+/// The term that a value names in a field of a kind other than JSON; none where it is no leaf of that kind. A text is
+/// not cut, and a facet names itself alone.
 pub fn plain_term_from(
     alloc: Global,
     field: Field,
     kind: FieldKind,
     json: Value,
 ) -> Result<Option<Term>, AllocError>
-    ensures { IfOk result (λ term. term ≡ option_map (λ (bytes : List ℕ). record { field = field; bytes = bytes }) (plain_term kind (view json))) }
+    ensures { IfOk result (λ term. term
+        ≡ option_map (λ (bytes : List ℕ). record { field = field; bytes = bytes }) (plain_term kind (view json))) }
 {
     let Some(value) = tree_from(alloc, kind, json)? else {
         return Ok(None);
@@ -40,7 +41,9 @@ pub fn json_term_from(
     path: &str,
     json: Value,
 ) -> Result<Option<Term>, AllocError>
-    ensures { IfOk result (λ term. term ≡ option_map (λ (bytes : List ℕ). record { field = field; bytes = bytes }) (json_term expand_dots path.now (view json))) }
+    ensures { IfOk result (λ term. term
+        ≡ option_map (λ (bytes : List ℕ). record { field = field; bytes = bytes })
+        (json_term expand_dots path.now (view json))) }
 {
     let Some(value) = tree_from(alloc, FieldKind::Json, json)? else {
         return Ok(None);
@@ -56,7 +59,9 @@ pub fn json_term_from(
 
 /// A term that a leaf completes; none where the value is no text, number, truth value or date.
 fn completed(mut front: Term, value: &OwnedValue) -> Result<Option<Term>, ValueError>
-    ensures { IfOk result (λ term. term ≡ option_map (λ (coded : List ℕ). record front { bytes = front.bytes ++ coded }) (coded_tree (tree_of value.now))) }
+    ensures { IfOk result (λ term. term
+        ≡ option_map (λ (coded : List ℕ). record front { bytes = front.bytes ++ coded })
+        (coded_tree (tree_of value.now))) }
 {
     match value {
         OwnedValue::Str(text) => front.append_type_and_str(text.as_str())?,

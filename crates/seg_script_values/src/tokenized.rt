@@ -33,8 +33,8 @@ pub fn tokenized_from(alloc: Global, json: Value) -> Result<Option<PreTokenizedS
     }))
 }
 
-/// The values of the members `text` and `tokens`, where an object has just these. An object has its members in the order of
-/// their names.
+/// The values of the members `text` and `tokens`, where an object has just these. An object has its members in the
+/// order of their names.
 fn text_and_tokens(members: Map<String, Value>) -> Option<(Value, Value)>
     ensures { option_map (λ p. (view p.0, view p.1)) result ≡ text_and_tokens (members_view members.entries) }
 {

@@ -47,7 +47,7 @@ below_more : (n : ℕ) (bytes : List ℕ) (ps : List Part) → AllBelow n ps →
 below_more n bytes [] h = (omega arith, tt)
 below_more n bytes (p ∷ ps) h = let lt : p.0 < n = h.0 in (omega (arith, lt), below_more n bytes ps h.1)
 
--- the fields with one entry more
+-- the fields with one more entry
 indexed_next : (first n : ℕ) (schema : Schema) (e : FieldEntry) → slice_get schema n ≡ Some e → indexed_from first (take (suc n) schema) ≡ indexed_from first (take n schema) ++ cond (is_indexed e) ((first + n) ∷ []) []
 indexed_next first n [] e at = absurd (none-some e at)
 indexed_next first zero (x ∷ xs) e at =

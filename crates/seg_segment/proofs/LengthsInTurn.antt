@@ -49,7 +49,7 @@ module _ (fs : List ℕ) (i f : ℕ) (lt : i < length fs) (is : f ≡ get_or fs 
       let last : low_after 0 (ps ++ (f, ids) ∷ []) ≡ f + 1 = low_after-last 0 ps (f, ids) in
       subst (λ o. IfSome o (λ qs. AscendFrom (low_after 0 qs) (drop (i + 1) fs))) (sym grown.is) (subst (λ low. AscendFrom low (drop (i + 1) fs)) (sym last) rest)
 
-  -- a part more
+  -- one more part
   pub next_parts : (ids : ℕ → List ℕ) (before after : Option (List Part))
       → HasGrown before after (λ ps. ps ++ (f, ids f) ∷ []) → before ≡ Some (parts_with ids (take i fs))
       → after ≡ Some (parts_with ids (take (i + 1) fs))

@@ -50,5 +50,6 @@ module _ (total : ℕ → ℕ) (Has : ℕ → List TermWritten → Type 0) where
     pub term_fields : map (λ p. p.0) files.terms ≡ indexed_fields schema
     pub posting_fields : map (λ p. p.0) files.postings ≡ indexed_fields schema
     pub position_fields : map (λ p. p.0) files.positions ≡ indexed_fields schema
-    pub each : (field : ℕ) (entry : FieldEntry) → slice_get schema field ≡ Some entry → is_indexed entry ≡ true → HasField files field
+    pub each : (field : ℕ) (entry : FieldEntry) → slice_get schema field ≡ Some entry
+        → is_indexed entry ≡ true → HasField files field
     pub totals : (field : ℕ) (part : List ℕ) → field_of files.postings field ≡ Some part → u64_at part 0 ≡ total field

@@ -15,8 +15,9 @@ use Rattle.seg_postings.specs.Kinds.{kind_of}
 abbrev pub indexed_fields : Schema → List ℕ
 indexed_fields schema = flat_map (λ f. if is_indexed f.1 then f.0 ∷ [] else []) (fields schema)
 
--- the parts of a field in three composite files spell its terms, each recorded as the field asks; any total of tokens will do
-pub record HoldsField (entry : FieldEntry) (field : ℕ) (terms postings positions : List parts.Part) (held : Terms) : Type 0 where
+-- the parts of a field in three composite files spell its terms, each recorded as the field asks; any total will do
+pub record HoldsField (entry : FieldEntry) (field : ℕ)
+    (terms postings positions : List parts.Part) (held : Terms) : Type 0 where
   pub dictionary : List ℕ
   pub postings_part : List ℕ
   pub positions_part : List ℕ
@@ -40,4 +41,5 @@ pub record HoldTerms (schema : Schema) (terms postings positions : List ℕ) (he
   pub term_fields : map (λ p. p.0) term_parts ≡ indexed_fields schema
   pub posting_fields : map (λ p. p.0) posting_parts ≡ indexed_fields schema
   pub position_fields : map (λ p. p.0) position_parts ≡ indexed_fields schema
-  pub each : (field : ℕ) (entry : FieldEntry) → slice_get schema field ≡ Some entry → is_indexed entry ≡ true → HoldsField entry field term_parts posting_parts position_parts (slice_index_or held field empty)
+  pub each : (field : ℕ) (entry : FieldEntry) → slice_get schema field ≡ Some entry → is_indexed entry ≡ true
+      → HoldsField entry field term_parts posting_parts position_parts (slice_index_or held field empty)

@@ -10,11 +10,13 @@ use Rattle.seg_segment.specs.declared.segment_files.SegmentFiles.{SegmentFiles}
 
 -- files spell at most one contents for a schema
 abbrev pub FilesSpellOneContents : Type 0
-FilesSpellOneContents = (schema : Schema) (files : SegmentFiles) (c d : Contents) → Spell schema files c → Spell schema files d → c ≡ d
+FilesSpellOneContents = (schema : Schema) (files : SegmentFiles) (c d : Contents) → Spell schema files c
+    → Spell schema files d → c ≡ d
 
 -- the files of an id hold at most one contents for a schema
 abbrev pub HoldsOneContents : Type 0
-HoldsOneContents = (files : NamedFiles) (id : ℕ) (schema : Schema) (a b : Contents) → Holds files id schema a → Holds files id schema b → a ≡ b
+HoldsOneContents = (files : NamedFiles) (id : ℕ) (schema : Schema) (a b : Contents) → Holds files id schema a
+    → Holds files id schema b → a ≡ b
 
 -- files that are there spell the contents that they hold
 abbrev pub HeldFilesSpell : Type 0

@@ -15,7 +15,8 @@ use Rattle.seg_segment.specs.declared.segment_files.SegmentFiles.{SegmentFiles}
 
 -- the names of the files of an id, in the order in which they are made
 abbrev pub segment_names : ℕ → List FileName
-segment_names id = Part id FieldNorms ∷ Part id FastFields ∷ Part id Terms ∷ Part id Postings ∷ Part id Positions ∷ Part id Store ∷ []
+segment_names id = Part id FieldNorms ∷ Part id FastFields ∷ Part id Terms ∷ Part id Postings
+    ∷ Part id Positions ∷ Part id Store ∷ []
 
 -- the components of a segment, in the order in which their files are read
 abbrev pub read_order : List SegmentComponent
@@ -52,7 +53,8 @@ AreAbsent names files = AllByRecursion (λ name. get files name ≡ None) names
 
 -- the files of all other names stay
 abbrev pub KeepsAllBut : List FileName → NamedFiles → NamedFiles → Type 0
-KeepsAllBut names old new = (other : FileName) → AllByRecursion (λ name. other ≢ name) names → get new other ≡ get old other
+KeepsAllBut names old new = (other : FileName) → AllByRecursion (λ name. other ≢ name) names
+    → get new other ≡ get old other
 
 -- each name was written
 abbrev pub wrote : List FileName → List Answer

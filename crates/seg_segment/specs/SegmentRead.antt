@@ -20,7 +20,8 @@ first_of files = record { terms = files.terms; store = files.store; postings = f
 
 abbrev pub first_steps : ℕ → FirstFiles → List Step
 first_steps id files =
-    calls (read (Part id Terms) files.terms) ∷ calls (read (Part id Store) files.store) ∷ calls (read (Part id Postings) files.postings) ∷ []
+    calls (read (Part id Terms) files.terms) ∷ calls (read (Part id Store) files.store)
+    ∷ calls (read (Part id Postings) files.postings) ∷ []
 
 -- and the others
 abbrev pub rest_steps : ℕ → SegmentFiles → List Step

@@ -12,8 +12,9 @@ use Rattle.seg_values.specs.declared.error.TantivyError.TheVariants.{OutOfMemory
 use Rattle.seg_segment.specs.SegmentFiles.{write_steps}
 use Rattle.seg_segment.specs.declared.segment_files.SegmentFiles.{SegmentFiles}
 
--- the segment, and what its components have: parts of fields and stored documents, of which nothing is left once out of memory,
--- the bytes of the columns, a serializer of lengths until it is taken, and the bytes of the lengths where they were put
+-- the segment, and what its components have: parts of fields and stored documents, of which nothing is left once out of
+-- memory, the bytes of the columns, a serializer of lengths until it is taken, and the bytes of the lengths where they
+-- were put
 pub record Serializing : Type 0 where
   pub segment : SegmentParts
   pub postings : Option FieldFiles
@@ -63,6 +64,8 @@ pub record IsLaidOut (s : Serializing) (files : SegmentFiles) : Type 0 where
   pub norms : IsNormsFile s.norms files.field_norms
 
 -- it is closed: out of memory before any call, or the six files of its segment are made of what it has
-pub data Closes {T : Type 0} (s : Serializing) (result : Result T TantivyError) (before after : DirectoryState) : Type 0 where
+pub data Closes {T : Type 0} (s : Serializing) (result : Result T TantivyError)
+    (before after : DirectoryState) : Type 0 where
   starves : result ≡ Err OutOfMemory → after ≡ before → Closes s result before after
-  makes : (files : SegmentFiles) → IsLaidOut s files → Works (write_steps s.segment.meta.id files) result before after → Closes s result before after
+  makes : (files : SegmentFiles) → IsLaidOut s files → Works (write_steps s.segment.meta.id files) result before after
+      → Closes s result before after

@@ -7,7 +7,8 @@ use Rattle.seg_segment.specs.Spelling.{Spell}
 use Rattle.seg_segment.specs.declared.segment_files.SegmentFiles.{SegmentFiles}
 
 -- six files spell the full reading of documents
-pub record StandFor (schema : Schema) (analyzer : Analyzer) (documents : List Document) (files : SegmentFiles) : Type 0 where
+pub record StandFor (schema : Schema) (analyzer : Analyzer) (documents : List Document)
+    (files : SegmentFiles) : Type 0 where
   pub contents : Contents
   pub read : full_reading schema analyzer documents ≡ Some contents
   pub spelled : Spell schema files contents

@@ -46,7 +46,8 @@ opened bytes kind w =
 abbrev pub posting_of : RecordKind → ℕ → ℕ → List ℕ → Posting
 posting_of kind document count places = record { document = document; recorded = recorded_as kind count places }
 
--- a count and positions that don't fall are what a kind records: once where it keeps no count, and no position where it keeps none
+-- a count and positions that don't fall are what a kind records: once where it keeps no count, and
+-- no position where it keeps none
 abbrev pub AreOfKind : RecordKind → ℕ → List ℕ → Type 0
 AreOfKind Documents count places = (count ≡ 1) × (places ≡ [])
 AreOfKind Counts count places = places ≡ []

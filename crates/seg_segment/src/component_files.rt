@@ -16,7 +16,8 @@ pub(crate) fn write_components<W: Directory>(
     files: &SegmentFiles,
     components: &[SegmentComponent],
 ) -> TResult<()>
-    ensures { Works (component_steps id files.now components.now) result (W.state directory.old) (W.state directory.new) }
+    ensures { Works (component_steps id files.now components.now) result
+        (W.state directory.old) (W.state directory.new) }
 {
     for component in components {
         let name = FileName::Part(id, *component);

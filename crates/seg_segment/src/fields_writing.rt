@@ -46,7 +46,8 @@ pub fn write_fields<T: TermsByField>(
     schema: &Schema,
     terms: &T,
 ) -> Result<InvertedIndexSerializer, AllocError>
-    requires { (field : ℕ) (entry : FieldEntry) → slice_get schema.now field ≡ Some entry → is_indexed entry ≡ true → T.can_write terms.now field }
+    requires { (field : ℕ) (entry : FieldEntry) → slice_get schema.now field ≡ Some entry → is_indexed entry ≡ true
+        → T.can_write terms.now field }
     ensures { IfOk result (λ files. IsSomeAnd files (HaveFields (T.total terms.now) (T.has terms.now) schema.now)) }
 {
     schema.fields_are_valid();
@@ -68,9 +69,11 @@ fn write_field<T: TermsByField>(
     files: &mut InvertedIndexSerializer,
 ) -> Result<(), AllocError>
     requires can { is_indexed entry.now ≡ true → T.can_write terms.now field }
-    requires ascends { IfSome files.old (λ f. (low_after 0 f.terms ≤ field) × (low_after 0 f.postings ≤ field) × (low_after 0 f.positions ≤ field)) }
+    requires ascends { IfSome files.old (λ f. (low_after 0 f.terms ≤ field) × (low_after 0 f.postings ≤ field)
+        × (low_after 0 f.positions ≤ field)) }
     requires limit { field < 2 ^ 32 - 1 }
-    ensures { OnOk result (AddsIfIndexed (T.total terms.now) (T.has terms.now) (is_indexed entry.now) field files.old files.new) }
+    ensures { OnOk result
+        (AddsIfIndexed (T.total terms.now) (T.has terms.now) (is_indexed entry.now) field files.old files.new) }
 {
     if !entry.is_indexed() {
         return Ok(());

@@ -9,7 +9,8 @@ use seg_norms::{FieldNormsSerializer, FieldNormsWriter};
 use seg_values::{Field, Schema};
 use std::alloc::{AllocError, Global};
 
-/// The length ids of each field of a segment that is made: of documents that were indexed, or of segments that are joined.
+/// The length ids of each field of a segment that is made: of documents that were indexed, or of segments that are
+/// joined.
 pub trait LengthsByField {
     /// The ids of a field, one for each document.
     ghost ids: { Self → ℕ → List ℕ };
@@ -27,7 +28,8 @@ pub fn write_lengths<L: LengthsByField>(
     schema: &Schema,
     lengths: &L,
 ) -> Result<Vec<u8>, AllocError>
-    ensures { IfOk result (λ file. composite file.items ≡ Some (parts_with (L.ids lengths.now) (fields_with_lengths schema.now))) }
+    ensures { IfOk result (λ file. composite file.items
+        ≡ Some (parts_with (L.ids lengths.now) (fields_with_lengths schema.now))) }
 {
     schema.fields_are_valid();
     let Ok(fields) = FieldNormsWriter::fields_with_fieldnorm(alloc, schema) else {

@@ -98,8 +98,8 @@ impl FirstFiles {
 }
 
 impl SegmentFiles {
-    /// Reads the files of an id, each once, in the order terms, store, postings, positions, fast fields, field norms. The
-    /// first that is missing ends it.
+    /// Reads the files of an id, each once, in the order terms, store, postings, positions, fast fields, field norms.
+    /// The first that is missing ends it.
     pub fn read<W: Directory>(
         alloc: Global,
         id: SegmentId,
@@ -139,7 +139,7 @@ impl SegmentFiles {
         })
     }
 
-    /// The same bytes once more; this takes no memory.
+    /// The same bytes again; this takes no memory.
     pub fn share(&self) -> SegmentFiles
         ensures { result ≡ self.now }
     {

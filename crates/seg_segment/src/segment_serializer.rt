@@ -57,7 +57,8 @@ impl SegmentSerializer {
     ) -> TResult<SegmentSerializer>
         ensures ok { IfOk result (λ s. s ≡ unfilled segment settings.now.docstore_blocksize) }
         ensures refused { result ≡ Err (TantivyError.InvalidArgument ArgumentCause.Settings)
-            ↔ ((settings.now.docstore_compression ≢ Compressor.None) ⊎ (settings.now.docstore_compress_dedicated_thread ≡ true)) }
+            ↔ ((settings.now.docstore_compression ≢ Compressor.None)
+            ⊎ (settings.now.docstore_compress_dedicated_thread ≡ true)) }
         ensures causes { IfErr result (λ e. e ≡ TantivyError.InvalidArgument ArgumentCause.Settings) }
     {
         let Ok(store) = StoreWriter::new(
@@ -133,7 +134,8 @@ impl SegmentSerializer {
 
     /// The bytes of the columns.
     pub fn get_fast_field_write(&mut self) -> &mut Vec<u8>
-        ensures* writes_back { sem 𝓛 (Lends the_row bytes_row self.entry result (λ v. record self.old { fast = v.items })) }
+        ensures* writes_back { sem 𝓛 (Lends the_row bytes_row self.entry result
+            (λ v. record self.old { fast = v.items })) }
         ensures value { result.now.items ≡ self.old.fast }
     {
         &mut self.fast
@@ -164,8 +166,8 @@ impl SegmentSerializer {
         (segment, store)
     }
 
-    /// Writes the six files, in the order field norms, fast fields, terms, postings, positions, store. Lengths that were
-    /// not put are a composite without parts. Of any other name a crash leaves what it might have left before.
+    /// Writes the six files, in the order field norms, fast fields, terms, postings, positions, store. Lengths that
+    /// were not put are a composite without parts. Of any other name a crash leaves what it might have left before.
     pub fn close<W: Directory>(self, directory: &mut W) -> TResult<()>
         ensures does { Closes self result (W.state directory.old) (W.state directory.new) }
         ensures disk { IsTrue (W.state directory.old).disk.told → KeepsOnDisk (IsOtherName self.segment.meta.id)

@@ -8,8 +8,8 @@ use seg_postings::{FieldSerializer, RecordKind};
 use std::alloc::AllocError;
 use std::marker::Model;
 
-/// Writes the terms of a field, one document of a term after another. A term is begun by its first document, so that none
-/// without a document is written.
+/// Writes the terms of a field, one document of a term after another. A term is begun by its first document, so that
+/// none without a document is written.
 #[derive(Drop)]
 pub struct TermWriter {
     field: FieldSerializer,
@@ -58,7 +58,8 @@ impl TermWriter {
     ) -> Result<(), AllocError>
         requires recorded { AreOfKind kind count positions.now }
         requires takes { IsSomeAnd self.old (MayTake bytes.now (posting_of kind document count positions.now ∷ [])) }
-        ensures { OnOk result (HasGrown self.old self.new (with_more bytes.now (posting_of kind document count positions.now ∷ []))) }
+        ensures { OnOk result
+            (HasGrown self.old self.new (with_more bytes.now (posting_of kind document count positions.now ∷ []))) }
     {
         self.open_term(bytes, kind)?;
         self.write_document(document, count, positions)

@@ -64,7 +64,7 @@ unshifted (c ∷ cs) =
     let rest = unshifted cs in
     λ i. record { doc_end = ids i; byte_end = ends i } ∷ rest i
 
--- how many documents there are up to and with each block
+-- how many documents there are up to and including each block
 pub shifted_ids : (d s : ℕ) (bs : List Block) → map (λ c. c.doc_end) (map (shifted d s) (checkpoints bs)) ≡ id_ends d bs
 shifted_ids d s [] = refl
 shifted_ids d s (b ∷ bs) =

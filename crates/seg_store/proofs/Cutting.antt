@@ -32,7 +32,7 @@ ends-next start total e es h =
 pub ends-go : (start total e : ℕ) (es : List ℕ) → start ≤ e → are_ends start total (e ∷ es) ≡ are_ends e total es
 ends-go start total e es h = rw (le-leb start e h) refl
 
--- one end more
+-- one more end
 pub ends-push : (start total e : ℕ) (es : List ℕ) → are_ends start total es ≡ true → total ≤ e → are_ends start e (es ++ e ∷ []) ≡ true
 ends-push start total e [] h le = ends-go start e e [] (omega (arith, eqb-true start total h)) ∙ eq-eqb e e refl
 ends-push start total e (x ∷ es) h le =

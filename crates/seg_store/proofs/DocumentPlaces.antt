@@ -112,7 +112,7 @@ id_at first (b ∷ bs) (suc i) lt =
     let sum : (first + length b) + more ≡ first + (length b + more) = omega arith in
     id_at (first + length b) bs i (omega (arith, lt)) ∙ ap Some sum
 
--- how many documents there are up to and with a block
+-- how many documents there are up to and including a block
 pub doc_end_at : (bytes : List ℕ) (i : ℕ) → is_store bytes ≡ true → i < store_count bytes → u32_at (store_table bytes) (12 * i) ≡ document_count (take (suc i) (blocks_of bytes))
 doc_end_at bytes i h lt =
     let found = slice_get-map (λ c. c.0) (store_checkpoints bytes) i ∙ ap (option_map (λ c. c.0)) (checkpoint_found (store_count bytes) (store_table bytes) i lt) in

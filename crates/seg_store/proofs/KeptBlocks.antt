@@ -42,7 +42,7 @@ id_ends-below limit first (b ∷ bs) lt = (omega arith, id_ends-below limit (fir
 all-push : (test : List ℕ → Bool) (xs : List (List ℕ)) (x : List ℕ) → list_all test xs ≡ true → test x ≡ true → list_all test (xs ++ x ∷ []) ≡ true
 all-push test xs x all one = list_all-append test xs (x ∷ []) ∙ rw (all, one) refl
 
--- ---- a document more
+-- ---- one more document
 
 -- what is kept before a document's bytes
 abbrev pub short : Buffers → List ℕ → Buffers
@@ -124,7 +124,7 @@ is_full b kept le = sym (by (le-leb b.block_size (byte_count (taken_of b).open_b
     by : nat_le b.block_size (byte_count (taken_of b).open_block) ≡ true → closed_if_full (taken_of b) ≡ with_closed (taken_of b)
     by e = rw e refl
 
--- a document more, as the code adds it
+-- one more document, as the code adds it
 pub record IsGrown (b : Buffers) (n size : ℕ) (ends : List ℕ) : Type 0 where
   pub kept : IsKept (record b { ends = ends; documents = b.documents + 1; stored = b.stored + size })
   pub taken : closed_if_full (taken_of (record b { ends = ends; documents = b.documents + 1; stored = b.stored + size })) ≡ with_document (drop n b.bytes) (taken_of (short b (take n b.bytes)))
@@ -143,7 +143,7 @@ is_grown b n size end ends size_is end_is ends_are kept stored few =
       taken = sym (ap (λ (x : Buffers). closed_if_full (taken_of x)) same) ∙ ap closed_if_full is.taken;
     }
 
--- ---- a block more
+-- ---- one more block
 
 -- what is kept once the open block is closed
 abbrev pub closed_at : Buffers → List ℕ → ℕ → Buffers

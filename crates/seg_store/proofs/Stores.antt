@@ -47,7 +47,7 @@ length-checkpoints (c ∷ cs) =
     let twelve : length (checkpoint_form c) ≡ 12 = refl in
     omega (arith, length-append (checkpoint_form c) (flat_map checkpoint_form cs), twelve, length-checkpoints cs)
 
--- one checkpoint more is written
+-- one more checkpoint is written
 pub one_checkpoint : (out after : List ℕ) (cs : List Checkpoint) (i : ℕ) (d : Checkpoint) → i < length cs → after ≡ out ++ checkpoint_form (get_or cs i d) → after ++ flat_map checkpoint_form (drop (i + 1) cs) ≡ out ++ flat_map checkpoint_form (drop i cs)
 one_checkpoint out after cs i d lt more =
     let here : drop i cs ≡ get_or cs i d ∷ drop (i + 1) cs = drop-cons cs i d lt ∙ ap (λ (j : ℕ). get_or cs i d ∷ drop j cs) (sym (add-one i)) in

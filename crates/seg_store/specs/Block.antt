@@ -32,5 +32,7 @@ documents_in bytes = cut_from 0 (block_ends bytes) (block_body bytes)
 -- whether bytes are a block
 unfoldable pub is_block : List ℕ → Bool
 is_block bytes =
-    nat_lt 0 (block_count bytes) && (nat_le (4 + 8 * block_count bytes) (length bytes) &&
-    (are_ends 0 (length (block_body bytes)) (block_ends bytes) && list_all is_stored_document (cut_from 0 (block_ends bytes) (block_body bytes))))
+    nat_lt 0 (block_count bytes)
+    && (nat_le (4 + 8 * block_count bytes) (length bytes)
+    && (are_ends 0 (length (block_body bytes)) (block_ends bytes)
+    && list_all is_stored_document (cut_from 0 (block_ends bytes) (block_body bytes))))

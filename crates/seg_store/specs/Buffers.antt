@@ -13,7 +13,8 @@ use Rattle.seg_store.specs.Writing.{Taken, taken_count, block_bytes, byte_count}
 abbrev pub checkpoint_form : Checkpoint → List ℕ
 checkpoint_form c = to_le_bytes w32 c.doc_end ++ to_le_bytes w64 c.byte_end
 
--- the bytes so far, with a checkpoint for each closed block; where the open block starts, and where its documents end in it; how many documents there are, how many bytes these have, and the size of blocks
+-- the bytes so far, with a checkpoint for each closed block; where the open block starts, and where its documents end
+-- in it; how many documents there are, how many bytes these have, and the size of blocks
 pub record Buffers : Type 0 where
   pub bytes : List ℕ
   pub checkpoints : List Checkpoint
@@ -29,7 +30,11 @@ closed_parts b = cut_from 0 (map (λ c. c.byte_end) b.checkpoints) (take b.start
 
 -- what is kept, as blocks
 abbrev pub taken_of : Buffers → Taken
-taken_of b = record { block_size = b.block_size; closed = map documents_in (closed_parts b); open_block = cut_from 0 b.ends (drop b.start b.bytes) }
+taken_of b = record {
+  block_size = b.block_size;
+  closed = map documents_in (closed_parts b);
+  open_block = cut_from 0 b.ends (drop b.start b.bytes);
+}
 
 -- the closed blocks lie one after the other from the start on
 pub record AreClosed (b : Buffers) : Type 0 where

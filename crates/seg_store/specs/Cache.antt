@@ -4,7 +4,8 @@ use Rattle.std.specs.List.{list_any}
 use Rattle.seg_common.specs.Causes.{next_count}
 use Rattle.seg_store.specs.Block.{Block}
 
--- a reader's blocks; how many it keeps at most, and the numbers of those that it keeps, the last used first; how often the block that was wanted was kept, and how often it wasn't
+-- a reader's blocks; how many it keeps at most, and the numbers of those that it keeps, the last used first; how often
+-- the block that was wanted was kept, and how often it wasn't
 pub record CachedStore : Type 0 where
   pub blocks : List Block
   pub capacity : ℕ

@@ -9,7 +9,8 @@ use Rattle.seg_store.specs.Block.{Block, documents_in, is_block}
 use Rattle.seg_store.specs.Store.{raw_documents}
 use Rattle.seg_store.specs.Cache.{CachedStore}
 
--- how many blocks at most; each one's number with its bytes, the last used first; how often one that was wanted was there, and how often it wasn't
+-- how many blocks at most; each one's number with its bytes, the last used first; how often one that was
+-- wanted was there, and how often it wasn't
 pub record CachedBlocks : Type 0 where
   pub capacity : ℕ
   pub pairs : List (ℕ × List ℕ)
@@ -28,7 +29,8 @@ pairs_of (Some kept) = kept.entries
 
 -- a cache with its counts
 abbrev pub cached_blocks : Option (LruCache ℕ (List ℕ)) → ℕ → ℕ → CachedBlocks
-cached_blocks kept hits misses = record { capacity = capacity_of kept; pairs = pairs_of kept; hits = hits; misses = misses }
+cached_blocks kept hits misses =
+    record { capacity = capacity_of kept; pairs = pairs_of kept; hits = hits; misses = misses }
 
 -- before any use
 abbrev pub no_blocks : ℕ → CachedBlocks
@@ -40,11 +42,13 @@ after_hit number c = record c { pairs = promoted (nat_eq number) c.pairs; hits =
 
 -- a block wasn't there
 abbrev pub after_miss : ℕ → List ℕ → CachedBlocks → CachedBlocks
-after_miss number block c = record c { pairs = take c.capacity ((number, block) ∷ c.pairs); misses = next_count c.misses }
+after_miss number block c =
+    record c { pairs = take c.capacity ((number, block) ∷ c.pairs); misses = next_count c.misses }
 
 -- blocks with a cache of them
 abbrev pub cached_store : List Block → CachedBlocks → CachedStore
-cached_store blocks c = record { blocks = blocks; capacity = c.capacity; entries = keys_of c.pairs; hits = c.hits; misses = c.misses }
+cached_store blocks c =
+    record { blocks = blocks; capacity = c.capacity; entries = keys_of c.pairs; hits = c.hits; misses = c.misses }
 
 -- each document of the blocks is stored
 abbrev pub AreStored : List Block → Type 0

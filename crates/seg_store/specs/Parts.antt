@@ -13,6 +13,8 @@ are_parts test start ends bytes = are_ends start (length bytes) ends && list_all
 -- whether checkpoints cut bytes, from a start on, into blocks that number the documents from a first one up to a total
 abbrev pub are_blocks : (first total start : ℕ) → List (ℕ × ℕ) → List ℕ → Bool
 are_blocks first total start checkpoints bytes =
-    are_ends start (length bytes) (map (λ c. c.1) checkpoints) && (list_all is_block (cut_from start (map (λ c. c.1) checkpoints) bytes) &&
-    (bytes_eq (map (λ c. c.0) checkpoints) (id_ends first (map documents_in (cut_from start (map (λ c. c.1) checkpoints) bytes))) &&
-    (total == first + document_count (map documents_in (cut_from start (map (λ c. c.1) checkpoints) bytes)))))
+    are_ends start (length bytes) (map (λ c. c.1) checkpoints)
+    && (list_all is_block (cut_from start (map (λ c. c.1) checkpoints) bytes)
+    && (bytes_eq (map (λ c. c.0) checkpoints)
+    (id_ends first (map documents_in (cut_from start (map (λ c. c.1) checkpoints) bytes)))
+    && (total == first + document_count (map documents_in (cut_from start (map (λ c. c.1) checkpoints) bytes)))))

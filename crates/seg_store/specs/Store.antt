@@ -1,4 +1,5 @@
--- A store: blocks one after the other, for each a checkpoint, the numbers of blocks and documents, and a byte 0, which says that no block is compressed.
+-- A store: blocks one after the other, for each a checkpoint, the numbers of blocks and documents, and
+-- a byte 0, which says that no block is compressed.
 use Rattle.std.specs.Prelude.{ℕ, zero, suc, ◌+◌, ◌*◌, ◌==◌, ◌&&◌, nat_le, if◌then◌else◌, List, [], ◌∷◌, Bool, length, drop, map, slice_index, Option, Some, None}
 use Rattle.std.specs.List.{list_all, flat_map}
 use Rattle.std.specs.Option.{option_to_list}
@@ -17,7 +18,7 @@ footer bytes = last_bytes 9 bytes
 abbrev pub store_count : List ℕ → ℕ
 store_count bytes = u32_at (footer bytes) 0
 
--- the first checkpoints of a table: how many documents there are up to and with a block, and where its bytes end
+-- the first checkpoints of a table: how many documents there are up to and including a block, and where its bytes end
 abbrev pub checkpoints_of : ℕ → List ℕ → List (ℕ × ℕ)
 checkpoints_of zero table = []
 checkpoints_of (suc n) table = (u32_at table 0, u64_at table 4) ∷ checkpoints_of n (drop 12 table)
@@ -38,7 +39,7 @@ store_body bytes = but_last (12 * store_count bytes) (but_last 9 bytes)
 abbrev pub store_parts : List ℕ → List (List ℕ)
 store_parts bytes = cut_from 0 (map (λ c. c.1) (store_checkpoints bytes)) (store_body bytes)
 
--- how many documents there are up to and with each block
+-- how many documents there are up to and including each block
 abbrev pub id_ends : ℕ → List Block → List ℕ
 id_ends first [] = []
 id_ends first (b ∷ bs) = (first + length b) ∷ id_ends (first + length b) bs
@@ -55,10 +56,12 @@ blocks_of bytes = map documents_in (store_parts bytes)
 -- whether bytes are a store
 unfoldable pub is_store : List ℕ → Bool
 is_store bytes =
-    nat_le (9 + 12 * store_count bytes) (length bytes) && ((slice_index (footer bytes) 8 == 0) &&
-    (are_ends 0 (length (store_body bytes)) (map (λ c. c.1) (store_checkpoints bytes)) && (list_all is_block (store_parts bytes) &&
-    (bytes_eq (map (λ c. c.0) (store_checkpoints bytes)) (id_ends 0 (map documents_in (store_parts bytes))) &&
-    (u32_at (footer bytes) 4 == document_count (map documents_in (store_parts bytes)))))))
+    nat_le (9 + 12 * store_count bytes) (length bytes)
+    && ((slice_index (footer bytes) 8 == 0)
+    && (are_ends 0 (length (store_body bytes)) (map (λ c. c.1) (store_checkpoints bytes))
+    && (list_all is_block (store_parts bytes)
+    && (bytes_eq (map (λ c. c.0) (store_checkpoints bytes)) (id_ends 0 (map documents_in (store_parts bytes)))
+    && (u32_at (footer bytes) 4 == document_count (map documents_in (store_parts bytes)))))))
 
 -- what bytes read as
 abbrev pub store_of : List ℕ → Option (List Block)

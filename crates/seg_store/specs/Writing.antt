@@ -22,7 +22,7 @@ with_closed w = record w { closed = w.closed ++ w.open_block ∷ []; open_block 
 abbrev pub closed_if_full : Taken → Taken
 closed_if_full w = if nat_le w.block_size (byte_count w.open_block) then with_closed w else w
 
--- a document more
+-- one more document
 abbrev pub with_document : List ℕ → Taken → Taken
 with_document document w = closed_if_full (record w { open_block = w.open_block ++ document ∷ [] })
 
@@ -39,7 +39,7 @@ all_blocks w = w.closed ++ last_block w.open_block
 abbrev pub with_all_closed : Taken → Taken
 with_all_closed w = record w { closed = all_blocks w; open_block = [] }
 
--- blocks more, as they are, once no block is left open
+-- more blocks, as they are, once no block is left open
 abbrev pub with_stacked : List Block → Taken → Taken
 with_stacked blocks w = record w { closed = all_blocks w ++ blocks; open_block = [] }
 

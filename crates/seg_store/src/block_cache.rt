@@ -71,7 +71,8 @@ impl BlockCache {
     pub(crate) fn find(&mut self, number: usize) -> Option<OwnedBytes>
         ensures found { result ≡ lookup (nat_eq number) self.old.pairs }
         ensures hit { OnSome result (self.new ≡ after_hit number self.old) }
-        ensures order { OnSome result (keys_of self.new.pairs ≡ entries_after self.old.capacity number (keys_of self.old.pairs)) }
+        ensures order { OnSome result (keys_of self.new.pairs
+            ≡ entries_after self.old.capacity number (keys_of self.old.pairs)) }
         ensures none { IfNone result (self.new ≡ self.old) }
     {
         let kept = self.kept.as_mut()?;
@@ -114,7 +115,8 @@ fn recalled(kept: &mut LruCache<usize, OwnedBytes>, number: usize) -> Option<Own
     requires { IsValid nat_eq kept.old }
     ensures found { result ≡ lookup (nat_eq number) kept.old.entries }
     ensures hit { OnSome result (kept.new ≡ lru_cache (promoted (nat_eq number) kept.old.entries) kept.old.cap) }
-    ensures order { OnSome result (keys_of kept.new.entries ≡ entries_after kept.old.cap number (keys_of kept.old.entries)) }
+    ensures order { OnSome result (keys_of kept.new.entries
+        ≡ entries_after kept.old.cap number (keys_of kept.old.entries)) }
     ensures none { IfNone result (kept.new ≡ kept.old) }
     ensures valid { IsValid nat_eq kept.new }
 {
@@ -130,7 +132,8 @@ fn put_first(
 ) -> Result<(), StoreError>
     requires absent { lookup (nat_eq number) (pairs_of kept.old) ≡ None }
     requires valid { IfSome kept.old (IsValid nat_eq) }
-    ensures pairs { OnOk result (pairs_of kept.new ≡ take (capacity_of kept.old) ((number, block) ∷ pairs_of kept.old)) }
+    ensures pairs { OnOk result (pairs_of kept.new
+        ≡ take (capacity_of kept.old) ((number, block) ∷ pairs_of kept.old)) }
     ensures capacity { OnOk result (capacity_of kept.new ≡ capacity_of kept.old) }
     ensures valid { OnOk result (IfSome kept.new (IsValid nat_eq)) }
     ensures unchanged { OnErr result (kept.new ≡ kept.old) }

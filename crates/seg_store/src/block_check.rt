@@ -11,7 +11,8 @@ use seg_doc_bytes::is_stored_document;
 
 /// How many documents a block has; nothing where bytes are no block.
 pub(crate) fn checked_len(bytes: &[u8]) -> Option<u32>
-    ensures { MatchOption result (block.is_block bytes.now ≡ false) (λ n. (block.is_block bytes.now ≡ true) × (n ≡ length (block.documents_in bytes.now))) }
+    ensures { MatchOption result (block.is_block bytes.now ≡ false)
+        (λ n. (block.is_block bytes.now ≡ true) × (n ≡ length (block.documents_in bytes.now))) }
 {
     if bytes.len() < 4 {
         return None;

@@ -1,4 +1,4 @@
-//! Documents out of blocks.
+//! Documents from blocks.
 ghost use Rattle.std.specs.Prelude.{◌≡◌, ◌<◌, true, length, Some, IfOk, IfErr, slice_get};
 ghost use Rattle.std.specs.Option.{option_and_then};
 ghost use Rattle.seg_doc_bytes.specs.StoredDocument as documents;
@@ -18,7 +18,8 @@ pub(crate) fn document_in_block(
 ) -> Result<TantivyDocument, StoreError>
     requires block { is_block block.now ≡ true }
     requires within { index < length (documents_in block.now) }
-    ensures ok { IfOk result (λ d. option_and_then documents.stored_document_of (slice_get (documents_in block.now) index) ≡ Some d) }
+    ensures ok { IfOk result
+        (λ d. option_and_then documents.stored_document_of (slice_get (documents_in block.now) index) ≡ Some d) }
     ensures err { IfErr result (λ e. e ≡ StoreError.OutOfMemory) }
 {
     let (start, end) = place_in_block(block, index);

@@ -35,14 +35,15 @@ impl Model for CachedStoreReader {
 }
 
 impl CachedStoreReader {
-    /// The reader of a file, whose bytes are gone over once, which keeps this many blocks; 0: none.
+    /// The reader of a file, whose bytes are scanned once, which keeps this many blocks; 0: none.
     pub fn open(
         alloc: Global,
         bytes: OwnedBytes,
         cache_num_blocks: usize,
     ) -> Result<CachedStoreReader, StoreError>
         ensures ok { IfOk result (λ r. option_map (unused cache_num_blocks) (store_of bytes) ≡ Some r) }
-        ensures err { IfErr result (λ e. ((e ≡ StoreError.Malformed) × (store_of bytes ≡ None)) ⊎ ((e ≡ StoreError.OutOfMemory) × (is_some (store_of bytes) ≡ true))) }
+        ensures err { IfErr result (λ e. ((e ≡ StoreError.Malformed) × (store_of bytes ≡ None))
+            ⊎ ((e ≡ StoreError.OutOfMemory) × (is_some (store_of bytes) ≡ true))) }
     {
         let store = StoreReader::open(bytes)?;
         CachedStoreReader::new(alloc, store, cache_num_blocks)

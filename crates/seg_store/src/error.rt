@@ -6,7 +6,7 @@ use thiserror::Error;
 /// Why a call on a store fails.
 #[derive(Clone, Copy, Debug, PartialEq, Eq, Error)]
 pub enum StoreError {
-    /// Blocks are to be compressed, or by a thread of their own.
+    /// Blocks are to be compressed, or to be compressed by a thread of its own.
     #[error("compressed")]
     Compressed,
     /// The bytes are no store.

@@ -1,4 +1,5 @@
-//! Where documents lie in a store: the block by a search in the checkpoints, and the document by the ends in that block.
+//! Where documents lie in a store: the block by a search in the checkpoints, and the document by the ends in that
+//! block.
 ghost use Rattle.std.specs.Prelude.{◌≡◌, ◌≤◌, ◌<◌, ◌+◌, ◌*◌, ℕ, true, length, take, map, slice_range, Some};
 ghost use Rattle.std.specs.List.{slice_get};
 ghost use Rattle.seg_common.specs.LittleEndian as numbers;
@@ -58,7 +59,8 @@ pub(crate) fn block_place(bytes: &[u8], number: usize) -> (usize, usize)
     ensures order { result.0 ≤ result.1 }
     ensures within { result.1 ≤ length bytes.now }
     ensures block { is_block (slice_range bytes.now result.0 result.1) ≡ true }
-    ensures is { slice_get (blocks_of bytes.now) number ≡ Some (documents_in (slice_range bytes.now result.0 result.1)) }
+    ensures is { slice_get (blocks_of bytes.now) number
+        ≡ Some (documents_in (slice_range bytes.now result.0 result.1)) }
 {
     let table = checkpoint_table(bytes);
     let start = block_start(table, number);

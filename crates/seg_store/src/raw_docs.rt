@@ -29,9 +29,11 @@ impl<'a> Model for RawDocs<'a> {
 
     ghost Value = { List (List ℕ) };
 
-    ghost view = { λ it. alive_behind it.doc (option_map (λ set. set.now) it.alive) (raw_documents (blocks_of it.bytes.now)) };
+    ghost view = { λ it. alive_behind it.doc (option_map (λ set. set.now) it.alive)
+        (raw_documents (blocks_of it.bytes.now)) };
 
-    ghost invariant = { λ it. (is_store it.bytes.now ≡ true) × (it.total ≡ document_count (blocks_of it.bytes.now)) × (it.doc ≤ it.total) × (document_count (take it.block (blocks_of it.bytes.now)) ≤ it.doc) };
+    ghost invariant = { λ it. (is_store it.bytes.now ≡ true) × (it.total ≡ document_count (blocks_of it.bytes.now))
+        × (it.doc ≤ it.total) × (document_count (take it.block (blocks_of it.bytes.now)) ≤ it.doc) };
 }
 
 impl<'a> RawDocs<'a> {
@@ -43,7 +45,8 @@ impl<'a> RawDocs<'a> {
     ) -> RawDocs<'a>
         requires store { is_store bytes.now ≡ true }
         requires total { total ≡ document_count (blocks_of bytes.now) }
-        ensures { result ≡ alive_behind 0 (option_map (λ set. set.now) alive.entry) (raw_documents (blocks_of bytes.now)) }
+        ensures { result
+            ≡ alive_behind 0 (option_map (λ set. set.now) alive.entry) (raw_documents (blocks_of bytes.now)) }
     {
         RawDocs {
             bytes,
@@ -76,7 +79,9 @@ impl<'a> FusedIterator for RawDocs<'a> {}
 
 /// The first document from one on that is alive.
 fn first_alive(alive: Option<&ReadOnlyBitSet>, from: u32, total: u32) -> Option<u32>
-    ensures { MatchOption result ((k : ℕ) → from ≤ k → k < total → alive_at (option_map (λ set. set.now) alive.entry) k ≡ false) (λ doc. IsFirstAlive (option_map (λ set. set.now) alive.entry) from total doc) }
+    ensures { MatchOption result
+        ((k : ℕ) → from ≤ k → k < total → alive_at (option_map (λ set. set.now) alive.entry) k ≡ false)
+        (λ doc. IsFirstAlive (option_map (λ set. set.now) alive.entry) from total doc) }
 {
     let mut doc = from;
     while doc < total {

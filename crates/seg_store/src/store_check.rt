@@ -8,7 +8,8 @@ use crate::checkpoint::{CHECKPOINT_BYTES, checkpoint_at};
 use crate::parts::part;
 use seg_common::u32_at;
 
-/// How many bytes the numbers of blocks and documents take at the end, with the byte that says that no block is compressed.
+/// How many bytes the numbers of blocks and documents take at the end, with the byte that says that no block is
+/// compressed.
 pub(crate) const FOOTER_BYTES: usize = 9;
 
 /// Whether bytes are a store.

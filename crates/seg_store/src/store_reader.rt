@@ -31,7 +31,7 @@ const END_BYTES: usize = 8;
 /// How many bytes a block's number of documents takes.
 const COUNT_BYTES: usize = 4;
 
-/// Reads the documents of a store out of its bytes, of which nothing is copied. It is seen as the store's blocks.
+/// Reads the documents of a store from its bytes, of which nothing is copied. It is seen as the store's blocks.
 #[derive(Drop)]
 pub struct StoreReader {
     bytes: OwnedBytes,
@@ -50,9 +50,10 @@ impl Model for StoreReader {
 }
 
 impl StoreReader {
-    /// The reader of a file, whose bytes are gone over once. It asks for no memory.
+    /// The reader of a file, whose bytes are scanned once. It asks for no memory.
     pub fn open(bytes: OwnedBytes) -> Result<StoreReader, StoreError>
-        ensures { MatchResult result (λ r. store_of bytes ≡ Some r) (λ e. (e ≡ StoreError.Malformed) × (store_of bytes ≡ None)) }
+        ensures { MatchResult result (λ r. store_of bytes ≡ Some r)
+            (λ e. (e ≡ StoreError.Malformed) × (store_of bytes ≡ None)) }
     {
         if !is_store(bytes.as_slice()) {
             return Err(StoreError::Malformed);
@@ -60,7 +61,7 @@ impl StoreReader {
         Ok(StoreReader { bytes })
     }
 
-    /// The same reader once more, of the same bytes; this takes no memory.
+    /// The same reader again, over the same bytes; this takes no memory.
     pub fn share(&self) -> StoreReader
         ensures { result ≡ self.now }
     {
@@ -112,7 +113,7 @@ impl StoreReader {
         self.bytes.slice(start, end)
     }
 
-    /// A document, out of its stored bytes.
+    /// A document, from its stored bytes.
     pub fn get(&self, alloc: Global, doc: u32) -> Result<TantivyDocument, StoreError>
         requires { doc < document_count self.now }
         ensures ok { IfOk result (λ d. slice_get (documents_of self.now) doc ≡ Some d) }
@@ -172,7 +173,8 @@ impl StoreReader {
         all - ends - counts
     }
 
-    /// The bytes of the documents that are alive in a set, of all without one, in order. One past the set's size is dead.
+    /// The bytes of the documents that are alive in a set, of all without one, in order. One past the set's size is
+    /// dead.
     pub fn iter_raw<'a>(&'a self, alive: Option<&'a ReadOnlyBitSet>) -> RawDocs<'a>
         ensures { result ≡ alive_behind 0 (option_map (λ set. set.now) alive.entry) (raw_documents self.now) }
     {

@@ -42,7 +42,8 @@ impl StoreWriter {
         dedicated_thread: bool,
     ) -> Result<StoreWriter, StoreError>
         ensures ok { IfOk result (λ w. w ≡ Some (record { block_size = block_size; closed = []; open_block = [] })) }
-        ensures compressed { result ≡ Err StoreError.Compressed ↔ ((compressor ≢ Compressor.None) ⊎ (dedicated_thread ≡ true)) }
+        ensures compressed { result ≡ Err StoreError.Compressed
+            ↔ ((compressor ≢ Compressor.None) ⊎ (dedicated_thread ≡ true)) }
         ensures causes { IfErr result (λ e. e ≡ StoreError.Compressed) }
     {
         match compressor {
@@ -57,8 +58,10 @@ impl StoreWriter {
     pub fn store<D: Document>(&mut self, document: &D, schema: &Schema) -> Result<(), StoreError>
         requires shallow { AreShallow (D.pairs_of document.now) }
         requires limit { IfSome self.old (λ w. taken_count w < 2 ^ 31 - 1) }
-        ensures ok { OnOk result (HasGrown self.old self.new (with_document (stored_form schema.now (D.pairs_of document.now)))) }
-        ensures reads { OnOk result (stored_document_of (stored_form schema.now (D.pairs_of document.now)) ≡ Some (stored_document schema.now (D.pairs_of document.now))) }
+        ensures ok { OnOk result
+            (HasGrown self.old self.new (with_document (stored_form schema.now (D.pairs_of document.now)))) }
+        ensures reads { OnOk result (stored_document_of (stored_form schema.now (D.pairs_of document.now))
+            ≡ Some (stored_document schema.now (D.pairs_of document.now))) }
         ensures err { IfErr result (λ e. (e ≡ StoreError.OutOfMemory) × (self.new ≡ None)) }
     {
         let Some(blocks) = &self.blocks else {
@@ -76,7 +79,8 @@ impl StoreWriter {
         requires shallow { AreShallow document.now }
         requires limit { IfSome self.old (λ w. taken_count w < 2 ^ 31 - 1) }
         ensures ok { OnOk result (HasGrown self.old self.new (with_document (stored_form schema.now document.now))) }
-        ensures reads { OnOk result (stored_document_of (stored_form schema.now document.now) ≡ Some (stored_document schema.now document.now)) }
+        ensures reads { OnOk result (stored_document_of (stored_form schema.now document.now)
+            ≡ Some (stored_document schema.now document.now)) }
         ensures err { IfErr result (λ e. (e ≡ StoreError.OutOfMemory) × (self.new ≡ None)) }
     {
         let Some(blocks) = self.blocks.take() else {

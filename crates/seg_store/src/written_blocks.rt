@@ -86,8 +86,10 @@ impl WrittenBlocks {
         requires shallow { AreShallow document.now }
         requires few { self.documents < 2 ^ 31 - 1 }
         ensures kept { IfOk result IsKept }
-        ensures more { IfOk result (λ w. taken_of w ≡ with_document (stored_form schema.now document.now) (taken_of self)) }
-        ensures reads { OnOk result (stored_document_of (stored_form schema.now document.now) ≡ Some (stored_document schema.now document.now)) }
+        ensures more { IfOk result (λ w. taken_of w
+            ≡ with_document (stored_form schema.now document.now) (taken_of self)) }
+        ensures reads { OnOk result (stored_document_of (stored_form schema.now document.now)
+            ≡ Some (stored_document schema.now document.now)) }
     {
         let mut blocks = self;
         let before = blocks.bytes.len();
@@ -116,7 +118,8 @@ impl WrittenBlocks {
         requires stored { is_stored_document (drop before self.bytes) ≡ true }
         requires few { self.documents < 2 ^ 31 - 1 }
         ensures kept { IfOk result IsKept }
-        ensures more { IfOk result (λ w. taken_of w ≡ with_document (drop before self.bytes) (taken_of (record self { bytes = take before self.bytes }))) }
+        ensures more { IfOk result (λ w. taken_of w
+            ≡ with_document (drop before self.bytes) (taken_of (record self { bytes = take before self.bytes }))) }
     {
         let mut blocks = self;
         let end = blocks.bytes.len();

@@ -42,7 +42,7 @@ module _ (fronts : List Front) (xs : List Entry) (seen : map front_of xs ≡ fro
 
 -- ---- keys
 
--- where a key is below none, and the first front hasn't it, no other front has it
+-- where a key is below none, and the first front doesn't have it, no other front has it
 after_first : (key : List ℕ) (x y : Front) → is_le (key_cmp key x.0) ≡ true → bytes_eq key x.0 ≡ false → comes_before y x ≡ false → bytes_eq key y.0 ≡ false
 after_first key x y low other first = by (bytes_eq key y.0) refl
   where

@@ -1,4 +1,4 @@
--- What the builder of a dictionary keeps, after one key or one info more.
+-- What the builder of a dictionary keeps, after one more key or info.
 use Rattle.std.proofs.Common.{◌≡◌, ℕ, zero, suc, ◌+◌, ◌-◌, ◌^◌, ◌<◌, ◌≤◌, true, false, List, [], ◌∷◌, ◌++◌, length, drop, refl, sym, ap, subst, ◌∙◌, arith, inl, inr, Option, Some, None, IfSome, IsSome, is_some, unwrap_or, add-one}
 use Rattle.std.specs.Int.{w64, to_le_bytes}
 use Rattle.std.specs.Ordering.{nat_cmp}
@@ -101,7 +101,7 @@ module _ (ends keys infos : List ℕ) (n m last : ℕ) (b : Building) (w : AreWr
   pub last_from : 0 < n → drop last keys ≡ key_of ends keys (n - 1)
   last_from h = rw w.last (last_key ends keys n w.keys_are h)
 
-  -- ---- a key more, and where it ends
+  -- ---- one more key, and where it ends
   module _ (key : List ℕ) (start end : ℕ) (none : b.waiting ≡ None) (above : MayFollow b.terms key) (from : start ≡ length keys) (to : length (keys ++ key) ≡ end) (small : end < 2 ^ 64) where
     greater : 0 < n → slice_cmp nat_cmp (key_of ends keys (n - 1)) key ≡ Less
     greater = follows ends keys infos key n (subst (λ (ts : List Term). MayFollow ts key) (sym terms_are ∙ ap (terms_in ends keys infos) (sym (none_more none))) above)

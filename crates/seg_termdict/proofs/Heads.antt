@@ -1,4 +1,4 @@
--- A streamer that has come to a term, as the terms from this one on, and the order of the terms that it goes over.
+-- A streamer that has come to a term, as the terms from this one on, and the order of the terms that it iterates over.
 use Rattle.std.proofs.Common.{◌≡◌, ℕ, zero, suc, ◌+◌, ◌-◌, ◌<◌, ◌≤◌, Bool, true, false, cond, List, [], ◌∷◌, map, length, take, drop, get_or, refl, sym, ap, subst, ◌∙◌, arith}
 use Rattle.std.specs.Prelude.{nat_lt}
 use Rattle.std.specs.List.{AllByRecursion, enumerate_from}

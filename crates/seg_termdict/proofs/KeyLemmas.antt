@@ -1,4 +1,4 @@
--- The keys of a dictionary, and one key more.
+-- The keys of a dictionary, and one more key.
 use Rattle.std.proofs.Common.{◌≡◌, ℕ, zero, suc, ◌+◌, ◌*◌, ◌-◌, ◌^◌, ◌<◌, ◌≤◌, List, ◌++◌, length, drop, refl, sym, ap, ◌∙◌, arith, inl, inr, add-one, slice_range}
 use Rattle.std.specs.Int.{w64, to_le_bytes}
 use Rattle.std.specs.Ordering.{nat_cmp}
@@ -55,7 +55,7 @@ unfolding key_of
 key_of-front ends more keys others count i are len h =
     rw (key_start-front ends more count i len (omega arith), key_start-front ends more count (i + 1) len (omega arith)) (range-front keys others (key_start ends i) (key_start ends (i + 1)) (are.rise i h) (start_within ends keys count (i + 1) are (omega arith)))
 
--- one key more, and where it ends
+-- one more key, and where it ends
 module _ (ends keys key : List ℕ) (count end : ℕ) (are : AreKeys ends keys count) (len : length ends ≡ 8 * count) (at : length (keys ++ key) ≡ end) (small : end < 2 ^ 64) where
   pub start_before : key_start (ends ++ to_le_bytes w64 end) count ≡ length keys
   start_before = key_start-front ends (to_le_bytes w64 end) count count len (omega arith) ∙ are.fill

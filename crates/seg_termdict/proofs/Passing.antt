@@ -72,7 +72,7 @@ not_before_itself x =
     let b : nat_cmp x.1 x.1 ≡ Equal = tied_itself nat_cmp_total x.1 in
     rw (a, b) refl
 
--- a stream with a lower number hasn't the key
+-- a stream with a lower number doesn't have the key
 lower_not_at : (x : Front) (key : List ℕ) (n : ℕ) → n < x.1 → comes_before (key, n) x ≡ false → bytes_eq x.0 key ≡ false
 lower_not_at x key n lt h = by (bytes_eq x.0 key) refl
   where

@@ -1,4 +1,4 @@
--- A term dictionary as a list: how many keys, where each ends, their bytes, the info store, its length, version 1, type 3.
+-- A term dictionary as a list: how many keys, where each ends, their bytes, the infos, their length, version 1, type 3.
 use Rattle.std.specs.Prelude.{◌≡◌, ℕ, zero, suc, ◌+◌, ◌*◌, ◌-◌, ◌<◌, ◌≤◌, List, length, map, slice_range}
 use Rattle.std.specs.List.{range_with_len}
 use Rattle.std.specs.Ordering.{nat_cmp}

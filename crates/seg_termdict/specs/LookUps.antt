@@ -7,9 +7,11 @@ use Rattle.seg_termdict.specs.Dictionary.{Term, IsDictionary}
 
 -- why bytes are no dictionary: too short for the last numbers, of another type, of another version, or wrong elsewhere
 abbrev pub Refuses : List ℕ → TermDictError → Type 0
-Refuses bytes Malformed = (length bytes < 16) ⊎ ((u32_at bytes (length bytes - 4) ≡ 3) × (u32_at bytes (length bytes - 8) ≡ 1) × (IsDictionary bytes → ⊥))
+Refuses bytes Malformed = (length bytes < 16)
+    ⊎ ((u32_at bytes (length bytes - 4) ≡ 3) × (u32_at bytes (length bytes - 8) ≡ 1) × (IsDictionary bytes → ⊥))
 Refuses bytes WrongType = (16 ≤ length bytes) × (u32_at bytes (length bytes - 4) ≢ 3)
-Refuses bytes WrongVersion = (16 ≤ length bytes) × (u32_at bytes (length bytes - 4) ≡ 3) × (u32_at bytes (length bytes - 8) ≢ 1)
+Refuses bytes WrongVersion = (16 ≤ length bytes) × (u32_at bytes (length bytes - 4) ≡ 3)
+    × (u32_at bytes (length bytes - 8) ≢ 1)
 Refuses bytes _ = ⊥
 
 -- no term has the key

@@ -13,7 +13,9 @@ pub record Standing (Info : Type 0) : Type 0 where
 
 -- where a key is in one segment
 abbrev pub standing_in : {Info : Type 0} → ℕ → List ℕ → List (RankedTerm Info) → List (Standing Info)
-standing_in {Info} segment key terms = map (λ (t : RankedTerm Info). record { segment = segment; ord = t.ord; info = t.info }) (filter (λ (t : RankedTerm Info). bytes_eq key t.key) terms)
+standing_in {Info} segment key terms =
+    map (λ (t : RankedTerm Info). record { segment = segment; ord = t.ord; info = t.info })
+    (filter (λ (t : RankedTerm Info). bytes_eq key t.key) terms)
 
 -- where a key is in segments, in their order, of which the first has the number `first`
 abbrev pub standings_from : {Info : Type 0} → ℕ → List ℕ → List (List (RankedTerm Info)) → List (Standing Info)

@@ -77,7 +77,8 @@ standing_first segment (Some t) = record { segment = segment; ord = t.0; info = 
 
 abbrev pub standings_first : ℕ → List ℕ → List (List (RankedTerm TermInfo)) → List (Standing TermInfo)
 standings_first segment key [] = []
-standings_first segment key (terms ∷ streams) = standing_first segment (first_with key terms) ++ standings_first (segment + 1) key streams
+standings_first segment key (terms ∷ streams) = standing_first segment (first_with key terms)
+    ++ standings_first (segment + 1) key streams
 
 -- the first term, if there is one, isn't below a key
 abbrev pub NotBelow : List ℕ → List (RankedTerm TermInfo) → Type 0

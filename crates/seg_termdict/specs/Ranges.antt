@@ -49,12 +49,15 @@ unbounded terms = record { terms = terms; range = all_terms_range }
 
 -- a lower bound was set
 abbrev pub with_lower : Bound (List ℕ) → Ranged → Ranged
-with_lower bound r = record { terms = r.terms; range = record { lower = bound; upper = r.range.upper; backward = r.range.backward } }
+with_lower bound r =
+    record { terms = r.terms; range = record { lower = bound; upper = r.range.upper; backward = r.range.backward } }
 
 -- an upper bound was set
 abbrev pub with_upper : Bound (List ℕ) → Ranged → Ranged
-with_upper bound r = record { terms = r.terms; range = record { lower = r.range.lower; upper = bound; backward = r.range.backward } }
+with_upper bound r =
+    record { terms = r.terms; range = record { lower = r.range.lower; upper = bound; backward = r.range.backward } }
 
 -- terms come from the greatest on
 abbrev pub turned_backward : Ranged → Ranged
-turned_backward r = record { terms = r.terms; range = record { lower = r.range.lower; upper = r.range.upper; backward = true } }
+turned_backward r =
+    record { terms = r.terms; range = record { lower = r.range.lower; upper = r.range.upper; backward = true } }

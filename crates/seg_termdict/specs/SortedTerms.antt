@@ -1,4 +1,4 @@
--- Terms by ascending keys, and the parts of them that are read: at a key, at an ordinal, within bounds, and by a test of keys.
+-- Terms by ascending keys, and what is read of them: at a key, at an ordinal, within bounds, and by a test of keys.
 use Rattle.std.specs.Prelude.{ℕ, List, map, filter, reverse, slice_get, position, Option, Bool, true, false, ◌&&◌}
 use Rattle.std.specs.List.{enumerate_from}
 use Rattle.std.specs.Ordering.{nat_cmp, is_lt, is_le}
@@ -74,7 +74,8 @@ in_direction true xs = reverse xs
 
 -- what a search in a range gives: the terms within its bounds whose keys are accepted, in its direction
 abbrev pub searched : {Info : Type 0} → TermRange → (List ℕ → Bool) → SortedTerms Info → List (RankedTerm Info)
-searched {Info} range accepts terms = in_direction range.backward (filter (λ (t : RankedTerm Info). is_within range t.key && accepts t.key) (ranked terms))
+searched {Info} range accepts terms = in_direction range.backward
+    (filter (λ (t : RankedTerm Info). is_within range t.key && accepts t.key) (ranked terms))
 
 -- what a range gives: a search that accepts every key
 abbrev pub streamed : {Info : Type 0} → TermRange → SortedTerms Info → List (RankedTerm Info)

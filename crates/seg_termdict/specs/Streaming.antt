@@ -21,7 +21,7 @@ no_term = ([], record { doc_freq = 0; postings_start = 0; postings_end = 0; posi
 abbrev pub no_ranked : RankedTerm TermInfo
 no_ranked = record { ord = 0; key = no_term.0; info = no_term.1 }
 
--- the terms that a streamer goes over, whether they come from the greatest on, and how many of them it has come to
+-- the terms that a streamer iterates over, whether they come from the greatest on, and how many of them it has come to
 pub record Stream : Type 0 where
   pub terms : List (RankedTerm TermInfo)
   pub backward : Bool
@@ -41,4 +41,5 @@ current s = get_or (no_ranked ∷ s.terms) s.taken no_ranked
 
 -- the next term, where there is one
 abbrev pub advanced : Stream → Stream
-advanced s = if nat_lt s.taken (length s.terms) then record { terms = s.terms; backward = s.backward; taken = s.taken + 1 } else s
+advanced s = if nat_lt s.taken (length s.terms)
+    then record { terms = s.terms; backward = s.backward; taken = s.taken + 1 } else s

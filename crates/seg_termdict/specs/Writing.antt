@@ -19,7 +19,8 @@ pub record AreWritten (ends keys infos : List ℕ) (key_count info_count last_st
 
 -- a key more than infos is one that waits
 abbrev pub waiting_in : List ℕ → List ℕ → ℕ → ℕ → Option (List ℕ)
-waiting_in ends keys key_count info_count = if nat_lt info_count key_count then Some (key_of ends keys info_count) else None
+waiting_in ends keys key_count info_count = if nat_lt info_count key_count
+    then Some (key_of ends keys info_count) else None
 
 -- what was given so far
 abbrev pub written : List ℕ → List ℕ → List ℕ → ℕ → ℕ → Building
@@ -30,7 +31,8 @@ written ends keys infos key_count info_count = record {
 
 -- the bytes of an info, which begins where the one before it ends
 abbrev pub info_bytes : TermInfo → List ℕ
-info_bytes info = to_le_bytes w32 info.doc_freq ++ (to_le_bytes w64 info.postings_end ++ to_le_bytes w64 info.positions_end)
+info_bytes info = to_le_bytes w32 info.doc_freq
+    ++ (to_le_bytes w64 info.postings_end ++ to_le_bytes w64 info.positions_end)
 
 -- its numbers fit their bytes
 pub record HasWidths (info : TermInfo) : Type 0 where

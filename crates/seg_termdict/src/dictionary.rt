@@ -104,10 +104,11 @@ impl TermDictionary {
         info_at(info_table(self.bytes.as_slice(), self.count), ord as usize)
     }
 
-    /// Copies the key at a place into `out`, in place of what it held; nothing and `false` where there is no such place,
-    /// and nothing when out of memory.
+    /// Copies the key at a place into `out`, in place of what it held; nothing and `false` where there is no such
+    /// place, and nothing when out of memory.
     pub fn ord_to_term(&self, ord: TermOrdinal, out: &mut Vec<u8>) -> Result<bool, TermDictError>
-        ensures ok { IfOk result (λ found. MatchBool found (HasKeyAt self.now ord out.new.items) ((length self.now ≤ ord) × (out.new.items ≡ []))) }
+        ensures ok { IfOk result (λ found. MatchBool found (HasKeyAt self.now ord out.new.items)
+            ((length self.now ≤ ord) × (out.new.items ≡ []))) }
         ensures err { IfErr result (λ e. e ≡ TermDictError.OutOfMemory) }
         ensures cleared { OnErr result (out.new.items ≡ []) }
     {
@@ -161,7 +162,8 @@ impl TermDictionary {
     }
 
     fn find(&self, key: &[u8]) -> Option<usize>
-        ensures { MatchOption result (Lacks self.now key.now) (λ i. (i < length self.now) × HasKeyAt self.now i key.now) }
+        ensures { MatchOption result (Lacks self.now key.now)
+            (λ i. (i < length self.now) × HasKeyAt self.now i key.now) }
     {
         let bytes = self.bytes.as_slice();
         find_key(

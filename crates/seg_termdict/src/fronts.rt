@@ -62,8 +62,10 @@ impl<'a> Fronts<'a> {
     /// Takes out the first of all, if it has the key, and tells its streamer. No key is below this one.
     pub(crate) fn pop_at(&mut self, key: &[u8]) -> Option<usize>
         requires { AllByRecursion (λ y. is_le (key_cmp key.now y.0) ≡ true) self.old }
-        ensures some { IfSome result (λ segment. IsPermutation self.old ((key.now, segment) ∷ self.new) × IsFirstFront (key.now, segment) self.new) }
-        ensures none { IfNone result ((self.new ≡ self.old) × AllByRecursion (λ y. bytes_eq key.now y.0 ≡ false) self.old) }
+        ensures some { IfSome result (λ segment. IsPermutation self.old ((key.now, segment) ∷ self.new)
+            × IsFirstFront (key.now, segment) self.new) }
+        ensures none { IfNone result ((self.new ≡ self.old)
+            × AllByRecursion (λ y. bytes_eq key.now y.0 ≡ false) self.old) }
     {
         let Some(Reverse((first, _))) = self.heap.peek() else {
             return None;

@@ -11,7 +11,8 @@ use std::cmp::Ordering;
 
 /// Whether a key may follow another, or is the first.
 fn rises(i: usize, previous: &[u8], key: &[u8]) -> bool
-    ensures { MatchBool result ((i ≡ 0) ⊎ (slice_cmp nat_cmp previous.now key.now ≡ Ordering.Less)) ((0 < i) × (slice_cmp nat_cmp previous.now key.now ≡ Ordering.Less → ⊥)) }
+    ensures { MatchBool result ((i ≡ 0) ⊎ (slice_cmp nat_cmp previous.now key.now ≡ Ordering.Less))
+        ((0 < i) × (slice_cmp nat_cmp previous.now key.now ≡ Ordering.Less → ⊥)) }
 {
     if i == 0 {
         return true;
@@ -72,11 +73,12 @@ pub(crate) fn key_at<'a>(ends: &[u8], keys: &'a [u8], i: usize) -> &'a [u8]
     &keys[start..end]
 }
 
-/// The place of a key, by halving.
+/// The place of a key, by binary search.
 pub(crate) fn find_key(ends: &[u8], keys: &[u8], count: usize, key: &[u8]) -> Option<usize>
     requires room { 8 * count ≤ length ends.now }
     requires keys { spec.AreKeys ends.now keys.now count }
-    ensures { MatchOption result ((i : ℕ) → i < count → spec.key_of ends.now keys.now i ≢ key.now) (λ i. (i < count) × (spec.key_of ends.now keys.now i ≡ key.now)) }
+    ensures { MatchOption result ((i : ℕ) → i < count → spec.key_of ends.now keys.now i ≢ key.now)
+        (λ i. (i < count) × (spec.key_of ends.now keys.now i ≡ key.now)) }
 {
     let mut low = 0;
     let mut high = count;
@@ -102,7 +104,7 @@ fn comes_before(through: bool, bound: &[u8], key: &[u8]) -> bool
     }
 }
 
-/// How many keys come before a bound, or with `through` at or before it, by halving.
+/// How many keys come before a bound, or with `through` at or before it, by binary search.
 pub(crate) fn keys_before(
     ends: &[u8],
     keys: &[u8],
@@ -113,8 +115,10 @@ pub(crate) fn keys_before(
     requires room { 8 * count ≤ length ends.now }
     requires keys { spec.AreKeys ends.now keys.now count }
     ensures within { result ≤ count }
-    ensures before { (i : ℕ) → i < result → ranges.comes_before through bound.now (spec.key_of ends.now keys.now i) ≡ true }
-    ensures behind { (i : ℕ) → result ≤ i → i < count → ranges.comes_before through bound.now (spec.key_of ends.now keys.now i) ≡ false }
+    ensures before { (i : ℕ) → i < result
+        → ranges.comes_before through bound.now (spec.key_of ends.now keys.now i) ≡ true }
+    ensures behind { (i : ℕ) → result ≤ i → i < count
+        → ranges.comes_before through bound.now (spec.key_of ends.now keys.now i) ≡ false }
 {
     let mut low = 0;
     let mut high = count;

@@ -1,7 +1,8 @@
 //! Laws of the definitions.
 ghost use Rattle.seg_termdict.specs.Laws.{BackwardIsReverse, MergedTermsAnswer, OrdinalsArePlaces, ReversedBoundsGiveNone};
 
-/// Ordinals are the places of keys; reversed bounds give no terms; and a range gives the same terms backward as forward.
+/// Ordinals are the places of keys; reversed bounds give no terms; and a range gives the same terms backward as
+/// forward.
 pub fn ranges_of_sorted_terms<Info>()
     ensures ordinals { OrdinalsArePlaces Info }
     ensures reversed { ReversedBoundsGiveNone Info }

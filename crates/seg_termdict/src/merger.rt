@@ -15,9 +15,9 @@ use seg_common::TermInfo;
 use std::alloc::{AllocError, Global};
 use std::marker::Model;
 
-/// Goes over the terms of several streamers: each key once, ascending, with the streamers that have it, by their places
-/// among those that were given. A step costs the streamers that have the key, times the logarithm of all. Once it was out
-/// of memory it answers so for good, and is seen as nothing.
+/// Iterates over the terms of several streamers: each key once, ascending, with the streamers that have it, by their
+/// places among those that were given. A step costs the streamers that have the key, times the logarithm of all. Once
+/// it was out of memory it answers so for good, and is seen as nothing.
 #[derive(Drop)]
 pub struct TermMerger<'a> {
     heads: Vec<Head<'a>>,
@@ -38,9 +38,14 @@ impl<'a> Model for TermMerger<'a> {
 
     ghost Value = { Option Merging };
 
-    ghost view = { λ m. if m.lacks_memory then None else Some (record { left = entries (merged_terms m.heads.items); current = noted m.key.now m.ords.items m.infos.items }) };
+    ghost view = { λ m. if m.lacks_memory then None
+        else Some (record {
+          left = entries (merged_terms m.heads.items);
+          current = noted m.key.now m.ords.items m.infos.items;
+        }) };
 
-    ghost invariant = { λ m. m.lacks_memory ≡ false → AreFronts m.fronts m.heads.items × AllByRecursion Ascends m.heads.items };
+    ghost invariant = { λ m. m.lacks_memory ≡ false
+        → AreFronts m.fronts m.heads.items × AllByRecursion Ascends m.heads.items };
 }
 
 impl<'a> TermMerger<'a> {
@@ -154,8 +159,10 @@ fn pass_all<'a>(
     requires fronts { AreFronts fronts.old heads.old.items }
     requires order { AllByRecursion Ascends heads.old.items }
     requires low { AllByRecursion (NotBelow key.now) heads.old.items }
-    ensures ords { OnOk result (ords.new.items ≡ ords.old.items ++ map ord_of (standings_first 0 key.now heads.old.items)) }
-    ensures infos { OnOk result (infos.new.items ≡ infos.old.items ++ map info_of (standings_first 0 key.now heads.old.items)) }
+    ensures ords { OnOk result (ords.new.items
+        ≡ ords.old.items ++ map ord_of (standings_first 0 key.now heads.old.items)) }
+    ensures infos { OnOk result (infos.new.items
+        ≡ infos.old.items ++ map info_of (standings_first 0 key.now heads.old.items)) }
     ensures heads { OnOk result (heads.new.items ≡ map (behind key.now) heads.old.items) }
     ensures order { OnOk result (AllByRecursion Ascends heads.new.items) }
     ensures fronts { OnOk result (AreFronts fronts.new heads.new.items) }
@@ -176,10 +183,14 @@ fn pass_one<'a>(
 ) -> Result<(), AllocError>
     requires place { segment < length heads.old.items }
     requires stands { 0 < length (get_or heads.old.items segment []) }
-    ensures ords { OnOk result (ords.new.items ≡ ords.old.items ++ (segment, (first (get_or heads.old.items segment [])).ord) ∷ []) }
-    ensures infos { OnOk result (infos.new.items ≡ infos.old.items ++ (segment, (first (get_or heads.old.items segment [])).info) ∷ []) }
-    ensures heads { OnOk result (heads.new.items ≡ slice_set heads.old.items segment (drop 1 (get_or heads.old.items segment []))) }
-    ensures fronts { OnOk result (IsPermutation (front_at segment (drop 1 (get_or heads.old.items segment [])) ++ fronts.old) fronts.new) }
+    ensures ords { OnOk result (ords.new.items
+        ≡ ords.old.items ++ (segment, (first (get_or heads.old.items segment [])).ord) ∷ []) }
+    ensures infos { OnOk result (infos.new.items
+        ≡ infos.old.items ++ (segment, (first (get_or heads.old.items segment [])).info) ∷ []) }
+    ensures heads { OnOk result (heads.new.items
+        ≡ slice_set heads.old.items segment (drop 1 (get_or heads.old.items segment []))) }
+    ensures fronts { OnOk result
+        (IsPermutation (front_at segment (drop 1 (get_or heads.old.items segment [])) ++ fronts.old) fronts.new) }
 {
     let head = &mut heads[segment];
     let (ord, info) = head.term();

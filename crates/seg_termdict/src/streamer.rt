@@ -10,8 +10,8 @@ use crate::format::TermOrdinal;
 use seg_common::TermInfo;
 use std::marker::Model;
 
-/// The terms between two places of a dictionary, in a direction, by which `advance` goes. It takes no memory: a key is a
-/// slice of the dictionary's bytes.
+/// The terms between two places of a dictionary, in a direction, by which `advance` goes. It takes no memory: a key is
+/// a slice of the dictionary's bytes.
 #[derive(Drop)]
 pub struct TermStreamer<'a> {
     dictionary: &'a TermDictionary,
@@ -29,9 +29,19 @@ impl<'a> Model for TermStreamer<'a> {
 
     ghost Value = { Stream };
 
-    ghost view = { λ s. record { terms = between s.backward s.dictionary.now s.start s.end; backward = s.backward; taken = s.taken } };
+    ghost view = { λ s. record {
+      terms = between s.backward s.dictionary.now s.start s.end;
+      backward = s.backward;
+      taken = s.taken;
+    } };
 
-    ghost invariant = { λ s. (s.end ≤ length s.dictionary.now) × (s.start + s.taken ≤ s.end) × (s.info ≡ (current (record { terms = between s.backward s.dictionary.now s.start s.end; backward = s.backward; taken = s.taken })).info) };
+    ghost invariant = { λ s. (s.end ≤ length s.dictionary.now) × (s.start + s.taken ≤ s.end)
+        × (s.info
+        ≡ (current (record {
+          terms = between s.backward s.dictionary.now s.start s.end;
+          backward = s.backward;
+          taken = s.taken;
+        })).info) };
 }
 
 impl<'a> TermStreamer<'a> {
@@ -81,7 +91,8 @@ impl<'a> TermStreamer<'a> {
 
     /// Goes on to the next term, and lends its key and what is known of it; at the end it stays at the last.
     pub fn next(&mut self) -> Option<(&[u8], &TermInfo)>
-        ensures term { option_map (λ t. (t.0.now, t.1.now)) result ≡ option_map without_ord (slice_get self.old.terms self.old.taken) }
+        ensures term { option_map (λ t. (t.0.now, t.1.now)) result
+            ≡ option_map without_ord (slice_get self.old.terms self.old.taken) }
         ensures* place { sem 𝓛 (EndsAdvanced self.entry) }
     {
         if !self.advance() {

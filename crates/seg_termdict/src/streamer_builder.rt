@@ -28,7 +28,10 @@ impl<'a> Model for TermStreamerBuilder<'a> {
 
     ghost Value = { Ranged };
 
-    ghost view = { λ b. record { terms = b.dictionary.now; range = record { lower = b.lower; upper = b.upper; backward = b.backward } } };
+    ghost view = { λ b. record {
+      terms = b.dictionary.now;
+      range = record { lower = b.lower; upper = b.upper; backward = b.backward };
+    } };
 }
 
 impl<'a> TermStreamerBuilder<'a> {
@@ -99,9 +102,10 @@ impl<'a> TermStreamerBuilder<'a> {
         }
     }
 
-    /// Stands before the first term of the range. Bounds are found by halving.
+    /// Stands before the first term of the range. Bounds are found by binary search.
     pub fn into_stream(self) -> TermStreamer<'a>
-        ensures { result ≡ before_all self.entry.range.backward (streamed self.entry.range (sorted_terms self.entry.terms)) }
+        ensures { result
+            ≡ before_all self.entry.range.backward (streamed self.entry.range (sorted_terms self.entry.terms)) }
     {
         self.dictionary.keys_ascend();
         let start = start_place(self.dictionary, &self.lower);

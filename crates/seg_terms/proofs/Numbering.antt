@@ -353,7 +353,7 @@ first_at keys bs there =
     IsFirstAt-from bs (key_number keys bs) keys within (passes_at_first (bytes_eq bs) keys [] within)
     (λ k lt. fails_before_first (bytes_eq bs) keys k [] lt)
 
--- one more occurrence, be its term new or not
+-- one more occurrence, whether its term is new or not
 pub added_by_key : (keys : List (List ℕ)) (hits : List NumberedHit) (old : Terms) → numbered_terms keys hits ≡ old
     → AreBelow (length keys) hits → (bs : List ℕ) (h : Hit)
     → numbered_terms (with_key keys bs) (hits ++ record { term = key_number keys bs; hit = h } ∷ [])

@@ -9,7 +9,7 @@ abbrev pub to_position : Recorded → ℕ → Recorded
 to_position (positions ps) p = positions (ps ++ p ∷ [])
 to_position _ p = positions (p ∷ [])
 
--- the postings with a position in a document that no posting is past
+-- the postings with a position in a document that no posting comes after
 abbrev pub with_position : List Posting → ℕ → ℕ → List Posting
 with_position [] document position = record { document = document; recorded = positions (position ∷ []) } ∷ []
 with_position (p ∷ []) document position =

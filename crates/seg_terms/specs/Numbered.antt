@@ -12,7 +12,7 @@ use Rattle.seg_terms.specs.declared.hit.NumberedHit.{NumberedHit}
 abbrev pub hits_of : ℕ → List NumberedHit → List Hit
 hits_of number hits = map (λ h. h.hit) (filter (λ h. nat_eq number h.term) hits)
 
--- all occurrences are of the first so many terms
+-- all occurrences are of the first terms, this many of them
 abbrev pub AreBelow : ℕ → List NumberedHit → Type 0
 AreBelow count hits = AllByRecursion (λ h. h.term < count) hits
 

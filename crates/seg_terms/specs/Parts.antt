@@ -18,7 +18,7 @@ entry_of hits t = (t.key, grouped (slice_range hits t.start t.end))
 abbrev pub entries_of : List TermPart → List Hit → TermEntries
 entries_of terms hits = map (entry_of hits) terms
 
--- a part lies within so many occurrences
+-- a part lies within this many occurrences
 pub record IsWithin (count : ℕ) (t : TermPart) : Type 0 where
   pub forward : t.start ≤ t.end
   pub within : t.end ≤ count

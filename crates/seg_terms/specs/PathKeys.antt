@@ -9,7 +9,7 @@ pub record TermsOnPaths : Type 0 where
   pub paths : List (List ℕ)
   pub terms : Terms
 
--- what is kept of a term: the number of its path, and what is behind the path and the byte 0
+-- what is kept of a term: the number of its path, and what is after the path and the byte 0
 unfoldable pub path_key : ℕ → List ℕ → List ℕ
 path_key number rest = to_le_bytes w32 number ++ rest
 
@@ -21,7 +21,7 @@ key_path key = from_le_bytes w32 key
 abbrev pub term_on : List (List ℕ) → List ℕ → List ℕ
 term_on paths key = slice_index_or paths (key_path key) [] ++ 0 ∷ drop 4 key
 
--- the number in a key is that of one of so many paths
+-- the number in a key is that of one of this many paths
 pub record IsPathKey (count : ℕ) (key : List ℕ) : Type 0 where
   pub number : ℕ
   pub rest : List ℕ

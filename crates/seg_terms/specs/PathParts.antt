@@ -15,6 +15,6 @@ path_entry_of paths hits t = (term_on paths t.key, grouped (slice_range hits t.s
 abbrev pub path_entries_of : List (List ℕ) → List TermPart → List Hit → TermEntries
 path_entries_of paths terms hits = map (path_entry_of paths hits) terms
 
--- a term is on one of so many paths
+-- a term is on one of this many paths
 abbrev pub IsOnPath : ℕ → TermPart → Type 0
 IsOnPath count t = IsPathKey count t.key

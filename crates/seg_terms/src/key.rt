@@ -14,7 +14,7 @@ use std::marker::Model;
 /// The most bytes of a key that lie in the value itself.
 const MAX_INLINE_LEN: usize = 16;
 
-/// The bytes of a term. Up to 16 of them take no memory beside the value.
+/// The bytes of a term. Up to 16 of them take no memory besides the value.
 #[derive(Debug, Drop)]
 pub(crate) struct TermKey {
     bytes: KeptBytes,

@@ -28,12 +28,13 @@ impl KnownTerms {
         }
     }
 
-    /// Adds an occurrence of the term with a key. More than 2^32 terms are want of memory.
+    /// Adds an occurrence of the term with a key. More than 2^32 terms count as out of memory.
     pub fn add(&mut self, alloc: Global, bytes: &[u8], hit: Hit) -> Result<(), AllocError>
         requires { AreKnown self.old }
         ensures known { AreKnown self.new }
         ensures ok { OnOk result (IsAdded bytes.now hit self.old self.new) }
-        ensures err { OnErr result (self.new.keys.keys ≡ self.old.keys.keys × self.new.hits.items ≡ self.old.hits.items) }
+        ensures err { OnErr result (self.new.keys.keys ≡ self.old.keys.keys
+            × self.new.hits.items ≡ self.old.hits.items) }
     {
         let Some(number) = self.keys.get_index_of(KeyBytes { bytes }) else {
             return self.add_first(alloc, bytes, hit);
@@ -49,7 +50,8 @@ impl KnownTerms {
         requires new { list_any (bytes_eq bytes.now) self.old.keys.keys ≡ false }
         ensures known { AreKnown self.new }
         ensures ok { OnOk result (IsAdded bytes.now hit self.old self.new) }
-        ensures err { OnErr result (self.new.keys.keys ≡ self.old.keys.keys × self.new.hits.items ≡ self.old.hits.items) }
+        ensures err { OnErr result (self.new.keys.keys ≡ self.old.keys.keys
+            × self.new.hits.items ≡ self.old.hits.items) }
     {
         let Ok(term) = u32::try_from(self.keys.len()) else {
             return Err(AllocError);

@@ -37,7 +37,7 @@ fn byte_at(bytes: &[u8], at: usize) -> u8
     }
 }
 
-/// What is behind the number.
+/// What is after the number.
 pub(crate) fn key_rest(key: &[u8]) -> &[u8]
     ensures { result.now ≡ drop 4 key.now }
 {

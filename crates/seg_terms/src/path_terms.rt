@@ -74,7 +74,7 @@ impl PathTerms {
         leaves_of(alloc, &mut self.paths, expand_dots, value)
     }
 
-    /// Adds an occurrence in a document that no posting is past, of the term with the path of this number, a byte 0
+    /// Adds an occurrence in a document that no posting comes after, of the term with the path of this number, a byte 0
     /// and these bytes. A term that is there takes no memory but for its occurrence.
     pub fn add(
         &mut self,

@@ -38,7 +38,7 @@ impl TermIndex {
         }
     }
 
-    /// Adds an occurrence in a document that no posting is past.
+    /// Adds an occurrence in a document that no posting comes after.
     pub fn add(
         &mut self,
         alloc: Global,

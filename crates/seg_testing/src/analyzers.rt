@@ -40,7 +40,9 @@ impl Analyzers for Repeats<'_> {
 
     ghost knows = { λ _ _. true };
 
-    ghost tokens_of = { λ s _ text. map (λ p. record { offset_from = 0; offset_to = length text; position = p; position_length = 1; text = text }) s.positions.now };
+    ghost tokens_of = { λ s _ text. map
+        (λ p. record { offset_from = 0; offset_to = length text; position = p; position_length = 1; text = text })
+        s.positions.now };
 
     fn known(&self, _name: &str) -> bool {
         true

@@ -19,7 +19,13 @@ pub struct OddDirectory {
 }
 
 impl Directory for OddDirectory {
-    ghost state = { λ d. record { tells = false; files = empty; seen = d.inner.calls.answers; faults = d.inner.calls.faults; disk = untold } };
+    ghost state = { λ d. record {
+      tells = false;
+      files = empty;
+      seen = d.inner.calls.answers;
+      faults = d.inner.calls.faults;
+      disk = untold;
+    } };
 
     ghost reads = { λ _ told. absurd (true≢false (sym told)) };
 

@@ -1,4 +1,4 @@
--- The places of the last members of keys, as members are gone through.
+-- The places of the last members of keys, as members are walked through.
 use Rattle.std.proofs.Common.{◌≡◌, ◌<◌, ℕ, ◌+◌, List, [], ◌∷◌, length, drop, map, Ordering, Less, Equal, Greater, nat_cmp, Some, slice_get, refl, sym, ap, subst, ◌∙◌}
 use Rattle.std.specs.Cmp.Lexicographic.{slice_cmp}
 use Rattle.std.specs.Ordering.{match_ordering}
@@ -36,7 +36,7 @@ module _ {K : Type 0} (text : K → List ℕ) (members : List (List ℕ × Tree)
   places-insert (e ∷ es) k i small are = places-match (compare k e.0) ((k, i) ∷ e ∷ es) ((e.0, i) ∷ es) (e ∷ insert_entry compare es k i) (small, are) (small, are.1) (are.0, places-insert es k i small are.1)
 
   module _ (es more : List (K × ℕ)) (k : K) (i : ℕ) (v : Tree) (at : slice_get members i ≡ Some (text k, v)) (is : more ≡ insert_entry compare es k i) where
-    -- one member more is placed
+    -- one more member is placed
     pub one_placed : members_json json.no_members (members_from members) ≡ members_json (placed_members members (keyed es)) (members_from (drop i members)) → members_json json.no_members (members_from members) ≡ members_json (placed_members members (keyed more)) (members_from (drop (i + 1) members))
     one_placed so_far =
         let here : value_at members i ≡ v = rw at in

@@ -9,7 +9,7 @@ use Rattle.seg_model.specs.Columns.{ColumnValue}
 use Rattle.seg_text.specs.ColumnText.{column_line, mark_text, printed_value, rows_text, type_text, values_text}
 
 module _ {X : Type 0} (meant : X → ColumnValue) where
-  -- a row more
+  -- one more row
   pub row_more : (rows : List (List X)) (doc : ℕ) (out new start all : List ℕ) → doc < length rows
       → new ≡ out ++ values_text false doc (map meant (get_or rows doc []))
       → out ++ rows_text doc (map (map meant) (drop doc rows)) ≡ start ++ all
@@ -21,7 +21,7 @@ module _ {X : Type 0} (meant : X → ColumnValue) where
       ∙ ap (λ (l : List (List X)). out ++ rows_text doc (map (map meant) l)) (sym (drop_more rows doc [] within))
       ∙ so_far
 
-  -- a value more
+  -- one more value
   pub value_more : (later : Bool) (doc : ℕ) (x : X) (xs left : List X) (out marked new start all : List ℕ)
       → left ≡ x ∷ xs → marked ≡ out ++ mark_text later doc → new ≡ marked ++ printed_value (meant x)
       → out ++ values_text later doc (map meant left) ≡ start ++ all

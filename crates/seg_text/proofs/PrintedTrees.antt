@@ -11,12 +11,12 @@ use Rattle.seg_values.specs.ValueJson.{value_json, items_json, members_json}
 use Rattle.seg_text.specs.PlacedMembers.{value_at, placed_members, ArePlaces}
 
 module _ (before out mid after : List ℕ) (later : Bool) (comma : mid ≡ out ++ comma_if later) where
-  -- one item more
+  -- one more item
   pub one_item : (ts : List Tree) (i : ℕ) (t : Tree) → slice_get ts i ≡ Some t → after ≡ mid ++ compact_text (value_json t) → out ++ items_text later (items_json (trees_from (drop i ts))) ≡ before → after ++ items_text true (items_json (trees_from (drop (i + 1) ts))) ≡ before
   one_item ts i t at is so_far =
       rw (is, comma) (simp append_assoc (sym (ap (λ us. out ++ items_text later (items_json (trees_from us))) (drop-slice_get ts i t at)) ∙ so_far))
 
-  -- one member more
+  -- one more member
   pub one_member : {K : Type 0} (text : K → List ℕ) (members : List (List ℕ × Tree)) (es rest : List (K × ℕ)) (e : K × ℕ) (m : List ℕ × Tree) → es ≡ e ∷ rest → slice_get members e.1 ≡ Some m → after ≡ mid ++ quoted (text e.0) ++ 58 ∷ compact_text (value_json m.1) → out ++ members_text later (placed_members members (map (λ p. (text p.0, p.1)) es)) ≡ before → after ++ members_text true (placed_members members (map (λ p. (text p.0, p.1)) rest)) ≡ before
   one_member {K} text members es rest e m step at is so_far =
       let here : value_at members e.1 ≡ m.1 = rw at in
@@ -25,7 +25,7 @@ module _ (before out mid after : List ℕ) (later : Bool) (comma : mid ≡ out +
       let spelled : after ++ members_text true (placed_members members (map (λ p. (text p.0, p.1)) rest)) ≡ out ++ (comma_if later ++ (quoted (text e.0) ++ 58 ∷ (compact_text (value_json m.1) ++ members_text true (placed_members members (map (λ p. (text p.0, p.1)) rest))))) = rw (is, comma) (simp append_assoc) in
       spelled ∙ known
 
-  -- one pair more
+  -- one more pair
   pub one_pair : (schema : Schema) (ps : Document) (i : ℕ) (p : ℕ × Tree) → slice_get ps i ≡ Some p → after ≡ mid ++ compact_text (pair_json schema p) → out ++ items_text later (pairs_items schema (drop i ps)) ≡ before → after ++ items_text true (pairs_items schema (drop (i + 1) ps)) ≡ before
   one_pair schema ps i p at is so_far =
       let known = sym (ap (λ qs. out ++ items_text later (pairs_items schema qs)) (drop-slice_get ps i p at)) ∙ so_far in

@@ -25,7 +25,8 @@ document_json schema document = array (pairs_items schema document)
 
 -- `doc ID LIST`
 abbrev pub document_line : Schema → ℕ → Document → List ℕ
-document_line schema id document = codes "doc " ++ (decimal id ++ 32 ∷ (compact_text (document_json schema document) ++ 10 ∷ []))
+document_line schema id document = codes "doc "
+    ++ (decimal id ++ 32 ∷ (compact_text (document_json schema document) ++ 10 ∷ []))
 
 -- documents of which the first has the id `first`
 abbrev pub documents_from : Schema → ℕ → List Document → List ℕ

@@ -24,4 +24,5 @@ field_text name terms = field_line name (length terms) ++ flat_map term_line ter
 abbrev pub fields_text : Schema → List Terms → List ℕ
 fields_text [] terms = []
 fields_text (entry ∷ schema) [] = []
-fields_text (entry ∷ schema) (terms ∷ others) = (if is_indexed entry then field_text entry.name (entries terms) else []) ++ fields_text schema others
+fields_text (entry ∷ schema) (terms ∷ others) = (if is_indexed entry then field_text entry.name (entries terms) else [])
+    ++ fields_text schema others

@@ -6,7 +6,8 @@ use Rattle.seg_common.specs.SegmentIds.{id_text}
 -- `LABEL ID docs N alive A`
 abbrev pub header_text : List ℕ → ℕ → ℕ → ℕ → List ℕ
 header_text label id documents alive_count =
-    label ++ 32 ∷ (id_text id ++ (codes " docs " ++ (decimal documents ++ (codes " alive " ++ (decimal alive_count ++ 10 ∷ [])))))
+    label ++ 32 ∷ (id_text id ++ (codes " docs "
+    ++ (decimal documents ++ (codes " alive " ++ (decimal alive_count ++ 10 ∷ [])))))
 
 -- the ids of deleted documents, where the first document has the id `first`
 abbrev pub dead_from : ℕ → List Bool → List ℕ

@@ -13,4 +13,5 @@ norms_line name ids = codes "norms " ++ (quoted name ++ (flat_map id_word ids ++
 abbrev pub norms_text : Schema → List (List ℕ) → List ℕ
 norms_text [] norms = []
 norms_text (entry ∷ schema) [] = []
-norms_text (entry ∷ schema) (ids ∷ others) = (if has_lengths entry then norms_line entry.name ids else []) ++ norms_text schema others
+norms_text (entry ∷ schema) (ids ∷ others) = (if has_lengths entry then norms_line entry.name ids else [])
+    ++ norms_text schema others

@@ -17,4 +17,5 @@ pub record PrintedSegment : Type 0 where
 abbrev pub segment_text : Schema → PrintedSegment → List ℕ
 segment_text schema segment =
     header_text segment.label segment.id segment.reading.documents (count_by (λ b. b) segment.alive)
-    ++ (dead_text segment.alive ++ (fields_text schema segment.reading.terms ++ documents_text schema segment.reading.stored))
+    ++ (dead_text segment.alive
+    ++ (fields_text schema segment.reading.terms ++ documents_text schema segment.reading.stored))

@@ -7,7 +7,7 @@ use crate::column_line::push_column;
 use seg_column_file::ColumnarReader;
 use std::alloc::{AllocError, Global};
 
-/// A line for each column, in order of path and type. Each column is gone over once. After an error it is open what
+/// A line for each column, in order of path and type. Each column is scanned once. After an error it is open what
 /// `out` holds.
 pub fn push_columns(
     out: &mut Vec<u8>,

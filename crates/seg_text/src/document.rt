@@ -26,7 +26,8 @@ pub fn push_document(
     stored: &[u8],
 ) -> Result<(), AllocError>
     requires { is_stored_document stored.now ≡ true }
-    ensures { OnOk result (IsSomeAnd (stored_document_of stored.now) (λ d. out.new.items ≡ out.old.items ++ document_line schema.now id d)) }
+    ensures { OnOk result (IsSomeAnd (stored_document_of stored.now) (λ d. out.new.items
+        ≡ out.old.items ++ document_line schema.now id d)) }
 {
     out.extend_from_slice(b"doc ")?;
     push_decimal(out, id as u64)?;
@@ -43,7 +44,8 @@ fn push_pairs(
     schema: &Schema,
     stored: &[u8],
 ) -> Result<(), AllocError>
-    ensures { OnOk result (IsPrinted (λ d. compact_text (document_json schema.now d)) stored.now out.old.items out.new.items) }
+    ensures { OnOk result
+        (IsPrinted (λ d. compact_text (document_json schema.now d)) stored.now out.old.items out.new.items) }
 {
     let start = out.len();
     let Some(()) = push_stored_pairs(out, alloc, schema, stored)? else {
@@ -60,7 +62,8 @@ fn push_read_pairs(
     schema: &Schema,
     stored: &[u8],
 ) -> Result<(), AllocError>
-    ensures { OnOk result (IsPrinted (λ d. compact_text (document_json schema.now d)) stored.now out.old.items out.new.items) }
+    ensures { OnOk result
+        (IsPrinted (λ d. compact_text (document_json schema.now d)) stored.now out.old.items out.new.items) }
 {
     let Some(document) = document_of(alloc, stored)? else {
         return Err(AllocError);

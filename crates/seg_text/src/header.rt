@@ -69,7 +69,8 @@ fn push_dead_ids(out: &mut Vec<u8>, alive: &AliveBitSet, documents: u32) -> Resu
 /// The id of a document after a space, where it is deleted.
 fn push_if_dead(out: &mut Vec<u8>, alive: &AliveBitSet, doc: u32) -> Result<(), AllocError>
     requires { doc < length alive.now }
-    ensures { OnOk result (out.new.items ≡ out.old.items ++ flat_map id_word (dead_from doc (take 1 (drop doc alive.now)))) }
+    ensures { OnOk result (out.new.items
+        ≡ out.old.items ++ flat_map id_word (dead_from doc (take 1 (drop doc alive.now)))) }
 {
     if alive.is_deleted(doc) {
         out.push(b' ')?;

@@ -18,7 +18,8 @@ pub(crate) fn push_pair(
     field: Field,
     value: &OwnedValue,
 ) -> Result<(), AllocError>
-    ensures { OnOk result (out.new.items ≡ out.old.items ++ compact_text (pair_json schema.now (field, tree_of value.now))) }
+    ensures { OnOk result (out.new.items
+        ≡ out.old.items ++ compact_text (pair_json schema.now (field, tree_of value.now))) }
 {
     out.push(b'[')?;
     push_name(out, alloc, schema, field)?;

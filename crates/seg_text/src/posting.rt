@@ -20,7 +20,8 @@ pub fn push_posting(
     document: u32,
     recorded: RecordedRef<'_>,
 ) -> Result<(), AllocError>
-    ensures { OnOk result (out.new.items ≡ out.old.items ++ posting_text (record { document = document; recorded = recorded_of recorded.entry })) }
+    ensures { OnOk result (out.new.items
+        ≡ out.old.items ++ posting_text (record { document = document; recorded = recorded_of recorded.entry })) }
 {
     out.push(b' ')?;
     push_decimal(out, u64::from(document))?;

@@ -67,7 +67,15 @@ pub(crate) fn push_token_parts(
     position_length: u32,
     text: &str,
 ) -> Result<(), AllocError>
-    ensures { OnOk result (out.new.items ≡ out.old.items ++ compact_text (token_json (record { offset_from = offset_from; offset_to = offset_to; position = position; position_length = position_length; text = text.now }))) }
+    ensures { OnOk result (out.new.items
+        ≡ out.old.items
+        ++ compact_text (token_json (record {
+          offset_from = offset_from;
+          offset_to = offset_to;
+          position = position;
+          position_length = position_length;
+          text = text.now;
+        }))) }
 {
     out.extend_from_slice(b"{\"offset_from\":")?;
     push_decimal(out, offset_from)?;

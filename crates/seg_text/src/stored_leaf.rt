@@ -33,7 +33,8 @@ pub(crate) fn push_stored_leaf(
     bytes: &mut &[u8],
     tag: u8,
 ) -> Result<Option<()>, AllocError>
-    ensures { IfOk result (Prints (trees.leaf_at tag) (λ l. compact_text (leaf_json l)) bytes.old.now bytes.new.now out.old.items out.new.items) }
+    ensures { IfOk result (Prints (trees.leaf_at tag)
+        (λ l. compact_text (leaf_json l)) bytes.old.now bytes.new.now out.old.items out.new.items) }
 {
     match tag {
         0 => {
@@ -78,7 +79,8 @@ fn push_stored_unsigned(out: &mut Vec<u8>, bytes: &mut &[u8]) -> Result<Option<(
 }
 
 fn push_stored_signed(out: &mut Vec<u8>, bytes: &mut &[u8]) -> Result<Option<()>, AllocError>
-    ensures { IfOk result (Prints read.number_at (λ n. signed_decimal (cast_signed w64 n)) bytes.old.now bytes.new.now out.old.items out.new.items) }
+    ensures { IfOk result (Prints read.number_at
+        (λ n. signed_decimal (cast_signed w64 n)) bytes.old.now bytes.new.now out.old.items out.new.items) }
 {
     let Some(number) = take_number(bytes) else {
         return Ok(None);
@@ -88,7 +90,8 @@ fn push_stored_signed(out: &mut Vec<u8>, bytes: &mut &[u8]) -> Result<Option<()>
 }
 
 fn push_stored_bool(out: &mut Vec<u8>, bytes: &mut &[u8]) -> Result<Option<()>, AllocError>
-    ensures { IfOk result (Prints trees.bit_at (λ b. compact_text (json.boolean b)) bytes.old.now bytes.new.now out.old.items out.new.items) }
+    ensures { IfOk result (Prints trees.bit_at
+        (λ b. compact_text (json.boolean b)) bytes.old.now bytes.new.now out.old.items out.new.items) }
 {
     let Some(bit) = take_bit(bytes) else {
         return Ok(None);
@@ -99,7 +102,8 @@ fn push_stored_bool(out: &mut Vec<u8>, bytes: &mut &[u8]) -> Result<Option<()>, 
 
 /// A moment, of which the nanoseconds since 1970 are stored.
 fn push_stored_date(out: &mut Vec<u8>, bytes: &mut &[u8]) -> Result<Option<()>, AllocError>
-    ensures { IfOk result (Prints read.number_at (λ n. quoted (date_text (cast_signed w64 n))) bytes.old.now bytes.new.now out.old.items out.new.items) }
+    ensures { IfOk result (Prints read.number_at
+        (λ n. quoted (date_text (cast_signed w64 n))) bytes.old.now bytes.new.now out.old.items out.new.items) }
 {
     let Some(number) = take_number(bytes) else {
         return Ok(None);
@@ -113,7 +117,8 @@ fn push_stored_facet(
     alloc: Global,
     bytes: &mut &[u8],
 ) -> Result<Option<()>, AllocError>
-    ensures { IfOk result (Prints read.text_at (λ t. quoted (path_of t)) bytes.old.now bytes.new.now out.old.items out.new.items) }
+    ensures { IfOk result
+        (Prints read.text_at (λ t. quoted (path_of t)) bytes.old.now bytes.new.now out.old.items out.new.items) }
 {
     let Some(text) = take_text(bytes) else {
         return Ok(None);
@@ -128,7 +133,8 @@ fn push_stored_bytes(
     alloc: Global,
     bytes: &mut &[u8],
 ) -> Result<Option<()>, AllocError>
-    ensures { IfOk result (Prints read.sized_at (λ b. quoted (encode_of standard b)) bytes.old.now bytes.new.now out.old.items out.new.items) }
+    ensures { IfOk result (Prints read.sized_at
+        (λ b. quoted (encode_of standard b)) bytes.old.now bytes.new.now out.old.items out.new.items) }
 {
     let Some(stored) = take_sized(bytes) else {
         return Ok(None);
@@ -142,7 +148,8 @@ fn push_stored_address(
     alloc: Global,
     bytes: &mut &[u8],
 ) -> Result<Option<()>, AllocError>
-    ensures { IfOk result (Prints (read.front 16) (λ o. quoted (address_text o)) bytes.old.now bytes.new.now out.old.items out.new.items) }
+    ensures { IfOk result (Prints (read.front 16)
+        (λ o. quoted (address_text o)) bytes.old.now bytes.new.now out.old.items out.new.items) }
 {
     let Some(address) = take_address(bytes) else {
         return Ok(None);

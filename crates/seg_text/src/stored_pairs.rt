@@ -20,7 +20,8 @@ pub(crate) fn push_stored_pairs(
     schema: &Schema,
     stored: &[u8],
 ) -> Result<Option<()>, AllocError>
-    ensures { IfOk result (λ o. MatchOption o (HasMore out.old.items out.new.items) (λ _. IsPrinted (λ d. compact_text (document_json schema.now d)) stored.now out.old.items out.new.items)) }
+    ensures { IfOk result (λ o. MatchOption o (HasMore out.old.items out.new.items)
+        (λ _. IsPrinted (λ d. compact_text (document_json schema.now d)) stored.now out.old.items out.new.items)) }
 {
     let mut left = stored;
     let Some(()) = push_counted_pairs(out, alloc, schema, &mut left)? else {
@@ -39,7 +40,8 @@ fn push_counted_pairs(
     schema: &Schema,
     bytes: &mut &[u8],
 ) -> Result<Option<()>, AllocError>
-    ensures { IfOk result (Prints (read.counted_at pair_at) (λ ps. compact_text (document_json schema.now ps)) bytes.old.now bytes.new.now out.old.items out.new.items) }
+    ensures { IfOk result (Prints (read.counted_at pair_at)
+        (λ ps. compact_text (document_json schema.now ps)) bytes.old.now bytes.new.now out.old.items out.new.items) }
 {
     let Some(count) = take_varint(bytes) else {
         return Ok(None);
@@ -64,7 +66,8 @@ fn push_stored_pair(
     schema: &Schema,
     bytes: &mut &[u8],
 ) -> Result<Option<()>, AllocError>
-    ensures { IfOk result (Prints pair_at (λ p. compact_text (pair_json schema.now p)) bytes.old.now bytes.new.now out.old.items out.new.items) }
+    ensures { IfOk result (Prints pair_at
+        (λ p. compact_text (pair_json schema.now p)) bytes.old.now bytes.new.now out.old.items out.new.items) }
 {
     let Some(field) = take_field(bytes) else {
         return Ok(None);

@@ -19,7 +19,8 @@ pub(crate) fn push_stored_pre_tokenized(
     alloc: Global,
     bytes: &mut &[u8],
 ) -> Result<Option<()>, AllocError>
-    ensures { IfOk result (Prints trees.pre_tokenized_at (λ l. compact_text (leaf_json l)) bytes.old.now bytes.new.now out.old.items out.new.items) }
+    ensures { IfOk result (Prints trees.pre_tokenized_at
+        (λ l. compact_text (leaf_json l)) bytes.old.now bytes.new.now out.old.items out.new.items) }
 {
     let Some(text) = take_text(bytes) else {
         return Ok(None);
@@ -40,7 +41,8 @@ fn push_stored_tokens(
     alloc: Global,
     bytes: &mut &[u8],
 ) -> Result<Option<()>, AllocError>
-    ensures { IfOk result (Prints (read.counted_at trees.token_at) (λ ts. compact_text (array (tokens_items ts))) bytes.old.now bytes.new.now out.old.items out.new.items) }
+    ensures { IfOk result (Prints (read.counted_at trees.token_at)
+        (λ ts. compact_text (array (tokens_items ts))) bytes.old.now bytes.new.now out.old.items out.new.items) }
 {
     let Some(count) = take_varint(bytes) else {
         return Ok(None);
@@ -63,7 +65,8 @@ fn push_stored_token(
     alloc: Global,
     bytes: &mut &[u8],
 ) -> Result<Option<()>, AllocError>
-    ensures { IfOk result (Prints trees.token_at (λ t. compact_text (token_json t)) bytes.old.now bytes.new.now out.old.items out.new.items) }
+    ensures { IfOk result (Prints trees.token_at
+        (λ t. compact_text (token_json t)) bytes.old.now bytes.new.now out.old.items out.new.items) }
 {
     let Some(offset_from) = take_varint(bytes) else {
         return Ok(None);

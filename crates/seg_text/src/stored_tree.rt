@@ -1,6 +1,7 @@
 //! Stored values, as JSON: each call prints what is at the front of bytes, or gives up.
 //!
-//! It gives up at an object whose keys don't strictly ascend: such a one is printed in another order than it is stored.
+//! It gives up at an object whose keys don't strictly ascend: such an object is printed in another order than it is
+//! stored.
 ghost use Rattle.std.specs.Prelude.{◌≡◌, IfOk};
 ghost use Rattle.serde_json.specs.Written.{compact_text};
 ghost use Rattle.seg_doc_bytes.specs.Reader as read;
@@ -23,7 +24,8 @@ pub(crate) fn push_stored_tree(
     bytes: &mut &[u8],
     levels: u32,
 ) -> Result<Option<()>, AllocError>
-    ensures { IfOk result (Prints (trees.stored_tree_at levels) (λ t. compact_text (value_json t)) bytes.old.now bytes.new.now out.old.items out.new.items) }
+    ensures { IfOk result (Prints (trees.stored_tree_at levels)
+        (λ t. compact_text (value_json t)) bytes.old.now bytes.new.now out.old.items out.new.items) }
 {
     if levels == 0 {
         return Ok(None);
@@ -46,7 +48,9 @@ fn push_stored_array(
     bytes: &mut &[u8],
     levels: u32,
 ) -> Result<Option<()>, AllocError>
-    ensures { IfOk result (Prints (read.counted_at (trees.stored_tree_at levels)) (λ ts. compact_text (value_json (tree.array (tree.trees_from ts)))) bytes.old.now bytes.new.now out.old.items out.new.items) }
+    ensures { IfOk result (Prints (read.counted_at (trees.stored_tree_at levels))
+        (λ ts. compact_text (value_json (tree.array (tree.trees_from ts))))
+        bytes.old.now bytes.new.now out.old.items out.new.items) }
 {
     let Some(count) = take_varint(bytes) else {
         return Ok(None);
@@ -72,7 +76,9 @@ fn push_stored_object(
     bytes: &mut &[u8],
     levels: u32,
 ) -> Result<Option<()>, AllocError>
-    ensures { IfOk result (Prints (read.counted_at (trees.member_at (trees.stored_tree_at levels))) (λ ms. compact_text (value_json (tree.object (tree.members_from ms)))) bytes.old.now bytes.new.now out.old.items out.new.items) }
+    ensures { IfOk result (Prints (read.counted_at (trees.member_at (trees.stored_tree_at levels)))
+        (λ ms. compact_text (value_json (tree.object (tree.members_from ms))))
+        bytes.old.now bytes.new.now out.old.items out.new.items) }
 {
     let Some(count) = take_varint(bytes) else {
         return Ok(None);

@@ -60,7 +60,8 @@ fn push_array(out: &mut Vec<u8>, alloc: Global, values: &Values) -> Result<(), A
 /// Members in the byte order of their keys, of which the last of equal keys stays.
 #[cycle(push_value)]
 fn push_object(out: &mut Vec<u8>, alloc: Global, members: &Members) -> Result<(), AllocError>
-    ensures { OnOk result (out.new.items ≡ out.old.items ++ compact_text (value_json (object (members_from members.now)))) }
+    ensures { OnOk result (out.new.items
+        ≡ out.old.items ++ compact_text (value_json (object (members_from members.now)))) }
 {
     let places = last_places(alloc, members)?;
     out.push(b'{')?;
@@ -81,7 +82,8 @@ fn push_member(
     key: &str,
     value: &OwnedValue,
 ) -> Result<(), AllocError>
-    ensures { OnOk result (out.new.items ≡ out.old.items ++ quoted key.now ++ 58 ∷ compact_text (value_json (tree_of value.now))) }
+    ensures { OnOk result (out.new.items
+        ≡ out.old.items ++ quoted key.now ++ 58 ∷ compact_text (value_json (tree_of value.now))) }
 {
     push_quoted(out, alloc, key)?;
     out.push(b':')?;
@@ -93,7 +95,8 @@ fn last_places<'a>(
     alloc: Global,
     members: &'a Members,
 ) -> Result<BTreeMap<&'a str, usize>, AllocError>
-    ensures members { IfOk result (λ places. members_json no_members (members_from members.now) ≡ placed_members members.now (map (λ p. (p.0.now, p.1)) places.entries)) }
+    ensures members { IfOk result (λ places. members_json no_members (members_from members.now)
+        ≡ placed_members members.now (map (λ p. (p.0.now, p.1)) places.entries)) }
     ensures places { IfOk result (λ places. ArePlaces members.now (map (λ p. (p.0.now, p.1)) places.entries)) }
 {
     let mut places = BTreeMap::new(alloc);

@@ -14,7 +14,13 @@ words pieces = filter (λ piece. not (length piece.1 == 0)) pieces
 
 -- the token of a word by its index among the words, where `kept` is what is kept of a byte
 abbrev pub token_of : (ℕ → ℕ) → ℕ → ℕ × List ℕ → Token
-token_of kept index word = record { offset_from = word.0; offset_to = word.0 + length word.1; position = min index (2 ^ 32 - 1); position_length = 1; text = map kept word.1 }
+token_of kept index word = record {
+  offset_from = word.0;
+  offset_to = word.0 + length word.1;
+  position = min index (2 ^ 32 - 1);
+  position_length = 1;
+  text = map kept word.1;
+}
 
 -- the tokens of words, of which the first has this index
 abbrev pub numbered : (ℕ → ℕ) → ℕ → List (ℕ × List ℕ) → List Token

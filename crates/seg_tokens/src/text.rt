@@ -9,7 +9,7 @@ use std::marker::Model;
 /// The most bytes of a text that lies in the value itself.
 const MAX_INLINE_LEN: usize = 16;
 
-/// A text, as the list of its bytes. A copy of at most 16 bytes takes no memory beside the value.
+/// A text, as the list of its bytes. A copy of at most 16 bytes takes no memory besides the value.
 #[derive(Debug, Drop)]
 pub struct Text {
     text: Kept,

@@ -37,9 +37,11 @@ impl TokenizerManager {
     /// Gives a name a tokenizer, in place of the one that it had.
     pub fn register(&mut self, name: &str, tokenizer: Box<dyn Tokenizer>) -> Result<(), AllocError>
         ensures ok { let analyzers = ⟦<TokenizerManager as Analyzers>⟧ in
-            OnOk result (Registers (analyzers.knows self.old) (analyzers.knows self.new) (analyzers.tokens_of self.old) (analyzers.tokens_of self.new) name.now ((Tokenizer-box tokenizer).tokens_of tokenizer.value)) }
+            OnOk result (Registers (analyzers.knows self.old) (analyzers.knows self.new) (analyzers.tokens_of self.old)
+            (analyzers.tokens_of self.new) name.now ((Tokenizer-box tokenizer).tokens_of tokenizer.value)) }
         ensures err { let analyzers = ⟦<TokenizerManager as Analyzers>⟧ in
-            OnErr result (KeepsRegistered (analyzers.knows self.old) (analyzers.knows self.new) (analyzers.tokens_of self.old) (analyzers.tokens_of self.new)) }
+            OnErr result (KeepsRegistered (analyzers.knows self.old) (analyzers.knows self.new)
+            (analyzers.tokens_of self.old) (analyzers.tokens_of self.new)) }
     {
         match place_of(&self.tokenizers, name) {
             Some(place) => self.tokenizers[place].value = tokenizer,
@@ -59,7 +61,8 @@ impl TokenizerManager {
 fn place_of<T>(values: &[Named<T>], name: &str) -> Option<usize>
     ensures place { result ≡ position (λ v. bytes_eq v.name name.now) values.now }
     ensures within { IfSome result (λ place. place < length values.now) }
-    ensures found { MatchOption result (item_named (λ v. v.name) values.now name.now ≡ None) (λ place. item_named (λ v. v.name) values.now name.now ≡ slice_get values.now place) }
+    ensures found { MatchOption result (item_named (λ v. v.name) values.now name.now ≡ None)
+        (λ place. item_named (λ v. v.name) values.now name.now ≡ slice_get values.now place) }
 {
     values.iter().position(|v| v.name.as_str() == name)
 }
@@ -67,7 +70,8 @@ fn place_of<T>(values: &[Named<T>], name: &str) -> Option<usize>
 impl Analyzers for TokenizerManager {
     ghost knows = { λ m name. is_some (item_named (λ t. t.name) m.tokenizers.items name) };
 
-    ghost tokens_of = { λ m name text. option_map_or (λ t. (Tokenizer-box t.value).tokens_of t.value.value text) (item_named (λ t. t.name) m.tokenizers.items name) [] };
+    ghost tokens_of = { λ m name text. option_map_or (λ t. (Tokenizer-box t.value).tokens_of t.value.value text)
+        (item_named (λ t. t.name) m.tokenizers.items name) [] };
 
     fn known(&self, name: &str) -> bool {
         place_of(&self.tokenizers, name).is_some()
@@ -92,7 +96,8 @@ fn push_tokens(
     text: &str,
     out: &mut Tokens,
 ) -> Result<(), AllocError>
-    ensures ok { OnOk result (out.new ≡ out.old ++ (Tokenizer-box named.now.value).tokens_of named.now.value.value text.now) }
+    ensures ok { OnOk result
+        (out.new ≡ out.old ++ (Tokenizer-box named.now.value).tokens_of named.now.value.value text.now) }
     ensures err { OnErr result (Keeps out.old out.new) }
 {
     named.value.tokens(alloc, text, out)

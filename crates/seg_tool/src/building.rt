@@ -28,7 +28,8 @@ pub(crate) fn build<Z: Analyzers, W: Directory, O: Directory>(
     work: &mut W,
     output: &mut O,
 ) -> Result<Vec<u8>, Status>
-    ensures { BuildsScript (Z.knows analyzers.now) (Z.tokens_of analyzers.now) detail bytes.items (seen_as (λ t. t.items) result)
+    ensures { BuildsScript (Z.knows analyzers.now)
+        (Z.tokens_of analyzers.now) detail bytes.items (seen_as (λ t. t.items) result)
         (both (W.state work.old) (O.state output.old)) (both (W.state work.new) (O.state output.new)) }
 {
     let input = match read_script(alloc, bytes) {
@@ -42,7 +43,7 @@ pub(crate) fn build<Z: Analyzers, W: Directory, O: Directory>(
     }
 }
 
-/// Writes the indexes of an input, and answers what is then printed of them. The input is let go of before.
+/// Writes the indexes of an input, and answers what is then printed of them. The input is released before.
 pub(crate) fn build_and_print<Z: Analyzers, W: Directory, O: Directory>(
     alloc: Global,
     analyzers: &Z,
@@ -51,7 +52,8 @@ pub(crate) fn build_and_print<Z: Analyzers, W: Directory, O: Directory>(
     work: &mut W,
     output: &mut O,
 ) -> TResult<Vec<u8>>
-    ensures { BuildsText (Z.knows analyzers.now) (Z.tokens_of analyzers.now) input detail (seen_as (λ t. t.items) result)
+    ensures { BuildsText (Z.knows analyzers.now)
+        (Z.tokens_of analyzers.now) input detail (seen_as (λ t. t.items) result)
         (both (W.state work.old) (O.state output.old)) (both (W.state work.new) (O.state output.new)) }
 {
     let _index = match build_both(alloc, analyzers, input, work, output) {
@@ -83,7 +85,7 @@ fn opening(alloc: Global, detail: Detail) -> Result<Vec<u8>, AllocError>
     }
 }
 
-/// Writes the indexes of an input, which is let go of as soon as it may be.
+/// Writes the indexes of an input, which is released as soon as it may be.
 fn build_both<Z: Analyzers, W: Directory, O: Directory>(
     alloc: Global,
     analyzers: &Z,

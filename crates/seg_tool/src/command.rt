@@ -46,20 +46,21 @@ const MAX_SCRIPT: usize = 67_108_864;
 /// Does what the words say, and answers how it went.
 ///
 /// - `build` reads the source to its end as a script and writes an index of its documents into the directory `work`, a
-///   segment a batch. It reads the segments of that index back, and merges what was read into the one segment of an index in
-///   the directory `output`. Then it prints both, of what the directories answer; with `--full` each segment's columns
-///   and length ids too.
+///   segment a batch. It reads the segments of that index back, and merges what was read into the one segment of an
+///   index in the directory `output`. Then it prints both, of what the directories answer; with `--full` each segment's
+///   columns and length ids too.
 /// - `generate` and a number do the same with the input that the number generates, and print a summary of both.
-/// - `merge` merges the segments of the index in `work` that have a live document into an index of one segment, of the id of
-///   32 digits f, in `output`, and prints it.
+/// - `merge` merges the segments of the index in `work` that have a live document into an index of one segment, of the
+///   id of 32 digits f, in `output`, and prints it.
 /// - `show` prints the index in `work` in full.
 ///
-/// An index is printed out of its directory: its meta is read, and then each segment that it lists is opened and printed
-/// before the next. The text goes to the sink once it is whole. On any status but `Done` one line is written to `faults`; a
-/// failing write there changes nothing. What is written to a directory before it fails stays there.
+/// An index is printed from its directory: its meta is read, and then each segment that it lists is opened and printed
+/// before the next. The text goes to the sink once it is whole. On any status but `Done` one line is written to
+/// `faults`; a failing write there changes nothing. What is written to a directory before it fails stays there.
 ///
-/// Of an output that has nothing on its disk, a crash at any moment of the run leaves no index, the empty one, or the whole
-/// one; and on `Done` the whole one. `merge` and `show` change nothing that a crash may leave of the work directory.
+/// Of an output that has nothing on its disk, a crash at any moment of the run leaves no index, the empty one, or the
+/// whole one; and on `Done` the whole one. `merge` and `show` change nothing that a crash may leave of the work
+/// directory.
 pub fn run<S: Source, K: Sink, F: Sink, Z: Analyzers, W: Directory, O: Directory>(
     alloc: Global,
     words: &[String],
@@ -72,18 +73,20 @@ pub fn run<S: Source, K: Sink, F: Sink, Z: Analyzers, W: Directory, O: Directory
 ) -> Status
     ensures words { result ≡ Status.Words ↔ (command_of words.now ≡ None) }
 
-    // What each status says of the bytes that the source had left.
+    // What each status says about the bytes that the source had left.
     ensures script { result ≡ Status.Script → IfSome (S.left source.old) IsNoScript }
     ensures refused { IsTrue (W.state work.old).tells → IsTrue (O.state output.old).tells
         → IfBuild (command_of words.now) (λ _. IfRefused result (λ e. IfSome (S.left source.old)
         (λ bytes. IsWhyRefused (Z.knows analyzers.now) (Z.tokens_of analyzers.now) bytes e))) }
     ensures refused_untold { IfBuild (command_of words.now) (λ _. IfRefused result (λ e. IfSome (S.left source.old)
         (λ bytes. IsWhyRefusedUntold (Z.knows analyzers.now) (Z.tokens_of analyzers.now) bytes e))) }
-    ensures of_script { IfBuild (command_of words.now) (λ _. IfRefused result (λ _. IfSome (S.left source.old) IsScript)) }
+    ensures of_script { IfBuild (command_of words.now)
+        (λ _. IfRefused result (λ _. IfSome (S.left source.old) IsScript)) }
     ensures first { IfBuild (command_of words.now) (λ _. (bytes : List ℕ) → S.left source.old ≡ Some bytes
         → length bytes ≤ max_script
         → IfSome (first_of (Z.knows analyzers.now) (Z.tokens_of analyzers.now) (script bytes))
-        (λ e. RefusedFor e result × (W.state work.new ≡ W.state work.old) × (O.state output.new ≡ O.state output.old))) }
+        (λ e. RefusedFor e result × (W.state work.new ≡ W.state work.old)
+        × (O.state output.new ≡ O.state output.old))) }
 
     ensures written { IfBuild (command_of words.now) (λ _. IfWritten result (λ _. IfSome (S.left source.old)
         (IsAdmitted (Z.knows analyzers.now) (Z.tokens_of analyzers.now)))) }
@@ -140,16 +143,20 @@ pub fn run<S: Source, K: Sink, F: Sink, Z: Analyzers, W: Directory, O: Directory
     ensures reads { IfBuild (command_of words.now) (λ _. result ≡ Status.Done → IsTrue (O.state output.old).tells
         → IfSome (S.left source.old) (λ bytes. HasTaken (Z.tokens_of analyzers.now) bytes
         (before_meta (gained (W.state work.old).seen (W.state work.new).seen)) (O.state output.new).files)) }
-    ensures fresh { IfBuild (command_of words.now) (λ _. IsTrue (W.state work.old).tells → len (W.state work.old).files ≡ 0
+    ensures fresh { IfBuild (command_of words.now) (λ _. IsTrue (W.state work.old).tells
+        → len (W.state work.old).files ≡ 0
         → IsTrue (O.state output.old).tells → len (O.state output.old).files ≡ 0
         → (e : TantivyError) → result ≢ Status.Exists e) }
-    ensures whole { IfBuild (command_of words.now) (λ _. IsTrue (W.state work.old).tells → IsTrue (O.state output.old).tells
+    ensures whole { IfBuild (command_of words.now) (λ _. IsTrue (W.state work.old).tells
+        → IsTrue (O.state output.old).tells
         → (e : TantivyError) → result ≢ Status.Damaged e) }
     ensures fresh_merge { IfMerge (command_of words.now) (IsTrue (O.state output.old).tells
         → len (O.state output.old).files ≡ 0 → (e : TantivyError) → result ≢ Status.Exists e) }
-    ensures whole_merge { IfMerge (command_of words.now) (IsTrue (W.state work.old).tells → IsTrue (O.state output.old).tells
+    ensures whole_merge { IfMerge (command_of words.now)
+        (IsTrue (W.state work.old).tells → IsTrue (O.state output.old).tells
         → HasWholeLiveSegments (W.state work.old).files → (e : TantivyError) → result ≢ Status.Damaged e) }
-    ensures calls { IfBuild (command_of words.now) (λ detail. BuildDoes (Z.knows analyzers.now) (Z.tokens_of analyzers.now) detail result
+    ensures calls { IfBuild (command_of words.now)
+        (λ detail. BuildDoes (Z.knows analyzers.now) (Z.tokens_of analyzers.now) detail result
         (both (W.state work.old) (O.state output.old)) (both (W.state work.new) (O.state output.new))) }
     ensures generate_calls { IfGenerate (command_of words.now) (λ seed.
         JobDoes (GeneratesText (Z.knows analyzers.now) (Z.tokens_of analyzers.now) seed) result
@@ -181,7 +188,7 @@ pub fn run<S: Source, K: Sink, F: Sink, Z: Analyzers, W: Directory, O: Directory
     ensures turns { OnlyLastIsIdle (S.idle source.old) (S.idle source.new) }
     ensures unread { UnlessBuild (command_of words.now) (source.new ≡ source.old) }
 
-    // What is said of the status.
+    // What is told of the status.
     ensures quiet { result ≡ Status.Done → faults.new ≡ faults.old }
     ensures said { result ≢ Status.Done →
         Appends (F.written faults.old) (F.written faults.new) (status_line result)
@@ -251,7 +258,8 @@ fn execute<S: Source, K: Sink, Z: Analyzers, W: Directory, O: Directory>(
     work: &mut W,
     output: &mut O,
 ) -> Status
-    ensures { Runs (Z.knows analyzers.now) (Z.tokens_of analyzers.now) words.now result source.old source.new sink.old sink.new
+    ensures { Runs (Z.knows analyzers.now)
+        (Z.tokens_of analyzers.now) words.now result source.old source.new sink.old sink.new
         (world (source_state (S.left source.old) (S.idle source.old) (S.faults source.old))
         (sink_state (K.written sink.old) (K.faults sink.old)) (both (W.state work.old) (O.state output.old)))
         (world (source_state (S.left source.new) (S.idle source.new) (S.faults source.new))
@@ -308,8 +316,10 @@ fn run_generate<K: Sink, Z: Analyzers, W: Directory, O: Directory>(
     ensures { (source : SourceState)
         → EndsJob (WithStatus (GeneratesText (Z.knows analyzers.now) (Z.tokens_of analyzers.now) seed))
         result sink.old sink.new
-        (world source (sink_state (K.written sink.old) (K.faults sink.old)) (both (W.state work.old) (O.state output.old)))
-        (world source (sink_state (K.written sink.new) (K.faults sink.new)) (both (W.state work.new) (O.state output.new))) }
+        (world source (sink_state (K.written sink.old) (K.faults sink.old))
+        (both (W.state work.old) (O.state output.old)))
+        (world source (sink_state (K.written sink.new) (K.faults sink.new))
+        (both (W.state work.new) (O.state output.new))) }
 {
     match generate(alloc, analyzers, seed, work, output) {
         Ok(text) => write_text(sink, &text),
@@ -324,9 +334,12 @@ fn run_merge<K: Sink, W: Directory, O: Directory>(
     work: &mut W,
     output: &mut O,
 ) -> Status
-    ensures { (source : SourceState) → EndsJob (WithStatus MergesText) result sink.old sink.new
-        (world source (sink_state (K.written sink.old) (K.faults sink.old)) (both (W.state work.old) (O.state output.old)))
-        (world source (sink_state (K.written sink.new) (K.faults sink.new)) (both (W.state work.new) (O.state output.new))) }
+    ensures { (source : SourceState)
+        → EndsJob (WithStatus MergesText) result sink.old sink.new
+        (world source (sink_state (K.written sink.old) (K.faults sink.old))
+        (both (W.state work.old) (O.state output.old)))
+        (world source (sink_state (K.written sink.new) (K.faults sink.new))
+        (both (W.state work.new) (O.state output.new))) }
 {
     match merge_and_print(alloc, work, output) {
         Ok(text) => write_text(sink, &text),
@@ -336,7 +349,8 @@ fn run_merge<K: Sink, W: Directory, O: Directory>(
 
 /// Prints the work index in full.
 fn run_show<K: Sink, W: Directory>(alloc: Global, sink: &mut K, work: &mut W) -> Status
-    ensures { (source : SourceState) → (output : DirectoryState) → EndsJob (WithStatus ShowsText) result sink.old sink.new
+    ensures { (source : SourceState) → (output : DirectoryState)
+        → EndsJob (WithStatus ShowsText) result sink.old sink.new
         (world source (sink_state (K.written sink.old) (K.faults sink.old)) (both (W.state work.old) output))
         (world source (sink_state (K.written sink.new) (K.faults sink.new)) (both (W.state work.new) output)) }
 {

@@ -1,4 +1,4 @@
-//! The name of a damaged file, as it is said of a status.
+//! The name of a damaged file, as it is told of a status.
 ghost use Rattle.std.specs.Prelude.{◌≡◌, ◌∷◌, ◌++◌, [], OnOk, OnErr, codes, decimal};
 ghost use Rattle.std.specs.Io.KnownBytes.{Appends};
 ghost use Rattle.seg_common.specs.Causes.{HasCause};
@@ -55,8 +55,10 @@ fn write_part<F: Sink>(
     id: SegmentId,
     component: SegmentComponent,
 ) -> Result<(), SinkFailed>
-    ensures ok { OnOk result (Appends (F.written faults.old) (F.written faults.new) (name_text (FileName.Part id component))) }
-    ensures err { OnErr result (AppendsPart (F.written faults.old) (F.written faults.new) (name_text (FileName.Part id component))) }
+    ensures ok { OnOk result
+        (Appends (F.written faults.old) (F.written faults.new) (name_text (FileName.Part id component))) }
+    ensures err { OnErr result
+        (AppendsPart (F.written faults.old) (F.written faults.new) (name_text (FileName.Part id component))) }
     ensures told { StaysTold (F.written faults.old) (F.written faults.new) }
     ensures cause { HasCause (F.faults faults.old) (F.faults faults.new) result }
 {
@@ -65,8 +67,10 @@ fn write_part<F: Sink>(
 }
 
 fn write_alive<F: Sink>(faults: &mut F, id: SegmentId, stamp: u64) -> Result<(), SinkFailed>
-    ensures ok { OnOk result (Appends (F.written faults.old) (F.written faults.new) (name_text (FileName.Alive id stamp))) }
-    ensures err { OnErr result (AppendsPart (F.written faults.old) (F.written faults.new) (name_text (FileName.Alive id stamp))) }
+    ensures ok { OnOk result
+        (Appends (F.written faults.old) (F.written faults.new) (name_text (FileName.Alive id stamp))) }
+    ensures err { OnErr result
+        (AppendsPart (F.written faults.old) (F.written faults.new) (name_text (FileName.Alive id stamp))) }
     ensures told { StaysTold (F.written faults.old) (F.written faults.new) }
     ensures cause { HasCause (F.faults faults.old) (F.faults faults.new) result }
 {
@@ -87,8 +91,10 @@ fn write_id<F: Sink>(faults: &mut F, id: SegmentId) -> Result<(), SinkFailed>
 
 /// What follows the id in the name of an alive file.
 fn write_stamp<F: Sink>(faults: &mut F, stamp: u64) -> Result<(), SinkFailed>
-    ensures ok { OnOk result (Appends (F.written faults.old) (F.written faults.new) (46 ∷ (decimal stamp ++ codes ".del"))) }
-    ensures err { OnErr result (AppendsPart (F.written faults.old) (F.written faults.new) (46 ∷ (decimal stamp ++ codes ".del"))) }
+    ensures ok { OnOk result
+        (Appends (F.written faults.old) (F.written faults.new) (46 ∷ (decimal stamp ++ codes ".del"))) }
+    ensures err { OnErr result
+        (AppendsPart (F.written faults.old) (F.written faults.new) (46 ∷ (decimal stamp ++ codes ".del"))) }
     ensures told { StaysTold (F.written faults.old) (F.written faults.new) }
     ensures cause { HasCause (F.faults faults.old) (F.faults faults.new) result }
 {

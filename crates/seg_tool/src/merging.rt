@@ -30,8 +30,8 @@ pub(crate) fn merge_and_print<W: Directory, O: Directory>(
     print_index(alloc, Vec::new(alloc), "output", Detail::Brief, output)
 }
 
-/// Merges the segments of the index in the work directory, with its settings and no filter, into an index of one segment in
-/// the output directory, whose id has 32 digits f.
+/// Merges the segments of the index in the work directory, with its settings and no filter, into an index of one
+/// segment in the output directory, whose id has 32 digits f.
 fn merge<W: Directory, O: Directory>(alloc: Global, work: &mut W, output: &mut O) -> TResult<Index>
     ensures { MergesWork result
         (both (W.state work.old) (O.state output.old)) (both (W.state work.new) (O.state output.new)) }
@@ -58,7 +58,7 @@ fn merge<W: Directory, O: Directory>(alloc: Global, work: &mut W, output: &mut O
     )
 }
 
-/// For each segment no filter.
+/// No filter for any segment.
 fn no_filters(alloc: Global, segments: &[Segment]) -> Result<Vec<Option<AliveBitSet>>, AllocError>
     ensures { IfOk result (λ filters. filters.items ≡ map (λ _. None) segments.now) }
 {

@@ -18,7 +18,8 @@ pub(crate) fn push_all_norms(
     alloc: Global,
     reader: &SegmentReader,
 ) -> Result<(), AllocError>
-    ensures { OnOk result (out.new.items ≡ out.old.items ++ norms_text reader.now.schema (contents_of reader.now).norms) }
+    ensures { OnOk result (out.new.items
+        ≡ out.old.items ++ norms_text reader.now.schema (contents_of reader.now).norms) }
 {
     reader.schema().fields_are_valid();
     push_entries(
@@ -54,8 +55,10 @@ fn push_entry(
     norms: &FieldNormReaders,
 ) -> Result<(), AllocError>
     requires { place < 2 ^ 32 - 1 }
-    ensures { OnOk result (out.new.items ≡ out.old.items
-        ++ (if has_lengths entry.now then norms_line entry.now.name (unwrap_or (field_of norms.now place) []) else [])) }
+    ensures { OnOk result (out.new.items
+        ≡ out.old.items
+        ++ (if has_lengths entry.now
+        then norms_line entry.now.name (unwrap_or (field_of norms.now place) []) else [])) }
 {
     if !entry.has_field_norms() {
         return Ok(());

@@ -58,7 +58,8 @@ fn push_contents(
     label: &str,
     reader: &SegmentReader,
 ) -> Result<(), AllocError>
-    ensures { OnOk result (out.new.items ≡ out.old.items ++ segment_text reader.now.schema (read_segment label.now reader.now)) }
+    ensures { OnOk result (out.new.items
+        ≡ out.old.items ++ segment_text reader.now.schema (read_segment label.now reader.now)) }
 {
     push_head(out, label, reader)?;
     push_fields(out, alloc, reader)?;
@@ -105,7 +106,8 @@ fn push_documents(
 
 /// Appends the text of each indexed field.
 fn push_fields(out: &mut Vec<u8>, alloc: Global, reader: &SegmentReader) -> Result<(), AllocError>
-    ensures { OnOk result (out.new.items ≡ out.old.items ++ fields_text reader.now.schema (map terms_in reader.now.fields)) }
+    ensures { OnOk result (out.new.items
+        ≡ out.old.items ++ fields_text reader.now.schema (map terms_in reader.now.fields)) }
 {
     reader.indexed_fields_are_open();
     reader.schema().fields_are_valid();
@@ -153,7 +155,8 @@ fn push_terms(
     name: &str,
     field: &InvertedIndexReader,
 ) -> Result<(), AllocError>
-    ensures { OnOk result (out.new.items ≡ out.old.items ++ field_text name.now (entries (terms_held (written_terms field.now)))) }
+    ensures { OnOk result (out.new.items
+        ≡ out.old.items ++ field_text name.now (entries (terms_held (written_terms field.now)))) }
 {
     field.terms_ascend();
     push_field(out, alloc, name, field.terms().num_terms())?;

@@ -10,8 +10,8 @@ use seg_open::SegmentReader;
 use seg_values::{TResult, TantivyError};
 use std::alloc::Global;
 
-/// Adds the text of the index that a directory has: reads its meta, and then opens each segment that it lists, and prints it
-/// before the next.
+/// Adds the text of the index that a directory has: reads its meta, and then opens each segment that it lists, and
+/// prints it before the next.
 pub(crate) fn print_index<W: Directory>(
     alloc: Global,
     out: Vec<u8>,

@@ -1,4 +1,4 @@
-//! The line that is said of a status that is not Done.
+//! The line that is told of a status that is not Done.
 ghost use Rattle.std.specs.Prelude.{◌≡◌, ◌≤◌, ◌∷◌, ◌++◌, [], OnOk, OnErr, codes, option_to_list};
 ghost use Rattle.std.specs.Io.KnownBytes.{Appends};
 ghost use Rattle.seg_common.specs.Causes.{HasCause};
@@ -10,8 +10,8 @@ use crate::status::Status;
 use seg_common::{Sink, SinkFailed, write_whole};
 use seg_values::{ArgumentCause, SchemaCause, TantivyError};
 
-/// Says what came of a run in one line, and of `Done` nothing. It takes no memory. After an error some first bytes of the line
-/// were written.
+/// Says what came of a run in one line, and of `Done` nothing. It takes no memory. After an error some first bytes of
+/// the line were written.
 pub fn report<F: Sink>(faults: &mut F, status: &Status) -> Result<(), SinkFailed>
     ensures ok { OnOk result (Appends (F.written faults.old) (F.written faults.new)
         (status_line status.now)) }

@@ -53,7 +53,8 @@ fn with_place(
 
 /// With the terms of a field, in byte order.
 fn with_field(totals: TermTotals, field: &InvertedIndexReader) -> Result<TermTotals, AllocError>
-    ensures { IfOk result (λ t. t ≡ with_terms totals (map (λ e. e.0) (entries (terms_held (written_terms field.now))))) }
+    ensures { IfOk result (λ t. t
+        ≡ with_terms totals (map (λ e. e.0) (entries (terms_held (written_terms field.now))))) }
 {
     field.terms_ascend();
     with_dictionary(totals, field)
@@ -74,7 +75,7 @@ fn with_dictionary(
     Ok(so_far)
 }
 
-/// With one term more. No memory holds terms whose number, or whose bytes, are past 64 bits.
+/// With one more term. No memory holds terms whose number, or whose bytes, are past 64 bits.
 fn with_term(totals: TermTotals, term: &[u8]) -> Result<TermTotals, AllocError>
     ensures { IfOk result (λ t. t ≡ with_terms totals (term.now ∷ [])) }
 {

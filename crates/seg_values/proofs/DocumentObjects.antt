@@ -1,4 +1,4 @@
--- The object of a document that gets one pair more.
+-- The object of a document that gets one more pair.
 use Rattle.std.proofs.Common.{◌≡◌, ◌≢◌, ℕ, zero, suc, ◌+◌, ◌-◌, ◌^◌, ◌<◌, ◌≤◌, List, [], ◌∷◌, ◌++◌, map, cond, Bool, true, false, not, nat_eq, nat_lt, Option, Some, None, slice_get, length, take, drop, append-nil, refl, sym, ap, ◌∙◌, arith, eq-eqb}
 use Rattle.std.specs.Prelude.{filter, ◌&&◌}
 use Rattle.std.specs.Str.{bytes_eq}
@@ -75,7 +75,7 @@ pub nothing : (k : ℕ) (schema : Schema) → fields_json k schema [] ≡ json.n
 nothing k [] = refl
 nothing k (e ∷ es) = nothing (k + 1) es
 
--- ---- one pair more
+-- ---- one more pair
 
 put-first : (name : List ℕ) (ts : List Tree) (t : Tree) (ms : json.Members) → get_member name ms ≡ None → put_values name (ts ++ t ∷ []) ms ≡ with_item name (value_json t) (put_values name ts ms)
 put-first name [] t ms none = sym (ap (λ (found : Option json.Data). put name (grown found (value_json t)) ms) none)

@@ -9,7 +9,7 @@ use Rattle.seg_values.specs.SchemaRules.{is_entry, is_schema, same_name}
 use Rattle.seg_values.proofs.Distinct.{all_distinct-push}
 use Rattle.seg_values.proofs.SameNames.{same_name-sym, unnamed}
 
--- one entry more
+-- one more entry
 pub list_all-entry : (done : List FieldEntry) (e : FieldEntry) → list_all is_entry done ≡ true → is_entry e ≡ true → list_all is_entry (done ++ e ∷ []) ≡ true
 list_all-entry [] e h k = rw k refl
 list_all-entry (x ∷ xs) e h k = let p = and_parts (is_entry x) (list_all is_entry xs) h in rw (p.0, list_all-entry xs e p.1 k) refl

@@ -102,7 +102,7 @@ before_none text = by (keys_in text) (some_key text)
 front_lacks : (front part : List ℕ) → part ≡ front ++ 92 ∷ [] → LacksDots part → LacksDots front
 front_lacks front part is h i lt = λ e. h i (omega (arith, ap length is, length-append front (92 ∷ []))) (ap (λ l. get_or l i 0) is ∙ get_or-append front (92 ∷ []) 0 i lt ∙ e)
 
--- a dot behind a backslash is taken into the key
+-- a dot after a backslash is taken into the key
 pub taken_on : (write : List ℕ → List ℕ) (before : List (List ℕ)) (key next front part others : List ℕ) → LacksDots part → part ≡ front ++ 92 ∷ [] → next ≡ (key ++ front) ++ 46 ∷ []
     → before ++ map write (before_first next (keys_in others)) ≡ before ++ map write (before_first key (keys_in (part ++ 46 ∷ others)))
 taken_on write before key next front part others h is more =
@@ -121,7 +121,7 @@ taken_whole write before after key written next part others h n is more empty =
     ∙ ap (λ w. before ++ (write w ∷ map write (keys_in others))) is
     ∙ ap (λ keys. before ++ map write (before_first key keys)) (sym (key_ends part others h n))
 
--- what is left behind the last dot ends the last key
+-- what is left after the last dot ends the last key
 pub taken_last : (write : List ℕ → List ℕ) (before after : List (List ℕ)) (key written part : List ℕ) → LacksDots part → written ≡ key ++ part → after ≡ before ++ write written ∷ []
     → after ≡ before ++ map write (before_first key (keys_in part))
 taken_last write before after key written part h is more =

@@ -24,7 +24,7 @@ Entry = String Global × Value
 abbrev pub named : List ℕ → String Global → Ordering
 named name k = slice_cmp nat_cmp name (string_bytes k)
 
--- ---- a list and one item more
+-- ---- a list and one more item
 
 pub grown_list : (x : Data) (ds : Items) (d : Data) → Some ds ≡ as_array x → grown (Some x) d ≡ json.array (with_last ds d)
 grown_list json.null ds d h = absurd cc
@@ -73,7 +73,7 @@ written name [] v w sorted found = absurd (none-some v found)
 written name (e ∷ es) v w sorted found =
     written_at (slice_cmp nat_cmp name (string_bytes e.0)) name e es v w found (λ less. none_behind name e.0 es less sorted.0) (λ later. written name es v w sorted.1 later)
 
--- the list of a name gets one item more
+-- the list of a name gets one more item
 pub item_added : (name : List ℕ) (es fs : List Entry) (v w : Value) (d : Data) → IsStrictlySortedBy string_cmp (keys_of es) → Some v ≡ lookup (is_at (named name)) es → fs ≡ set_value (is_at (named name)) es w
     → view w ≡ grown (Some (view v)) d → members_view fs ≡ with_item name d (members_view es)
 item_added name es fs v w d sorted found is told =

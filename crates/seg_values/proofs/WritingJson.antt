@@ -21,7 +21,7 @@ followed_none [] = refl
 followed_none (x ∷ ds) = ap (item x) (followed_none ds)
 
 module _ {V : Type 0} (shown : V → Data) where
-  -- one item more
+  -- one more item
   pub item_more : (vs more : List V) (v : V) (rest all : Items) → more ≡ vs ++ v ∷ [] → followed (map shown vs) (item (shown v) rest) ≡ all → followed (map shown more) rest ≡ all
   item_more vs more v rest all is so_far = ap (λ l. followed (map shown l) rest) is ∙ by vs ∙ so_far
     where
@@ -29,7 +29,7 @@ module _ {V : Type 0} (shown : V → Data) where
       by [] = refl
       by (x ∷ vs) = ap (item (shown x)) (by vs)
 
-  -- one value of an array more
+  -- one more value of an array
   pub value_more : (vs more : List V) (v : V) (ts : List Tree) (i : ℕ) (t : Tree) (all : Items) → slice_get ts i ≡ Some t → shown v ≡ value_json t → more ≡ vs ++ v ∷ []
       → followed (map shown vs) (items_json (trees_from (drop i ts))) ≡ all
       → followed (map shown more) (items_json (trees_from (drop (i + 1) ts))) ≡ all
@@ -39,7 +39,7 @@ module _ {V : Type 0} (shown : V → Data) where
       ∙ sym (ap (λ us. followed (map shown vs) (items_json (trees_from us))) (drop-slice_get ts i t at))
       ∙ so_far)
 
--- one member of an object more
+-- one more member of an object
 pub member_more : (before after : json.Members) (ms : List (List ℕ × Tree)) (i : ℕ) (k : List ℕ) (t : Tree) (d : Data) (all : json.Members) → slice_get ms i ≡ Some (k, t) → d ≡ value_json t → after ≡ put k d before
     → members_json before (members_from (drop i ms)) ≡ all
     → members_json after (members_from (drop (i + 1) ms)) ≡ all

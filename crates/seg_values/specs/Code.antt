@@ -49,7 +49,10 @@ sum_leaf-leaf_sum (byte_string b) = refl
 sum_leaf-leaf_sum (ip a) = refl
 
 abbrev pub leaf_code : Coded Leaf
-leaf_code = code_by LeafSum (coded⊎ coded_unit (coded⊎ (coded_list coded_ℕ) (coded⊎ pre_tokenized_code (coded⊎ coded_ℕ (coded⊎ coded_ℤ (coded⊎ coded_bool (coded⊎ coded_ℤ (coded⊎ (coded_list coded_ℕ) (coded⊎ (coded_list coded_ℕ) (coded_list coded_ℕ)))))))))) leaf_sum sum_leaf sum_leaf-leaf_sum
+leaf_code = code_by LeafSum
+    (coded⊎ coded_unit (coded⊎ (coded_list coded_ℕ) (coded⊎ pre_tokenized_code (coded⊎ coded_ℕ (coded⊎ coded_ℤ (coded⊎
+    coded_bool (coded⊎ coded_ℤ (coded⊎ (coded_list coded_ℕ) (coded⊎ (coded_list coded_ℕ) (coded_list coded_ℕ))))))))))
+    leaf_sum sum_leaf sum_leaf-leaf_sum
 
 abbrev mutual
   pub code_tree : Tree → Gv
@@ -107,7 +110,8 @@ mutual
 
   pub members_inj : (x y : Members) → code_members x ≡ code_members y → x ≡ y
   members_inj no_members no_members p = refl
-  members_inj (member k t ms) (member j u ns) p = λ i. member (key_code.inj k j (ap head p) i) (tree_inj t u (ap (λ g. head (tail g)) p) i) (members_inj ms ns (ap (λ g. tail (tail g)) p) i)
+  members_inj (member k t ms) (member j u ns) p = λ i. member (key_code.inj k j (ap head p) i)
+      (tree_inj t u (ap (λ g. head (tail g)) p) i) (members_inj ms ns (ap (λ g. tail (tail g)) p) i)
   members_inj no_members (member j u ns) p = absurd (subst IsCons (sym p) tt)
   members_inj (member k t ms) no_members p = absurd (subst IsCons p tt)
 
@@ -116,4 +120,5 @@ tree_code = record { code = code_tree; inj = tree_inj }
 
 -- a term is stored as its field and its bytes
 abbrev pub term_code : Coded TermKey
-term_code = code_by (ℕ × List ℕ) (coded× coded_ℕ key_code) (λ t. (t.field, t.bytes)) (λ p. record { field = p.0; bytes = p.1 }) (λ _. refl)
+term_code = code_by (ℕ × List ℕ) (coded× coded_ℕ key_code) (λ t. (t.field, t.bytes))
+    (λ p. record { field = p.0; bytes = p.1 }) (λ _. refl)

@@ -35,7 +35,7 @@ abbrev pub with_last : Items → Data → Items
 with_last json.no_items d = json.item d json.no_items
 with_last (json.item x xs) d = json.item x (with_last xs d)
 
--- a list, and one item more; where there is none, the item alone
+-- a list, and one more item; where there is none, the item alone
 abbrev pub grown : Option Data → Data → Data
 grown None d = json.array (json.item d json.no_items)
 grown (Some json.null) d = json.null
@@ -45,6 +45,6 @@ grown (Some (json.string s)) d = json.string s
 grown (Some (json.array ds)) d = json.array (with_last ds d)
 grown (Some (json.object ms)) d = json.object ms
 
--- members, and one item more in the list of a name
+-- members, and one more item in the list of a name
 abbrev pub with_item : List ℕ → Data → json.Members → json.Members
 with_item name d members = put name (grown (get_member name members) d) members

@@ -27,6 +27,7 @@ pub most_deep-le : (vs : List OwnedValue) → most deep-OwnedValue vs ≤ most_l
 most_deep-le [] = omega arith
 most_deep-le (v ∷ vs) = omega (arith, deep-le v, most_deep-le vs)
 
-pub most_member_deep-le : (ms : List Member) → most deep-Member ms ≤ most_member_levels (members_from (map member_of ms))
+pub most_member_deep-le : (ms : List Member)
+    → most deep-Member ms ≤ most_member_levels (members_from (map member_of ms))
 most_member_deep-le [] = omega arith
 most_member_deep-le (m ∷ ms) = omega (arith, deep-le m.value, most_member_deep-le ms)

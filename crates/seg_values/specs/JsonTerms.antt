@@ -10,7 +10,8 @@ use Rattle.seg_values.specs.ValueBytes.{value_bytes}
 
 -- the type code and value bytes of a leaf that is no text: `i`, `u`, `o` or `d`; a u64 that fits i64 is coded `i`
 abbrev pub coded_value : Leaf → List (List ℕ)
-coded_value (unsigned n) = (if nat_lt n (2 ^ 63) then 105 ∷ to_be_bytes w64 (raised (pos n)) else 117 ∷ to_be_bytes w64 n) ∷ []
+coded_value (unsigned n) =
+    (if nat_lt n (2 ^ 63) then 105 ∷ to_be_bytes w64 (raised (pos n)) else 117 ∷ to_be_bytes w64 n) ∷ []
 coded_value (signed z) = (105 ∷ value_bytes (signed z)) ∷ []
 coded_value (boolean b) = (111 ∷ value_bytes (boolean b)) ∷ []
 coded_value (date nanos) = (100 ∷ value_bytes (date nanos)) ∷ []

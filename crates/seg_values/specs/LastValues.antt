@@ -13,6 +13,7 @@ last_value field (p ∷ ps) = option_or (last_value field ps) (if nat_eq field p
 abbrev pub HasLastValues : List (ℕ × Tree) → Document → Type 0
 HasLastValues entries document = (field : ℕ) → lookup (nat_eq field) entries ≡ last_value field document
 
--- entries of a map, and those with one value more, at its field
+-- entries of a map, and those with one more value, at its field
 abbrev pub PutsValue : List (ℕ × Tree) → ℕ × Tree → List (ℕ × Tree) → Type 0
-PutsValue before pair after = (field : ℕ) → lookup (nat_eq field) after ≡ (if nat_eq field pair.0 then Some pair.1 else lookup (nat_eq field) before)
+PutsValue before pair after = (field : ℕ)
+    → lookup (nat_eq field) after ≡ (if nat_eq field pair.0 then Some pair.1 else lookup (nat_eq field) before)

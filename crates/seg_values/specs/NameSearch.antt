@@ -18,6 +18,8 @@ NoPartFrom schema name from = (at : ℕ) → from ≤ at → IsSeparator name at
 -- separator, with what is after that; else the default, if there is one, with the whole name
 pub data Finds (schema : List FieldEntry) (name : List ℕ) (default : Option ℕ) : Option (ℕ × List ℕ) → Type 0 where
   whole_name : (f : ℕ) → field_named schema name ≡ Some f → Finds schema name default (Some (f, []))
-  longest_part : (at f : ℕ) → field_named schema name ≡ None → IsSeparator name at → field_named schema (take at name) ≡ Some f → NoPartFrom schema name (at + 1)
+  longest_part : (at f : ℕ) → field_named schema name ≡ None → IsSeparator name at
+      → field_named schema (take at name) ≡ Some f → NoPartFrom schema name (at + 1)
       → Finds schema name default (Some (f, drop (at + 1) name))
-  no_part : field_named schema name ≡ None → NoPartFrom schema name 0 → Finds schema name default (option_map (λ f. (f, name)) default)
+  no_part : field_named schema name ≡ None → NoPartFrom schema name 0
+      → Finds schema name default (option_map (λ f. (f, name)) default)

@@ -19,7 +19,7 @@ kept_as _ entry = entry
 abbrev pub kept_entry : FieldEntry → FieldEntry
 kept_entry entry = kept_as entry.kind entry
 
--- texts and JSON may record counts and positions, every other kind its documents at the most
+-- texts and JSON may record counts and positions, every other kind its documents at most
 abbrev pub is_allowed : FieldKind → IndexOption → Bool
 is_allowed Text option = true
 is_allowed Json option = true

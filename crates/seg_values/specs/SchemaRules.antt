@@ -32,4 +32,5 @@ same_name a b = bytes_eq a.name b.name
 
 -- whether fields are a schema: options that go with their kinds, distinct names, and no more than this many
 abbrev pub is_schema : List FieldEntry → Bool
-is_schema entries = list_all is_entry entries && (all_distinct same_name entries && nat_lt (length entries) (2 ^ 32 - 1))
+is_schema entries = list_all is_entry entries
+    && (all_distinct same_name entries && nat_lt (length entries) (2 ^ 32 - 1))

@@ -19,7 +19,8 @@ sized bytes = varint (length bytes) ++ bytes
 
 -- a token: its byte range, its position, how many positions it spans, and its text
 abbrev pub token_form : Token → List ℕ
-token_form t = varint t.offset_from ++ (varint t.offset_to ++ (varint t.position ++ (varint t.position_length ++ sized t.text)))
+token_form t = varint t.offset_from
+    ++ (varint t.offset_to ++ (varint t.position ++ (varint t.position_length ++ sized t.text)))
 
 -- a tag, and what it is the tag of: numbers in 8 bytes little endian, an address as its octets
 abbrev pub leaf_form : Leaf → List ℕ

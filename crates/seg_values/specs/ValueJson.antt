@@ -37,7 +37,8 @@ tokens_items (t ∷ ts) = json.item (token_json t) (tokens_items ts)
 abbrev pub leaf_json : Leaf → Data
 leaf_json null = json.null
 leaf_json (text s) = json.string s
-leaf_json (pre_tokenized p) = json.object (json.member (codes "text") (json.string p.text) (json.member (codes "tokens") (json.array (tokens_items p.tokens)) json.no_members))
+leaf_json (pre_tokenized p) = json.object (json.member (codes "text") (json.string p.text)
+    (json.member (codes "tokens") (json.array (tokens_items p.tokens)) json.no_members))
 leaf_json (unsigned n) = unsigned_json n
 leaf_json (signed z) = signed_json z
 leaf_json (boolean b) = json.boolean b

@@ -18,12 +18,12 @@ pub enum TantivyError {
     /// A directory listed a file, or said that a file is there.
     #[error("a directory is not empty")]
     IndexAlreadyExists,
-    /// A directory could not be listed, or a file not be read.
+    /// A directory could not be listed, or a file could not be read.
     #[error("list or read failed")]
     OpenReadError,
     #[error("write failed")]
     OpenWriteError,
-    /// The meta could not be replaced, or a directory not be synced.
+    /// The meta could not be replaced, or a directory could not be synced.
     #[error("meta or sync failed")]
     IoError,
     /// A file is missing, or nothing agrees with it.

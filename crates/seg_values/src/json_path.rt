@@ -55,12 +55,14 @@ fn push_keys(path: &mut JsonPathWriter, alloc: Global, text: &str) -> Result<(),
     end_key(path, &mut key, rest)
 }
 
-/// Takes what stands before a dot into a key. The dot ends the key, but where a backslash is before it.
+/// Takes what stands before a dot into a key. The dot ends the key, except where a backslash is before it.
 fn take_part(path: &mut JsonPathWriter, key: &mut String, part: &str) -> Result<(), AllocError>
     requires { (i : ℕ) → i < length part.now → slice_index part.now i ≢ 46 }
-    ensures keys { OnOk result ((others : List ℕ) →
-        path.new.keys ++ map (written_key path.old.expand_dots) (before_first (string_bytes key.new) (keys_in others))
-        ≡ path.old.keys ++ map (written_key path.old.expand_dots) (before_first (string_bytes key.old) (keys_in (part.now ++ 46 ∷ others)))) }
+    ensures keys { OnOk result ((others : List ℕ)
+        → path.new.keys ++ map (written_key path.old.expand_dots) (before_first (string_bytes key.new) (keys_in others))
+        ≡ path.old.keys
+        ++ map (written_key path.old.expand_dots)
+        (before_first (string_bytes key.old) (keys_in (part.now ++ 46 ∷ others)))) }
     ensures same { OnOk result (path.new.expand_dots ≡ path.old.expand_dots) }
 {
     match part.strip_suffix('\\') {
@@ -80,7 +82,11 @@ fn go_on_with_dot(key: &mut String, front: &str) -> Result<(), AllocError>
 /// Adds a part to a key, and the key to a path.
 fn end_key(path: &mut JsonPathWriter, key: &mut String, part: &str) -> Result<(), AllocError>
     ensures keys { OnOk result
-        (path.new ≡ record path.old { keys = path.old.keys ++ written_key path.old.expand_dots (string_bytes key.old ++ part.now) ∷ [] }) }
+        (path.new
+        ≡ record path.old {
+          keys = path.old.keys
+              ++ written_key path.old.expand_dots (string_bytes key.old ++ part.now) ∷ [];
+        }) }
     ensures empty { OnOk result (string_bytes key.new ≡ []) }
 {
     key.push_str(part)?;
@@ -90,7 +96,8 @@ fn end_key(path: &mut JsonPathWriter, key: &mut String, part: &str) -> Result<()
 }
 
 fn push_key(path: &mut JsonPathWriter, key: &str) -> Result<(), AllocError>
-    ensures { OnOk result (path.new ≡ record path.old { keys = path.old.keys ++ written_key path.old.expand_dots key.now ∷ [] }) }
+    ensures { OnOk result
+        (path.new ≡ record path.old { keys = path.old.keys ++ written_key path.old.expand_dots key.now ∷ [] }) }
 {
     match path.push(key) {
         Ok(()) => Ok(()),

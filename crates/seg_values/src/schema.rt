@@ -114,7 +114,8 @@ impl Model for Schema {
 }
 
 impl Schema {
-    /// What a builder made sure of: distinct names, options that go with their kinds, and no more fields than can be numbered.
+    /// What a builder made sure of: distinct names, options that go with their kinds, and no more fields than can be
+    /// numbered.
     pub fn fields_are_valid(&self)
         ensures { is_schema self.now ≡ true }
     {
@@ -228,8 +229,10 @@ impl SchemaBuilder {
         requires allowed { is_allowed entry.kind entry.index ≡ true }
         ensures ok { IfOk result (λ f. (f ≡ length self.old) × (self.new ≡ self.old ++ kept_entry entry ∷ [])) }
         ensures distinct { OnOk result (field_named self.old entry.name ≡ None) }
-        ensures duplicate { result ≡ Err (TantivyError.SchemaError SchemaCause.DuplicateName) → IsSome (field_named self.old entry.name) }
-        ensures causes { IfErr result (λ e. (e ≡ TantivyError.SchemaError SchemaCause.DuplicateName) ⊎ (e ≡ TantivyError.OutOfMemory)) }
+        ensures duplicate { result ≡ Err (TantivyError.SchemaError SchemaCause.DuplicateName)
+            → IsSome (field_named self.old entry.name) }
+        ensures causes { IfErr result (λ e. (e ≡ TantivyError.SchemaError SchemaCause.DuplicateName)
+            ⊎ (e ≡ TantivyError.OutOfMemory)) }
         ensures err { OnErr result (self.new ≡ self.old) }
     {
         if self.fields.place(entry.name.as_str()).is_some() {

@@ -26,7 +26,8 @@ impl Model for SchemaFields {
 
     ghost view = { λ a. a.entries.items };
 
-    ghost invariant = { λ a. (is_schema a.entries.items ≡ true) × ((name : List ℕ) → get_by_text a.places name ≡ field_named a.entries.items name) };
+    ghost invariant = { λ a. (is_schema a.entries.items ≡ true)
+        × ((name : List ℕ) → get_by_text a.places name ≡ field_named a.entries.items name) };
 }
 
 impl SchemaFields {

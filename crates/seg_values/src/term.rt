@@ -109,7 +109,7 @@ impl Term {
     }
 
     /// The front of the terms of a path in a JSON field, which an append completes. The path is a text in which each
-    /// dot stands between two keys, but where a backslash precedes it: `\.` is a dot of a key.
+    /// dot stands between two keys, except where a backslash precedes it: `\.` is a dot of a key.
     pub fn from_field_json_path(
         alloc: Global,
         field: Field,

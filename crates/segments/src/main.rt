@@ -44,7 +44,8 @@ fn main(rt: HostRuntime) -> ExitCode {
 
 /// Runs the words of the command line with these tokenizers, over the folders `work` and `out`.
 fn run_in_folders(rt: &HostRuntime, analyzers: &TokenizerManager) -> ExitCode
-    requires { let a = ⟦<TokenizerManager as Analyzers>⟧ in TakesTexts (a.knows analyzers.now) (a.tokens_of analyzers.now) }
+    requires { let a = ⟦<TokenizerManager as Analyzers>⟧ in
+        TakesTexts (a.knows analyzers.now) (a.tokens_of analyzers.now) }
 {
     let alloc = rt.alloc();
     let words = match program_words(rt) {

@@ -2,7 +2,7 @@ use Rattle.std.proofs.Common.{◌-◌, ◌≡◌, ◌≤◌, ◌<◌, ◌+◌, �
 use Rattle.seg_common.specs.LittleEndian as numbers
 use Rattle.seg_directory.proofs.composite_file.first_not_below.Given as goal
 
--- the entry is among those from `low` on, up to and with `high`
+-- the entry is among those from `low` on, up to and including `high`
 abbrev pub invariant-loop-low : goal.invariant-loop-low
 invariant-loop-low l = record {
   order : l.low ≤ l.high;

@@ -2,7 +2,7 @@ use Rattle.std.proofs.Common.{◌-◌, ◌≡◌, ◌≤◌, ◌<◌, ◌+◌, �
 use Rattle.seg_common.specs.LittleEndian as numbers
 use Rattle.seg_store.proofs.locating.first_past.Given as goal
 
--- the block is among those from `low` on, up to and with `high`
+-- the block is among those from `low` on, up to and including `high`
 abbrev pub invariant-loop-low : goal.invariant-loop-low
 invariant-loop-low l = record {
   order : l.low ≤ l.high;

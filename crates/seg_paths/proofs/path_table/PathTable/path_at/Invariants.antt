@@ -2,7 +2,7 @@ use Rattle.std.proofs.Common.{◌≡◌, [], ◌++◌, reverse, slice_index_or}
 use Rattle.seg_paths.specs.Paths.{IsAbove, steps, up}
 use Rattle.seg_paths.proofs.path_table.PathTable.path_at.Given as goal
 
--- the path of the place, with what is behind it, is the whole
+-- the path of the place, with what is after it, is the whole
 abbrev pub invariant-loop-place : goal.invariant-loop-place
 invariant-loop-place l = record {
   within : IsAbove l.self l.place;
