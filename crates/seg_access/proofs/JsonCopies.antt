@@ -3,7 +3,7 @@ use Rattle.std.proofs.Common.{◌≡◌, List, [], ◌∷◌, ℕ, map, String, 
 use Rattle.serde_json.specs.View.{view, items_view, members_view}
 use Rattle.serde_json.specs.declared.value.Value.{Value}
 use Rattle.seg_values.specs.Tree.{Tree, tree, member, trees_from, members_from}
-use Rattle.seg_access.specs.Json.{data_tree, item_trees, member_trees}
+use Rattle.seg_access.specs.JsonTrees.{data_tree, item_trees, member_trees}
 
 abbrev pub seen_tree : Value → Tree
 seen_tree v = data_tree (view v)

@@ -1,4 +1,4 @@
-mod Documents
-mod Heads
+mod DocumentPieces
 mod JsonCopies
-mod Spelling
+mod PieceHeads
+mod SpelledTrees

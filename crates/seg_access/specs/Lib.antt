@@ -1,6 +1,6 @@
-pub mod Json
-pub mod JsonFalls
+pub mod JsonLevels
+pub mod JsonTrees
 pub mod Laws
-pub mod MarkCode
+pub mod MarkCodes
 pub mod Pieces
-pub mod Reading
+pub mod ReadTrees

@@ -1,9 +1,9 @@
 -- Pieces, and the trees that they spell.
 use Rattle.std.specs.Prelude.{◌≡◌, ℕ, List, [], ◌∷◌, ◌++◌}
 use Rattle.std.specs.Net.Addr.{ipv6_octets}
-pub use Rattle.seg_values.specs.StoredForm.{member_count, tree_count}
+pub use Rattle.seg_values.specs.StoredBytes.{member_count, tree_count}
 use Rattle.seg_values.specs.Tree.{Tree, Leaf, leaf, array, object, null, text, pre_tokenized, unsigned, signed, boolean, date, facet, byte_string, ip, Trees, no_trees, tree, Members, no_members, member, Document}
-use Rattle.seg_access.specs.Json.{whole}
+use Rattle.seg_access.specs.JsonTrees.{whole}
 use Rattle.seg_access.specs.declared.pieces.Piece.{Piece}
 use Rattle.seg_access.specs.declared.pieces.Piece.TheVariants.{Null, Str, PreTokStr, U64, I64, Bool, Date, Facet, Bytes, IpAddr, Array, Object, Key, FieldOf}
 

@@ -2,7 +2,7 @@
 ghost use Rattle.std.specs.Prelude.{◌≡◌, [], ◌⊎◌, map, IfOk, IfErr};
 ghost use Rattle.seg_values.specs.LastValues.{HasLastValues};
 ghost use Rattle.seg_values.specs.Tree.{Document};
-ghost use Rattle.seg_values.specs.View.{entry_pair};
+ghost use Rattle.seg_values.specs.ValueTrees.{entry_pair};
 ghost use Rattle.seg_access.specs.Pieces.{document_spelling, SpellsNoDocument};
 
 use crate::pieces::{Piece, Pieces};

@@ -2,8 +2,8 @@
 ghost use Rattle.std.specs.Prelude.{◌≡◌, drop, length};
 ghost use Rattle.std.specs.Iterator.{YieldsFirstBy, item_count};
 ghost use Rattle.std.proofs.Common.{rules};
-ghost use Rattle.seg_access.specs.Reading.{leaf_of};
-ghost use Rattle.seg_access.specs.Json.{tree_of_json, whole};
+ghost use Rattle.seg_access.specs.ReadTrees.{leaf_of};
+ghost use Rattle.seg_access.specs.JsonTrees.{tree_of_json, whole};
 
 use crate::json_value::{JsonMembers, JsonValue, JsonValues};
 use crate::value::{ReferenceValue, ReferenceValueLeaf, Value};
@@ -20,7 +20,7 @@ impl<'a> Model for JsonArrayIter<'a> {
     ghost use Rattle.std.specs.Prelude.{◌≤◌, List, drop, length};
     ghost use Rattle.seg_values.specs.Tree.{Tree};
     ghost use Rattle.std.specs.Coded.{coded_list};
-    ghost use Rattle.seg_values.specs.Code.{tree_code};
+    ghost use Rattle.seg_values.specs.ValueCodes.{tree_code};
 
     ghost Value = { List Tree };
 
@@ -59,8 +59,8 @@ impl<'a> Model for JsonObjectIter<'a> {
     ghost use Rattle.std.specs.Prelude.{◌≤◌, ℕ, List, drop, length};
     ghost use Rattle.seg_values.specs.Tree.{Tree};
     ghost use Rattle.std.specs.Coded.{coded_list, coded×};
-    ghost use Rattle.seg_tokens.specs.Code.{key_code};
-    ghost use Rattle.seg_values.specs.Code.{tree_code};
+    ghost use Rattle.seg_tokens.specs.TokenCodes.{key_code};
+    ghost use Rattle.seg_values.specs.ValueCodes.{tree_code};
 
     ghost Value = { List (List ℕ × Tree) };
 

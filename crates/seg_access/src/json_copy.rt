@@ -4,7 +4,7 @@ ghost use Rattle.serde_json.specs.View.{view, number_view, items_view, members_v
 ghost use Rattle.serde_json.specs.Find.{is_float};
 ghost use Rattle.serde_json.specs.Written.{has_float, items_have_float, members_have_float};
 ghost use Rattle.seg_values.specs.Tree.{leaf, trees_from, members_from};
-ghost use Rattle.seg_access.specs.Json.{tree_of_json, number_leaf, data_tree, item_trees, member_trees};
+ghost use Rattle.seg_access.specs.JsonTrees.{tree_of_json, number_leaf, data_tree, item_trees, member_trees};
 
 use crate::json_value::{JsonMembers, JsonValue, JsonValues};
 use seg_tokens::Text;

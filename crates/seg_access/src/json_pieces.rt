@@ -1,7 +1,7 @@
 //! JSON values, read from pieces.
 ghost use Rattle.std.specs.Prelude.{◌≡◌, ◌++◌, ◌⊎◌, map, IfOk, IfErr};
 ghost use Rattle.seg_values.specs.Tree.{trees_from, members_from};
-ghost use Rattle.seg_access.specs.Json.{tree_of_json};
+ghost use Rattle.seg_access.specs.JsonTrees.{tree_of_json};
 ghost use Rattle.seg_access.specs.Pieces.{json_mark, spelling, spellings, member_spellings, tree_count, member_count, SpellsNone, SpellsNoValues, SpellsNoMembers};
 
 use crate::json_value::{JsonMembers, JsonValue, JsonValues};

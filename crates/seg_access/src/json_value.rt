@@ -46,19 +46,19 @@ impl Model for JsonValues {
     ghost use Rattle.std.specs.Coded.{coded_list};
     ghost use Rattle.std.proofs.Common.{arith};
     ghost use Rattle.seg_values.specs.Tree.{Tree, trees_from, most_levels};
-    ghost use Rattle.seg_values.specs.Code.{tree_code};
+    ghost use Rattle.seg_values.specs.ValueCodes.{tree_code};
 
     ghost Value = { List Tree };
 
     ghost coded = { coded_list tree_code };
 
-    ghost use Rattle.seg_access.specs.Json.{tree_of_json};
+    ghost use Rattle.seg_access.specs.JsonTrees.{tree_of_json};
 
     ghost view = { λ a. map tree_of_json a.values.items };
 
     ghost size = { λ ts. most_levels (trees_from ts) };
 
-    ghost use Rattle.seg_access.specs.JsonFalls.{most_deep-le};
+    ghost use Rattle.seg_access.specs.JsonLevels.{most_deep-le};
 
     ghost size_decreases = { λ a h. Prim.omega (arith, most_deep-le a.values.items) };
 }
@@ -68,26 +68,26 @@ impl Model for JsonMembers {
     ghost use Rattle.std.specs.Coded.{coded_list, coded×};
     ghost use Rattle.std.proofs.Common.{arith};
     ghost use Rattle.seg_values.specs.Tree.{Tree, members_from, most_member_levels};
-    ghost use Rattle.seg_tokens.specs.Code.{key_code};
-    ghost use Rattle.seg_values.specs.Code.{tree_code};
+    ghost use Rattle.seg_tokens.specs.TokenCodes.{key_code};
+    ghost use Rattle.seg_values.specs.ValueCodes.{tree_code};
 
     ghost Value = { List (List ℕ × Tree) };
 
     ghost coded = { coded_list (coded× key_code tree_code) };
 
-    ghost use Rattle.seg_access.specs.Json.{member_of_json};
+    ghost use Rattle.seg_access.specs.JsonTrees.{member_of_json};
 
     ghost view = { λ a. map member_of_json a.members.items };
 
     ghost size = { λ ms. most_member_levels (members_from ms) };
 
-    ghost use Rattle.seg_access.specs.JsonFalls.{most_member_deep-le};
+    ghost use Rattle.seg_access.specs.JsonLevels.{most_member_deep-le};
 
     ghost size_decreases = { λ a h. Prim.omega (arith, most_member_deep-le a.members.items) };
 }
 
 impl JsonValues {
-    ghost use Rattle.seg_access.specs.Json.{tree_of_json};
+    ghost use Rattle.seg_access.specs.JsonTrees.{tree_of_json};
 
     /// The value at a place.
     pub fn get(&self, at: usize) -> &JsonValue
@@ -121,7 +121,7 @@ impl JsonValues {
 }
 
 impl JsonMembers {
-    ghost use Rattle.seg_access.specs.Json.{tree_of_json};
+    ghost use Rattle.seg_access.specs.JsonTrees.{tree_of_json};
 
     /// The key and the value at a place.
     pub fn get(&self, at: usize) -> (&str, &JsonValue)

@@ -1,8 +1,8 @@
 //! An owned leaf, made from a leaf that is lent.
 ghost use Rattle.std.specs.Prelude.{◌≡◌, IfOk};
-ghost use Rattle.seg_access.specs.Reading.{leaf_of};
+ghost use Rattle.seg_access.specs.ReadTrees.{leaf_of};
 ghost use Rattle.seg_values.specs.Tree.{leaf};
-ghost use Rattle.seg_values.specs.View.{tree_of};
+ghost use Rattle.seg_values.specs.ValueTrees.{tree_of};
 
 use crate::value::ReferenceValueLeaf;
 use seg_tokens::{Bytes, PreTokenizedString, Text, Token, Tokens};

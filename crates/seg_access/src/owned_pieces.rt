@@ -1,7 +1,7 @@
 //! Owned values, read from pieces.
 ghost use Rattle.std.specs.Prelude.{◌≡◌, ◌++◌, ◌⊎◌, IfOk, IfErr};
 ghost use Rattle.seg_values.specs.Tree.{trees_from, members_from};
-ghost use Rattle.seg_values.specs.View.{tree_of};
+ghost use Rattle.seg_values.specs.ValueTrees.{tree_of};
 ghost use Rattle.seg_access.specs.Pieces.{spelling, spellings, member_spellings, tree_count, member_count, SpellsNone, SpellsNoValues, SpellsNoMembers};
 
 use crate::pieces::{Piece, Pieces};

@@ -2,7 +2,7 @@
 ghost use Rattle.std.specs.Prelude.{drop, length};
 ghost use Rattle.std.specs.Iterator.{YieldsFirstBy, item_count};
 ghost use Rattle.std.proofs.Common.{rules};
-ghost use Rattle.seg_values.specs.View.{tree_of};
+ghost use Rattle.seg_values.specs.ValueTrees.{tree_of};
 
 use crate::value::{ReferenceValue, ReferenceValueLeaf, Value};
 use seg_values::{Members, OwnedValue, Values};
@@ -19,7 +19,7 @@ impl<'a> Model for ArrayIter<'a> {
     ghost use Rattle.std.specs.Prelude.{◌≤◌, List, drop, length};
     ghost use Rattle.seg_values.specs.Tree.{Tree};
     ghost use Rattle.std.specs.Coded.{coded_list};
-    ghost use Rattle.seg_values.specs.Code.{tree_code};
+    ghost use Rattle.seg_values.specs.ValueCodes.{tree_code};
 
     ghost Value = { List Tree };
 
@@ -58,8 +58,8 @@ impl<'a> Model for ObjectMapIter<'a> {
     ghost use Rattle.std.specs.Prelude.{◌≤◌, ℕ, List, drop, length};
     ghost use Rattle.seg_values.specs.Tree.{Tree};
     ghost use Rattle.std.specs.Coded.{coded_list, coded×};
-    ghost use Rattle.seg_tokens.specs.Code.{key_code};
-    ghost use Rattle.seg_values.specs.Code.{tree_code};
+    ghost use Rattle.seg_tokens.specs.TokenCodes.{key_code};
+    ghost use Rattle.seg_values.specs.ValueCodes.{tree_code};
 
     ghost Value = { List (List ℕ × Tree) };
 

@@ -39,7 +39,7 @@ impl Model for Pieces {
     ghost use Rattle.std.specs.Prelude.{List, map, reverse};
     ghost use Rattle.std.specs.Coded.{coded_list};
     ghost use Rattle.seg_access.specs.Pieces.{Mark, mark_of};
-    ghost use Rattle.seg_access.specs.MarkCode.{mark_code};
+    ghost use Rattle.seg_access.specs.MarkCodes.{mark_code};
 
     ghost Value = { List Mark };
 

@@ -1,7 +1,7 @@
 //! A value to be read, with no lifetime in the bound: a function that calls itself can't have one there.
 ghost use Rattle.std.specs.Prelude.{◌≡◌, List, ℕ, Option, IfOk};
 ghost use Rattle.std.specs.Iterator.{IsFinite, YieldsFirstBy};
-ghost use Rattle.seg_access.specs.Reading.{tree_of_reading};
+ghost use Rattle.seg_access.specs.ReadTrees.{tree_of_reading};
 ghost use Rattle.seg_values.specs.Tree.{Tree};
 
 use crate::leaf_to_owned::leaf_to_owned;

@@ -1,6 +1,6 @@
 //! An owned value, made from what a reference is read as.
 ghost use Rattle.std.specs.Prelude.{◌≡◌, IfOk, IsOkUnless};
-ghost use Rattle.seg_values.specs.View.{tree_of};
+ghost use Rattle.seg_values.specs.ValueTrees.{tree_of};
 
 use crate::readable::{Lent, Readable, Reading};
 use crate::value::Value;

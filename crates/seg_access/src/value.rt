@@ -3,7 +3,7 @@
 ghost use Rattle.std.specs.Prelude.{◌≡◌, List, ℕ, [], Option};
 ghost use Rattle.std.specs.Borrow.{Bor};
 ghost use Rattle.std.specs.Iterator.{IsFinite, YieldsFirstBy};
-ghost use Rattle.seg_access.specs.Reading.{tree_read};
+ghost use Rattle.seg_access.specs.ReadTrees.{tree_read};
 ghost use Rattle.seg_values.specs.Tree.{Tree};
 
 use seg_common::DateTime;

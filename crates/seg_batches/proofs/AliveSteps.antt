@@ -5,12 +5,12 @@ use Rattle.seg_common.specs.declared.name.FileName.TheVariants.{Alive}
 use Rattle.seg_values.specs.declared.error.TantivyError.{TantivyError}
 use Rattle.seg_values.specs.declared.error.TantivyError.TheVariants.{OutOfMemory}
 use Rattle.seg_directory.specs.Calls.{made}
-use Rattle.seg_directory.specs.State.{DirectoryState}
-use Rattle.seg_directory.specs.Works.{Works, calls}
+use Rattle.seg_directory.specs.DirectoryStates.{DirectoryState}
+use Rattle.seg_directory.specs.DirectorySteps.{Works, calls}
 use Rattle.seg_bits.specs.BitSets.{set_of}
 use Rattle.seg_meta.specs.IndexOfFiles.{Deletes}
-use Rattle.seg_batches.specs.AliveWriting.{TellMarks, WritesAlive, alive_step}
-use Rattle.seg_batches.specs.Segments.{WrittenSegment, deletes_of}
+use Rattle.seg_batches.specs.AliveFiles.{TellMarks, WritesAlive, alive_step}
+use Rattle.seg_batches.specs.WrittenSegments.{WrittenSegment, deletes_of}
 
 module _ (stamp : ℕ) (s : WrittenSegment) where
   -- without deletes there is no file

@@ -6,10 +6,10 @@ use Rattle.std.proofs.lemmas.List.{append-nil, length-append, take-append-drop, 
 use Rattle.seg_common.proofs.Lists.{drop-slice_get, take-slice_get}
 use Rattle.seg_values.specs.declared.error.TantivyError.{TantivyError}
 use Rattle.seg_directory.proofs.Exports.{stops, then_does}
-use Rattle.seg_directory.specs.State.{DirectoryState}
-use Rattle.seg_directory.specs.Works.{Works}
-use Rattle.seg_batches.specs.AliveWriting.{AllTellMarks, WritesAlive, alive_step, alive_steps}
-use Rattle.seg_batches.specs.Segments.{WrittenSegment, deletes_of}
+use Rattle.seg_directory.specs.DirectoryStates.{DirectoryState}
+use Rattle.seg_directory.specs.DirectorySteps.{Works}
+use Rattle.seg_batches.specs.AliveFiles.{AllTellMarks, WritesAlive, alive_step, alive_steps}
+use Rattle.seg_batches.specs.WrittenSegments.{WrittenSegment, deletes_of}
 
 -- the files of these segments are made
 abbrev pub AliveSoFar : ℕ → List WrittenSegment → DirectoryState → DirectoryState → Type 0

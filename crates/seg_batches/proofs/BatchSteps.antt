@@ -13,22 +13,22 @@ use Rattle.seg_values.specs.declared.error.ArgumentCause.TheVariants.{Documents,
 use Rattle.seg_values.specs.declared.error.TantivyError.{TantivyError}
 use Rattle.seg_values.specs.declared.error.TantivyError.TheVariants.{SchemaError, InvalidArgument, IndexAlreadyExists, OpenReadError, OpenWriteError, IoError, DataCorruption, SystemError, FieldNotFound, OutOfMemory}
 use Rattle.seg_batches.specs.declared.operation.DeleteOperation.{DeleteOperation}
-use Rattle.seg_model.specs.Built.{is_taken}
-use Rattle.seg_model.specs.Checked.{Cause, at_place, document_refusal, first_of, unless}
+use Rattle.seg_model.specs.TextDocuments.{is_taken}
+use Rattle.seg_model.specs.DocumentCheck.{Cause, at_place, document_refusal, first_of, unless}
 use Rattle.seg_model.specs.Columns.{Columns, columns}
 use Rattle.seg_model.specs.Contents.{Contents, full_reading, reading_with}
 use Rattle.seg_model.specs.Fields.{Schema, Analyzer}
 use Rattle.seg_model.specs.Operations.{Operation, add, delete, delete_all, additions, alive_after}
-use Rattle.seg_model.specs.Refused.{batch_refusal, count_refusal, numbers_refusal, operation_refusal, added_by, IfRefusal}
+use Rattle.seg_model.specs.Refusals.{batch_refusal, count_refusal, numbers_refusal, operation_refusal, added_by, IfRefusal}
 use Rattle.seg_model.specs.Stamps.{stamped_deletes}
-use Rattle.seg_batches.specs.Applying.{IsTold}
+use Rattle.seg_batches.specs.AppliedDeletes.{IsTold}
 use Rattle.seg_batches.specs.Laws.{as_operations}
-use Rattle.seg_check.specs.View.{operation_of}
+use Rattle.seg_check.specs.UserOperations.{operation_of}
 use Rattle.seg_check.specs.declared.user_operation.UserOperation.{UserOperation}
-use Rattle.seg_segment.specs.Standing.{StandFor}
+use Rattle.seg_segment.specs.DocumentsOfFiles.{StandFor}
 use Rattle.seg_segment.specs.declared.segment_files.SegmentFiles.{SegmentFiles}
-use Rattle.seg_batches.specs.Segments.{LacksSome, WrittenSegment, alive_of, segment_of}
-use Rattle.seg_batches.specs.Writing.{batch_between}
+use Rattle.seg_batches.specs.WrittenSegments.{LacksSome, WrittenSegment, alive_of, segment_of}
+use Rattle.seg_batches.specs.BatchWriteSteps.{batch_between}
 use Rattle.seg_batches.specs.declared.term_target.TermTarget.{TermTarget}
 use Rattle.seg_batches.proofs.BatchTurns.{end_at}
 

@@ -8,10 +8,10 @@ use Rattle.std.proofs.lemmas.List.{take_all, drop_all, drop-drop, length-drop}
 use Rattle.seg_common.proofs.Lists.{drop-slice_get}
 use Rattle.seg_model.specs.Fields.{Schema, Analyzer}
 use Rattle.seg_model.specs.Operations.{Operation, Batch, additions, alive_after, batches_from}
-use Rattle.seg_model.specs.Refused.{cut_from}
-use Rattle.seg_model.specs.Valid.{never_falls, cuts_fit}
-use Rattle.seg_batches.specs.Writing.{batch_between}
-use Rattle.seg_batches.proofs.Members.{not_within}
+use Rattle.seg_model.specs.Refusals.{cut_from}
+use Rattle.seg_model.specs.ValidInputs.{never_falls, cuts_fit}
+use Rattle.seg_batches.specs.BatchWriteSteps.{batch_between}
+use Rattle.seg_batches.proofs.ListMembers.{not_within}
 
 -- members with their numbers, in two parts
 take-enumerate : {X : Type 0} (n k : ℕ) (xs : List X) → take n (enumerate_from k xs) ≡ enumerate_from k (take n xs)

@@ -4,15 +4,15 @@ use Rattle.seg_common.specs.declared.name.FileName.{FileName}
 use Rattle.seg_values.specs.declared.error.TantivyError.{TantivyError}
 use Rattle.seg_values.specs.declared.error.TantivyError.TheVariants.{OutOfMemory}
 use Rattle.seg_directory.specs.Calls.{Call, kind_of}
-use Rattle.seg_directory.specs.Does.{GoesOn}
+use Rattle.seg_directory.specs.StepSequences.{GoesOn}
 use Rattle.seg_directory.specs.Errors.{error_of, name_of}
-use Rattle.seg_directory.specs.State.{DirectoryState}
-use Rattle.seg_directory.specs.Works.{Step, calls, passes, StepGoes, StepBreaks, CallBreaks, failed, has_files, Works}
+use Rattle.seg_directory.specs.DirectoryStates.{DirectoryState}
+use Rattle.seg_directory.specs.DirectorySteps.{Step, calls, passes, StepGoes, StepBreaks, CallBreaks, failed, has_files, Works}
 use Rattle.seg_directory.specs.declared.answer.CallKind.{CallKind}
 use Rattle.seg_directory.specs.declared.answer.CallKind.TheVariants as kind
 use Rattle.seg_directory.specs.declared.error.DirectoryError.{DirectoryError}
 use Rattle.seg_directory.specs.declared.error.DirectoryError.TheVariants as directory
-use Rattle.seg_model.specs.Refused.{IfRefusal}
+use Rattle.seg_model.specs.Refusals.{IfRefusal}
 
 -- calls alone, without a test
 abbrev pub AreCalls : List Step → Type 0

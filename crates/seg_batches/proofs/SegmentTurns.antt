@@ -9,15 +9,15 @@ use Rattle.seg_common.proofs.Lists.{unnumbered}
 use Rattle.seg_values.specs.declared.error.ArgumentCause.TheVariants.{Numbers}
 use Rattle.seg_values.specs.declared.error.TantivyError.{TantivyError}
 use Rattle.seg_values.specs.declared.error.TantivyError.TheVariants.{InvalidArgument}
-use Rattle.seg_model.specs.Built.{is_taken}
-use Rattle.seg_model.specs.Checked.{Cause, at_place, document_refusal, first_of}
+use Rattle.seg_model.specs.TextDocuments.{is_taken}
+use Rattle.seg_model.specs.DocumentCheck.{Cause, at_place, document_refusal, first_of}
 use Rattle.seg_model.specs.Columns.{columns}
 use Rattle.seg_model.specs.Fields.{Schema, Analyzer}
 use Rattle.seg_model.specs.Operations.{Operation, add, delete, delete_all, additions, batches_from}
-use Rattle.seg_model.specs.Refused.{added_by, batch_refusal, count_refusal, cut_from, numbers_refusal, operation_refusal}
-use Rattle.seg_model.specs.Valid.{FitsSegment}
+use Rattle.seg_model.specs.Refusals.{added_by, batch_refusal, count_refusal, cut_from, numbers_refusal, operation_refusal}
+use Rattle.seg_model.specs.ValidInputs.{FitsSegment}
 use Rattle.seg_model.proofs.Exports.{Fits, none_count, none_map, or_both, unless_true}
-use Rattle.seg_batches.specs.Writing.{batch_cause}
+use Rattle.seg_batches.specs.BatchWriteSteps.{batch_cause}
 
 -- ---- documents
 

@@ -8,8 +8,8 @@ use Rattle.seg_values.specs.declared.schema.FieldEntry.{FieldEntry}
 use Rattle.seg_directory.specs.Files.{NamedFiles}
 use Rattle.seg_model.specs.Fields.{Schema, Analyzer}
 use Rattle.seg_model.specs.Operations.{Batch}
-use Rattle.seg_model.specs.Reading.{field_terms}
-use Rattle.seg_segment.specs.Totals.{TellTotals}
+use Rattle.seg_model.specs.DocumentTerms.{field_terms}
+use Rattle.seg_segment.specs.TokenTotals.{TellTotals}
 use Rattle.seg_build.specs.TokenTotal.{token_total}
 
 -- how often the terms of a field of documents occur in all, as far as the field records it, at most the greatest u64

@@ -2,13 +2,13 @@
 use Rattle.std.specs.Prelude.{◌≡◌, ℕ, List, ◌++◌, map, length}
 use Rattle.std.specs.Borrow.{Bor}
 use Rattle.seg_model.specs.Fields.{Schema, Analyzer}
-use Rattle.seg_model.specs.Reading.{all_terms}
+use Rattle.seg_model.specs.DocumentTerms.{all_terms}
 use Rattle.seg_model.specs.Operations.{Operation, delete, additions, alive_after}
 use Rattle.seg_model.specs.Stamps.{stamped_deletes, addition_stamps}
 use Rattle.seg_model.specs.RemovalLaws.{ArePassed}
 use Rattle.seg_batches.specs.declared.doc_opstamp_mapping.DocToOpstampMapping.TheVariants.{WithMap}
 use Rattle.seg_batches.specs.declared.operation.DeleteOperation.{DeleteOperation}
-use Rattle.seg_batches.specs.Applying.{left_by, term_names}
+use Rattle.seg_batches.specs.AppliedDeletes.{left_by, term_names}
 use Rattle.seg_batches.specs.declared.term_target.TermTarget.{TermTarget}
 
 -- deletes that wait, as operations with their stamps

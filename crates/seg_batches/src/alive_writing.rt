@@ -1,7 +1,7 @@
 //! The alive files of segments, in a directory.
 ghost use Rattle.std.specs.Prelude.{◌≡◌, ◌∷◌, [], Some, IfOk};
 ghost use Rattle.seg_bits.specs.BitSets.{set_of};
-ghost use Rattle.seg_batches.specs.AliveWriting.{WritesAlive};
+ghost use Rattle.seg_batches.specs.AliveFiles.{WritesAlive};
 
 use crate::Opstamp;
 use crate::written_segment::WrittenSegment;

@@ -1,7 +1,7 @@
 //! The deletes of a queue.
 ghost use Rattle.std.specs.Prelude.{◌≡◌, ◌≤◌, length, drop, take, IfOk, IfErr, OnOk, OnErr};
 ghost use Rattle.seg_open.specs.OpenSegment.{contents_of};
-ghost use Rattle.seg_batches.specs.Applying.{Advances, Applies, AreMapped, IsTold, left_by};
+ghost use Rattle.seg_batches.specs.AppliedDeletes.{Advances, Applies, AreMapped, IsTold, left_by};
 
 use crate::delete_target::DeleteTarget;
 use crate::removing::apply_delete;

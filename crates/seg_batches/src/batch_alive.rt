@@ -2,10 +2,10 @@
 ghost use Rattle.std.specs.Prelude.{◌≡◌, ◌≤◌, length, map, take, drop, IfOk};
 ghost use Rattle.seg_batches.specs.declared.doc_opstamp_mapping.DocToOpstampMapping.TheVariants.{WithMap};
 ghost use Rattle.seg_open.specs.OpenSegment.{terms_in};
-ghost use Rattle.seg_open.specs.SegmentOpened.{HasFilesOf};
-ghost use Rattle.seg_batches.specs.Applying.{IsTold, KeepsDeletes, left_by, term_names};
-ghost use Rattle.seg_batches.specs.Making.{AreWhole, FindsLeft};
-ghost use Rattle.seg_batches.specs.Waiting.{SkipsEarlier, passed_below};
+ghost use Rattle.seg_open.specs.OpeningSteps.{HasFilesOf};
+ghost use Rattle.seg_batches.specs.AppliedDeletes.{IsTold, KeepsDeletes, left_by, term_names};
+ghost use Rattle.seg_batches.specs.BatchSegments.{AreWhole, FindsLeft};
+ghost use Rattle.seg_batches.specs.DeleteCursors.{SkipsEarlier, passed_below};
 
 use crate::applying::apply_deletes;
 use crate::laws::applied_deletes_leave_the_alive;

@@ -1,12 +1,12 @@
 //! The segment of a batch, in memory.
 ghost use Rattle.std.specs.Prelude.{◌≡◌, ◌<◌, ◌+◌, ◌^◌, [], map, length, IfOk};
 ghost use Rattle.seg_model.specs.Operations.{additions};
-ghost use Rattle.seg_build.specs.SegmentWriting.{Writes};
-ghost use Rattle.seg_check.specs.View.{operation_of};
+ghost use Rattle.seg_build.specs.SegmentWriters.{Writes};
+ghost use Rattle.seg_check.specs.UserOperations.{operation_of};
 ghost use Rattle.seg_check.specs.WriterStart.{start_refusal};
-ghost use Rattle.seg_batches.specs.Indexing.{AddsAll, AreOfBatch, IsUnused, Takes, is_addition};
-ghost use Rattle.seg_model.specs.Refused.{batch_error};
-ghost use Rattle.seg_model.specs.Telling.{Tells};
+ghost use Rattle.seg_batches.specs.IndexedBatches.{AddsAll, AreOfBatch, IsUnused, Takes, is_addition};
+ghost use Rattle.seg_model.specs.Refusals.{batch_error};
+ghost use Rattle.seg_model.specs.CheckAnswers.{Tells};
 
 use crate::Opstamp;
 use seg_build::{MemorySegment, SegmentWriter};

@@ -1,13 +1,13 @@
 //! The segment of a batch, and which of its documents later deletes leave.
 ghost use Rattle.std.specs.Prelude.{◌≡◌, ◌≤◌, ◌<◌, ◌+◌, ◌^◌, length, map, take, IfOk};
 ghost use Rattle.std.specs.List.{enumerate_from};
-ghost use Rattle.seg_check.specs.View.{operation_of};
+ghost use Rattle.seg_check.specs.UserOperations.{operation_of};
 ghost use Rattle.seg_check.specs.WriterStart.{start_refusal};
-ghost use Rattle.seg_batches.specs.Indexing.{AreOfBatch};
-ghost use Rattle.seg_model.specs.Telling.{Tells};
-ghost use Rattle.seg_batches.specs.Making.{IsSegmentOf, MakesSegment};
-ghost use Rattle.seg_batches.specs.Waiting.{passed_below};
-ghost use Rattle.seg_batches.specs.Writing.{batch_cause};
+ghost use Rattle.seg_batches.specs.IndexedBatches.{AreOfBatch};
+ghost use Rattle.seg_model.specs.CheckAnswers.{Tells};
+ghost use Rattle.seg_batches.specs.BatchSegments.{IsSegmentOf, MakesSegment};
+ghost use Rattle.seg_batches.specs.DeleteCursors.{passed_below};
+ghost use Rattle.seg_batches.specs.BatchWriteSteps.{batch_cause};
 
 use crate::batch_alive::alive_documents;
 use crate::batch_indexing::{index_batch, new_writer};

@@ -2,16 +2,16 @@
 ghost use Rattle.std.specs.Prelude.{◌≡◌, ◌+◌, ◌^◌, ◌<◌, ◌≤◌, ◌∷◌, ◌++◌, [], true, length, map, take, slice_range, slice_get, unwrap_or, IfOk, OnOk};
 ghost use Rattle.std.specs.List.{enumerate_from};
 ghost use Rattle.seg_batches.specs.Laws.{as_operations};
-ghost use Rattle.seg_directory.specs.Works.{Works};
+ghost use Rattle.seg_directory.specs.DirectorySteps.{Works};
 ghost use Rattle.seg_segment.specs.SegmentFiles.{write_steps};
-ghost use Rattle.seg_check.specs.View.{operation_of};
+ghost use Rattle.seg_check.specs.UserOperations.{operation_of};
 ghost use Rattle.seg_check.specs.WriterStart.{start_refusal};
 ghost use Rattle.seg_model.specs.Operations.{batches};
-ghost use Rattle.seg_model.specs.Valid.{cuts_fit};
+ghost use Rattle.seg_model.specs.ValidInputs.{cuts_fit};
 ghost use Rattle.seg_model.specs.Stamps.{stamped_deletes};
-ghost use Rattle.seg_batches.specs.Segments.{LacksSome, alive_of, segments_of};
-ghost use Rattle.seg_batches.specs.Waiting.{passed_below};
-ghost use Rattle.seg_batches.specs.Writing.{MakesBatches, WritesBatch, batch_between, batch_cause, batch_causes};
+ghost use Rattle.seg_batches.specs.WrittenSegments.{LacksSome, alive_of, segments_of};
+ghost use Rattle.seg_batches.specs.DeleteCursors.{passed_below};
+ghost use Rattle.seg_batches.specs.BatchWriteSteps.{MakesBatches, WritesBatch, batch_between, batch_cause, batch_causes};
 
 use crate::batch_making::{MadeBatch, make_batch};
 use crate::term_target::TermTarget;

@@ -3,7 +3,7 @@ ghost use Rattle.std.specs.Prelude.{◌≡◌, ℕ, Bool, IfOk, IfErr};
 ghost use Rattle.seg_model.specs.Contents.{Contents};
 ghost use Rattle.seg_model.specs.Fields.{Schema};
 ghost use Rattle.seg_open.specs.OpenSegment.{contents_of};
-ghost use Rattle.seg_batches.specs.Applying.{named_below};
+ghost use Rattle.seg_batches.specs.AppliedDeletes.{named_below};
 
 use seg_open::SegmentReader;
 use seg_values::{TResult, TantivyError};

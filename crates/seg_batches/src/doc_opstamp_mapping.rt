@@ -1,6 +1,6 @@
 //! Which documents a delete reaches.
 ghost use Rattle.std.specs.Prelude.{◌≡◌};
-ghost use Rattle.seg_batches.specs.Deleted.{IsMapped, is_deleted};
+ghost use Rattle.seg_batches.specs.DeletedDocuments.{IsMapped, is_deleted};
 
 use crate::operation::Opstamp;
 

@@ -1,6 +1,6 @@
 //! Segments as the meta of an index lists them.
 ghost use Rattle.std.specs.Prelude.{◌≡◌, IfOk};
-ghost use Rattle.seg_batches.specs.Segments.{all_listed};
+ghost use Rattle.seg_batches.specs.WrittenSegments.{all_listed};
 
 use crate::Opstamp;
 use crate::written_segment::WrittenSegment;

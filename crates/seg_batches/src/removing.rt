@@ -1,9 +1,9 @@
 //! One delete.
 ghost use Rattle.std.specs.Prelude.{◌≡◌, [], ◌∷◌, not, ◌&&◌, length, OnOk};
 ghost use Rattle.seg_model.specs.Postings.{is_member};
-ghost use Rattle.seg_batches.specs.Deleted.{is_deleted};
+ghost use Rattle.seg_batches.specs.DeletedDocuments.{is_deleted};
 ghost use Rattle.seg_open.specs.OpenSegment.{contents_of};
-ghost use Rattle.seg_batches.specs.Applying.{AreMapped, is_left_by, staying};
+ghost use Rattle.seg_batches.specs.AppliedDeletes.{AreMapped, is_left_by, staying};
 
 use crate::delete_target::DeleteTarget;
 use crate::{DeleteOperation, DocToOpstampMapping, Opstamp};

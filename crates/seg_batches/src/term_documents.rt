@@ -1,9 +1,9 @@
 //! The documents that have a term.
 ghost use Rattle.std.specs.Prelude.{◌≡◌, [], map, IfOk, MatchOption};
-ghost use Rattle.seg_model.specs.Cleared.{has_posting};
+ghost use Rattle.seg_model.specs.DeletesByPostings.{has_posting};
 ghost use Rattle.seg_model.specs.Postings.{terms_of_field, documents_with};
 ghost use Rattle.seg_open.specs.OpenSegment.{terms_in};
-ghost use Rattle.seg_batches.specs.Applying.{named_below};
+ghost use Rattle.seg_batches.specs.AppliedDeletes.{named_below};
 
 use seg_open::SegmentReader;
 use seg_postings::SegmentPostings;

@@ -11,7 +11,7 @@ use std::alloc::Global;
 pub struct TermTarget(pub Term);
 
 impl DeleteTarget for TermTarget {
-    ghost use Rattle.seg_model.specs.Cleared.{has_posting};
+    ghost use Rattle.seg_model.specs.DeletesByPostings.{has_posting};
 
     ghost names = { λ target schema contents document. has_posting contents.terms document target.0 };
 

@@ -1,7 +1,7 @@
 //! The deletes of an input, as they wait.
 ghost use Rattle.std.specs.Prelude.{◌≡◌, map, IfOk, OnOk};
-ghost use Rattle.seg_check.specs.View.{operation_of};
-ghost use Rattle.seg_batches.specs.Waiting.{AllWait, IsQueued};
+ghost use Rattle.seg_check.specs.UserOperations.{operation_of};
+ghost use Rattle.seg_batches.specs.DeleteCursors.{AllWait, IsQueued};
 
 use crate::term_target::TermTarget;
 use crate::{DeleteOperation, DeleteQueue, Opstamp};

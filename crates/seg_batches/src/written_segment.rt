@@ -1,7 +1,7 @@
 //! A segment that was written.
 ghost use Rattle.std.specs.Prelude.{◌≡◌, ◌<◌, ◌^◌, true, false, length, replicate, Contains, option_map, MatchOption};
 ghost use Rattle.seg_meta.specs.Metas as metas;
-ghost use Rattle.seg_batches.specs.Segments.{LacksSome, alive_of, deletes_of, listed};
+ghost use Rattle.seg_batches.specs.WrittenSegments.{LacksSome, alive_of, deletes_of, listed};
 
 use crate::Opstamp;
 use seg_bits::BitSet;
@@ -19,7 +19,7 @@ pub struct WrittenSegment {
 
 impl Model for WrittenSegment {
     ghost use Rattle.std.specs.Prelude.{◌<◌, ◌^◌};
-    ghost use Rattle.seg_batches.specs.Segments as segments;
+    ghost use Rattle.seg_batches.specs.WrittenSegments as segments;
 
     ghost Value = { segments.WrittenSegment };
 

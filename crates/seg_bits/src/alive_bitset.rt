@@ -1,6 +1,6 @@
 //! Which documents of a segment are alive.
 ghost use Rattle.std.specs.Prelude.{◌≡◌, ◌+◌, ◌*◌, Some, None, false, not, length, get_or, IfOk, IfErr, OnOk, OnErr};
-ghost use Rattle.seg_common.specs.Causes.{HasCause};
+ghost use Rattle.seg_common.specs.FaultCounts.{HasCause};
 ghost use Rattle.seg_common.specs.Streams.{StaysTold};
 ghost use Rattle.seg_common.specs.declared.error.CommonError.TheVariants.{Malformed, OutOfMemory, WriteFault};
 ghost use Rattle.seg_bits.specs.BitSets.{set_of, words_for, member_count, numbers_from, AppendsSet, AppendsPartOfSet};

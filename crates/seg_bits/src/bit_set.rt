@@ -1,6 +1,6 @@
 //! Sets that numbers are put into and taken out of.
 ghost use Rattle.std.specs.Prelude.{◌≡◌, ◌<◌, true, false, length, replicate, get_or, set, IfOk, IfErr, OnOk, OnErr};
-ghost use Rattle.seg_common.specs.Causes.{HasCause};
+ghost use Rattle.seg_common.specs.FaultCounts.{HasCause};
 ghost use Rattle.seg_common.specs.Streams.{StaysTold};
 ghost use Rattle.seg_bits.specs.BitSets as spec;
 

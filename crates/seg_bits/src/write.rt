@@ -3,7 +3,7 @@ ghost use Rattle.std.specs.Prelude.{◌≡◌, ◌<◌, ◌++◌, ◌^◌, ℕ, 
 ghost use Rattle.std.specs.Int.{w32, w64, to_le_bytes};
 ghost use Rattle.std.specs.Io.KnownBytes.{Appends};
 ghost use Rattle.std.specs.List.{flat_map};
-ghost use Rattle.seg_common.specs.Causes.{HasCause};
+ghost use Rattle.seg_common.specs.FaultCounts.{HasCause};
 ghost use Rattle.seg_common.specs.Streams.{StaysTold, AppendsPart};
 
 use seg_common::{Sink, SinkFailed, write_whole};

@@ -6,9 +6,9 @@ use Rattle.seg_values.specs.declared.error.ArgumentCause.TheVariants as argument
 use Rattle.seg_values.specs.declared.error.TantivyError.{TantivyError}
 use Rattle.seg_values.specs.declared.error.TantivyError.TheVariants.{InvalidArgument, OutOfMemory, SystemError}
 use Rattle.seg_model.specs.Fields.{Analyzer}
-use Rattle.seg_build.specs.Kept.{Kept}
-use Rattle.seg_build.specs.SegmentWriting.{Adds, AddsNone, HasPlace, IsKeptOf, SegmentWriting, Writes, document_count}
-use Rattle.seg_build.specs.IndexWriting.{IsUnderWay}
+use Rattle.seg_build.specs.WriterContents.{Kept}
+use Rattle.seg_build.specs.SegmentWriters.{Adds, AddsNone, HasPlace, IsKeptOf, SegmentWriting, Writes, document_count}
+use Rattle.seg_build.specs.IndexWriters.{IsUnderWay}
 
 -- ---- of anything that is kept
 

@@ -7,11 +7,11 @@ use Rattle.std.proofs.lemmas.List.{map-append}
 use Rattle.std.proofs.lemmas.Option.{same_Some}
 use Rattle.seg_common.proofs.Lists.{drop-slice_get}
 use Rattle.seg_model.specs.Occurrences.{at_zero, prefixes_from, facet_prefixes}
-use Rattle.seg_model.specs.Reading.{Terms}
-use Rattle.seg_terms.specs.Adding.{with_occurrences}
-use Rattle.seg_build.specs.Prefixes.{ended, prefix_at}
-use Rattle.seg_build.proofs.Elements.{element_at}
-use Rattle.seg_build.proofs.Growing.{with_occurrences-append}
+use Rattle.seg_model.specs.DocumentTerms.{Terms}
+use Rattle.seg_terms.specs.AddedOccurrences.{with_occurrences}
+use Rattle.seg_build.specs.FacetPrefixes.{ended, prefix_at}
+use Rattle.seg_build.proofs.ListElements.{element_at}
+use Rattle.seg_build.proofs.GrownTerms.{with_occurrences-append}
 
 -- what is left at a place
 abbrev pub left_at : List ℕ → ℕ → List (List ℕ)

@@ -4,19 +4,19 @@ use Rattle.std.specs.Prelude.{IsSomeAnd}
 use Rattle.std.specs.List.{slice_get, AllByRecursion}
 use Rattle.std.proofs.lemmas.Bool.{cases_Bool}
 use Rattle.seg_values.specs.Tree.{Tree, Document}
-use Rattle.seg_model.specs.Built.{is_taken}
-use Rattle.seg_model.specs.Checked.{field_fits}
+use Rattle.seg_model.specs.TextDocuments.{is_taken}
+use Rattle.seg_model.specs.DocumentCheck.{field_fits}
 use Rattle.seg_model.specs.Fields.{Schema, Analyzer, is_indexed, is_field}
 use Rattle.seg_check.specs.IndexedValues.{IndexedContent, content_of, content_at, value_of}
 use Rattle.seg_check.proofs.Exports.{for_one_field}
-use Rattle.seg_build.specs.Field.{first_starts, next_starts, length_in, start_of, TextsFit, Fits}
-use Rattle.seg_build.specs.Steps.{AllFit, indexed_part, with_pair, with_pairs}
-use Rattle.seg_build.specs.FieldSoFar.{FieldSoFar}
-use Rattle.seg_build.proofs.Contents.{AreBounded, AreLow, start_after_values, start_after_values-append, low-before, texts_fit, length_of_values, length_of_values-append}
+use Rattle.seg_build.specs.AddedValues.{first_starts, next_starts, length_in, start_of, TextsFit, Fits}
+use Rattle.seg_build.specs.FieldsByValue.{AllFit, indexed_part, with_pair, with_pairs}
+use Rattle.seg_build.specs.FieldState.{FieldSoFar}
+use Rattle.seg_build.proofs.FieldContents.{AreBounded, AreLow, start_after_values, start_after_values-append, low-before, texts_fit, length_of_values, length_of_values-append}
 use Rattle.seg_build.proofs.IndexedParts.{part-kept, part-passed, values_kept, IsIndexedPair, indexed_pair}
-use Rattle.seg_build.proofs.Places.{contents_of, contents_of-taken, contents_of-append, added_all, start_of-added_all, length_of-added_all, field_after}
-use Rattle.seg_build.proofs.Taken.{bounded, passed}
-use Rattle.seg_build.proofs.Whole.{AllHaveTerms, IsFresh}
+use Rattle.seg_build.proofs.FieldStates.{contents_of, contents_of-taken, contents_of-append, added_all, start_of-added_all, length_of-added_all, field_after}
+use Rattle.seg_build.proofs.TakenDocuments.{bounded, passed}
+use Rattle.seg_build.proofs.AllDocuments.{AllHaveTerms, IsFresh}
 
 -- a value among those of its field, of which all together are bounded
 fits_between : (id : ℕ) (field : FieldSoFar) → IsFresh id field

@@ -3,15 +3,15 @@ use Rattle.std.proofs.Common.{◌≡◌, ℕ, ◌+◌, ◌-◌, ◌^◌, min, Li
 use Rattle.seg_values.specs.Tree.{Leaf, text}
 use Rattle.seg_tokens.specs.declared.token.Token.{Token}
 use Rattle.std.specs.List.{slice_index_or}
-use Rattle.seg_model.specs.Reading.{Terms}
-use Rattle.seg_terms.specs.Adding.{with_occurrences}
+use Rattle.seg_model.specs.DocumentTerms.{Terms}
+use Rattle.seg_terms.specs.AddedOccurrences.{with_occurrences}
 use Rattle.seg_check.specs.LeafContents.{LeafContent, leaf_with, texts_behind, with_texts}
-use Rattle.seg_build.specs.Gathered.{Gathered, json_gathered, with_leaf, with_leaves, AddsLeaf}
-use Rattle.seg_build.specs.LeafSteps.{PathLeaves, leaf_occur, leaf_count, LeafFits, behind_leaf, leaves_occur, leaves_count, LeavesFit, kept_start, kept_starts}
+use Rattle.seg_build.specs.GatheredFieldTerms.{Gathered, json_gathered, with_leaf, with_leaves, AddsLeaf}
+use Rattle.seg_build.specs.LeafPositions.{PathLeaves, leaf_occur, leaf_count, LeafFits, behind_leaf, leaves_occur, leaves_count, LeavesFit, kept_start, kept_starts}
 use Rattle.seg_build.specs.MemoryUsage.{saturated}
 use Rattle.seg_build.specs.PathStarts.{path_start}
 use Rattle.seg_build.specs.declared.json_terms.JsonTerms.{JsonTerms}
-use Rattle.seg_build.proofs.Growing.{with_occurrences-append}
+use Rattle.seg_build.proofs.GrownTerms.{with_occurrences-append}
 use Rattle.seg_build.proofs.KeptStarts.{one_kept}
 
 -- all leaves at once

@@ -7,7 +7,7 @@ use Rattle.std.proofs.lemmas.Bool.Decides.{eqb_tells}
 use Rattle.seg_values.specs.declared.schema.FieldEntry.{FieldEntry}
 use Rattle.seg_values.specs.Tree.{Tree, Document}
 use Rattle.seg_model.specs.Fields.{Schema, is_indexed, is_field, values_of}
-use Rattle.seg_build.specs.Steps.{indexed_part}
+use Rattle.seg_build.specs.FieldsByValue.{indexed_part}
 
 module _ (k : ℕ) where
   pub values-own : (p : ℕ × Tree) (ps : Document) → nat_eq k p.0 ≡ true → values_of k (p ∷ ps) ≡ p.1 ∷ values_of k ps

@@ -8,7 +8,7 @@ use Rattle.std.proofs.lemmas.Bool.{and_parts, false≢true, ltb-true}
 use Rattle.seg_tokens.specs.declared.token.Token.{Token}
 use Rattle.seg_values.specs.declared.schema.FieldKind.TheVariants.{Json}
 use Rattle.seg_values.specs.Tree.{Tree}
-use Rattle.seg_model.specs.Checked.{is_u32, count_of, texts_fit, kind_fits, path_fits, leaves_with_path, value_texts}
+use Rattle.seg_model.specs.DocumentCheck.{is_u32, count_of, texts_fit, kind_fits, path_fits, leaves_with_path, value_texts}
 use Rattle.seg_model.specs.Leaves.{PlacedLeaf, joined_path, leaves_of}
 use Rattle.seg_model.specs.Occurrences.{leaf_text, texts_at, start_after_all}
 

@@ -3,7 +3,7 @@ use Rattle.std.proofs.Common.{◌≡◌, ℕ, suc, ◌+◌, ◌≤◌, ◌^◌, 
 use Rattle.std.specs.Prelude.{filter, nat_lt, pos}
 use Rattle.std.specs.List.{AllByRecursion}
 use Rattle.std.specs.Int.{w64, to_be_bytes}
-use Rattle.seg_common.specs.Mappable.{raised}
+use Rattle.seg_common.specs.MappableValues.{raised}
 use Rattle.seg_common.proofs.Lists.{all_both}
 use Rattle.std.specs.Str.{bytes_eq}
 use Rattle.std.specs.Cmp.Lexicographic.{bytes_decides}
@@ -11,10 +11,10 @@ use Rattle.std.proofs.lemmas.Bool.{false≢true}
 use Rattle.std.proofs.lemmas.Grind.{flat_map-append}
 use Rattle.seg_tokens.specs.declared.token.Token.{Token}
 use Rattle.seg_values.specs.Tree.{Leaf, null, text, pre_tokenized, unsigned, signed, boolean, date, facet, byte_string, ip}
-use Rattle.seg_model.specs.Checked.{has_no_zero, leaves_with_path}
+use Rattle.seg_model.specs.DocumentCheck.{has_no_zero, leaves_with_path}
 use Rattle.seg_model.specs.Leaves.{PlacedLeaf, joined_path}
 use Rattle.seg_model.specs.Occurrences.{Occurrence, at_zero, counted, start_after, start_after_all, placed_from, leaf_text, texts_at, text_occurrences, leaf_occurrences, json_occurrences, coded_value}
-use Rattle.seg_model.specs.Reading.{positions_of, type_code}
+use Rattle.seg_model.specs.DocumentTerms.{positions_of, type_code}
 use Rattle.seg_model.specs.Shape.{path_part}
 use Rattle.seg_model.proofs.Exports.{path_part-path, type_code-path}
 use Rattle.seg_build.proofs.PlainPaths.{IsPlainLeaf, value_part, value_after, in_parts}

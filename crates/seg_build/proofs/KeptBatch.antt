@@ -5,30 +5,30 @@ use Rattle.std.specs.FinMap.{entries}
 use Rattle.std.specs.List.{AllByRecursion}
 use Rattle.std.specs.Option.{option_map}
 use Rattle.std.proofs.lemmas.List.{length-map}
-use Rattle.seg_common.specs.Growing.{HasGrown}
+use Rattle.seg_common.specs.WriterGrowth.{HasGrown}
 use Rattle.seg_values.specs.declared.schema.FieldEntry.{FieldEntry}
-use Rattle.seg_values.specs.StoredForm.{stored_form}
+use Rattle.seg_values.specs.StoredBytes.{stored_form}
 use Rattle.seg_values.specs.Tree.{Document}
 use Rattle.seg_model.specs.Fields.{Schema, Analyzer}
-use Rattle.seg_model.specs.Reading.{stored_document}
+use Rattle.seg_model.specs.DocumentTerms.{stored_document}
 use Rattle.seg_store.specs.Block.{Block}
 use Rattle.seg_store.specs.Store.{store_of, documents_of}
-use Rattle.seg_store.specs.Writing.{Taken, all_blocks}
+use Rattle.seg_store.specs.WriterBlocks.{Taken, all_blocks}
 use Rattle.seg_norms.specs.FieldNorms.{filled}
-use Rattle.seg_build.specs.Batch.{kept_norms}
-use Rattle.seg_terms.specs.Entries.{TermEntries}
+use Rattle.seg_build.specs.BatchContents.{kept_norms}
+use Rattle.seg_terms.specs.TermEntries.{TermEntries}
 use Rattle.seg_build.specs.FieldTerms.{FieldTerms, positional_terms, recorded_fields, fields_of}
-use Rattle.seg_build.specs.Kept.{Kept}
-use Rattle.seg_build.specs.Lengths.{HaveLengths}
-use Rattle.seg_build.specs.SegmentWriting.{Stores, IsKeptOf}
-use Rattle.seg_build.specs.Steps.{fresh}
+use Rattle.seg_build.specs.WriterContents.{Kept}
+use Rattle.seg_build.specs.DocumentLengths.{HaveLengths}
+use Rattle.seg_build.specs.SegmentWriters.{Stores, IsKeptOf}
+use Rattle.seg_build.specs.FieldsByValue.{fresh}
 use Rattle.seg_build.specs.StoredBatch.{IsStoredBatch}
 use Rattle.seg_build.specs.StoredBlocks.{HasBlocks, stored_with}
-use Rattle.seg_build.specs.Writable.{CanBeWritten}
-use Rattle.seg_build.specs.FieldSoFar.{FieldSoFar}
+use Rattle.seg_build.specs.WritableTerms.{CanBeWritten}
+use Rattle.seg_build.specs.FieldState.{FieldSoFar}
 use Rattle.seg_build.specs.declared.fields.IndexedBatch.{IndexedBatch}
 use Rattle.seg_build.proofs.RecordedTerms.{recorded_are_fields, length-recorded_fields}
-use Rattle.seg_build.proofs.Whole.{terms_of_all, length-with_documents}
+use Rattle.seg_build.proofs.AllDocuments.{terms_of_all, length-with_documents}
 use Rattle.seg_build.proofs.WritableTerms.{taken_terms_can_be_written}
 
 -- the terms of fields, each in byte order with all its positions

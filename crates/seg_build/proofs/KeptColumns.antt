@@ -14,10 +14,10 @@ use Rattle.seg_model.proofs.Exports.{some_none}
 use Rattle.seg_column_file.specs.ColumnFiles.{IsColumnFile, column_file_of, row_count}
 use Rattle.seg_column_format.specs.ModelColumns.{columns_in}
 use Rattle.seg_column_format.specs.SchemaColumns.{HaveColumns}
-use Rattle.seg_fastfield.specs.Writing.{Holds, refusal_of}
-use Rattle.seg_build.specs.Finishing.{AreMixed, Fails, IsMadeOfKept}
-use Rattle.seg_build.specs.Kept.{Kept}
-use Rattle.seg_build.specs.SegmentWriting.{IsKeptOf, IsUnderWay}
+use Rattle.seg_fastfield.specs.FastFieldWriters.{Holds, refusal_of}
+use Rattle.seg_build.specs.FinishedFiles.{AreMixed, Fails, IsMadeOfKept}
+use Rattle.seg_build.specs.WriterContents.{Kept}
+use Rattle.seg_build.specs.SegmentWriters.{IsKeptOf, IsUnderWay}
 use Rattle.seg_build.specs.declared.memory_segment.MemorySegment.{MemorySegment}
 
 -- bytes are the file of the columns that were kept

@@ -12,18 +12,18 @@ use Rattle.seg_values.specs.Tree.{Document}
 use Rattle.seg_model.specs.Fields.{Schema, Analyzer, fields, is_indexed, has_lengths, indexing_tokenizer, values_of}
 use Rattle.seg_model.specs.Norms.{field_length, length_id, field_norms}
 use Rattle.seg_norms.specs.FieldNorms.{no_norms, filled, with_length}
-use Rattle.seg_build.specs.Batch.{kept_norms}
-use Rattle.seg_build.specs.Field.{length_of}
-use Rattle.seg_build.specs.Lengths.{AreUpTo, HaveLengths, with_each_length, with_lengths}
-use Rattle.seg_build.specs.Steps.{fresh, indexed_part, with_pairs, with_documents}
-use Rattle.seg_build.specs.FieldSoFar.{FieldSoFar}
+use Rattle.seg_build.specs.BatchContents.{kept_norms}
+use Rattle.seg_build.specs.AddedValues.{length_of}
+use Rattle.seg_build.specs.DocumentLengths.{AreUpTo, HaveLengths, with_each_length, with_lengths}
+use Rattle.seg_build.specs.FieldsByValue.{fresh, indexed_part, with_pairs, with_documents}
+use Rattle.seg_build.specs.FieldState.{FieldSoFar}
 use Rattle.seg_check.specs.IndexedValues.{content_of}
-use Rattle.seg_build.proofs.Contents.{length_of_values, kind_lengths}
-use Rattle.seg_build.proofs.Elements.{element_at}
+use Rattle.seg_build.proofs.FieldContents.{length_of_values, kind_lengths}
+use Rattle.seg_build.proofs.ListElements.{element_at}
 use Rattle.seg_build.proofs.IndexedParts.{values_kept}
-use Rattle.seg_build.proofs.Places.{contents_of, contents_of-passed, added_all, length_of-added_all, field_after}
+use Rattle.seg_build.proofs.FieldStates.{contents_of, contents_of-passed, added_all, length_of-added_all, field_after}
 use Rattle.seg_build.proofs.RecordedLengths.{Kept, IsNoneOf, AreRecorded, length-with_lengths, recorded_at, all_recorded, lengths_filled}
-use Rattle.seg_build.proofs.Whole.{all_more, all_fresh}
+use Rattle.seg_build.proofs.AllDocuments.{all_more, all_fresh}
 
 -- ---- the length of a field in a document
 

@@ -12,7 +12,7 @@ use Rattle.std.proofs.lemmas.Map.Text.{is_eq-slice_cmp}
 use Rattle.std.proofs.lemmas.Option.{same_Some}
 use Rattle.seg_model.specs.Occurrences.{start_after}
 use Rattle.seg_check.specs.LeafContents.{LeafContent, text_leaf, coded_leaf}
-use Rattle.seg_build.specs.LeafSteps.{PathLeaves, kept_start, behind_leaf, behind_leaves, kept_starts}
+use Rattle.seg_build.specs.LeafPositions.{PathLeaves, kept_start, behind_leaf, behind_leaves, kept_starts}
 use Rattle.seg_build.specs.PathStarts.{PathStarts, start_in, path_start}
 use Rattle.seg_build.specs.declared.path_start.PathStart.{PathStart}
 

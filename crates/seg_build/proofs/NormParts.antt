@@ -8,8 +8,8 @@ use Rattle.seg_values.specs.Tree.{Document}
 use Rattle.seg_model.specs.Fields.{Schema, Analyzer, has_lengths, values_of, fields}
 use Rattle.seg_model.specs.Norms.{length_id, field_norms, field_length, all_norms}
 use Rattle.seg_norms.specs.FieldNorms.{fields_with_lengths, norms_parts}
-use Rattle.seg_segment.specs.LengthsWritten.{parts_with}
-use Rattle.seg_build.specs.Batch.{kept_norms}
+use Rattle.seg_segment.specs.WrittenLengths.{parts_with}
+use Rattle.seg_build.specs.BatchContents.{kept_norms}
 use Rattle.seg_build.specs.NormsFile.{kept_ids}
 
 module _ (schema : Schema) (analyzer : Analyzer) (documents : List Document) where

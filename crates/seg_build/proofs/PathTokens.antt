@@ -4,9 +4,9 @@ use Rattle.std.specs.Prelude.{nat_le}
 use Rattle.std.proofs.lemmas.Bool.Decides.{nat_tests}
 use Rattle.seg_tokens.specs.declared.token.Token.{Token}
 use Rattle.seg_model.specs.Occurrences.{Occurrence, counted, reach, start_after, placed_from}
-use Rattle.seg_model.specs.Reading.{Terms}
-use Rattle.seg_terms.specs.Adding.{with_occurrence, with_occurrences}
-use Rattle.seg_build.proofs.Growing.{with_occurrences-append}
+use Rattle.seg_model.specs.DocumentTerms.{Terms}
+use Rattle.seg_terms.specs.AddedOccurrences.{with_occurrence, with_occurrences}
+use Rattle.seg_build.proofs.GrownTerms.{with_occurrences-append}
 
 counted-cons : (t : Token) (ts : List Token) → counted (t ∷ ts) ≡ counted (t ∷ []) ++ counted ts
 counted-cons t ts = by (nat_le (length t.text) 65530)

@@ -5,9 +5,9 @@ use Rattle.std.specs.List.{AllByRecursion, join_with_byte}
 use Rattle.std.proofs.lemmas.Bool.{true≢false, eqb-true}
 use Rattle.seg_values.specs.Tree.{Tree, leaf, array, object, Trees, no_trees, tree, Members, no_members, member}
 use Rattle.seg_common.proofs.Lists.{all_both}
-use Rattle.seg_model.specs.Checked.{json_key, unless, has_no_zero, tree_refusal, trees_refusal, members_refusal}
+use Rattle.seg_model.specs.DocumentCheck.{json_key, unless, has_no_zero, tree_refusal, trees_refusal, members_refusal}
 use Rattle.seg_model.specs.Leaves.{PlacedLeaf, joined_path, level_in_array, leaves_at, leaves_of_trees, leaves_of_members, leaves, leaves_of}
-use Rattle.seg_model.specs.Reading.{type_code}
+use Rattle.seg_model.specs.DocumentTerms.{type_code}
 use Rattle.seg_model.specs.Shape.{path_part}
 use Rattle.seg_model.proofs.Exports.{or_first, or_second, unless_true, has_no_zero-append, has_no_zero-dots}
 

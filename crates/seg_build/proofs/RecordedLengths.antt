@@ -6,12 +6,12 @@ use Rattle.std.proofs.lemmas.Bool.{false≢true, lt-leb, le-leb}
 use Rattle.std.proofs.lemmas.Bool.Decides.{eqb_tells}
 use Rattle.std.proofs.lemmas.List.{length-replicate, replicate_more}
 use Rattle.std.proofs.lemmas.Option.{same_Some}
-use Rattle.seg_common.specs.Growing.{HasGrown}
+use Rattle.seg_common.specs.WriterGrowth.{HasGrown}
 use Rattle.seg_model.specs.Norms.{length_id}
 use Rattle.seg_norms.specs.FieldNorms.{at_field, filled, with_length}
-use Rattle.seg_build.specs.Field.{length_of}
-use Rattle.seg_build.specs.Lengths.{AreUpTo, lacks_length, recorded_once, length_at, with_length_of, with_lengths, with_each_length}
-use Rattle.seg_build.specs.FieldSoFar.{FieldSoFar}
+use Rattle.seg_build.specs.AddedValues.{length_of}
+use Rattle.seg_build.specs.DocumentLengths.{AreUpTo, lacks_length, recorded_once, length_at, with_length_of, with_lengths, with_each_length}
+use Rattle.seg_build.specs.FieldState.{FieldSoFar}
 
 -- what is kept of all fields
 abbrev pub Kept : Type 0

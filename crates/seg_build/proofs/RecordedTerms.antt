@@ -14,16 +14,16 @@ use Rattle.seg_values.specs.declared.schema.IndexOption.TheVariants as options
 use Rattle.seg_values.specs.Tree.{Document}
 use Rattle.seg_model.specs.Fields.{Schema, Analyzer, is_indexed}
 use Rattle.seg_model.specs.Occurrences.{Occurrence, occurrences}
-use Rattle.seg_model.specs.Reading.{Recorded, positions, Posting, Terms, record_of, positions_of, if_occurs, recorded_in, listed, postings_from, postings_of, if_any, terms_of, field_terms, all_terms, term_option}
-use Rattle.seg_common.specs.Tables.{entry_of}
+use Rattle.seg_model.specs.DocumentTerms.{Recorded, positions, Posting, Terms, record_of, positions_of, if_occurs, recorded_in, listed, postings_from, postings_of, if_any, terms_of, field_terms, all_terms, term_option}
+use Rattle.seg_common.specs.TabulatedMaps.{entry_of}
 use Rattle.seg_common.proofs.Bytes.{same_term}
-use Rattle.seg_postings.specs.Kinds.{kind_of}
+use Rattle.seg_postings.specs.RecordKinds.{kind_of}
 use Rattle.seg_postings.specs.declared.asked_kind.AskedKind.{AskedKind}
 use Rattle.seg_postings.specs.declared.record_kind.RecordKind.{RecordKind}
-use Rattle.seg_terms.specs.Entries.{TermEntries}
+use Rattle.seg_terms.specs.TermEntries.{TermEntries}
 use Rattle.seg_build.specs.FieldTerms.{FieldTerms, asked_by, kind_in, positional, positional_terms, kept_as, postings_as, entries_as, recorded_fields, fields_of}
-use Rattle.seg_build.specs.Filling.{AreFieldsOf}
-use Rattle.seg_build.proofs.Whole.{no_terms, occurrences-unindexed}
+use Rattle.seg_build.specs.SerializerContents.{AreFieldsOf}
+use Rattle.seg_build.proofs.AllDocuments.{no_terms, occurrences-unindexed}
 
 -- ---- what is recorded of a term
 

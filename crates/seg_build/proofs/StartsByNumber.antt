@@ -9,8 +9,8 @@ use Rattle.std.specs.Str.{bytes_eq}
 use Rattle.std.proofs.lemmas.Bool.{false≢true, eqb-true, or_right}
 use Rattle.std.proofs.lemmas.List.{get_or_past}
 use Rattle.std.proofs.lemmas.Map.Text.{is_eq-slice_cmp}
-use Rattle.seg_common.specs.Tables.{is_among}
-use Rattle.seg_common.proofs.Tables.{IsComplete, texts_apart, get-tabulated, table_from_gets}
+use Rattle.seg_common.specs.TabulatedMaps.{is_among}
+use Rattle.seg_common.proofs.TabulatedMaps.{IsComplete, texts_apart, get-tabulated, table_from_gets}
 use Rattle.seg_paths.specs.Paths.{Extends, number_of}
 use Rattle.seg_paths.proofs.Exports.{number-kept, number-past, number-read}
 use Rattle.seg_build.specs.PathStarts.{PathStarts, start_in, path_start, blank, kept_by, if_text, starts_of}

@@ -11,14 +11,14 @@ use Rattle.seg_model.specs.Fields.{Schema, Analyzer, is_indexed, is_field}
 use Rattle.seg_model.specs.Occurrences.{occurrences}
 use Rattle.seg_check.specs.IndexedValues.{content_of, content_at, value_in, value_of}
 use Rattle.seg_check.specs.declared.indexed_value.IndexedValue.{IndexedValue}
-use Rattle.seg_build.specs.Field.{count_in, first_starts}
+use Rattle.seg_build.specs.AddedValues.{count_in, first_starts}
 use Rattle.seg_build.specs.MemoryUsage.{total, saturated, occurrence_count, value_count}
-use Rattle.seg_build.specs.Steps.{indexed_part}
-use Rattle.seg_build.proofs.Contents.{length_from}
+use Rattle.seg_build.specs.FieldsByValue.{indexed_part}
+use Rattle.seg_build.proofs.FieldContents.{length_from}
 use Rattle.seg_build.proofs.IndexedParts.{part-kept, part-passed, indexed_pair, values_kept, values_dropped}
-use Rattle.seg_build.proofs.Places.{contents_of, contents_of-taken, contents_of-passed}
+use Rattle.seg_build.proofs.FieldStates.{contents_of, contents_of-taken, contents_of-passed}
 use Rattle.seg_segment.proofs.Exports.{drop-item}
-use Rattle.seg_build.proofs.Whole.{occurrences-indexed, occurrences-unindexed}
+use Rattle.seg_build.proofs.AllDocuments.{occurrences-indexed, occurrences-unindexed}
 
 -- ---- the loop over the values
 

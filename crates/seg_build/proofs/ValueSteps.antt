@@ -6,9 +6,9 @@ use Rattle.seg_values.specs.Tree.{Document}
 use Rattle.seg_model.specs.Fields.{Schema, Analyzer}
 use Rattle.seg_check.specs.IndexedValues.{IsPlainIn, value_in, value_of}
 use Rattle.seg_check.specs.declared.indexed_value.IndexedValue.{IndexedValue}
-use Rattle.seg_build.specs.Field.{Fits}
-use Rattle.seg_build.specs.Steps.{AllFit, with_pair, with_pairs, with_values}
-use Rattle.seg_build.specs.FieldSoFar.{FieldSoFar}
+use Rattle.seg_build.specs.AddedValues.{Fits}
+use Rattle.seg_build.specs.FieldsByValue.{AllFit, with_pair, with_pairs, with_values}
+use Rattle.seg_build.specs.FieldState.{FieldSoFar}
 use Rattle.seg_segment.proofs.Exports.{drop-item}
 
 -- the values of the pairs are what the fields are given

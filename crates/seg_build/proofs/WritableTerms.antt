@@ -22,31 +22,31 @@ use Rattle.seg_values.specs.declared.schema.FieldKind.TheVariants.{Text, U64, I6
 use Rattle.seg_values.specs.declared.schema.IndexOption.{IndexOption}
 use Rattle.seg_values.specs.declared.schema.IndexOption.TheVariants as options
 use Rattle.seg_values.specs.Tree.{Tree, Document}
-use Rattle.seg_model.specs.Built.{is_taken}
-use Rattle.seg_model.specs.Checked.{positions_fall, unless, json_refusal, tree_refusal, leaves_refusal, value_texts, is_rising, is_u32, count_of, kind_fits, positions_refusal, field_fits, order_refusal}
+use Rattle.seg_model.specs.TextDocuments.{is_taken}
+use Rattle.seg_model.specs.DocumentCheck.{positions_fall, unless, json_refusal, tree_refusal, leaves_refusal, value_texts, is_rising, is_u32, count_of, kind_fits, positions_refusal, field_fits, order_refusal}
 use Rattle.seg_model.specs.Fields.{Schema, Analyzer, is_text, is_json, is_indexed, indexing_tokenizer, values_of}
 use Rattle.seg_model.specs.Occurrences.{Occurrence, at_zero, counted, reach, start_after, start_after_all, value_tokens, leaf_text, texts_at, value_terms, text_occurrences, json_occurrences, kind_occurrences, occurrences_at, occurrences}
 use Rattle.seg_model.specs.Shape.{path_part}
 use Rattle.seg_model.specs.Leaves.{PlacedLeaf, joined_path, leaves, leaves_of}
-use Rattle.seg_model.specs.Reading.{Recorded, Posting, term_option, type_code, positions_of, if_occurs, recorded_in, postings_from, postings_of, if_any, terms_of, field_terms}
-use Rattle.seg_common.specs.Tables.{entry_of}
+use Rattle.seg_model.specs.DocumentTerms.{Recorded, Posting, term_option, type_code, positions_of, if_occurs, recorded_in, postings_from, postings_of, if_any, terms_of, field_terms}
+use Rattle.seg_common.specs.TabulatedMaps.{entry_of}
 use Rattle.seg_common.proofs.Bytes.{same_term}
-use Rattle.seg_postings.specs.Kinds.{kind_of}
+use Rattle.seg_postings.specs.RecordKinds.{kind_of}
 use Rattle.seg_postings.specs.declared.record_kind.RecordKind.{RecordKind}
-use Rattle.seg_postings.specs.Written.{Rise, IsOfKind, AreWritable}
-use Rattle.seg_terms.specs.Entries.{TermEntries}
+use Rattle.seg_postings.specs.WritablePostings.{Rise, IsOfKind, AreWritable}
+use Rattle.seg_terms.specs.TermEntries.{TermEntries}
 use Rattle.seg_build.specs.FieldTerms.{FieldTerms, asked_by, kind_in}
-use Rattle.seg_build.specs.Writable.{CanBeWritten, TakenTermsCanBeWritten}
+use Rattle.seg_build.specs.WritableTerms.{CanBeWritten, TakenTermsCanBeWritten}
 use Rattle.seg_check.proofs.Exports.{for_one_field, rises, rises_first}
 use Rattle.seg_model.proofs.Exports.{or_both, unless_true}
-use Rattle.seg_build.proofs.Contents.{length_texts, short_texts, start_after_all-ge}
+use Rattle.seg_build.proofs.FieldContents.{length_texts, short_texts, start_after_all-ge}
 use Rattle.seg_build.proofs.IndexedParts.{values-own, values-other}
 use Rattle.seg_build.proofs.JsonLimits.{low_at}
 use Rattle.seg_build.proofs.JsonPositions.{in_texts, in_leaves}
 use Rattle.seg_build.proofs.PlainPaths.{plain_leaves_of, value_part}
 use Rattle.seg_build.proofs.RecordedTerms.{no_terms_of}
-use Rattle.seg_build.proofs.Taken.{HasPassed, passed, values_fit}
-use Rattle.seg_build.proofs.Leaves.{reach-ge}
+use Rattle.seg_build.proofs.TakenDocuments.{HasPassed, passed, values_fit}
+use Rattle.seg_build.proofs.ModelLeaves.{reach-ge}
 
 -- ---- positions that rise
 

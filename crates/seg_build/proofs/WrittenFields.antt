@@ -8,19 +8,19 @@ use Rattle.std.proofs.lemmas.List.{length-map}
 use Rattle.std.proofs.lemmas.Option.{same_Some, slice_get_within, slice_get-map}
 use Rattle.seg_values.specs.declared.schema.FieldEntry.{FieldEntry}
 use Rattle.seg_model.specs.Fields.{Schema, is_indexed}
-use Rattle.seg_model.specs.Reading.{Terms, term_option}
-use Rattle.seg_directory.specs.Composite.{composite, field_of}
+use Rattle.seg_model.specs.DocumentTerms.{Terms, term_option}
+use Rattle.seg_directory.specs.CompositeFiles.{composite, field_of}
 use Rattle.seg_postings.specs.declared.asked_kind.AskedKind.{AskedKind}
-use Rattle.seg_postings.specs.FieldWriting.{TermWritten}
-use Rattle.seg_postings.specs.Files.{FieldFiles}
-use Rattle.seg_postings.specs.Kinds.{kind_of}
-use Rattle.seg_segment.specs.FieldsWritten.{HaveFields}
+use Rattle.seg_postings.specs.FieldSerializers.{TermWritten}
+use Rattle.seg_postings.specs.FieldFiles.{FieldFiles}
+use Rattle.seg_postings.specs.RecordKinds.{kind_of}
+use Rattle.seg_segment.specs.WrittenFields.{HaveFields}
 use Rattle.seg_segment.proofs.Exports.{AreTermsOf, hold_terms}
-use Rattle.seg_terms.specs.Entries.{TermEntries}
+use Rattle.seg_terms.specs.TermEntries.{TermEntries}
 use Rattle.seg_build.specs.FieldTerms.{FieldTerms, asked_by, kind_in}
-use Rattle.seg_build.specs.Filling.{AreFieldsOf, HoldFields}
-use Rattle.seg_build.specs.TermsWritten.{written, all_written, written_total}
-use Rattle.seg_build.specs.Totals.{TotalsAreCounts}
+use Rattle.seg_build.specs.SerializerContents.{AreFieldsOf, HoldFields}
+use Rattle.seg_build.specs.WrittenTerms.{written, all_written, written_total}
+use Rattle.seg_build.specs.PostingsTotals.{TotalsAreCounts}
 
 abbrev pub total_in : List FieldTerms → ℕ → ℕ
 total_in fields field = written_total (slice_get fields field)

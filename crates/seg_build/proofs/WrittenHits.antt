@@ -2,20 +2,20 @@
 use Rattle.std.proofs.Common.{◌≡◌, ◌≢◌, ℕ, ◌+◌, ◌≤◌, List, [], ◌∷◌, ◌++◌, map, length, take, drop, Option, sym, refl, ap, ◌∙◌, subst, arith}
 use Rattle.std.specs.Prelude.{slice_index, IsSomeAnd}
 use Rattle.std.proofs.lemmas.List.{length-map}
-use Rattle.seg_common.specs.Growing.{HasGrown}
-use Rattle.seg_model.specs.Reading.{Recorded, Posting}
+use Rattle.seg_common.specs.WriterGrowth.{HasGrown}
+use Rattle.seg_model.specs.DocumentTerms.{Recorded, Posting}
 use Rattle.seg_postings.specs.declared.record_kind.RecordKind.{RecordKind}
 use Rattle.seg_postings.specs.declared.record_kind.RecordKind.TheVariants.{Documents, Counts, Positions}
-use Rattle.seg_postings.specs.FieldWriting.{FieldWriting}
-use Rattle.seg_postings.specs.PostingsReading.{kind_kept, count_of, places_of}
-use Rattle.seg_postings.specs.Written.{Rise, IsOfKind, AreWritable}
-use Rattle.seg_segment.specs.WritingTerms.{AscendBy, AreOfTerm, MayTake, with_more}
+use Rattle.seg_postings.specs.FieldSerializers.{FieldWriting}
+use Rattle.seg_postings.specs.OpenPostings.{kind_kept, count_of, places_of}
+use Rattle.seg_postings.specs.WritablePostings.{Rise, IsOfKind, AreWritable}
+use Rattle.seg_segment.specs.WrittenTerms.{AscendBy, AreOfTerm, MayTake, with_more}
 use Rattle.seg_segment.proofs.Exports.{AreGiven, IsRecorded, given_more, may_take}
 use Rattle.seg_terms.specs.declared.hit.Hit.{Hit}
 use Rattle.seg_build.specs.FieldTerms.{postings_as}
-use Rattle.seg_terms.specs.Grouped.{grouped}
-use Rattle.seg_terms.specs.Runs.{IsFirstRun}
-use Rattle.seg_build.specs.TermsWritten.{kept_hits}
+use Rattle.seg_terms.specs.PostingGroups.{grouped}
+use Rattle.seg_terms.specs.OccurrenceRuns.{IsFirstRun}
+use Rattle.seg_build.specs.WrittenTerms.{kept_hits}
 
 -- ---- what can be written
 

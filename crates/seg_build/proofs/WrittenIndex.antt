@@ -3,7 +3,7 @@ use Rattle.std.proofs.Common.{◌≡◌, ◌∙◌, ℕ, List, Option, None, Som
 use Rattle.std.specs.Prelude.{IfOk, OnOk}
 use Rattle.std.specs.FinMap.{get, get-insert}
 use Rattle.std.specs.Option.{option_and_then}
-use Rattle.seg_common.specs.Names.{name_cmp_total}
+use Rattle.seg_common.specs.FileNameKeys.{name_cmp_total}
 use Rattle.seg_common.specs.declared.name.FileName.TheVariants.{Meta, Part}
 use Rattle.seg_common.specs.declared.name.SegmentComponent.{SegmentComponent}
 use Rattle.seg_values.specs.Tree.{Document}
@@ -11,19 +11,19 @@ use Rattle.seg_values.specs.declared.error.TantivyError.{TantivyError}
 use Rattle.seg_values.specs.declared.error.TantivyError.TheVariants.{SystemError}
 use Rattle.seg_directory.proofs.Exports.{all_went, stops, then_does}
 use Rattle.seg_directory.specs.Files.{NamedFiles}
-use Rattle.seg_directory.specs.State.{DirectoryState}
-use Rattle.seg_directory.specs.Works.{Works}
+use Rattle.seg_directory.specs.DirectoryStates.{DirectoryState}
+use Rattle.seg_directory.specs.DirectorySteps.{Works}
 use Rattle.seg_meta.specs.IndexOfFiles as index
-use Rattle.seg_meta.specs.MetaRead.{meta_read}
+use Rattle.seg_meta.specs.ParsedMeta.{meta_read}
 use Rattle.seg_meta.specs.MetaText.{meta_text}
 use Rattle.seg_model.specs.Fields.{Schema, Analyzer}
 use Rattle.seg_model.specs.Input.{Settings}
 use Rattle.seg_segment.proofs.Exports.{held_on, keeps_untouched}
-use Rattle.seg_segment.specs.Forms.{segment_forms}
+use Rattle.seg_segment.specs.IndexForms.{segment_forms}
 use Rattle.seg_segment.specs.SegmentFiles.{KeepsAllBut, write_steps}
-use Rattle.seg_build.specs.Finishing.{Finishes, FinishesKept as FinishesSegment, fails, makes}
-use Rattle.seg_build.specs.Kept.{Kept}
-use Rattle.seg_build.specs.IndexWriting.{FinishesIndex, FinishesKept, fails as fails_index, index_files, makes as makes_index, one_segment_meta, publish_steps}
+use Rattle.seg_build.specs.FinishedFiles.{Finishes, FinishesKept as FinishesSegment, fails, makes}
+use Rattle.seg_build.specs.WriterContents.{Kept}
+use Rattle.seg_build.specs.IndexWriters.{FinishesIndex, FinishesKept, fails as fails_index, index_files, makes as makes_index, one_segment_meta, publish_steps}
 
 -- ---- the meta is saved
 

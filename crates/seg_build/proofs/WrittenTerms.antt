@@ -9,17 +9,17 @@ use Rattle.std.specs.Ordering.{nat_cmp, is_lt}
 use Rattle.std.specs.Cmp.Lexicographic.{slice_cmp}
 use Rattle.std.proofs.lemmas.Bool.{false≢true, and_parts}
 use Rattle.std.proofs.lemmas.Option.{same_Some}
-use Rattle.seg_common.specs.Growing.{HasGrown}
-use Rattle.seg_model.specs.Reading.{Posting}
+use Rattle.seg_common.specs.WriterGrowth.{HasGrown}
+use Rattle.seg_model.specs.DocumentTerms.{Posting}
 use Rattle.seg_postings.specs.declared.asked_kind.AskedKind.{AskedKind}
 use Rattle.seg_postings.specs.declared.record_kind.RecordKind.{RecordKind}
-use Rattle.seg_postings.specs.FieldWriting.{TermWritten, FieldWriting, with_open, last_written, MayOpen}
-use Rattle.seg_postings.specs.Written.{AreWritable}
-use Rattle.seg_terms.specs.Entries.{TermEntries}
+use Rattle.seg_postings.specs.FieldSerializers.{TermWritten, FieldWriting, with_open, last_written, MayOpen}
+use Rattle.seg_postings.specs.WritablePostings.{AreWritable}
+use Rattle.seg_terms.specs.TermEntries.{TermEntries}
 use Rattle.seg_build.specs.FieldTerms.{FieldTerms, kind_in}
-use Rattle.seg_segment.specs.WritingTerms.{term_with, with_terms, with_whole_term}
-use Rattle.seg_build.specs.TermsWritten.{written}
-use Rattle.seg_build.specs.Writable.{CanBeWritten}
+use Rattle.seg_segment.specs.WrittenTerms.{term_with, with_terms, with_whole_term}
+use Rattle.seg_build.specs.WrittenTerms.{written}
+use Rattle.seg_build.specs.WritableTerms.{CanBeWritten}
 use Rattle.seg_common.proofs.Numbers.{is_less}
 use Rattle.seg_build.proofs.WrittenHits.{first_keeps}
 

@@ -7,12 +7,12 @@ use Rattle.seg_values.specs.declared.schema.IndexOption.TheVariants as options
 use Rattle.seg_values.specs.Tree.{Document}
 use Rattle.seg_model.specs.Fields.{Schema, Analyzer, fields}
 use Rattle.seg_model.specs.Occurrences.{occurrences}
-use Rattle.seg_model.specs.Reading.{Recorded, presence, frequency, positions, Posting, Terms, terms_of, field_terms}
-use Rattle.seg_postings.specs.FieldReading.{asked_kind}
+use Rattle.seg_model.specs.DocumentTerms.{Recorded, presence, frequency, positions, Posting, Terms, terms_of, field_terms}
+use Rattle.seg_postings.specs.OpenedFields.{asked_kind}
 use Rattle.seg_postings.specs.declared.asked_kind.AskedKind.{AskedKind}
 use Rattle.seg_postings.specs.declared.record_kind.RecordKind.{RecordKind}
 use Rattle.seg_postings.specs.declared.record_kind.RecordKind.TheVariants.{Documents, Counts, Positions}
-use Rattle.seg_terms.specs.Entries.{TermEntries}
+use Rattle.seg_terms.specs.TermEntries.{TermEntries}
 
 -- the terms of a field in byte order, and what says what their postings keep
 pub record FieldTerms : Type 0 where

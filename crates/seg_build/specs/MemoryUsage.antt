@@ -4,11 +4,11 @@ use Rattle.seg_values.specs.Tree.{Document}
 use Rattle.seg_model.specs.Columns.{fast_values}
 use Rattle.seg_model.specs.Fields.{Schema, Analyzer, fields, has_lengths}
 use Rattle.seg_model.specs.Occurrences.{occurrences}
-use Rattle.seg_values.specs.StoredForm.{stored_form}
+use Rattle.seg_values.specs.StoredBytes.{stored_form}
 use Rattle.seg_check.specs.IndexedValues.{IndexedContent}
-pub use Rattle.seg_fastfield.specs.Usage.{total, saturated}
-use Rattle.seg_store.specs.Writing.{byte_count}
-use Rattle.seg_build.specs.Field.{count_in}
+pub use Rattle.seg_fastfield.specs.MemoryUsage.{total, saturated}
+use Rattle.seg_store.specs.WriterBlocks.{byte_count}
+use Rattle.seg_build.specs.AddedValues.{count_in}
 
 -- how often terms occur in a document, in all its fields
 abbrev pub occurrence_count : Schema → Analyzer → Document → ℕ

@@ -6,7 +6,7 @@ use Rattle.std.specs.FinMap as fin
 use Rattle.std.specs.List.{slice_index_or}
 use Rattle.std.specs.Ordering.{nat_cmp}
 use Rattle.std.specs.Cmp.Lexicographic.{slice_cmp}
-use Rattle.seg_common.specs.Tables.{tabulated}
+use Rattle.seg_common.specs.TabulatedMaps.{tabulated}
 use Rattle.seg_model.specs.Codes.{bytes_code}
 use Rattle.seg_paths.specs.Paths.{number_of}
 use Rattle.seg_build.specs.declared.path_start.PathStart.{PathStart}

@@ -3,13 +3,13 @@ use Rattle.std.specs.Prelude.{◌≡◌, ℕ, List, map, true, Some}
 use Rattle.std.specs.List.{list_all, AllByRecursion}
 use Rattle.std.specs.Option.{option_map}
 use Rattle.seg_values.specs.Tree.{Document}
-use Rattle.seg_values.specs.Utf8.{IsUtf8Document}
-use Rattle.seg_model.specs.Built.{is_taken}
+use Rattle.seg_values.specs.Utf8Values.{IsUtf8Document}
+use Rattle.seg_model.specs.TextDocuments.{is_taken}
 use Rattle.seg_model.specs.Fields.{Schema, Analyzer}
-use Rattle.seg_model.specs.Reading.{stored_document}
+use Rattle.seg_model.specs.DocumentTerms.{stored_document}
 use Rattle.seg_store.specs.Store.{store_of, documents_of}
 use Rattle.seg_build.specs.declared.fields.IndexedBatch.{IndexedBatch}
-use Rattle.seg_build.specs.Batch.{IsBatchOf}
+use Rattle.seg_build.specs.BatchContents.{IsBatchOf}
 
 -- a batch is of these documents, and so are the bytes of a store
 pub record IsStoredBatch (schema : Schema) (analyzer : Analyzer) (documents : List Document) (batch : IndexedBatch)

@@ -1,11 +1,11 @@
 -- The blocks of a store that documents make, one after the other.
 use Rattle.std.specs.Prelude.{◌≡◌, ℕ, List, [], map, Some}
 use Rattle.std.specs.List.{fold}
-use Rattle.seg_values.specs.StoredForm.{stored_form}
+use Rattle.seg_values.specs.StoredBytes.{stored_form}
 use Rattle.seg_values.specs.Tree.{Document}
 use Rattle.seg_model.specs.Fields.{Schema}
 use Rattle.seg_store.specs.Store.{store_of}
-use Rattle.seg_store.specs.Writing.{Taken, with_document, all_blocks}
+use Rattle.seg_store.specs.WriterBlocks.{Taken, with_document, all_blocks}
 
 -- the bytes of these documents in order, in blocks that are closed once they have `size` bytes
 abbrev pub stored_with : ℕ → List (List ℕ) → Taken

@@ -2,9 +2,9 @@
 use Rattle.std.specs.Prelude.{ℕ, List}
 use Rattle.std.specs.List.{sum_by}
 use Rattle.std.specs.Map.{values_of}
-use Rattle.seg_model.specs.Reading.{Posting}
-pub use Rattle.seg_postings.specs.PostingsReading.{count_of as recorded_count}
-use Rattle.seg_terms.specs.Entries.{TermEntries}
+use Rattle.seg_model.specs.DocumentTerms.{Posting}
+pub use Rattle.seg_postings.specs.OpenPostings.{count_of as recorded_count}
+use Rattle.seg_terms.specs.TermEntries.{TermEntries}
 
 -- the sum of the counts of all documents of a term
 abbrev pub count_total : List Posting → ℕ

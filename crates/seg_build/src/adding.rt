@@ -2,10 +2,10 @@
 ghost use Rattle.std.specs.Prelude.{◌≡◌, [], ◌∷◌, map, IfOk, IsSomeAnd, OnOk};
 ghost use Rattle.std.specs.List.{slice_get, AllByRecursion};
 ghost use Rattle.seg_check.specs.IndexedValues.{HasPlainKeys, IsPlainIn, content_by, value_in};
-ghost use Rattle.seg_values.specs.View.{tree_of};
-ghost use Rattle.seg_build.specs.Field.{Fits, added, count_in};
+ghost use Rattle.seg_values.specs.ValueTrees.{tree_of};
+ghost use Rattle.seg_build.specs.AddedValues.{Fits, added, count_in};
 ghost use Rattle.seg_build.specs.MemoryUsage.{saturated, value_count};
-ghost use Rattle.seg_build.specs.Steps.{AllFit, with_values};
+ghost use Rattle.seg_build.specs.FieldsByValue.{AllFit, with_values};
 
 use crate::field::FieldPostings;
 use seg_check::{IndexedValue, ValueForm, given_tokens};

@@ -2,7 +2,7 @@
 ghost use Rattle.std.specs.Prelude.{◌≡◌};
 ghost use Rattle.seg_model.specs.Occurrences.{coded_value};
 ghost use Rattle.seg_paths.specs.NumberedLeaves.{leaf_in};
-ghost use Rattle.seg_values.specs.View.{tree_of};
+ghost use Rattle.seg_values.specs.ValueTrees.{tree_of};
 ghost use Rattle.seg_build.specs.CodedLeaves.{codes_of};
 
 use seg_values::{LeafCode, OwnedValue};

@@ -4,14 +4,14 @@ ghost use Rattle.std.specs.FinMap as fin;
 ghost use Rattle.seg_check.specs.IndexedValues as content;
 ghost use Rattle.seg_check.specs.LeafContents.{with_texts};
 ghost use Rattle.seg_check.specs.Paths.{at_path};
-ghost use Rattle.seg_model.specs.Checked.{tree_refusal};
+ghost use Rattle.seg_model.specs.DocumentCheck.{tree_refusal};
 ghost use Rattle.seg_model.specs.Leaves as model;
 ghost use Rattle.seg_model.specs.Occurrences.{value_terms};
-ghost use Rattle.seg_values.specs.View.{tree_of};
-ghost use Rattle.seg_build.specs.Field.{Fits, start_of, length_of, count_in, added};
-ghost use Rattle.seg_build.specs.Gathered.{gathered};
+ghost use Rattle.seg_values.specs.ValueTrees.{tree_of};
+ghost use Rattle.seg_build.specs.AddedValues.{Fits, start_of, length_of, count_in, added};
+ghost use Rattle.seg_build.specs.GatheredFieldTerms.{gathered};
 ghost use Rattle.seg_build.specs.MemoryUsage.{saturated};
-ghost use Rattle.seg_build.specs.Steps.{fresh};
+ghost use Rattle.seg_build.specs.FieldsByValue.{fresh};
 
 use crate::gathered_terms::GatheredTerms;
 use crate::json_terms::JsonTerms;
@@ -36,8 +36,8 @@ pub(crate) struct FieldPostings {
 }
 
 impl Model for FieldPostings {
-    ghost use Rattle.seg_build.specs.FieldSoFar.{FieldSoFar, field_code};
-    ghost use Rattle.seg_build.specs.Gathered.{gathered};
+    ghost use Rattle.seg_build.specs.FieldState.{FieldSoFar, field_code};
+    ghost use Rattle.seg_build.specs.GatheredFieldTerms.{gathered};
 
     ghost Value = { FieldSoFar };
 

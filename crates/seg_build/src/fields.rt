@@ -3,8 +3,8 @@ ghost use Rattle.std.specs.Prelude.{◌≡◌, ◌<◌, Some, map, length, IfOk}
 ghost use Rattle.std.specs.FinMap.{entries};
 ghost use Rattle.std.specs.List.{slice_get, AllByRecursion};
 ghost use Rattle.seg_build.specs.FieldTerms.{recorded_fields};
-ghost use Rattle.seg_build.specs.Steps.{fresh};
-ghost use Rattle.seg_build.specs.Writable.{CanBeWritten};
+ghost use Rattle.seg_build.specs.FieldsByValue.{fresh};
+ghost use Rattle.seg_build.specs.WritableTerms.{CanBeWritten};
 
 use crate::field::FieldPostings;
 use crate::sorted::{SortedTerms, sort_terms};
@@ -23,7 +23,7 @@ pub struct IndexedFields {
 impl Model for IndexedFields {
     ghost use Rattle.std.specs.Prelude.{List};
     ghost use Rattle.std.specs.Coded.{codes};
-    ghost use Rattle.seg_terms.specs.Entries.{entries_code};
+    ghost use Rattle.seg_terms.specs.TermEntries.{entries_code};
     ghost use Rattle.seg_build.specs.FieldTerms.{FieldTerms};
 
     ghost Value = { List FieldTerms };
@@ -33,7 +33,7 @@ impl Model for IndexedFields {
     ghost view = { λ a. a.fields.items };
 
     ghost use Rattle.std.specs.List.{AllByRecursion};
-    ghost use Rattle.seg_build.specs.Writable.{CanBeWritten};
+    ghost use Rattle.seg_build.specs.WritableTerms.{CanBeWritten};
 
     ghost invariant = { λ a. AllByRecursion CanBeWritten a.fields.items };
 }

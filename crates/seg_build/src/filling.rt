@@ -1,6 +1,6 @@
 //! What the components of a segment are to hold, from the documents that were indexed.
 ghost use Rattle.std.specs.Prelude.{◌≡◌, length, IfOk};
-ghost use Rattle.seg_build.specs.Filling.{IsFilled};
+ghost use Rattle.seg_build.specs.SerializerContents.{IsFilled};
 
 use crate::fields::IndexedBatch;
 use crate::norms_file::norms_file;

@@ -1,10 +1,10 @@
 //! A segment from what its writer has.
 ghost use Rattle.std.specs.Prelude.{◌≡◌, map, option_map, IfOk, IfErr};
-ghost use Rattle.seg_common.specs.Growing.{HasGrown};
+ghost use Rattle.seg_common.specs.WriterGrowth.{HasGrown};
 ghost use Rattle.seg_model.specs.Fields.{Analyzer};
 ghost use Rattle.seg_norms.specs.FieldNorms as field_norms;
-ghost use Rattle.seg_build.specs.Finishing.{Fails, Finishes, IsMadeOfKept};
-ghost use Rattle.seg_build.specs.SegmentWriting.{kept_of, IsUnderWay};
+ghost use Rattle.seg_build.specs.FinishedFiles.{Fails, Finishes, IsMadeOfKept};
+ghost use Rattle.seg_build.specs.SegmentWriters.{kept_of, IsUnderWay};
 
 use crate::add_operation::Opstamp;
 use crate::fields::{IndexedBatch, IndexedFields};

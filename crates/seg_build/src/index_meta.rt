@@ -1,11 +1,11 @@
 //! The meta of an index of one segment.
 ghost use Rattle.std.specs.Prelude.{◌≡◌, ◌<◌, ◌^◌, IfOk, Some};
-ghost use Rattle.seg_directory.specs.Works.{Works};
-ghost use Rattle.seg_meta.specs.MetaRead.{meta_read};
+ghost use Rattle.seg_directory.specs.DirectorySteps.{Works};
+ghost use Rattle.seg_meta.specs.ParsedMeta.{meta_read};
 ghost use Rattle.seg_meta.specs.MetaText.{meta_text};
-ghost use Rattle.seg_meta.specs.Saving.{IsMetaList};
-ghost use Rattle.seg_meta.specs.View.{meta_of, settings_of};
-ghost use Rattle.seg_build.specs.IndexWriting.{one_segment_meta, publish_steps};
+ghost use Rattle.seg_meta.specs.SavableMetas.{IsMetaList};
+ghost use Rattle.seg_meta.specs.MetaMeaning.{meta_of, settings_of};
+ghost use Rattle.seg_build.specs.IndexWriters.{one_segment_meta, publish_steps};
 
 use seg_common::SegmentId;
 use seg_directory::{Directory, sync_files};

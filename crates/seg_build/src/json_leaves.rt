@@ -3,14 +3,14 @@ ghost use Rattle.std.specs.Prelude.{◌≡◌, None, Some, [], ◌∷◌, map, s
 ghost use Rattle.std.specs.List.{AllByRecursion};
 ghost use Rattle.seg_check.specs.LeafContents as contents;
 ghost use Rattle.seg_check.specs.Paths.{IsNumbered, at_path, path_leaf};
-ghost use Rattle.seg_model.specs.Checked.{tree_refusal};
+ghost use Rattle.seg_model.specs.DocumentCheck.{tree_refusal};
 ghost use Rattle.seg_model.specs.Leaves.{leaves};
 ghost use Rattle.seg_model.specs.Occurrences.{coded_value};
 ghost use Rattle.seg_paths.specs.NumberedLeaves.{leaf_in};
 ghost use Rattle.seg_paths.specs.Paths.{number_of};
-ghost use Rattle.seg_values.specs.View.{tree_of};
-ghost use Rattle.seg_build.specs.Gathered.{AddsLeaf, json_gathered, with_leaves};
-ghost use Rattle.seg_build.specs.LeafSteps.{LeafFits, LeavesFit, leaf_count, leaves_count};
+ghost use Rattle.seg_values.specs.ValueTrees.{tree_of};
+ghost use Rattle.seg_build.specs.GatheredFieldTerms.{AddsLeaf, json_gathered, with_leaves};
+ghost use Rattle.seg_build.specs.LeafPositions.{LeafFits, LeavesFit, leaf_count, leaves_count};
 ghost use Rattle.seg_build.specs.MemoryUsage.{saturated};
 ghost use Rattle.seg_build.specs.PathStarts.{path_start};
 

@@ -1,7 +1,7 @@
 //! The lengths of the fields of one document.
 ghost use Rattle.std.specs.Prelude.{◌≡◌, map, option_map, option_and_then, OnOk};
 ghost use Rattle.std.specs.List.{slice_get};
-ghost use Rattle.seg_build.specs.Lengths.{lacks_length, with_length_of, with_lengths};
+ghost use Rattle.seg_build.specs.DocumentLengths.{lacks_length, with_length_of, with_lengths};
 
 use crate::field::FieldPostings;
 use seg_check::IndexedValue;

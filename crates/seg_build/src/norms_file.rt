@@ -1,6 +1,6 @@
 //! The file of field norms.
 ghost use Rattle.std.specs.Prelude.{IfOk};
-ghost use Rattle.seg_build.specs.Filling.{HoldsNorms};
+ghost use Rattle.seg_build.specs.SerializerContents.{HoldsNorms};
 
 use crate::fields::IndexedBatch;
 use seg_norms::FieldNormsSerializer;

@@ -3,8 +3,8 @@ ghost use Rattle.std.specs.Prelude.{◌≡◌, ◌<◌, length, Some, IfOk, OnOk
 ghost use Rattle.std.specs.FinMap.{entries};
 ghost use Rattle.std.specs.List.{slice_get};
 ghost use Rattle.std.specs.Map.{keys_of, values_of};
-ghost use Rattle.seg_terms.specs.Grouped.{grouped};
-ghost use Rattle.seg_build.specs.Gathered.{gathered};
+ghost use Rattle.seg_terms.specs.PostingGroups.{grouped};
+ghost use Rattle.seg_build.specs.GatheredFieldTerms.{gathered};
 ghost use Rattle.seg_build.specs.OrderedFields.{ordered_terms};
 
 use crate::gathered_terms::GatheredTerms;

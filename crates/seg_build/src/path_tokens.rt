@@ -1,7 +1,7 @@
 //! Terms at a joined path, by its number.
 ghost use Rattle.std.specs.Prelude.{◌≡◌, ◌<◌, ◌^◌, [], ◌∷◌, ◌++◌, length, slice_index_or, OnOk};
 ghost use Rattle.seg_model.specs.Occurrences.{placed_from, start_after};
-ghost use Rattle.seg_terms.specs.Adding.{with_occurrence, with_occurrences};
+ghost use Rattle.seg_terms.specs.AddedOccurrences.{with_occurrence, with_occurrences};
 
 use seg_terms::{Hit, PathTerms};
 use seg_tokens::{MAX_TOKEN_LEN, Token};

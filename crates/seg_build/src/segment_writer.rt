@@ -7,13 +7,13 @@ ghost use Rattle.seg_model.specs.Columns.{columns};
 ghost use Rattle.seg_model.specs.Fields.{Analyzer};
 ghost use Rattle.seg_meta.specs.IndexOfFiles as index;
 ghost use Rattle.seg_build.specs.FieldTerms.{fields_of};
-ghost use Rattle.seg_build.specs.Finishing.{Finalizes};
-ghost use Rattle.seg_segment.specs.Forms.{segment_forms};
+ghost use Rattle.seg_build.specs.FinishedFiles.{Finalizes};
+ghost use Rattle.seg_segment.specs.IndexForms.{segment_forms};
 ghost use Rattle.seg_build.specs.MemoryUsage.{memory_usage, saturated};
 ghost use Rattle.seg_segment.specs.SegmentFiles.{IsOtherName};
-ghost use Rattle.seg_segment.specs.Standing.{StandFor};
+ghost use Rattle.seg_segment.specs.DocumentsOfFiles.{StandFor};
 ghost use Rattle.seg_build.specs.StoredBlocks.{HasBlocks};
-ghost use Rattle.seg_build.specs.Totals.{TotalsAreCounts};
+ghost use Rattle.seg_build.specs.PostingsTotals.{TotalsAreCounts};
 ghost use Rattle.seg_check.specs.WriterStart.{IsStartError, start_refusal};
 
 use crate::add_operation::{AddOperation, Opstamp};
@@ -46,11 +46,11 @@ impl<'a, Z: Analyzers> Model for SegmentWriter<'a, Z> {
     ghost use Rattle.std.specs.Prelude.{◌≡◌, true, option_map, IfSome, IsTrue};
     ghost use Rattle.std.specs.List.{AllByRecursion};
     ghost use Rattle.seg_model.specs.Fields.{indexing_tokenizer};
-    ghost use Rattle.seg_model.specs.Valid.{names_fit};
+    ghost use Rattle.seg_model.specs.ValidInputs.{names_fit};
     ghost use Rattle.seg_column_format.specs.FastTokenizers.{AreKnown};
     ghost use Rattle.std.specs.Coded.{codes};
-    ghost use Rattle.seg_build.specs.FieldSoFar.{field_code};
-    ghost use Rattle.seg_build.specs.SegmentWriting.{SegmentWriting, kept_of, IsUnderWay};
+    ghost use Rattle.seg_build.specs.FieldState.{field_code};
+    ghost use Rattle.seg_build.specs.SegmentWriters.{SegmentWriting, kept_of, IsUnderWay};
 
     ghost Value = { Z × SegmentWriting };
 
@@ -73,7 +73,7 @@ impl<'a, Z: Analyzers> Model for SegmentWriter<'a, Z> {
 }
 
 impl<'a, Z: Analyzers> SegmentWriter<'a, Z> {
-    ghost use Rattle.seg_build.specs.SegmentWriting.{document_count, HasPlace, IsOfSame, Adds, AddsNone, Writes};
+    ghost use Rattle.seg_build.specs.SegmentWriters.{document_count, HasPlace, IsOfSame, Adds, AddsNone, Writes};
 
     /// A writer of no documents.
     pub fn for_segment(

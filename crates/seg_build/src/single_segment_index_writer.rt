@@ -3,16 +3,16 @@ ghost use Rattle.std.specs.Prelude.{◌≡◌, ◌⊎◌, [], List, ℕ, Some, N
 ghost use Rattle.std.specs.FinMap.{get};
 ghost use Rattle.seg_values.specs.Tree.{Document};
 ghost use Rattle.seg_meta.specs.IndexOfFiles as index_of_files;
-ghost use Rattle.seg_meta.specs.View.{meta_of, settings_of};
-ghost use Rattle.seg_segment.specs.Forms.{segment_forms};
+ghost use Rattle.seg_meta.specs.MetaMeaning.{meta_of, settings_of};
+ghost use Rattle.seg_segment.specs.IndexForms.{segment_forms};
 ghost use Rattle.seg_segment.specs.SegmentFiles.{KeepsAllBut};
 ghost use Rattle.seg_build.specs.FieldTerms.{fields_of};
 ghost use Rattle.seg_build.specs.MemoryUsage.{memory_usage, saturated};
-ghost use Rattle.seg_build.specs.SegmentWriting.{Adds, AddsNone, IsOfSame, Writes, document_count};
+ghost use Rattle.seg_build.specs.SegmentWriters.{Adds, AddsNone, IsOfSame, Writes, document_count};
 ghost use Rattle.seg_build.specs.StoredBlocks.{HasBlocks};
-ghost use Rattle.seg_build.specs.Totals.{TotalsAreCounts};
+ghost use Rattle.seg_build.specs.PostingsTotals.{TotalsAreCounts};
 ghost use Rattle.seg_check.specs.WriterStart.{IsStartError, start_refusal};
-ghost use Rattle.seg_build.specs.IndexWriting.{FinalizesIndex, index_files, one_segment_meta};
+ghost use Rattle.seg_build.specs.IndexWriters.{FinalizesIndex, index_files, one_segment_meta};
 
 use crate::SegmentWriter;
 use crate::index_meta::save_one_segment;
@@ -38,9 +38,9 @@ pub struct SingleSegmentIndexWriter<'a, Z: Analyzers, D = TantivyDocument> {
 impl<'a, Z: Analyzers, D> Model for SingleSegmentIndexWriter<'a, Z, D> {
     ghost use Rattle.std.specs.Prelude.{◌≡◌};
     ghost use Rattle.std.specs.Coded.{codes};
-    ghost use Rattle.seg_meta.specs.View.{settings_of};
-    ghost use Rattle.seg_build.specs.FieldSoFar.{field_code};
-    ghost use Rattle.seg_build.specs.IndexWriting.{IndexWriting, IsUnderWay};
+    ghost use Rattle.seg_meta.specs.MetaMeaning.{settings_of};
+    ghost use Rattle.seg_build.specs.FieldState.{field_code};
+    ghost use Rattle.seg_build.specs.IndexWriters.{IndexWriting, IsUnderWay};
 
     ghost Value = { Z × IndexWriting };
 

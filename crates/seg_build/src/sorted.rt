@@ -3,7 +3,7 @@ ghost use Rattle.std.specs.Prelude.{◌≡◌, ◌<◌, ◌-◌, ◌^◌, length
 ghost use Rattle.std.specs.FinMap.{entries};
 ghost use Rattle.std.specs.List.{slice_get};
 ghost use Rattle.std.specs.Map.{keys_of};
-ghost use Rattle.seg_terms.specs.Grouped.{grouped};
+ghost use Rattle.seg_terms.specs.PostingGroups.{grouped};
 ghost use Rattle.seg_build.specs.FieldTerms.{entries_as, kind_in, postings_as};
 ghost use Rattle.seg_build.specs.TokenTotal.{count_total, token_total};
 
@@ -23,7 +23,7 @@ pub struct SortedTerms {
 
 impl Model for SortedTerms {
     ghost use Rattle.std.specs.Coded.{codes};
-    ghost use Rattle.seg_terms.specs.Entries.{entries_code};
+    ghost use Rattle.seg_terms.specs.TermEntries.{entries_code};
     ghost use Rattle.seg_build.specs.FieldTerms.{FieldTerms, entries_as};
     ghost use Rattle.seg_build.specs.OrderedFields.{ordered_terms};
 

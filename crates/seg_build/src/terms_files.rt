@@ -1,6 +1,6 @@
 //! The terms of all indexed fields, in the files.
 ghost use Rattle.std.specs.Prelude.{◌≡◌, length, IfOk, IsSomeAnd};
-ghost use Rattle.seg_build.specs.Filling.{HoldFields};
+ghost use Rattle.seg_build.specs.SerializerContents.{HoldFields};
 
 use crate::fields::IndexedFields;
 use crate::writing::write_terms;
@@ -12,7 +12,7 @@ use std::alloc::{AllocError, Global};
 impl TermsByField for IndexedFields {
     ghost use Rattle.std.specs.Prelude.{◌≡◌, ◌<◌, length};
     ghost use Rattle.std.specs.List.{slice_get};
-    ghost use Rattle.seg_build.specs.TermsWritten.{all_written, written_total};
+    ghost use Rattle.seg_build.specs.WrittenTerms.{all_written, written_total};
 
     ghost total = { λ fields field. written_total (slice_get fields field) };
 

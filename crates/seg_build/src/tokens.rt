@@ -1,6 +1,6 @@
 //! The tokens of a text.
 ghost use Rattle.std.specs.Prelude.{◌≡◌, ◌<◌, ◌^◌, [], OnOk};
-ghost use Rattle.seg_terms.specs.Adding.{with_occurrences};
+ghost use Rattle.seg_terms.specs.AddedOccurrences.{with_occurrences};
 ghost use Rattle.seg_model.specs.Occurrences.{placed_from, start_after};
 
 use seg_check::text_width;

@@ -2,9 +2,9 @@
 ghost use Rattle.std.specs.Prelude.{◌≡◌, ◌<◌, ◌∷◌, [], map, length, IfOk, OnOk};
 ghost use Rattle.std.specs.Int.{w64, to_be_bytes};
 ghost use Rattle.seg_model.specs.Occurrences.{at_zero, facet_prefixes, value_terms};
-ghost use Rattle.seg_terms.specs.Adding.{with_occurrences};
-ghost use Rattle.seg_values.specs.View.{tree_of};
-ghost use Rattle.seg_build.specs.Prefixes.{prefix_at};
+ghost use Rattle.seg_terms.specs.AddedOccurrences.{with_occurrences};
+ghost use Rattle.seg_values.specs.ValueTrees.{tree_of};
+ghost use Rattle.seg_build.specs.FacetPrefixes.{prefix_at};
 
 use seg_common::{DateTimePrecision, MonotonicallyMappableToU64};
 use seg_terms::TermIndex;

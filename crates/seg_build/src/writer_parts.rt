@@ -1,7 +1,7 @@
 //! What a writer of a segment has of its documents.
 ghost use Rattle.std.specs.Prelude.{◌≡◌, [], true, IfOk};
 ghost use Rattle.seg_model.specs.Fields.{Analyzer};
-ghost use Rattle.seg_model.specs.Valid.{names_fit};
+ghost use Rattle.seg_model.specs.ValidInputs.{names_fit};
 
 use crate::add_operation::Opstamp;
 use crate::adding::add_values;
@@ -29,7 +29,7 @@ pub(crate) struct WriterParts {
 }
 
 impl WriterParts {
-    ghost use Rattle.seg_build.specs.SegmentWriting.{kept_of, IsKeptOf, HasRoom, HasTaken};
+    ghost use Rattle.seg_build.specs.SegmentWriters.{kept_of, IsKeptOf, HasRoom, HasTaken};
 
     /// Parts of no documents, where all tokenizers are known.
     pub fn new<Z: Analyzers>(

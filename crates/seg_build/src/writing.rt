@@ -1,14 +1,14 @@
 //! The terms of a field, written as it records them.
 ghost use Rattle.std.specs.Prelude.{◌≡◌, ◌++◌, [], ◌∷◌, Some, map, IsSomeAnd, OnOk};
-ghost use Rattle.seg_common.specs.Growing.{HasGrown};
-ghost use Rattle.seg_postings.specs.FieldWriting.{MayOpen};
-ghost use Rattle.seg_postings.specs.PostingsReading.{count_of, places_of};
-ghost use Rattle.seg_postings.specs.Written.{AreWritable, IsOfKind};
-ghost use Rattle.seg_segment.specs.WritingTerms.{IsUnwritten, MayTake, with_more, with_terms, with_whole_term};
+ghost use Rattle.seg_common.specs.WriterGrowth.{HasGrown};
+ghost use Rattle.seg_postings.specs.FieldSerializers.{MayOpen};
+ghost use Rattle.seg_postings.specs.OpenPostings.{count_of, places_of};
+ghost use Rattle.seg_postings.specs.WritablePostings.{AreWritable, IsOfKind};
+ghost use Rattle.seg_segment.specs.WrittenTerms.{IsUnwritten, MayTake, with_more, with_terms, with_whole_term};
 ghost use Rattle.seg_build.specs.FieldTerms.{postings_as};
-ghost use Rattle.seg_terms.specs.Grouped.{grouped};
-ghost use Rattle.seg_build.specs.TermsWritten.{all_written, kept_hits};
-ghost use Rattle.seg_build.specs.Writable.{CanBeWritten};
+ghost use Rattle.seg_terms.specs.PostingGroups.{grouped};
+ghost use Rattle.seg_build.specs.WrittenTerms.{all_written, kept_hits};
+ghost use Rattle.seg_build.specs.WritableTerms.{CanBeWritten};
 
 use crate::sorted::SortedTerms;
 use seg_postings::RecordKind;

@@ -4,14 +4,14 @@ use Rattle.seg_values.specs.Tree.{Leaf, text, Tree}
 use Rattle.seg_values.specs.declared.schema.FieldKind.{FieldKind}
 use Rattle.seg_values.specs.declared.schema.FieldKind.TheVariants.{Text, U64, I64, Bool as Boolean, Date, Facet, Bytes, IpAddr, Json}
 use Rattle.seg_tokens.specs.declared.token.Token.{Token}
-use Rattle.seg_model.specs.Checked.{value_texts}
+use Rattle.seg_model.specs.DocumentCheck.{value_texts}
 use Rattle.seg_model.specs.Leaves as model
 use Rattle.seg_model.specs.Occurrences.{leaf_text, value_tokens}
 use Rattle.seg_check.specs.IndexedValues.{tokens, leaves, content_from, kind_content}
 use Rattle.seg_check.specs.LeafContents.{leaf_content, leaf_with, texts_behind, with_texts}
 use Rattle.seg_check.specs.Paths.{at_path, texts_of}
-use Rattle.seg_check.specs.Texts.{cut_or_given}
-use Rattle.seg_check.proofs.ValuesCome.{texts-walked}
+use Rattle.seg_check.specs.TextTokens.{cut_or_given}
+use Rattle.seg_check.proofs.FieldValues.{texts-walked}
 
 module _ (analyze : List ℕ → List Token) where
   first_cut : (l : Leaf) (rest : List (List Token)) → leaf_with (map analyze (leaf_text l) ++ rest) l ≡ leaf_content analyze l

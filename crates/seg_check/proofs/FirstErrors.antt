@@ -5,12 +5,12 @@ use Rattle.std.specs.Option.{option_or}
 use Rattle.seg_values.specs.declared.error.ArgumentCause.TheVariants as argument
 use Rattle.seg_values.specs.declared.error.TantivyError.{TantivyError}
 use Rattle.seg_values.specs.declared.error.TantivyError.TheVariants.{InvalidArgument, OutOfMemory}
-use Rattle.seg_model.specs.Checked.{unless}
+use Rattle.seg_model.specs.DocumentCheck.{unless}
 use Rattle.seg_model.specs.Fields.{Analyzer}
 use Rattle.seg_model.specs.Input.{Input, input_batches}
-use Rattle.seg_model.specs.Valid.{Known, shape_refusal, schema_refusal, delete_refusal, input_refusal, cuts_fit, batches_fit, filters_fit}
+use Rattle.seg_model.specs.ValidInputs.{Known, shape_refusal, schema_refusal, delete_refusal, input_refusal, cuts_fit, batches_fit, filters_fit}
 use Rattle.seg_model.proofs.Exports.{or_both, unless_true}
-use Rattle.seg_check.specs.Admitted.{Fits}
+use Rattle.seg_check.specs.AdmittedInputs.{Fits}
 
 module _ (known : Known) (analyzer : Analyzer) (input : Input) where
   abbrev pub shape : Option TantivyError

@@ -6,7 +6,7 @@ use Rattle.std.specs.Option.{option_or}
 use Rattle.std.proofs.lemmas.Bool.{false≢true}
 use Rattle.seg_common.proofs.Lists.{drop-slice_get}
 use Rattle.seg_values.specs.declared.error.TantivyError.{TantivyError}
-use Rattle.seg_model.specs.Checked.{Cause, at_place, first_of}
+use Rattle.seg_model.specs.DocumentCheck.{Cause, at_place, first_of}
 
 module _ (place : ℕ) where
   none_there : (r : Option TantivyError) (x : Option Cause) → is_some r ≡ false → r ≡ at_place place x → x ≡ None

@@ -5,7 +5,7 @@ use Rattle.std.specs.Option.{option_or}
 use Rattle.seg_common.proofs.Lists.{drop-slice_get}
 use Rattle.seg_values.specs.Tree.{Tree, trees_from, members_from}
 use Rattle.seg_values.specs.declared.error.TantivyError.{TantivyError}
-use Rattle.seg_model.specs.Checked.{Cause, at_place, unless, json_key, has_no_zero, tree_refusal, trees_refusal, members_refusal}
+use Rattle.seg_model.specs.DocumentCheck.{Cause, at_place, unless, json_key, has_no_zero, tree_refusal, trees_refusal, members_refusal}
 use Rattle.seg_model.proofs.Exports.{none_map, some_none}
 
 no_error : (r : Option TantivyError) → ((x : TantivyError) → r ≡ Some x → ⊥) → r ≡ None

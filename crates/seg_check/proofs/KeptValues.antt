@@ -8,11 +8,11 @@ use Rattle.seg_common.proofs.Lists.{all_push}
 use Rattle.seg_values.specs.Tree.{Tree, Document}
 use Rattle.seg_values.specs.declared.schema.FieldEntry.{FieldEntry}
 use Rattle.seg_model.specs.Fields.{Schema, Analyzer, is_indexed, is_field}
-use Rattle.seg_check.specs.AllFields.{AllStand, HasCut}
+use Rattle.seg_check.specs.DocumentFields.{AllStand, HasCut}
 use Rattle.seg_check.specs.IndexedValues.{HasPlainKeys, IsPlainIn, content_by, content_of, content_at, content_there, indexed_part, value_in, value_of, document_values}
 use Rattle.seg_check.specs.declared.indexed_value.IndexedValue.{IndexedValue}
 use Rattle.seg_check.specs.declared.positions.CutDocument.{CutDocument}
-use Rattle.seg_check.proofs.FieldsCome.{not-indexed}
+use Rattle.seg_check.proofs.DocumentFields.{not-indexed}
 
 module _ (schema : Schema) (analyzer : Analyzer) (came : Document) (field : ℕ) (t : Tree) where
   no-value : is_field is_indexed (slice_get schema field) ≡ false → document_values schema analyzer (came ++ (field, t) ∷ []) ≡ document_values schema analyzer came

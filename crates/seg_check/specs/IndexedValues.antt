@@ -6,7 +6,7 @@ use Rattle.seg_values.specs.declared.schema.FieldKind.{FieldKind}
 use Rattle.seg_values.specs.declared.schema.FieldKind.TheVariants.{Text, Json}
 use Rattle.seg_tokens.specs.declared.token.Token.{Token}
 use Rattle.seg_values.specs.Tree.{Tree, Document}
-use Rattle.seg_model.specs.Checked.{tree_refusal}
+use Rattle.seg_model.specs.DocumentCheck.{tree_refusal}
 use Rattle.seg_model.specs.Fields.{Schema, Analyzer, is_indexed, is_field, indexing_tokenizer}
 use Rattle.seg_model.specs.Leaves as model
 use Rattle.seg_model.specs.Occurrences.{value_tokens, value_terms}

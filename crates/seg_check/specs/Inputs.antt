@@ -3,9 +3,9 @@ use Rattle.std.specs.Prelude.{ℕ, List, map, Option}
 use Rattle.seg_values.specs.Tree.{Document}
 use Rattle.seg_model.specs.Fields.{Schema}
 use Rattle.seg_model.specs.Input.{Filter, Input}
-use Rattle.seg_meta.specs.View.{settings_of}
+use Rattle.seg_meta.specs.MetaMeaning.{settings_of}
 use Rattle.seg_meta.specs.declared.index_settings.IndexSettings.{IndexSettings}
-use Rattle.seg_check.specs.View.{operation_of}
+use Rattle.seg_check.specs.UserOperations.{operation_of}
 use Rattle.seg_check.specs.declared.user_operation.UserOperation.{UserOperation}
 
 -- what is handed in, as the definitions have it

@@ -3,15 +3,15 @@ use Rattle.std.specs.Prelude.{◌≡◌, ◌≤◌, ℕ, List, [], map, filter, 
 use Rattle.std.specs.List.{AllByRecursion, flat_map, list_all, slice_index_or}
 use Rattle.std.specs.Str.{bytes_eq}
 use Rattle.seg_values.specs.Tree.{Leaf}
-use Rattle.seg_values.specs.View.{tree_of}
+use Rattle.seg_values.specs.ValueTrees.{tree_of}
 use Rattle.seg_tokens.specs.declared.token.Token.{Token}
-use Rattle.seg_model.specs.Checked.{is_u32, texts_fit}
+use Rattle.seg_model.specs.DocumentCheck.{is_u32, texts_fit}
 use Rattle.seg_model.specs.Leaves.{PlacedLeaf, joined_path}
 use Rattle.seg_model.specs.Occurrences.{leaf_text}
 use Rattle.seg_paths.specs.NumberedLeaves.{leaf_in}
 use Rattle.seg_paths.specs.Paths.{number_of}
 use Rattle.seg_paths.specs.declared.leaves.NumberedLeaf.{NumberedLeaf}
-use Rattle.seg_check.specs.Totals.{totals_of, no_totals}
+use Rattle.seg_check.specs.TotalsOfFields.{totals_of, no_totals}
 use Rattle.seg_check.specs.declared.totals.Totals.{Totals}
 use Rattle.seg_check.specs.declared.paths.PathTotals.{PathTotals}
 

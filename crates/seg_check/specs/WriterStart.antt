@@ -4,10 +4,10 @@ use Rattle.std.specs.Option.{option_or}
 use Rattle.seg_values.specs.declared.error.ArgumentCause.TheVariants.{Budget}
 use Rattle.seg_values.specs.declared.error.TantivyError.{TantivyError}
 use Rattle.seg_values.specs.declared.error.TantivyError.TheVariants.{InvalidArgument, SchemaError, OutOfMemory}
-use Rattle.seg_model.specs.Checked.{unless}
+use Rattle.seg_model.specs.DocumentCheck.{unless}
 use Rattle.seg_model.specs.Fields.{Schema}
-use Rattle.seg_model.specs.Valid.{Known, schema_refusal}
-use Rattle.seg_meta.specs.View.{settings_of}
+use Rattle.seg_model.specs.ValidInputs.{Known, schema_refusal}
+use Rattle.seg_meta.specs.MetaMeaning.{settings_of}
 use Rattle.seg_meta.specs.declared.index_settings.IndexSettings.{IndexSettings}
 
 -- the fewest bytes of a budget

@@ -1,8 +1,8 @@
 //! Where cuts divide operations.
 ghost use Rattle.std.specs.Prelude.{◌≡◌, length, map};
 ghost use Rattle.seg_model.specs.Operations.{additions};
-ghost use Rattle.seg_model.specs.Valid.{cuts_fit, batches_fit};
-ghost use Rattle.seg_check.specs.View.{operation_of};
+ghost use Rattle.seg_model.specs.ValidInputs.{cuts_fit, batches_fit};
+ghost use Rattle.seg_check.specs.UserOperations.{operation_of};
 
 use crate::UserOperation;
 use seg_values::TantivyDocument;

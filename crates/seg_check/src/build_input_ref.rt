@@ -22,9 +22,9 @@ impl<'a> Model for BuildInputRef<'a> {
     ghost use Rattle.std.specs.Prelude.{map};
     ghost use Rattle.std.specs.Coded.{codes};
     ghost use Rattle.seg_model.specs.Input.{Input};
-    ghost use Rattle.seg_meta.specs.View.{settings_of};
-    ghost use Rattle.seg_check.specs.Codes.{operation_code};
-    ghost use Rattle.seg_check.specs.View.{operation_of};
+    ghost use Rattle.seg_meta.specs.MetaMeaning.{settings_of};
+    ghost use Rattle.seg_check.specs.OperationCodes.{operation_code};
+    ghost use Rattle.seg_check.specs.UserOperations.{operation_of};
 
     ghost Value = { Input };
 

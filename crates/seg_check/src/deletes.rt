@@ -1,7 +1,7 @@
 //! The fields of deletes.
 ghost use Rattle.std.specs.Prelude.{◌≡◌, map};
-ghost use Rattle.seg_model.specs.Valid.{is_unindexed_delete, names_indexed, unindexed_delete_of};
-ghost use Rattle.seg_check.specs.View.{operation_of};
+ghost use Rattle.seg_model.specs.ValidInputs.{is_unindexed_delete, names_indexed, unindexed_delete_of};
+ghost use Rattle.seg_check.specs.UserOperations.{operation_of};
 
 use crate::UserOperation;
 use seg_values::{Schema, TantivyDocument, Term};

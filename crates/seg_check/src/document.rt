@@ -1,9 +1,9 @@
 //! The check of a document: four passes, of which the first that finds something answers.
 ghost use Rattle.std.specs.Prelude.{◌≡◌, ◌⊎◌, None, Some, map, IfOk, IfErr, OnOk};
 ghost use Rattle.std.specs.List.{AllByRecursion};
-ghost use Rattle.seg_model.specs.Checked as checked;
+ghost use Rattle.seg_model.specs.DocumentCheck as checked;
 ghost use Rattle.seg_check.specs.IndexedValues.{IsPlainIn, value_in, document_values};
-ghost use Rattle.seg_check.specs.Known.{KnowsTexts};
+ghost use Rattle.seg_check.specs.KnownTokenizers.{KnowsTexts};
 
 use crate::fields::fields_refusal;
 use crate::indexed_value::IndexedValue;

@@ -1,10 +1,10 @@
 //! A text of a document, cut into its tokens.
 ghost use Rattle.std.specs.Prelude.{◌≡◌, [], true, IfOk, IsTrue};
-ghost use Rattle.seg_check.specs.Known.{KnowsTexts};
-ghost use Rattle.seg_check.specs.Texts.{cut_or_given, IsCut};
+ghost use Rattle.seg_check.specs.KnownTokenizers.{KnowsTexts};
+ghost use Rattle.seg_check.specs.TextTokens.{cut_or_given, IsCut};
 ghost use Rattle.seg_model.specs.Fields as fields;
 ghost use Rattle.seg_model.specs.Occurrences.{value_tokens};
-ghost use Rattle.seg_values.specs.View.{tree_of};
+ghost use Rattle.seg_values.specs.ValueTrees.{tree_of};
 
 use crate::entry::indexing_tokenizer;
 use seg_tokens::{Analyzers, Token, Tokens};

@@ -3,13 +3,13 @@ ghost use Rattle.std.specs.Prelude.{◌≡◌, List, ℕ, [], ◌∷◌, ◌++�
 ghost use Rattle.std.specs.List.{AllByRecursion};
 ghost use Rattle.seg_values.specs.Tree.{Leaf, Tree};
 ghost use Rattle.seg_tokens.specs.declared.token.Token.{Token};
-ghost use Rattle.seg_values.specs.View.{tree_of};
-ghost use Rattle.seg_model.specs.Checked as checked;
+ghost use Rattle.seg_values.specs.ValueTrees.{tree_of};
+ghost use Rattle.seg_model.specs.DocumentCheck as checked;
 ghost use Rattle.seg_model.specs.Fields as fields;
 ghost use Rattle.seg_check.specs.Paths.{IsNumbered, PathsStand, path_leaf, texts_of};
-ghost use Rattle.seg_check.specs.Ready.{IsReady};
-ghost use Rattle.seg_check.specs.Sizes.{measured};
-ghost use Rattle.seg_check.specs.Standing.{Stands, found_in, rises as rises_in};
+ghost use Rattle.seg_check.specs.ReadyValues.{IsReady};
+ghost use Rattle.seg_check.specs.TextSizes.{measured};
+ghost use Rattle.seg_check.specs.FieldContents.{Stands, found_in, rises as rises_in};
 
 use crate::entry::indexing_tokenizer;
 use crate::field_text::FieldText;

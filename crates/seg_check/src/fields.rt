@@ -1,14 +1,14 @@
 //! The first pass: the fields of a document, and the values that they take.
 ghost use Rattle.std.specs.Prelude.{◌≡◌};
 ghost use Rattle.std.specs.List.{slice_get};
-ghost use Rattle.seg_model.specs.Checked as checked;
-ghost use Rattle.seg_values.specs.View.{tree_of};
+ghost use Rattle.seg_model.specs.DocumentCheck as checked;
+ghost use Rattle.seg_values.specs.ValueTrees.{tree_of};
 
 use crate::kinds::takes;
 use seg_values::{Field, OwnedValue, Pairs, Schema, SchemaCause, TantivyError};
 
 /// The first pair whose field is not in the schema, or does not take the value, of a document that is added at `place`.
-#[tactic(auto, using(crate::proofs::Places::drop_at))]
+#[tactic(auto, using(crate::proofs::ListTails::drop_at))]
 pub(crate) fn fields_refusal(
     schema: &Schema,
     document: &Pairs<'_>,

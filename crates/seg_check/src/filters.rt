@@ -2,8 +2,8 @@
 ghost use Rattle.std.specs.Prelude.{◌≡◌, List, Bool, true, map};
 ghost use Rattle.seg_model.specs.Fields as model;
 ghost use Rattle.seg_model.specs.Operations.{additions, batches};
-ghost use Rattle.seg_model.specs.Valid.{cuts_fit, filter_fits, filters_fit};
-ghost use Rattle.seg_check.specs.View.{operation_of};
+ghost use Rattle.seg_model.specs.ValidInputs.{cuts_fit, filter_fits, filters_fit};
+ghost use Rattle.seg_check.specs.UserOperations.{operation_of};
 
 use crate::UserOperation;
 use crate::batch_cuts::num_additions;

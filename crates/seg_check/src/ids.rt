@@ -1,6 +1,6 @@
 //! The ids of the segments.
 ghost use Rattle.std.specs.Prelude.{◌≡◌, IfOk};
-ghost use Rattle.seg_model.specs.Valid.{are_distinct, ids_fit};
+ghost use Rattle.seg_model.specs.ValidInputs.{are_distinct, ids_fit};
 
 use seg_common::SegmentId;
 use std::alloc::{AllocError, Global};

@@ -2,10 +2,10 @@
 ghost use Rattle.std.specs.Prelude.{◌≡◌, OnOk, map};
 ghost use Rattle.seg_model.specs.Fields as model;
 ghost use Rattle.seg_model.specs.Operations.{batches};
-ghost use Rattle.seg_model.specs.Valid.{input_refusal, shape_refusal};
-ghost use Rattle.seg_check.specs.View.{operation_of};
-ghost use Rattle.seg_check.specs.Admitted.{Fits};
-ghost use Rattle.seg_model.specs.Telling.{Tells};
+ghost use Rattle.seg_model.specs.ValidInputs.{input_refusal, shape_refusal};
+ghost use Rattle.seg_check.specs.UserOperations.{operation_of};
+ghost use Rattle.seg_check.specs.AdmittedInputs.{Fits};
+ghost use Rattle.seg_model.specs.CheckAnswers.{Tells};
 
 use crate::batch_cuts::{batches_fit, cuts_fit};
 use crate::deletes::unindexed_delete;

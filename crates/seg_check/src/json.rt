@@ -1,16 +1,16 @@
 //! The second pass: the leaves and keys of JSON fields.
 ghost use Rattle.std.specs.Prelude.{◌≡◌};
 ghost use Rattle.std.specs.List.{slice_get};
-ghost use Rattle.seg_model.specs.Checked as checked;
-ghost use Rattle.seg_check.specs.Trees.{leaf_in};
-ghost use Rattle.seg_values.specs.View.{tree_of};
+ghost use Rattle.seg_model.specs.DocumentCheck as checked;
+ghost use Rattle.seg_check.specs.ValueLeaves.{leaf_in};
+ghost use Rattle.seg_values.specs.ValueTrees.{tree_of};
 
 use crate::kinds::is_json;
 use seg_values::{ArgumentCause, Field, FieldEntry, OwnedValue, Pairs, Schema, TantivyError};
 
 /// The first leaf or key that a JSON field which is indexed or fast may not have, in a document that is added at
 /// `place`.
-#[tactic(auto, using(crate::proofs::Places::drop_at))]
+#[tactic(auto, using(crate::proofs::ListTails::drop_at))]
 pub(crate) fn leaves_refusal(
     schema: &Schema,
     document: &Pairs<'_>,

@@ -1,8 +1,8 @@
 //! Which values a field takes.
 ghost use Rattle.std.specs.Prelude.{◌≡◌};
 ghost use Rattle.seg_model.specs.Fields as fields;
-ghost use Rattle.seg_model.specs.Takes as taking;
-ghost use Rattle.seg_values.specs.View.{tree_of};
+ghost use Rattle.seg_model.specs.AcceptedTrees as taking;
+ghost use Rattle.seg_values.specs.ValueTrees.{tree_of};
 
 use seg_values::{FieldEntry, FieldKind, OwnedValue};
 
@@ -50,7 +50,7 @@ pub fn is_own_leaf(kind: FieldKind, value: &OwnedValue) -> bool
 }
 
 /// A value of the kind's own, null, or an array of these, nested.
-#[tactic(auto, using(crate::proofs::Places::drop_at))]
+#[tactic(auto, using(crate::proofs::ListTails::drop_at))]
 fn is_own_array(kind: FieldKind, value: &OwnedValue) -> bool
     ensures { result ≡ taking.is_own_array kind (tree_of value.now) }
 {

@@ -2,12 +2,12 @@
 ghost use Rattle.std.specs.Prelude.{◌≡◌, nat_le};
 ghost use Rattle.std.specs.List.{list_all};
 ghost use Rattle.seg_values.specs.Tree.{levels};
-ghost use Rattle.seg_values.specs.View.{tree_of};
+ghost use Rattle.seg_values.specs.ValueTrees.{tree_of};
 
 use seg_values::{MOST_LEVELS, OwnedValue, Pairs};
 
 /// Whether no value has more than the most levels.
-#[tactic(auto, using(crate::proofs::Places::drop_at))]
+#[tactic(auto, using(crate::proofs::ListTails::drop_at))]
 pub(crate) fn are_shallow(document: &Pairs<'_>) -> bool
     ensures { result ≡ list_all (λ p. nat_le (levels p.1) 200) document.now }
 {

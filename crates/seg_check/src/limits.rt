@@ -2,9 +2,9 @@
 ghost use Rattle.std.specs.Prelude.{◌≡◌};
 ghost use Rattle.std.specs.List.{slice_get, list_all};
 ghost use Rattle.seg_values.specs.Tree.{Document};
-ghost use Rattle.seg_model.specs.Checked as checked;
+ghost use Rattle.seg_model.specs.DocumentCheck as checked;
 ghost use Rattle.seg_model.specs.Fields as fields;
-ghost use Rattle.seg_check.specs.AllFields.{AllStand, fits_at};
+ghost use Rattle.seg_check.specs.DocumentFields.{AllStand, fits_at};
 
 use crate::field_totals::FieldTotals;
 use crate::levels::are_shallow;

@@ -1,14 +1,14 @@
 //! The joined paths of a JSON field.
 ghost use Rattle.std.specs.Prelude.{◌≡◌, List, ℕ, [], ◌∷◌, ◌++◌, None, Some, map, IfOk, OnOk};
 ghost use Rattle.seg_values.specs.Tree.{Leaf};
-ghost use Rattle.seg_values.specs.View.{tree_of};
+ghost use Rattle.seg_values.specs.ValueTrees.{tree_of};
 ghost use Rattle.seg_tokens.specs.declared.token.Token.{Token};
-ghost use Rattle.seg_model.specs.Checked.{tree_refusal};
+ghost use Rattle.seg_model.specs.DocumentCheck.{tree_refusal};
 ghost use Rattle.seg_model.specs.Leaves.{leaves};
 ghost use Rattle.seg_model.specs.Occurrences.{leaf_text};
 ghost use Rattle.seg_paths.specs.Paths.{number_of};
 ghost use Rattle.seg_check.specs.Paths.{AreLeaves, PathsStand, at_path};
-ghost use Rattle.seg_check.specs.Sizes.{size_of};
+ghost use Rattle.seg_check.specs.TextSizes.{size_of};
 
 use crate::size::TextSize;
 use crate::totals::Totals;

@@ -1,14 +1,14 @@
 //! The third pass: texts are cut, the positions of their tokens are checked, and what came in each field is added up.
 ghost use Rattle.std.specs.Prelude.{◌≡◌, [], ◌∷◌, ◌++◌, true, nat_eq, is_some, is_none, None, Some, IfOk, IfSome};
 ghost use Rattle.std.specs.List.{slice_get, AllByRecursion};
-ghost use Rattle.seg_model.specs.Checked as checked;
+ghost use Rattle.seg_model.specs.DocumentCheck as checked;
 ghost use Rattle.seg_model.specs.Fields as fields;
-ghost use Rattle.seg_check.specs.AllFields.{HasCut, CutsMore, TellMore};
-ghost use Rattle.seg_check.specs.Known.{KnowsTexts};
-ghost use Rattle.seg_check.specs.Ready.{IsReady};
-ghost use Rattle.seg_check.specs.Standing.{rises as rises_in};
+ghost use Rattle.seg_check.specs.DocumentFields.{HasCut, CutsMore, TellMore};
+ghost use Rattle.seg_check.specs.KnownTokenizers.{KnowsTexts};
+ghost use Rattle.seg_check.specs.ReadyValues.{IsReady};
+ghost use Rattle.seg_check.specs.FieldContents.{rises as rises_in};
 ghost use Rattle.seg_values.specs.Tree.{Document};
-ghost use Rattle.seg_values.specs.View.{tree_of};
+ghost use Rattle.seg_values.specs.ValueTrees.{tree_of};
 
 use crate::field_text::{FieldText, cut_tokens};
 use crate::field_totals::FieldTotals;

@@ -3,12 +3,12 @@ ghost use Rattle.std.specs.Prelude.{◌≡◌, ◌+◌, ◌≤◌, length, map};
 ghost use Rattle.std.specs.List.{slice_get};
 ghost use Rattle.seg_common.specs.Varint.{varint};
 ghost use Rattle.seg_values.specs.Tree.{pre_tokenized};
-ghost use Rattle.seg_values.specs.View.{tree_of};
+ghost use Rattle.seg_values.specs.ValueTrees.{tree_of};
 ghost use Rattle.seg_model.specs.Fields as fields;
-ghost use Rattle.seg_model.specs.Reading.{stored_value};
-ghost use Rattle.seg_values.specs.StoredForm as stored;
-ghost use Rattle.seg_check.specs.Sizes.{saturated};
-ghost use Rattle.seg_check.specs.Trees.{leaf_in};
+ghost use Rattle.seg_model.specs.DocumentTerms.{stored_value};
+ghost use Rattle.seg_values.specs.StoredBytes as stored;
+ghost use Rattle.seg_check.specs.TextSizes.{saturated};
+ghost use Rattle.seg_check.specs.ValueLeaves.{leaf_in};
 
 use seg_common::varint_len;
 use seg_tokens::{PreTokenizedString, Token};

@@ -1,9 +1,9 @@
 //! The texts of JSON fields.
 ghost use Rattle.std.specs.Prelude.{◌≡◌, ◌++◌, map, IfOk, IsTrue, OnOk};
 ghost use Rattle.seg_model.specs.Occurrences as occurrences;
-ghost use Rattle.seg_check.specs.Sizes.{measured};
-ghost use Rattle.seg_check.specs.Trees.{leaf_in};
-ghost use Rattle.seg_values.specs.View.{tree_of};
+ghost use Rattle.seg_check.specs.TextSizes.{measured};
+ghost use Rattle.seg_check.specs.ValueLeaves.{leaf_in};
+ghost use Rattle.seg_values.specs.ValueTrees.{tree_of};
 
 use crate::field_text::analyzed;
 use crate::size::{TextSize, text_size};

@@ -1,7 +1,7 @@
 //! What came in a field, or at a joined path of one.
 ghost use Rattle.std.specs.Prelude.{◌≡◌};
-ghost use Rattle.seg_model.specs.Checked as checked;
-ghost use Rattle.seg_check.specs.Totals.{no_totals, with_more, totals_fit};
+ghost use Rattle.seg_model.specs.DocumentCheck as checked;
+ghost use Rattle.seg_check.specs.TotalsOfFields.{no_totals, with_more, totals_fit};
 
 use crate::size::TextSize;
 

@@ -1,9 +1,9 @@
 //! When no writer of a segment is made.
 ghost use Rattle.std.specs.Prelude.{◌≡◌, ◌<◌, ◌^◌, true, None, length, nat_lt, IfSome, IsTrue};
 ghost use Rattle.std.specs.List.{list_all, AllByRecursion};
-ghost use Rattle.seg_meta.specs.View.{settings_of};
+ghost use Rattle.seg_meta.specs.MetaMeaning.{settings_of};
 ghost use Rattle.seg_model.specs.Fields.{indexing_tokenizer};
-ghost use Rattle.seg_model.specs.Valid as valid;
+ghost use Rattle.seg_model.specs.ValidInputs as valid;
 ghost use Rattle.seg_column_format.specs.FastTokenizers.{AreKnown};
 ghost use Rattle.seg_check.specs.WriterStart.{IsStartError, start_refusal};
 

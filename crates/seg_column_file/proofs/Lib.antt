@@ -1,8 +1,8 @@
 pub mod Exports
-mod Answering
+mod CallAnswers
 mod FileParts
-mod FileSteps
+mod FileColumns
 mod KeptMarks
-mod RowSteps
+mod StackedRows
 mod StackedMarks
-mod TableSteps
+mod TableEntries

@@ -1,6 +1,6 @@
 pub mod ColumnFiles
 pub mod ColumnTable
-pub mod Columnar
+pub mod EmptyColumnFile
 pub mod Footers
 pub mod KeptRows
 pub mod RowOrders

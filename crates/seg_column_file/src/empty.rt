@@ -1,12 +1,12 @@
 //! Files without columns.
 ghost use Rattle.std.specs.Prelude.{◌≡◌};
-ghost use Rattle.seg_column_file.specs.Columnar.{rows_of};
+ghost use Rattle.seg_column_file.specs.EmptyColumnFile.{rows_of};
 
 use crate::format::{COLUMNS_VERSION, COUNT, FOOTER, LEAST_BYTES, NO_COLUMN};
 use seg_common::{u32_at, u64_at};
 
 /// The number of rows, where the bytes are a file without columns: a fixed number of steps, and no memory.
-#[tactic(auto, unfolding(crate::specs::Columnar::rows_of, crate::specs::Columnar::is_without_columns))]
+#[tactic(auto, unfolding(crate::specs::EmptyColumnFile::rows_of, crate::specs::EmptyColumnFile::is_without_columns))]
 pub fn rows_without_columns(bytes: &[u8]) -> Option<u32>
     ensures { result ≡ rows_of bytes.now }
 {

@@ -1,6 +1,6 @@
 //! The writer of files of columns.
 ghost use Rattle.std.specs.Prelude.{◌≡◌, Some, IfOk, IfErr};
-ghost use Rattle.seg_column_file.specs.Columnar.{rows_of};
+ghost use Rattle.seg_column_file.specs.EmptyColumnFile.{rows_of};
 
 use crate::format::{COLUMNS_VERSION, COUNT, NO_COLUMN};
 use seg_columns::ColumnError;

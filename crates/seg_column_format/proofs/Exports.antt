@@ -6,4 +6,4 @@ pub use Rattle.seg_column_format.proofs.JsonPaths.{Passing, passing}
 pub use Rattle.seg_column_format.proofs.KeyOrder.{is_other, kind_cmp, kind_place, kind_total, same_column, same_type, ties}
 pub use Rattle.seg_column_format.proofs.NamedFields.{alone}
 pub use Rattle.seg_column_format.proofs.RowTypes.{row_count_is}
-pub use Rattle.seg_column_format.proofs.SchemaSuits.{HasShape, have_shape}
+pub use Rattle.seg_column_format.proofs.SchemaTests.{HasShape, have_shape}

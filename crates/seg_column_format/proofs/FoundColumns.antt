@@ -8,7 +8,7 @@ use Rattle.std.specs.List.Sorted.{IsStrictlySortedBy}
 use Rattle.std.specs.Ordering.{eq_by_cmp, is_eq}
 use Rattle.std.proofs.lemmas.Bool.{true≢false, and_parts}
 use Rattle.std.proofs.lemmas.Option.{none-some, same_Some}
-use Rattle.seg_common.specs.Tables.{is_among}
+use Rattle.seg_common.specs.TabulatedMaps.{is_among}
 use Rattle.seg_column_file.specs.ColumnFiles.{NamedColumn}
 use Rattle.seg_column_format.specs.ModelColumns.{column_key, column_rows}
 use Rattle.seg_model.proofs.Exports.{column_cmp_total}

@@ -11,7 +11,7 @@ use Rattle.std.proofs.lemmas.Map.Keys.{any_passes_from_place}
 use Rattle.std.proofs.lemmas.Str.{IsCharBoundary-after_ascii, IsUtf8-drop}
 use Rattle.seg_common.proofs.Bytes.{same_bytes, bytes_are}
 use Rattle.seg_column_file.specs.ColumnFiles.{is_below}
-use Rattle.seg_column_format.proofs.Parts.{split}
+use Rattle.seg_column_format.proofs.PartEnds.{split}
 use Rattle.seg_values.specs.declared.schema.FieldEntry.{FieldEntry}
 use Rattle.seg_model.specs.Fields.{Schema, is_json}
 use Rattle.seg_model.specs.Shape.{IsJsonPath, IsPathOf}

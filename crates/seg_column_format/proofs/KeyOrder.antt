@@ -10,8 +10,8 @@ use Rattle.std.specs.declared.cmp.Ordering.TheVariants.{Less, Equal, Greater}
 use Rattle.std.proofs.lemmas.Bool.{false≢true}
 use Rattle.std.specs.FinMap.{nat_cmp-IsAntisymmetric}
 use Rattle.std.proofs.lemmas.Cmp.{nat_cmp_total, nat_list_cmp_total, on_total, then_total}
-use Rattle.seg_common.proofs.Tables.{texts_apart}
-use Rattle.seg_common.specs.Tables.{is_among}
+use Rattle.seg_common.proofs.TabulatedMaps.{texts_apart}
+use Rattle.seg_common.specs.TabulatedMaps.{is_among}
 use Rattle.seg_common.specs.declared.column_type.ColumnType.{ColumnType}
 use Rattle.seg_common.specs.declared.column_type.ColumnType.TheVariants.{I64, U64}
 use Rattle.seg_common.proofs.Numbers.{is_equal, then_first, then_second}

@@ -1,27 +1,27 @@
 pub mod Exports
 mod ByteOrder
-pub mod ColumnLaws
+pub mod ColumnRoundTrips
 mod DeclaredKeys
-pub mod EntryLaws
+pub mod EntryRoundTrips
 mod FieldStarts
 mod FileKeys
-pub mod FileLaws
-mod Filled
+pub mod FileRoundTrips
+mod FilledColumns
 mod FoundColumns
 mod FoundStarts
 mod JsonPaths
 mod KeyOrder
-mod Marks
+mod FoundFields
 mod NamedFields
-mod Opened
+mod OpenedColumns
 mod OuterStarts
-pub mod Parts
-mod Placing
-pub mod RowLaws
+pub mod PartEnds
+mod NumberPlaces
+pub mod RowValues
 mod RowTypes
-mod SchemaSuits
-pub mod TableLaws
-pub mod TermLaws
+mod SchemaTests
+pub mod TableRoundTrips
+pub mod TermColumnRoundTrips
 pub mod TermNumbers
-pub mod TermSorting
-mod Writing
+pub mod SortedTerms
+mod RowEnds

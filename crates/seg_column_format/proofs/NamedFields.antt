@@ -8,8 +8,8 @@ use Rattle.std.proofs.lemmas.Bool.Decides.{nat_tests}
 use Rattle.std.proofs.lemmas.Map.Keys.{any_passes_from_place}
 use Rattle.std.proofs.lemmas.Option.{none-some, same_Some}
 use Rattle.seg_values.proofs.Exports.{unnamed}
-use Rattle.seg_values.specs.Distinct.{all_distinct}
-use Rattle.seg_values.specs.Names.{field_named}
+use Rattle.seg_values.specs.DistinctLists.{all_distinct}
+use Rattle.seg_values.specs.FieldNames.{field_named}
 use Rattle.seg_values.specs.SchemaRules.{is_entry, is_schema, same_name}
 use Rattle.seg_values.specs.declared.schema.FieldEntry.{FieldEntry}
 use Rattle.seg_common.specs.declared.column_type.ColumnType.{ColumnType}

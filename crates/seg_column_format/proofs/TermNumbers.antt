@@ -9,7 +9,7 @@ use Rattle.std.proofs.lemmas.List.Quantifiers.{position-Some}
 use Rattle.std.proofs.lemmas.List.Sums.{position_or_len_is}
 use Rattle.indexmap.specs.IndexSet.{insert_key}
 use Rattle.std.proofs.lemmas.List.Folds.{list_any_at}
-use Rattle.seg_column_format.specs.Terms.{term_number, with_term}
+use Rattle.seg_column_format.specs.NumberedTerms.{term_number, with_term}
 
 pub fails_at : {X : Type 0} (test : X → Bool) (xs : List X) (i : ℕ) (d : X) → list_any test xs ≡ false → i < length xs
     → test (get_or xs i d) ≡ false

@@ -2,9 +2,9 @@ pub mod ColumnBytes
 pub mod FastTokenizers
 pub mod FileBytes
 pub mod ModelColumns
+pub mod NumberedTerms
 pub mod PathStarts
 pub mod RowNumbers
-pub mod Rows
 pub mod SchemaColumns
 pub mod TermHashes
-pub mod Terms
+pub mod ValuesByRow

@@ -3,7 +3,7 @@ use Rattle.std.specs.Prelude.{◌≡◌, ℕ, ◌^◌, ◌<◌, List, [], ◌++�
 use Rattle.std.specs.Int.{w64, to_le_bytes}
 use Rattle.std.specs.List.{AllByRecursion, flat_map}
 use Rattle.seg_column_format.specs.ColumnBytes.{ends_from, number_bytes}
-use Rattle.seg_column_format.specs.Rows.{rows_from}
+use Rattle.seg_column_format.specs.ValuesByRow.{rows_from}
 use Rattle.seg_column_format.specs.declared.row_number.RowNumber.{RowNumber}
 
 -- where the rows end

@@ -2,8 +2,8 @@
 ghost use Rattle.std.specs.Prelude.{◌≡◌, ◌<◌, ◌^◌, ◌++◌, [], get_or, length, OnOk};
 ghost use Rattle.std.specs.List.{AllByRecursion, flat_map};
 ghost use Rattle.seg_column_format.specs.RowNumbers.{AddsBytes, eight_bytes, end_bytes, term_bytes};
-ghost use Rattle.seg_column_format.specs.Rows.{Rise};
-ghost use Rattle.seg_column_format.specs.Terms.{terms_at};
+ghost use Rattle.seg_column_format.specs.ValuesByRow.{Rise};
+ghost use Rattle.seg_column_format.specs.NumberedTerms.{terms_at};
 
 use crate::row_number::RowNumber;
 use crate::same_ends::put_same_ends;

@@ -2,7 +2,7 @@
 ghost use Rattle.std.specs.Prelude.{◌≡◌, ◌<◌, ◌^◌, ◌++◌, length, OnOk};
 ghost use Rattle.std.specs.List.{flat_map};
 ghost use Rattle.seg_column_format.specs.ColumnBytes.{dictionary_bytes, ends_from, number_bytes, total};
-ghost use Rattle.seg_column_format.specs.Terms.{terms_at};
+ghost use Rattle.seg_column_format.specs.NumberedTerms.{terms_at};
 
 use crate::room::sum;
 use crate::term::Term;

@@ -3,7 +3,7 @@ ghost use Rattle.std.specs.Prelude.{◌≡◌, ◌||◌, option_map};
 ghost use Rattle.std.specs.List.{list_any};
 ghost use Rattle.seg_model.specs.Columns as model;
 ghost use Rattle.seg_model.specs.Fields as fields;
-ghost use Rattle.seg_model.specs.Valid.{has_unknown_fast_tokenizer};
+ghost use Rattle.seg_model.specs.ValidInputs.{has_unknown_fast_tokenizer};
 
 use seg_tokens::Analyzers;
 use seg_values::{FieldEntry, FieldKind};

@@ -5,7 +5,7 @@ ghost use Rattle.std.specs.List.Sorted.{IsPermutation};
 ghost use Rattle.std.specs.Ordering.{nat_cmp};
 ghost use Rattle.std.specs.Cmp.Lexicographic.{slice_cmp};
 ghost use Rattle.std.specs.Str.{bytes_eq};
-ghost use Rattle.seg_column_format.specs.Terms.{AreOrdinals, AscendBy, IsOrder};
+ghost use Rattle.seg_column_format.specs.NumberedTerms.{AreOrdinals, AscendBy, IsOrder};
 
 use crate::term::Term;
 use std::alloc::{AllocError, Global};

@@ -2,7 +2,7 @@
 ghost use Rattle.std.specs.Prelude.{◌≡◌, ◌<◌, [], false, get_or, length, IfOk, OnOk, OnErr};
 ghost use Rattle.std.specs.List.{IsDistinct, list_any};
 ghost use Rattle.std.specs.Str.{bytes_eq};
-ghost use Rattle.seg_column_format.specs.Terms.{IsOrder, term_number, with_term};
+ghost use Rattle.seg_column_format.specs.NumberedTerms.{IsOrder, term_number, with_term};
 
 use crate::term::{Term, TermBytes};
 use crate::term_order::{TermOrder, bytes_at, order_terms};

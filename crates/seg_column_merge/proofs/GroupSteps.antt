@@ -21,8 +21,8 @@ use Rattle.seg_column_merge.specs.declared.merge.Merge.{Merge}
 use Rattle.seg_column_merge.specs.declared.merged_file.MergedFile.{MergedFile}
 use Rattle.seg_column_merge_parts.specs.declared.tables.FileColumn.{FileColumn}
 use Rattle.seg_column_merge_parts.specs.declared.tables.TableRow.{TableRow}
-use Rattle.seg_column_merge.proofs.Agreeing.{type_of_kind}
-use Rattle.seg_column_merge.proofs.Deciding.{same_kind_number, all_kinds as kinds_of}
+use Rattle.seg_column_merge.proofs.AgreeingTypes.{type_of_kind}
+use Rattle.seg_column_merge.proofs.MergedTypes.{same_kind_number, all_kinds as kinds_of}
 
 -- ---- rows of one type
 

@@ -6,7 +6,7 @@ use Rattle.std.specs.Int.{w64, is_negative}
 use Rattle.std.specs.List.{AllByRecursion}
 use Rattle.std.proofs.lemmas.Int.{ints}
 use Rattle.std.proofs.lemmas.List.{length-map}
-use Rattle.seg_common.specs.Mappable.{bit, is_bit, raised}
+use Rattle.seg_common.specs.MappableValues.{bit, is_bit, raised}
 use Rattle.seg_common.specs.MappableLaws.{lowered-raised, lowered-sum, raised-fits}
 use Rattle.seg_common.specs.declared.column_type.ColumnType.{ColumnType}
 use Rattle.seg_common.specs.declared.column_type.ColumnType.TheVariants.{I64, U64, Bool as Boolean, DateTime}
@@ -19,7 +19,7 @@ use Rattle.seg_column_format.specs.ModelColumns.{column_rows}
 use Rattle.seg_column_merge_parts.specs.ColumnSources.{number_map}
 use Rattle.seg_column_merge_parts.specs.ImageValues.{value_in}
 use Rattle.seg_column_merge_parts.specs.KeptColumns.{row_count_of}
-use Rattle.seg_column_merge_parts.specs.Sources.{CanMap, mapped}
+use Rattle.seg_column_merge_parts.specs.SourceRows.{CanMap, mapped}
 use Rattle.seg_column_merge_parts.specs.declared.number_map.NumberMap.{NumberMap}
 
 -- ---- one number

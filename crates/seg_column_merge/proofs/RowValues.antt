@@ -12,9 +12,9 @@ use Rattle.std.proofs.lemmas.Bool.{true≢false}
 use Rattle.std.proofs.lemmas.Cmp.{nat_list_cmp_total}
 use Rattle.std.proofs.lemmas.List.{append-nil, length-replicate}
 use Rattle.std.specs.FinMap.{nat_cmp-IsAntisymmetric}
-use Rattle.seg_common.proofs.Tables.{texts_apart}
+use Rattle.seg_common.proofs.TabulatedMaps.{texts_apart}
 use Rattle.seg_model.proofs.Exports.{column_cmp_total}
-use Rattle.seg_common.specs.Tables.{is_among}
+use Rattle.seg_common.specs.TabulatedMaps.{is_among}
 use Rattle.seg_common.specs.declared.column_type.ColumnType.{ColumnType}
 use Rattle.seg_common.specs.declared.column_type.ColumnType.TheVariants.{I64, U64, Bytes, Str, Bool as Boolean, IpAddr, DateTime}
 use Rattle.seg_common.proofs.Numbers.{is_equal, then_first, then_second}

@@ -12,7 +12,7 @@ use Rattle.seg_column_merge_parts.specs.HeadHeaps.{Head, Pops, head_cmp}
 use Rattle.seg_column_merge.specs.TableOrder.{AreRuns, Begins, GoesFrom, GoesOn, IsHead, Slots, Waits, row_at, row_head, row_lt}
 use Rattle.seg_column_merge_parts.specs.declared.tables.TableRow.{TableRow}
 use Rattle.seg_column_merge_parts.proofs.Exports.{there_in}
-use Rattle.seg_column_merge.proofs.Places.{none_present, present, some_at}
+use Rattle.seg_column_merge.proofs.EmptiedPlaces.{none_present, present, some_at}
 use Rattle.seg_column_merge.proofs.TableKeys.{beside_least, less_then, not_itself, row_order}
 
 pub same_row : (o : Option TableRow) (x y : TableRow) → o ≡ Some x → o ≡ Some y → x ≡ y

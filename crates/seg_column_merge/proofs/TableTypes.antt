@@ -12,7 +12,7 @@ use Rattle.seg_common.specs.declared.column_type.ColumnType.{ColumnType}
 use Rattle.seg_columns.specs.DynamicColumns.{type_of}
 use Rattle.seg_column_file.specs.ColumnFiles.{ColumnFile, IsOfFile, NamedColumn}
 use Rattle.seg_column_merge.specs.MergedBytes.{HasType}
-use Rattle.seg_column_merge.specs.Merging.{IsTableOf}
+use Rattle.seg_column_merge.specs.MergedGroups.{IsTableOf}
 use Rattle.seg_column_merge_parts.specs.Tables.{PlacedColumn, Row, all_rows, column_in, file_row, file_rows, required_row, row_of, table_key, table_key_cmp}
 use Rattle.seg_column_merge_parts.specs.declared.tables.FileColumn.{FileColumn}
 use Rattle.seg_column_merge_parts.specs.declared.tables.TableRow.{TableRow}

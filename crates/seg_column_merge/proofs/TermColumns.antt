@@ -30,7 +30,7 @@ use Rattle.seg_column_merge_parts.specs.KeptColumns.{row_count_of}
 use Rattle.seg_column_file.specs.KeptRows.{AreMarks, kept_values}
 use Rattle.seg_column_merge_parts.specs.MergedTerms.{AreMerged, AreNumbers, AreRowNumbers, kept_ords, ords_in, row_terms, terms_in}
 use Rattle.seg_column_file.specs.RowOrders.{Place}
-use Rattle.seg_column_merge_parts.specs.Sources.{CanMap, CanPut, IsPut}
+use Rattle.seg_column_merge_parts.specs.SourceRows.{CanMap, CanPut, IsPut}
 use Rattle.seg_column_merge_parts.specs.TermSources.{AreTermSources, MapsTo}
 use Rattle.seg_column_merge_parts.specs.declared.number_map.NumberMap.{NumberMap}
 use Rattle.seg_column_merge_parts.specs.declared.number_map.NumberMap.TheVariants.{Same, Raised, Lowered, Ordinals}

@@ -5,6 +5,6 @@ pub mod LiveColumns
 pub mod MergedBytes
 pub mod MergedColumns
 pub mod MergedFiles
-pub mod Merging
+pub mod MergedGroups
 pub mod Plans
 pub mod TableOrder

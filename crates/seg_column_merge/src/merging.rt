@@ -3,7 +3,7 @@ ghost use Rattle.std.specs.Prelude.{◌≡◌, map, IfOk, MatchResult, OnOk};
 ghost use Rattle.std.specs.List.{AllByRecursion};
 ghost use Rattle.seg_column_file.specs.ColumnFiles.{IsOfFile};
 ghost use Rattle.seg_column_merge.specs.MergedColumns.{CanMerge, IsMerged, MergeFails, merged_columns, required_key};
-ghost use Rattle.seg_column_merge.specs.Merging.{IsTableOf};
+ghost use Rattle.seg_column_merge.specs.MergedGroups.{IsTableOf};
 ghost use Rattle.seg_column_file.specs.RowOrders.{rows_in_order};
 
 use crate::merge::Merge;

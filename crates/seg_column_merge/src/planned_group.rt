@@ -1,7 +1,7 @@
 //! What is decided of the rows of one key before anything is written.
 ghost use Rattle.std.specs.Prelude.{◌≡◌, ◌<◌, ◌≤◌, length, slice_range, MatchResult};
 ghost use Rattle.seg_column_merge.specs.MergedBytes.{IsMerge};
-ghost use Rattle.seg_column_merge.specs.Merging.{IsCut, IsTableOf, NextFails};
+ghost use Rattle.seg_column_merge.specs.MergedGroups.{IsCut, IsTableOf, NextFails};
 ghost use Rattle.seg_column_merge.specs.Plans.{IsPlanned};
 
 use crate::decisions::merged_type;

@@ -2,7 +2,7 @@
 ghost use Rattle.std.specs.Prelude.{map, MatchResult, OnOk, ◌≡◌, ◌++◌, ◌∷◌, []};
 ghost use Rattle.seg_column_merge.specs.MergedBytes.{IsMerge, places_of};
 ghost use Rattle.seg_column_merge.specs.MergedColumns.{MergeFails, merged_columns, required_key};
-ghost use Rattle.seg_column_merge.specs.Merging.{IsTableOf};
+ghost use Rattle.seg_column_merge.specs.MergedGroups.{IsTableOf};
 ghost use Rattle.seg_column_merge.specs.Plans.{ArePlanned};
 
 use crate::merge::Merge;

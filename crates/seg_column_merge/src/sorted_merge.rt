@@ -4,7 +4,7 @@ ghost use Rattle.seg_column_format.specs.FileBytes.{WrittenColumn};
 ghost use Rattle.seg_column_merge.specs.MergedBytes.{IsMerge, places_of};
 ghost use Rattle.seg_column_merge.specs.MergedColumns.{IsMerged, MergeFails, merged_columns, required_key};
 ghost use Rattle.seg_column_merge.specs.MergedFiles.{IsFileOf};
-ghost use Rattle.seg_column_merge.specs.Merging.{IsTableOf, PutsNext};
+ghost use Rattle.seg_column_merge.specs.MergedGroups.{IsTableOf, PutsNext};
 ghost use Rattle.seg_column_merge.specs.Plans.{ArePlanned, IsPlanned};
 
 use crate::group_column::put_group;

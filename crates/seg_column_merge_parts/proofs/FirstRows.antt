@@ -7,10 +7,10 @@ use Rattle.std.proofs.lemmas.List.Concat.{flat_map-append}
 use Rattle.std.proofs.lemmas.List.Elements.{All-cons, All-head, All-nil, All-tail}
 use Rattle.std.proofs.lemmas.List.FromFn.{fill_by_all, get_or-map-range_with_len, length-map-range_with_len, map-range_with_len_more}
 use Rattle.seg_column_file.specs.RowOrders.{Place, rows_from, stacked}
-use Rattle.seg_column_merge_parts.specs.Sources.{IsPut, first_rows, joined, row_codes}
+use Rattle.seg_column_merge_parts.specs.SourceRows.{IsPut, first_rows, joined, row_codes}
 use Rattle.seg_column_merge_parts.specs.declared.source.Source.{Source}
 use Rattle.seg_column_merge_parts.specs.declared.source.Source.TheVariants.{Nothing}
-use Rattle.seg_column_merge_parts.proofs.JoinSteps.{flat_map-map}
+use Rattle.seg_column_merge_parts.proofs.JoinedBytes.{flat_map-map}
 
 -- the bytes of all values of some rows
 abbrev pub row_bytes : List (List (List ℕ)) → List ℕ

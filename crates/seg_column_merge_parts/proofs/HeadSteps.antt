@@ -14,7 +14,7 @@ use Rattle.std.proofs.lemmas.Map.Keys.{Less-from_sorted}
 use Rattle.seg_column_merge_parts.specs.HeadHeaps.{Head, Pops}
 use Rattle.seg_column_merge_parts.specs.TermHeads.{Advances, AreFirstHeads, AreLong, AreMergedTerms, EndsWith, IsHead, IsLast, IsTermOf, Waits, column_at, heads_at, ordinal_of, with_ordinal}
 use Rattle.seg_column_merge_parts.specs.UsedTerms.{IsNextUsed, MarkedTerms, NoneUsed, no_terms}
-use Rattle.seg_column_merge_parts.proofs.HeadLemmas.{least_first, there_in}
+use Rattle.seg_column_merge_parts.proofs.HeadHeaps.{least_first, there_in}
 use Rattle.seg_column_merge_parts.proofs.TermOrder.{Ascends, Follows, ascends_more, follows_last, last_of, stays}
 
 module _ (columns : List MarkedTerms) where

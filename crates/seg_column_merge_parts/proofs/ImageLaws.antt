@@ -6,7 +6,7 @@ use Rattle.seg_common.specs.declared.column_type.ColumnType.TheVariants.{I64, U6
 use Rattle.seg_model.specs.Columns.{number}
 use Rattle.seg_column_merge_parts.specs.ColumnSources.{number_map}
 use Rattle.seg_column_merge_parts.specs.ImageValues.{value_in}
-use Rattle.seg_column_merge_parts.specs.Sources.{CanMap, mapped}
+use Rattle.seg_column_merge_parts.specs.SourceRows.{CanMap, mapped}
 
 -- an unsigned number in a column of signed ones
 pub raised_value : (n : ℕ) → CanMap (number_map U64 I64) n

@@ -4,16 +4,16 @@ use Rattle.std.specs.List.{AllByRecursion, flat_map}
 use Rattle.std.specs.Int.{w64, to_le_bytes}
 use Rattle.std.proofs.lemmas.List.{length-map}
 use Rattle.seg_columns.specs.Columns.{IsColumn, rows_of}
-use Rattle.seg_columns.specs.Images.{value_of_image}
+use Rattle.seg_columns.specs.ValueImages.{value_of_image}
 use Rattle.seg_column_format.specs.ColumnBytes.{IsReadAs, column_bytes, ends_from, number_bytes, total}
-use Rattle.seg_column_format.proofs.ColumnLaws.{is_column, rows_read_as}
-use Rattle.seg_column_format.proofs.TermLaws.{image_read}
+use Rattle.seg_column_format.proofs.ColumnRoundTrips.{is_column, rows_read_as}
+use Rattle.seg_column_format.proofs.TermColumnRoundTrips.{image_read}
 use Rattle.seg_column_file.specs.RowOrders.{Place}
-use Rattle.seg_column_merge_parts.specs.Sources.{joined, mapped, row_codes}
+use Rattle.seg_column_merge_parts.specs.SourceRows.{joined, mapped, row_codes}
 use Rattle.seg_column_merge_parts.specs.JoinedNumbers.{IsNumeric, joined_numbers, row_numbers}
 use Rattle.seg_column_merge_parts.specs.declared.source.Source.{Source}
 use Rattle.seg_column_merge_parts.specs.declared.source.Source.TheVariants.{Nothing, Numbers, Addresses}
-use Rattle.seg_column_merge_parts.proofs.JoinSteps.{flat_map-map}
+use Rattle.seg_column_merge_parts.proofs.JoinedBytes.{flat_map-map}
 
 -- ---- bytes that are made before they are put, or while
 

@@ -1,18 +1,18 @@
 pub mod Exports
 mod FirstRows
 mod HeadCalls
-mod HeadLemmas
+mod HeadHeaps
 mod HeadSteps
 mod ImageLaws
-mod JoinSteps
+mod JoinedBytes
 mod JoinedRows
-mod KeptAny
-mod KeptSteps
+mod KeptRowValues
+mod KeptValueTests
 mod MergedRows
 mod NumberTypes
 mod OrdinalMarks
 mod RangeLaws
 mod RowEnds
-mod TableSteps
+mod RowValueBytes
+mod TableRows
 mod TermOrder
-mod ValueSteps

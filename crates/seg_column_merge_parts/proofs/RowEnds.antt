@@ -11,15 +11,15 @@ use Rattle.std.proofs.lemmas.Nat.{le_bytes_8}
 use Rattle.seg_common.specs.LittleEndian.{u64_at}
 use Rattle.seg_columns.specs.Columns.{AreKnown, IsColumn, row_of, rows_of, value_at}
 use Rattle.seg_columns.specs.Ends.{start_at}
-use Rattle.seg_columns.proofs.RowSteps.{known}
+use Rattle.seg_columns.proofs.DocumentValues.{known}
 use Rattle.seg_column_format.specs.ColumnBytes.{ends_from, number_bytes, total}
-use Rattle.seg_column_format.proofs.Parts.{total-append}
+use Rattle.seg_column_format.proofs.PartEnds.{total-append}
 use Rattle.seg_column_file.specs.RowOrders.{Place, rows_from, stacked}
-use Rattle.seg_column_merge_parts.specs.Sources.{AddsEnds, first_rows, joined, row_codes}
+use Rattle.seg_column_merge_parts.specs.SourceRows.{AddsEnds, first_rows, joined, row_codes}
 use Rattle.seg_column_merge_parts.specs.declared.source.Source.{Source}
 use Rattle.seg_column_merge_parts.specs.declared.source.Source.TheVariants.{Nothing}
 use Rattle.seg_column_merge_parts.proofs.FirstRows.{behind, next_file}
-use Rattle.seg_column_merge_parts.proofs.ValueSteps.{AreOctets, no_start, octets_left, octets_taken}
+use Rattle.seg_column_merge_parts.proofs.RowValueBytes.{AreOctets, no_start, octets_left, octets_taken}
 
 -- ---- of several lists of rows
 

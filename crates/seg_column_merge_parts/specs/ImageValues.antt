@@ -1,6 +1,6 @@
 -- The values that numbers stand for in the columns of a type.
 use Rattle.std.specs.Prelude.{ℕ, pos}
-use Rattle.seg_common.specs.Mappable.{lowered, is_one}
+use Rattle.seg_common.specs.MappableValues.{lowered, is_one}
 use Rattle.seg_common.specs.declared.column_type.ColumnType.{ColumnType}
 use Rattle.seg_common.specs.declared.column_type.ColumnType.TheVariants.{I64, Bool as Boolean, DateTime}
 use Rattle.seg_model.specs.Columns.{ColumnValue, number, boolean_value, date_value}

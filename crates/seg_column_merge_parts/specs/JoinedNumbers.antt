@@ -1,7 +1,7 @@
 -- The numbers that are written for the rows of a merged column.
 use Rattle.std.specs.Prelude.{ℕ, List, [], map, get_or}
 use Rattle.seg_column_file.specs.RowOrders.{Place}
-use Rattle.seg_column_merge_parts.specs.Sources.{mapped}
+use Rattle.seg_column_merge_parts.specs.SourceRows.{mapped}
 use Rattle.seg_column_merge_parts.specs.declared.source.Source.{Source}
 use Rattle.seg_column_merge_parts.specs.declared.source.Source.TheVariants.{Nothing, Numbers, Addresses}
 

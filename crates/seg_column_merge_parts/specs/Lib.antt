@@ -5,7 +5,7 @@ pub mod JoinedNumbers
 pub mod KeptColumns
 pub mod MergedTerms
 pub mod NumberRanges
-pub mod Sources
+pub mod SourceRows
 pub mod Tables
 pub mod TermHeads
 pub mod TermSources

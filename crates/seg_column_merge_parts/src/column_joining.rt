@@ -3,7 +3,7 @@ ghost use Rattle.std.specs.Prelude.{◌≡◌, ◌^◌, ◌<◌, ◌++◌, ℕ, 
 ghost use Rattle.std.specs.List.{flat_map};
 ghost use Rattle.seg_column_format.specs.ColumnBytes.{column_bytes, ends_from, number_bytes, total};
 ghost use Rattle.seg_column_file.specs.RowOrders.{rows_from, rows_in_order, stacked};
-ghost use Rattle.seg_column_merge_parts.specs.Sources.{AddsEnds, IsPut, joined};
+ghost use Rattle.seg_column_merge_parts.specs.SourceRows.{AddsEnds, IsPut, joined};
 
 use crate::source::Source;
 use seg_column_file::{MergeRowOrder, OrderedRows};

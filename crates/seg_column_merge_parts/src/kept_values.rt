@@ -52,7 +52,7 @@ fn has_value<T: ColumnValue>(column: &Column<T>, kept: &[bool]) -> bool
 }
 
 /// Whether a row has a value, if it is kept.
-#[tactic(auto, using(crate::proofs::KeptSteps::first_there))]
+#[tactic(auto, using(crate::proofs::KeptRowValues::first_there))]
 fn row_has_value<T: ColumnValue>(column: &Column<T>, row: u32, is_kept: bool) -> bool
     requires { row < length column.now }
     ensures { result ≡ list_any there (if is_kept then get_or column.now row [] else []) }

@@ -3,10 +3,10 @@ ghost use Rattle.std.specs.Prelude.{◌≡◌, ◌^◌, ◌<◌, ◌||◌, ◌&&
 ghost use Rattle.std.specs.Int.{is_negative};
 ghost use Rattle.std.specs.List.{AllByRecursion, list_any};
 ghost use Rattle.seg_common.specs.declared.column_type.ColumnType.TheVariants.{I64, U64};
-ghost use Rattle.seg_common.specs.Mappable.{lowered};
+ghost use Rattle.seg_common.specs.MappableValues.{lowered};
 ghost use Rattle.seg_model.specs.Columns.{ColumnValue, fits_i64, free_number_type, is_not_negative};
 ghost use Rattle.seg_columns.specs.Columns.{IsColumn, rows_of};
-ghost use Rattle.seg_columns.specs.Images.{signed, unsigned};
+ghost use Rattle.seg_columns.specs.ValueImages.{signed, unsigned};
 ghost use Rattle.seg_column_format.specs.ColumnBytes.{column_bytes, total};
 ghost use Rattle.seg_column_merge_parts.specs.declared.number_range.NumberRange.{NumberRange};
 ghost use Rattle.seg_column_merge_parts.specs.declared.source.Source.{Source};
@@ -17,7 +17,7 @@ ghost use Rattle.seg_column_merge_parts.specs.KeptColumns.{there};
 ghost use Rattle.seg_column_file.specs.KeptRows.{AreMarks, kept_values};
 ghost use Rattle.seg_column_merge_parts.specs.NumberRanges.{is_large, type_of_range, with_all, with_signed, with_unsigned};
 ghost use Rattle.seg_column_file.specs.RowOrders.{Place};
-ghost use Rattle.seg_column_merge_parts.specs.Sources.{CanMap, joined, mapped};
+ghost use Rattle.seg_column_merge_parts.specs.SourceRows.{CanMap, joined, mapped};
 
 /// The range of numbers tells their type, as the model has it.
 pub fn ranges_tell_types()

@@ -1,6 +1,6 @@
 //! What is written for the numbers of a column.
 ghost use Rattle.std.specs.Prelude.{◌≡◌};
-ghost use Rattle.seg_column_merge_parts.specs.Sources.{CanMap, mapped};
+ghost use Rattle.seg_column_merge_parts.specs.SourceRows.{CanMap, mapped};
 
 use seg_common::MonotonicallyMappableToU64;
 

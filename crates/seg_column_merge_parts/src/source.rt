@@ -2,7 +2,7 @@
 ghost use Rattle.std.specs.Prelude.{◌≡◌, ◌+◌, ◌^◌, ◌<◌, ◌≤◌, ◌++◌, All, length, take, IfOk, IfSome, OnOk};
 ghost use Rattle.std.specs.List.{flat_map};
 ghost use Rattle.std.specs.Net.Addr.{ipv6_octets};
-ghost use Rattle.seg_column_merge_parts.specs.Sources.{AddsEnds, CanMap, CanPut, CanPutFirst, first_rows, number_code, row_codes};
+ghost use Rattle.seg_column_merge_parts.specs.SourceRows.{AddsEnds, CanMap, CanPut, CanPutFirst, first_rows, number_code, row_codes};
 
 use crate::number_map::NumberMap;
 use crate::row_ends::{put_ends_after, put_same_ends};

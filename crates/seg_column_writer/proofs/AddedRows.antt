@@ -2,11 +2,11 @@
 use Rattle.std.proofs.Common.{◌≡◌, ℕ, ◌<◌, ◌^◌, Bool, List, ◌++◌, map, sym, ap, subst, ◌∙◌}
 use Rattle.std.specs.List.{AllByRecursion}
 use Rattle.seg_column_format.specs.ColumnBytes.{column_bytes, total}
-use Rattle.seg_column_writer.specs.Encoded.{AddsValues}
-use Rattle.seg_column_format.specs.Rows.{Rise, rows_from}
+use Rattle.seg_column_writer.specs.EncodedColumns.{AddsValues}
+use Rattle.seg_column_format.specs.ValuesByRow.{Rise, rows_from}
 use Rattle.seg_column_format.specs.declared.row_number.RowNumber.{RowNumber}
 use Rattle.seg_column_writer.specs.declared.row_value.RowValue.{RowValue}
-use Rattle.seg_column_writer.proofs.Arranging.{all_of_rows, bytes_are, number, numbered_below, numbered_by, numbered_rise, row, still_all, still_rise, total_is}
+use Rattle.seg_column_writer.proofs.ArrangedValues.{all_of_rows, bytes_are, number, numbered_below, numbered_by, numbered_rise, row, still_all, still_rise, total_is}
 
 module _ (g : RowValue → ℕ) (encoded : RowNumber → List ℕ) (sorts : Bool) (values : List RowValue)
     (rise : Rise (λ (v : RowValue). v.row) 0 values) (count : ℕ)

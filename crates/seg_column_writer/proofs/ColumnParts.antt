@@ -6,23 +6,23 @@ use Rattle.std.specs.Ordering.{int_cmp, is_gt, nat_cmp}
 use Rattle.std.proofs.lemmas.Bool.{false≢true}
 use Rattle.std.proofs.lemmas.Bool.Decides.{nat_tests}
 use Rattle.std.proofs.lemmas.List.FromFn.{length-map-range_with_len}
-use Rattle.seg_common.specs.Mappable.{bit, is_bit, is_one, lowered}
+use Rattle.seg_common.specs.MappableValues.{bit, is_bit, is_one, lowered}
 use Rattle.seg_common.specs.MappableLaws.{lowered-fits, raised-in_order, raised-lowered}
 use Rattle.seg_common.specs.declared.column_type.ColumnType.{ColumnType}
 use Rattle.seg_model.specs.Columns.{ColumnValue}
 use Rattle.seg_columns.specs.DynamicColumns.{IsColumnOf, column_of}
-use Rattle.seg_column_writer.specs.Encoded.{IsArranged, IsColumnBytes}
+use Rattle.seg_column_writer.specs.EncodedColumns.{IsArranged, IsColumnBytes}
 use Rattle.seg_column_format.specs.ModelColumns.{column_rows}
-use Rattle.seg_column_writer.specs.Recorded.{row_values, value_cmp}
-use Rattle.seg_column_writer.specs.Records.{Recording, RowedValue}
-use Rattle.seg_column_format.specs.Rows.{of_row, rows_from}
+use Rattle.seg_column_writer.specs.RecordedColumns.{row_values, value_cmp}
+use Rattle.seg_column_writer.specs.ColumnRecords.{Recording, RowedValue}
+use Rattle.seg_column_format.specs.ValuesByRow.{of_row, rows_from}
 use Rattle.seg_column_writer.specs.RowValues.{value_of}
-use Rattle.seg_column_writer.specs.Sound.{rowed}
+use Rattle.seg_column_writer.specs.SoundColumns.{rowed}
 use Rattle.seg_column_format.specs.declared.row_number.RowNumber.{RowNumber}
 use Rattle.seg_column_writer.specs.declared.row_value.RowValue.{RowValue}
 use Rattle.seg_column_writer.specs.declared.value_kind.ValueKind.{ValueKind}
-use Rattle.seg_column_writer.proofs.Arranging.{arranged_values, number, numbered_by, row, row_seen}
-use Rattle.seg_column_writer.proofs.Encoding.{Encodes, seen_value}
+use Rattle.seg_column_writer.proofs.ArrangedValues.{arranged_values, number, numbered_by, row, row_seen}
+use Rattle.seg_column_writer.proofs.EncodedColumns.{Encodes, seen_value}
 
 module _ (kind : ValueKind) (terms : List (List ℕ)) (seen : ℕ → ColumnValue) (g : RowValue → ℕ) where
   abbrev pub IsSeen : RowValue → Type 0

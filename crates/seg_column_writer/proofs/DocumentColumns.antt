@@ -8,20 +8,20 @@ use Rattle.std.proofs.lemmas.Bool.{false≢true, or_from, true≢false}
 use Rattle.std.proofs.lemmas.Bool.Decides.{Decides-eqb}
 use Rattle.std.proofs.lemmas.List.Folds.{list_any-append}
 use Rattle.std.proofs.Math.Bool.{and-false}
-use Rattle.seg_common.proofs.Tables.{IsComplete, IsCovered, any_same, first_false, same_table, second_false}
-use Rattle.seg_common.specs.Tables.{is_among, tabulated}
+use Rattle.seg_common.proofs.TabulatedMaps.{IsComplete, IsCovered, any_same, first_false, same_table, second_false}
+use Rattle.seg_common.specs.TabulatedMaps.{is_among, tabulated}
 use Rattle.seg_common.specs.declared.column_type.ColumnType.{ColumnType}
 use Rattle.seg_common.specs.declared.column_type.ColumnType.TheVariants as types
 use Rattle.seg_model.proofs.Exports.{column_cmp_total, values_at-none}
 use Rattle.seg_model.specs.Columns.{ColumnKey, ColumnValue, FastValue, column_at, column_cmp, columns_from, columns_of, fits_i64, if_there, is_declared, is_filled, is_mixed, is_not_negative, is_number, is_type, number_type, rows_of, type_place, value_keys, values_at, without_values}
-use Rattle.seg_column_writer.specs.Documents.{AreArranged, arranged, sorts_at, with_rows}
-use Rattle.seg_column_writer.specs.Kinds.{kind_of}
-use Rattle.seg_column_writer.specs.Recorded.{all_types, declared_in, keys_in, keys_with, recorded_columns, rows_at, rows_in}
-use Rattle.seg_column_writer.specs.Records.{ColumnRecord, is_named}
+use Rattle.seg_column_writer.specs.DocumentRows.{AreArranged, arranged, sorts_at, with_rows}
+use Rattle.seg_column_writer.specs.ValueKinds.{kind_of}
+use Rattle.seg_column_writer.specs.RecordedColumns.{all_types, declared_in, keys_in, keys_with, recorded_columns, rows_at, rows_in}
+use Rattle.seg_column_writer.specs.ColumnRecords.{ColumnRecord, is_named}
 use Rattle.seg_column_writer.proofs.DocumentRows.{declared_rows, row_with_rows, rows_added, rows_are, rows_split, sorts_rows, values_of_row}
-use Rattle.seg_column_writer.proofs.Bridge.{key_eq, no_rows}
-use Rattle.seg_column_writer.proofs.RowSteps.{named_path}
-use Rattle.seg_column_writer.proofs.Whole.{all_fail, apart_keys}
+use Rattle.seg_column_writer.proofs.RecordedKeys.{key_eq, no_rows}
+use Rattle.seg_column_writer.proofs.RowOrderedColumns.{named_path}
+use Rattle.seg_column_writer.proofs.WholeFiles.{all_fail, apart_keys}
 
 abbrev Rows : Type 0
 Rows = List (List ColumnValue)

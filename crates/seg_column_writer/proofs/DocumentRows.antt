@@ -9,19 +9,19 @@ use Rattle.std.proofs.lemmas.Bool.{and_parts, false≢true}
 use Rattle.std.proofs.lemmas.Bool.Decides.{Decides-eqb, nat_tests}
 use Rattle.std.proofs.lemmas.List.{map-append}
 use Rattle.std.proofs.lemmas.List.Elements.{filter-append}
-use Rattle.seg_common.specs.Tables.{is_among}
+use Rattle.seg_common.specs.TabulatedMaps.{is_among}
 use Rattle.seg_common.specs.declared.column_type.ColumnType.{ColumnType}
 use Rattle.seg_common.specs.declared.column_type.ColumnType.TheVariants as types
 use Rattle.seg_model.specs.Columns.{ColumnKey, ColumnValue, FastValue, number, bytes_value, text_value, boolean_value, ip_value, date_value, column_cmp, column_named, type_place, value_keys, value_types, values_at}
-use Rattle.seg_column_writer.specs.Documents.{arranged, kind_of_value, sorts_at, with_rows, with_values}
-use Rattle.seg_column_writer.specs.Kinds.{kind_of, kind_place}
-use Rattle.seg_column_writer.specs.Recorded.{declared_in, rows_at, rows_in}
-use Rattle.seg_column_writer.specs.Records.{ColumnRecord, Recording, RowedValue, changed_at, is_named, place_of, with_column, with_value}
-use Rattle.seg_column_writer.specs.Takes.{with_recorded}
+use Rattle.seg_column_writer.specs.DocumentRows.{arranged, kind_of_value, sorts_at, with_rows, with_values}
+use Rattle.seg_column_writer.specs.ValueKinds.{kind_of, kind_place}
+use Rattle.seg_column_writer.specs.RecordedColumns.{declared_in, rows_at, rows_in}
+use Rattle.seg_column_writer.specs.ColumnRecords.{ColumnRecord, Recording, RowedValue, changed_at, is_named, place_of, with_column, with_value}
+use Rattle.seg_column_writer.specs.RecordingRules.{with_recorded}
 use Rattle.seg_column_writer.specs.declared.value_kind.ValueKind.{ValueKind}
-use Rattle.seg_column_writer.proofs.Bridge.{key_eq}
-use Rattle.seg_column_writer.proofs.RowSteps.{any_with, named_path, new_column, place_with}
-use Rattle.seg_column_writer.proofs.TakeLaws.{kind_named}
+use Rattle.seg_column_writer.proofs.RecordedKeys.{key_eq}
+use Rattle.seg_column_writer.proofs.RowOrderedColumns.{any_with, named_path, new_column, place_with}
+use Rattle.seg_column_writer.proofs.RecordingRules.{kind_named}
 
 -- ---- values of a row, as they came
 

@@ -6,28 +6,28 @@ use Rattle.std.specs.List.{AllByRecursion}
 use Rattle.std.specs.Ordering.{is_gt}
 use Rattle.std.proofs.lemmas.Bool.{false≢true}
 use Rattle.std.proofs.lemmas.Bool.Decides.{nat_tests}
-use Rattle.seg_common.specs.Mappable.{is_bit, lowered, raised}
+use Rattle.seg_common.specs.MappableValues.{is_bit, lowered, raised}
 use Rattle.seg_common.specs.MappableLaws.{lowered-raised}
 use Rattle.seg_common.specs.declared.column_type.ColumnType.{ColumnType}
 use Rattle.seg_common.specs.declared.column_type.ColumnType.TheVariants as types
 use Rattle.seg_model.specs.Columns.{number as number_value}
 use Rattle.seg_column_format.specs.ColumnBytes.{column_bytes, total}
-use Rattle.seg_column_writer.specs.Encoded.{AddsColumn, AddsValues, IsColumnBytes, image_of, imaged}
+use Rattle.seg_column_writer.specs.EncodedColumns.{AddsColumn, AddsValues, IsColumnBytes, image_of, imaged}
 use Rattle.seg_column_format.specs.RowNumbers.{eight_bytes}
-use Rattle.seg_column_writer.specs.Kinds.{kind_of}
-use Rattle.seg_column_writer.specs.Records.{Recording, RowedValue}
-use Rattle.seg_column_writer.specs.Recorded.{option_or, type_of_values, value_cmp}
-use Rattle.seg_column_format.specs.Rows.{Rise, rows_from}
+use Rattle.seg_column_writer.specs.ValueKinds.{kind_of}
+use Rattle.seg_column_writer.specs.ColumnRecords.{Recording, RowedValue}
+use Rattle.seg_column_writer.specs.RecordedColumns.{option_or, type_of_values, value_cmp}
+use Rattle.seg_column_format.specs.ValuesByRow.{Rise, rows_from}
 use Rattle.seg_column_writer.specs.RowValues.{integer_of, value_of}
-use Rattle.seg_column_writer.specs.Sound.{AreSound, Fits, has_terms, rowed}
+use Rattle.seg_column_writer.specs.SoundColumns.{AreSound, Fits, has_terms, rowed}
 use Rattle.seg_column_format.specs.declared.row_number.RowNumber.{RowNumber}
 use Rattle.seg_column_writer.specs.declared.row_value.RowValue.{RowValue}
 use Rattle.seg_column_writer.specs.declared.value_kind.ValueKind.{ValueKind}
 use Rattle.seg_column_writer.specs.declared.value_kind.ValueKind.TheVariants.{Number, Bool as Boolean, DateTime}
 use Rattle.seg_column_writer.proofs.AddedRows.{bytes_added, few, fit}
-use Rattle.seg_column_writer.proofs.Arranging.{all_before, all_of_rows, number, row, still_all}
+use Rattle.seg_column_writer.proofs.ArrangedValues.{all_before, all_of_rows, number, row, still_all}
 use Rattle.seg_column_writer.proofs.ColumnParts.{column_bytes_are, signed_rising, truths_rising, unsigned_rising}
-use Rattle.seg_column_writer.proofs.Encoding.{Encodes, dates_encoded, seen_value, signed_encoded, truths_encoded, unsigned_encoded}
+use Rattle.seg_column_writer.proofs.EncodedColumns.{Encodes, dates_encoded, seen_value, signed_encoded, truths_encoded, unsigned_encoded}
 use Rattle.seg_column_writer.proofs.TypedValues.{IsOfType, each_of_type, kind_is}
 
 -- ---- of each value

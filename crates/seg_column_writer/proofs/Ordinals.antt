@@ -11,8 +11,8 @@ use Rattle.std.proofs.lemmas.Cmp.{tied_itself}
 use Rattle.std.proofs.lemmas.List.{get_or-map, get_or_default, length-map}
 use Rattle.std.proofs.lemmas.List.FromFn.{get_or-range_with_len, length-range_with_len}
 use Rattle.std.proofs.lemmas.List.Sorted.{Contains-permutation, length_permutation}
-use Rattle.seg_column_format.specs.Terms.{IsOrder, terms_at}
-use Rattle.seg_column_format.proofs.TermSorting.{below_many}
+use Rattle.seg_column_format.specs.NumberedTerms.{IsOrder, terms_at}
+use Rattle.seg_column_format.proofs.SortedTerms.{below_many}
 
 module _ (terms : List (List ℕ)) (numbers ordinals : List ℕ) (is : IsOrder terms numbers ordinals) where
   abbrev sorted : List (List ℕ)

@@ -15,25 +15,25 @@ use Rattle.seg_common.proofs.Lists.{all_at}
 use Rattle.seg_model.specs.Columns.{ColumnValue, bytes_value, ip_value, text_value}
 use Rattle.seg_columns.specs.TermColumns.{UsesEach}
 use Rattle.seg_column_format.specs.ColumnBytes.{column_bytes, dictionary_bytes, term_column_bytes, total}
-use Rattle.seg_column_writer.specs.Encoded.{AddsAddresses, AddsColumn, AddsTexts, AddsValues, IsArranged, IsColumnBytes, ranked}
+use Rattle.seg_column_writer.specs.EncodedColumns.{AddsAddresses, AddsColumn, AddsTexts, AddsValues, IsArranged, IsColumnBytes, ranked}
 use Rattle.seg_column_format.specs.RowNumbers.{eight_bytes, term_bytes}
-use Rattle.seg_column_writer.specs.Kinds.{kind_of}
-use Rattle.seg_column_writer.specs.Recorded.{value_cmp}
-use Rattle.seg_column_format.specs.Rows.{Rise, rows_from}
+use Rattle.seg_column_writer.specs.ValueKinds.{kind_of}
+use Rattle.seg_column_writer.specs.RecordedColumns.{value_cmp}
+use Rattle.seg_column_format.specs.ValuesByRow.{Rise, rows_from}
 use Rattle.seg_column_writer.specs.RowValues.{value_of}
-use Rattle.seg_column_writer.specs.Sound.{AreSound, Fits, IsTermOf}
-use Rattle.seg_column_format.specs.Terms.{IsOrder, terms_at}
+use Rattle.seg_column_writer.specs.SoundColumns.{AreSound, Fits, IsTermOf}
+use Rattle.seg_column_format.specs.NumberedTerms.{IsOrder, terms_at}
 use Rattle.seg_column_format.specs.declared.row_number.RowNumber.{RowNumber}
 use Rattle.seg_column_writer.specs.declared.row_value.RowValue.{RowValue}
 use Rattle.seg_column_writer.specs.declared.value_kind.ValueKind.{ValueKind}
 use Rattle.seg_column_writer.specs.declared.value_kind.ValueKind.TheVariants.{Bytes, IpAddr, Str}
 use Rattle.seg_column_writer.proofs.AddedRows.{bytes_added, few, numbers_below, numbers_rise}
-use Rattle.seg_column_writer.proofs.Arranging.{all_of_rows, number, row, still_all, whole}
+use Rattle.seg_column_writer.proofs.ArrangedValues.{all_of_rows, number, row, still_all, whole}
 use Rattle.seg_column_writer.proofs.ColumnParts.{column_bytes_are}
-use Rattle.seg_column_writer.proofs.Encoding.{AreOctets, Encodes, addresses_encoded, bytes_encoded, bytes_map, seen_value, texts_encoded}
+use Rattle.seg_column_writer.proofs.EncodedColumns.{AreOctets, Encodes, addresses_encoded, bytes_encoded, bytes_map, seen_value, texts_encoded}
 use Rattle.seg_column_writer.proofs.ImageColumns.{recorded}
 use Rattle.seg_column_writer.proofs.Ordinals.{many, ordinal_below, ordinal_of_place, ordinal_term, terms_rising}
-use Rattle.seg_column_format.proofs.TermSorting.{below_many}
+use Rattle.seg_column_format.proofs.SortedTerms.{below_many}
 
 -- ---- a value among rows
 

@@ -9,15 +9,15 @@ use Rattle.std.proofs.lemmas.Option.{same_Some}
 use Rattle.seg_common.specs.declared.column_type.ColumnType.{ColumnType}
 use Rattle.seg_common.specs.declared.column_type.ColumnType.TheVariants as types
 use Rattle.seg_model.specs.Columns.{ColumnValue, fits_i64, is_not_negative}
-use Rattle.seg_column_writer.specs.Kinds.{kind_of}
-use Rattle.seg_column_writer.specs.Recorded.{option_or, type_of_values}
-use Rattle.seg_column_writer.specs.Records.{RowedValue}
+use Rattle.seg_column_writer.specs.ValueKinds.{kind_of}
+use Rattle.seg_column_writer.specs.RecordedColumns.{option_or, type_of_values}
+use Rattle.seg_column_writer.specs.ColumnRecords.{RowedValue}
 use Rattle.seg_column_writer.specs.RowValues.{fits_signed, fits_unsigned}
-use Rattle.seg_column_writer.specs.Sound.{AreSound, IsDeclared, MarksTell, rowed}
+use Rattle.seg_column_writer.specs.SoundColumns.{AreSound, IsDeclared, MarksTell, rowed}
 use Rattle.seg_column_writer.specs.declared.row_value.RowValue.{RowValue}
 use Rattle.seg_column_writer.specs.declared.value_kind.ValueKind.{ValueKind}
 use Rattle.seg_column_writer.specs.declared.value_kind.ValueKind.TheVariants.{Number, Bytes, Str, Bool as Boolean, IpAddr, DateTime}
-use Rattle.seg_column_writer.proofs.SoundLaws.{signed_test, unsigned_test}
+use Rattle.seg_column_writer.proofs.SoundColumns.{signed_test, unsigned_test}
 
 -- ---- the kind
 

@@ -1,6 +1,6 @@
 -- Values of a column by their numbers.
 use Rattle.std.specs.Prelude.{ℕ, ℤ, pos, negsuc, ◌^◌, List, [], Bool, true, false, get_or, nat_lt, not}
-use Rattle.seg_common.specs.Mappable.{lowered, is_one}
+use Rattle.seg_common.specs.MappableValues.{lowered, is_one}
 use Rattle.seg_model.specs.Columns.{ColumnValue, number, bytes_value, text_value, boolean_value, ip_value, date_value}
 use Rattle.seg_column_writer.specs.declared.numerical_value.NumericalValue.{NumericalValue}
 use Rattle.seg_column_writer.specs.declared.numerical_value.NumericalValue.TheVariants as numbers

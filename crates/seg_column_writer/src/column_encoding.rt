@@ -2,10 +2,10 @@
 ghost use Rattle.std.specs.Prelude.{◌≡◌, ◌<◌, ◌^◌, get_or, map, IfOk, OnOk};
 ghost use Rattle.std.specs.List.{AllByRecursion};
 ghost use Rattle.seg_common.specs.declared.column_type.ColumnType.TheVariants as types;
-ghost use Rattle.seg_column_writer.specs.Encoded.{AddsValues, IsArranged, image_of, imaged, ranked};
+ghost use Rattle.seg_column_writer.specs.EncodedColumns.{AddsValues, IsArranged, image_of, imaged, ranked};
 ghost use Rattle.seg_column_format.specs.RowNumbers.{eight_bytes, term_bytes};
-ghost use Rattle.seg_column_format.specs.Rows.{Rise};
-ghost use Rattle.seg_column_format.specs.Terms.{terms_at};
+ghost use Rattle.seg_column_format.specs.ValuesByRow.{Rise};
+ghost use Rattle.seg_column_format.specs.NumberedTerms.{terms_at};
 
 use crate::row_value::RowValue;
 use seg_column_format::{RowNumber, TermOrder, TermTable, put_numbers, put_ordered_terms};

@@ -1,7 +1,7 @@
 //! The name of a column, as the table of columns keeps it and is asked for it.
 ghost use Rattle.std.specs.Prelude.{◌≡◌, ◌++◌, [], ◌∷◌, IfOk};
 ghost use Rattle.std.specs.Cmp.{partial_equiv_from_equiv, on_equiv, on_per};
-ghost use Rattle.seg_column_writer.specs.Names.{asked, name_eq, name_eq_equiv, writes, same_writes};
+ghost use Rattle.seg_column_writer.specs.PathKinds.{asked, name_eq, name_eq_equiv, writes, same_writes};
 
 use indexmap::Equivalent;
 use std::alloc::{AllocError, Global};
@@ -16,7 +16,7 @@ pub(crate) struct ColumnName {
 }
 
 impl Model for ColumnName {
-    ghost use Rattle.seg_column_writer.specs.Names.{PathKind};
+    ghost use Rattle.seg_column_writer.specs.PathKinds.{PathKind};
 
     ghost Value = { PathKind };
 

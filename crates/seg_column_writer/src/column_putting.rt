@@ -1,8 +1,8 @@
 //! A recorded column as a file has it.
 ghost use Rattle.std.specs.Prelude.{◌≡◌, ◌<◌, Some, All, OnOk};
-ghost use Rattle.seg_column_writer.specs.Encoded.{AddsAddresses, AddsColumn, AddsTexts};
-ghost use Rattle.seg_column_writer.specs.Recorded.{column_type_of};
-ghost use Rattle.seg_column_format.specs.Rows.{Rise};
+ghost use Rattle.seg_column_writer.specs.EncodedColumns.{AddsAddresses, AddsColumn, AddsTexts};
+ghost use Rattle.seg_column_writer.specs.RecordedColumns.{column_type_of};
+ghost use Rattle.seg_column_format.specs.ValuesByRow.{Rise};
 
 use crate::column_encoding::{put_images, put_ordinals, put_terms};
 use crate::known_values::KnownValues;

@@ -3,9 +3,9 @@ ghost use Rattle.std.specs.Prelude.{◌≡◌, OnOk, OnErr, IfErr};
 ghost use Rattle.std.specs.Net.Addr.{ipv6_octets};
 ghost use Rattle.seg_columns.specs.declared.error.ColumnError.TheVariants.{OutOfMemory};
 ghost use Rattle.seg_model.specs.Columns.{number, bytes_value, text_value, boolean_value, ip_value, date_value};
-ghost use Rattle.seg_column_writer.specs.Records.{changed_at, with_value};
+ghost use Rattle.seg_column_writer.specs.ColumnRecords.{changed_at, with_value};
 ghost use Rattle.seg_column_writer.specs.RowValues.{number_in};
-ghost use Rattle.seg_column_writer.specs.Takes.{At, CanTake};
+ghost use Rattle.seg_column_writer.specs.RecordingRules.{At, CanTake};
 ghost use Rattle.seg_column_writer.specs.declared.value_kind.ValueKind.TheVariants as kinds;
 
 use crate::numerical_value::NumericalValue;

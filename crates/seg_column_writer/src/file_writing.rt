@@ -1,7 +1,7 @@
 //! The whole file from its columns in order.
 ghost use Rattle.std.specs.Prelude.{IfOk, OnOk, map};
-ghost use Rattle.seg_column_writer.specs.Filed.{AddsEntry};
-ghost use Rattle.seg_column_writer.specs.Typed.{AreTyped, IsFileOf, IsTyped, entry_at};
+ghost use Rattle.seg_column_writer.specs.FiledColumns.{AddsEntry};
+ghost use Rattle.seg_column_writer.specs.TypedColumns.{AreTyped, IsFileOf, IsTyped, entry_at};
 
 use crate::column_name::ColumnName;
 use crate::recorded_column::RecordedColumn;

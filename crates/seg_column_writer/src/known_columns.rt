@@ -1,13 +1,13 @@
 //! The columns so far, each by its path and the kind of its values.
 ghost use Rattle.std.specs.Prelude.{◌≡◌, ◌<◌, [], false, length, OnOk, OnErr, IfOk, IfErr};
 ghost use Rattle.std.specs.List.{AllByRecursion, list_any, position_or_len};
-ghost use Rattle.seg_column_writer.specs.Kinds.{kind_place};
-ghost use Rattle.seg_column_writer.specs.Known.{AreKept, IsChanged, IsPlaced, IsSound, column_in, named, records_in};
-ghost use Rattle.seg_column_writer.specs.Names.{asked, name_eq};
-ghost use Rattle.seg_column_writer.specs.Recorded.{recorded_columns};
-ghost use Rattle.seg_column_writer.specs.Records.{with_type};
-ghost use Rattle.seg_column_writer.specs.Takes.{CanDeclare, CanPush, CanPushTerm, pushed, pushed_term};
-ghost use Rattle.seg_column_writer.specs.Typed.{AreReady, IsRecordedFile, IsWithin, refusal_of};
+ghost use Rattle.seg_column_writer.specs.ValueKinds.{kind_place};
+ghost use Rattle.seg_column_writer.specs.NamedColumns.{AreKept, IsChanged, IsPlaced, IsSound, column_in, named, records_in};
+ghost use Rattle.seg_column_writer.specs.PathKinds.{asked, name_eq};
+ghost use Rattle.seg_column_writer.specs.RecordedColumns.{recorded_columns};
+ghost use Rattle.seg_column_writer.specs.ColumnRecords.{with_type};
+ghost use Rattle.seg_column_writer.specs.RecordingRules.{CanDeclare, CanPush, CanPushTerm, pushed, pushed_term};
+ghost use Rattle.seg_column_writer.specs.TypedColumns.{AreReady, IsRecordedFile, IsWithin, refusal_of};
 
 use crate::column_name::{ColumnName, NameParts};
 use crate::file_writing::write_file;

@@ -1,6 +1,6 @@
 //! Values that came, by their numbers, and the distinct terms of those that have one.
 ghost use Rattle.std.specs.Prelude.{◌≡◌, [], ◌∷◌, ◌++◌, OnOk, OnErr};
-ghost use Rattle.seg_column_writer.specs.Sound.{IsAdded, IsKept};
+ghost use Rattle.seg_column_writer.specs.SoundColumns.{IsAdded, IsKept};
 
 use crate::row_value::RowValue;
 use seg_column_format::TermTable;

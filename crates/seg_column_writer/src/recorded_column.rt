@@ -1,12 +1,12 @@
 //! A column while its values come.
 ghost use Rattle.std.specs.Prelude.{◌≡◌, ◌&&◌, if◌then◌else◌, None, Some, [], false, map, All, OnOk, OnErr};
-ghost use Rattle.seg_column_writer.specs.Kinds.{kind_of};
+ghost use Rattle.seg_column_writer.specs.ValueKinds.{kind_of};
 ghost use Rattle.seg_common.specs.declared.column_type.ColumnType.TheVariants as types;
-ghost use Rattle.seg_column_writer.specs.Recorded.{IsRecorded, column_type_of, is_there, type_of_values};
-ghost use Rattle.seg_column_writer.specs.Records.{Accepts, HasReached, with_type, with_value};
+ghost use Rattle.seg_column_writer.specs.RecordedColumns.{IsRecorded, column_type_of, is_there, type_of_values};
+ghost use Rattle.seg_column_writer.specs.ColumnRecords.{Accepts, HasReached, with_type, with_value};
 ghost use Rattle.seg_column_writer.specs.RowValues.{term_value, value_of};
-ghost use Rattle.seg_column_writer.specs.Sound.{Fits, IsTermOf};
-ghost use Rattle.seg_column_writer.specs.Typed.{written_type};
+ghost use Rattle.seg_column_writer.specs.SoundColumns.{Fits, IsTermOf};
+ghost use Rattle.seg_column_writer.specs.TypedColumns.{written_type};
 
 use crate::known_values::KnownValues;
 use crate::row_value::RowValue;
@@ -29,8 +29,8 @@ pub(crate) struct RecordedColumn {
 
 impl Model for RecordedColumn {
     ghost use Rattle.std.specs.Prelude.{map};
-    ghost use Rattle.seg_column_writer.specs.Records.{Recording};
-    ghost use Rattle.seg_column_writer.specs.Sound.{AreSound, rowed};
+    ghost use Rattle.seg_column_writer.specs.ColumnRecords.{Recording};
+    ghost use Rattle.seg_column_writer.specs.SoundColumns.{AreSound, rowed};
 
     ghost Value = { Recording };
 

@@ -4,8 +4,8 @@ ghost use Rattle.std.specs.List.{AllByRecursion, list_any};
 ghost use Rattle.std.specs.List.Sorted.{IsPermutation, IsSortedBy};
 ghost use Rattle.std.specs.Ordering.{is_lt};
 ghost use Rattle.seg_model.specs.Columns.{column_cmp};
-ghost use Rattle.seg_column_writer.specs.Recorded.{IsRecorded, lacks_type};
-ghost use Rattle.seg_column_writer.specs.Typed.{key_at, path_in, typed_at, typed_from};
+ghost use Rattle.seg_column_writer.specs.RecordedColumns.{IsRecorded, lacks_type};
+ghost use Rattle.seg_column_writer.specs.TypedColumns.{key_at, path_in, typed_at, typed_from};
 
 use crate::column_name::ColumnName;
 use crate::recorded_column::RecordedColumn;

@@ -1,6 +1,6 @@
 //! Which values of a path are in one column.
 ghost use Rattle.std.specs.Prelude.{◌≡◌};
-ghost use Rattle.seg_column_writer.specs.Kinds.{kind_of, kind_place};
+ghost use Rattle.seg_column_writer.specs.ValueKinds.{kind_of, kind_place};
 
 use seg_common::ColumnType;
 

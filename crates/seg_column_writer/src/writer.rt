@@ -3,13 +3,13 @@ ghost use Rattle.std.specs.Prelude.{◌≡◌, [], OnOk, OnErr, IfOk, IfErr};
 ghost use Rattle.std.specs.List.{AllByRecursion};
 ghost use Rattle.seg_column_file.specs.ColumnFiles.{IsColumnFile, column_file_of, row_count};
 ghost use Rattle.seg_columns.specs.declared.error.ColumnError.TheVariants.{OutOfMemory};
-ghost use Rattle.seg_column_writer.specs.Kinds.{kind_of};
-ghost use Rattle.seg_column_writer.specs.Known.{usage_of};
+ghost use Rattle.seg_column_writer.specs.ValueKinds.{kind_of};
+ghost use Rattle.seg_column_writer.specs.NamedColumns.{usage_of};
 ghost use Rattle.seg_column_format.specs.ModelColumns.{columns_in};
-ghost use Rattle.seg_column_writer.specs.Recorded.{recorded_columns};
-ghost use Rattle.seg_column_writer.specs.Records.{changed_at, place_of, with_column, with_type};
-ghost use Rattle.seg_column_writer.specs.Takes.{At, CanDeclare, CanPush, CanPushTerm, MayDeclare, pushed, pushed_term, with_change};
-ghost use Rattle.seg_column_writer.specs.Typed.{IsWithin, refusal_of};
+ghost use Rattle.seg_column_writer.specs.RecordedColumns.{recorded_columns};
+ghost use Rattle.seg_column_writer.specs.ColumnRecords.{changed_at, place_of, with_column, with_type};
+ghost use Rattle.seg_column_writer.specs.RecordingRules.{At, CanDeclare, CanPush, CanPushTerm, MayDeclare, pushed, pushed_term, with_change};
+ghost use Rattle.seg_column_writer.specs.TypedColumns.{IsWithin, refusal_of};
 
 use crate::known_columns::KnownColumns;
 use crate::row_value::RowValue;
@@ -36,8 +36,8 @@ pub struct ColumnarWriter {
 
 impl Model for ColumnarWriter {
     ghost use Rattle.std.specs.Prelude.{◌≡◌, List};
-    ghost use Rattle.seg_column_writer.specs.Known.{IsSound, records_in, usage_of};
-    ghost use Rattle.seg_column_writer.specs.Records.{ColumnRecord};
+    ghost use Rattle.seg_column_writer.specs.NamedColumns.{IsSound, records_in, usage_of};
+    ghost use Rattle.seg_column_writer.specs.ColumnRecords.{ColumnRecord};
 
     ghost Value = { List ColumnRecord };
 

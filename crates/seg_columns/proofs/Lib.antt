@@ -1,7 +1,7 @@
-mod EndsLemmas
-mod Marking
-pub mod RowSteps
+mod DictionaryTerms
+pub mod DocumentValues
+mod MarkedOrdinals
+mod RisingEnds
 mod StoredNumbers
-mod TermLemmas
 mod TermOrder
 mod TermParts

@@ -5,11 +5,11 @@ use Rattle.std.specs.List.{filter_map, range_with_len, cons_option}
 use Rattle.std.proofs.lemmas.Bool.{false≢true}
 use Rattle.std.proofs.lemmas.Bool.Decides.{nat_tests}
 use Rattle.seg_common.specs.LittleEndian.{u64_at}
-use Rattle.seg_common.specs.Mappable.{bit, is_bit, is_one}
+use Rattle.seg_common.specs.MappableValues.{bit, is_bit, is_one}
 use Rattle.seg_columns.specs.Ends.{start_at}
 use Rattle.seg_columns.specs.Columns.{IsColumn, value_at, row_of, rows_of}
-use Rattle.seg_columns.specs.Images.{unsigned, value_of_image}
-use Rattle.seg_columns.proofs.RowSteps.{known}
+use Rattle.seg_columns.specs.ValueImages.{unsigned, value_of_image}
+use Rattle.seg_columns.proofs.DocumentValues.{known}
 
 module _ {T : Type 0} (is_image : ℕ → Bool) (value_of : ℕ → T) (number : T → ℕ)
     (back : (n : ℕ) → is_image n ≡ true → number (value_of n) ≡ n) where

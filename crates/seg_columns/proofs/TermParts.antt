@@ -7,10 +7,10 @@ use Rattle.std.proofs.lemmas.Option.{get_or_from_slice_get, slice_get_within}
 use Rattle.seg_common.proofs.Bytes.{u64_at-front}
 use Rattle.seg_columns.specs.Ends.{start_at}
 use Rattle.seg_columns.specs.Columns.{IsColumn, rows_of}
-use Rattle.seg_columns.specs.Images.{unsigned}
+use Rattle.seg_columns.specs.ValueImages.{unsigned}
 use Rattle.seg_columns.specs.Dictionaries.{IsDictionary, count_of, terms_of}
 use Rattle.seg_columns.specs.TermColumns.{IsBytesColumn, UsesEach, dictionary_in, ordinals_in, ordinals_length, term_column_of}
-use Rattle.seg_columns.proofs.TermLemmas.{length-terms_of}
+use Rattle.seg_columns.proofs.DictionaryTerms.{length-terms_of}
 
 start_at-front : (front back : List ℕ) (i : ℕ) → 8 * i ≤ length front → start_at (front ++ back) i ≡ start_at front i
 unfolding start_at

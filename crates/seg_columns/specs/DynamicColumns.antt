@@ -3,12 +3,12 @@ use Rattle.std.specs.Prelude.{ℕ, ℤ, Bool, List, length, map, Option, Some, N
 use Rattle.std.specs.declared.net.ipv6_addr.Ipv6Addr.{Ipv6Addr}
 use Rattle.seg_common.specs.declared.column_type.ColumnType.{ColumnType}
 use Rattle.seg_common.specs.declared.column_type.ColumnType.TheVariants as types
-use Rattle.seg_common.specs.Mappable.{raised, bit}
+use Rattle.seg_common.specs.MappableValues.{raised, bit}
 use Rattle.seg_columns.specs.declared.dynamic_column.DynamicColumn.{DynamicColumn}
 use Rattle.seg_columns.specs.declared.dynamic_column.DynamicColumn.TheVariants as columns
 use Rattle.seg_columns.specs.Addresses.{address}
 use Rattle.seg_columns.specs.Columns.{IsColumn, rows_of}
-use Rattle.seg_columns.specs.Images.{signed, truth, unsigned}
+use Rattle.seg_columns.specs.ValueImages.{signed, truth, unsigned}
 use Rattle.seg_columns.specs.TermColumns.{IsBytesColumn, IsStrColumn, term_column_of}
 
 -- ---- the values of a column, where they have a given type

@@ -3,6 +3,6 @@ pub mod Columns
 pub mod Dictionaries
 pub mod DynamicColumns
 pub mod Ends
-pub mod Images
 pub mod Refusals
 pub mod TermColumns
+pub mod ValueImages

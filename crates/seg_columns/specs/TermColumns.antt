@@ -2,7 +2,7 @@
 use Rattle.std.specs.Prelude.{◌≡◌, ℕ, ◌+◌, ◌*◌, ◌<◌, List, take, drop, true, nat_eq, All, IsUtf8}
 use Rattle.std.specs.List.{list_any}
 use Rattle.seg_columns.specs.Ends.{start_at}
-use Rattle.seg_columns.specs.Images.{unsigned}
+use Rattle.seg_columns.specs.ValueImages.{unsigned}
 use Rattle.seg_columns.specs.Columns.{IsColumn, rows_of}
 use Rattle.seg_columns.specs.Dictionaries.{IsDictionary, count_of, terms_of}
 

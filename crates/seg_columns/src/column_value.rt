@@ -1,7 +1,7 @@
 //! The types of values that columns have.
 ghost use Rattle.std.specs.Prelude.{◌≡◌, ℕ, ◌<◌, ◌≤◌, List, Option, length};
 ghost use Rattle.std.proofs.Common.{arith};
-ghost use Rattle.seg_columns.specs.Images.{signed, truth, unsigned, value_of_image};
+ghost use Rattle.seg_columns.specs.ValueImages.{signed, truth, unsigned, value_of_image};
 
 use seg_common::{DateTime, MonotonicallyMappableToU64, u64_at};
 

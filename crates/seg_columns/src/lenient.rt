@@ -1,8 +1,8 @@
 //! The numbers that stand for the values of a column.
 ghost use Rattle.std.specs.Prelude.{◌≡◌, map};
-ghost use Rattle.seg_common.specs.Mappable.{raised, bit};
+ghost use Rattle.seg_common.specs.MappableValues.{raised, bit};
 ghost use Rattle.seg_columns.specs.Columns.{IsColumn, rows_of};
-ghost use Rattle.seg_columns.specs.Images.{signed, truth, unsigned};
+ghost use Rattle.seg_columns.specs.ValueImages.{signed, truth, unsigned};
 ghost use Rattle.seg_columns.specs.TermColumns.{IsBytesColumn, ordinals_in};
 
 use crate::column::Column;

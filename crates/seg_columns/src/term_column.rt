@@ -1,7 +1,7 @@
 //! Columns of ordinals with the dictionary whose places they are.
 ghost use Rattle.std.specs.Prelude.{◌≡◌, ◌≤◌, length, take, drop, MatchOption, MatchResult};
 ghost use Rattle.seg_columns.specs.Columns.{IsColumn};
-ghost use Rattle.seg_columns.specs.Images.{unsigned};
+ghost use Rattle.seg_columns.specs.ValueImages.{unsigned};
 ghost use Rattle.seg_columns.specs.Refusals.{Refuses};
 ghost use Rattle.seg_columns.specs.TermColumns.{IsBytesColumn, UsesEach, ordinals_in, dictionary_in, term_column_of};
 

@@ -1,7 +1,7 @@
 //! Files that a writer made.
 ghost use Rattle.std.specs.Prelude.{◌≡◌, [], OnOk};
 ghost use Rattle.std.specs.List.{AllByRecursion};
-ghost use Rattle.seg_column_writer.specs.Typed.{IsWithin};
+ghost use Rattle.seg_column_writer.specs.TypedColumns.{IsWithin};
 
 use crate::files::{ONE, is_file, open};
 use seg_column_writer::{ColumnarWriter, NumericalValue, ValueKind};

@@ -9,7 +9,7 @@ use Rattle.jiff_core.proofs.CalendarLemmas.{days_from_civil-day_count, day_count
 use Rattle.jiff_core.proofs.DateLemmas.{epoch_day_injective}
 use Rattle.jiff_core.proofs.MarchLemmas.{day_count-early}
 use Rattle.jiff_core.proofs.SignedLemmas.{one_part, signed_arith}
-use Rattle.seg_common.specs.Civil.{has_come, last_to, year_of, month_of, day_of_month}
+use Rattle.seg_common.specs.CivilCalendar.{has_come, last_to, year_of, month_of, day_of_month}
 
 last_to-le : (n : ℕ) (test : ℕ → Bool) → last_to n test ≤ n
 unfolding last_to

@@ -2,7 +2,7 @@
 use Rattle.std.proofs.Common.{◌≡◌, ℕ, ◌==◌, ◌&&◌, ℤ, Bool, true, false, List, [], ◌∷◌, Option, None, take, drop, length, if◌then◌else◌, nat_le, slice_index, slice_range, IsSome, IsTrue, refl, rules}
 use Rattle.std.specs.Char.{is_ascii_digit, eq_ignore_ascii_case}
 use Rattle.std.specs.List.{list_all}
-use Rattle.seg_common.specs.DateReading.{civil_day, clock_read, date_of, day_read, fraction_len, fraction_read, moment_of, offset_read, rest_of}
+use Rattle.seg_common.specs.ParsedDates.{civil_day, clock_read, date_of, day_read, fraction_len, fraction_read, moment_of, offset_read, rest_of}
 use Rattle.seg_common.specs.DateDigits.{number_of}
 use Rattle.seg_common.specs.DateLaws.{ReadTextsBeginWithADigit}
 use Rattle.seg_common.proofs.DateNumerals.{other_byte}

@@ -8,7 +8,7 @@ use Rattle.std.proofs.lemmas.Bool.Decides.{nat_tests}
 use Rattle.std.proofs.lemmas.List.Folds.{list_all-append}
 use Rattle.std.proofs.lemmas.Str.{IsUtf8-from_ascii}
 use Rattle.std.proofs.lemmas.Str.Ascii.{IsAscii-nil, IsAscii-cons}
-use Rattle.seg_common.specs.Civil.{year_of, month_of, day_of_month}
+use Rattle.seg_common.specs.CivilCalendar.{year_of, month_of, day_of_month}
 use Rattle.seg_common.specs.DateText.{clock_text, date_text, day_nanos, day_text, fraction_text, time_text}
 use Rattle.seg_common.specs.DateDigits.{digits_text, without_last_zeros}
 

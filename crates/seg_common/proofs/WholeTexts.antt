@@ -7,7 +7,7 @@ use Rattle.std.proofs.lemmas.Bool.Decides.{nat_tests}
 use Rattle.std.proofs.lemmas.List.{get_or_at, length-append, length-drop, take_all}
 use Rattle.std.proofs.lemmas.List.Sums.{prefix_len-le-length}
 use Rattle.std.proofs.lemmas.Bool.{and_right}
-use Rattle.seg_common.specs.DateReading.{clock_read, date_of, day_read, fraction_len, fraction_read, moment_of, offset_read, rest_of}
+use Rattle.seg_common.specs.ParsedDates.{clock_read, date_of, day_read, fraction_len, fraction_read, moment_of, offset_read, rest_of}
 
 by_front : (long sign : Bool) (a day : Option ℤ) (b seconds c nanos : Option ℕ) (d offset : Option ℤ) → long ≡ true → sign ≡ true → day ≡ a → seconds ≡ b → nanos ≡ c → offset ≡ d → (if long && sign then moment_of a b c d else None) ≡ moment_of day seconds nanos offset
 by_front long sign a day b seconds c nanos d offset is_long is_sign is_day is_seconds is_nanos is_offset =

@@ -1,7 +1,7 @@
 -- What holds of the texts of moments.
 use Rattle.std.specs.Prelude.{◌≡◌, ◌^◌, ℕ, ℤ, pos, neg_ℤ, ◌≤ℤ◌, ◌<ℤ◌, List, Some, IsSome, IsTrue, slice_index}
 use Rattle.std.specs.Char.{is_ascii_digit}
-use Rattle.seg_common.specs.DateReading.{date_of}
+use Rattle.seg_common.specs.ParsedDates.{date_of}
 use Rattle.seg_common.specs.DateText.{date_text}
 
 -- each moment that 64 bits hold is read from its text

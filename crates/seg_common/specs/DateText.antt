@@ -1,7 +1,7 @@
 -- The text of a moment: RFC 3339 in UTC.
 use Rattle.std.specs.Prelude.{ℕ, ◌*◌, ◌/◌, ◌%◌, ◌^◌, ℤ, pos, unsigned_abs, List, [], ◌∷◌, ◌++◌, ◌==◌, if◌then◌else◌, codes}
 use Rattle.std.specs.Int.{int_div_euclid, int_rem_euclid}
-use Rattle.seg_common.specs.Civil.{year_of, month_of, day_of_month}
+use Rattle.seg_common.specs.CivilCalendar.{year_of, month_of, day_of_month}
 use Rattle.seg_common.specs.DateDigits.{digits_text, without_last_zeros}
 
 -- the nanoseconds of a day

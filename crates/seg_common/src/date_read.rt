@@ -3,7 +3,7 @@ ghost use Rattle.std.specs.Prelude.{◌≡◌, ◌<◌, ◌^◌, length, drop, s
 ghost use Rattle.std.specs.Char.{is_ascii_digit};
 ghost use Rattle.std.specs.List.{list_all};
 ghost use Rattle.jiff_core.specs.Calendar.{IsEpochDay, IsWithin};
-ghost use Rattle.seg_common.specs.DateReading.{clock_read, date_of, day_read, fraction_len, fraction_read, moment_of, offset_read};
+ghost use Rattle.seg_common.specs.ParsedDates.{clock_read, date_of, day_read, fraction_len, fraction_read, moment_of, offset_read};
 
 use crate::DateTime;
 use crate::date_numeral::{leading_digits, nanos_of, read_number};

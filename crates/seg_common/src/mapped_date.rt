@@ -2,7 +2,7 @@
 ghost use Rattle.std.specs.Prelude.{true, FitsSigned};
 ghost use Rattle.std.specs.Int.{w64};
 ghost use Rattle.std.proofs.Common.{rules};
-ghost use Rattle.seg_common.specs.Mappable.{raised, lowered};
+ghost use Rattle.seg_common.specs.MappableValues.{raised, lowered};
 ghost use Rattle.seg_common.specs.MappableLaws.{lowered-raised, raised-in_order};
 
 use crate::MonotonicallyMappableToU64;

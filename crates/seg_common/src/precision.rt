@@ -11,7 +11,7 @@ pub enum DateTimePrecision {
 }
 
 impl DateTimePrecision {
-    ghost use Rattle.seg_common.specs.Dates.{precision_unit};
+    ghost use Rattle.seg_common.specs.DateUnits.{precision_unit};
 
     pub(crate) fn unit(self) -> i64
         ensures { result ≡ pos (precision_unit self) }

@@ -2,7 +2,7 @@
 use Rattle.std.proofs.Common.{◌≡◌, ℕ, zero, suc, ◌+◌, ◌*◌, ◌-◌, ◌<◌, ◌≤◌, List, [], ◌∷◌, true, drop, refl, sym, ap, subst, ◌∙◌, arith, slice_get, slice_range, Option, Some, None}
 use Rattle.seg_common.specs.LittleEndian.{u32_at, u64_at}
 use Rattle.seg_common.proofs.Bytes.{u32_at-drop, u64_at-drop}
-use Rattle.seg_directory.specs.Composite.{Part, entries_of, are_entries, parts_from, field_of}
+use Rattle.seg_directory.specs.CompositeFiles.{Part, entries_of, are_entries, parts_from, field_of}
 use Rattle.seg_directory.specs.CompositeEntry.{IsEntry}
 use Rattle.seg_directory.proofs.CompositeTables.{entries-next, field_of-here, field_of-later}
 

@@ -4,7 +4,7 @@ use Rattle.std.proofs.lemmas.List.{drop-drop, length-drop}
 use Rattle.std.proofs.lemmas.Bool.{leb-true, eqb-true, lt-leb, le-leb, eq-eqb, ne_eqb, cases_Bool, and_parts}
 use Rattle.seg_common.specs.LittleEndian.{u32_at, u64_at}
 use Rattle.seg_common.proofs.Bytes.{u32_at-drop, u64_at-drop}
-use Rattle.seg_directory.specs.Composite.{entries_of, are_entries, parts_from, field_of, is_composite, parts_of, count_of, body_len, table_of}
+use Rattle.seg_directory.specs.CompositeFiles.{entries_of, are_entries, parts_from, field_of, is_composite, parts_of, count_of, body_len, table_of}
 
 -- the entries from the one at i on
 pub entries_more : (table : List ℕ) (count i : ℕ) → i < count

@@ -14,8 +14,8 @@ use Rattle.std.proofs.Math.Bool.{or-false}
 use Rattle.seg_directory.specs.Disk.{PendingChange, Written, exactly, may_leave, may_hold, with_change}
 pub use Rattle.seg_directory.specs.LatestFiles.{same_state, own_state, either, left_true, right_true}
 use Rattle.seg_directory.specs.FileDisks.{NamedFiles, FileDisk, settled, SettledFilesAreTheOnlyImage, SavedFilesAreOneOfTwo}
-use Rattle.seg_directory.specs.Images.{StableFilesAreAnImage, ChangesLeaveTheirName}
-use Rattle.seg_common.specs.Names.{name_cmp, name_cmp_total, name_cmp_exact}
+use Rattle.seg_directory.specs.ImageLaws.{StableFilesAreAnImage, ChangesLeaveTheirName}
+use Rattle.seg_common.specs.FileNameKeys.{name_cmp, name_cmp_total, name_cmp_exact}
 use Rattle.seg_common.specs.declared.name.FileName.{FileName}
 use Rattle.seg_common.proofs.Bools.{or_grouped}
 

@@ -8,7 +8,7 @@ use Rattle.std.specs.Cmp.{eq_by_cmp_equiv, second_so}
 use Rattle.std.specs.Ordering.{eq_by_cmp}
 use Rattle.std.specs.Str.{bytes_eq}
 use Rattle.std.specs.FinMap.{get, insert, get-insert}
-use Rattle.seg_common.specs.Names.{name_cmp, name_cmp_total}
+use Rattle.seg_common.specs.FileNameKeys.{name_cmp, name_cmp_total}
 use Rattle.seg_common.specs.declared.name.FileName.{FileName}
 use Rattle.seg_values.specs.declared.error.TantivyError.{TantivyError}
 use Rattle.seg_directory.specs.Calls.{Call, listed, made, read, replaced, synced}
@@ -16,13 +16,13 @@ use Rattle.seg_directory.specs.Disk.{IsImage, PendingChange, Written, exactly, m
 use Rattle.seg_directory.specs.DiskChanges.{DiskFails, DiskGoes, Turns}
 use Rattle.seg_directory.specs.DiskRuns.{IsSameAt, KeepsOnDisk}
 use Rattle.seg_directory.specs.FileDisks.{FileDisk, IsWithin, MayReplace, MayTear, NamedFiles}
-use Rattle.seg_directory.specs.State.{DirectoryState, DiskState, HasOnly}
-use Rattle.seg_directory.specs.Works.{Step, Works}
+use Rattle.seg_directory.specs.DirectoryStates.{DirectoryState, DiskState, HasOnly}
+use Rattle.seg_directory.specs.DirectorySteps.{Step, Works}
 use Rattle.seg_directory.specs.declared.error.DirectoryError.{DirectoryError}
 use Rattle.seg_directory.specs.declared.error.DirectoryError.TheVariants as directory
 use Rattle.seg_directory.proofs.DiskImages.{changes_leave_their_name, either, elsewhere, is_left, left_true, own_state, same_name, same_state, stable_files_are_an_image}
-use Rattle.seg_directory.proofs.DiskWorks.{AllCalls, on_works, turns_kept}
-use Rattle.seg_directory.proofs.Moments.{passes_weaker}
+use Rattle.seg_directory.proofs.StepsOnDisk.{AllCalls, on_works, turns_kept}
+use Rattle.seg_directory.proofs.CallMoments.{passes_weaker}
 
 -- ---- an image for each state that a name may have
 

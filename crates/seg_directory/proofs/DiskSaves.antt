@@ -9,15 +9,15 @@ use Rattle.seg_directory.specs.Calls.{Call, listed, replaced, synced}
 use Rattle.seg_directory.specs.Disk.{IsImage, exactly, with_change}
 use Rattle.seg_directory.specs.DiskChanges.{DiskFails, DiskGoes, Turns}
 use Rattle.seg_directory.specs.DiskRuns.{SavesOnDisk}
-use Rattle.seg_directory.specs.Does.{GoesOn}
+use Rattle.seg_directory.specs.StepSequences.{GoesOn}
 use Rattle.seg_directory.specs.FileDisks.{FileDisk, IsWithin, IsWithinOr, MayReplace, NamedFiles, settled}
-use Rattle.seg_directory.specs.State.{DirectoryState, DiskState, HasOnly}
-use Rattle.seg_directory.specs.Works.{Step, StepBreaks, StepGoes, Works, calls, failed, has_files}
+use Rattle.seg_directory.specs.DirectoryStates.{DirectoryState, DiskState, HasOnly}
+use Rattle.seg_directory.specs.DirectorySteps.{Step, StepBreaks, StepGoes, Works, calls, failed, has_files}
 use Rattle.seg_directory.specs.declared.error.DirectoryError.{DirectoryError}
 use Rattle.seg_directory.proofs.DiskImages.{saved_files_are_one_of_two, stable_files_are_an_image}
-use Rattle.seg_directory.proofs.DiskWorks.{on_works, reads_only, turns_none, turns_on}
-use Rattle.seg_directory.proofs.Moments.{passes_on, passes_weaker}
-use Rattle.seg_directory.proofs.Parts.{Parts, in_first, in_next, in_parts}
+use Rattle.seg_directory.proofs.StepsOnDisk.{on_works, reads_only, turns_none, turns_on}
+use Rattle.seg_directory.proofs.CallMoments.{passes_on, passes_weaker}
+use Rattle.seg_directory.proofs.StepParts.{Parts, in_first, in_next, in_parts}
 
 -- all files reach the disk, and then one is replaced
 abbrev pub saving : FileName → List ℕ → List Step

@@ -4,7 +4,7 @@ use Rattle.std.proofs.lemmas.List.{append-nil}
 use Rattle.std.proofs.lemmas.Result.{err_from_is_err_and}
 use Rattle.std.specs.FinMap.{get}
 use Rattle.std.proofs.Math.Nat.{le_refl}
-use Rattle.seg_common.specs.Causes.{Rose}
+use Rattle.seg_common.specs.FaultCounts.{Rose}
 use Rattle.seg_common.specs.declared.name.FileName.{FileName}
 use Rattle.seg_directory.specs.CallRecord.{Calls}
 use Rattle.seg_directory.specs.Calls.{Call, CanFail, Fails, Goes, Keeps, Leaves, Refuses, Suits, listed, made, read, replaced, synced, told_failing}
@@ -12,16 +12,16 @@ use Rattle.seg_directory.specs.Disk.{IsImage}
 use Rattle.seg_directory.specs.DiskCalls.{DiskCalls, latest_files, with_disk_call}
 use Rattle.seg_directory.specs.DiskChanges.{DiskFails, KeepsDisk, Turns}
 use Rattle.seg_directory.specs.FileDisks.{FileDisk, IsWithin, MayTear, NamedFiles}
-use Rattle.seg_directory.specs.Memory.{MemoryState, files_of, memory_state, memory_went, told_disk}
+use Rattle.seg_directory.specs.MemoryDirectories.{MemoryState, files_of, memory_state, memory_went, told_disk}
 use Rattle.seg_directory.specs.LatestFiles.{reads_an_image}
-use Rattle.seg_directory.specs.State.{DiskState}
+use Rattle.seg_directory.specs.DirectoryStates.{DiskState}
 use Rattle.seg_directory.specs.declared.disk_call.DiskCall.TheVariants.{Unchanged}
 use Rattle.seg_directory.specs.declared.error.DirectoryError.{DirectoryError}
 use Rattle.seg_directory.specs.declared.error.DirectoryError.TheVariants.{Missing, Exists, Fault, OutOfMemory}
-use Rattle.seg_directory.proofs.Exits as exits
-use Rattle.seg_directory.proofs.Moments.{passes_weaker, started}
+use Rattle.seg_directory.proofs.CallDisks as exits
+use Rattle.seg_directory.proofs.CallMoments.{passes_weaker, started}
 use Rattle.seg_directory.proofs.OtherFiles.{keeps_others}
-use Rattle.seg_directory.proofs.Steps.{files_created, files_replaced, files_synced, files_unchanged}
+use Rattle.seg_directory.proofs.MemorySteps.{files_created, files_replaced, files_synced, files_unchanged}
 
 -- an answer that is out of memory
 pub starved_answer : {T : Type 0} (r : Result T DirectoryError) → IsErrAnd r (λ e. e ≡ OutOfMemory) → r ≡ Err OutOfMemory

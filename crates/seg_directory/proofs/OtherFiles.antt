@@ -4,9 +4,9 @@ use Rattle.std.specs.FinMap.{get, insert, get-insert}
 use Rattle.std.specs.Ordering.{is_eq}
 use Rattle.std.specs.declared.cmp.Ordering.TheVariants.{Less, Equal, Greater}
 use Rattle.seg_common.specs.declared.name.FileName.{FileName}
-use Rattle.seg_common.specs.Names.{name_cmp, name_cmp_total, name_cmp_exact}
+use Rattle.seg_common.specs.FileNameKeys.{name_cmp, name_cmp_total, name_cmp_exact}
 use Rattle.seg_directory.specs.Files.{NamedFiles}
-use Rattle.seg_directory.specs.Changes.{KeepsOthers}
+use Rattle.seg_directory.specs.FileChanges.{KeepsOthers}
 
 -- an insertion keeps the files of all other names
 pub keeps_others : (files : NamedFiles) (name : FileName) (bytes : List ℕ) → KeepsOthers name files (insert files name bytes)

@@ -4,7 +4,7 @@ use Rattle.std.specs.FinMap.{get, insert}
 use Rattle.seg_common.specs.declared.name.FileName.{FileName}
 use Rattle.seg_values.specs.declared.error.TantivyError.{TantivyError}
 use Rattle.seg_values.specs.declared.error.TantivyError.TheVariants.{IndexAlreadyExists, OpenReadError, OpenWriteError, IoError, DataCorruption}
-use Rattle.seg_directory.specs.Changes.{MayBeTorn}
+use Rattle.seg_directory.specs.FileChanges.{MayBeTorn}
 use Rattle.seg_directory.specs.Files.{NamedFiles}
 use Rattle.seg_directory.specs.declared.answer.Answer.{Answer}
 use Rattle.seg_directory.specs.declared.answer.Answer.TheVariants as answer

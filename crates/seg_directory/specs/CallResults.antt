@@ -1,7 +1,7 @@
 -- What each call of a directory does, by its result.
 use Rattle.std.specs.Prelude.{ℕ, List, [], Result, Ok, Err}
 use Rattle.seg_common.specs.declared.name.FileName.{FileName}
-use Rattle.seg_directory.specs.State.{DirectoryState}
+use Rattle.seg_directory.specs.DirectoryStates.{DirectoryState}
 use Rattle.seg_directory.specs.Calls.{Goes, Fails, listed, read, made, replaced, synced}
 use Rattle.seg_directory.specs.declared.error.DirectoryError.{DirectoryError}
 

@@ -1,7 +1,7 @@
 -- One entry of the table of a composite file.
 use Rattle.std.specs.Prelude.{◌≡◌, ℕ, ◌*◌, ◌≤◌, List, slice_get, slice_range, Some}
 use Rattle.seg_common.specs.LittleEndian.{u32_at}
-use Rattle.seg_directory.specs.Composite.{entries_of, parts_from}
+use Rattle.seg_directory.specs.CompositeFiles.{entries_of, parts_from}
 
 -- the part of the entry at a place begins and ends there, within this many bytes
 pub record IsEntry (count : ℕ) (table : List ℕ) (place total start end : ℕ) : Type 0 where

@@ -5,7 +5,7 @@ use Rattle.std.specs.FinMap.{insert, empty}
 use Rattle.std.specs.Ordering.{eq_by_cmp}
 use Rattle.seg_directory.specs.Disk.{Written, exactly, torn, PendingChange, with_change}
 use Rattle.seg_directory.specs.FileDisks.{NamedFiles, FileDisk, settled}
-use Rattle.seg_common.specs.Names.{name_cmp}
+use Rattle.seg_common.specs.FileNameKeys.{name_cmp}
 use Rattle.seg_common.specs.declared.name.FileName.{FileName}
 use Rattle.seg_directory.specs.declared.disk_call.DiskCall.{DiskCall}
 use Rattle.seg_directory.specs.declared.disk_call.Pick.{Pick}

@@ -4,7 +4,7 @@ use Rattle.seg_directory.specs.Call.{Call, listed, read, made, replaced, synced}
 use Rattle.seg_directory.specs.Disk.{IsImage, exactly, with_change}
 use Rattle.seg_directory.specs.FileDisks.{FileDisk, IsWithin, MayReplace, MayTear, settled}
 use Rattle.seg_directory.specs.Files.{NamedFiles}
-use Rattle.seg_directory.specs.State.{DirectoryState, DiskState, Passes}
+use Rattle.seg_directory.specs.DirectoryStates.{DirectoryState, DiskState, Passes}
 use Rattle.seg_directory.specs.declared.error.DirectoryError.{DirectoryError}
 use Rattle.seg_directory.specs.declared.error.DirectoryError.TheVariants.{Exists}
 

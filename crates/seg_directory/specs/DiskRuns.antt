@@ -3,7 +3,7 @@ use Rattle.std.specs.Prelude.{◌≡◌, List, ℕ, Option}
 use Rattle.seg_common.specs.declared.name.FileName.{FileName}
 use Rattle.seg_directory.specs.Disk.{may_hold}
 use Rattle.seg_directory.specs.FileDisks.{FileDisk, NamedFiles, IsWithinOr}
-use Rattle.seg_directory.specs.State.{DiskState, Passes}
+use Rattle.seg_directory.specs.DirectoryStates.{DiskState, Passes}
 
 -- during the saving of files and after it, each image is one from before it, or these files
 pub record SavesOnDisk (saved : NamedFiles) (old new : DiskState) : Type 0 where

@@ -1,7 +1,7 @@
 -- The disk of an index, and what its images are.
 use Rattle.std.specs.Prelude.{◌≡◌, ◌⊎◌, ℕ, List, []}
 use Rattle.std.specs.FinMap.{insert}
-use Rattle.seg_common.specs.Names.{name_cmp}
+use Rattle.seg_common.specs.FileNameKeys.{name_cmp}
 use Rattle.seg_common.specs.declared.name.FileName.{FileName}
 use Rattle.seg_directory.specs.Disk.{Disk, IsImage, exactly, torn, with_change}
 pub use Rattle.seg_directory.specs.Files.{NamedFiles}

@@ -1,7 +1,7 @@
 -- The files of a directory: their bytes by their names.
 use Rattle.std.specs.Coded.{Coded, coded_ℕ, coded_list}
 use Rattle.std.specs.FinMap as map
-use Rattle.seg_common.specs.Names.{name_cmp, coded_name}
+use Rattle.seg_common.specs.FileNameKeys.{name_cmp, coded_name}
 use Rattle.seg_directory.specs.Disk.{Files}
 
 -- files by the names of an index

@@ -11,11 +11,11 @@ use Rattle.std.specs.FinMap.{get, insert, get-insert}
 use Rattle.std.proofs.lemmas.Slice.Eq.{bytes_eq-Decides}
 use Rattle.seg_directory.specs.Disk.{Written, exactly, torn, PendingChange, IsImage, may_leave, may_hold}
 use Rattle.seg_directory.specs.FileDisks.{NamedFiles, FileDisk}
-use Rattle.seg_common.specs.Names.{name_cmp, name_cmp_total}
+use Rattle.seg_common.specs.FileNameKeys.{name_cmp, name_cmp_total}
 use Rattle.seg_common.specs.declared.name.FileName.{FileName}
 use Rattle.seg_directory.specs.DiskCalls.{disk_after, latest, latest_over, bytes_left, no_files}
 use Rattle.seg_directory.specs.DiskChanges.{ReadsAnImage}
-use Rattle.seg_directory.specs.Memory.{MemoryState, memory_state}
+use Rattle.seg_directory.specs.MemoryDirectories.{MemoryState, memory_state}
 
 pub same_state : (a b : Option (List ℕ)) → option_eq bytes_eq a b ≡ true → b ≡ a
 same_state None None e = refl

@@ -2,10 +2,10 @@
 ghost use Rattle.std.specs.Prelude.{[], ◌∷◌, ◌≡◌, ◌++◌, ◌⊎◌, IsTrue, IfOk, IfErr};
 ghost use Rattle.std.specs.FinMap.{get, len};
 ghost use Rattle.seg_directory.specs.CallAnswers.{seen_listing, seen_reading, seen_writing, seen_rewriting, seen_syncing, ReadsFile, WritesFile};
-ghost use Rattle.seg_directory.specs.Changes.{KeepsOthers, Replaces};
+ghost use Rattle.seg_directory.specs.FileChanges.{KeepsOthers, Replaces};
 ghost use Rattle.seg_directory.specs.Faults.{FaultHasCause};
 ghost use Rattle.seg_directory.specs.Calls.{listed, read, made, replaced, synced};
-ghost use Rattle.seg_directory.specs.Works.{Works, WorksFor, calls};
+ghost use Rattle.seg_directory.specs.DirectorySteps.{Works, WorksFor, calls};
 
 use crate::call_error::call_error;
 use crate::{CallKind, Directory};

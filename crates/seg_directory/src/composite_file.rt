@@ -1,9 +1,9 @@
 //! Composite files: the parts of several fields in one file.
 ghost use Rattle.std.specs.Prelude.{◌≡◌, ◌≤◌, ◌<◌, ◌+◌, ◌*◌, ◌++◌, List, ℕ, true, false, length, slice_get, slice_range, IfErr, IfSome, MatchResult, MatchOption, option_map, Some, None};
 ghost use Rattle.seg_common.specs.LittleEndian as numbers;
-ghost use Rattle.seg_directory.specs.CompositeSpelling.{spelling};
+ghost use Rattle.seg_directory.specs.CompositeBytes.{spelling};
 ghost use Rattle.seg_directory.specs.CompositeEntry.{IsEntry};
-ghost use Rattle.seg_directory.specs.Composite.{Part, entries_of, are_entries, parts_from, is_composite, parts_of, composite, field_of, count_of};
+ghost use Rattle.seg_directory.specs.CompositeFiles.{Part, entries_of, are_entries, parts_from, is_composite, parts_of, composite, field_of, count_of};
 
 use seg_common::{ByteCount, CommonError, OwnedBytes, u32_at, u64_at};
 use seg_values::Field;

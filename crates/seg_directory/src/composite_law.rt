@@ -1,7 +1,7 @@
 //! What a composite file is spelled as.
 ghost use Rattle.std.specs.Prelude.{◌≡◌, ◌↔◌, List, Some};
-ghost use Rattle.seg_directory.specs.Composite.{Part, composite};
-ghost use Rattle.seg_directory.specs.CompositeSpelling.{IsSpelled};
+ghost use Rattle.seg_directory.specs.CompositeFiles.{Part, composite};
+ghost use Rattle.seg_directory.specs.CompositeBytes.{IsSpelled};
 
 /// Bytes read as parts exactly where they spell them: the parts one after the other, then for each its field and where
 /// it ends, then their number.

@@ -1,7 +1,7 @@
 //! The writer of composite files.
 ghost use Rattle.std.specs.Prelude.{◌≡◌, ◌≢◌, ◌≤◌, ◌<◌, ◌-◌, ◌^◌, ◌++◌, ◌∷◌, [], List, Option, Some, None, IfOk, IfErr, IfSome, OnOk};
-ghost use Rattle.seg_common.specs.Growing.{HasGrown};
-ghost use Rattle.seg_directory.specs.Composite.{Part, composite, low_after};
+ghost use Rattle.seg_common.specs.WriterGrowth.{HasGrown};
+ghost use Rattle.seg_directory.specs.CompositeFiles.{Part, composite, low_after};
 
 use crate::written_parts::WrittenParts;
 use seg_common::CommonError;

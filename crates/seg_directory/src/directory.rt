@@ -2,7 +2,7 @@
 ghost use Rattle.std.specs.Prelude.{IsTrue};
 ghost use Rattle.seg_directory.specs.CallResults.{Lists, Reads, Makes, Replaces, Syncs};
 ghost use Rattle.seg_directory.specs.DiskChanges.{ReadsAnImage};
-ghost use Rattle.seg_directory.specs.State.{DirectoryState};
+ghost use Rattle.seg_directory.specs.DirectoryStates.{DirectoryState};
 
 use crate::DirectoryError;
 use seg_common::{FileName, OwnedBytes};

@@ -3,9 +3,9 @@ ghost use Rattle.std.specs.Prelude.{◌≡◌, ◌≢◌, ◌++◌, ◌<◌, ◌
 ghost use Rattle.std.specs.FinMap.{empty};
 ghost use Rattle.std.proofs.Common.{sym};
 ghost use mathlib.Core.Bool.{true≢false};
-ghost use Rattle.seg_common.specs.Causes.{Rose};
-ghost use Rattle.seg_directory.specs.Log.{noted_failure};
-ghost use Rattle.seg_directory.specs.State.{untold};
+ghost use Rattle.seg_common.specs.FaultCounts.{Rose};
+ghost use Rattle.seg_directory.specs.AnswerLogs.{noted_failure};
+ghost use Rattle.seg_directory.specs.DirectoryStates.{untold};
 
 use crate::answer_log::AnswerLog;
 use crate::folder::{count_files, make_file, path_in, read_whole, replace_file, sync_folder};
@@ -27,7 +27,7 @@ pub struct FileDirectory<R: Files> {
 }
 
 impl<R: Files> Model for FileDirectory<R> {
-    ghost use Rattle.seg_directory.specs.Log.{Kept};
+    ghost use Rattle.seg_directory.specs.AnswerLogs.{Kept};
 
     ghost Value = { Kept };
 

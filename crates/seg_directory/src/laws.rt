@@ -1,5 +1,5 @@
 //! Laws of the definitions.
-ghost use Rattle.seg_directory.specs.Images.{ChangesLeaveTheirName, StableFilesAreAnImage, UntouchedNamesStay};
+ghost use Rattle.seg_directory.specs.ImageLaws.{ChangesLeaveTheirName, StableFilesAreAnImage, UntouchedNamesStay};
 
 /// What is safe on a disk is an image of it; in each image a name without a pending change is as it is safe, so with
 /// nothing pending there is one image; and a change may show at its own name alone.

@@ -6,7 +6,7 @@ ghost use Rattle.seg_directory.specs.CallResults.{Lists, Reads, Makes, Replaces,
 ghost use Rattle.seg_directory.specs.DiskCalls.{calls_of, disk_after, disk_at, latest_files, no_files, picked, with_put};
 ghost use Rattle.seg_directory.specs.FileDisks.{settled};
 ghost use Rattle.seg_directory.specs.LatestFiles.{reads_an_image};
-ghost use Rattle.seg_directory.specs.Memory.{new_memory, memory_state, FailsAsListed, memory_after};
+ghost use Rattle.seg_directory.specs.MemoryDirectories.{new_memory, memory_state, FailsAsListed, memory_after};
 
 use crate::call_record::CallRecord;
 use crate::disk_record::DiskRecord;
@@ -25,7 +25,7 @@ pub struct MemoryDirectory {
 }
 
 impl Model for MemoryDirectory {
-    ghost use Rattle.seg_directory.specs.Memory.{MemoryState};
+    ghost use Rattle.seg_directory.specs.MemoryDirectories.{MemoryState};
 
     ghost Value = { MemoryState };
 

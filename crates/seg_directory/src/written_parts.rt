@@ -1,8 +1,8 @@
 //! The parts of a composite file that is being written.
 ghost use Rattle.std.specs.Prelude.{◌≡◌, ◌≤◌, ◌<◌, ◌-◌, ◌^◌, ◌++◌, ◌∷◌, [], List, Some, IfOk, OnOk, OnErr};
 ghost use Rattle.std.specs.Int.{w32, w64, to_le_bytes};
-ghost use Rattle.seg_directory.specs.Composite.{Part, entries_of, parts_from, composite, low_after};
-ghost use Rattle.seg_directory.specs.CompositeWriting.{IsWritten};
+ghost use Rattle.seg_directory.specs.CompositeFiles.{Part, entries_of, parts_from, composite, low_after};
+ghost use Rattle.seg_directory.specs.CompositeWriterParts.{IsWritten};
 
 use seg_common::{put_u32, put_u64};
 use std::alloc::{AllocError, Global};

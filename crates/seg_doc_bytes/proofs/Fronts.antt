@@ -8,7 +8,7 @@ use Rattle.std.proofs.lemmas.Bool.Decides.{nat_tests}
 use Rattle.std.proofs.lemmas.List.{length-take-le}
 use Rattle.std.proofs.lemmas.Str.{IsUtf8-from_is_utf8, is_utf8-from_IsUtf8}
 use Rattle.seg_common.specs.LittleEndian.{u64_at}
-use Rattle.seg_doc_bytes.specs.Reader.{then_read, front, number_at, sized_at, text_at}
+use Rattle.seg_doc_bytes.specs.FrontReaders.{then_read, front, number_at, sized_at, text_at}
 
 within : (n : ℕ) (bytes : List ℕ) → nat_le n (length bytes) ≡ true → n ≤ length bytes
 within n bytes h = grind (arith, nat_tests)

@@ -1,15 +1,15 @@
 pub mod Exports
 mod Fronts
-mod Gathering
+mod GatheredValues
 mod MadeLeaves
 mod MadeTrees
 mod PassedLeaves
 mod PassedPairs
 mod PassedTrees
-mod PuttingTrees
-mod ReadBack
 mod ReadDocuments
+mod ReadSequences
 mod ReadTrees
-mod Standing
+mod RoundTrips
 mod StoredPairs
+mod TreeBytes
 mod WholeDocuments

@@ -2,8 +2,8 @@
 use Rattle.std.proofs.Common.{◌≡◌, ℕ, suc, Bool, false, cond, List, ◌∷◌, Option, Some, None, refl, ap, ◌∙◌}
 use Rattle.std.specs.Prelude.{nat_eq, Result, Ok, Err, IfOk}
 use Rattle.seg_values.specs.Tree.{Tree, leaf, array, object, trees_from, members_from}
-use Rattle.seg_doc_bytes.specs.Making.{Makes}
-use Rattle.seg_doc_bytes.specs.Reader.{Reader, then_read, made_of, counted_at, text_at}
+use Rattle.seg_doc_bytes.specs.FrontValues.{Makes}
+use Rattle.seg_doc_bytes.specs.FrontReaders.{Reader, then_read, made_of, counted_at, text_at}
 use Rattle.seg_doc_bytes.specs.StoredTree.{leaf_at, member_at, tree_at, stored_tree_at}
 
 -- what reads the same is made of it

@@ -2,8 +2,8 @@
 use Rattle.std.proofs.Common.{◌≡◌, ℕ, List, Option, Some, None, refl, ap}
 use Rattle.seg_common.specs.Varint.{varint_at}
 use Rattle.seg_values.specs.Tree.{pre_tokenized}
-use Rattle.seg_doc_bytes.specs.Passing.{Passes}
-use Rattle.seg_doc_bytes.specs.Reader.{Reader, made_of, times_at, text_at}
+use Rattle.seg_doc_bytes.specs.PassedBytes.{Passes}
+use Rattle.seg_doc_bytes.specs.FrontReaders.{Reader, made_of, times_at, text_at}
 use Rattle.seg_doc_bytes.specs.StoredTree.{token_at, pre_tokenized_at}
 
 pub pre_tokenized_passed : {B : Type 0} (old left tokens new text : List ℕ) (count : ℕ) (r : Option B) → text_at old ≡ Some (text, left) → varint_at left ≡ Some (count, tokens) → Passes (times_at token_at count) tokens new r → Passes pre_tokenized_at old new r

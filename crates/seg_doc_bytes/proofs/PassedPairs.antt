@@ -6,8 +6,8 @@ use Rattle.std.proofs.lemmas.Bool.{false≢true, not-true}
 use Rattle.std.proofs.lemmas.Bool.Decides.{eqb_tells, nat_tests}
 use Rattle.seg_tokens.specs.declared.token.Token.{Token}
 use Rattle.seg_values.specs.Tree.{Leaf, null, text, pre_tokenized, unsigned, signed, boolean, date, facet, byte_string, ip, Tree, leaf, array, object, trees_from, members_from}
-use Rattle.seg_doc_bytes.specs.Passing.{Passed, Passes, begins_with}
-use Rattle.seg_doc_bytes.specs.Reader.{Reader, then_read, made_of, counted_at, front, sized_at, text_at, small_at, number_at}
+use Rattle.seg_doc_bytes.specs.PassedBytes.{Passed, Passes, begins_with}
+use Rattle.seg_doc_bytes.specs.FrontReaders.{Reader, then_read, made_of, counted_at, front, sized_at, text_at, small_at, number_at}
 use Rattle.seg_doc_bytes.specs.StoredDocument.{is_top_leaf, is_top, most_levels_read, pair_at, all_read, stored_document_of}
 use Rattle.seg_doc_bytes.specs.StoredTree.{token_at, pre_tokenized_at, bit_at, leaf_at, member_at, tree_at, stored_tree_at}
 

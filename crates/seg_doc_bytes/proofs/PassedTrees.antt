@@ -2,8 +2,8 @@
 use Rattle.std.proofs.Common.{◌≡◌, ℕ, suc, Bool, false, cond, List, [], ◌∷◌, Option, Some, None, refl, sym, ap, ◌∙◌, subst}
 use Rattle.std.specs.Prelude.{nat_eq}
 use Rattle.seg_values.specs.Tree.{Tree, leaf, array, object, trees_from, members_from}
-use Rattle.seg_doc_bytes.specs.Passing.{Passes}
-use Rattle.seg_doc_bytes.specs.Reader.{Reader, made_of, counted_at, text_at}
+use Rattle.seg_doc_bytes.specs.PassedBytes.{Passes}
+use Rattle.seg_doc_bytes.specs.FrontReaders.{Reader, made_of, counted_at, text_at}
 use Rattle.seg_doc_bytes.specs.StoredTree.{leaf_at, member_at, tree_at, stored_tree_at}
 use Rattle.seg_doc_bytes.proofs.PassedLeaves.{passed_as}
 

@@ -4,13 +4,13 @@ use Rattle.std.specs.List.{flat_map, AllByRecursion}
 use Rattle.seg_common.specs.Varint.{varint}
 use Rattle.seg_values.specs.Tree.{Leaf, null, text, pre_tokenized, unsigned, signed, boolean, date, facet, byte_string, ip, Tree, leaf, array, object, levels, Document}
 use Rattle.seg_values.specs.Schemas.{Schema}
-use Rattle.seg_values.specs.Stored.{stored_leaf, stored_value, stored_document}
-use Rattle.seg_values.specs.StoredForm.{tree_form, pair_form, document_form}
-use Rattle.seg_doc_bytes.specs.Reader.{counted_at}
+use Rattle.seg_values.specs.StoredDocuments.{stored_leaf, stored_value, stored_document}
+use Rattle.seg_values.specs.StoredBytes.{tree_form, pair_form, document_form}
+use Rattle.seg_doc_bytes.specs.FrontReaders.{counted_at}
 use Rattle.seg_doc_bytes.specs.StoredDocument.{is_top, most_levels_read, pair_at, all_read, stored_document_of}
-use Rattle.seg_doc_bytes.specs.Storable.{IsLeaf, IsStorable, IsStoredPair}
-use Rattle.seg_doc_bytes.specs.StoredLaw.{AreShallow, IsReadBack}
-use Rattle.seg_doc_bytes.proofs.ReadBack.{Reads, small_reads, times_read, counted_reads}
+use Rattle.seg_doc_bytes.specs.StorableDocuments.{IsLeaf, IsStorable, IsStoredPair}
+use Rattle.seg_doc_bytes.specs.StoredDocumentLaw.{AreShallow, IsReadBack}
+use Rattle.seg_doc_bytes.proofs.RoundTrips.{Reads, small_reads, times_read, counted_reads}
 use Rattle.seg_doc_bytes.proofs.ReadTrees.{tree_reads}
 use Rattle.seg_doc_bytes.proofs.StoredPairs.{is_stored, as_stored}
 

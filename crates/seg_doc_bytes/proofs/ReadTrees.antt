@@ -8,11 +8,11 @@ use Rattle.std.proofs.Math.Facts.{Fits-of_z}
 use Rattle.seg_common.specs.Varint.{varint}
 use Rattle.seg_tokens.specs.declared.token.Token.{Token}
 use Rattle.seg_values.specs.Tree.{Leaf, null, text, pre_tokenized, unsigned, signed, boolean, date, facet, byte_string, ip, Tree, leaf, array, object, Trees, no_trees, tree, Members, no_members, member, trees_from, members_from, levels, most_levels, most_member_levels}
-use Rattle.seg_values.specs.StoredForm.{sized, token_form, leaf_form, tree_count, member_count, tree_form, tree_forms, member_forms}
-use Rattle.seg_doc_bytes.specs.Reader.{Reader, then_read, made_of, times_at, front, number_at}
+use Rattle.seg_values.specs.StoredBytes.{sized, token_form, leaf_form, tree_count, member_count, tree_form, tree_forms, member_forms}
+use Rattle.seg_doc_bytes.specs.FrontReaders.{Reader, then_read, made_of, times_at, front, number_at}
 use Rattle.seg_doc_bytes.specs.StoredTree.{token_at, pre_tokenized_at, member_at, tree_at, stored_tree_at}
-use Rattle.seg_doc_bytes.specs.Storable.{IsToken, IsLeaf, IsStorable, AreStorable, AreStorableMembers}
-use Rattle.seg_doc_bytes.proofs.ReadBack.{Reads, varint_reads, small_reads, front_reads, sized_reads, text_reads, number_reads, times_read, counted_reads}
+use Rattle.seg_doc_bytes.specs.StorableDocuments.{IsToken, IsLeaf, IsStorable, AreStorable, AreStorableMembers}
+use Rattle.seg_doc_bytes.proofs.RoundTrips.{Reads, varint_reads, small_reads, front_reads, sized_reads, text_reads, number_reads, times_read, counted_reads}
 
 token_grouped : (a b c d e rest : List ℕ) → (a ++ (b ++ (c ++ (d ++ e)))) ++ rest ≡ a ++ (b ++ (c ++ (d ++ (e ++ rest))))
 token_grouped a b c d e rest = simp append_assoc

@@ -7,9 +7,9 @@ use Rattle.std.proofs.lemmas.List.{drop_all}
 use Rattle.seg_common.proofs.Lists.{drop-slice_get}
 use Rattle.seg_values.specs.Tree.{Tree, Document}
 use Rattle.seg_values.specs.Schemas.{Schema, is_field}
-use Rattle.seg_values.specs.Stored.{stored_value, stored_document}
-use Rattle.seg_values.specs.StoredForm.{pair_form}
-use Rattle.seg_doc_bytes.specs.Storable.{IsStoredPair}
+use Rattle.seg_values.specs.StoredDocuments.{stored_value, stored_document}
+use Rattle.seg_values.specs.StoredBytes.{pair_form}
+use Rattle.seg_doc_bytes.specs.StorableDocuments.{IsStoredPair}
 
 -- whether a pair is stored
 abbrev pub is_stored : Schema → ℕ × Tree → Bool

@@ -3,7 +3,7 @@ use Rattle.std.proofs.Common.{◌≡◌, ℕ, true, false, List, length, [], ◌
 use Rattle.std.specs.Prelude.{nat_eq}
 use Rattle.std.proofs.lemmas.Bool.{false≢true}
 use Rattle.seg_values.specs.Tree.{Document}
-use Rattle.seg_doc_bytes.specs.Reader.{counted_at}
+use Rattle.seg_doc_bytes.specs.FrontReaders.{counted_at}
 use Rattle.seg_doc_bytes.specs.StoredDocument.{pair_at, all_read, stored_document_of}
 use Rattle.seg_doc_bytes.proofs.PassedPairs.{not_none}
 

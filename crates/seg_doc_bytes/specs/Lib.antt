@@ -1,7 +1,7 @@
-pub mod Making
-pub mod Passing
-pub mod Reader
-pub mod Storable
+pub mod FrontReaders
+pub mod FrontValues
+pub mod PassedBytes
+pub mod StorableDocuments
 pub mod StoredDocument
-pub mod StoredLaw
+pub mod StoredDocumentLaw
 pub mod StoredTree

@@ -1,8 +1,8 @@
 -- Stored documents: the number of pairs, and these, each a field and a tree of at most 200 levels.
 use Rattle.std.specs.Prelude.{ℕ, if◌then◌else◌, Bool, true, false, List, [], ◌∷◌, Option, Some, None, is_some}
 use Rattle.seg_values.specs.Tree.{Leaf, pre_tokenized, Tree, leaf, array, object, Document}
-pub use Rattle.seg_values.specs.StoredForm.{most_levels_read}
-use Rattle.seg_doc_bytes.specs.Reader.{Reader, then_read, counted_at, small_at}
+pub use Rattle.seg_values.specs.StoredBytes.{most_levels_read}
+use Rattle.seg_doc_bytes.specs.FrontReaders.{Reader, then_read, counted_at, small_at}
 use Rattle.seg_doc_bytes.specs.StoredTree.{stored_tree_at}
 
 -- at the top no leaf is a pre-tokenized text, which is stored as its text

@@ -4,7 +4,7 @@ use Rattle.std.specs.Int.{w64, cast_signed}
 use Rattle.seg_common.specs.Varint.{varint_at}
 use Rattle.seg_tokens.specs.declared.token.Token.{Token}
 use Rattle.seg_values.specs.Tree.{Leaf, null, text, pre_tokenized, unsigned, signed, boolean, date, facet, byte_string, ip, Tree, leaf, array, object, trees_from, members_from}
-use Rattle.seg_doc_bytes.specs.Reader.{Reader, then_read, made_of, counted_at, front, sized_at, text_at, small_at, number_at}
+use Rattle.seg_doc_bytes.specs.FrontReaders.{Reader, then_read, made_of, counted_at, front, sized_at, text_at, small_at, number_at}
 
 -- a token: its byte range, its position, how many positions it spans, and its text
 abbrev pub token_at : Reader Token

@@ -1,7 +1,7 @@
 //! Whether bytes are a stored document.
 ghost use Rattle.std.specs.Prelude.{◌≡◌, ◌∷◌, None, nat_eq, MatchOption};
-ghost use Rattle.seg_doc_bytes.specs.Passing.{Passes, begins_with};
-ghost use Rattle.seg_doc_bytes.specs.Reader as read;
+ghost use Rattle.seg_doc_bytes.specs.PassedBytes.{Passes, begins_with};
+ghost use Rattle.seg_doc_bytes.specs.FrontReaders as read;
 ghost use Rattle.seg_doc_bytes.specs.StoredDocument as documents;
 ghost use Rattle.seg_doc_bytes.specs.StoredTree.{stored_tree_at};
 

@@ -1,9 +1,9 @@
 //! Documents from their stored bytes.
 ghost use Rattle.std.specs.Prelude.{◌≡◌, ◌<◌, ℕ, List, Some, None, IfOk, MatchOption};
 ghost use Rattle.seg_values.specs.Tree.{Document};
-ghost use Rattle.seg_values.specs.View.{tree_of};
-ghost use Rattle.seg_doc_bytes.specs.Making.{Makes};
-ghost use Rattle.seg_doc_bytes.specs.Reader as read;
+ghost use Rattle.seg_values.specs.ValueTrees.{tree_of};
+ghost use Rattle.seg_doc_bytes.specs.FrontValues.{Makes};
+ghost use Rattle.seg_doc_bytes.specs.FrontReaders as read;
 ghost use Rattle.seg_doc_bytes.specs.StoredDocument as documents;
 
 use crate::pieces::{take_small, take_varint};

@@ -2,13 +2,13 @@
 ghost use Rattle.std.specs.Prelude.{◌≡◌, ◌≤◌, ◌++◌, ◌∷◌, [], length, Some, OnOk};
 ghost use Rattle.std.specs.List.{flat_map, slice_get, AllByRecursion};
 ghost use Rattle.seg_values.specs.Tree.{levels};
-ghost use Rattle.seg_values.specs.View.{tree_of};
+ghost use Rattle.seg_values.specs.ValueTrees.{tree_of};
 ghost use Rattle.seg_values.specs.Schemas.{is_field};
-ghost use Rattle.seg_values.specs.Stored as reading;
-ghost use Rattle.seg_values.specs.StoredForm.{tree_form, pair_form, stored_form};
+ghost use Rattle.seg_values.specs.StoredDocuments as reading;
+ghost use Rattle.seg_values.specs.StoredBytes.{tree_form, pair_form, stored_form};
 ghost use Rattle.seg_doc_bytes.specs.StoredDocument.{most_levels_read, stored_document_of};
-ghost use Rattle.seg_doc_bytes.specs.Storable.{IsStorable, IsStoredPair};
-ghost use Rattle.seg_doc_bytes.specs.StoredLaw.{AreShallow};
+ghost use Rattle.seg_doc_bytes.specs.StorableDocuments.{IsStorable, IsStoredPair};
+ghost use Rattle.seg_doc_bytes.specs.StoredDocumentLaw.{AreShallow};
 
 use crate::tree_writer::{put_tagged_text, put_tree, put_varint};
 use seg_values::{Field, OwnedValue, Pairs, Schema};

@@ -3,9 +3,9 @@ ghost use Rattle.std.specs.Prelude.{ℕ, List, IfOk};
 ghost use Rattle.std.specs.Int.{w64, cast_signed};
 ghost use Rattle.seg_tokens.specs.declared.token.Token.{Token};
 ghost use Rattle.seg_values.specs.Tree as tree;
-ghost use Rattle.seg_values.specs.View.{tree_of};
-ghost use Rattle.seg_doc_bytes.specs.Making.{Makes};
-ghost use Rattle.seg_doc_bytes.specs.Reader as read;
+ghost use Rattle.seg_values.specs.ValueTrees.{tree_of};
+ghost use Rattle.seg_doc_bytes.specs.FrontValues.{Makes};
+ghost use Rattle.seg_doc_bytes.specs.FrontReaders as read;
 ghost use Rattle.seg_doc_bytes.specs.StoredTree as trees;
 
 use crate::pieces::{

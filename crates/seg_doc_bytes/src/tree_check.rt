@@ -2,9 +2,9 @@
 //!
 //! Nothing is made of them, so no memory is asked for.
 ghost use Rattle.std.specs.Prelude.{◌≡◌, ◌∷◌, None};
-ghost use Rattle.seg_doc_bytes.specs.Reader as read;
+ghost use Rattle.seg_doc_bytes.specs.FrontReaders as read;
 ghost use Rattle.seg_doc_bytes.specs.StoredTree as trees;
-ghost use Rattle.seg_doc_bytes.specs.Passing.{Passes};
+ghost use Rattle.seg_doc_bytes.specs.PassedBytes.{Passes};
 
 use crate::pieces::{
     take_bit, take_byte, take_front, take_number, take_sized, take_small, take_text, take_varint,

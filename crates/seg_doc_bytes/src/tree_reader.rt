@@ -1,9 +1,9 @@
 //! Values from stored trees: each call makes one of what is at the front of bytes, or answers that there is none.
 ghost use Rattle.std.specs.Prelude.{IfOk};
 ghost use Rattle.seg_values.specs.Tree as tree;
-ghost use Rattle.seg_values.specs.View.{tree_of};
-ghost use Rattle.seg_doc_bytes.specs.Making.{Makes};
-ghost use Rattle.seg_doc_bytes.specs.Reader as read;
+ghost use Rattle.seg_values.specs.ValueTrees.{tree_of};
+ghost use Rattle.seg_doc_bytes.specs.FrontValues.{Makes};
+ghost use Rattle.seg_doc_bytes.specs.FrontReaders as read;
 ghost use Rattle.seg_doc_bytes.specs.StoredTree as trees;
 
 use crate::leaf_reader::{read_leaf, read_text};

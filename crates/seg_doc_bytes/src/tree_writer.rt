@@ -2,9 +2,9 @@
 ghost use Rattle.std.specs.Prelude.{◌≡◌, ◌++◌, ◌∷◌, [], length, OnOk};
 ghost use Rattle.seg_common.specs.Varint.{varint};
 ghost use Rattle.seg_values.specs.Tree as trees;
-ghost use Rattle.seg_values.specs.View.{tree_of};
-ghost use Rattle.seg_values.specs.StoredForm.{sized, token_form, leaf_form, tree_form};
-ghost use Rattle.seg_doc_bytes.specs.Storable.{IsText, IsToken, IsLeaf, IsStorable};
+ghost use Rattle.seg_values.specs.ValueTrees.{tree_of};
+ghost use Rattle.seg_values.specs.StoredBytes.{sized, token_form, leaf_form, tree_form};
+ghost use Rattle.seg_doc_bytes.specs.StorableDocuments.{IsText, IsToken, IsLeaf, IsStorable};
 
 use seg_common::VInt;
 use seg_tokens::{PreTokenizedString, Token};

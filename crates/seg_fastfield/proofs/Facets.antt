@@ -3,9 +3,9 @@ use Rattle.std.proofs.Common.{◌≡◌, ℕ, Bool, true, false, cond, List, [],
 use Rattle.std.specs.Ordering.{is_gt, nat_cmp}
 use Rattle.std.specs.Cmp.Lexicographic.{slice_cmp}
 use Rattle.std.specs.List.{AllByRecursion}
-use Rattle.seg_common.specs.Tables.{is_among}
+use Rattle.seg_common.specs.TabulatedMaps.{is_among}
 use Rattle.seg_model.specs.Columns.{ColumnKey, ColumnValue, FastValue, number, bytes_value, text_value, boolean_value, ip_value, date_value, column_cmp, inserted, sorted, value_keys, value_text, values_at}
-use Rattle.seg_column_writer.specs.Recorded.{in_order, put_in_order}
+use Rattle.seg_column_writer.specs.RecordedColumns.{in_order, put_in_order}
 use Rattle.seg_column_writer.specs.declared.value_kind.ValueKind.TheVariants.{Str}
 use Rattle.seg_column_writer.proofs.Exports.{is_at, key_named}
 use Rattle.seg_fastfield.specs.FastLeaves.{values_under}

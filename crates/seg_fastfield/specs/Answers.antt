@@ -6,7 +6,7 @@ use Rattle.seg_values.specs.declared.error.ArgumentCause.TheVariants.{NotFast}
 use Rattle.seg_values.specs.declared.error.SchemaCause.TheVariants.{NoColumn}
 use Rattle.seg_columns.specs.DynamicColumns.{StoredColumn}
 use Rattle.seg_fastfield.specs.ColumnNames.{StandsFor, FindsNotFast}
-use Rattle.seg_fastfield.specs.Reading.{FastFields, columns_at}
+use Rattle.seg_fastfield.specs.OpenFastFields.{FastFields, columns_at}
 
 -- an answer that goes by the path that a name stands for
 pub record GoesBy {T : Type 0} (fields : FastFields) (name : List ℕ) (given : Option (List ℕ) → T → Type 0)

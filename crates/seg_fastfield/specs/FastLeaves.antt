@@ -2,14 +2,14 @@
 use Rattle.std.specs.Prelude.{◌≡◌, ◌⊎◌, ◌<◌, ℕ, zero, suc, ℤ, List, [], ◌∷◌, map, length, true, false, Option, None, Some, if◌then◌else◌, IsSomeAnd, IfSome, IsTrue}
 use Rattle.std.specs.List.{flat_map, slice_get, AllByRecursion}
 use Rattle.seg_common.specs.JsonPaths.{JsonPath, written_key}
-use Rattle.seg_common.specs.Dates.{cut_to, nanos_in_second, precision_unit}
+use Rattle.seg_common.specs.DateUnits.{cut_to, nanos_in_second, precision_unit}
 use Rattle.seg_values.specs.declared.schema.FieldEntry.{FieldEntry}
 use Rattle.seg_values.specs.Tree.{Document, Leaf, Tree}
 use Rattle.seg_model.specs.Columns.{ColumnValue, FastValue, column_tokenizer, json_leaf_values, leaf_values, under_name}
 use Rattle.seg_model.specs.Fields.{Analyzer, Schema, is_json}
 use Rattle.seg_model.specs.Leaves.{PlacedLeaf, leaves}
-use Rattle.seg_model.specs.Takes.{takes}
-use Rattle.seg_model.specs.Valid.{Known, has_unknown_fast_tokenizer}
+use Rattle.seg_model.specs.AcceptedTrees.{takes}
+use Rattle.seg_model.specs.ValidInputs.{Known, has_unknown_fast_tokenizer}
 
 -- ---- what is recorded
 

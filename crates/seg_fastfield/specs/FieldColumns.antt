@@ -5,9 +5,9 @@ use Rattle.seg_values.specs.declared.schema.FieldEntry.{FieldEntry}
 use Rattle.seg_values.specs.Tree.{Leaf, null, text, pre_tokenized, unsigned, signed, boolean, date, facet, byte_string, ip}
 use Rattle.seg_model.specs.Columns.{declared_type}
 use Rattle.seg_model.specs.Fields.{Schema, is_json}
-use Rattle.seg_column_writer.specs.Kinds.{kind_of}
-use Rattle.seg_column_writer.specs.Records.{ColumnRecord, place_of}
-use Rattle.seg_column_writer.specs.RowByRow.{has_column}
+use Rattle.seg_column_writer.specs.ValueKinds.{kind_of}
+use Rattle.seg_column_writer.specs.ColumnRecords.{ColumnRecord, place_of}
+use Rattle.seg_column_writer.specs.RowOrderedColumns.{has_column}
 use Rattle.seg_column_writer.specs.declared.value_kind.ValueKind.{ValueKind}
 use Rattle.seg_column_writer.specs.declared.value_kind.ValueKind.TheVariants.{Number, Bytes, Str, Bool as Boolean, IpAddr, DateTime}
 use Rattle.seg_column_writer.specs.declared.writer.ColumnId.{ColumnId}

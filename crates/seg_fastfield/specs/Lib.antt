@@ -1,10 +1,10 @@
 pub mod Answers
 pub mod ColumnNames
+pub mod DeclaredColumns
+pub mod FastFieldWriters
 pub mod FastLeaves
 pub mod FieldColumns
-pub mod FirstColumns
+pub mod MemoryUsage
+pub mod OpenFastFields
 pub mod PathNumbers
-pub mod Reading
-pub mod Usage
-pub mod Walking
-pub mod Writing
+pub mod RecordedLeaves

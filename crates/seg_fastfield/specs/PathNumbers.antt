@@ -1,7 +1,7 @@
 -- The columns of paths that are known by the numbers of the paths.
 use Rattle.std.specs.Prelude.{◌≡◌, ℕ, ◌<◌, ◌≤◌, List, [], length, Option, None, Some}
 use Rattle.std.specs.List.{slice_index_or}
-use Rattle.seg_column_writer.specs.Records.{ColumnRecord}
+use Rattle.seg_column_writer.specs.ColumnRecords.{ColumnRecord}
 use Rattle.seg_column_writer.specs.declared.value_kind.ValueKind.{ValueKind}
 use Rattle.seg_column_writer.specs.declared.value_kind.ValueKind.TheVariants.{Number, Bytes, Str, Bool as Boolean, IpAddr, DateTime}
 use Rattle.seg_column_writer.specs.declared.writer.ColumnId.{ColumnId}

@@ -6,9 +6,9 @@ ghost use Rattle.seg_columns.specs.declared.error.ColumnError.TheVariants.{OutOf
 ghost use Rattle.seg_model.specs.Columns as model;
 ghost use Rattle.seg_model.specs.Fields as fields;
 ghost use Rattle.seg_values.specs.SchemaRules.{is_schema};
-ghost use Rattle.seg_model.specs.Valid.{names_fit};
+ghost use Rattle.seg_model.specs.ValidInputs.{names_fit};
 ghost use Rattle.seg_fastfield.specs.FieldColumns.{AreFieldColumns, IsFieldColumn, IsThere};
-ghost use Rattle.seg_fastfield.specs.FirstColumns.{column_of, first_columns};
+ghost use Rattle.seg_fastfield.specs.DeclaredColumns.{column_of, first_columns};
 
 use seg_column_writer::{ColumnId, ColumnarWriter, ValueKind};
 use seg_columns::ColumnError;

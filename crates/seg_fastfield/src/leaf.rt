@@ -1,15 +1,15 @@
 //! A leaf of a value, recorded at its path.
 ghost use Rattle.std.specs.Prelude.{◌≡◌, ◌+◌, OnOk};
-ghost use Rattle.seg_column_writer.specs.Documents.{with_values};
+ghost use Rattle.seg_column_writer.specs.DocumentRows.{with_values};
 ghost use Rattle.seg_fastfield.specs.FastLeaves.{IsKnown, cut_at, values_of_leaf, values_under};
 ghost use Rattle.seg_column_writer.specs.declared.value_kind.ValueKind.TheVariants.{Str};
 ghost use Rattle.seg_fastfield.specs.FieldColumns.{IsColumnOf, IsLeafColumn};
 ghost use Rattle.seg_fastfield.specs.PathNumbers.{IsKnownAt, IsKnownStill};
-ghost use Rattle.seg_fastfield.specs.Walking.{CanRecordLeaf, CanRecordTexts};
-ghost use Rattle.seg_fastfield.specs.Writing.{AreUnderWay};
+ghost use Rattle.seg_fastfield.specs.RecordedLeaves.{CanRecordLeaf, CanRecordTexts};
+ghost use Rattle.seg_fastfield.specs.FastFieldWriters.{AreUnderWay};
 ghost use Rattle.seg_model.specs.Columns as model;
 ghost use Rattle.seg_paths.specs.NumberedLeaves.{leaf_in};
-ghost use Rattle.seg_values.specs.View.{tree_of};
+ghost use Rattle.seg_values.specs.ValueTrees.{tree_of};
 
 use crate::path_columns::PathColumns;
 use crate::place::Place;

@@ -1,11 +1,11 @@
 //! The columns of the paths of JSON fields, by the numbers of the paths.
 ghost use Rattle.std.specs.Prelude.{◌≡◌, ◌++◌, ◌∷◌, ℕ, List, Some, slice_index_or, IfOk, OnOk, OnErr};
-ghost use Rattle.seg_column_writer.specs.Records.{ColumnRecord, place_of, with_column};
-ghost use Rattle.seg_column_writer.specs.Takes.{AreKeptBut};
+ghost use Rattle.seg_column_writer.specs.ColumnRecords.{ColumnRecord, place_of, with_column};
+ghost use Rattle.seg_column_writer.specs.RecordingRules.{AreKeptBut};
 ghost use Rattle.seg_common.specs.JsonPaths.{written_key};
 ghost use Rattle.seg_fastfield.specs.FieldColumns.{IsColumnOf};
 ghost use Rattle.seg_fastfield.specs.PathNumbers.{AreColumnsOf, AreNumbersKept, HasPathsMore, IsKnownAt, IsKnownStill, IsNumberOf, unknown};
-ghost use Rattle.seg_model.specs.Checked as checked;
+ghost use Rattle.seg_model.specs.DocumentCheck as checked;
 ghost use Rattle.seg_paths.specs.Paths.{IsAbove, below};
 
 use crate::kind_columns::KindColumns;

@@ -2,7 +2,7 @@
 ghost use Rattle.std.specs.Prelude.{◌≡◌, OnOk, OnErr};
 ghost use Rattle.std.specs.Net.Addr.{ipv6_octets};
 ghost use Rattle.seg_column_writer.specs.RowValues.{number_in};
-ghost use Rattle.seg_column_writer.specs.Takes.{AreKeptBut, MayRecord, with_recorded};
+ghost use Rattle.seg_column_writer.specs.RecordingRules.{AreKeptBut, MayRecord, with_recorded};
 ghost use Rattle.seg_column_writer.specs.declared.value_kind.ValueKind.TheVariants as kinds;
 ghost use Rattle.seg_fastfield.specs.FieldColumns.{IsColumnOf};
 ghost use Rattle.seg_fastfield.specs.PathNumbers.{IsKnownAt, IsKnownStill};

@@ -19,7 +19,7 @@ pub struct FastFieldReaders {
 }
 
 impl Model for FastFieldReaders {
-    ghost use Rattle.seg_fastfield.specs.Reading.{FastFields};
+    ghost use Rattle.seg_fastfield.specs.OpenFastFields.{FastFields};
 
     ghost Value = { FastFields };
 

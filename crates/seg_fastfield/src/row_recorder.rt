@@ -1,16 +1,16 @@
 //! The values of a document, recorded in its row.
 ghost use Rattle.std.specs.Prelude.{◌≡◌, ◌+◌, true, [], IfOk, OnOk};
 ghost use Rattle.std.specs.List.{slice_get, AllByRecursion};
-ghost use Rattle.seg_column_writer.specs.Documents.{with_values};
-ghost use Rattle.seg_model.specs.Valid.{names_fit};
+ghost use Rattle.seg_column_writer.specs.DocumentRows.{with_values};
+ghost use Rattle.seg_model.specs.ValidInputs.{names_fit};
 ghost use Rattle.seg_values.specs.SchemaRules.{is_schema};
-ghost use Rattle.seg_values.specs.View.{tree_of};
+ghost use Rattle.seg_values.specs.ValueTrees.{tree_of};
 ghost use Rattle.seg_fastfield.specs.FieldColumns.{AreFieldColumns};
 ghost use Rattle.seg_fastfield.specs.FastLeaves.{IsTaken, pair_values, path_at, recorded_values};
 ghost use Rattle.seg_column_format.specs.FastTokenizers.{AreKnown};
-ghost use Rattle.seg_fastfield.specs.FirstColumns.{first_columns};
+ghost use Rattle.seg_fastfield.specs.DeclaredColumns.{first_columns};
 ghost use Rattle.seg_fastfield.specs.PathNumbers.{AreColumnsOf};
-ghost use Rattle.seg_fastfield.specs.Writing.{AreUnderWay};
+ghost use Rattle.seg_fastfield.specs.FastFieldWriters.{AreUnderWay};
 
 use crate::path_columns::PathColumns;
 use crate::place::Place;

@@ -3,12 +3,12 @@ ghost use Rattle.std.specs.Prelude.{◌≡◌, ◌+◌, ◌++◌, [], ◌∷◌,
 ghost use Rattle.std.specs.List.{join_with_byte};
 ghost use Rattle.seg_common.specs.JsonPaths.{written_key};
 ghost use Rattle.seg_model.specs.Leaves as leaves;
-ghost use Rattle.seg_values.specs.View.{tree_of};
+ghost use Rattle.seg_values.specs.ValueTrees.{tree_of};
 ghost use Rattle.seg_fastfield.specs.FieldColumns.{IsFieldColumn};
-ghost use Rattle.seg_fastfield.specs.FirstColumns.{first_columns};
+ghost use Rattle.seg_fastfield.specs.DeclaredColumns.{first_columns};
 ghost use Rattle.seg_fastfield.specs.PathNumbers.{IsKnownAt, IsKnownStill};
-ghost use Rattle.seg_fastfield.specs.Walking.{CanRecord, IsRecorded};
-ghost use Rattle.seg_fastfield.specs.Writing.{AreUnderWay};
+ghost use Rattle.seg_fastfield.specs.RecordedLeaves.{CanRecord, IsRecorded};
+ghost use Rattle.seg_fastfield.specs.FastFieldWriters.{AreUnderWay};
 
 use crate::path_columns::PathColumns;
 use crate::place::Place;

@@ -2,16 +2,16 @@
 ghost use Rattle.std.specs.Prelude.{◌≡◌, ◌⊎◌, ◌<◌, ◌*◌, ◌-◌, ◌^◌, ◌++◌, [], ◌∷◌, ℕ, List, None, Some, true, Err, length, IfSome, IfOk, IfErr, OnOk, OnErr};
 ghost use Rattle.std.specs.List.{list_any};
 ghost use Rattle.seg_column_file.specs.ColumnFiles.{IsColumnFile, column_file_of, row_count};
-ghost use Rattle.seg_column_writer.specs.Known.{usage_of};
-ghost use Rattle.seg_column_writer.specs.Records.{ColumnRecord};
+ghost use Rattle.seg_column_writer.specs.NamedColumns.{usage_of};
+ghost use Rattle.seg_column_writer.specs.ColumnRecords.{ColumnRecord};
 ghost use Rattle.seg_column_format.specs.ModelColumns.{columns_in};
-ghost use Rattle.seg_model.specs.Checked.{document_refusal};
+ghost use Rattle.seg_model.specs.DocumentCheck.{document_refusal};
 ghost use Rattle.seg_model.specs.Columns.{FastValue, columns_of, declared_columns, fast_values};
-ghost use Rattle.seg_model.specs.Valid.{has_unknown_fast_tokenizer, names_fit};
+ghost use Rattle.seg_model.specs.ValidInputs.{has_unknown_fast_tokenizer, names_fit};
 ghost use Rattle.seg_column_format.specs.FastTokenizers.{AreKnown};
 ghost use Rattle.seg_fastfield.specs.PathNumbers.{AreColumnsOf};
-ghost use Rattle.seg_fastfield.specs.Usage.{saturated, total};
-ghost use Rattle.seg_fastfield.specs.Writing.{Holds, error_of, refusal_of};
+ghost use Rattle.seg_fastfield.specs.MemoryUsage.{saturated, total};
+ghost use Rattle.seg_fastfield.specs.FastFieldWriters.{Holds, error_of, refusal_of};
 
 use crate::declaring::{declared_columns, field_columns};
 use crate::path_columns::PathColumns;
@@ -38,11 +38,11 @@ pub struct FastFieldsWriter {
 
 impl Model for FastFieldsWriter {
     ghost use Rattle.std.specs.Prelude.{◌≡◌, true, IfSome};
-    ghost use Rattle.seg_model.specs.Valid.{names_fit};
+    ghost use Rattle.seg_model.specs.ValidInputs.{names_fit};
     ghost use Rattle.seg_fastfield.specs.FieldColumns.{AreFieldColumns};
-    ghost use Rattle.seg_fastfield.specs.FirstColumns.{first_columns};
+    ghost use Rattle.seg_fastfield.specs.DeclaredColumns.{first_columns};
     ghost use Rattle.seg_fastfield.specs.PathNumbers.{AreColumnsOf};
-    ghost use Rattle.seg_fastfield.specs.Writing.{AreUnderWay, FastWriting};
+    ghost use Rattle.seg_fastfield.specs.FastFieldWriters.{AreUnderWay, FastWriting};
 
     ghost Value = { FastWriting };
 

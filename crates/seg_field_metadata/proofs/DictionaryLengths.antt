@@ -3,7 +3,7 @@ use Rattle.std.proofs.Common.{◌≡◌, ℕ, zero, suc, ◌+◌, ◌*◌, ◌-�
 use Rattle.std.specs.List.{sum_by}
 use Rattle.std.proofs.lemmas.List.Sums.{sum_by_push}
 use Rattle.seg_termdict.specs.Dictionary.{AreInfos, AreKeys, IsDictionary, Term, count_of, ends_of, info_of, infos_of, key_of, key_start, keys_of, positions_start, postings_start, term_of, terms_in, terms_of}
-use Rattle.seg_termdict.specs.Building.{last_term, positions_end, postings_end}
+use Rattle.seg_termdict.specs.DictionaryBuilders.{last_term, positions_end, postings_end}
 use Rattle.seg_termdict.proofs.Exports.{last_term-terms_in, terms_in-more}
 
 -- what rises from each term to the next by a size of the term

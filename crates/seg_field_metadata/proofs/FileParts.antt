@@ -3,7 +3,7 @@ use Rattle.std.proofs.Common.{◌≡◌, ℕ, ◌-◌, ◌≤◌, Bool, true, fa
 use Rattle.std.specs.Prelude.{◌==◌, slice_range}
 use Rattle.std.specs.Option.{option_and_then}
 use Rattle.std.proofs.lemmas.Option.{none-some, same_Some}
-use Rattle.seg_directory.specs.Composite.{Part, field_of, is_composite, parts_from, parts_of, table_of}
+use Rattle.seg_directory.specs.CompositeFiles.{Part, field_of, is_composite, parts_from, parts_of, table_of}
 use Rattle.seg_open.specs.FieldParts.{part_in}
 
 cut_fits : (start end : ℕ) (body part : List ℕ) → Some (slice_range body start end) ≡ Some part → length part ≤ length body

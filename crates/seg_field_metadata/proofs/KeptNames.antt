@@ -8,8 +8,8 @@ use Rattle.std.specs.String.{string_eq}
 use Rattle.std.specs.declared.alloc.Global.{Global}
 use Rattle.std.proofs.lemmas.Map.Text.{hash_map_updates_text}
 use Rattle.seg_values.specs.declared.schema.FieldEntry.{FieldEntry}
-use Rattle.seg_field_metadata.specs.Listed.{EscapedName, HasNames, column_name, dotted_name, dotted_path, is_escaped, last_escaped, listed_name, or_else}
-use Rattle.seg_field_metadata.specs.Listed as listed
+use Rattle.seg_field_metadata.specs.ListedNames.{EscapedName, HasNames, column_name, dotted_name, dotted_path, is_escaped, last_escaped, listed_name, or_else}
+use Rattle.seg_field_metadata.specs.ListedNames as listed
 
 or_none : (o : Option (List ℕ)) → o ≡ or_else o None
 or_none None = refl

@@ -15,10 +15,10 @@ use Rattle.seg_values.specs.declared.schema.FieldKind.{FieldKind}
 use Rattle.seg_values.specs.declared.schema.FieldKind.TheVariants.{Json}
 use Rattle.seg_model.specs.Contents.{Contents, terms_at}
 use Rattle.seg_model.specs.Fields.{Schema, is_indexed, is_json}
-use Rattle.seg_model.specs.Reading.{Posting, Terms}
+use Rattle.seg_model.specs.DocumentTerms.{Posting, Terms}
 use Rattle.seg_model.specs.Shape.{HasFullShape, IsTermWith}
-use Rattle.seg_postings.specs.FieldReading.{OpenField, ReadTerm, dictionary_terms, written_terms}
-use Rattle.seg_postings.specs.HeldTerms.{terms_held}
+use Rattle.seg_postings.specs.OpenedFields.{OpenField, ReadTerm, dictionary_terms, written_terms}
+use Rattle.seg_postings.specs.TermMaps.{terms_held}
 use Rattle.seg_postings.specs.TermForms.{has_form, is_formed}
 use Rattle.seg_postings.proofs.Exports.{form_of_term}
 use Rattle.seg_open.specs.OpenSegment.{terms_in}

@@ -8,9 +8,9 @@ use Rattle.std.proofs.lemmas.List.Sums.{sum_by_more}
 use Rattle.seg_common.specs.declared.term_info.TermInfo.{TermInfo}
 use Rattle.seg_termdict.specs.Dictionary.{Term}
 use Rattle.seg_termdict.specs.SortedTerms.{RankedTerm}
-use Rattle.seg_termdict.specs.Streaming.{Stream, advanced, current, no_ranked, no_term, ranked_terms}
+use Rattle.seg_termdict.specs.TermStreams.{Stream, advanced, current, no_ranked, no_term, ranked_terms}
 use Rattle.seg_termdict.proofs.Exports.{ranked_at, ranked_length, ranked_of}
-use Rattle.seg_field_metadata.specs.Indexed.{in_64_bits}
+use Rattle.seg_field_metadata.specs.IndexedFieldMetadata.{in_64_bits}
 
 -- ---- a sum that stays at a limit
 

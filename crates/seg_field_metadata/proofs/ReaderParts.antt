@@ -7,19 +7,19 @@ use Rattle.std.proofs.lemmas.Option.{same_Some}
 use Rattle.seg_values.specs.declared.schema.FieldEntry.{FieldEntry}
 use Rattle.seg_meta.specs.Metas.{SegmentParts}
 use Rattle.seg_model.specs.Fields.{is_indexed, is_json}
-use Rattle.seg_directory.specs.Composite.{Part, field_of}
+use Rattle.seg_directory.specs.CompositeFiles.{Part, field_of}
 use Rattle.seg_termdict.specs.Dictionary.{Term, terms_of}
-use Rattle.seg_postings.specs.FieldReading.{OpenField, dictionary_terms}
+use Rattle.seg_postings.specs.OpenedFields.{OpenField, dictionary_terms}
 use Rattle.seg_postings.specs.JsonSpaces.{AreSpaces}
-use Rattle.seg_segment.specs.HoldTerms.{HoldTerms, HoldsField}
+use Rattle.seg_segment.specs.TermFiles.{HoldTerms, HoldsField}
 use Rattle.seg_segment.specs.declared.segment_files.SegmentFiles.{SegmentFiles}
 use Rattle.seg_open.specs.OpenSegment.{OpenSegment, contents_of}
-use Rattle.seg_open.specs.SegmentOpened.{HasFilesOf}
-use Rattle.seg_field_metadata.specs.Indexed.{FieldSays, FieldSaysBy, Said, Sizes}
+use Rattle.seg_open.specs.OpeningSteps.{HasFilesOf}
+use Rattle.seg_field_metadata.specs.IndexedFieldMetadata.{FieldSays, FieldSaysBy, Said, Sizes}
 use Rattle.seg_field_metadata.specs.FileLengths.{ArePartsOf, AreShort, FieldSaysIn, PartsSay, PartsSayBy, path_entry}
 use Rattle.seg_field_metadata.specs.PartLengths.{FieldBytes, IsOpenedFrom}
 use Rattle.seg_field_metadata.proofs.FileParts.{part_fits}
-use Rattle.seg_field_metadata.proofs.SaidLengths.{field_says_lengths, sizes_are}
+use Rattle.seg_field_metadata.proofs.FieldLengths.{field_says_lengths, sizes_are}
 
 -- ---- what a field says that is opened from parts
 

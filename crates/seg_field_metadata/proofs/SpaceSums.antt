@@ -14,7 +14,7 @@ use Rattle.std.proofs.lemmas.Slice.Eq.{bytes_eq-Decides}
 use Rattle.seg_termdict.specs.Dictionary.{Term}
 use Rattle.seg_postings.specs.JsonSpaces.{AreSpaces, IsSpaceAmong, beginning, begins_with, path_and_type}
 use Rattle.seg_postings.specs.declared.field_space.InvertedIndexFieldSpace.{InvertedIndexFieldSpace}
-use Rattle.seg_field_metadata.proofs.Groups.{group, in_none, in_one_each, share_of}
+use Rattle.seg_field_metadata.proofs.ItemGroups.{group, in_none, in_one_each, share_of}
 
 abbrev among : InvertedIndexFieldSpace → Term → Bool
 among s t = begins_with (beginning s) t

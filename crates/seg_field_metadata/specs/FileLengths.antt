@@ -10,11 +10,11 @@ use Rattle.seg_postings.specs.declared.field_space.InvertedIndexFieldSpace.{Inve
 use Rattle.seg_segment.specs.declared.segment_files.SegmentFiles.{SegmentFiles}
 use Rattle.seg_open.specs.FieldParts.{part_in}
 use Rattle.seg_open.specs.OpenSegment.{OpenSegment}
-use Rattle.seg_open.specs.SegmentOpened.{HasFilesOf}
-use Rattle.seg_field_metadata.specs.Known.{Entry}
-use Rattle.seg_field_metadata.specs.Indexed.{Said, indexed_entry, share}
-use Rattle.seg_field_metadata.specs.Listed.{listed_name}
-use Rattle.seg_field_metadata.specs.Metadata.{FieldsSay}
+use Rattle.seg_open.specs.OpeningSteps.{HasFilesOf}
+use Rattle.seg_field_metadata.specs.MetadataEntries.{Entry}
+use Rattle.seg_field_metadata.specs.IndexedFieldMetadata.{Said, indexed_entry, share}
+use Rattle.seg_field_metadata.specs.ListedNames.{listed_name}
+use Rattle.seg_field_metadata.specs.SegmentMetadata.{FieldsSay}
 use Rattle.seg_field_metadata.specs.PartLengths.{FieldBytes, lengths_of}
 
 -- the files of terms, of postings and of positions have fewer than 2^64 bytes each

@@ -1,9 +1,9 @@
-pub mod Columns
+pub mod ColumnMetadata
 pub mod FileLengths
-pub mod Grouped
-pub mod Indexed
-pub mod Known
-pub mod Listed
-pub mod Merged
-pub mod Metadata
+pub mod GroupedEntries
+pub mod IndexedFieldMetadata
+pub mod ListedNames
+pub mod MergedMetadata
+pub mod MetadataEntries
 pub mod PartLengths
+pub mod SegmentMetadata

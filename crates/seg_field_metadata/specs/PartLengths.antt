@@ -7,10 +7,10 @@ use Rattle.seg_values.specs.declared.schema.FieldEntry.{FieldEntry}
 use Rattle.seg_model.specs.Fields.{is_json}
 use Rattle.seg_termdict.specs.Dictionary.{terms_of}
 use Rattle.seg_postings.specs.Field.{IsField}
-use Rattle.seg_postings.specs.FieldReading.{OpenField, dictionary_terms}
-use Rattle.seg_postings.specs.FieldWriting.{TermWritten}
-use Rattle.seg_field_metadata.specs.Known.{Entry, Known}
-use Rattle.seg_field_metadata.specs.Indexed.{FieldSays, Said, Sizes, indexed_entry, sizes_of}
+use Rattle.seg_postings.specs.OpenedFields.{OpenField, dictionary_terms}
+use Rattle.seg_postings.specs.FieldSerializers.{TermWritten}
+use Rattle.seg_field_metadata.specs.MetadataEntries.{Entry, Known}
+use Rattle.seg_field_metadata.specs.IndexedFieldMetadata.{FieldSays, Said, Sizes, indexed_entry, sizes_of}
 
 -- the three parts of a field, as bytes
 pub record FieldBytes : Type 0 where

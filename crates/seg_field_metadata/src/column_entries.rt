@@ -2,10 +2,10 @@
 ghost use Rattle.std.specs.List.{slice_get};
 ghost use Rattle.std.specs.Prelude.{◌≡◌, ◌++◌, ◌∷◌, [], Bool, List, map, IfOk, OnOk, string_bytes};
 ghost use Rattle.seg_columns.specs.DynamicColumns.{type_of};
-ghost use Rattle.seg_field_metadata.specs.Known.{entry_of};
-ghost use Rattle.seg_field_metadata.specs.Columns as spec;
-ghost use Rattle.seg_field_metadata.specs.Columns.{ColumnsSay, IsStored};
-ghost use Rattle.seg_field_metadata.specs.Listed.{EscapedName, HasNames, column_name};
+ghost use Rattle.seg_field_metadata.specs.MetadataEntries.{entry_of};
+ghost use Rattle.seg_field_metadata.specs.ColumnMetadata as spec;
+ghost use Rattle.seg_field_metadata.specs.ColumnMetadata.{ColumnsSay, IsStored};
+ghost use Rattle.seg_field_metadata.specs.ListedNames.{EscapedName, HasNames, column_name};
 
 use crate::FieldMetadata;
 use crate::listed::EscapedNames;

@@ -3,12 +3,12 @@ ghost use Rattle.std.specs.Prelude.{◌≡◌, ◌≤◌, ◌++◌, [], ◌∷�
 ghost use Rattle.std.specs.List.{list_all};
 ghost use Rattle.seg_values.specs.declared.schema.FieldKind.TheVariants as kinds;
 ghost use Rattle.seg_model.specs.Fields.{is_json};
-ghost use Rattle.seg_postings.specs.FieldReading.{dictionary_terms};
+ghost use Rattle.seg_postings.specs.OpenedFields.{dictionary_terms};
 ghost use Rattle.seg_postings.specs.TermForms.{is_formed};
-ghost use Rattle.seg_field_metadata.specs.Known.{entry_of};
-ghost use Rattle.seg_field_metadata.specs.Indexed as spec;
-ghost use Rattle.seg_field_metadata.specs.Listed as listed;
-ghost use Rattle.seg_field_metadata.specs.Indexed.{Adds, FieldSays, indexed_entry, sizes_of};
+ghost use Rattle.seg_field_metadata.specs.MetadataEntries.{entry_of};
+ghost use Rattle.seg_field_metadata.specs.IndexedFieldMetadata as spec;
+ghost use Rattle.seg_field_metadata.specs.ListedNames as listed;
+ghost use Rattle.seg_field_metadata.specs.IndexedFieldMetadata.{Adds, FieldSays, indexed_entry, sizes_of};
 
 use crate::FieldMetadata;
 use crate::listed::{EscapedNames, listed_name};

@@ -1,7 +1,7 @@
 //! Metadata of a field.
 ghost use Rattle.std.specs.Prelude.{◌≡◌, ◌+◌, ◌<◌, ◌≤◌, ◌^◌, ◌||◌, [], ◌∷◌, true, false, None, Some, is_some, IfErr, IfOk, IfSome, OnErr, OnOk};
 ghost use Rattle.std.specs.Ordering.{nat_cmp};
-ghost use Rattle.seg_field_metadata.specs.Known.{entry_of, fits, key_cmp, key_of, known_of, size_fits, size_of, together, total, type_place};
+ghost use Rattle.seg_field_metadata.specs.MetadataEntries.{entry_of, fits, key_cmp, key_of, known_of, size_fits, size_of, together, total, type_place};
 
 use seg_common::ByteCount;
 use seg_values::{ArgumentCause, FieldType, TResult, TantivyError};

@@ -2,7 +2,7 @@
 ghost use Rattle.std.specs.Prelude.{◌≡◌, List, Vec};
 ghost use Rattle.std.specs.declared.alloc.Global.{Global};
 ghost use Rattle.std.specs.List.Sorted.{IsPermutation};
-ghost use Rattle.seg_field_metadata.specs.Merged.{all_entries, merged};
+ghost use Rattle.seg_field_metadata.specs.MergedMetadata.{all_entries, merged};
 ghost use Rattle.seg_field_metadata.specs.declared.field_metadata.FieldMetadata.{FieldMetadata};
 
 /// Every order of the lists gives the same answer.

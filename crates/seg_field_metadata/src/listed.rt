@@ -1,8 +1,8 @@
 //! The names under which paths are listed.
 ghost use Rattle.std.specs.Prelude.{◌≡◌, ◌==◌, ◌++◌, [], ◌∷◌, List, IfOk, OnOk, string_bytes};
 ghost use Rattle.std.specs.List.{list_any};
-ghost use Rattle.seg_field_metadata.specs.Listed as spec;
-ghost use Rattle.seg_field_metadata.specs.Listed.{EscapedName, HasNames, dotted_path, escaped_names, escaped_path};
+ghost use Rattle.seg_field_metadata.specs.ListedNames as spec;
+ghost use Rattle.seg_field_metadata.specs.ListedNames.{EscapedName, HasNames, dotted_path, escaped_names, escaped_path};
 
 use seg_common::{PATH_SEPARATOR, push_replaced};
 use seg_values::FieldEntry;

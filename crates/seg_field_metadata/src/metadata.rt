@@ -1,12 +1,12 @@
 //! What a segment says about its fields.
 ghost use Rattle.std.specs.Prelude.{◌≡◌, ◌-◌, ◌<◌, ◌^◌, ◌++◌, [], ◌∷◌, List, Option, Some, true, length, map, IfErr, IfOk, OnOk};
 ghost use Rattle.std.specs.List.{slice_get};
-ghost use Rattle.seg_postings.specs.FieldReading.{OpenField};
-ghost use Rattle.seg_field_metadata.specs.Known.{Entry, entry_of};
-ghost use Rattle.seg_field_metadata.specs.Merged.{all_entries, merged, sizes_fit};
-ghost use Rattle.seg_field_metadata.specs.Indexed.{Adds, Said};
-ghost use Rattle.seg_field_metadata.specs.Listed.{HasNames};
-ghost use Rattle.seg_field_metadata.specs.Metadata.{FieldsSay, MetadataFails, OpenedSays, SegmentSays};
+ghost use Rattle.seg_postings.specs.OpenedFields.{OpenField};
+ghost use Rattle.seg_field_metadata.specs.MetadataEntries.{Entry, entry_of};
+ghost use Rattle.seg_field_metadata.specs.MergedMetadata.{all_entries, merged, sizes_fit};
+ghost use Rattle.seg_field_metadata.specs.IndexedFieldMetadata.{Adds, Said};
+ghost use Rattle.seg_field_metadata.specs.ListedNames.{HasNames};
+ghost use Rattle.seg_field_metadata.specs.SegmentMetadata.{FieldsSay, MetadataFails, OpenedSays, SegmentSays};
 
 use crate::column_entries::column_entries;
 use crate::field_entries::add_field;

@@ -2,9 +2,9 @@
 ghost use Rattle.std.specs.Prelude.{◌≡◌, ◌++◌, [], ◌∷◌, List, true, false, None, map, IfErr, IfOk, OnErr, OnOk};
 ghost use Rattle.std.specs.List.{flat_map};
 ghost use Rattle.std.specs.List.Sorted.{IsPermutation, IsSortedByKey};
-ghost use Rattle.seg_field_metadata.specs.Grouped.{grouped, grouped_behind};
-ghost use Rattle.seg_field_metadata.specs.Known.{Entry, entry_of, fits, key_cmp, key_of, known_of, together};
-ghost use Rattle.seg_field_metadata.specs.Merged.{MergeFails, all_entries, merged, sizes_fit};
+ghost use Rattle.seg_field_metadata.specs.GroupedEntries.{grouped, grouped_behind};
+ghost use Rattle.seg_field_metadata.specs.MetadataEntries.{Entry, entry_of, fits, key_cmp, key_of, known_of, together};
+ghost use Rattle.seg_field_metadata.specs.MergedMetadata.{MergeFails, all_entries, merged, sizes_fit};
 
 use crate::field_metadata::FieldMetadata;
 use seg_values::{ArgumentCause, TResult, TantivyError};

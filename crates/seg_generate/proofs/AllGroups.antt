@@ -1,7 +1,7 @@
 -- All groups make the operations.
 use Rattle.std.proofs.Common.{◌≡◌, ℕ, ap}
 use Rattle.std.specs.List.{flat_map, range_with_len}
-use Rattle.seg_generate.specs.Generated.{group_operations, operations}
+use Rattle.seg_generate.specs.GeneratedInput.{group_operations, operations}
 
 pub all_groups : (seed n : ℕ) → n ≡ 250 → flat_map (group_operations seed) (range_with_len 0 n) ≡ operations seed
 unfolding operations

@@ -9,11 +9,11 @@ use Rattle.seg_common.proofs.Lists.{all_filtered}
 use Rattle.seg_tokens.specs.declared.token.Token.{Token}
 use Rattle.seg_tokens.specs.Tokenizers.{default_tokens, separates_words}
 use Rattle.seg_tokens.specs.Words.{numbered, placed, words}
-use Rattle.seg_model.specs.Checked.{count_of, is_rising, is_u32}
+use Rattle.seg_model.specs.DocumentCheck.{count_of, is_rising, is_u32}
 use Rattle.seg_model.specs.Occurrences.{counted, reach, start_after_all}
 use Rattle.seg_generate.specs.Documents.{body_text}
-use Rattle.seg_generate.specs.Taking.{AreFit, DefaultTakesTexts}
-use Rattle.seg_generate.proofs.Valid.{body_length}
+use Rattle.seg_generate.specs.GeneratedTexts.{AreFit, DefaultTakesTexts}
+use Rattle.seg_generate.proofs.ValidInputs.{body_length}
 
 -- ---- what is kept of a list
 

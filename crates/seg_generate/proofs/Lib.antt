@@ -1,7 +1,7 @@
 mod AllGroups
-mod Counted
 mod DefaultTokens
-mod Made
-mod Pushed
+mod InputParts
+mod NumberedLists
+mod PushedOperations
 mod Seeds
-mod Valid
+mod ValidInputs

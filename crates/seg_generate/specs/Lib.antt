@@ -1,5 +1,5 @@
 pub mod Documents
-pub mod Generated
+pub mod GeneratedInput
+pub mod GeneratedTexts
 pub mod Seeds
 pub mod SummaryText
-pub mod Taking

@@ -3,7 +3,7 @@ use Rattle.std.specs.Prelude.{ℕ, List, [], ◌∷◌, ◌++◌, if◌then◌el
 use Rattle.std.specs.FinMap.{entries}
 use Rattle.seg_common.specs.SegmentIds.{id_text}
 use Rattle.seg_model.specs.Fields.{Schema, is_indexed}
-use Rattle.seg_model.specs.Reading.{Terms}
+use Rattle.seg_model.specs.DocumentTerms.{Terms}
 use Rattle.seg_generate.specs.declared.summary.TermTotals.{TermTotals}
 
 -- the first line

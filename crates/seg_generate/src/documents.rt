@@ -1,8 +1,8 @@
 //! The schema and the documents of the generated input.
 ghost use Rattle.std.specs.Prelude.{◌≡◌, ◌+◌, ◌-◌, ◌<◌, ◌^◌, ◌%◌, [], ◌∷◌, ◌++◌, true, codes, pos, length, IfOk, OnOk};
-ghost use Rattle.seg_values.specs.Names.{is_allowed, kept_entry};
+ghost use Rattle.seg_values.specs.FieldNames.{is_allowed, kept_entry};
 ghost use Rattle.seg_values.specs.Tree.{leaf, signed};
-ghost use Rattle.seg_values.specs.View.{tree_of};
+ghost use Rattle.seg_values.specs.ValueTrees.{tree_of};
 ghost use Rattle.seg_generate.specs.Documents.{attrs_entry, body_entry, body_text, document, id_entry, schema};
 
 use itoa::Buffer;

@@ -1,7 +1,7 @@
 //! The generated input, whole.
 ghost use Rattle.std.specs.Prelude.{◌≡◌, ◌∷◌, [], replicate, None, Err, IfOk, IfErr};
 ghost use Rattle.std.specs.List.{range_with_len};
-ghost use Rattle.seg_generate.specs.Generated.{cuts, generated};
+ghost use Rattle.seg_generate.specs.GeneratedInput.{cuts, generated};
 
 use crate::documents::schema;
 use crate::operations::operations;

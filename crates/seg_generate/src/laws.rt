@@ -1,5 +1,5 @@
 //! The laws, each on a function without a body's work.
-ghost use Rattle.seg_generate.specs.Taking.{DefaultTakesTexts, GeneratedInputsAreValid};
+ghost use Rattle.seg_generate.specs.GeneratedTexts.{DefaultTakesTexts, GeneratedInputsAreValid};
 
 /// Where `default` is known and takes the generated texts, no generated input is refused, whatever its seed.
 pub fn generated_inputs_are_valid()

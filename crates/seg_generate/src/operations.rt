@@ -4,9 +4,9 @@ ghost use Rattle.std.specs.List.{range_with_len};
 ghost use Rattle.seg_values.specs.Tree.{unsigned};
 ghost use Rattle.seg_values.specs.ValueBytes.{value_bytes};
 ghost use Rattle.seg_model.specs.Operations.{add, delete};
-ghost use Rattle.seg_check.specs.View.{operation_of};
+ghost use Rattle.seg_check.specs.UserOperations.{operation_of};
 ghost use Rattle.seg_generate.specs.Documents.{document};
-ghost use Rattle.seg_generate.specs.Generated.{deleted_number, group_operations, operations};
+ghost use Rattle.seg_generate.specs.GeneratedInput.{deleted_number, group_operations, operations};
 
 use crate::documents::document;
 use seg_check::UserOperation;

@@ -1,7 +1,7 @@
 -- What a crash may leave of the output of a build.
 use Rattle.std.proofs.Common.{◌≡◌, ◌<◌, ◌^◌, ◌∙◌, ◌⊎◌, inl, inr, ℕ, List, [], ◌∷◌, length, map, IsTrue, None, Some, Result, Ok, Err, refl, sym, ap, subst}
 use Rattle.std.specs.FinMap.{empty, get-empty}
-use Rattle.seg_common.specs.Names.{name_cmp}
+use Rattle.seg_common.specs.FileNameKeys.{name_cmp}
 use Rattle.seg_common.specs.declared.name.FileName.TheVariants.{Meta}
 use Rattle.seg_values.specs.declared.error.TantivyError.{TantivyError}
 use Rattle.seg_directory.proofs.Exports.{leaves_only, passes_weaker, reads_only, settled_files_are_the_only_image, started, turns_on}
@@ -9,32 +9,32 @@ use Rattle.seg_directory.specs.Disk.{IsImage}
 use Rattle.seg_directory.specs.DiskChanges.{Turns}
 use Rattle.seg_directory.specs.FileDisks.{FileDisk, settled}
 use Rattle.seg_directory.specs.Files.{NamedFiles}
-use Rattle.seg_directory.specs.State.{DirectoryState, HasOnly, IsEmptyDisk, LeavesOnly}
-use Rattle.seg_directory.specs.Works.{Works}
-use Rattle.seg_meta.specs.Fits.{AreReadBack}
+use Rattle.seg_directory.specs.DirectoryStates.{DirectoryState, HasOnly, IsEmptyDisk, LeavesOnly}
+use Rattle.seg_directory.specs.DirectorySteps.{Works}
+use Rattle.seg_meta.specs.MetaBounds.{AreReadBack}
 use Rattle.seg_meta.specs.IndexOfFiles as index
 use Rattle.seg_model.specs.Contents.{full_reading}
 use Rattle.seg_model.specs.Fields.{Schema, Analyzer}
 use Rattle.seg_model.specs.Input.{Input, input_batches, input_survivors}
 use Rattle.seg_model.specs.Laws.{AreReadingsOf, JoiningIsInvisible}
-use Rattle.seg_segment.specs.Forms.{segment_forms}
-use Rattle.seg_segment.specs.Holds.{Holds}
+use Rattle.seg_segment.specs.IndexForms.{segment_forms}
+use Rattle.seg_segment.specs.FileContents.{Holds}
 use Rattle.seg_segment.specs.Laws.{HoldsOneContents}
 use Rattle.seg_open.specs.OpenSegment.{kept_count, part_of}
-use Rattle.seg_check.specs.Admitted.{Fits}
-use Rattle.seg_index_build.specs.AfterCrash.{AreMergeOf, MayBeBuilt, MayBeMerged}
-use Rattle.seg_index_build.specs.Builds.{LeavesBuilt}
+use Rattle.seg_check.specs.AdmittedInputs.{Fits}
+use Rattle.seg_index_build.specs.FilesAfterCrash.{AreMergeOf, MayBeBuilt, MayBeMerged}
+use Rattle.seg_index_build.specs.BuildOutcomes.{LeavesBuilt}
 use Rattle.seg_index_build.specs.DirectoryCalls.{BeginsIndexes, FillsWork, WritesIndexes, lists_none, merge_of}
 use Rattle.seg_index_build.specs.IndexFiles.{IsOutputIndexOf, merged_meta, output_id, output_meta, work_ids}
 use Rattle.seg_index_build.specs.MergeAnswers.{IsMergeOf}
-use Rattle.seg_index_build.specs.SegmentsMerged.{MergesLive, first_schema, joined}
-use Rattle.seg_index_build.specs.Turns.{Directories, both, goes_on, stops}
-use Rattle.seg_index_build.proofs.Exits.{Filled, filled_so_far}
+use Rattle.seg_index_build.specs.MergedSegments.{MergesLive, first_schema, joined}
+use Rattle.seg_index_build.specs.TwoDirectories.{Directories, both, goes_on, stops}
+use Rattle.seg_index_build.proofs.WritingExits.{Filled, filled_so_far}
 use Rattle.seg_index_build.proofs.MergeOnDisk.{merge_rests, merge_turns}
-use Rattle.seg_index_build.proofs.Reached.{are_readings, told_filled}
-use Rattle.seg_index_build.proofs.WholeJoined.{kept_survivors, survivors_joined}
-use Rattle.seg_index_build.proofs.WholeRead.{live_batches}
-use Rattle.seg_index_build.proofs.WholeWork.{work_merged_meta, work_schema}
+use Rattle.seg_index_build.proofs.WritingPlaces.{are_readings, told_filled}
+use Rattle.seg_index_build.proofs.JoinedSurvivors.{kept_survivors, survivors_joined}
+use Rattle.seg_index_build.proofs.WorkReadings.{live_batches}
+use Rattle.seg_index_build.proofs.FilledWorkIndex.{work_merged_meta, work_schema}
 
 abbrev failing : (T : Type 0) → TantivyError → Result T TantivyError
 failing T e = Err e

@@ -10,16 +10,16 @@ use Rattle.seg_common.specs.declared.name.SegmentComponent.TheVariants as compon
 use Rattle.seg_common.proofs.Numbers.{nat_eq-sym}
 use Rattle.seg_common.proofs.Lists.{all_back, all_front}
 use Rattle.seg_directory.specs.Files.{NamedFiles}
-use Rattle.seg_meta.specs.Saving as saving
+use Rattle.seg_meta.specs.SavableMetas as saving
 use Rattle.seg_model.specs.Contents.{Contents}
 use Rattle.seg_model.specs.Fields.{Schema, Analyzer}
 use Rattle.seg_meta.specs.IndexOfFiles.{Deletes, ListedSegment}
 use Rattle.seg_model.specs.Operations.{Operation, Batch, batches_from}
-use Rattle.seg_model.specs.Valid.{are_distinct}
-use Rattle.seg_segment.specs.Holds.{Holds}
+use Rattle.seg_model.specs.ValidInputs.{are_distinct}
+use Rattle.seg_segment.specs.FileContents.{Holds}
 use Rattle.seg_segment.specs.SegmentFiles.{AreAbsent, KeepsAllBut}
 use Rattle.seg_batches.specs.BatchTotals.{AllHaveTotals, documents_total}
-use Rattle.seg_batches.specs.Segments.{AllStand, AllTellAlive, TellsAlive, WrittenSegment, alive_file, alive_files, all_listed, deletes_of, listed, segments_of, six_files}
+use Rattle.seg_batches.specs.WrittenSegments.{AllStand, AllTellAlive, TellsAlive, WrittenSegment, alive_file, alive_files, all_listed, deletes_of, listed, segments_of, six_files}
 use Rattle.seg_segment.proofs.Exports.{held_on}
 use Rattle.seg_batches.proofs.Exports.{totals_on}
 use Rattle.seg_index_build.specs.IndexFiles.{listed_of, segments_files, written_of}

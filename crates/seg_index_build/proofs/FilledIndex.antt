@@ -7,36 +7,36 @@ use Rattle.seg_common.proofs.Results.{at_ok}
 use Rattle.seg_values.specs.declared.error.TantivyError.{TantivyError}
 use Rattle.seg_values.specs.declared.error.TantivyError.TheVariants.{IndexAlreadyExists}
 use Rattle.seg_directory.proofs.Exports.{Parts, all_went, answers, in_first, in_next, parts_on, quiet_steps, split_does, stops, then_does}
-use Rattle.seg_directory.specs.State.{DirectoryState}
-use Rattle.seg_directory.specs.Works.{Step, Works}
-use Rattle.seg_meta.specs.MetaRead.{meta_read}
+use Rattle.seg_directory.specs.DirectoryStates.{DirectoryState}
+use Rattle.seg_directory.specs.DirectorySteps.{Step, Works}
+use Rattle.seg_meta.specs.ParsedMeta.{meta_read}
 use Rattle.seg_meta.specs.MetaText.{meta_text}
-use Rattle.seg_meta.specs.Saving.{IsMetaList}
-use Rattle.seg_model.specs.Built.{is_taken}
+use Rattle.seg_meta.specs.SavableMetas.{IsMetaList}
+use Rattle.seg_model.specs.TextDocuments.{is_taken}
 use Rattle.seg_model.specs.Fields.{Schema, Analyzer}
 use Rattle.seg_meta.specs.IndexOfFiles as index
 use Rattle.seg_meta.specs.IndexOfFiles.{Deletes, ListedSegment}
 use Rattle.seg_model.specs.Input.{Settings}
 use Rattle.seg_model.specs.Operations.{Operation, Batch, additions, batches}
-use Rattle.seg_model.specs.Refused.{cut_from, IfRefusal, IsRefusal, batches_error}
-use Rattle.seg_model.specs.Valid.{are_distinct}
+use Rattle.seg_model.specs.Refusals.{cut_from, IfRefusal, IsRefusal, batches_error}
+use Rattle.seg_model.specs.ValidInputs.{are_distinct}
 use Rattle.seg_model.proofs.Exports.{Fits}
-use Rattle.seg_segment.specs.Forms.{segment_forms}
+use Rattle.seg_segment.specs.IndexForms.{segment_forms}
 use Rattle.seg_segment.specs.SegmentFiles.{AreAbsent, KeepsAllBut, segment_names}
 use Rattle.seg_segment.specs.declared.segment_files.SegmentFiles.{SegmentFiles}
 use Rattle.seg_segment.proofs.Exports.{all_touched, keeps_untouched}
-use Rattle.seg_batches.specs.AliveWriting.{WritesAlive, alive_step, alive_steps}
+use Rattle.seg_batches.specs.AliveFiles.{WritesAlive, alive_step, alive_steps}
 use Rattle.seg_batches.specs.BatchTotals.{AllHaveTotals}
-use Rattle.seg_batches.specs.Segments.{AllStand, AllTellAlive, WrittenSegment, alive_file, alive_files, all_listed, deletes_of, six_files}
-use Rattle.seg_batches.specs.Writing.{MakesBatches, batch_cause, batch_causes, batches_steps}
+use Rattle.seg_batches.specs.WrittenSegments.{AllStand, AllTellAlive, WrittenSegment, alive_file, alive_files, all_listed, deletes_of, six_files}
+use Rattle.seg_batches.specs.BatchWriteSteps.{MakesBatches, batch_cause, batch_causes, batches_steps}
 use Rattle.seg_batches.proofs.Exports.{IsFirst, TellsRefusal, alive_fresh, all_fit, all_stand, all_taken, all_tell, all_totals, batches_fresh, batches_none, batches_told, causes_tell, first_cause, refusal_weaker, as_many as as_many_cut}
 use Rattle.seg_index_build.specs.IndexFiles.{listed_of, segments_files, written_of}
-use Rattle.seg_index_build.specs.WorkIndexWriting.{FillsIndex, FinishesIndex, finish_steps, listing_meta}
-use Rattle.seg_index_build.specs.WritingSteps.{publish_steps}
+use Rattle.seg_index_build.specs.WorkIndexSteps.{FillsIndex, FinishesIndex, finish_steps, listing_meta}
+use Rattle.seg_index_build.specs.IndexWriteSteps.{publish_steps}
 use Rattle.seg_index_build.proofs.FillSteps.{alive_absent, as_many, ids_are, listed_are, meta_list, no_alive_file, six_absent, stand_kept, tell_kept, totals_kept}
 use Rattle.seg_index_build.proofs.FinishSteps.{FinishParts, in_alive, in_meta, finish_parts}
-use Rattle.seg_index_build.proofs.IndexSteps.{tells-still}
-use Rattle.seg_index_build.proofs.Steps.{published, publishing_keeps}
+use Rattle.seg_index_build.proofs.ToldDirectories.{tells-still}
+use Rattle.seg_index_build.proofs.PublishSteps.{published, publishing_keeps}
 use Rattle.seg_index_build.proofs.WriteErrors.{IsWriteError, all_alive_write, batches_write, both_write, calls_so, finish_writes, write_unrefused, writes_so}
 
 -- the meta that lists the segments of batches is read back

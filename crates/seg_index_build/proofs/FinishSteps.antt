@@ -5,15 +5,15 @@ use Rattle.std.proofs.lemmas.List.{append-nil}
 use Rattle.seg_common.proofs.Results.{at_ok}
 use Rattle.seg_values.specs.declared.error.TantivyError.{TantivyError}
 use Rattle.seg_directory.proofs.Exports.{Parts, in_first, in_next, parts_on, stops, then_does}
-use Rattle.seg_directory.specs.State.{DirectoryState}
-use Rattle.seg_directory.specs.Works.{Works}
+use Rattle.seg_directory.specs.DirectoryStates.{DirectoryState}
+use Rattle.seg_directory.specs.DirectorySteps.{Works}
 use Rattle.seg_model.specs.Fields.{Schema}
 use Rattle.seg_meta.specs.IndexOfFiles as index
 use Rattle.seg_model.specs.Input.{Settings}
-use Rattle.seg_batches.specs.AliveWriting.{AllTellMarks, WritesAlive, alive_step, alive_steps}
-use Rattle.seg_batches.specs.Segments.{WrittenSegment, deletes_of}
-use Rattle.seg_index_build.specs.WorkIndexWriting.{FinishesIndex, finish_steps, listing_meta}
-use Rattle.seg_index_build.specs.WritingSteps.{publish_steps}
+use Rattle.seg_batches.specs.AliveFiles.{AllTellMarks, WritesAlive, alive_step, alive_steps}
+use Rattle.seg_batches.specs.WrittenSegments.{WrittenSegment, deletes_of}
+use Rattle.seg_index_build.specs.WorkIndexSteps.{FinishesIndex, finish_steps, listing_meta}
+use Rattle.seg_index_build.specs.IndexWriteSteps.{publish_steps}
 
 module _ (meta : index.Meta) (stamp : ℕ) where
   -- the meta comes after the alive files, if each is made; else these are all

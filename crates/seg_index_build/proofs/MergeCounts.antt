@@ -8,7 +8,7 @@ use Rattle.std.proofs.lemmas.List.{length-append, length-replicate}
 use Rattle.std.proofs.lemmas.Option.{none-some, same_Some}
 use Rattle.seg_common.proofs.Lists.{all_filtered}
 use Rattle.seg_bits.specs.BitSets.{member_count, set_of}
-use Rattle.seg_directory.specs.State.{DirectoryState}
+use Rattle.seg_directory.specs.DirectoryStates.{DirectoryState}
 use Rattle.seg_meta.specs.IndexOfFiles.{Deletes, ListedSegment}
 use Rattle.seg_meta.specs.Metas.{SegmentParts, deleted}
 use Rattle.seg_model.specs.Columns.{Columns}
@@ -18,12 +18,12 @@ use Rattle.seg_model.specs.Input.{Filter}
 use Rattle.seg_model.specs.Join.{Part, join, joined_columns, joined_with, live_of}
 use Rattle.seg_model.specs.Operations.{both_marked, filtered_by, kept}
 use Rattle.seg_open.specs.OpenSegment.{OpenSegment, contents_of, kept_count, part_of}
-use Rattle.seg_open.specs.SegmentOpened.{AreReadersOf, Asked, Found, IsReaderOf, agreeing, alive_read, asked_of}
+use Rattle.seg_open.specs.OpeningSteps.{AreReadersOf, Asked, Found, IsReaderOf, agreeing, alive_read, asked_of}
 use Rattle.seg_open.proofs.Exports.{all_counted, both_long, counts_both, count-more}
 use Rattle.seg_merger.specs.Merger.{all_fit, fits}
-use Rattle.seg_index_build.specs.SegmentsMerged.{MergeInput, first_schema, is_live, joined, live_asked, live_documents}
+use Rattle.seg_index_build.specs.MergedSegments.{MergeInput, first_schema, is_live, joined, live_asked, live_documents}
 use Rattle.seg_index_build.proofs.MergeTurns.{Opens}
-use Rattle.seg_index_build.proofs.WholeJoined.{kept_counted}
+use Rattle.seg_index_build.proofs.JoinedSurvivors.{kept_counted}
 
 -- ---- the marks that are read
 

@@ -4,31 +4,31 @@ use Rattle.std.specs.FinMap.{len}
 use Rattle.std.specs.Prelude.{◌⊎◌, is_some}
 use Rattle.std.proofs.lemmas.Bool.{false≢true, ltb-false}
 use Rattle.std.proofs.lemmas.Bool.Decides.{nat_tests}
-use Rattle.seg_common.specs.Causes.{Rose}
+use Rattle.seg_common.specs.FaultCounts.{Rose}
 use Rattle.seg_values.specs.declared.error.ArgumentCause.{ArgumentCause}
 use Rattle.seg_values.specs.declared.error.ArgumentCause.TheVariants.{Documents, Numbers}
 use Rattle.seg_values.specs.declared.error.TantivyError.{TantivyError}
 use Rattle.seg_values.specs.declared.error.TantivyError.TheVariants.{SchemaError, InvalidArgument, IndexAlreadyExists, OpenReadError, OpenWriteError, IoError, DataCorruption, SystemError, FieldNotFound, OutOfMemory}
 use Rattle.seg_directory.proofs.Exports.{all_went, never_there}
-use Rattle.seg_directory.specs.State.{DirectoryState}
-use Rattle.seg_model.specs.Checked.{unless}
-use Rattle.seg_model.specs.Refused.{IfRefusal, IsRefusal}
-use Rattle.seg_segment.specs.SegmentRead.{IsReadError}
+use Rattle.seg_directory.specs.DirectoryStates.{DirectoryState}
+use Rattle.seg_model.specs.DocumentCheck.{unless}
+use Rattle.seg_model.specs.Refusals.{IfRefusal, IsRefusal}
+use Rattle.seg_segment.specs.SegmentReadSteps.{IsReadError}
 use Rattle.seg_segment.proofs.Exports.{keeps_untouched}
 use Rattle.seg_open.specs.OpenSegment.{OpenSegment, kept_count}
-use Rattle.seg_open.specs.SegmentOpened.{IsNoDamage, OpensSegments}
+use Rattle.seg_open.specs.OpeningSteps.{IsNoDamage, OpensSegments}
 use Rattle.seg_open.proofs.Exports.{segments_rose, segments_so, segments_undamaged}
 use Rattle.seg_merger.specs.Merger.{too_many}
 use Rattle.seg_index_build.specs.MergeAnswers.{CanBeMerged, IsMergeError, LiveAreWhole}
-use Rattle.seg_index_build.specs.SegmentsMerged.{AreMerged, FillsOutput, MergeInput, fills, first_schema, joined, live_asked, mixes, output_meta_of, starves}
-use Rattle.seg_index_build.specs.Turns.{Directories}
-use Rattle.seg_index_build.proofs.IndexSteps.{tells-still}
+use Rattle.seg_index_build.specs.MergedSegments.{AreMerged, FillsOutput, MergeInput, fills, first_schema, joined, live_asked, mixes, output_meta_of, starves}
+use Rattle.seg_index_build.specs.TwoDirectories.{Directories}
+use Rattle.seg_index_build.proofs.ToldDirectories.{tells-still}
 use Rattle.seg_index_build.proofs.MergeCounts.{opened_few}
-use Rattle.seg_index_build.proofs.MergeHeld.{opened_held}
+use Rattle.seg_index_build.proofs.MergeContents.{opened_held}
 use Rattle.seg_index_build.proofs.MergeLists.{live_whole}
 use Rattle.seg_index_build.proofs.MergeTurns.{Begins, MergeExits, Opened, at_beginning, at_counting, at_filling, at_opening}
 use Rattle.seg_index_build.proofs.OutputSteps.{absent-parts, one_fresh}
-use Rattle.seg_index_build.proofs.WholeRefused.{read_exists, read_unrefused, refusal_undamaged}
+use Rattle.seg_index_build.proofs.BuildRefusals.{read_exists, read_unrefused, refusal_undamaged}
 use Rattle.seg_index_build.proofs.WriteErrors.{IsWriteError, calls_so, so_before, write_undamaged, write_unrefused}
 
 abbrev failing : (T : Type 0) → TantivyError → Result T TantivyError

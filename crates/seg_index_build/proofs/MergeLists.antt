@@ -9,12 +9,12 @@ use Rattle.seg_meta.specs.IndexOfFiles.{ListedSegment}
 use Rattle.seg_meta.specs.Metas.{SegmentParts}
 use Rattle.seg_model.specs.Fields.{Schema}
 use Rattle.seg_model.specs.Input.{Filter}
-use Rattle.seg_segment.specs.Forms.{segment_forms}
-use Rattle.seg_open.specs.SegmentOpened.{Asked, asked_of}
+use Rattle.seg_segment.specs.IndexForms.{segment_forms}
+use Rattle.seg_open.specs.OpeningSteps.{Asked, asked_of}
 use Rattle.seg_open.proofs.Exports.{Whole}
 use Rattle.seg_merger.specs.Merger.{all_fit, fits}
 use Rattle.seg_index_build.specs.MergeAnswers.{LiveAreWhole}
-use Rattle.seg_index_build.specs.SegmentsMerged.{AreMerged, MergeInput, first_schema, is_live, kept_filters, live_asked}
+use Rattle.seg_index_build.specs.MergedSegments.{AreMerged, MergeInput, first_schema, is_live, kept_filters, live_asked}
 
 -- ---- lists
 

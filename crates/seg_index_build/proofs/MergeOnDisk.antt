@@ -3,44 +3,44 @@ use Rattle.std.proofs.Common.{◌≡◌, ◌<◌, ◌^◌, ◌∙◌, ◌⊎◌,
 use Rattle.std.specs.Prelude.{IsSomeAnd, OnOk}
 use Rattle.std.specs.FinMap.{empty, get, insert, get-empty, get-insert}
 use Rattle.std.specs.Option.{option_and_then}
-use Rattle.seg_common.specs.Names.{name_cmp, name_cmp_total}
+use Rattle.seg_common.specs.FileNameKeys.{name_cmp, name_cmp_total}
 use Rattle.seg_common.specs.declared.name.FileName.TheVariants.{Meta}
 use Rattle.seg_values.specs.declared.error.TantivyError.{TantivyError}
 use Rattle.seg_directory.proofs.Exports.{Parts, all_went, holds_name, in_first, in_next, in_parts, keeps_others, leaves_only, passes_weaker, published_on_disk, publishes_on_disk, settled_files_are_the_only_image, started, turns_none, turns_on}
 use Rattle.seg_directory.specs.Disk.{IsImage}
 use Rattle.seg_directory.specs.DiskChanges.{Turns}
-use Rattle.seg_directory.specs.Does.{GoesOn}
+use Rattle.seg_directory.specs.StepSequences.{GoesOn}
 use Rattle.seg_directory.specs.FileDisks.{FileDisk, settled}
 use Rattle.seg_directory.specs.Files.{NamedFiles}
-use Rattle.seg_directory.specs.State.{DirectoryState, HasOnly, IsEmptyDisk, LeavesOnly}
-use Rattle.seg_directory.specs.Works.{StepBreaks, StepGoes, Works}
+use Rattle.seg_directory.specs.DirectoryStates.{DirectoryState, HasOnly, IsEmptyDisk, LeavesOnly}
+use Rattle.seg_directory.specs.DirectorySteps.{StepBreaks, StepGoes, Works}
 use Rattle.seg_values.specs.declared.error.TantivyError.TheVariants.{OutOfMemory}
-use Rattle.seg_meta.specs.Fits.{AreReadBack}
+use Rattle.seg_meta.specs.MetaBounds.{AreReadBack}
 use Rattle.seg_meta.specs.IndexOfFiles as index
 use Rattle.seg_meta.specs.MetaText.{meta_text}
-use Rattle.seg_meta.specs.MetaRead.{meta_read}
-use Rattle.seg_meta.specs.Saving.{empty_meta}
+use Rattle.seg_meta.specs.ParsedMeta.{meta_read}
+use Rattle.seg_meta.specs.SavableMetas.{empty_meta}
 use Rattle.seg_model.specs.Fields.{Schema}
 use Rattle.seg_model.specs.Input.{Settings}
-use Rattle.seg_segment.specs.Forms.{segment_forms}
-use Rattle.seg_segment.specs.Holds.{Holds}
+use Rattle.seg_segment.specs.IndexForms.{segment_forms}
+use Rattle.seg_segment.specs.FileContents.{Holds}
 use Rattle.seg_segment.specs.SegmentFiles.{HasFiles, KeepsAllBut, write_steps}
-use Rattle.seg_segment.specs.Totals.{TellTotals}
+use Rattle.seg_segment.specs.TokenTotals.{TellTotals}
 use Rattle.seg_segment.specs.declared.segment_files.SegmentFiles.{SegmentFiles}
 use Rattle.seg_segment.proofs.Exports.{are_made}
 use Rattle.seg_open.specs.OpenSegment.{OpenSegment, kept_count}
 use Rattle.seg_merger.specs.JoinedTotals.{joined_total}
 use Rattle.seg_merger.specs.Merger.{AreJoinedFiles, too_many}
-use Rattle.seg_index_build.specs.AfterCrash.{AreMergeBy, AreMergeOf, MayBeMerged, MayBeMergedBy}
+use Rattle.seg_index_build.specs.FilesAfterCrash.{AreMergeBy, AreMergeOf, MayBeMerged, MayBeMergedBy}
 use Rattle.seg_index_build.specs.MergeAnswers.{AllHaveHeld}
-use Rattle.seg_index_build.specs.SegmentsMerged.{FillsOutput, MergeInput, MergesLive, fills, first_schema, live_asked, mixes, output_meta_of, starves}
-use Rattle.seg_index_build.specs.Turns.{Directories, goes_on, stops}
-use Rattle.seg_index_build.specs.WritingSteps.{begin_steps, publish_steps}
-use Rattle.seg_index_build.proofs.IndexSteps.{tells-still}
+use Rattle.seg_index_build.specs.MergedSegments.{FillsOutput, MergeInput, MergesLive, fills, first_schema, live_asked, mixes, output_meta_of, starves}
+use Rattle.seg_index_build.specs.TwoDirectories.{Directories, goes_on, stops}
+use Rattle.seg_index_build.specs.IndexWriteSteps.{begin_steps, publish_steps}
+use Rattle.seg_index_build.proofs.ToldDirectories.{tells-still}
 use Rattle.seg_index_build.proofs.MergeErrors.{few_passed}
-use Rattle.seg_index_build.proofs.MergeHeld.{opened_held}
+use Rattle.seg_index_build.proofs.MergeContents.{opened_held}
 use Rattle.seg_index_build.proofs.MergeTurns.{Opens}
-use Rattle.seg_index_build.proofs.MetasBack.{empty_back, merged_back}
+use Rattle.seg_index_build.proofs.MetaRoundTrips.{empty_back, merged_back}
 use Rattle.seg_index_build.proofs.OutputSteps.{read-files-kept}
 
 abbrev failing : (T : Type 0) → TantivyError → Result T TantivyError

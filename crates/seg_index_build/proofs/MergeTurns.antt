@@ -5,18 +5,18 @@ use Rattle.seg_values.specs.declared.error.ArgumentCause.TheVariants.{Numbers}
 use Rattle.seg_values.specs.declared.error.TantivyError.{TantivyError}
 use Rattle.seg_values.specs.declared.error.TantivyError.TheVariants.{InvalidArgument, OutOfMemory}
 use Rattle.seg_directory.proofs.Exports.{answers, does_nothing, stops_before}
-use Rattle.seg_directory.specs.State.{DirectoryState}
-use Rattle.seg_directory.specs.Works.{Step, Works}
+use Rattle.seg_directory.specs.DirectoryStates.{DirectoryState}
+use Rattle.seg_directory.specs.DirectorySteps.{Step, Works}
 use Rattle.seg_meta.specs.IndexOfFiles.{Meta}
-use Rattle.seg_model.specs.Telling.{Tells}
+use Rattle.seg_model.specs.CheckAnswers.{Tells}
 use Rattle.seg_segment.specs.declared.segment_files.SegmentFiles.{SegmentFiles}
 use Rattle.seg_open.specs.Answers.{seen_as}
 use Rattle.seg_open.specs.OpenSegment.{OpenSegment, kept_count}
-use Rattle.seg_open.specs.SegmentOpened.{OpensSegments}
+use Rattle.seg_open.specs.OpeningSteps.{OpensSegments}
 use Rattle.seg_merger.specs.Merger.{AreJoinedFiles, too_many}
-use Rattle.seg_index_build.specs.SegmentsMerged.{FillsOutput, IsReadBack, MergeInput, MergesLive, MergesTo, fills, first_schema, live_asked, mixes, output_meta_of, starves}
-use Rattle.seg_index_build.specs.Turns.{Directories, goes_on, stops}
-use Rattle.seg_index_build.specs.WritingSteps.{begin_steps, fill_one_steps}
+use Rattle.seg_index_build.specs.MergedSegments.{FillsOutput, IsReadBack, MergeInput, MergesLive, MergesTo, fills, first_schema, live_asked, mixes, output_meta_of, starves}
+use Rattle.seg_index_build.specs.TwoDirectories.{Directories, goes_on, stops}
+use Rattle.seg_index_build.specs.IndexWriteSteps.{begin_steps, fill_one_steps}
 
 abbrev failing : (T : Type 0) → TantivyError → Result T TantivyError
 failing T e = Err e

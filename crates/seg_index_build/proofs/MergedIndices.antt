@@ -4,26 +4,26 @@ use Rattle.std.specs.Prelude.{◌⊎◌, IfOk, IsSomeAnd}
 use Rattle.seg_values.specs.declared.error.TantivyError.{TantivyError}
 use Rattle.seg_values.specs.declared.error.TantivyError.TheVariants.{OutOfMemory}
 use Rattle.seg_directory.proofs.Exports.{all_went}
-use Rattle.seg_directory.specs.State.{DirectoryState}
-use Rattle.seg_directory.specs.Works.{Works}
+use Rattle.seg_directory.specs.DirectoryStates.{DirectoryState}
+use Rattle.seg_directory.specs.DirectorySteps.{Works}
 use Rattle.seg_meta.specs.IndexOfFiles as index
 use Rattle.seg_meta.specs.IndexOfFiles.{Meta}
 use Rattle.seg_meta.specs.declared.index_meta.IndexMeta.{IndexMeta}
-use Rattle.seg_segment.specs.Forms.{segment_forms}
-use Rattle.seg_segment.specs.Holds.{Holds}
-use Rattle.seg_segment.specs.Totals.{TellTotals}
+use Rattle.seg_segment.specs.IndexForms.{segment_forms}
+use Rattle.seg_segment.specs.FileContents.{Holds}
+use Rattle.seg_segment.specs.TokenTotals.{TellTotals}
 use Rattle.seg_segment.specs.declared.segment_files.SegmentFiles.{SegmentFiles}
 use Rattle.seg_open.specs.Answers.{seen_as}
 use Rattle.seg_open.specs.OpenSegment.{OpenSegment, kept_count}
 use Rattle.seg_merger.specs.JoinedTotals.{joined_total}
 use Rattle.seg_merger.specs.Merger.{AreJoinedFiles}
-use Rattle.seg_index_build.specs.SegmentsMerged.{FillsOutput, IsReadBack, IsRefusal as IsSegmentsRefusal, MergeInput, fills, first_schema, mixes, output_meta_of, starves as fill_starves}
-use Rattle.seg_index_build.specs.WritingSteps.{fill_one_steps}
+use Rattle.seg_index_build.specs.MergedSegments.{FillsOutput, IsReadBack, IsRefusal as IsSegmentsRefusal, MergeInput, fills, first_schema, mixes, output_meta_of, starves as fill_starves}
+use Rattle.seg_index_build.specs.IndexWriteSteps.{fill_one_steps}
 use Rattle.seg_index_build.specs.MergeAnswers.{IsWholeIndex}
 use Rattle.seg_index_build.proofs.OutputSteps.{one_files, one_index}
-use Rattle.seg_index_build.proofs.MergeSaid.{one_only, some_is}
+use Rattle.seg_index_build.proofs.MergeOutcomes.{one_only, some_is}
 use Rattle.seg_index_build.proofs.MergeCounts.{stored_number}
-use Rattle.seg_index_build.specs.IndicesMerged.{AreAlike, Begins, IsRefusal, IsUnlike, MergesAlike, MergesIndices, MergesSources, Places, alike, asked_of_index, filled, indices_input, merges, not_begun, not_few, not_opened, refuses, starves, unlike}
+use Rattle.seg_index_build.specs.MergedIndices.{AreAlike, Begins, IsRefusal, IsUnlike, MergesAlike, MergesIndices, MergesSources, Places, alike, asked_of_index, filled, indices_input, merges, not_begun, not_few, not_opened, refuses, starves, unlike}
 use Rattle.seg_index_build.specs.IndexMergeAnswers.{IsMergeOfIndices}
 use Rattle.seg_index_build.specs.Sources.{AllTell, OpensSources, files_of}
 use Rattle.seg_index_build.proofs.OpenedSources.{sources_held, sources_stay as opening_stays, sources_stored}

@@ -5,21 +5,21 @@ use Rattle.seg_common.proofs.Lists.{all_filtered}
 use Rattle.seg_values.specs.declared.error.TantivyError.{TantivyError}
 use Rattle.seg_values.specs.declared.error.TantivyError.TheVariants.{OpenReadError}
 use Rattle.seg_directory.specs.Files.{NamedFiles}
-use Rattle.seg_directory.specs.State.{DirectoryState}
+use Rattle.seg_directory.specs.DirectoryStates.{DirectoryState}
 use Rattle.seg_meta.specs.Metas.{SegmentParts}
 use Rattle.seg_meta.specs.declared.index_meta.IndexMeta.{IndexMeta}
 use Rattle.seg_meta.specs.IndexOfFiles.{ListedSegment}
-use Rattle.seg_meta.specs.View.{settings_of}
+use Rattle.seg_meta.specs.MetaMeaning.{settings_of}
 use Rattle.seg_model.specs.Fields.{Schema}
 use Rattle.seg_open.specs.OpenSegment.{OpenSegment, kept_count}
-use Rattle.seg_open.specs.SegmentOpened.{Asked, IsNoDamage, IsReadError, OpensSegments, asked_of}
+use Rattle.seg_open.specs.OpeningSteps.{Asked, IsNoDamage, IsReadError, OpensSegments, asked_of}
 use Rattle.seg_open.proofs.Exports.{EachRead, IsOf, segments_of_schema, segments_rose, segments_so, segments_stay, segments_undamaged}
 use Rattle.seg_merger.specs.Merger.{all_fit}
-use Rattle.seg_index_build.specs.SegmentsMerged.{MergeInput, is_live, live_documents}
+use Rattle.seg_index_build.specs.MergedSegments.{MergeInput, is_live, live_documents}
 use Rattle.seg_index_build.proofs.MergeCounts.{IsStored, opened_few, opened_stored}
 use Rattle.seg_index_build.proofs.MergeLists.{all_asked, live_whole}
-use Rattle.seg_index_build.proofs.MergeHeld.{opened_held}
-use Rattle.seg_index_build.specs.IndicesMerged.{all_segments, asked_of_index, listed_segments, unfiltered}
+use Rattle.seg_index_build.proofs.MergeContents.{opened_held}
+use Rattle.seg_index_build.specs.MergedIndices.{all_segments, asked_of_index, listed_segments, unfiltered}
 use Rattle.seg_index_build.specs.IndexMergeAnswers.{AnyRose, HaveHeld, SourcesAreWhole}
 use Rattle.seg_index_build.specs.Sources.{AllTell, OpensSources, files_of, goes_on, stops}
 

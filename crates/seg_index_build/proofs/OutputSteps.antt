@@ -3,7 +3,7 @@ use Rattle.std.proofs.Common.{◌≡◌, ◌≢◌, ℕ, [], ◌∷◌, IsTrue, 
 use Rattle.std.specs.Prelude.{OnOk}
 use Rattle.std.specs.FinMap.{get, len, empty_of_len, get-empty}
 use Rattle.std.specs.List.{AllByRecursion}
-use Rattle.seg_common.specs.Names.{name_cmp}
+use Rattle.seg_common.specs.FileNameKeys.{name_cmp}
 use Rattle.seg_common.specs.declared.name.FileName.TheVariants.{Meta, Part}
 use Rattle.seg_common.specs.declared.name.SegmentComponent.{SegmentComponent}
 use Rattle.seg_common.specs.declared.name.SegmentComponent.TheVariants as component
@@ -11,18 +11,18 @@ use Rattle.seg_values.specs.declared.error.TantivyError.{TantivyError}
 use Rattle.seg_values.specs.declared.error.TantivyError.TheVariants.{IndexAlreadyExists}
 use Rattle.seg_directory.proofs.Exports.{never_there, split_does, suits_then}
 use Rattle.seg_directory.specs.Files.{NamedFiles}
-use Rattle.seg_directory.specs.State.{DirectoryState}
-use Rattle.seg_directory.specs.Works.{Works}
-use Rattle.seg_meta.specs.MetaRead.{meta_read}
+use Rattle.seg_directory.specs.DirectoryStates.{DirectoryState}
+use Rattle.seg_directory.specs.DirectorySteps.{Works}
+use Rattle.seg_meta.specs.ParsedMeta.{meta_read}
 use Rattle.seg_meta.specs.MetaText.{meta_text}
 use Rattle.seg_meta.specs.IndexOfFiles as index
-use Rattle.seg_segment.specs.Forms.{segment_forms}
+use Rattle.seg_segment.specs.IndexForms.{segment_forms}
 use Rattle.seg_segment.specs.SegmentFiles.{AreAbsent, KeepsAllBut, segment_names, write_steps}
 use Rattle.seg_segment.specs.SegmentFiles as segment
 use Rattle.seg_segment.specs.declared.segment_files.SegmentFiles.{SegmentFiles}
 use Rattle.seg_segment.proofs.Exports.{absent_suit, are_made}
-use Rattle.seg_index_build.specs.WritingSteps.{fill_one_steps, publish_steps}
-use Rattle.seg_index_build.proofs.Steps.{published_last, publishing_keeps}
+use Rattle.seg_index_build.specs.IndexWriteSteps.{fill_one_steps, publish_steps}
+use Rattle.seg_index_build.proofs.PublishSteps.{published_last, publishing_keeps}
 
 -- ---- the files
 

@@ -5,11 +5,11 @@ use Rattle.std.specs.Prelude.{◌≤◌, slice_set}
 use Rattle.seg_values.specs.declared.error.TantivyError.{TantivyError}
 use Rattle.seg_values.specs.declared.error.TantivyError.TheVariants.{OutOfMemory}
 use Rattle.seg_directory.proofs.Exports.{does_nothing, then_does}
-use Rattle.seg_directory.specs.State.{DirectoryState}
-use Rattle.seg_directory.specs.Works.{Step, Works}
+use Rattle.seg_directory.specs.DirectoryStates.{DirectoryState}
+use Rattle.seg_directory.specs.DirectorySteps.{Step, Works}
 use Rattle.seg_segment.proofs.Exports.{drop-item}
 use Rattle.seg_open.specs.OpenSegment.{OpenSegment}
-use Rattle.seg_open.specs.SegmentOpened.{AreFound, Asked, Found, OpensSegments, all_steps}
+use Rattle.seg_open.specs.OpeningSteps.{AreFound, Asked, Found, OpensSegments, all_steps}
 use Rattle.seg_index_build.specs.Sources.{OpensSources, followed, goes_on, stops}
 
 -- ---- one directory

@@ -15,43 +15,43 @@ use Rattle.seg_values.specs.declared.error.ArgumentCause.TheVariants as argument
 use Rattle.seg_values.specs.declared.error.TantivyError.TheVariants.{InvalidArgument}
 use Rattle.seg_bits.specs.BitSets.{set_of}
 use Rattle.seg_directory.proofs.Exports.{all_went}
-use Rattle.seg_directory.specs.Works.{Step, all_told}
+use Rattle.seg_directory.specs.DirectorySteps.{Step, all_told}
 use Rattle.seg_directory.specs.declared.answer.Answer.{Answer}
 use Rattle.seg_meta.specs.IndexOfFiles.{Deletes, ListedSegment}
 use Rattle.seg_meta.specs.Metas as metas
 use Rattle.seg_meta.specs.Metas.{SegmentParts, deleted}
-use Rattle.seg_model.specs.Checked.{unless}
+use Rattle.seg_model.specs.DocumentCheck.{unless}
 use Rattle.seg_model.specs.Fields.{Schema, Analyzer}
 use Rattle.seg_model.specs.Input.{Filter, Input, input_batches}
 use Rattle.seg_model.specs.Join.{join}
 use Rattle.seg_model.specs.Operations.{Batch}
-use Rattle.seg_model.specs.Valid.{Known, are_distinct, batches_fit, cuts_fit, filters_fit, input_refusal, shape_refusal}
+use Rattle.seg_model.specs.ValidInputs.{Known, are_distinct, batches_fit, cuts_fit, filters_fit, input_refusal, shape_refusal}
 use Rattle.seg_model.proofs.Exports.{or_both, unless_true}
-use Rattle.seg_segment.specs.Holds.{Holds}
+use Rattle.seg_segment.specs.FileContents.{Holds}
 use Rattle.seg_segment.specs.SegmentFiles.{bytes_of}
-use Rattle.seg_segment.specs.Spelling.{Spell}
+use Rattle.seg_segment.specs.SpelledContents.{Spell}
 use Rattle.seg_open.specs.OpenSegment.{OpenSegment, contents_of, part_of}
-use Rattle.seg_open.specs.SegmentOpened.{AreReadersOf, Asked, Found, IsReaderOf, agreeing, alive_read, asked_of}
-use Rattle.seg_check.specs.Admitted.{Fits}
-use Rattle.seg_batches.specs.Segments.{WrittenSegment, all_listed, deletes_of, listed, segment_of, segments_of}
-use Rattle.seg_batches.specs.Writing.{batch_causes, batches_steps}
+use Rattle.seg_open.specs.OpeningSteps.{AreReadersOf, Asked, Found, IsReaderOf, agreeing, alive_read, asked_of}
+use Rattle.seg_check.specs.AdmittedInputs.{Fits}
+use Rattle.seg_batches.specs.WrittenSegments.{WrittenSegment, all_listed, deletes_of, listed, segment_of, segments_of}
+use Rattle.seg_batches.specs.BatchWriteSteps.{batch_causes, batches_steps}
 use Rattle.seg_index_build.specs.DirectoryCalls.{BuildsIndexes, WritesIndexes, lists_none, merge_of}
 use Rattle.seg_index_build.specs.IndexFiles.{output_id, work_ids, work_segments}
-use Rattle.seg_index_build.specs.SegmentsMerged.{is_live, live_asked}
-use Rattle.seg_index_build.specs.Taken.{ArePartsOf, HoldsTaken, IsPartOf, NamedBatch, gained, last_read, named_batches, read_after_write, taken_batches, was_taken, was_written}
-use Rattle.seg_index_build.specs.Turns.{Directories, goes_on, stops}
-use Rattle.seg_index_build.specs.WorkIndexWriting.{finish_steps, listing_meta}
-use Rattle.seg_index_build.specs.WritingSteps.{begin_steps}
-use Rattle.seg_index_build.proofs.Exits.{Wrote, wrote}
+use Rattle.seg_index_build.specs.MergedSegments.{is_live, live_asked}
+use Rattle.seg_index_build.specs.TakenBatches.{ArePartsOf, HoldsTaken, IsPartOf, NamedBatch, gained, last_read, named_batches, read_after_write, taken_batches, was_taken, was_written}
+use Rattle.seg_index_build.specs.TwoDirectories.{Directories, goes_on, stops}
+use Rattle.seg_index_build.specs.WorkIndexSteps.{finish_steps, listing_meta}
+use Rattle.seg_index_build.specs.IndexWriteSteps.{begin_steps}
+use Rattle.seg_index_build.proofs.WritingExits.{Wrote, wrote}
 use Rattle.seg_index_build.proofs.FillSteps.{ids_are}
-use Rattle.seg_index_build.proofs.MergeHeld.{merged_holds}
+use Rattle.seg_index_build.proofs.MergeContents.{merged_holds}
 use Rattle.seg_index_build.proofs.MergeLists.{all_asked}
-use Rattle.seg_index_build.proofs.Reached.{distinct, many, output_told}
-use Rattle.seg_index_build.proofs.TakenAnswers.{ReadNothing, ReadsNothing, after_writes, last_still, written_front}
-use Rattle.seg_index_build.proofs.TakenLists.{Apart, all_apart, all_two, any_passed, apart_map, apart_passed, passed_map, told_of}
-use Rattle.seg_index_build.proofs.TakenReads.{AllWereRead, AreUpTo, WasRead, alive_were_read, all_were_read, asked_id, never_written, opening_told}
-use Rattle.seg_index_build.proofs.TakenWrites.{batches_read, batches_write, begin_reads, finish_reads, finish_writes, is_written}
-use Rattle.seg_index_build.proofs.WholeWork.{work_schema}
+use Rattle.seg_index_build.proofs.WritingPlaces.{distinct, many, output_told}
+use Rattle.seg_index_build.proofs.LastReads.{ReadNothing, ReadsNothing, after_writes, last_still, written_front}
+use Rattle.seg_index_build.proofs.DistinctLists.{Apart, all_apart, all_two, any_passed, apart_map, apart_passed, passed_map, told_of}
+use Rattle.seg_index_build.proofs.OpeningAnswers.{AllWereRead, AreUpTo, WasRead, alive_were_read, all_were_read, asked_id, never_written, opening_told}
+use Rattle.seg_index_build.proofs.FillingAnswers.{batches_read, batches_write, begin_reads, finish_reads, finish_writes, is_written}
+use Rattle.seg_index_build.proofs.FilledWorkIndex.{work_schema}
 
 -- ---- what is gained in four turns
 

@@ -2,27 +2,27 @@
 use Rattle.std.proofs.Common.{◌≡◌, ◌≤◌, ℕ, List, [], ◌∷◌, ◌++◌, Err, Option, Some, None, refl, sym, subst, inl, inr}
 use Rattle.std.specs.Prelude.{◌⊎◌}
 use Rattle.std.specs.List.{AllByRecursion}
-use Rattle.seg_common.specs.Causes.{Rose}
+use Rattle.seg_common.specs.FaultCounts.{Rose}
 use Rattle.seg_values.specs.declared.error.TantivyError.{TantivyError}
 use Rattle.seg_values.specs.declared.error.TantivyError.TheVariants.{SchemaError, InvalidArgument, IndexAlreadyExists, OpenReadError, OpenWriteError, IoError, DataCorruption, SystemError, FieldNotFound, OutOfMemory}
 use Rattle.seg_directory.specs.Calls.{Call, listed, read, made, replaced, synced, kind_of, CanFail}
-use Rattle.seg_directory.specs.Does.{GoesOn}
+use Rattle.seg_directory.specs.StepSequences.{GoesOn}
 use Rattle.seg_directory.specs.Errors.{error_of, name_of}
-use Rattle.seg_directory.specs.State.{DirectoryState}
-use Rattle.seg_directory.specs.Works.{Step, calls, passes, StepGoes, StepBreaks, CallBreaks, failed, has_files, Works}
+use Rattle.seg_directory.specs.DirectoryStates.{DirectoryState}
+use Rattle.seg_directory.specs.DirectorySteps.{Step, calls, passes, StepGoes, StepBreaks, CallBreaks, failed, has_files, Works}
 use Rattle.seg_directory.specs.declared.error.DirectoryError.{DirectoryError}
 use Rattle.seg_directory.specs.declared.error.DirectoryError.TheVariants as directory
 use Rattle.seg_meta.specs.IndexOfFiles as index
 use Rattle.seg_meta.specs.IndexOfFiles.{Deletes}
 use Rattle.seg_segment.specs.declared.segment_files.SegmentFiles.{SegmentFiles}
-use Rattle.seg_open.specs.SegmentOpened.{IsNoDamage}
-use Rattle.seg_batches.specs.AliveWriting.{alive_step, alive_steps}
-use Rattle.seg_batches.specs.Segments.{WrittenSegment, deletes_of}
-use Rattle.seg_batches.specs.Writing.{batches_steps}
+use Rattle.seg_open.specs.OpeningSteps.{IsNoDamage}
+use Rattle.seg_batches.specs.AliveFiles.{alive_step, alive_steps}
+use Rattle.seg_batches.specs.WrittenSegments.{WrittenSegment, deletes_of}
+use Rattle.seg_batches.specs.BatchWriteSteps.{batches_steps}
 use Rattle.seg_batches.proofs.Exports.{TellsRefusal}
-use Rattle.seg_model.specs.Refused.{IfRefusal, IsRefusal}
+use Rattle.seg_model.specs.Refusals.{IfRefusal, IsRefusal}
 use Rattle.seg_segment.proofs.Exports.{rose_before}
-use Rattle.seg_index_build.specs.WorkIndexWriting.{finish_steps}
+use Rattle.seg_index_build.specs.WorkIndexSteps.{finish_steps}
 
 -- ---- one call
 

@@ -2,18 +2,18 @@
 use Rattle.std.specs.Prelude.{List, [], ◌∷◌, map, Result}
 use Rattle.seg_values.specs.declared.error.TantivyError.{TantivyError}
 use Rattle.seg_directory.specs.Calls.{listed}
-use Rattle.seg_directory.specs.State.{DirectoryState}
-use Rattle.seg_directory.specs.Works.{Step, Works, calls}
+use Rattle.seg_directory.specs.DirectoryStates.{DirectoryState}
+use Rattle.seg_directory.specs.DirectorySteps.{Step, Works, calls}
 use Rattle.seg_model.specs.Fields.{Schema, Analyzer}
 use Rattle.seg_meta.specs.IndexOfFiles.{ListedSegment}
 use Rattle.seg_meta.specs.Metas.{segment_of}
 use Rattle.seg_model.specs.Input.{Input, Settings}
-use Rattle.seg_model.specs.Valid.{Known, input_refusal}
+use Rattle.seg_model.specs.ValidInputs.{Known, input_refusal}
 use Rattle.seg_index_build.specs.IndexFiles.{output_id, work_ids, work_listed}
-use Rattle.seg_index_build.specs.SegmentsMerged.{MergeInput, MergesLive}
-use Rattle.seg_index_build.specs.Turns.{Directories, InOutput, InWork, Passes, Then}
-use Rattle.seg_index_build.specs.WorkIndexWriting.{FillsIndex}
-use Rattle.seg_index_build.specs.WritingSteps.{begin_steps}
+use Rattle.seg_index_build.specs.MergedSegments.{MergeInput, MergesLive}
+use Rattle.seg_index_build.specs.TwoDirectories.{Directories, InOutput, InWork, Passes, Then}
+use Rattle.seg_index_build.specs.WorkIndexSteps.{FillsIndex}
+use Rattle.seg_index_build.specs.IndexWriteSteps.{begin_steps}
 
 -- ---- the first turns
 

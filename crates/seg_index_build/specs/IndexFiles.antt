@@ -9,8 +9,8 @@ use Rattle.seg_meta.specs.IndexOfFiles.{ListedSegment, Meta}
 use Rattle.seg_meta.specs.IndexOfFiles as index
 use Rattle.seg_model.specs.Input.{Settings, Input, input_batches, input_survivors}
 use Rattle.seg_model.specs.Operations.{Operation, batches}
-use Rattle.seg_segment.specs.Forms.{segment_forms}
-use Rattle.seg_batches.specs.Segments.{WrittenSegment, segments_of, all_listed, six_files, alive_files, AllStand, AllTellAlive}
+use Rattle.seg_segment.specs.IndexForms.{segment_forms}
+use Rattle.seg_batches.specs.WrittenSegments.{WrittenSegment, segments_of, all_listed, six_files, alive_files, AllStand, AllTellAlive}
 
 -- ---- ids
 

@@ -1,19 +1,19 @@
 -- What is known of the merge of indices, by what it answers.
 use Rattle.std.specs.Prelude.{ℕ, ◌≡◌, ◌<◌, ◌^◌, ◌⊎◌, List, [], ◌∷◌, ◌++◌, true, is_some, map, IsTrue}
 use Rattle.std.specs.FinMap.{len}
-use Rattle.seg_common.specs.Causes.{Rose}
+use Rattle.seg_common.specs.FaultCounts.{Rose}
 use Rattle.seg_values.specs.declared.error.ArgumentCause.TheVariants.{Documents, Numbers}
 use Rattle.seg_values.specs.declared.error.TantivyError.{TantivyError}
 use Rattle.seg_values.specs.declared.error.TantivyError.TheVariants.{DataCorruption, IndexAlreadyExists, InvalidArgument, IoError, OpenReadError, OpenWriteError, OutOfMemory}
 use Rattle.seg_directory.specs.Files.{NamedFiles}
-use Rattle.seg_directory.specs.State.{DirectoryState}
+use Rattle.seg_directory.specs.DirectoryStates.{DirectoryState}
 use Rattle.seg_meta.specs.IndexOfFiles.{Meta}
 use Rattle.seg_meta.specs.declared.index_meta.IndexMeta.{IndexMeta}
 use Rattle.seg_open.specs.OpenSegment.{OpenSegment}
-use Rattle.seg_index_build.specs.AfterCrash.{AreMergeBy, MayBeMergedBy}
+use Rattle.seg_index_build.specs.FilesAfterCrash.{AreMergeBy, MayBeMergedBy}
 use Rattle.seg_index_build.specs.MergeAnswers.{AllHaveHeld, IsMergeBy, LiveAreWhole}
-use Rattle.seg_index_build.specs.SegmentsMerged.{AreMerged, first_schema, joined, live_documents}
-use Rattle.seg_index_build.specs.IndicesMerged.{AreAlike, IsRefusal, Places, all_segments, asked_of_index, indices_input, listed_segments}
+use Rattle.seg_index_build.specs.MergedSegments.{AreMerged, first_schema, joined, live_documents}
+use Rattle.seg_index_build.specs.MergedIndices.{AreAlike, IsRefusal, Places, all_segments, asked_of_index, indices_input, listed_segments}
 use Rattle.seg_index_build.specs.Sources.{AllTell, files_of}
 
 -- ---- errors

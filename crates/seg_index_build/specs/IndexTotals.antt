@@ -3,7 +3,7 @@ use Rattle.std.specs.Prelude.{ℕ, List, [], ◌∷◌, cond, Option}
 use Rattle.std.specs.List.{list_any}
 use Rattle.seg_values.specs.declared.schema.FieldEntry.{FieldEntry}
 use Rattle.seg_directory.specs.Files.{NamedFiles}
-use Rattle.seg_model.specs.Estimate.{joined_estimate}
+use Rattle.seg_model.specs.TokenEstimate.{joined_estimate}
 use Rattle.seg_model.specs.Fields.{Schema, Analyzer}
 use Rattle.seg_model.specs.Input.{Filter, Input, input_batches}
 use Rattle.seg_model.specs.Join.{Part}

@@ -2,7 +2,7 @@
 use Rattle.std.specs.Prelude.{ℕ, ◌≡◌, ◌⊎◌, List, [], ◌∷◌, replicate, true, Bool, Option, Some, None, IsSomeAnd, IsTrue, is_some, ◌<◌, ◌^◌, map}
 use Rattle.std.specs.FinMap.{get, len}
 use Rattle.std.specs.List.{AllByRecursion}
-use Rattle.seg_common.specs.Causes.{Rose}
+use Rattle.seg_common.specs.FaultCounts.{Rose}
 use Rattle.seg_common.specs.declared.name.FileName.TheVariants.{Part}
 use Rattle.seg_common.specs.declared.name.SegmentComponent.TheVariants.{Postings}
 use Rattle.seg_values.specs.declared.error.ArgumentCause.TheVariants.{Documents, Numbers}
@@ -14,15 +14,15 @@ use Rattle.seg_meta.specs.IndexOfFiles.{Deletes, Meta}
 use Rattle.seg_meta.specs.Metas.{SegmentParts}
 use Rattle.seg_model.specs.Contents.{Contents}
 use Rattle.seg_model.specs.Operations.{filtered_by}
-use Rattle.seg_segment.specs.Forms.{segment_forms}
-use Rattle.seg_segment.specs.Holds.{Holds}
-use Rattle.seg_segment.specs.HoldsAlive.{HoldsAlive}
+use Rattle.seg_segment.specs.IndexForms.{segment_forms}
+use Rattle.seg_segment.specs.FileContents.{Holds}
+use Rattle.seg_segment.specs.AliveFiles.{HoldsAlive}
 use Rattle.seg_open.specs.OpenSegment.{OpenSegment, contents_of, kept_count}
-use Rattle.seg_open.specs.SegmentOpened.{Asked, HaveTotals}
+use Rattle.seg_open.specs.OpeningSteps.{Asked, HaveTotals}
 use Rattle.seg_merger.specs.JoinedTotals.{joined_total}
 use Rattle.seg_batches.specs.BatchTotals.{HasTotals}
-use Rattle.seg_index_build.specs.SegmentsMerged.{IsRefusal, MergeInput, first_schema, is_live, joined, live_asked, output_meta_of, AreMerged, live_documents}
-use Rattle.seg_index_build.specs.Turns.{Directories}
+use Rattle.seg_index_build.specs.MergedSegments.{IsRefusal, MergeInput, first_schema, is_live, joined, live_asked, output_meta_of, AreMerged, live_documents}
+use Rattle.seg_index_build.specs.TwoDirectories.{Directories}
 
 -- ---- errors
 

@@ -1,6 +1,6 @@
 -- What the merge of the work segments needs of an input.
 use Rattle.std.specs.Prelude.{◌≡◌}
-use Rattle.seg_meta.specs.View.{settings_of}
+use Rattle.seg_meta.specs.MetaMeaning.{settings_of}
 use Rattle.seg_model.specs.Input.{Input}
 use Rattle.seg_index_build.specs.IndexFiles.{output_id}
 use Rattle.seg_index_build.specs.declared.held_input.MergePlan.{MergePlan}

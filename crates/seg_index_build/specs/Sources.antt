@@ -3,9 +3,9 @@ use Rattle.std.specs.Prelude.{◌≡◌, List, [], ◌∷◌, ◌++◌, map, IsT
 use Rattle.std.specs.List.{AllByRecursion}
 use Rattle.seg_values.specs.declared.error.TantivyError.{TantivyError}
 use Rattle.seg_directory.specs.Files.{NamedFiles}
-use Rattle.seg_directory.specs.State.{DirectoryState}
+use Rattle.seg_directory.specs.DirectoryStates.{DirectoryState}
 use Rattle.seg_open.specs.OpenSegment.{OpenSegment}
-use Rattle.seg_open.specs.SegmentOpened.{Asked, OpensSegments}
+use Rattle.seg_open.specs.OpeningSteps.{Asked, OpensSegments}
 
 -- the files of directories
 abbrev pub files_of : List DirectoryState → List NamedFiles

@@ -1,23 +1,23 @@
 //! The building of an index.
 ghost use Rattle.std.specs.Prelude.{◌≡◌, ◌≢◌, ◌⊎◌, ℕ, Some, Err, IfOk, IfErr, IfSome, IsTrue, OnOk};
 ghost use Rattle.std.specs.FinMap.{len};
-ghost use Rattle.seg_directory.specs.State.{HasOnly, IsEmptyDisk, LeavesOnly};
-ghost use Rattle.seg_meta.specs.View.{meta_of, settings_of};
+ghost use Rattle.seg_directory.specs.DirectoryStates.{HasOnly, IsEmptyDisk, LeavesOnly};
+ghost use Rattle.seg_meta.specs.MetaMeaning.{meta_of, settings_of};
 ghost use Rattle.seg_meta.specs.IndexOfFiles as index;
-ghost use Rattle.seg_segment.specs.Forms.{segment_forms};
+ghost use Rattle.seg_segment.specs.IndexForms.{segment_forms};
 ghost use Rattle.seg_open.specs.Answers.{seen_as};
-ghost use Rattle.seg_open.specs.SegmentOpened.{IsNoDamage};
-ghost use Rattle.seg_check.specs.Admitted.{IsValidIf};
+ghost use Rattle.seg_open.specs.OpeningSteps.{IsNoDamage};
+ghost use Rattle.seg_check.specs.AdmittedInputs.{IsValidIf};
 ghost use Rattle.seg_check.specs.Inputs.{input_of};
-ghost use Rattle.seg_model.specs.Refused.{IfRefusal, build_refusal};
-ghost use Rattle.seg_model.specs.Valid.{input_refusal};
-ghost use Rattle.seg_index_build.specs.AfterCrash.{MayBeBuilt};
-ghost use Rattle.seg_index_build.specs.Builds.{EndsBuilding};
+ghost use Rattle.seg_model.specs.Refusals.{IfRefusal, build_refusal};
+ghost use Rattle.seg_model.specs.ValidInputs.{input_refusal};
+ghost use Rattle.seg_index_build.specs.FilesAfterCrash.{MayBeBuilt};
+ghost use Rattle.seg_index_build.specs.BuildOutcomes.{EndsBuilding};
 ghost use Rattle.seg_index_build.specs.DirectoryCalls.{BuildsIndexes};
 ghost use Rattle.seg_index_build.specs.IndexFiles.{IsOutputIndexOf, IsWorkIndexOf, merged_meta, output_id, output_meta, work_ids};
-ghost use Rattle.seg_index_build.specs.Taken.{HoldsTaken, gained};
+ghost use Rattle.seg_index_build.specs.TakenBatches.{HoldsTaken, gained};
 ghost use Rattle.seg_index_build.specs.IndexTotals.{HasOutputTotals, HasWorkTotals};
-ghost use Rattle.seg_index_build.specs.Turns.{both};
+ghost use Rattle.seg_index_build.specs.TwoDirectories.{both};
 
 use crate::held_input::HeldInput;
 use crate::indexes::write_indexes;

@@ -1,8 +1,8 @@
 //! The beginning of an index, and the saving of its meta.
-ghost use Rattle.seg_directory.specs.Works.{Works};
-ghost use Rattle.seg_meta.specs.Saving.{IsMetaList};
-ghost use Rattle.seg_meta.specs.View.{meta_of, settings_of};
-ghost use Rattle.seg_index_build.specs.WritingSteps.{begin_steps, publish_steps};
+ghost use Rattle.seg_directory.specs.DirectorySteps.{Works};
+ghost use Rattle.seg_meta.specs.SavableMetas.{IsMetaList};
+ghost use Rattle.seg_meta.specs.MetaMeaning.{meta_of, settings_of};
+ghost use Rattle.seg_index_build.specs.IndexWriteSteps.{begin_steps, publish_steps};
 
 use seg_directory::{Directory, sync_files};
 use seg_meta::{Index, IndexMeta, IndexSettings, save_metas};

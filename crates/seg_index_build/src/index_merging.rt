@@ -1,15 +1,15 @@
 //! The merge of indices into one.
 ghost use Rattle.std.specs.Prelude.{◌≡◌, ◌≢◌, ◌⊎◌, ℕ, Some, Err, map, length, IfErr, IfOk, IsTrue, OnOk};
 ghost use Rattle.std.specs.FinMap.{len};
-ghost use Rattle.seg_directory.specs.State.{HasOnly, IsEmptyDisk, LeavesOnly};
+ghost use Rattle.seg_directory.specs.DirectoryStates.{HasOnly, IsEmptyDisk, LeavesOnly};
 ghost use Rattle.seg_meta.specs.IndexOfFiles as index;
-ghost use Rattle.seg_meta.specs.View.{meta_of, settings_of};
-ghost use Rattle.seg_segment.specs.Forms.{segment_forms};
+ghost use Rattle.seg_meta.specs.MetaMeaning.{meta_of, settings_of};
+ghost use Rattle.seg_segment.specs.IndexForms.{segment_forms};
 ghost use Rattle.seg_open.specs.Answers.{seen_as};
-ghost use Rattle.seg_open.specs.SegmentOpened.{IsNoDamage};
+ghost use Rattle.seg_open.specs.OpeningSteps.{IsNoDamage};
 ghost use Rattle.seg_index_build.specs.MergeAnswers.{IsWholeIndex};
-ghost use Rattle.seg_index_build.specs.SegmentsMerged.{AreMerged, merge_input, output_meta_of};
-ghost use Rattle.seg_index_build.specs.IndicesMerged.{IsRefusal, IsUnlike, MergesAlike, MergesIndices, MergesSources, asked_of_index, first_settings, indices_input, places, unfiltered};
+ghost use Rattle.seg_index_build.specs.MergedSegments.{AreMerged, merge_input, output_meta_of};
+ghost use Rattle.seg_index_build.specs.MergedIndices.{IsRefusal, IsUnlike, MergesAlike, MergesIndices, MergesSources, asked_of_index, first_settings, indices_input, places, unfiltered};
 ghost use Rattle.seg_index_build.specs.IndexMergeAnswers.{AreMergeOfIndices, CanBeMerged, IsMergeError, IsMergeOfIndices, MayBeMergedIndices, SourcesAreWhole};
 ghost use Rattle.seg_index_build.specs.Sources.{AllTell, files_of};
 

@@ -1,14 +1,14 @@
 //! The two indexes that are built: one in the work directory, and one in the output directory.
 ghost use Rattle.std.specs.Prelude.{◌≡◌, ◌≤◌, None, length, IfOk};
-ghost use Rattle.seg_meta.specs.Saving.{IsMetaList};
-ghost use Rattle.seg_meta.specs.View.{meta_of};
-ghost use Rattle.seg_model.specs.Valid.{input_refusal};
-ghost use Rattle.seg_check.specs.Admitted.{Fits};
-ghost use Rattle.seg_index_build.specs.Builds.{IsBuilt};
+ghost use Rattle.seg_meta.specs.SavableMetas.{IsMetaList};
+ghost use Rattle.seg_meta.specs.MetaMeaning.{meta_of};
+ghost use Rattle.seg_model.specs.ValidInputs.{input_refusal};
+ghost use Rattle.seg_check.specs.AdmittedInputs.{Fits};
+ghost use Rattle.seg_index_build.specs.BuildOutcomes.{IsBuilt};
 ghost use Rattle.seg_index_build.specs.DirectoryCalls.{BeginsIndexes, WritesIndexes, merge_listed};
 ghost use Rattle.seg_index_build.specs.MergeAnswers.{IsMergedAs};
-ghost use Rattle.seg_index_build.specs.SegmentsMerged.{AreMerged, MergesLive};
-ghost use Rattle.seg_index_build.specs.Turns.{both};
+ghost use Rattle.seg_index_build.specs.MergedSegments.{AreMerged, MergesLive};
+ghost use Rattle.seg_index_build.specs.TwoDirectories.{both};
 
 use crate::filtered_merging::merge_filtered_segments;
 use crate::held_input::{HeldInput, split_ids};

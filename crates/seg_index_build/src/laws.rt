@@ -1,5 +1,5 @@
 //! The law of what is taken of batches.
-ghost use Rattle.seg_index_build.specs.Taken.{AnswersDetermineParts};
+ghost use Rattle.seg_index_build.specs.TakenBatches.{AnswersDetermineParts};
 
 use seg_segment::files_spell_one_contents;
 

@@ -1,7 +1,7 @@
 //! The segments of indices, and their settings.
 ghost use Rattle.std.specs.Prelude.{◌≡◌, ◌++◌, IfOk, MatchBool, OnOk};
 ghost use Rattle.std.specs.List.{AllByRecursion};
-ghost use Rattle.seg_index_build.specs.IndicesMerged.{all_segments, listed_segments, unfiltered};
+ghost use Rattle.seg_index_build.specs.MergedIndices.{all_segments, listed_segments, unfiltered};
 
 use seg_bits::AliveBitSet;
 use seg_meta::{Index, IndexSettings, Segment};

@@ -1,8 +1,8 @@
 //! The readers of the segments of indices, each index read from its own directory.
 ghost use Rattle.std.specs.Prelude.{◌≡◌, ◌++◌, map, length, OnOk};
 ghost use Rattle.seg_open.specs.Answers.{seen_as};
-ghost use Rattle.seg_open.specs.SegmentOpened.{OpensSegments};
-ghost use Rattle.seg_index_build.specs.IndicesMerged.{asked_of_index};
+ghost use Rattle.seg_open.specs.OpeningSteps.{OpensSegments};
+ghost use Rattle.seg_index_build.specs.MergedIndices.{asked_of_index};
 ghost use Rattle.seg_index_build.specs.Sources.{OpensMore, OpensSources};
 
 use crate::live_segments;

@@ -1,13 +1,13 @@
 //! The work index: the segments of the batches, their alive files, and the meta.
 ghost use Rattle.std.specs.Prelude.{◌≡◌, ◌<◌, ◌^◌, None, true, map, length, IfOk};
-ghost use Rattle.seg_directory.specs.Works.{Works};
-ghost use Rattle.seg_meta.specs.View.{meta_of, settings_of};
-ghost use Rattle.seg_model.specs.Valid.{are_distinct, input_refusal};
-ghost use Rattle.seg_check.specs.Admitted.{Fits};
+ghost use Rattle.seg_directory.specs.DirectorySteps.{Works};
+ghost use Rattle.seg_meta.specs.MetaMeaning.{meta_of, settings_of};
+ghost use Rattle.seg_model.specs.ValidInputs.{are_distinct, input_refusal};
+ghost use Rattle.seg_check.specs.AdmittedInputs.{Fits};
 ghost use Rattle.seg_index_build.specs.DirectoryCalls.{FillsWork};
 ghost use Rattle.seg_index_build.specs.IndexFiles.{work_ids, work_meta};
-ghost use Rattle.seg_index_build.specs.WorkIndexWriting.{FinishesIndex, listing_meta};
-ghost use Rattle.seg_index_build.specs.WritingSteps.{publish_steps};
+ghost use Rattle.seg_index_build.specs.WorkIndexSteps.{FinishesIndex, listing_meta};
+ghost use Rattle.seg_index_build.specs.IndexWriteSteps.{publish_steps};
 
 use crate::index_files::save_index;
 use crate::metas::work_metas;

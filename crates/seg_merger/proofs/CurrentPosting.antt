@@ -1,11 +1,11 @@
 -- What is told of the current posting of a term, under a new id of its document.
 use Rattle.std.proofs.Common.{◌≡◌, ℕ, List, [], ◌∷◌, map, take, Some, sym, refl, ap, ◌∙◌}
 use Rattle.std.proofs.lemmas.Option.{none-some, same_Some}
-use Rattle.seg_model.specs.Reading.{Posting}
+use Rattle.seg_model.specs.DocumentTerms.{Posting}
 use Rattle.seg_postings.specs.declared.record_kind.RecordKind.{RecordKind}
-use Rattle.seg_postings.specs.PostingsReading.{kind_kept, kept_kind_of, term_freq_of, positions_of}
-use Rattle.seg_postings.specs.Written.{Rise}
-use Rattle.seg_segment.specs.WritingTerms.{AreOfKind, posting_of}
+use Rattle.seg_postings.specs.OpenPostings.{kind_kept, kept_kind_of, term_freq_of, positions_of}
+use Rattle.seg_postings.specs.WritablePostings.{Rise}
+use Rattle.seg_segment.specs.WrittenTerms.{AreOfKind, posting_of}
 use Rattle.seg_segment.proofs.Exports.{IsRecorded, are_of_kind, posting_is}
 use Rattle.seg_merger.specs.MovedPostings.{under}
 

@@ -14,22 +14,22 @@ use Rattle.seg_values.specs.declared.schema.IndexOption.TheVariants as options
 use Rattle.seg_model.specs.Contents.{terms_at}
 use Rattle.seg_model.specs.Join.{all_recorded, term_column, live_of, joined_postings}
 use Rattle.seg_model.specs.Operations.{kept}
-use Rattle.seg_model.specs.Reading.{Recorded, Posting, postings_from, term_option}
+use Rattle.seg_model.specs.DocumentTerms.{Recorded, Posting, postings_from, term_option}
 use Rattle.seg_model.specs.Shape.{IsRecordOf, ArePostings}
 use Rattle.seg_common.proofs.Lists.{all_both}
 use Rattle.seg_model.proofs.Exports.{ArePostings-from, AreRecordsOf, AreRecordsOf-all_recorded, each-kept, length-all_recorded}
 use Rattle.seg_open.specs.OpenSegment.{OpenSegment, kept_count, part_of, terms_in}
 use Rattle.seg_postings.specs.declared.record_kind.RecordKind.{RecordKind}
-use Rattle.seg_postings.specs.FieldReading.{ReadTerm, OpenField, written_terms}
-use Rattle.seg_postings.specs.FieldWriting.{TermWritten}
-use Rattle.seg_postings.specs.HeldTerms.{terms_held}
-use Rattle.seg_postings.specs.Kinds.{kind_of}
-use Rattle.seg_postings.specs.PostingsReading.{kind_kept, count_of}
+use Rattle.seg_postings.specs.OpenedFields.{ReadTerm, OpenField, written_terms}
+use Rattle.seg_postings.specs.FieldSerializers.{TermWritten}
+use Rattle.seg_postings.specs.TermMaps.{terms_held}
+use Rattle.seg_postings.specs.RecordKinds.{kind_of}
+use Rattle.seg_postings.specs.OpenPostings.{kind_kept, count_of}
 use Rattle.seg_merger.specs.JoinedTerms.{IsOfField, terms_read, source_of}
 use Rattle.seg_merger.specs.MovedPostings.{SourceTerms, Ascend, moved_from, moved_from_all, postings_with, term_at}
 use Rattle.seg_merger.specs.NewIds.{new_ids, numbered_from}
-use Rattle.seg_merger.specs.SourcesJoined.{IsJoinable, AreJoinable}
-use Rattle.seg_segment.specs.WritingTerms.{AscendBy, AreOfTerm, term_with}
+use Rattle.seg_merger.specs.JoinedSources.{IsJoinable, AreJoinable}
+use Rattle.seg_segment.specs.WrittenTerms.{AscendBy, AreOfTerm, term_with}
 use Rattle.seg_merger.proofs.MovedIds.{moved_is_kept, postings_append, kept_counted}
 use Rattle.seg_merger.proofs.SortedEntries.{find_there}
 use Rattle.seg_merger.proofs.SourcePostings.{pair_of}

@@ -8,14 +8,14 @@ use Rattle.std.proofs.lemmas.List.{drop_more}
 use Rattle.seg_values.specs.declared.error.ArgumentCause.TheVariants.{Documents, Filters}
 use Rattle.seg_values.specs.declared.error.TantivyError.{TantivyError}
 use Rattle.seg_values.specs.declared.error.TantivyError.TheVariants.{InvalidArgument}
-use Rattle.seg_directory.specs.State.{DirectoryState}
+use Rattle.seg_directory.specs.DirectoryStates.{DirectoryState}
 use Rattle.seg_meta.specs.Metas.{SegmentParts}
-use Rattle.seg_model.specs.Checked.{unless}
+use Rattle.seg_model.specs.DocumentCheck.{unless}
 use Rattle.seg_model.specs.Fields.{Schema}
 use Rattle.seg_model.specs.Input.{Filter}
 use Rattle.seg_model.specs.Shape.{HasFullShape}
 use Rattle.seg_open.specs.OpenSegment.{IsOfSchema, OpenSegment, contents_of}
-use Rattle.seg_open.specs.SegmentOpened.{AreReadersOf, FilterFits, FiltersFit, Found, OpensSegments, asked_of}
+use Rattle.seg_open.specs.OpeningSteps.{AreReadersOf, FilterFits, FiltersFit, Found, OpensSegments, asked_of}
 use Rattle.seg_merger.specs.Merger.{all_fit, fits, merger_refusal, too_many}
 use Rattle.seg_merger.proofs.KeptCounts.{HasShape}
 

@@ -3,29 +3,29 @@ use Rattle.std.proofs.Common.{◌≡◌, ℕ, ◌^◌, ◌<◌, true, List, map,
 use Rattle.std.specs.Prelude.{IsSomeAnd}
 use Rattle.std.specs.FinMap.{entries, empty}
 use Rattle.std.specs.List.{AllByRecursion, slice_get}
-use Rattle.seg_common.specs.Growing.{HasGrown}
-use Rattle.seg_directory.specs.Composite.{composite}
+use Rattle.seg_common.specs.WriterGrowth.{HasGrown}
+use Rattle.seg_directory.specs.CompositeFiles.{composite}
 use Rattle.seg_values.specs.declared.schema.FieldEntry.{FieldEntry}
 use Rattle.seg_model.specs.Fields.{Schema, fields, is_indexed}
 use Rattle.seg_model.specs.Join.{joined_terms}
 use Rattle.seg_termdict.specs.MergedTerms.{merged_terms}
-use Rattle.seg_model.specs.Reading.{term_option}
+use Rattle.seg_model.specs.DocumentTerms.{term_option}
 use Rattle.seg_model.proofs.Exports.{at_place}
-use Rattle.seg_postings.specs.FieldWriting.{TermWritten, FieldWriting, fresh}
-use Rattle.seg_postings.specs.Files.{FieldFiles}
-use Rattle.seg_postings.specs.Kinds.{kind_of}
-use Rattle.seg_segment.specs.FieldsWritten.{IsWhole, HaveFields}
-use Rattle.seg_segment.specs.HoldTerms.{HoldTerms}
-use Rattle.seg_segment.specs.WritingTerms.{with_terms}
-use Rattle.seg_segment.specs.Totals.{TellTotals}
+use Rattle.seg_postings.specs.FieldSerializers.{TermWritten, FieldWriting, fresh}
+use Rattle.seg_postings.specs.FieldFiles.{FieldFiles}
+use Rattle.seg_postings.specs.RecordKinds.{kind_of}
+use Rattle.seg_segment.specs.WrittenFields.{IsWhole, HaveFields}
+use Rattle.seg_segment.specs.TermFiles.{HoldTerms}
+use Rattle.seg_segment.specs.WrittenTerms.{with_terms}
+use Rattle.seg_segment.specs.TokenTotals.{TellTotals}
 use Rattle.seg_segment.proofs.Exports.{AreParts, hold_terms, is_whole, told_totals}
 use Rattle.seg_merger.specs.JoinedTerms.{AreJoined, IsOfField, source_of}
 use Rattle.seg_merger.specs.JoinedTotals.{joined_total}
-use Rattle.seg_merger.specs.Joining.{HoldJoined}
+use Rattle.seg_merger.specs.JoinedSegment.{HoldJoined}
 use Rattle.seg_open.specs.OpenSegment.{OpenSegment, kept_count, part_of}
 use Rattle.seg_merger.specs.MovedPostings.{SourceTerms, Ascend, moved_from_all, ranked_of}
 use Rattle.seg_merger.specs.NewIds.{NumberedSegment, numbered_from, parts_of}
-use Rattle.seg_merger.specs.SourcesJoined.{AreJoinable, terms_joined}
+use Rattle.seg_merger.specs.JoinedSources.{AreJoinable, terms_joined}
 use Rattle.seg_merger.proofs.FieldSources.{sources_from, are_joinable, moved_are_joined, kinds_are}
 use Rattle.seg_merger.proofs.JoinedTables.{are_joined_terms}
 

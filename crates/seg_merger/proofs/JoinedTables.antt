@@ -10,20 +10,20 @@ use Rattle.seg_common.specs.declared.term_info.TermInfo.{TermInfo}
 use Rattle.seg_values.specs.declared.schema.FieldEntry.{FieldEntry}
 use Rattle.seg_model.specs.Join.{joined_postings, joined_terms}
 use Rattle.seg_termdict.specs.MergedTerms.{Standing, standings_from, if_stands, merged_terms}
-use Rattle.seg_model.specs.Reading.{Posting, if_any}
+use Rattle.seg_model.specs.DocumentTerms.{Posting, if_any}
 use Rattle.seg_termdict.specs.SortedTerms.{key_cmp}
-use Rattle.seg_common.specs.Tables.{entry_of, tabulated}
+use Rattle.seg_common.specs.TabulatedMaps.{entry_of, tabulated}
 use Rattle.seg_termdict.proofs.Exports.{merged_terms_answer}
-use Rattle.seg_common.proofs.Tables.{texts_apart, IsComplete, same_table}
+use Rattle.seg_common.proofs.TabulatedMaps.{texts_apart, IsComplete, same_table}
 use Rattle.seg_model.proofs.Exports.{complete_joined}
-use Rattle.seg_postings.specs.FieldWriting.{TermWritten}
-use Rattle.seg_termdict.specs.Merging.{MergedTerm, info_of}
+use Rattle.seg_postings.specs.FieldSerializers.{TermWritten}
+use Rattle.seg_termdict.specs.MergedStreams.{MergedTerm, info_of}
 use Rattle.seg_open.specs.OpenSegment.{OpenSegment, part_of}
 use Rattle.seg_merger.specs.MovedPostings.{SourceTerms, moved_from_all, ranked_of}
-use Rattle.seg_merger.specs.SourcesJoined.{IsJoinable, joined_at, terms_joined}
-use Rattle.seg_segment.specs.WritingTerms.{term_with}
+use Rattle.seg_merger.specs.JoinedSources.{IsJoinable, joined_at, terms_joined}
+use Rattle.seg_segment.specs.WrittenTerms.{term_with}
 use Rattle.seg_merger.proofs.SortedEntries.{entries_from, some_sorted, sorted_entries}
-use Rattle.seg_merger.proofs.Standings.{all_given_at, given_at}
+use Rattle.seg_merger.proofs.KeyStandings.{all_given_at, given_at}
 
 -- ---- the joined terms
 

@@ -1,5 +1,5 @@
 pub mod Exports
-mod ColumnsJoined
+mod JoinedColumns
 mod CurrentPosting
 mod FieldSources
 mod FittingFilters
@@ -10,12 +10,12 @@ mod KeptLists
 mod MergedFiles
 mod MergedKeys
 mod MovedIds
-mod NormsJoined
+mod JoinedNorms
 mod NumberedParts
-mod SegmentsJoined
+mod JoinedSegments
 mod SortedEntries
 mod SourcePostings
-mod Standings
-mod StoredRead
-mod StoresJoined
-mod TotalsJoined
+mod KeyStandings
+mod StoredDocuments
+mod JoinedStores
+mod JoinedTotals

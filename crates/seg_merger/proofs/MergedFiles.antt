@@ -7,31 +7,31 @@ use Rattle.seg_columns.specs.declared.error.ColumnError.{ColumnError}
 use Rattle.seg_columns.specs.declared.error.ColumnError.TheVariants as column_error
 use Rattle.seg_columns.specs.declared.error.ColumnError.TheVariants.{Malformed, Mixed}
 use Rattle.seg_column_merge.specs.MergedColumns.{MergeFails}
-use Rattle.seg_directory.specs.Composite.{composite}
-use Rattle.seg_directory.specs.State.{DirectoryState}
-use Rattle.seg_directory.specs.Works.{Works}
+use Rattle.seg_directory.specs.CompositeFiles.{composite}
+use Rattle.seg_directory.specs.DirectoryStates.{DirectoryState}
+use Rattle.seg_directory.specs.DirectorySteps.{Works}
 use Rattle.seg_directory.proofs.Exports.{answers, stops}
 use Rattle.seg_meta.specs.Metas.{SegmentParts}
 use Rattle.seg_model.specs.Contents.{Contents}
 use Rattle.seg_model.specs.Fields.{Schema}
 use Rattle.seg_model.specs.Join.{join, joined_columns, joined_with}
 use Rattle.seg_model.specs.Laws.{JoinsHaveFullShape}
-use Rattle.seg_postings.specs.Files.{FieldFiles}
+use Rattle.seg_postings.specs.FieldFiles.{FieldFiles}
 use Rattle.seg_column_format.specs.SchemaColumns.{HaveColumns}
 use Rattle.seg_segment.specs.SegmentFiles.{write_steps}
-use Rattle.seg_segment.specs.Serializing as serializing
-use Rattle.seg_segment.specs.Serializing.{Serializing, IsLaidOut, IsNormsFile, Closes, filled_with, unfilled}
+use Rattle.seg_segment.specs.SegmentSerializers as serializing
+use Rattle.seg_segment.specs.SegmentSerializers.{Serializing, IsLaidOut, IsNormsFile, Closes, filled_with, unfilled}
 use Rattle.seg_segment.specs.declared.segment_files.SegmentFiles.{SegmentFiles}
 use Rattle.seg_store.specs.Store.{documents_of}
-use Rattle.seg_store.specs.Writing.{Taken, all_blocks}
+use Rattle.seg_store.specs.WriterBlocks.{Taken, all_blocks}
 use Rattle.seg_values.specs.declared.error.TantivyError.{TantivyError}
 use Rattle.seg_values.specs.declared.error.TantivyError.TheVariants.{OutOfMemory}
 use Rattle.seg_open.specs.OpenSegment.{IsMarked, IsOfSchema, OpenSegment, part_of}
 use Rattle.seg_merger.specs.JoinedColumns.{HasJoinedColumns}
 use Rattle.seg_merger.specs.JoinedStore.{joined_documents, no_documents, taken_documents, with_segments}
-use Rattle.seg_merger.specs.Joining.{HoldJoined, HoldsJoinedNorms, IsJoined}
+use Rattle.seg_merger.specs.JoinedSegment.{HoldJoined, HoldsJoinedNorms, IsJoined}
 use Rattle.seg_merger.specs.Merger.{AreJoinedFiles, WritesJoined, makes, mixes, refusal_of, runs_out}
-use Rattle.seg_merger.proofs.SegmentsJoined.{all_stored, joined_shape}
+use Rattle.seg_merger.proofs.JoinedSegments.{all_stored, joined_shape}
 
 -- what fills a serializer that had nothing yet
 pub is_joined : (given : Serializing) (readers : List OpenSegment) (block_size : ℕ) → given ≡ unfilled given.segment block_size

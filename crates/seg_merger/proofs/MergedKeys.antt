@@ -8,19 +8,19 @@ use Rattle.std.specs.declared.cmp.Ordering.TheVariants.{Less}
 use Rattle.std.proofs.lemmas.Bool.{false≢true, lt-ltb, and_parts}
 use Rattle.std.proofs.lemmas.List.Elements.{All-from_recursion}
 use Rattle.std.proofs.lemmas.Option.{none-some, same_Some}
-use Rattle.seg_common.specs.Growing.{HasGrown}
+use Rattle.seg_common.specs.WriterGrowth.{HasGrown}
 use Rattle.seg_common.specs.declared.term_info.TermInfo.{TermInfo}
 use Rattle.seg_termdict.specs.MergedTerms.{Standing, standings_from, if_stands, merged_terms}
-use Rattle.seg_model.specs.Reading.{Posting}
+use Rattle.seg_model.specs.DocumentTerms.{Posting}
 use Rattle.seg_termdict.specs.SortedTerms.{key_cmp}
 use Rattle.seg_termdict.proofs.Exports.{merged_terms_answer}
-use Rattle.seg_termdict.specs.Merging.{MergedTerm, ToldTerm, Merging, told, info_of, at_first, stepped, terms_of_stream}
-use Rattle.seg_termdict.specs.Streaming.{Stream, all_terms}
-use Rattle.seg_postings.specs.FieldWriting.{TermWritten, FieldWriting, with_open, last_written, MayOpen}
-use Rattle.seg_segment.specs.WritingTerms.{IsUnwritten, term_with, with_terms, with_whole_term}
+use Rattle.seg_termdict.specs.MergedStreams.{MergedTerm, ToldTerm, Merging, told, info_of, at_first, stepped, terms_of_stream}
+use Rattle.seg_termdict.specs.TermStreams.{Stream, all_terms}
+use Rattle.seg_postings.specs.FieldSerializers.{TermWritten, FieldWriting, with_open, last_written, MayOpen}
+use Rattle.seg_segment.specs.WrittenTerms.{IsUnwritten, term_with, with_terms, with_whole_term}
 use Rattle.seg_segment.proofs.Exports.{no_terms}
 use Rattle.seg_merger.specs.MovedPostings.{SourceTerms, terms_of, ranked_of, moved_from_all}
-use Rattle.seg_merger.specs.SourcesJoined.{joined_at, terms_joined}
+use Rattle.seg_merger.specs.JoinedSources.{joined_at, terms_joined}
 use Rattle.seg_merger.proofs.SortedEntries.{find_there, first_below, sorted_entries}
 
 -- ---- the streams

@@ -6,7 +6,7 @@ use Rattle.seg_bits.specs.BitSets.{member_count}
 use Rattle.seg_values.specs.declared.schema.IndexOption.{IndexOption}
 use Rattle.seg_model.specs.Join.{recorded_at, all_recorded}
 use Rattle.seg_model.specs.Operations.{kept}
-use Rattle.seg_model.specs.Reading.{Recorded, Posting, listed, postings_from}
+use Rattle.seg_model.specs.DocumentTerms.{Recorded, Posting, listed, postings_from}
 use Rattle.seg_model.specs.Shape.{ArePostings}
 use Rattle.seg_model.proofs.Exports.{AreNone-all_recorded, AreNone-kept, postings_from-none}
 use Rattle.seg_open.proofs.Exports.{count-more}

@@ -11,8 +11,8 @@ use Rattle.seg_values.specs.declared.schema.FieldEntry.{FieldEntry}
 use Rattle.seg_model.specs.Fields.{Schema, is_indexed}
 use Rattle.seg_model.specs.Contents.{terms_at}
 use Rattle.seg_open.specs.OpenSegment.{IsMarked, IsOfSchema, OpenSegment, contents_of, kept_count, terms_in}
-use Rattle.seg_postings.specs.FieldReading.{OpenField, written_terms}
-use Rattle.seg_postings.specs.HeldTerms.{terms_held}
+use Rattle.seg_postings.specs.OpenedFields.{OpenField, written_terms}
+use Rattle.seg_postings.specs.TermMaps.{terms_held}
 use Rattle.seg_open.proofs.Exports.{count-more}
 use Rattle.seg_merger.specs.JoinedTerms.{FieldsAreOpen, IsOpenAt, IsOfField, source_of}
 use Rattle.seg_merger.specs.MovedPostings.{SourceTerms}

@@ -8,11 +8,11 @@ use Rattle.std.specs.Ordering.{is_lt, is_eq, ordering_reverse}
 use Rattle.std.specs.declared.cmp.Ordering.TheVariants.{Less, Greater}
 use Rattle.std.proofs.lemmas.Bool.{and_from, and_parts}
 use Rattle.std.proofs.lemmas.Cmp.{tied_itself}
-use Rattle.seg_common.proofs.Tables.{texts_apart}
+use Rattle.seg_common.proofs.TabulatedMaps.{texts_apart}
 use Rattle.seg_common.proofs.Numbers.{is_less}
 use Rattle.seg_common.proofs.Bools.{true_of}
 use Rattle.seg_termdict.specs.SortedTerms.{key_cmp}
-use Rattle.seg_common.specs.Tables.{entry_of}
+use Rattle.seg_common.specs.TabulatedMaps.{entry_of}
 
 -- the entries of a map are sorted
 pub sorted_entries : {X : Type 0} (m : FinMap key_cmp X) (es : List (List ℕ × X)) → entries m ≡ es → is_sorted key_cmp es ≡ true

@@ -6,10 +6,10 @@ use Rattle.std.specs.Ordering.{nat_cmp, eq_by_cmp}
 use Rattle.std.specs.Cmp.Lexicographic.{slice_cmp}
 use Rattle.std.proofs.lemmas.Option.{none-some, same_Some, get_or_from_slice_get}
 use Rattle.seg_common.specs.declared.term_info.TermInfo.{TermInfo}
-use Rattle.seg_model.specs.Reading.{Posting}
+use Rattle.seg_model.specs.DocumentTerms.{Posting}
 use Rattle.seg_postings.specs.declared.record_kind.RecordKind.{RecordKind}
-use Rattle.seg_postings.specs.FieldReading.{ReadTerm}
-use Rattle.seg_postings.specs.PostingsReading.{document_of, kept_kind_of}
+use Rattle.seg_postings.specs.OpenedFields.{ReadTerm}
+use Rattle.seg_postings.specs.OpenPostings.{document_of, kept_kind_of}
 use Rattle.seg_termdict.specs.Dictionary.{Term}
 use Rattle.seg_merger.specs.MovedPostings.{SourceTerms, under, under_id, moved, term_at, postings_with, terms_of}
 

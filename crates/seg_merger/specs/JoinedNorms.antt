@@ -2,7 +2,7 @@
 use Rattle.std.specs.Prelude.{ℕ, List, [], unwrap_or}
 use Rattle.std.specs.List.{flat_map}
 use Rattle.seg_model.specs.Operations.{kept}
-use Rattle.seg_directory.specs.Composite.{field_of}
+use Rattle.seg_directory.specs.CompositeFiles.{field_of}
 use Rattle.seg_open.specs.OpenSegment.{OpenSegment}
 
 -- the ids of a field in the kept documents of a segment; none where it has no part for the field

@@ -7,7 +7,7 @@ use Rattle.seg_model.specs.Join.{live_of}
 use Rattle.seg_doc_bytes.specs.StoredDocument.{stored_document_of}
 use Rattle.seg_store.specs.Block.{Block}
 use Rattle.seg_store.specs.Store.{raw_documents, documents_of}
-use Rattle.seg_store.specs.Writing.{Taken, with_document, with_stacked, all_blocks}
+use Rattle.seg_store.specs.WriterBlocks.{Taken, with_document, with_stacked, all_blocks}
 use Rattle.seg_open.specs.OpenSegment.{OpenSegment, part_of}
 
 -- the kept documents of a segment, each as its stored bytes

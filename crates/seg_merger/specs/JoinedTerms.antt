@@ -5,12 +5,12 @@ use Rattle.std.specs.List.{slice_get, AllByRecursion}
 use Rattle.seg_values.specs.declared.schema.FieldEntry.{FieldEntry}
 use Rattle.seg_model.specs.Fields.{is_indexed}
 use Rattle.seg_model.specs.Join.{joined_terms}
-use Rattle.seg_model.specs.Reading.{Posting, term_option}
+use Rattle.seg_model.specs.DocumentTerms.{Posting, term_option}
 use Rattle.seg_model.specs.Shape.{IsTermWith}
-use Rattle.seg_postings.specs.FieldReading.{ReadTerm, OpenField, written_terms}
-use Rattle.seg_postings.specs.FieldWriting.{TermWritten}
-use Rattle.seg_postings.specs.HeldTerms.{terms_held}
-use Rattle.seg_postings.specs.Kinds.{kind_of}
+use Rattle.seg_postings.specs.OpenedFields.{ReadTerm, OpenField, written_terms}
+use Rattle.seg_postings.specs.FieldSerializers.{TermWritten}
+use Rattle.seg_postings.specs.TermMaps.{terms_held}
+use Rattle.seg_postings.specs.RecordKinds.{kind_of}
 use Rattle.seg_open.specs.OpenSegment.{OpenSegment, IsMarked, kept_count, part_of}
 use Rattle.seg_merger.specs.MovedPostings.{SourceTerms}
 use Rattle.seg_merger.specs.NewIds.{NumberedSegment, numbered_from, parts_of}

@@ -3,11 +3,11 @@ use Rattle.std.specs.Prelude.{ℕ, ◌*◌, ◌/◌, ◌-◌, ◌^◌, List, map
 use Rattle.std.specs.List.{list_all, slice_get}
 use Rattle.seg_values.specs.declared.schema.FieldEntry.{FieldEntry}
 use Rattle.seg_model.specs.Contents.{norms_at}
-use Rattle.seg_model.specs.Estimate.{joined_estimate, live_count}
+use Rattle.seg_model.specs.TokenEstimate.{joined_estimate, live_count}
 use Rattle.seg_model.specs.Fields.{has_lengths}
 use Rattle.seg_model.specs.Norms.{length_of_id}
 use Rattle.seg_model.specs.Operations.{kept}
-use Rattle.seg_postings.specs.FieldReading.{OpenField}
+use Rattle.seg_postings.specs.OpenedFields.{OpenField}
 use Rattle.seg_open.specs.OpenSegment.{OpenSegment, contents_of, part_of}
 
 -- the total of tokens that is read of a field; 0 where it isn't open

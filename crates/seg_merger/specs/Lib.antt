@@ -1,11 +1,11 @@
 pub mod DocIdMapping
 pub mod JoinedColumns
 pub mod JoinedNorms
+pub mod JoinedSegment
+pub mod JoinedSources
 pub mod JoinedStore
 pub mod JoinedTerms
 pub mod JoinedTotals
-pub mod Joining
 pub mod Merger
 pub mod MovedPostings
 pub mod NewIds
-pub mod SourcesJoined

@@ -6,22 +6,22 @@ use Rattle.seg_values.specs.declared.error.TantivyError.TheVariants.{InvalidArgu
 use Rattle.seg_columns.specs.declared.error.ColumnError.{ColumnError}
 use Rattle.seg_columns.specs.declared.error.ColumnError.TheVariants as column_error
 use Rattle.seg_columns.specs.declared.error.ColumnError.TheVariants.{Malformed, Mixed}
-use Rattle.seg_directory.specs.State.{DirectoryState}
-use Rattle.seg_directory.specs.Works.{Works}
+use Rattle.seg_directory.specs.DirectoryStates.{DirectoryState}
+use Rattle.seg_directory.specs.DirectorySteps.{Works}
 use Rattle.seg_meta.specs.Metas.{SegmentParts}
-use Rattle.seg_model.specs.Checked.{unless}
+use Rattle.seg_model.specs.DocumentCheck.{unless}
 use Rattle.seg_model.specs.Contents.{Contents}
 use Rattle.seg_model.specs.Fields.{Schema}
 use Rattle.seg_model.specs.Input.{Filter}
 use Rattle.seg_model.specs.Join.{join}
-use Rattle.seg_model.specs.Telling.{Tells}
+use Rattle.seg_model.specs.CheckAnswers.{Tells}
 use Rattle.seg_segment.specs.SegmentFiles.{write_steps}
-use Rattle.seg_segment.specs.Spelling.{Spell}
-use Rattle.seg_segment.specs.Totals.{TellTotals}
+use Rattle.seg_segment.specs.SpelledContents.{Spell}
+use Rattle.seg_segment.specs.TokenTotals.{TellTotals}
 use Rattle.seg_segment.specs.declared.segment_files.SegmentFiles.{SegmentFiles}
 use Rattle.seg_store.specs.Store.{store_of}
 use Rattle.seg_open.specs.OpenSegment.{OpenSegment, kept_count, part_of}
-use Rattle.seg_open.specs.SegmentOpened.{OpensSegments, asked_of}
+use Rattle.seg_open.specs.OpeningSteps.{OpensSegments, asked_of}
 use Rattle.seg_merger.specs.JoinedStore.{merged_blocks}
 use Rattle.seg_merger.specs.JoinedTotals.{joined_total}
 

@@ -5,11 +5,11 @@ use Rattle.std.specs.List.{flat_map, slice_index_or}
 use Rattle.std.specs.Cmp.Lexicographic.{slice_cmp}
 use Rattle.std.specs.Ordering.{nat_cmp}
 use Rattle.seg_common.specs.declared.term_info.TermInfo.{TermInfo}
-use Rattle.seg_model.specs.Reading.{Posting}
+use Rattle.seg_model.specs.DocumentTerms.{Posting}
 use Rattle.seg_termdict.specs.SortedTerms.{RankedTerm}
 use Rattle.seg_termdict.specs.Dictionary.{Term}
-use Rattle.seg_termdict.specs.Streaming.{ranked_terms}
-use Rattle.seg_postings.specs.FieldReading.{ReadTerm}
+use Rattle.seg_termdict.specs.TermStreams.{ranked_terms}
+use Rattle.seg_postings.specs.OpenedFields.{ReadTerm}
 
 -- the terms of a field in a segment, and the new ids of the segment's documents
 pub record SourceTerms : Type 0 where

@@ -1,8 +1,8 @@
 //! The merger of segments.
 ghost use Rattle.std.specs.Prelude.{◌≡◌, ◌≢◌, ◌<◌, ◌^◌, ℕ, length, map, None, IfOk, IfErr, OnOk};
 ghost use Rattle.std.specs.List.{AllByRecursion};
-ghost use Rattle.seg_model.specs.Telling.{Tells};
-ghost use Rattle.seg_segment.specs.Serializing.{unfilled};
+ghost use Rattle.seg_model.specs.CheckAnswers.{Tells};
+ghost use Rattle.seg_segment.specs.SegmentSerializers.{unfilled};
 ghost use Rattle.seg_open.specs.OpenSegment.{kept_count};
 ghost use Rattle.seg_merger.specs.DocIdMapping.{mapping_of};
 ghost use Rattle.seg_merger.specs.Merger.{IsMergerOf, OpensMerger, WritesJoined, refusal_of, too_many};

@@ -4,7 +4,7 @@ ghost use Rattle.std.specs.List.{AllByRecursion};
 ghost use Rattle.seg_model.specs.Fields as model;
 ghost use Rattle.seg_model.specs.Join.{joined_norms};
 ghost use Rattle.seg_model.specs.Operations.{kept};
-ghost use Rattle.seg_directory.specs.Composite.{composite};
+ghost use Rattle.seg_directory.specs.CompositeFiles.{composite};
 ghost use Rattle.seg_norms.specs.FieldNorms.{norms_parts};
 ghost use Rattle.seg_merger.specs.JoinedNorms.{joined_ids, kept_ids};
 ghost use Rattle.seg_open.specs.OpenSegment.{part_of};

@@ -3,9 +3,9 @@ ghost use Rattle.std.specs.Prelude.{◌≡◌, ◌<◌, ◌^◌, ℕ, map, IfErr
 ghost use Rattle.std.specs.List.{AllByRecursion};
 ghost use Rattle.seg_column_merge.specs.MergedColumns.{MergeFails};
 ghost use Rattle.seg_model.specs.Join.{joined_columns};
-ghost use Rattle.seg_segment.specs.Serializing.{unfilled};
+ghost use Rattle.seg_segment.specs.SegmentSerializers.{unfilled};
 ghost use Rattle.seg_open.specs.OpenSegment.{IsOfSchema, kept_count, part_of};
-ghost use Rattle.seg_merger.specs.Joining.{IsJoined};
+ghost use Rattle.seg_merger.specs.JoinedSegment.{IsJoined};
 
 use crate::columns_joining::join_columns;
 use crate::norms_joining::join_norms;

@@ -2,7 +2,7 @@
 ghost use Rattle.std.specs.Prelude.{◌≡◌, ◌<◌, ◌+◌, ◌-◌, ◌^◌, ◌++◌, true, false, length, get_or, take, drop, None, option_map, IfErr, IfSome, OnOk};
 ghost use Rattle.seg_model.specs.Operations.{kept};
 ghost use Rattle.seg_store.specs.Store.{document_count, documents_of, raw_documents};
-ghost use Rattle.seg_store.specs.Writing.{taken_count};
+ghost use Rattle.seg_store.specs.WriterBlocks.{taken_count};
 ghost use Rattle.seg_merger.specs.JoinedStore.{IsStored, is_stacked, joined_documents, kept_bytes, taken_documents, with_documents, with_segment, with_segments};
 
 use seg_open::SegmentReader;

@@ -2,15 +2,15 @@
 ghost use Rattle.std.specs.Prelude.{◌≡◌, ◌<◌, ◌++◌, ℕ, List, map, take, length, false, nat_lt, Some, None, All, IfOk, IfSome, IsSome, IsSomeAnd, IsTrue, OnOk};
 ghost use Rattle.std.specs.FinMap.{entries};
 ghost use Rattle.std.specs.List.{AllByRecursion};
-ghost use Rattle.seg_common.specs.Growing.{HasGrown};
+ghost use Rattle.seg_common.specs.WriterGrowth.{HasGrown};
 ghost use Rattle.seg_termdict.specs.MergedTerms.{merged_terms, standings_from};
-ghost use Rattle.seg_postings.specs.FieldWriting.{MayOpen};
-ghost use Rattle.seg_postings.specs.PostingsReading.{kept_kind_of};
-ghost use Rattle.seg_termdict.specs.Merging.{info_of, stepped};
-ghost use Rattle.seg_termdict.specs.Streaming.{all_terms};
-ghost use Rattle.seg_segment.specs.WritingTerms.{IsUnwritten, MayTake, with_more, with_terms, with_whole_term};
+ghost use Rattle.seg_postings.specs.FieldSerializers.{MayOpen};
+ghost use Rattle.seg_postings.specs.OpenPostings.{kept_kind_of};
+ghost use Rattle.seg_termdict.specs.MergedStreams.{info_of, stepped};
+ghost use Rattle.seg_termdict.specs.TermStreams.{all_terms};
+ghost use Rattle.seg_segment.specs.WrittenTerms.{IsUnwritten, MayTake, with_more, with_terms, with_whole_term};
 ghost use Rattle.seg_merger.specs.MovedPostings.{moved, moved_from, moved_from_all, ranked_of, term_at, terms_of, under};
-ghost use Rattle.seg_merger.specs.SourcesJoined.{AreJoinable, IsJoinable, terms_joined};
+ghost use Rattle.seg_merger.specs.JoinedSources.{AreJoinable, IsJoinable, terms_joined};
 
 use crate::term_source::TermSource;
 use seg_common::TermInfo;

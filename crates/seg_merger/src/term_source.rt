@@ -1,7 +1,7 @@
 //! The terms of a field in a segment that is merged.
 ghost use Rattle.std.specs.Prelude.{◌≡◌, ◌<◌, length, slice_get, Some};
 ghost use Rattle.std.specs.List.{AllByRecursion, Any};
-ghost use Rattle.seg_termdict.specs.Streaming.{all_terms};
+ghost use Rattle.seg_termdict.specs.TermStreams.{all_terms};
 ghost use Rattle.seg_merger.specs.MovedPostings.{Ascend, terms_of};
 
 use crate::new_ids::NewIds;

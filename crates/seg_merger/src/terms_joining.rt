@@ -3,7 +3,7 @@ ghost use Rattle.std.specs.Prelude.{◌≡◌, ◌<◌, ◌^◌, map, IfOk, IsSo
 ghost use Rattle.std.specs.List.{AllByRecursion};
 ghost use Rattle.seg_merger.specs.JoinedTerms.{IsOpenAt, source_of};
 ghost use Rattle.seg_merger.specs.JoinedTotals.{tokens_in};
-ghost use Rattle.seg_merger.specs.Joining.{HoldJoined};
+ghost use Rattle.seg_merger.specs.JoinedSegment.{HoldJoined};
 ghost use Rattle.seg_open.specs.OpenSegment.{IsOfSchema, kept_count};
 ghost use Rattle.seg_merger.specs.MovedPostings.{Ascend};
 ghost use Rattle.seg_merger.specs.NewIds.{parts_of};

@@ -1,12 +1,12 @@
 pub mod Exports
-mod Ids
-mod Json
-mod ListRead
-mod MetaBack
-mod NoFloats
-mod PartsBack
-mod Plain
-mod Pretty
+mod IdDigits
+mod JsonOfBytes
+mod ReadLists
+mod MetaRoundTrips
+mod FloatFreeMetas
+mod PartRoundTrips
+mod PlainJson
+mod PrettyJson
 mod SegmentIds
-mod TextBack
-mod Loads
+mod TextRoundTrips
+mod MetaLoads

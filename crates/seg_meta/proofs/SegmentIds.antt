@@ -4,7 +4,7 @@ use Rattle.std.proofs.lemmas.List.Folds.{list_any-append}
 use Rattle.std.specs.List.{list_any}
 use Rattle.seg_common.proofs.Numbers.{nat_eq-sym}
 use Rattle.seg_meta.specs.IndexOfFiles.{ListedSegment}
-use Rattle.seg_meta.specs.Saving.{same_id}
+use Rattle.seg_meta.specs.SavableMetas.{same_id}
 
 -- ids are compared both ways
 pub same_id-sym : (s t : ListedSegment) → same_id s t ≡ same_id t s

@@ -6,7 +6,7 @@ use Rattle.seg_common.specs.SegmentIds.{id_text}
 use Rattle.seg_values.specs.declared.schema.FieldEntry.{FieldEntry}
 use Rattle.seg_model.specs.Input.{Settings}
 use Rattle.seg_meta.specs.IndexOfFiles.{Deletes, ListedSegment, Meta}
-use Rattle.seg_meta.specs.Words.{compression_word, kind_word, index_word, precision_word}
+use Rattle.seg_meta.specs.MetaWords.{compression_word, kind_word, index_word, precision_word}
 
 -- a natural number
 abbrev pub count_json : ℕ → Data

@@ -4,10 +4,10 @@ use Rattle.seg_common.specs.declared.name.FileName.TheVariants as name
 use Rattle.seg_values.specs.declared.error.TantivyError.{TantivyError}
 use Rattle.seg_values.specs.declared.error.TantivyError.TheVariants.{DataCorruption}
 use Rattle.seg_directory.specs.Calls.{listed, read, replaced, synced}
-use Rattle.seg_directory.specs.State.{DirectoryState}
-use Rattle.seg_directory.specs.Works.{Step, Works, calls, passes}
-use Rattle.seg_meta.specs.MetaRead.{meta_read}
-use Rattle.seg_meta.specs.View.{meta_of}
+use Rattle.seg_directory.specs.DirectoryStates.{DirectoryState}
+use Rattle.seg_directory.specs.DirectorySteps.{Step, Works, calls, passes}
+use Rattle.seg_meta.specs.ParsedMeta.{meta_read}
+use Rattle.seg_meta.specs.MetaMeaning.{meta_of}
 use Rattle.seg_meta.specs.declared.index_meta.IndexMeta.{IndexMeta}
 
 -- all files reach the disk, and then the file of the meta is replaced

@@ -1,7 +1,7 @@
 //! The content of the file of a meta.
 ghost use Rattle.std.specs.Prelude.{◌≡◌, IfOk};
 ghost use Rattle.seg_meta.specs.MetaText as text;
-ghost use Rattle.seg_meta.specs.View.{meta_of};
+ghost use Rattle.seg_meta.specs.MetaMeaning.{meta_of};
 
 use crate::IndexMeta;
 use crate::meta_json::meta_json;

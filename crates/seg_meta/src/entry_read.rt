@@ -2,8 +2,8 @@
 ghost use Rattle.std.specs.Prelude.{◌≡◌, Some, None, Err, true, codes, IfOk};
 ghost use Rattle.serde_json.specs.View.{view};
 ghost use Rattle.seg_values.specs.SchemaRules.{is_entry};
-ghost use Rattle.seg_meta.specs.PartsRead.{entry_from, entry_members, kinds, index_options, precisions};
-ghost use Rattle.seg_meta.specs.Reads.{has_only, required, word_of};
+ghost use Rattle.seg_meta.specs.ParsedMetaParts.{entry_from, entry_members, kinds, index_options, precisions};
+ghost use Rattle.seg_meta.specs.JsonReaders.{has_only, required, word_of};
 
 use crate::ReadError;
 use crate::members::{flag_at, has_only, optional_text_at, text_at};

@@ -6,12 +6,12 @@ ghost use Rattle.seg_directory.specs.Disk.{exactly, with_change};
 ghost use Rattle.seg_directory.specs.DiskChanges.{KeepsDisk};
 ghost use Rattle.seg_directory.specs.DiskRuns.{SavesOnDisk};
 ghost use Rattle.seg_directory.specs.FileDisks.{settled};
-ghost use Rattle.seg_directory.specs.Works.{Works};
+ghost use Rattle.seg_directory.specs.DirectorySteps.{Works};
 ghost use Rattle.seg_meta.specs.MetaSteps.{LoadsMetas, create_steps};
 ghost use Rattle.seg_meta.specs.MetaText.{meta_text};
-ghost use Rattle.seg_meta.specs.Saving.{IsMetaList, empty_meta};
+ghost use Rattle.seg_meta.specs.SavableMetas.{IsMetaList, empty_meta};
 ghost use Rattle.seg_meta.specs.Metas.{segment_of};
-ghost use Rattle.seg_meta.specs.View.{settings_of, meta_of};
+ghost use Rattle.seg_meta.specs.MetaMeaning.{settings_of, meta_of};
 
 use crate::{IndexMeta, IndexSettings, Segment, SegmentMetas, load_metas, save_metas};
 use seg_common::FileName;
@@ -28,7 +28,7 @@ pub struct Index {
 
 impl Model for Index {
     ghost use Rattle.seg_meta.specs.declared.index_meta.IndexMeta.{IndexMeta};
-    ghost use Rattle.seg_meta.specs.Saving.{IsMetaList};
+    ghost use Rattle.seg_meta.specs.SavableMetas.{IsMetaList};
 
     ghost Value = { IndexMeta };
 

@@ -2,7 +2,7 @@
 ghost use Rattle.std.specs.Prelude.{IfOk, IsTrue};
 ghost use Rattle.seg_directory.specs.DiskChanges.{KeepsDisk};
 ghost use Rattle.seg_meta.specs.MetaSteps.{LoadsMetas};
-ghost use Rattle.seg_meta.specs.Saving.{IsMetaList};
+ghost use Rattle.seg_meta.specs.SavableMetas.{IsMetaList};
 
 use crate::{IndexMeta, ReadError, read_meta};
 use seg_common::FileName;

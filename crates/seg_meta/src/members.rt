@@ -4,7 +4,7 @@ ghost use Rattle.std.specs.List.{list_any};
 ghost use Rattle.std.specs.Str.{bytes_eq};
 ghost use Rattle.serde_json.specs.Find.{as_bool, as_str};
 ghost use Rattle.serde_json.specs.View.{view};
-ghost use Rattle.seg_meta.specs.Reads.{required, natural, below, nullable, has_only};
+ghost use Rattle.seg_meta.specs.JsonReaders.{required, natural, below, nullable, has_only};
 
 use crate::ReadError;
 use seg_tokens::Text;

@@ -4,7 +4,7 @@ ghost use Rattle.serde_json.specs.Data.{array};
 ghost use Rattle.serde_json.specs.View.{view, items_of};
 ghost use Rattle.seg_meta.specs.MetaJson as json;
 ghost use Rattle.seg_meta.specs.Metas.{deletes_of};
-ghost use Rattle.seg_meta.specs.View.{settings_of, meta_of};
+ghost use Rattle.seg_meta.specs.MetaMeaning.{settings_of, meta_of};
 
 use crate::words::{compression_word, index_word, kind_word, precision_word};
 use crate::{DeleteMeta, IndexMeta, IndexSettings, SegmentMeta};

@@ -3,11 +3,11 @@ ghost use Rattle.std.specs.Prelude.{◌≡◌, ◌<◌, ◌^◌, Some, true};
 ghost use Rattle.std.specs.List.{AllByRecursion};
 ghost use Rattle.seg_values.specs.SchemaRules.{is_schema};
 ghost use Rattle.seg_meta.specs.IndexOfFiles.{Meta};
-ghost use Rattle.seg_meta.specs.Fits.{AreReadBack, IsText, HasTexts, SegmentFits, MetaFits};
-ghost use Rattle.seg_meta.specs.MetaRead.{meta_read};
+ghost use Rattle.seg_meta.specs.MetaBounds.{AreReadBack, IsText, HasTexts, SegmentFits, MetaFits};
+ghost use Rattle.seg_meta.specs.ParsedMeta.{meta_read};
 ghost use Rattle.seg_meta.specs.MetaText.{meta_text};
-ghost use Rattle.seg_meta.specs.Saving.{IsMetaList};
-ghost use Rattle.seg_meta.specs.View.{meta_of, settings_of};
+ghost use Rattle.seg_meta.specs.SavableMetas.{IsMetaList};
+ghost use Rattle.seg_meta.specs.MetaMeaning.{meta_of, settings_of};
 
 use crate::ranges::{has_32_bits, has_64_bits};
 use crate::{IndexMeta, IndexSettings, SegmentMeta};

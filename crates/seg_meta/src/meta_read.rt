@@ -1,9 +1,9 @@
 //! Reads the meta of an index from its text.
 ghost use Rattle.std.specs.Prelude.{◌≡◌, Some, None, Err, IfOk};
 ghost use Rattle.serde_json.specs.View.{view};
-ghost use Rattle.seg_meta.specs.MetaRead.{meta_read, meta_from};
-ghost use Rattle.seg_meta.specs.Saving.{IsMetaList};
-ghost use Rattle.seg_meta.specs.View.{meta_of};
+ghost use Rattle.seg_meta.specs.ParsedMeta.{meta_read, meta_from};
+ghost use Rattle.seg_meta.specs.SavableMetas.{IsMetaList};
+ghost use Rattle.seg_meta.specs.MetaMeaning.{meta_of};
 
 use crate::members::{has_only, number_at, optional_text_at};
 use crate::schema_read::schema_from;

@@ -5,11 +5,11 @@ ghost use Rattle.seg_common.specs.declared.name.FileName.TheVariants.{Meta};
 ghost use Rattle.seg_directory.specs.Disk.{exactly, with_change};
 ghost use Rattle.seg_directory.specs.DiskRuns.{SavesOnDisk};
 ghost use Rattle.seg_directory.specs.FileDisks.{settled};
-ghost use Rattle.seg_directory.specs.Works.{Works};
+ghost use Rattle.seg_directory.specs.DirectorySteps.{Works};
 ghost use Rattle.seg_meta.specs.MetaSteps.{save_steps};
 ghost use Rattle.seg_meta.specs.MetaText.{meta_text};
-ghost use Rattle.seg_meta.specs.Saving.{IsMetaList};
-ghost use Rattle.seg_meta.specs.View.{meta_of};
+ghost use Rattle.seg_meta.specs.SavableMetas.{IsMetaList};
+ghost use Rattle.seg_meta.specs.MetaMeaning.{meta_of};
 
 use crate::{IndexMeta, meta_text};
 use seg_common::FileName;

@@ -1,9 +1,9 @@
 //! Reads a schema from JSON.
 ghost use Rattle.std.specs.Prelude.{◌≡◌, ◌+◌, ◌-◌, ◌<◌, ◌^◌, [], ◌∷◌, ◌++◌, length, true, false, Some, None, Ok, Err, IfOk, IsSome};
 ghost use Rattle.serde_json.specs.View.{view};
-ghost use Rattle.seg_values.specs.Names.{field_named};
+ghost use Rattle.seg_values.specs.FieldNames.{field_named};
 ghost use Rattle.seg_values.specs.SchemaRules.{is_entry};
-ghost use Rattle.seg_meta.specs.MetaRead.{schema_from};
+ghost use Rattle.seg_meta.specs.ParsedMeta.{schema_from};
 
 use crate::{ReadError, entry_from};
 use seg_values::{FieldEntry, Schema, SchemaBuilder, SchemaCause, TantivyError};

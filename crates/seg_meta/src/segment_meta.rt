@@ -1,6 +1,6 @@
 //! A segment as a meta lists it.
 ghost use Rattle.std.specs.Prelude.{◌≡◌, ◌<◌, ◌-◌, ◌^◌, Some, option_map, is_some};
-ghost use Rattle.seg_meta.specs.Fits.{SegmentFits};
+ghost use Rattle.seg_meta.specs.MetaBounds.{SegmentFits};
 ghost use Rattle.seg_meta.specs.Metas.{deletes_of, AreDeletes, deleted};
 
 use crate::DeleteMeta;

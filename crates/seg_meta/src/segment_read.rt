@@ -3,8 +3,8 @@ ghost use Rattle.std.specs.Prelude.{◌≡◌, ◌≤◌, option_map, codes, IfS
 ghost use Rattle.serde_json.specs.Find.{as_str};
 ghost use Rattle.serde_json.specs.View.{view};
 ghost use Rattle.seg_meta.specs.Metas.{deletes_of, AreDeletes};
-ghost use Rattle.seg_meta.specs.PartsRead.{segment_from, deletes_from, id_from};
-ghost use Rattle.seg_meta.specs.Reads.{given, required, nullable};
+ghost use Rattle.seg_meta.specs.ParsedMetaParts.{segment_from, deletes_from, id_from};
+ghost use Rattle.seg_meta.specs.JsonReaders.{given, required, nullable};
 
 use crate::members::{below_at, has_only, number_at, text_at};
 use crate::{DeleteMeta, SegmentMeta};

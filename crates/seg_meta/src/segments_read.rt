@@ -1,8 +1,8 @@
 //! Reads the segments of a meta from JSON.
 ghost use Rattle.std.specs.Prelude.{◌≡◌, Some, None, Err, IfOk};
 ghost use Rattle.serde_json.specs.View.{view};
-ghost use Rattle.seg_meta.specs.MetaRead.{segments_from};
-ghost use Rattle.seg_meta.specs.Saving.{IsMetaList};
+ghost use Rattle.seg_meta.specs.ParsedMeta.{segments_from};
+ghost use Rattle.seg_meta.specs.SavableMetas.{IsMetaList};
 
 use crate::{ReadError, SegmentMetas, segment_from};
 use serde_json::Value;

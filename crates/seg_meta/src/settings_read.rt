@@ -1,9 +1,9 @@
 //! Reads settings from JSON.
 ghost use Rattle.std.specs.Prelude.{◌≡◌, option_map, codes};
 ghost use Rattle.serde_json.specs.View.{view};
-ghost use Rattle.seg_meta.specs.PartsRead.{settings_from, settings_members, compressions};
-ghost use Rattle.seg_meta.specs.Reads.{has_only, required, word_of};
-ghost use Rattle.seg_meta.specs.View.{settings_of, compression_of};
+ghost use Rattle.seg_meta.specs.ParsedMetaParts.{settings_from, settings_members, compressions};
+ghost use Rattle.seg_meta.specs.JsonReaders.{has_only, required, word_of};
+ghost use Rattle.seg_meta.specs.MetaMeaning.{settings_of, compression_of};
 
 use crate::IndexSettings;
 use crate::members::{below_at, flag_at, has_only, text_at};

@@ -2,9 +2,9 @@
 ghost use Rattle.std.specs.Prelude.{◌≡◌, option_map};
 ghost use Rattle.std.specs.Map.{lookup};
 ghost use Rattle.std.specs.Str.{bytes_eq};
-ghost use Rattle.seg_meta.specs.PartsRead.{kinds, index_options, precisions, compressions};
-ghost use Rattle.seg_meta.specs.View.{compression_of};
-ghost use Rattle.seg_meta.specs.Words.{compression_word, kind_word, index_word, precision_word};
+ghost use Rattle.seg_meta.specs.ParsedMetaParts.{kinds, index_options, precisions, compressions};
+ghost use Rattle.seg_meta.specs.MetaMeaning.{compression_of};
+ghost use Rattle.seg_meta.specs.MetaWords.{compression_word, kind_word, index_word, precision_word};
 
 use seg_common::DateTimePrecision;
 use seg_values::{Compressor, FieldKind, IndexOption};

@@ -4,14 +4,14 @@ use Rattle.std.specs.List.{flat_map, list_any}
 use Rattle.std.specs.Cmp.Lexicographic.{nat_list_cmp_total}
 use Rattle.seg_values.specs.Tree.{Document}
 use Rattle.seg_model.specs.Fields.{Schema, Analyzer}
-use Rattle.seg_common.specs.Tables.{tabulated}
-use Rattle.seg_model.specs.Reading.{postings_of, if_any}
+use Rattle.seg_common.specs.TabulatedMaps.{tabulated}
+use Rattle.seg_model.specs.DocumentTerms.{postings_of, if_any}
 use Rattle.seg_model.specs.Columns.{ColumnKey, column_cmp, column_at, is_mixed, declared_columns, value_keys, fast_values}
 use Rattle.seg_model.specs.Laws.{recorded_values, TermsAnswer, NoOtherTerms, ColumnsAnswer, NoOtherColumns, MixedNumbersHaveNoColumns}
-use Rattle.seg_common.proofs.Tables.{texts_apart, table_from_gets, none_passes}
+use Rattle.seg_common.proofs.TabulatedMaps.{texts_apart, table_from_gets, none_passes}
 use Rattle.seg_common.proofs.Lists.{list_any-none}
-use Rattle.seg_model.proofs.Terms.{complete_terms, get-terms_of}
-use Rattle.seg_model.proofs.Columns.{column_cmp_total, columns_apart, are_columns, covers_documents}
+use Rattle.seg_model.proofs.JoinedTerms.{complete_terms, get-terms_of}
+use Rattle.seg_model.proofs.JoinedColumns.{column_cmp_total, columns_apart, are_columns, covers_documents}
 
 pub terms_answer : TermsAnswer
 terms_answer = get-terms_of

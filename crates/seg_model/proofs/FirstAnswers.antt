@@ -4,7 +4,7 @@ use mathlib.Core.Bool.{true≢false}
 use Rattle.std.specs.Prelude.{is_some}
 use Rattle.std.specs.List.{AllByRecursion}
 use Rattle.std.specs.Option.{option_or}
-use Rattle.seg_model.specs.Checked.{first_of, unless}
+use Rattle.seg_model.specs.DocumentCheck.{first_of, unless}
 
 module _ {X : Type 0} where
   pub some_none : (x : X) → Some x ≡ None → ⊥

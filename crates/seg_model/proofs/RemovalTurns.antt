@@ -5,9 +5,9 @@ use Rattle.std.specs.List.{All, enumerate_from}
 use Rattle.std.proofs.lemmas.List.Folds.{list_any-append}
 use Rattle.std.proofs.lemmas.Bool.{le-ltb}
 use Rattle.std.proofs.Math.Bool.{or-false}
-use Rattle.seg_model.specs.Reading.{Terms}
+use Rattle.seg_model.specs.DocumentTerms.{Terms}
 use Rattle.seg_model.specs.Operations.{Operation, TermKey, delete, both_marked}
-use Rattle.seg_model.specs.Cleared.{has_posting, clears, is_cleared_by}
+use Rattle.seg_model.specs.DeletesByPostings.{has_posting, clears, is_cleared_by}
 use Rattle.seg_model.specs.RemovalLaws.{ArePassed, DeletesClearInTurn}
 
 not_or : (a b : Bool) → not (a || b) ≡ (not a && not b)

@@ -4,11 +4,11 @@ use Rattle.std.proofs.Common.{inl, inr}
 use Rattle.std.specs.Coded.{Coded, code_by, coded×, coded⊎, coded_list, coded_ℕ, coded_ℤ, coded_bool}
 use base.Stored.{coded_unit}
 use Rattle.std.specs.FinMap as fin
-use Rattle.seg_values.specs.Code.{tree_code}
+use Rattle.seg_values.specs.ValueCodes.{tree_code}
 use Rattle.seg_values.specs.Tree.{Document}
 use Rattle.seg_common.specs.declared.column_type.ColumnType.{ColumnType}
 use Rattle.seg_common.specs.declared.column_type.ColumnType.TheVariants.{I64, U64, Bytes, Str, Bool as Boolean, IpAddr, DateTime}
-use Rattle.seg_model.specs.Reading.{Recorded, presence, frequency, positions, Posting, Terms}
+use Rattle.seg_model.specs.DocumentTerms.{Recorded, presence, frequency, positions, Posting, Terms}
 use Rattle.seg_model.specs.Columns.{ColumnValue, number, bytes_value, text_value, boolean_value, ip_value, date_value, ColumnKey, type_place, Columns}
 use Rattle.seg_model.specs.Contents.{Contents, Reading}
 use Rattle.seg_model.specs.Join.{Part}

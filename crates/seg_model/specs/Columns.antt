@@ -8,14 +8,14 @@ use Rattle.std.specs.FinMap.{FinMap}
 use Rattle.seg_tokens.specs.declared.token.Token.{Token}
 use Rattle.seg_common.specs.declared.column_type.ColumnType.{ColumnType}
 use Rattle.seg_common.specs.declared.column_type.ColumnType.TheVariants.{I64, U64, Bytes, Str, Bool as Boolean, IpAddr, DateTime}
-use Rattle.seg_common.specs.Dates.{cut_to, nanos_in_second, precision_unit}
+use Rattle.seg_common.specs.DateUnits.{cut_to, nanos_in_second, precision_unit}
 use Rattle.seg_values.specs.declared.schema.FieldEntry.{FieldEntry}
 use Rattle.seg_values.specs.declared.schema.FieldKind.{FieldKind}
 use Rattle.seg_values.specs.declared.schema.FieldKind.TheVariants as kinds
 use Rattle.seg_values.specs.Tree.{Leaf, null, text, pre_tokenized, unsigned, signed, boolean, date, facet, byte_string, ip, Tree, Document}
 use Rattle.seg_model.specs.Fields.{Schema, Analyzer, is_text, is_json, fields, values_of}
 use Rattle.seg_model.specs.Leaves.{PlacedLeaf, leaves_of, joined_path}
-use Rattle.seg_common.specs.Tables.{tabulated, is_among}
+use Rattle.seg_common.specs.TabulatedMaps.{tabulated, is_among}
 
 -- a value in a column; the columns I64 and U64 both have numbers
 pub data ColumnValue : Type 0 where

@@ -5,7 +5,7 @@ use Rattle.std.specs.Option.{option_map}
 use Rattle.std.specs.FinMap.{empty}
 use Rattle.seg_values.specs.Tree.{Document}
 use Rattle.seg_model.specs.Fields.{Schema, Analyzer}
-use Rattle.seg_model.specs.Reading.{Terms, all_terms, stored_document}
+use Rattle.seg_model.specs.DocumentTerms.{Terms, all_terms, stored_document}
 use Rattle.seg_model.specs.Norms.{all_norms}
 use Rattle.seg_model.specs.Columns.{Columns, columns}
 

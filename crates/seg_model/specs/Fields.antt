@@ -5,7 +5,7 @@ use Rattle.seg_tokens.specs.declared.token.Token.{Token}
 use Rattle.seg_values.specs.declared.schema.FieldEntry.{FieldEntry}
 use Rattle.seg_values.specs.declared.schema.FieldKind.{FieldKind}
 use Rattle.seg_values.specs.declared.schema.FieldKind.TheVariants.{Text, Facet, Json}
-pub use Rattle.seg_values.specs.Indexed.{is_on, is_indexed, has_lengths}
+pub use Rattle.seg_values.specs.IndexedFields.{is_on, is_indexed, has_lengths}
 use Rattle.seg_values.specs.Tree.{Tree, Document}
 pub use Rattle.seg_values.specs.Schemas.{Schema, is_field}
 

@@ -7,9 +7,9 @@ use Rattle.seg_values.specs.declared.schema.FieldEntry.{FieldEntry}
 use Rattle.seg_common.specs.declared.column_type.ColumnType.TheVariants.{I64, U64}
 use Rattle.seg_model.specs.Fields.{Schema, fields, has_lengths}
 use Rattle.seg_model.specs.Operations.{kept}
-use Rattle.seg_model.specs.Reading.{Recorded, Posting, Terms, postings_from, if_any}
+use Rattle.seg_model.specs.DocumentTerms.{Recorded, Posting, Terms, postings_from, if_any}
 use Rattle.seg_model.specs.Columns.{ColumnValue, ColumnKey, Columns, declared_columns, columns_from, is_number}
-use Rattle.seg_common.specs.Tables.{tabulated}
+use Rattle.seg_common.specs.TabulatedMaps.{tabulated}
 use Rattle.seg_model.specs.Contents.{Contents, terms_at, norms_at}
 
 -- the contents of a segment, and for each of its documents whether it is alive

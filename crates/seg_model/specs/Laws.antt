@@ -7,15 +7,15 @@ use Rattle.seg_values.specs.Tree.{Document}
 use Rattle.seg_model.specs.Fields.{Schema, Analyzer}
 use Rattle.seg_model.specs.Occurrences.{Occurrence}
 use Rattle.seg_model.specs.Operations.{Operation, Batch, live, batches}
-use Rattle.seg_model.specs.Reading.{Terms, terms_of, postings_of, if_any, listed, recorded_in}
+use Rattle.seg_model.specs.DocumentTerms.{Terms, terms_of, postings_of, if_any, listed, recorded_in}
 use Rattle.seg_model.specs.Columns.{ColumnKey, ColumnValue, Columns, columns, column_at, is_mixed, declared_columns, values_at, fast_values}
 use Rattle.seg_model.specs.Contents.{Contents, reading_part, reading, full_reading}
 use Rattle.seg_model.specs.Join.{Part, join}
-use Rattle.seg_model.specs.Checked.{IsSound}
+use Rattle.seg_model.specs.DocumentCheck.{IsSound}
 use Rattle.seg_model.specs.Shape.{HasFullShape}
 use Rattle.seg_model.specs.Input.{Input}
-use Rattle.seg_model.specs.Valid.{Known, IsValid}
-use Rattle.seg_model.specs.Refused.{build_refusal}
+use Rattle.seg_model.specs.ValidInputs.{Known, IsValid}
+use Rattle.seg_model.specs.Refusals.{build_refusal}
 
 -- ---- terms and columns are known by what they answer
 

@@ -2,7 +2,7 @@
 use Rattle.std.specs.Prelude.{ℕ, List, [], map, Bool, ◌==◌, unwrap_or}
 use Rattle.std.specs.List.{list_any, range_with_len, slice_index_or}
 use Rattle.std.specs.FinMap.{get, empty}
-use Rattle.seg_model.specs.Reading.{Terms}
+use Rattle.seg_model.specs.DocumentTerms.{Terms}
 
 -- the terms of one field, out of those of each; none where there is no such field
 abbrev pub terms_of_field : List Terms → ℕ → Terms

@@ -4,11 +4,11 @@ use Rattle.std.specs.List.{All, enumerate_from}
 use Rattle.seg_values.specs.Tree.{Document}
 use Rattle.seg_model.specs.Fields.{Schema, Analyzer}
 use Rattle.seg_model.specs.Occurrences.{has_term}
-use Rattle.seg_model.specs.Reading.{Terms, all_terms}
+use Rattle.seg_model.specs.DocumentTerms.{Terms, all_terms}
 use Rattle.seg_model.specs.Operations.{Operation, TermKey, delete, additions, alive_after, both_marked}
 use Rattle.seg_model.specs.Postings.{terms_of_field, documents_with, marks}
 use Rattle.seg_model.specs.Stamps.{stamped_deletes, addition_stamps, undeleted_by}
-use Rattle.seg_model.specs.Cleared.{has_posting, uncleared_by}
+use Rattle.seg_model.specs.DeletesByPostings.{has_posting, uncleared_by}
 
 -- ---- postings
 

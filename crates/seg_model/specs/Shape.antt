@@ -8,7 +8,7 @@ use Rattle.seg_values.specs.declared.schema.IndexOption.TheVariants.{No, Basic, 
 use Rattle.seg_common.specs.declared.column_type.ColumnType.{ColumnType}
 use Rattle.seg_common.specs.declared.column_type.ColumnType.TheVariants.{I64, U64, Str, Bool as Boolean, DateTime}
 use Rattle.seg_model.specs.Fields.{Schema, is_indexed, is_json, is_facet, has_lengths}
-use Rattle.seg_model.specs.Reading.{Recorded, presence, frequency, positions, Posting, type_code, term_option}
+use Rattle.seg_model.specs.DocumentTerms.{Recorded, presence, frequency, positions, Posting, type_code, term_option}
 use Rattle.seg_model.specs.Columns.{ColumnKey, ColumnValue, declared_columns, is_declared, type_place, value_types, is_filled}
 use Rattle.seg_model.specs.Contents.{Contents, terms_at, norms_at}
 

@@ -15,16 +15,16 @@ use Rattle.seg_values.specs.declared.schema.FieldKind.TheVariants.{Text, U64}
 use Rattle.seg_values.specs.declared.schema.IndexOption.TheVariants.{Basic, Freqs}
 use Rattle.seg_model.specs.Fields.{Schema}
 use Rattle.seg_model.specs.Occurrences.{Occurrence, occurrences}
-use Rattle.seg_common.specs.Tables.{entry_of}
-use Rattle.seg_model.specs.Reading.{Terms, terms_of, postings_of, if_any, Posting, presence, frequency, positions}
+use Rattle.seg_common.specs.TabulatedMaps.{entry_of}
+use Rattle.seg_model.specs.DocumentTerms.{Terms, terms_of, postings_of, if_any, Posting, presence, frequency, positions}
 use Rattle.seg_model.specs.Norms.{length_id}
 use Rattle.seg_model.specs.Columns.{ColumnKey, column_at, columns, declared_columns, value_keys, fast_values}
 use Rattle.seg_model.specs.Contents.{Contents, full_reading, reading_with, norms_at, terms_at}
 use Rattle.seg_termdict.specs.SortedTerms.{key_cmp}
-use Rattle.seg_model.specs.Checked.{IsSound, document_refusal, wrong_value}
+use Rattle.seg_model.specs.DocumentCheck.{IsSound, document_refusal, wrong_value}
 use Rattle.seg_model.specs.Laws.{recorded_values}
 use Rattle.seg_model.proofs.Exports.{column_cmp_total, readings_have_full_shape}
-use Rattle.seg_model_cases.specs.Given.{analyzer, entry, only, posting}
+use Rattle.seg_model_cases.specs.CaseData.{analyzer, entry, only, posting}
 use Rattle.seg_model_cases.specs.Contents.{documents, term_entries, column_entries, contents, ContentsCases}
 
 -- entries put into a list in the order of their keys

@@ -4,7 +4,7 @@ use Rattle.std.specs.Prelude.{codes}
 use Rattle.seg_tokens.specs.declared.token.Token.{Token}
 use Rattle.seg_model.specs.Occurrences.{counted, placed_from, reach}
 use Rattle.seg_model.specs.Norms.{length_id}
-use Rattle.seg_model_cases.specs.Given.{token, at}
+use Rattle.seg_model_cases.specs.CaseData.{token, at}
 use Rattle.seg_model_cases.specs.Texts.{AreLongest, LongTokens, TextCases}
 
 abbrev c : Token

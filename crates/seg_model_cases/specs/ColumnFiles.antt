@@ -4,7 +4,7 @@ use Rattle.seg_columns.specs.declared.dynamic_column.DynamicColumn.TheVariants a
 use Rattle.seg_columns.specs.Addresses.{address_of}
 use Rattle.seg_columns.specs.Columns.{first_or, rows_of}
 use Rattle.seg_columns.specs.DynamicColumns.{StoredColumn, i64_column, numbers_of}
-use Rattle.seg_columns.specs.Images.{unsigned, signed, truth}
+use Rattle.seg_columns.specs.ValueImages.{unsigned, signed, truth}
 use Rattle.seg_columns.specs.TermColumns.{TermColumn, term_column_of}
 use Rattle.seg_column_file.specs.ColumnTable.{are_apart}
 use Rattle.seg_column_file.specs.ColumnFiles.{ColumnFile, NamedColumn, column_file_of, is_below, is_selected, stored_where}

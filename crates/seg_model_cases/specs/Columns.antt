@@ -8,7 +8,7 @@ use Rattle.seg_values.specs.declared.schema.IndexOption.TheVariants.{No, Basic}
 use Rattle.seg_values.specs.Tree.{null, unsigned, signed, boolean, date, facet, byte_string, ip, Tree, leaf, Document}
 use Rattle.seg_model.specs.Columns.{ColumnKey, ColumnValue, number, bytes_value, text_value, boolean_value, ip_value, date_value, leaf_values, fast_values, declared_columns, column_at}
 use Rattle.seg_model.specs.Laws.{recorded_values}
-use Rattle.seg_model_cases.specs.Given.{analyzer, entry, only, one, said, token, cut, keyed}
+use Rattle.seg_model_cases.specs.CaseData.{analyzer, entry, only, one, said, token, cut, keyed}
 
 -- what a document with one value of this field records, without the path
 abbrev pub values : FieldEntry → Tree → List ColumnValue

@@ -5,11 +5,11 @@ use Rattle.seg_common.specs.declared.column_type.ColumnType.TheVariants.{Str}
 use Rattle.seg_values.specs.declared.schema.FieldKind.TheVariants.{Text, U64}
 use Rattle.seg_values.specs.declared.schema.IndexOption.TheVariants.{Basic, Freqs}
 use Rattle.seg_values.specs.Tree.{leaf, null, Document}
-use Rattle.seg_model.specs.Reading.{Posting, frequency}
+use Rattle.seg_model.specs.DocumentTerms.{Posting, frequency}
 use Rattle.seg_model.specs.Columns.{ColumnKey, ColumnValue, text_value}
 use Rattle.seg_model.specs.Contents.{Contents}
-use Rattle.seg_model.specs.SelfTold.{IsSelfTold}
-use Rattle.seg_model_cases.specs.Given.{analyzer, only, one, said, posting}
+use Rattle.seg_model.specs.SelfToldContents.{IsSelfTold}
+use Rattle.seg_model_cases.specs.CaseData.{analyzer, only, one, said, posting}
 
 -- "a b a" and "b"
 abbrev pub documents : List Document

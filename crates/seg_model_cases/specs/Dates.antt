@@ -1,8 +1,8 @@
 -- Cases of moments as texts.
 use Rattle.std.specs.Prelude.{◌≡◌, ℕ, ℤ, pos, negsuc, List, [], ◌∷◌, map, replicate, codes, Some, None}
 use Rattle.seg_common.specs.declared.precision.DateTimePrecision.TheVariants.{Seconds}
-use Rattle.seg_common.specs.Dates.{cut_to, precision_unit}
-use Rattle.seg_common.specs.DateReading.{date_of}
+use Rattle.seg_common.specs.DateUnits.{cut_to, precision_unit}
+use Rattle.seg_common.specs.ParsedDates.{date_of}
 
 -- a text, and the moment that it tells
 abbrev pub told : List (List ℕ × ℤ)

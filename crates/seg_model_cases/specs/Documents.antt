@@ -8,10 +8,10 @@ use Rattle.seg_values.specs.declared.schema.FieldKind.TheVariants.{Text, Json}
 use Rattle.seg_values.specs.declared.schema.IndexOption.TheVariants.{No, Positions}
 use Rattle.seg_values.specs.Tree.{null, unsigned, signed, boolean, date, facet, byte_string, ip, Tree, leaf, array, tree, no_trees, Document}
 use Rattle.seg_model.specs.Fields.{Schema}
-use Rattle.seg_model.specs.Reading.{stored_document}
-use Rattle.seg_values.specs.StoredForm.{tree_form, stored_form}
-use Rattle.seg_model.specs.Checked.{at_place, document_refusal, is_u32}
-use Rattle.seg_model_cases.specs.Given.{analyzer, entry, only, said, token, cut, keyed, in_arrays}
+use Rattle.seg_model.specs.DocumentTerms.{stored_document}
+use Rattle.seg_values.specs.StoredBytes.{tree_form, stored_form}
+use Rattle.seg_model.specs.DocumentCheck.{at_place, document_refusal, is_u32}
+use Rattle.seg_model_cases.specs.CaseData.{analyzer, entry, only, said, token, cut, keyed, in_arrays}
 
 -- field 0 has texts, field 1 JSON
 abbrev pub two_fields : Schema

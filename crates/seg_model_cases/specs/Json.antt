@@ -6,10 +6,10 @@ use Rattle.seg_values.specs.declared.schema.IndexOption.TheVariants.{Basic, Freq
 use Rattle.seg_values.specs.Tree.{unsigned, signed, boolean, date, Tree, leaf, object, member, no_members, Document}
 use Rattle.seg_model.specs.Fields.{Analyzer}
 use Rattle.seg_model.specs.Occurrences.{Occurrence, occurrences}
-use Rattle.seg_model.specs.Reading.{presence, frequency, positions}
+use Rattle.seg_model.specs.DocumentTerms.{presence, frequency, positions}
 use Rattle.seg_model.specs.Norms.{field_length}
 use Rattle.seg_model.specs.Columns.{ColumnValue, number, date_value, FastValue, fast_values}
-use Rattle.seg_model_cases.specs.Given.{analyzer, only, one, said, keyed, in_arrays, at, posting, recorded_of}
+use Rattle.seg_model_cases.specs.CaseData.{analyzer, only, one, said, keyed, in_arrays, at, posting, recorded_of}
 
 abbrev pub occurring : Document → List Occurrence
 occurring document = occurrences (only Json Positions) analyzer document 0

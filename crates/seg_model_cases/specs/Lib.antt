@@ -1,4 +1,5 @@
 pub mod Bytes
+pub mod CaseData
 pub mod ColumnFiles
 pub mod Columns
 pub mod Contents
@@ -6,7 +7,6 @@ pub mod Dates
 pub mod Dictionaries
 pub mod Documents
 pub mod Files
-pub mod Given
 pub mod Json
 pub mod Operations
 pub mod Postings

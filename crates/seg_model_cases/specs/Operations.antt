@@ -7,8 +7,8 @@ use Rattle.seg_values.specs.declared.schema.IndexOption.TheVariants.{Positions}
 use Rattle.seg_values.specs.Tree.{Document}
 use Rattle.seg_model.specs.Operations.{Operation, add, delete, delete_all, TermKey, Batch, batches, filtered_by, survivors}
 use Rattle.seg_model.specs.Join.{Part}
-use Rattle.seg_model.specs.Estimate.{estimate, joined_estimate}
-use Rattle.seg_model_cases.specs.Given.{analyzer, entry, only, one, said}
+use Rattle.seg_model.specs.TokenEstimate.{estimate, joined_estimate}
+use Rattle.seg_model_cases.specs.CaseData.{analyzer, entry, only, one, said}
 
 abbrev pub word : List ℕ → Document
 word s = one (said s)

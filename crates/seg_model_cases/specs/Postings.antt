@@ -4,15 +4,15 @@ use Rattle.std.specs.List.{list_all}
 use Rattle.seg_common.specs.declared.term_info.TermInfo.{TermInfo}
 use Rattle.seg_values.specs.declared.schema.FieldKind.TheVariants.{Text, Json}
 use Rattle.seg_values.specs.declared.schema.IndexOption.TheVariants as options
-use Rattle.seg_model.specs.Reading.{Posting, presence, frequency, positions}
+use Rattle.seg_model.specs.DocumentTerms.{Posting, presence, frequency, positions}
 use Rattle.seg_termdict.specs.Dictionary.{Term, terms_of}
 use Rattle.seg_postings.specs.declared.record_kind.RecordKind.TheVariants.{Documents, Counts, Positions}
-use Rattle.seg_postings.specs.FieldReading.{FieldRules, ReadTerm, is_read, read_term}
+use Rattle.seg_postings.specs.OpenedFields.{FieldRules, ReadTerm, is_read, read_term}
 use Rattle.seg_postings.specs.JsonSpaces.{path_and_type}
 use Rattle.seg_postings.specs.Postings.{term_postings}
-use Rattle.seg_postings.specs.PostingsReading.{alive_count}
+use Rattle.seg_postings.specs.OpenPostings.{alive_count}
 use Rattle.seg_model_cases.specs.ColumnFiles.{eight, four}
-use Rattle.seg_model_cases.specs.Given.{posting}
+use Rattle.seg_model_cases.specs.CaseData.{posting}
 
 -- the bytes of an info: how many documents a term is in, and where its postings and its positions end
 abbrev pub info_bytes : ℕ → ℕ → ℕ → List ℕ

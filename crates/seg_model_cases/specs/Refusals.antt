@@ -10,9 +10,9 @@ use Rattle.seg_values.specs.declared.schema.IndexOption.TheVariants.{No, Positio
 use Rattle.seg_values.specs.Tree.{unsigned, signed, Tree, leaf, Document}
 use Rattle.seg_model.specs.Operations.{Operation, add, delete}
 use Rattle.seg_model.specs.Input.{Input, uncompressed, lz4}
-use Rattle.seg_model.specs.Valid.{Known, batches_fit, input_refusal}
-use Rattle.seg_model.specs.Refused.{count_refusal, build_refusal}
-use Rattle.seg_model_cases.specs.Given.{analyzer, entry, only, one, keyed}
+use Rattle.seg_model.specs.ValidInputs.{Known, batches_fit, input_refusal}
+use Rattle.seg_model.specs.Refusals.{count_refusal, build_refusal}
+use Rattle.seg_model_cases.specs.CaseData.{analyzer, entry, only, one, keyed}
 
 -- an input in which all is wrong, and the same with one thing after another put right
 abbrev pub all_wrong : Input

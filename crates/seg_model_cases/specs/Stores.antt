@@ -1,13 +1,13 @@
 -- Cases of stores, in bytes that were written by hand.
 use Rattle.std.specs.Prelude.{◌≡◌, ℕ, zero, suc, List, [], ◌∷◌, ◌++◌, map, take, length, true, false, Some, None}
 use Rattle.seg_values.specs.Tree.{leaf, unsigned}
-use Rattle.seg_store.specs.Alive.{alive_behind}
+use Rattle.seg_store.specs.AliveDocuments.{alive_behind}
 use Rattle.seg_store.specs.Block.{Block}
 use Rattle.seg_store.specs.Cache.{CachedStore, after_get, unused}
 use Rattle.seg_store.specs.Store.{documents_of, store_of}
-use Rattle.seg_store.specs.Writing.{Taken, all_blocks, with_document, with_stacked}
+use Rattle.seg_store.specs.WriterBlocks.{Taken, all_blocks, with_document, with_stacked}
 use Rattle.seg_model_cases.specs.ColumnFiles.{eight, four}
-use Rattle.seg_model_cases.specs.Given.{one}
+use Rattle.seg_model_cases.specs.CaseData.{one}
 
 -- the bytes of a document with the number 7 in field 0: one pair, the field, the tag, and the number
 abbrev pub document : List ℕ

@@ -5,9 +5,9 @@ use Rattle.seg_values.specs.declared.schema.FieldKind.TheVariants.{Text, Bool, B
 use Rattle.seg_values.specs.declared.schema.IndexOption.TheVariants.{Basic, Freqs, Positions}
 use Rattle.seg_values.specs.Tree.{boolean, byte_string, Tree, leaf}
 use Rattle.seg_model.specs.Occurrences.{occurrences}
-use Rattle.seg_model.specs.Reading.{presence, frequency, positions}
+use Rattle.seg_model.specs.DocumentTerms.{presence, frequency, positions}
 use Rattle.seg_model.specs.Norms.{length_id, length_of_id, field_length, field_norms}
-use Rattle.seg_model_cases.specs.Given.{analyzer, entry, only, one, said, token, cut, at, posting, recorded_of}
+use Rattle.seg_model_cases.specs.CaseData.{analyzer, entry, only, one, said, token, cut, at, posting, recorded_of}
 
 -- this many words
 abbrev pub words : ℕ → Tree

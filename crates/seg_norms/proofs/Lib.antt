@@ -1,5 +1,5 @@
 mod LengthTable
-mod NormsFit
 mod NormsLists
+mod NormsOfFields
 mod NormsOfParts
 mod PartIds

@@ -8,9 +8,9 @@ use Rattle.std.proofs.lemmas.List.FromFn.{length-enumerate_from}
 use Rattle.std.proofs.lemmas.Option.{none-some, same_Some, slice_get_within}
 use Rattle.seg_values.specs.declared.schema.FieldEntry.{FieldEntry}
 use Rattle.seg_model.specs.Fields.{Schema, has_lengths, fields}
-use Rattle.seg_directory.specs.Composite.{Part, field_of}
+use Rattle.seg_directory.specs.CompositeFiles.{Part, field_of}
 use Rattle.seg_norms.specs.FieldNorms.{norms_parts}
-use Rattle.seg_norms.specs.NormsRead.{lengths_of_parts, lengths_for, norms_of, AreIds, HaveIds, AreNorms, HoldNorms}
+use Rattle.seg_norms.specs.StoredNorms.{lengths_of_parts, lengths_for, norms_of, AreIds, HaveIds, AreNorms, HoldNorms}
 use Rattle.seg_norms.proofs.PartIds.{field_ids}
 
 -- the fields with lengths among some, the first of which is numbered

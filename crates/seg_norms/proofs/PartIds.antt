@@ -2,8 +2,8 @@
 use Rattle.std.proofs.Common.{◌≡◌, ℕ, zero, suc, ◌-◌, ◌==◌, ◌<◌, List, [], ◌∷◌, take, drop, subst, slice_index, Option, Some, None, Bool, true, false}
 use Rattle.std.specs.Prelude.{if◌then◌else◌, unwrap_or}
 use Rattle.std.proofs.lemmas.Option.{none-some, same_Some}
-use Rattle.seg_directory.specs.Composite.{Part, composite, is_composite, parts_of, parts_from, table_of, field_of}
-use Rattle.seg_norms.specs.NormsRead.{AreIds, HaveIds}
+use Rattle.seg_directory.specs.CompositeFiles.{Part, composite, is_composite, parts_of, parts_from, table_of, field_of}
+use Rattle.seg_norms.specs.StoredNorms.{AreIds, HaveIds}
 
 ids_after : (k : ℕ) (ids : List ℕ) → AreIds ids → AreIds (drop k ids)
 ids_after zero ids are = are

@@ -3,7 +3,7 @@ use Rattle.std.specs.Prelude.{ℕ, zero, suc, ◌-◌, List, [], ◌∷◌, ◌+
 use Rattle.std.specs.List.{flat_map, slice_index_or}
 use Rattle.seg_model.specs.Fields.{Schema, has_lengths, fields}
 use Rattle.seg_model.specs.Norms.{length_id}
-use Rattle.seg_directory.specs.Composite.{Part}
+use Rattle.seg_directory.specs.CompositeFiles.{Part}
 
 -- what is kept of each field of a schema before any document: no ids, or nothing where it has no lengths
 abbrev pub no_norms : Schema → List (Option (List ℕ))

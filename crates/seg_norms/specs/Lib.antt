@@ -1,2 +1,2 @@
 pub mod FieldNorms
-pub mod NormsRead
+pub mod StoredNorms

@@ -1,8 +1,8 @@
 //! The length ids of a segment, as they are read from their file.
 ghost use Rattle.std.specs.Prelude.{◌≡◌, ◌≢◌, ◌<◌, ℕ, List, length, slice_get, Some, None, IsTrue, IsFalse, IfErr, MatchBool, MatchResult};
-ghost use Rattle.seg_directory.specs.Composite.{Part, composite, field_of};
+ghost use Rattle.seg_directory.specs.CompositeFiles.{Part, composite, field_of};
 ghost use Rattle.seg_norms.specs.FieldNorms.{norms_parts};
-ghost use Rattle.seg_norms.specs.NormsRead.{lengths_of_parts, lengths_for, norms_of, HaveIds, AreNorms, HoldNorms};
+ghost use Rattle.seg_norms.specs.StoredNorms.{lengths_of_parts, lengths_for, norms_of, HaveIds, AreNorms, HoldNorms};
 
 use crate::field_norm_reader::FieldNormReader;
 use seg_common::OwnedBytes;
@@ -19,8 +19,8 @@ pub struct FieldNormReaders {
 
 impl Model for FieldNormReaders {
     ghost use Rattle.std.specs.Prelude.{List};
-    ghost use Rattle.seg_directory.specs.Composite.{Part};
-    ghost use Rattle.seg_norms.specs.NormsRead.{HaveIds};
+    ghost use Rattle.seg_directory.specs.CompositeFiles.{Part};
+    ghost use Rattle.seg_norms.specs.StoredNorms.{HaveIds};
 
     ghost Value = { List Part };
 

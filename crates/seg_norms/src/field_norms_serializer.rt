@@ -1,7 +1,7 @@
 //! The file of length ids.
 ghost use Rattle.std.specs.Prelude.{◌≡◌, ◌≢◌, ◌≤◌, ◌<◌, ◌-◌, ◌^◌, [], ◌∷◌, ◌++◌, Some, None, IfOk, IfErr, IfSome, OnOk};
-ghost use Rattle.seg_common.specs.Growing.{HasGrown};
-ghost use Rattle.seg_directory.specs.Composite.{composite, low_after};
+ghost use Rattle.seg_common.specs.WriterGrowth.{HasGrown};
+ghost use Rattle.seg_directory.specs.CompositeFiles.{composite, low_after};
 
 use seg_directory::CompositeWriter;
 use seg_values::{Field, PostingsError};
@@ -17,7 +17,7 @@ pub struct FieldNormsSerializer {
 
 impl Model for FieldNormsSerializer {
     ghost use Rattle.std.specs.Prelude.{List, Option};
-    ghost use Rattle.seg_directory.specs.Composite.{Part};
+    ghost use Rattle.seg_directory.specs.CompositeFiles.{Part};
 
     ghost Value = { Option (List Part) };
 

@@ -1,7 +1,7 @@
 //! The lengths of fields while documents are added.
 ghost use Rattle.std.specs.Prelude.{◌≡◌, ◌≤◌, ◌<◌, ◌^◌, ℕ, List, Option, Some, None, [], if◌then◌else◌, map, option_map, option_and_then, IfOk, IfErr, IfSome, OnOk};
 ghost use Rattle.std.specs.List.{slice_get};
-ghost use Rattle.seg_common.specs.Growing.{HasGrown};
+ghost use Rattle.seg_common.specs.WriterGrowth.{HasGrown};
 ghost use Rattle.seg_model.specs.Fields as fields;
 ghost use Rattle.seg_norms.specs.FieldNorms.{no_norms, fields_with_lengths, filled, with_length, at_field};
 

@@ -12,10 +12,10 @@ use Rattle.std.proofs.lemmas.Map.Keys.{any_passes_from_place}
 use Rattle.std.proofs.lemmas.Option.{get_or_from_slice_get, none-some, same_Some, slice_get_within}
 use Rattle.std.proofs.lemmas.Slice.Eq.{bytes_eq-Decides}
 use Rattle.std.specs.Cmp.{first_so, second_so}
-use Rattle.seg_common.specs.Tables.{is_among}
+use Rattle.seg_common.specs.TabulatedMaps.{is_among}
 use Rattle.seg_common.specs.declared.column_type.ColumnType.TheVariants.{Str}
 use Rattle.seg_values.specs.NameSearch.{Finds, longest_part, no_part, whole_name}
-use Rattle.seg_values.specs.Names.{field_named, is_allowed}
+use Rattle.seg_values.specs.FieldNames.{field_named, is_allowed}
 use Rattle.seg_values.specs.SchemaRules.{is_entry, is_kept_as, is_basic, is_schema}
 use Rattle.seg_values.specs.declared.error.TantivyError.{TantivyError}
 use Rattle.seg_values.specs.declared.error.TantivyError.TheVariants.{OutOfMemory}
@@ -30,7 +30,7 @@ use Rattle.seg_column_file.specs.ColumnFiles.{ColumnFile, NamedColumn, is_select
 use Rattle.seg_column_format.specs.ModelColumns.{column_key}
 use Rattle.seg_fastfield.specs.Answers.{GoesBy, IsRefused}
 use Rattle.seg_fastfield.specs.ColumnNames.{FindsNotFast, IsNotFast, StandsFor, found_path, is_fast, path_in}
-use Rattle.seg_fastfield.specs.Reading.{FastFields, columns_at, first_of, or_first, str_column}
+use Rattle.seg_fastfield.specs.OpenFastFields.{FastFields, columns_at, first_of, or_first, str_column}
 use Rattle.seg_model.specs.Columns.{ColumnKey, column_cmp, declared_columns, declared_type, is_declared}
 use Rattle.seg_model.specs.Fields.{Schema, is_facet}
 use Rattle.seg_model.specs.Shape.{HasFullShape}

@@ -12,14 +12,14 @@ use Rattle.std.proofs.lemmas.Option.{none-some}
 use Rattle.seg_common.proofs.Bools.{first_holds, second_holds}
 use Rattle.seg_values.specs.declared.schema.FieldEntry.{FieldEntry}
 use Rattle.seg_values.specs.declared.schema.IndexOption.{IndexOption}
-use Rattle.seg_model.specs.Reading.{Posting, term_option}
+use Rattle.seg_model.specs.DocumentTerms.{Posting, term_option}
 use Rattle.seg_model.specs.Shape.{ArePostings, IsTermWith}
-use Rattle.seg_directory.specs.Composite.{Part}
-use Rattle.seg_postings.specs.FieldWriting.{TermWritten}
-use Rattle.seg_postings.specs.FieldReading.{IsFieldBy, rules_of}
+use Rattle.seg_directory.specs.CompositeFiles.{Part}
+use Rattle.seg_postings.specs.FieldSerializers.{TermWritten}
+use Rattle.seg_postings.specs.OpenedFields.{IsFieldBy, rules_of}
 use Rattle.seg_postings.specs.TermForms.{has_form}
 use Rattle.seg_postings.proofs.Exports.{form_of_term}
-use Rattle.seg_open.specs.FieldOpening.{MayHold}
+use Rattle.seg_open.specs.OpenedFieldParts.{MayHold}
 
 -- ---- each entry of a map is found by its key
 

@@ -1,16 +1,16 @@
 pub mod Exports
-mod AliveRead
-mod Disagreeing
+mod AliveFileReads
+mod IncompleteFiles
 mod FacetFields
-mod FieldsFit
+mod FittingFields
 mod HeldFields
-mod Marks
-mod OpenLaws
-mod OpenSpells
-mod Opened
-mod OpenedLaws
+mod DocumentMarks
+mod OpeningReads
+mod OpenContents
+mod OpeningOutcomes
+mod OpenedSegments
 mod OpeningOnDisk
 mod OpeningSteps
-mod PlacesOpened
-mod Stages
-mod Unopened
+mod OpenedPlaces
+mod OpeningStages
+mod UnopenedFiles

@@ -2,12 +2,12 @@
 use Rattle.std.proofs.Common.{ℕ, List, Option, Some, None, Result, IsTrue}
 use Rattle.seg_directory.proofs.Exports.{AllCalls, OnlyReads, keeps_disk}
 use Rattle.seg_directory.specs.DiskChanges.{KeepsDisk}
-use Rattle.seg_directory.specs.State.{DirectoryState}
+use Rattle.seg_directory.specs.DirectoryStates.{DirectoryState}
 use Rattle.seg_values.specs.declared.error.TantivyError.{TantivyError}
 use Rattle.seg_meta.specs.IndexOfFiles.{Deletes}
 use Rattle.seg_meta.specs.Metas.{SegmentParts}
 use Rattle.seg_open.specs.OpenSegment.{OpenSegment}
-use Rattle.seg_open.specs.SegmentOpened.{Asked, Found, Opens, alive_steps, segment_steps}
+use Rattle.seg_open.specs.OpeningSteps.{Asked, Found, Opens, alive_steps, segment_steps}
 
 alive_only : (id documents : ℕ) (deletes : Option Deletes) (bytes : List ℕ) → AllCalls OnlyReads (alive_steps id documents deletes bytes)
 alive_only id documents None bytes = tt

@@ -7,15 +7,15 @@ use Rattle.seg_common.proofs.Lists.{drop-slice_get, take-slice_get}
 use Rattle.seg_values.specs.declared.error.TantivyError.{TantivyError}
 use Rattle.seg_values.specs.declared.error.TantivyError.TheVariants.{OutOfMemory}
 use Rattle.seg_directory.proofs.Exports.{broke, does_nothing, stops, then_does, went}
-use Rattle.seg_directory.specs.Does.{GoesOn}
-use Rattle.seg_directory.specs.State.{DirectoryState}
-use Rattle.seg_directory.specs.Works.{Step, StepGoes, StepBreaks, Works}
+use Rattle.seg_directory.specs.StepSequences.{GoesOn}
+use Rattle.seg_directory.specs.DirectoryStates.{DirectoryState}
+use Rattle.seg_directory.specs.DirectorySteps.{Step, StepGoes, StepBreaks, Works}
 use Rattle.seg_meta.specs.IndexOfFiles.{Deletes}
 use Rattle.seg_meta.specs.Metas.{SegmentParts}
 use Rattle.seg_model.specs.Input.{Filter}
 use Rattle.seg_model.specs.Operations.{filtered_by}
 use Rattle.seg_open.specs.OpenSegment.{OpenSegment}
-use Rattle.seg_open.specs.SegmentOpened.{AreFound, AreReadersOf, Asked, FilterFits, FiltersFit, Found, HasFilesOf, Opens, OpensFiles, OpensSegments, ReadsAlive, all_steps, asked_of, segment_steps}
+use Rattle.seg_open.specs.OpeningSteps.{AreFound, AreReadersOf, Asked, FilterFits, FiltersFit, Found, HasFilesOf, Opens, OpensFiles, OpensSegments, ReadsAlive, all_steps, asked_of, segment_steps}
 
 -- ---- steps that end in another way
 

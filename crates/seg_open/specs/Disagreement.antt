@@ -6,9 +6,9 @@ use Rattle.seg_common.specs.declared.name.SegmentComponent.TheVariants.{Terms, S
 use Rattle.seg_model.specs.Contents.{Contents}
 use Rattle.seg_model.specs.Fields.{Schema}
 use Rattle.seg_segment.specs.SegmentFiles.{bytes_of}
-use Rattle.seg_segment.specs.Spelling.{Spell}
+use Rattle.seg_segment.specs.SpelledContents.{Spell}
 use Rattle.seg_segment.specs.declared.segment_files.SegmentFiles.{SegmentFiles}
-use Rattle.seg_open.specs.Soundness.{IsSound}
+use Rattle.seg_open.specs.SoundFiles.{IsSound}
 use Rattle.seg_open.specs.declared.open_error.OpenError.{OpenError}
 use Rattle.seg_open.specs.declared.open_error.OpenError.TheVariants.{Damaged, OutOfMemory}
 

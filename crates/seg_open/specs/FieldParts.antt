@@ -1,7 +1,7 @@
 -- The parts of fields in composite files.
 use Rattle.std.specs.Prelude.{ℕ, List, Option}
 use Rattle.std.specs.Option.{option_and_then, option_map}
-use Rattle.seg_directory.specs.Composite.{composite, field_of}
+use Rattle.seg_directory.specs.CompositeFiles.{composite, field_of}
 use Rattle.seg_termdict.specs.Dictionary.{Term, terms_of}
 
 -- the part of a field

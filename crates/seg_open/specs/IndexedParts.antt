@@ -1,8 +1,8 @@
 -- A composite file with a part for each field that is indexed.
 use Rattle.std.specs.Prelude.{◌≡◌, ℕ, List, map, Some}
 use Rattle.seg_model.specs.Fields.{Schema}
-use Rattle.seg_directory.specs.Composite.{Part, composite}
-use Rattle.seg_segment.specs.HoldTerms.{indexed_fields}
+use Rattle.seg_directory.specs.CompositeFiles.{Part, composite}
+use Rattle.seg_segment.specs.TermFiles.{indexed_fields}
 
 -- the fields that have a part
 abbrev pub part_fields : List Part → List ℕ

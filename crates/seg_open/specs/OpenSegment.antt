@@ -7,14 +7,14 @@ use Rattle.seg_bits.specs.BitSets.{member_count}
 use Rattle.seg_model.specs.Contents.{Contents}
 use Rattle.seg_model.specs.Fields.{Schema}
 use Rattle.seg_model.specs.Join as join
-use Rattle.seg_model.specs.Reading.{Terms}
+use Rattle.seg_model.specs.DocumentTerms.{Terms}
 use Rattle.seg_model.specs.Shape.{HasFullShape}
-use Rattle.seg_directory.specs.Composite.{Part}
+use Rattle.seg_directory.specs.CompositeFiles.{Part}
 use Rattle.seg_store.specs.Block.{Block}
 use Rattle.seg_store.specs.Store.{documents_of}
-use Rattle.seg_postings.specs.FieldReading.{OpenField, written_terms}
-use Rattle.seg_postings.specs.HeldTerms.{terms_held}
-use Rattle.seg_norms.specs.NormsRead.{norms_of}
+use Rattle.seg_postings.specs.OpenedFields.{OpenField, written_terms}
+use Rattle.seg_postings.specs.TermMaps.{terms_held}
+use Rattle.seg_norms.specs.StoredNorms.{norms_of}
 use Rattle.seg_open.specs.declared.file_sizes.FileSizes.{FileSizes}
 
 -- the id, the schema and the number of documents; for each field its terms, where it is indexed; the blocks of the

@@ -2,7 +2,7 @@
 use Rattle.std.specs.Prelude.{◌≡◌, ◌+◌, ◌*◌, [], Option, Some, if◌then◌else◌}
 use Rattle.std.specs.List.{list_all}
 use Rattle.seg_bits.specs.BitSets.{member_count, words_for}
-use Rattle.seg_postings.specs.FieldReading.{OpenField}
+use Rattle.seg_postings.specs.OpenedFields.{OpenField}
 use Rattle.seg_open.specs.OpenSegment.{OpenSegment}
 use Rattle.seg_open.specs.declared.space_usage.SegmentSpaceUsage.{SegmentSpaceUsage}
 

@@ -5,7 +5,7 @@ ghost use Rattle.seg_meta.specs.Metas.{deletes_of};
 ghost use Rattle.seg_model.specs.Operations.{filtered_by};
 ghost use Rattle.seg_open.specs.Answers.{seen_as};
 ghost use Rattle.seg_open.specs.OpenSegment.{LacksSome, alive_of};
-ghost use Rattle.seg_open.specs.SegmentOpened.{IsCut, ReadsAlive, alive_in};
+ghost use Rattle.seg_open.specs.OpeningSteps.{IsCut, ReadsAlive, alive_in};
 
 use seg_bits::{AliveBitSet, intersect_alive_bitsets};
 use seg_common::{FileName, OwnedBytes, SegmentId};

@@ -1,7 +1,7 @@
 //! The file of terms: the dictionaries of all fields.
 ghost use Rattle.std.specs.Prelude.{◌≡◌, ◌<◌, ◌-◌, ◌^◌, ◌++◌, ◌∷◌, [], true, length, IfOk, IfErr, OnOk};
 ghost use Rattle.seg_model.specs.Fields.{is_indexed};
-ghost use Rattle.seg_open.specs.FilesOpening.{AreFirst, IsFirst, IsFirstAt, IsTold, LacksDictionary, OneLacksDictionary, TermsOpened, TermsUnopened};
+ghost use Rattle.seg_open.specs.OpenedTermFiles.{AreFirst, IsFirst, IsFirstAt, IsTold, LacksDictionary, OneLacksDictionary, TermsOpened, TermsUnopened};
 
 use crate::open_error::OpenError;
 use crate::term_files::open_parts;

@@ -1,6 +1,6 @@
 //! The file of positions, with which the terms of all fields are open.
 ghost use Rattle.std.specs.Prelude.{◌≡◌, ◌<◌, ◌-◌, ◌^◌, ◌++◌, ◌∷◌, [], length, Some, IfOk, IfErr, IsSomeAnd, OnOk};
-ghost use Rattle.seg_open.specs.FilesOpening.{AddsPositions, AllGoOn, GoesOn, IsTold, LacksPositions, OneStops, PositionsOpened, PositionsUnopened};
+ghost use Rattle.seg_open.specs.OpenedTermFiles.{AddsPositions, AllGoOn, GoesOn, IsTold, LacksPositions, OneStops, PositionsOpened, PositionsUnopened};
 
 use crate::open_error::OpenError;
 use crate::term_files::open_parts;

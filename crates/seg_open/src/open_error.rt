@@ -1,6 +1,6 @@
 //! Why a segment can't be opened.
 ghost use Rattle.std.specs.Prelude.{◌≡◌};
-ghost use Rattle.seg_open.specs.SegmentOpened.{error_of};
+ghost use Rattle.seg_open.specs.OpeningSteps.{error_of};
 
 use seg_common::{FileName, SegmentComponent, SegmentId};
 use seg_values::TantivyError;

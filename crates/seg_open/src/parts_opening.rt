@@ -1,11 +1,11 @@
 //! The store, the columns and the length ids of a segment, each checked against its number of documents.
 ghost use Rattle.std.specs.Prelude.{◌≡◌, ◌≢◌, ℕ, List, length, Some, None, MatchOption, MatchResult};
 ghost use Rattle.seg_column_file.specs.ColumnFiles.{column_file_of};
-ghost use Rattle.seg_open.specs.FilesOpening.{IsTold};
+ghost use Rattle.seg_open.specs.OpenedTermFiles.{IsTold};
 ghost use Rattle.seg_column_format.specs.SchemaColumns.{HoldColumns};
-ghost use Rattle.seg_directory.specs.Composite.{composite};
+ghost use Rattle.seg_directory.specs.CompositeFiles.{composite};
 ghost use Rattle.seg_norms.specs.FieldNorms.{norms_parts};
-ghost use Rattle.seg_norms.specs.NormsRead.{norms_of, AreNorms, HoldNorms};
+ghost use Rattle.seg_norms.specs.StoredNorms.{norms_of, AreNorms, HoldNorms};
 ghost use Rattle.seg_store.specs.Block.{Block};
 ghost use Rattle.seg_store.specs.Store.{store_of, documents_of};
 

@@ -1,6 +1,6 @@
 //! The file of postings: those of all fields whose dictionaries are open.
 ghost use Rattle.std.specs.Prelude.{◌≡◌, ◌<◌, ◌-◌, ◌^◌, ◌++◌, ◌∷◌, [], length, IfOk, IfErr, IsSomeAnd, OnOk};
-ghost use Rattle.seg_open.specs.FilesOpening.{AddsPostings, AllGoOn, GoesOn, IsTold, LacksPostings, OneStops, PostingsOpened, PostingsUnopened};
+ghost use Rattle.seg_open.specs.OpenedTermFiles.{AddsPostings, AllGoOn, GoesOn, IsTold, LacksPostings, OneStops, PostingsOpened, PostingsUnopened};
 
 use crate::open_error::OpenError;
 use crate::term_files::open_parts;

@@ -3,11 +3,11 @@ ghost use Rattle.std.specs.Prelude.{◌≡◌, true, length, map, is_some, None,
 ghost use Rattle.seg_directory.specs.DiskChanges.{KeepsDisk};
 ghost use Rattle.seg_meta.specs.IndexOfFiles as index;
 ghost use Rattle.seg_model.specs.Fields.{is_indexed};
-ghost use Rattle.seg_segment.specs.Forms.{segment_forms};
-ghost use Rattle.seg_segment.specs.Holds.{Holds};
+ghost use Rattle.seg_segment.specs.IndexForms.{segment_forms};
+ghost use Rattle.seg_segment.specs.FileContents.{Holds};
 ghost use Rattle.seg_open.specs.Disagreement.{IsWhyNotOpen};
 ghost use Rattle.seg_open.specs.OpenSegment.{LacksSome, alive_of, contents_of};
-ghost use Rattle.seg_open.specs.SegmentOpened.{HasFilesOf, IsNoDamage, Opens, OpensFiles};
+ghost use Rattle.seg_open.specs.OpeningSteps.{HasFilesOf, IsNoDamage, Opens, OpensFiles};
 
 use crate::alive_reading::{cut_by, read_deletes};
 use crate::dictionaries_opening::open_dictionaries;

@@ -1,7 +1,7 @@
 //! Segments that are opened one after another.
 ghost use Rattle.std.specs.Prelude.{◌≡◌, ◌++◌, ◌∷◌, [], ◌<◌, length, slice_get, Some, IfOk, IfSome, vec_len, vec_capacity};
 ghost use Rattle.seg_open.specs.Answers.{seen_as};
-ghost use Rattle.seg_open.specs.SegmentOpened.{FiltersFit, OpensNext, OpensSegments, asked_of};
+ghost use Rattle.seg_open.specs.OpeningSteps.{FiltersFit, OpensNext, OpensSegments, asked_of};
 
 use crate::segment_reader::SegmentReader;
 use seg_bits::AliveBitSet;

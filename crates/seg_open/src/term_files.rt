@@ -1,6 +1,6 @@
 //! A file that has a part for each field that is indexed.
 ghost use Rattle.std.specs.Prelude.{◌≡◌, ◌≢◌, slice_get, Some, MatchBool, MatchOption};
-ghost use Rattle.seg_segment.specs.HoldTerms.{indexed_fields};
+ghost use Rattle.seg_segment.specs.TermFiles.{indexed_fields};
 ghost use Rattle.seg_open.specs.IndexedParts.{part_fields, HaveIndexedParts, LackIndexedParts};
 
 use seg_common::OwnedBytes;

@@ -1,14 +1,14 @@
 pub mod Exports
-mod AddingSizes
-mod Below
-mod Chains
-mod Cutting
-mod Ended
-mod GivingOffsets
-mod GivingRanks
-mod Numbers
+mod SlotSizes
+mod NodePaths
+mod NodeChains
+mod KeyCuts
+mod EndedPaths
+mod NodeOffsets
+mod NodeRanks
+mod PathNumbers
 mod Orders
-mod Ranking
-mod Up
-mod Walking
-mod Zeros
+mod RankOrder
+mod PathAncestors
+mod FoundLeaves
+mod ZeroFreeKeys

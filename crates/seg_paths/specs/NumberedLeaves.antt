@@ -1,7 +1,7 @@
 -- The leaves of a value, each with the number of its joined path.
 use Rattle.std.specs.Prelude.{◌≡◌, ◌<◌, ℕ, Bool, List, [], length, Option, None, Some}
 use Rattle.seg_values.specs.Tree.{Leaf, null, Tree, leaf, array, object}
-use Rattle.seg_values.specs.View.{tree_of}
+use Rattle.seg_values.specs.ValueTrees.{tree_of}
 use Rattle.seg_model.specs.Leaves.{PlacedLeaf, joined_path}
 use Rattle.seg_paths.specs.Paths.{number_of}
 use Rattle.seg_paths.specs.declared.leaves.NumberedLeaf.{NumberedLeaf}

@@ -2,7 +2,7 @@
 use Rattle.std.specs.Prelude.{◌≡◌, ◌<◌, ℕ, suc, List, [], ◌∷◌, ◌++◌, true, length, reverse, Option, None, Some}
 use Rattle.std.specs.List.{AllByRecursion, position, slice_index_or}
 use Rattle.std.specs.Str.{bytes_eq}
-use Rattle.seg_model.specs.Checked.{has_no_zero}
+use Rattle.seg_model.specs.DocumentCheck.{has_no_zero}
 
 -- the number of a path, if it has one
 abbrev pub number_of : List (List ℕ) → List ℕ → Option ℕ

@@ -1,10 +1,10 @@
 //! The leaves of a value, each with the number of its path.
 ghost use Rattle.std.specs.Prelude.{◌≡◌, None, Some, Bool, List, ℕ, ◌++◌, map, IfOk, OnOk};
-ghost use Rattle.seg_model.specs.Checked.{tree_refusal};
+ghost use Rattle.seg_model.specs.DocumentCheck.{tree_refusal};
 ghost use Rattle.seg_model.specs.Leaves.{PlacedLeaf, leaves, leaves_at, joined_path};
 ghost use Rattle.seg_paths.specs.NumberedLeaves.{numbered, in_table, IsPathOf};
 ghost use Rattle.seg_paths.specs.Paths.{Extends, IsAbove, number_of};
-ghost use Rattle.seg_values.specs.View.{tree_of};
+ghost use Rattle.seg_values.specs.ValueTrees.{tree_of};
 
 use crate::path_table::PathTable;
 use seg_values::OwnedValue;

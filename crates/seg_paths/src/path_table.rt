@@ -3,7 +3,7 @@ ghost use Rattle.std.specs.Prelude.{◌≡◌, ◌<◌, ◌^◌, [], ◌∷◌, 
 ghost use Rattle.std.specs.List.{IsDistinct, list_any};
 ghost use Rattle.std.specs.Str.{bytes_eq};
 ghost use Rattle.seg_common.specs.JsonPaths.{written_key};
-ghost use Rattle.seg_model.specs.Checked.{has_no_zero};
+ghost use Rattle.seg_model.specs.DocumentCheck.{has_no_zero};
 ghost use Rattle.seg_paths.specs.Nodes.{IsPart, asked, node_eq};
 ghost use Rattle.seg_paths.specs.Ranks.{AreRanks};
 ghost use Rattle.seg_paths.specs.Paths.{Extends, HaveNoZero, IsAbove, StepsUp, below, number_of};

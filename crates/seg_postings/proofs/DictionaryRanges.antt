@@ -2,10 +2,10 @@
 use Rattle.std.proofs.Common.{◌≡◌, ℕ, zero, suc, ◌+◌, ◌<◌, ◌≤◌, List, None, sym, arith, subst}
 use Rattle.std.specs.List.{AllByRecursion}
 use Rattle.seg_termdict.specs.Dictionary.{AreInfos, postings_start, positions_start, info_of, term_of, terms_in, count_of, ends_of, keys_of, infos_of, IsDictionary, terms_of}
-use Rattle.seg_termdict.specs.Building.{last_term, postings_end, positions_end}
+use Rattle.seg_termdict.specs.DictionaryBuilders.{last_term, postings_end, positions_end}
 use Rattle.seg_termdict.proofs.Exports.{last_term-terms_in, terms_in-more}
 use Rattle.seg_postings.specs.FieldParts.{LiesWithin}
-use Rattle.seg_postings.proofs.TermsRead.{within-more, within-push}
+use Rattle.seg_postings.proofs.GrownTerms.{within-more, within-push}
 
 module _ (ends keys infos : List ℕ) where
   rises : (n : ℕ) → ((i : ℕ) → i < n → postings_start infos i ≤ postings_start infos (i + 1)) → ((i : ℕ) → i < n → positions_start infos i ≤ positions_start infos (i + 1))

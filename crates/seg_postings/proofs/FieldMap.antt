@@ -5,11 +5,11 @@ use Rattle.std.specs.List.Sorted.{IsStrictlySortedBy}
 use Rattle.std.specs.Ordering.{nat_cmp}
 use Rattle.std.specs.Cmp.Lexicographic.{slice_cmp}
 use Rattle.seg_values.proofs.Exports.{is_sorted-rising}
-use Rattle.seg_model.specs.Reading.{Posting}
+use Rattle.seg_model.specs.DocumentTerms.{Posting}
 use Rattle.seg_termdict.specs.Dictionary.{Term}
-use Rattle.seg_postings.specs.FieldReading.{OpenField, ReadTerm, read_term, written_terms}
-use Rattle.seg_postings.specs.FieldWriting.{TermWritten}
-use Rattle.seg_postings.specs.HeldTerms.{terms_held}
+use Rattle.seg_postings.specs.OpenedFields.{OpenField, ReadTerm, read_term, written_terms}
+use Rattle.seg_postings.specs.FieldSerializers.{TermWritten}
+use Rattle.seg_postings.specs.TermMaps.{terms_held}
 
 -- a term with its postings
 abbrev pair_of : ReadTerm → List ℕ × List Posting

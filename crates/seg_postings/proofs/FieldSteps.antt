@@ -9,21 +9,21 @@ use Rattle.seg_common.specs.Varint.{varint}
 use Rattle.seg_common.specs.declared.term_info.TermInfo.{TermInfo}
 use Rattle.seg_common.proofs.Bytes.{u64_at-front, u64_at-end}
 use Rattle.seg_termdict.specs.Dictionary.{Term}
-use Rattle.seg_termdict.specs.Building.{Building, complete, with_key, with_info, postings_end, positions_end}
+use Rattle.seg_termdict.specs.DictionaryBuilders.{Building, complete, with_key, with_info, postings_end, positions_end}
 use Rattle.seg_termdict.proofs.Exports.{last_term-push}
-use Rattle.seg_model.specs.Reading.{Posting}
+use Rattle.seg_model.specs.DocumentTerms.{Posting}
 use Rattle.seg_postings.specs.declared.record_kind.RecordKind.{RecordKind}
 use Rattle.seg_postings.specs.declared.open_term.OpenTerm.{OpenTerm}
-use Rattle.seg_postings.specs.Kinds.{kind_byte}
-use Rattle.seg_postings.specs.PostingsForm.{differences, postings_form, positions_form, document_form, documents_form}
+use Rattle.seg_postings.specs.RecordKinds.{kind_byte}
+use Rattle.seg_postings.specs.PostingsBytes.{differences, postings_form, positions_form, document_form, documents_form}
 use Rattle.seg_postings.specs.Postings.{TermPostings, term_postings}
-use Rattle.seg_postings.specs.Written.{recorded_as}
+use Rattle.seg_postings.specs.WritablePostings.{recorded_as}
 use Rattle.seg_postings.specs.Field.{term_at, terms_at}
-use Rattle.seg_postings.specs.FieldWriting.{TermWritten, fresh, with_term, with_document, closed, next_document, MayOccur}
+use Rattle.seg_postings.specs.FieldSerializers.{TermWritten, fresh, with_term, with_document, closed, next_document, MayOccur}
 use Rattle.seg_postings.specs.FieldParts.{last_document, occurrence_form, open_term, writing, IsOpenTerm, AreParts}
-use Rattle.seg_postings.proofs.TermsRead.{term_in, terms_at-front, within-more, within-push, terms_at-push, occurs-push}
-use Rattle.seg_postings.proofs.OpenSteps.{count_form_is, position_form_is, is_of_kind, documents_form-push, positions_form-push, last_document-push, next_document-push, writable-push, last_before_next}
-use Rattle.seg_postings.proofs.PostingsBack.{term_back}
+use Rattle.seg_postings.proofs.GrownTerms.{term_in, terms_at-front, within-more, within-push, terms_at-push, occurs-push}
+use Rattle.seg_postings.proofs.AddedPostings.{count_form_is, position_form_is, is_of_kind, documents_form-push, positions_form-push, last_document-push, next_document-push, writable-push, last_before_next}
+use Rattle.seg_postings.proofs.PostingsRoundTrips.{term_back}
 
 -- what parts are seen as
 pub closed_view : (field total : ℕ) (dictionary : Option Building) (postings positions : List ℕ) (i : AreParts total dictionary postings positions None) → writing field total dictionary (drop 8 postings) positions None ≡ record { field = field; total = total; terms = i.terms; current = None }

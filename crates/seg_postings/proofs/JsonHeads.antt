@@ -10,7 +10,7 @@ use Rattle.std.proofs.lemmas.Bool.{cases_lt, eqb-true, false≢true}
 use Rattle.std.proofs.lemmas.List.{take_all}
 use Rattle.std.proofs.lemmas.Cmp.{nat_cmp_total, nat_list_cmp_total, ranked, tied_itself}
 use Rattle.std.proofs.lemmas.Map.Text.{is_eq-slice_cmp}
-use Rattle.seg_model.specs.Reading.{type_code}
+use Rattle.seg_model.specs.DocumentTerms.{type_code}
 use Rattle.seg_model.specs.Shape.{is_type_code, path_part}
 use Rattle.seg_postings.specs.JsonSpaces.{path_and_type}
 

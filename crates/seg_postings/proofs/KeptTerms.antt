@@ -9,20 +9,20 @@ use Rattle.std.proofs.lemmas.Bool.{and_from}
 use Rattle.seg_values.specs.declared.schema.FieldEntry.{FieldEntry}
 use Rattle.seg_values.specs.declared.schema.FieldKind.{FieldKind}
 use Rattle.seg_values.proofs.Exports.{is_sorted-rising}
-use Rattle.seg_common.proofs.Tables.{texts_apart, same_key}
-use Rattle.seg_model.specs.Reading.{Posting, term_option}
+use Rattle.seg_common.proofs.TabulatedMaps.{texts_apart, same_key}
+use Rattle.seg_model.specs.DocumentTerms.{Posting, term_option}
 use Rattle.seg_model.specs.Shape.{ArePostings, IsTermWith}
 use Rattle.seg_termdict.specs.Dictionary.{Term, terms_of}
 use Rattle.seg_termdict.proofs.Exports.{dictionary_sorted}
 use Rattle.seg_postings.specs.Postings.{term_postings}
 use Rattle.seg_postings.specs.Field.{term_at, terms_at}
-use Rattle.seg_postings.specs.FieldReading.{FieldRules, IsFieldBy}
-use Rattle.seg_postings.specs.FieldWriting.{TermWritten}
-use Rattle.seg_postings.specs.HeldTerms.{TermsReadHaveShape}
-use Rattle.seg_postings.specs.Kinds.{kind_of}
+use Rattle.seg_postings.specs.OpenedFields.{FieldRules, IsFieldBy}
+use Rattle.seg_postings.specs.FieldSerializers.{TermWritten}
+use Rattle.seg_postings.specs.TermMaps.{TermsReadHaveShape}
+use Rattle.seg_postings.specs.RecordKinds.{kind_of}
 use Rattle.seg_postings.specs.TermForms.{IsDictionaryOf, has_form, is_formed}
-use Rattle.seg_postings.proofs.FormedTerms.{term_formed}
-use Rattle.seg_postings.proofs.ReadRising.{after, mapped, read_rise}
+use Rattle.seg_postings.proofs.TermForms.{term_formed}
+use Rattle.seg_postings.proofs.AscendingPostings.{after, mapped, read_rise}
 
 -- a term with its postings
 abbrev entry_of : TermWritten → List ℕ × List Posting

@@ -4,7 +4,7 @@ use Rattle.std.specs.Prelude.{IsSomeAnd, slice_get, option_map}
 use Rattle.std.proofs.lemmas.Option.{slice_get-get_or}
 use Rattle.seg_common.specs.declared.term_info.TermInfo.{TermInfo}
 use Rattle.seg_termdict.specs.Dictionary.{Term}
-use Rattle.seg_termdict.specs.Building.{last_term}
+use Rattle.seg_termdict.specs.DictionaryBuilders.{last_term}
 
 last_is : (before : Option Term) (terms : List Term) (i : ℕ) → length terms ≡ suc i → last_term before terms ≡ slice_get terms i
 last_is before [] i e = absurd (omega (arith, e))

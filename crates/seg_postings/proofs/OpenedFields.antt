@@ -5,13 +5,13 @@ use Rattle.std.proofs.lemmas.Bool.{false≢true, and_parts}
 use Rattle.std.proofs.lemmas.List.{length-drop, take_all}
 use Rattle.seg_common.specs.LittleEndian.{u64_at}
 use Rattle.seg_termdict.specs.Dictionary.{Term, IsDictionary, terms_of}
-use Rattle.seg_termdict.specs.Building.{last_term, postings_end, positions_end}
+use Rattle.seg_termdict.specs.DictionaryBuilders.{last_term, postings_end, positions_end}
 use Rattle.seg_postings.specs.FieldParts.{LiesWithin}
-use Rattle.seg_postings.specs.FieldWriting.{TermWritten}
+use Rattle.seg_postings.specs.FieldSerializers.{TermWritten}
 use Rattle.seg_postings.specs.TermForms.{IsDictionaryOf, has_form, is_formed}
-use Rattle.seg_postings.specs.FieldReading.{FieldRules, IsFieldBy, is_read, IsReadable, OpenField, read_term, dictionary_terms, written_terms}
+use Rattle.seg_postings.specs.OpenedFields.{FieldRules, IsFieldBy, is_read, IsReadable, OpenField, read_term, dictionary_terms, written_terms}
 use Rattle.seg_postings.proofs.DictionaryRanges.{terms_within}
-use Rattle.seg_postings.proofs.FieldRead.{written, reads, reads_all, passes_all}
+use Rattle.seg_postings.proofs.CheckedFields.{written, reads, reads_all, passes_all}
 
 -- the ranges lie within parts that they fill
 pub within_parts : (dictionary postings positions : List ℕ) → IsDictionary dictionary → postings_end (last_term None (terms_of dictionary)) ≡ length postings → positions_end (last_term None (terms_of dictionary)) ≡ length positions → AllByRecursion (LiesWithin (length postings) (length positions)) (terms_of dictionary)

@@ -2,12 +2,12 @@
 use Rattle.std.proofs.Common.{◌≡◌, ℕ, ◌+◌, ◌-◌, ◌^◌, ◌<◌, ◌≤◌, List, ◌∷◌, Option, Some, None, refl, sym, ap, ◌∙◌, arith}
 use Rattle.std.specs.Prelude.{option_map}
 use Rattle.seg_common.proofs.Numbers.{one_left}
-use Rattle.seg_postings.specs.Passing.{Passed, Passes}
-use Rattle.seg_model.specs.Reading.{presence, frequency, positions}
+use Rattle.seg_postings.specs.PassedBytes.{Passed, Passes}
+use Rattle.seg_model.specs.DocumentTerms.{presence, frequency, positions}
 use Rattle.seg_postings.specs.declared.record_kind.RecordKind.{RecordKind}
 use Rattle.seg_postings.specs.declared.record_kind.RecordKind.TheVariants.{Documents, Counts, Positions}
 use Rattle.seg_postings.specs.Postings.{number_at, positions_at}
-use Rattle.seg_postings.specs.PostingsLeft.{recorded_at}
+use Rattle.seg_postings.specs.RemainingPostings.{recorded_at}
 
 -- what is left after what was read
 abbrev pub after : Option (List ℕ × List ℕ) → Option (List ℕ)

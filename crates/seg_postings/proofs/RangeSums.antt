@@ -3,7 +3,7 @@ use Rattle.std.proofs.Common.{◌≡◌, ℕ, zero, suc, ◌+◌, ◌-◌, ◌<�
 use Rattle.std.specs.List.{range_with_len, sum_by}
 use Rattle.std.proofs.lemmas.List.Sums.{sum_by-cons}
 use Rattle.seg_termdict.specs.Dictionary.{Term, AreInfos, postings_start, positions_start, info_of, term_of, terms_in, count_of, ends_of, keys_of, infos_of, IsDictionary, terms_of}
-use Rattle.seg_postings.specs.RangesFollow.{Follow, RangesFollow}
+use Rattle.seg_postings.specs.AdjacentRanges.{Follow, RangesFollow}
 
 module _ (begin end : Term → ℕ) where
   abbrev long : Term → ℕ

@@ -4,8 +4,8 @@ use Rattle.std.specs.Prelude.{option_map, nat_le, nat_lt}
 use borrow.Author.Tests.{ltb-true}
 use Rattle.seg_common.specs.Varint.{varint_at}
 use Rattle.seg_postings.specs.Postings.{in_bounds, number_at, positions_at}
-use Rattle.seg_postings.specs.Written.{Rise}
-use Rattle.seg_postings.proofs.ReadRising.{after, mapped}
+use Rattle.seg_postings.specs.WritablePostings.{Rise}
+use Rattle.seg_postings.proofs.AscendingPostings.{after, mapped}
 
 pub none_rise : (ps : List ℕ) → ps ≡ [] → Rise 0 ps
 none_rise ps none = subst (Rise 0) (sym none) tt

@@ -8,7 +8,7 @@ use Rattle.seg_common.specs.declared.term_info.TermInfo.{TermInfo}
 use Rattle.seg_values.specs.declared.schema.FieldKind.{FieldKind}
 use Rattle.seg_termdict.specs.Dictionary.{Term}
 use Rattle.seg_termdict.specs.SortedTerms.{RankedTerm}
-use Rattle.seg_termdict.specs.Streaming.{Stream, no_ranked, no_term, current, advanced, ranked_terms}
+use Rattle.seg_termdict.specs.TermStreams.{Stream, no_ranked, no_term, current, advanced, ranked_terms}
 use Rattle.seg_termdict.proofs.Exports.{ranked_at, ranked_length, ranked_of}
 use Rattle.seg_postings.specs.TermForms.{has_form, is_formed}
 

@@ -3,9 +3,9 @@ use Rattle.std.specs.Prelude.{◌≡◌, ℕ, ◌<◌, ◌≤◌, List, [], ◌�
 use Rattle.std.specs.List.{AllByRecursion}
 use Rattle.seg_common.specs.LittleEndian.{u64_at}
 use Rattle.seg_termdict.specs.Dictionary.{Term, IsDictionary, terms_of}
-use Rattle.seg_termdict.specs.Building.{last_term, postings_end, positions_end}
+use Rattle.seg_termdict.specs.DictionaryBuilders.{last_term, postings_end, positions_end}
 use Rattle.seg_postings.specs.Postings.{TermPostings, term_postings}
-use Rattle.seg_postings.specs.FieldWriting.{TermWritten}
+use Rattle.seg_postings.specs.FieldSerializers.{TermWritten}
 
 -- a term of the dictionary, with its ranges of the postings and of the positions
 abbrev pub term_at : List ℕ → List ℕ → Term → Option TermWritten

@@ -4,16 +4,16 @@ use Rattle.std.specs.List.{AllByRecursion}
 use Rattle.seg_common.specs.LittleEndian.{u64_at}
 use Rattle.seg_common.specs.Varint.{varint}
 use Rattle.seg_termdict.specs.Dictionary.{Term}
-use Rattle.seg_termdict.specs.Building.{Building, last_term, postings_end, positions_end}
-use Rattle.seg_model.specs.Reading.{Posting}
+use Rattle.seg_termdict.specs.DictionaryBuilders.{Building, last_term, postings_end, positions_end}
+use Rattle.seg_model.specs.DocumentTerms.{Posting}
 use Rattle.seg_postings.specs.declared.open_term.OpenTerm.{OpenTerm}
 use Rattle.seg_postings.specs.declared.record_kind.RecordKind.{RecordKind}
 use Rattle.seg_postings.specs.declared.record_kind.RecordKind.TheVariants.{Documents, Counts, Positions}
-use Rattle.seg_postings.specs.PostingsForm.{postings_form, positions_form}
+use Rattle.seg_postings.specs.PostingsBytes.{postings_form, positions_form}
 use Rattle.seg_postings.specs.Postings.{TermPostings, term_postings}
-use Rattle.seg_postings.specs.Written.{AreWritable}
+use Rattle.seg_postings.specs.WritablePostings.{AreWritable}
 use Rattle.seg_postings.specs.Field.{terms_at}
-use Rattle.seg_postings.specs.FieldWriting.{TermWritten, FieldWriting, next_document}
+use Rattle.seg_postings.specs.FieldSerializers.{TermWritten, FieldWriting, next_document}
 
 -- the last document of some postings, or else the one before them
 abbrev pub last_document : ℕ → List Posting → ℕ

@@ -9,7 +9,7 @@ use Rattle.seg_values.specs.declared.schema.FieldKind.TheVariants.{Json}
 use Rattle.seg_termdict.specs.Dictionary.{Term}
 use Rattle.seg_postings.specs.declared.field_space.InvertedIndexFieldSpace.{InvertedIndexFieldSpace}
 use Rattle.seg_postings.specs.TermForms.{is_formed}
-use Rattle.seg_postings.specs.RangesFollow.{RangesFollow}
+use Rattle.seg_postings.specs.AdjacentRanges.{RangesFollow}
 use Rattle.seg_postings.specs.JsonSpaces.{path_and_type, beginning, AreSpaces}
 
 -- the terms of a dictionary of a JSON field

@@ -1,10 +1,10 @@
 -- What the bytes of a term's postings and positions are read as.
 use Rattle.std.specs.Prelude.{ℕ, zero, suc, ◌+◌, ◌-◌, ◌^◌, ◌&&◌, nat_lt, nat_le, if◌then◌else◌, List, [], ◌∷◌, map, Option, Some, None, option_map, option_and_then}
 use Rattle.seg_common.specs.Varint.{varint_at}
-use Rattle.seg_model.specs.Reading.{presence, frequency, positions, Posting}
+use Rattle.seg_model.specs.DocumentTerms.{presence, frequency, positions, Posting}
 use Rattle.seg_postings.specs.declared.record_kind.RecordKind.{RecordKind}
 use Rattle.seg_postings.specs.declared.record_kind.RecordKind.TheVariants.{Documents, Counts, Positions}
-use Rattle.seg_postings.specs.Kinds.{kind_of_byte}
+use Rattle.seg_postings.specs.RecordKinds.{kind_of_byte}
 
 -- a document, and how often the term occurs in it (1, where that isn't kept)
 pub record Counted : Type 0 where

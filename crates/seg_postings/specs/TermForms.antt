@@ -4,7 +4,7 @@ use Rattle.std.specs.List.{list_all}
 use Rattle.std.specs.Str.{is_utf8}
 use Rattle.seg_values.specs.declared.schema.FieldKind.{FieldKind}
 use Rattle.seg_values.specs.declared.schema.FieldKind.TheVariants.{Facet, Json}
-use Rattle.seg_model.specs.Reading.{type_code}
+use Rattle.seg_model.specs.DocumentTerms.{type_code}
 use Rattle.seg_model.specs.Shape.{is_type_code, path_part}
 use Rattle.seg_termdict.specs.Dictionary.{Term, IsDictionary, terms_of}
 

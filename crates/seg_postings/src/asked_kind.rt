@@ -1,7 +1,7 @@
 //! Which kind the entry of a field asks its terms for.
 ghost use Rattle.std.specs.Prelude.{◌≡◌, ◌<◌, length, IfOk, IfErr, IsSomeAnd, slice_get};
-ghost use Rattle.seg_model.specs.Reading as reading;
-ghost use Rattle.seg_postings.specs.FieldReading.{asked_kind};
+ghost use Rattle.seg_model.specs.DocumentTerms as reading;
+ghost use Rattle.seg_postings.specs.OpenedFields.{asked_kind};
 
 use crate::record_kind::RecordKind;
 use seg_termdict::{TermDictionary, TermOrdinal};

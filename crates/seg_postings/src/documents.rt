@@ -4,9 +4,9 @@
 //! Where they aren't, some of the bytes may be gone.
 ghost use Rattle.std.specs.Prelude.{◌≡◌, ◌-◌, ◌^◌, ◌<◌, ◌≤◌, None, Some, IfSome, MatchOption};
 ghost use Rattle.seg_common.specs.Varint.{varint_at};
-ghost use Rattle.seg_postings.specs.Passing.{Passes};
+ghost use Rattle.seg_postings.specs.PassedBytes.{Passes};
 ghost use Rattle.seg_postings.specs.Postings.{number_at, count_at, positions_at};
-ghost use Rattle.seg_postings.specs.PostingsLeft.{counted_at, recorded_at};
+ghost use Rattle.seg_postings.specs.RemainingPostings.{counted_at, recorded_at};
 
 use crate::record_kind::RecordKind;
 use seg_common::VInt;
@@ -61,7 +61,7 @@ fn take_positive(bytes: &mut &[u8]) -> Option<u32>
 }
 
 /// Takes a document, which is written as its difference from the one before, with its count.
-#[tactic(auto, unfolding(crate::specs::PostingsLeft::counted_at))]
+#[tactic(auto, unfolding(crate::specs::RemainingPostings::counted_at))]
 pub(crate) fn take_document(
     bytes: &mut &[u8],
     kind: RecordKind,

@@ -1,7 +1,7 @@
 //! The parts of a field whose postings are being written.
 ghost use Rattle.std.specs.Prelude.{◌≡◌, ◌<◌, Some, None, List, length, IfOk, IsSomeAnd, OnOk, OnErr};
 ghost use Rattle.seg_postings.specs.Field.{IsField};
-ghost use Rattle.seg_postings.specs.FieldWriting.{fresh, with_term, with_document, closed, MayOpen, MayOccur};
+ghost use Rattle.seg_postings.specs.FieldSerializers.{fresh, with_term, with_document, closed, MayOpen, MayOccur};
 
 use crate::field_postings::TOTAL_BYTES;
 use crate::occurrence::put_occurrence;
@@ -25,7 +25,7 @@ pub(crate) struct FieldParts {
 
 impl Model for FieldParts {
     ghost use Rattle.std.specs.Prelude.{drop};
-    ghost use Rattle.seg_postings.specs.FieldWriting.{FieldWriting};
+    ghost use Rattle.seg_postings.specs.FieldSerializers.{FieldWriting};
     ghost use Rattle.seg_postings.specs.FieldParts.{writing, AreParts};
 
     ghost Value = { FieldWriting };

@@ -1,9 +1,9 @@
 //! The dictionary and the postings of a field, which wait for its positions.
 ghost use Rattle.std.specs.Prelude.{◌≡◌, ◌⊎◌, ℕ, List, IfOk, IfErr, MatchBool};
 ghost use Rattle.seg_termdict.specs.Dictionary.{terms_of};
-ghost use Rattle.seg_postings.specs.Completing.{ArePostingsBy, NoneComplete};
-ghost use Rattle.seg_postings.specs.FieldWriting.{TermWritten};
-ghost use Rattle.seg_postings.specs.FieldReading.{IsFieldBy, dictionary_terms, written_terms};
+ghost use Rattle.seg_postings.specs.CompletedPostings.{ArePostingsBy, NoneComplete};
+ghost use Rattle.seg_postings.specs.FieldSerializers.{TermWritten};
+ghost use Rattle.seg_postings.specs.OpenedFields.{IsFieldBy, dictionary_terms, written_terms};
 
 use crate::field_terms::FieldTerms;
 use crate::inverted_index_reader::InvertedIndexReader;
@@ -28,8 +28,8 @@ pub struct FieldPostings {
 impl Model for FieldPostings {
     ghost use Rattle.std.specs.Prelude.{◌≡◌, ◌≤◌, None, length, drop};
     ghost use Rattle.seg_termdict.specs.Dictionary.{terms_of};
-    ghost use Rattle.seg_termdict.specs.Building.{last_term, postings_end};
-    ghost use Rattle.seg_postings.specs.FieldReading.{FirstParts};
+    ghost use Rattle.seg_termdict.specs.DictionaryBuilders.{last_term, postings_end};
+    ghost use Rattle.seg_postings.specs.OpenedFields.{FirstParts};
 
     ghost Value = { FirstParts };
 

@@ -1,11 +1,11 @@
 //! The postings of one field, term by term.
 ghost use Rattle.std.specs.Prelude.{◌≡◌, ◌<◌, ◌≤◌, ◌-◌, ◌^◌, Some, None, length, IfOk, IfErr, IfSome, IsSomeAnd, OnOk};
-ghost use Rattle.seg_common.specs.Growing.{HasGrown};
-ghost use Rattle.seg_directory.specs.Composite.{low_after};
-ghost use Rattle.seg_postings.specs.FieldWriting.{FieldWriting, fresh, with_term, with_document, closed, MayOpen, MayOccur};
-ghost use Rattle.seg_postings.specs.Files.{AddsField};
-ghost use Rattle.seg_postings.specs.PostingsForm.{positions_after};
-ghost use Rattle.seg_postings.specs.Written.{Rise};
+ghost use Rattle.seg_common.specs.WriterGrowth.{HasGrown};
+ghost use Rattle.seg_directory.specs.CompositeFiles.{low_after};
+ghost use Rattle.seg_postings.specs.FieldSerializers.{FieldWriting, fresh, with_term, with_document, closed, MayOpen, MayOccur};
+ghost use Rattle.seg_postings.specs.FieldFiles.{AddsField};
+ghost use Rattle.seg_postings.specs.PostingsBytes.{positions_after};
+ghost use Rattle.seg_postings.specs.WritablePostings.{Rise};
 
 use crate::field_parts::FieldParts;
 use crate::inverted_index_serializer::InvertedIndexSerializer;
@@ -25,7 +25,7 @@ pub struct FieldSerializer {
 
 impl Model for FieldSerializer {
     ghost use Rattle.std.specs.Prelude.{Option};
-    ghost use Rattle.seg_postings.specs.FieldWriting.{FieldWriting};
+    ghost use Rattle.seg_postings.specs.FieldSerializers.{FieldWriting};
 
     ghost Value = { Option FieldWriting };
 

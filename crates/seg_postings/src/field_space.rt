@@ -1,7 +1,7 @@
 //! How much space terms of a JSON field take.
 ghost use Rattle.std.specs.Prelude.{◌≡◌, ◌≤◌, true, IfOk};
 ghost use Rattle.std.specs.Str.{IsUtf8};
-ghost use Rattle.seg_model.specs.Reading as reading;
+ghost use Rattle.seg_model.specs.DocumentTerms as reading;
 ghost use Rattle.seg_model.specs.Shape as shape;
 ghost use Rattle.seg_postings.specs.JsonSpaces.{code_of};
 ghost use Rattle.seg_postings.specs.JsonRuns.{IsRunOf};

@@ -2,11 +2,11 @@
 ghost use Rattle.std.specs.Prelude.{◌≡◌, ◌⊎◌, None, length, IfOk, IfErr};
 ghost use Rattle.std.specs.List.{list_all, AllByRecursion};
 ghost use Rattle.seg_termdict.specs.Dictionary.{terms_of};
-ghost use Rattle.seg_termdict.specs.Building.{last_term, positions_end};
-ghost use Rattle.seg_postings.specs.Completing.{ArePostingsBy, NoneComplete};
+ghost use Rattle.seg_termdict.specs.DictionaryBuilders.{last_term, positions_end};
+ghost use Rattle.seg_postings.specs.CompletedPostings.{ArePostingsBy, NoneComplete};
 ghost use Rattle.seg_postings.specs.FieldParts.{LiesWithin};
-ghost use Rattle.seg_postings.specs.FieldReading.{rules_of, is_read};
-ghost use Rattle.seg_postings.specs.PostingsAlone.{is_counted};
+ghost use Rattle.seg_postings.specs.OpenedFields.{rules_of, is_read};
+ghost use Rattle.seg_postings.specs.PostingsWithoutPositions.{is_counted};
 ghost use Rattle.seg_postings.specs.TermForms.{IsDictionaryOf};
 
 use crate::asked_kind::AskedKind;
@@ -33,7 +33,7 @@ pub struct FieldTerms {
 impl Model for FieldTerms {
     ghost use Rattle.std.specs.Prelude.{◌≡◌};
     ghost use Rattle.seg_termdict.specs.Dictionary.{terms_of};
-    ghost use Rattle.seg_postings.specs.FieldReading.{FirstPart};
+    ghost use Rattle.seg_postings.specs.OpenedFields.{FirstPart};
     ghost use Rattle.seg_postings.specs.TermForms.{IsDictionaryOf};
 
     ghost Value = { FirstPart };

@@ -3,10 +3,10 @@ ghost use Rattle.std.specs.Prelude.{◌≡◌, true, [], map, length, IfOk, IfEr
 ghost use Rattle.std.specs.FinMap.{entries};
 ghost use Rattle.std.specs.List.{AllByRecursion, Any, list_all};
 ghost use Rattle.seg_values.specs.declared.schema.FieldKind.TheVariants as kinds;
-ghost use Rattle.seg_postings.specs.FieldReading.{IsReadable, read_term, dictionary_terms, written_terms};
-ghost use Rattle.seg_postings.specs.HeldTerms.{terms_held};
+ghost use Rattle.seg_postings.specs.OpenedFields.{IsReadable, read_term, dictionary_terms, written_terms};
+ghost use Rattle.seg_postings.specs.TermMaps.{terms_held};
 ghost use Rattle.seg_postings.specs.JsonSpaces.{AreSpaces};
-ghost use Rattle.seg_postings.specs.RangesFollow.{RangesFollow};
+ghost use Rattle.seg_postings.specs.AdjacentRanges.{RangesFollow};
 ghost use Rattle.seg_postings.specs.TermForms.{is_formed};
 
 use crate::field_space::InvertedIndexFieldSpace;
@@ -32,8 +32,8 @@ pub struct InvertedIndexReader {
 impl Model for InvertedIndexReader {
     ghost use Rattle.std.specs.Prelude.{map};
     ghost use Rattle.std.specs.List.{AllByRecursion};
-    ghost use Rattle.seg_postings.specs.FieldReading.{OpenField, IsReadable, read_term};
-    ghost use Rattle.seg_postings.specs.RangesFollow.{RangesFollow};
+    ghost use Rattle.seg_postings.specs.OpenedFields.{OpenField, IsReadable, read_term};
+    ghost use Rattle.seg_postings.specs.AdjacentRanges.{RangesFollow};
 
     ghost Value = { OpenField };
 

@@ -1,9 +1,9 @@
 //! The files of terms, postings and positions.
 ghost use Rattle.std.specs.Prelude.{◌≡◌, ◌≢◌, ◌<◌, ◌≤◌, ◌-◌, ◌^◌, ◌++◌, ◌∷◌, [], Some, None, IfOk, IfErr, IfSome, OnOk, OnErr};
-ghost use Rattle.seg_common.specs.Growing.{HasGrown};
-ghost use Rattle.seg_directory.specs.Composite.{composite, low_after};
-ghost use Rattle.seg_postings.specs.FieldWriting.{fresh};
-ghost use Rattle.seg_postings.specs.Files.{FieldFiles, no_fields, with_field};
+ghost use Rattle.seg_common.specs.WriterGrowth.{HasGrown};
+ghost use Rattle.seg_directory.specs.CompositeFiles.{composite, low_after};
+ghost use Rattle.seg_postings.specs.FieldSerializers.{fresh};
+ghost use Rattle.seg_postings.specs.FieldFiles.{FieldFiles, no_fields, with_field};
 
 use crate::field_parts::FieldBytes;
 use crate::field_serializer::FieldSerializer;
@@ -38,7 +38,7 @@ pub struct PostingsFiles {
 
 impl Model for InvertedIndexSerializer {
     ghost use Rattle.std.specs.Prelude.{◌≢◌, Option, None, IfSome, option_and_then};
-    ghost use Rattle.seg_postings.specs.Files.{FieldFiles, all_files};
+    ghost use Rattle.seg_postings.specs.FieldFiles.{FieldFiles, all_files};
 
     ghost Value = { Option FieldFiles };
 

@@ -1,6 +1,6 @@
 //! Where the ranges of the last term of a dictionary end.
 ghost use Rattle.std.specs.Prelude.{◌≡◌, None, option_map};
-ghost use Rattle.seg_termdict.specs.Building.{last_term, postings_end, positions_end};
+ghost use Rattle.seg_termdict.specs.DictionaryBuilders.{last_term, postings_end, positions_end};
 
 use seg_common::TermInfo;
 use seg_termdict::TermDictionary;

@@ -3,8 +3,8 @@ ghost use Rattle.std.specs.Prelude.{◌≡◌, ◌++◌, length, take, OnOk, OnE
 ghost use Rattle.std.specs.List.{flat_map};
 ghost use Rattle.seg_common.specs.Varint.{varint};
 ghost use Rattle.seg_postings.specs.FieldParts.{kept_count, occurrence_form};
-ghost use Rattle.seg_postings.specs.PostingsForm.{differences};
-ghost use Rattle.seg_postings.specs.Written.{Rise};
+ghost use Rattle.seg_postings.specs.PostingsBytes.{differences};
+ghost use Rattle.seg_postings.specs.WritablePostings.{Rise};
 
 use crate::record_kind::RecordKind;
 use seg_common::VInt;

@@ -2,8 +2,8 @@
 //! positions are. Nothing is made of them, so no memory is asked for.
 ghost use Rattle.std.specs.Prelude.{◌≡◌};
 ghost use Rattle.seg_postings.specs.Postings.{counts_at, term_postings};
-ghost use Rattle.seg_postings.specs.PostingsAlone.{are_counted, is_counted_term};
-ghost use Rattle.seg_postings.specs.PostingsLeft.{postings_at, are_low, is_term_of};
+ghost use Rattle.seg_postings.specs.PostingsWithoutPositions.{are_counted, is_counted_term};
+ghost use Rattle.seg_postings.specs.RemainingPostings.{postings_at, are_low, is_term_of};
 
 use crate::documents::{pass_recorded, take_document};
 use crate::record_kind::RecordKind;

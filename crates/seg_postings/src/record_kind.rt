@@ -1,6 +1,6 @@
 //! What postings keep of each document.
 ghost use Rattle.std.specs.Prelude.{◌≡◌};
-ghost use Rattle.seg_postings.specs.Kinds as kinds;
+ghost use Rattle.seg_postings.specs.RecordKinds as kinds;
 
 use seg_values::IndexOption;
 

@@ -1,9 +1,9 @@
 //! The postings of a term, one after another.
 ghost use Rattle.std.specs.Prelude.{◌≡◌, ◌<◌, ◌-◌, ◌^◌, ◌++◌, ℕ, true, is_some, drop, length, option_map, unwrap_or, [], Some, None, IfErr, OnOk, MatchOption};
 ghost use Rattle.seg_postings.specs.Postings.{positions_at, term_postings};
-ghost use Rattle.seg_postings.specs.PostingsLeft.{postings_from};
-ghost use Rattle.seg_postings.specs.PostingsReading.{kind_at, left_from, can_be_read, document_of, kept_kind_of, term_freq_of, positions_of, alive_count};
-ghost use Rattle.seg_postings.specs.Written.{Rise};
+ghost use Rattle.seg_postings.specs.RemainingPostings.{postings_from};
+ghost use Rattle.seg_postings.specs.OpenPostings.{kind_at, left_from, can_be_read, document_of, kept_kind_of, term_freq_of, positions_of, alive_count};
+ghost use Rattle.seg_postings.specs.WritablePostings.{Rise};
 
 use crate::documents::{CountedDocument, TERMINATED, pass_recorded, take_document, take_number};
 use crate::record_kind::RecordKind;
@@ -26,7 +26,7 @@ pub struct SegmentPostings<'a> {
 
 impl<'a> Model for SegmentPostings<'a> {
     ghost use Rattle.std.specs.Prelude.{◌≡◌, true};
-    ghost use Rattle.seg_postings.specs.PostingsReading.{OpenPostings, left_from, can_be_read};
+    ghost use Rattle.seg_postings.specs.OpenPostings.{OpenPostings, left_from, can_be_read};
 
     ghost Value = { OpenPostings };
 

@@ -2,12 +2,12 @@
 //! from the postings with some positions.
 ghost use Rattle.std.specs.Prelude.{◌≡◌, ◌≤◌, length, slice_range, nat_lt, ◌&&◌, None, IfOk, IfErr};
 ghost use Rattle.std.specs.List.{list_all, AllByRecursion};
-ghost use Rattle.seg_termdict.specs.Building.{last_term, positions_end};
+ghost use Rattle.seg_termdict.specs.DictionaryBuilders.{last_term, positions_end};
 ghost use Rattle.seg_postings.specs.Postings.{term_postings};
-ghost use Rattle.seg_postings.specs.PostingsAlone.{is_counted, is_counted_info};
-ghost use Rattle.seg_postings.specs.PostingsLeft.{is_term_of};
+ghost use Rattle.seg_postings.specs.PostingsWithoutPositions.{is_counted, is_counted_info};
+ghost use Rattle.seg_postings.specs.RemainingPostings.{is_term_of};
 ghost use Rattle.seg_postings.specs.FieldParts.{LiesWithin};
-ghost use Rattle.seg_postings.specs.FieldReading.{is_read};
+ghost use Rattle.seg_postings.specs.OpenedFields.{is_read};
 
 use crate::asked_kind::AskedKind;
 use crate::postings_check::{has_documents, is_term};

@@ -2,8 +2,8 @@
 ghost use Rattle.std.specs.Prelude.{◌≡◌, MatchOption};
 ghost use Rattle.std.specs.List.{Any};
 ghost use Rattle.seg_termdict.specs.LookUps.{Lacks};
-ghost use Rattle.seg_postings.specs.FieldReading.{dictionary_terms};
-ghost use Rattle.seg_postings.specs.PostingsReading.{alive_count};
+ghost use Rattle.seg_postings.specs.OpenedFields.{dictionary_terms};
+ghost use Rattle.seg_postings.specs.OpenPostings.{alive_count};
 
 use crate::fields::{WITH_POSITIONS, open};
 use seg_bits::ReadOnlyBitSet;

@@ -2,7 +2,7 @@
 ghost use Rattle.std.specs.Prelude.{◌≡◌, true, IfOk};
 ghost use Rattle.std.specs.List.{list_all};
 ghost use Rattle.seg_values.specs.declared.schema.FieldKind.TheVariants as kinds;
-ghost use Rattle.seg_postings.specs.FieldReading.{dictionary_terms};
+ghost use Rattle.seg_postings.specs.OpenedFields.{dictionary_terms};
 ghost use Rattle.seg_postings.specs.TermForms.{is_formed};
 
 use crate::fields::{MAX_DOC, Parts, owned};

@@ -1,8 +1,8 @@
 //! Stored documents, against bytes that were written by hand, and read through a cache.
 ghost use Rattle.std.specs.Prelude.{◌≡◌, ◌≤◌, IfOk, IfErr, IfSome, slice_get};
 ghost use Rattle.seg_store.specs.Store.{document_count, documents_of};
-ghost use Rattle.seg_store.specs.Writing.{taken_count};
-ghost use Rattle.seg_doc_bytes.specs.StoredLaw.{AreShallow};
+ghost use Rattle.seg_store.specs.WriterBlocks.{taken_count};
+ghost use Rattle.seg_doc_bytes.specs.StoredDocumentLaw.{AreShallow};
 
 use seg_common::OwnedBytes;
 use seg_store::{

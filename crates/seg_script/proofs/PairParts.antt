@@ -7,7 +7,7 @@ use Rattle.serde_json.specs.Find.{as_str}
 use Rattle.seg_values.specs.declared.schema.FieldEntry.{FieldEntry}
 use Rattle.seg_values.specs.Tree.{Tree}
 use Rattle.seg_values.specs.ValueBytes.{TermKey}
-use Rattle.seg_meta.specs.Reads.{given}
+use Rattle.seg_meta.specs.JsonReaders.{given}
 use Rattle.seg_script.specs.declared.reading.Reading.{Reading}
 use Rattle.seg_script.specs.Deletes.{term_bytes, term_from}
 use Rattle.seg_script.specs.Fields.{field_or_past}

@@ -3,10 +3,10 @@ use Rattle.std.proofs.Common.{◌≡◌, ◌-◌, ◌^◌, List, [], ◌∷◌, 
 use Rattle.serde_json.specs.Data.{Data}
 use Rattle.seg_values.specs.declared.schema.FieldEntry.{FieldEntry}
 use Rattle.seg_values.specs.declared.schema.FieldKind.TheVariants as kind
-use Rattle.seg_values.specs.Distinct.{all_distinct}
+use Rattle.seg_values.specs.DistinctLists.{all_distinct}
 use Rattle.seg_values.specs.SchemaRules.{same_name}
-use Rattle.seg_meta.specs.MetaRead.{distinct_list}
-use Rattle.seg_meta.specs.Reads.{given, provided, list_of}
+use Rattle.seg_meta.specs.ParsedMeta.{distinct_list}
+use Rattle.seg_meta.specs.JsonReaders.{given, provided, list_of}
 use Rattle.seg_script.specs.Fields.{entry_from, has_name, are_distinct, schema_from}
 
 -- entries are distinct by their names

@@ -6,7 +6,7 @@ use Rattle.serde_json.specs.Find.{as_str}
 use Rattle.seg_values.specs.declared.schema.FieldEntry.{FieldEntry}
 use Rattle.seg_values.specs.ValueBytes.{TermKey}
 use Rattle.seg_model.specs.Fields.{is_json}
-use Rattle.seg_meta.specs.Reads.{given}
+use Rattle.seg_meta.specs.JsonReaders.{given}
 use Rattle.seg_script_values.specs.Deletes.{plain_term, json_term}
 use Rattle.seg_script.specs.Fields.{field_or_past}
 use Rattle.seg_script.specs.Pairs.{two_or_three}

@@ -5,13 +5,13 @@ use Rattle.std.specs.Str.{bytes_eq}
 use Rattle.serde_json.specs.Data.{Data}
 use Rattle.serde_json.specs.Find.{as_bool, as_str}
 use Rattle.seg_common.specs.declared.precision.DateTimePrecision.TheVariants.{Seconds}
-use Rattle.seg_values.specs.Names.{field_named, is_allowed, kept_entry}
+use Rattle.seg_values.specs.FieldNames.{field_named, is_allowed, kept_entry}
 use Rattle.seg_values.specs.declared.schema.FieldEntry.{FieldEntry}
 use Rattle.seg_values.specs.declared.schema.IndexOption.TheVariants as index
 use Rattle.seg_model.specs.Fields.{is_text, is_on}
-use Rattle.seg_meta.specs.PartsRead.{kinds, index_options, precisions, entry_members}
-use Rattle.seg_meta.specs.Reads.{given, provided, required, nullable, word_of, list_of, has_only}
-use Rattle.seg_script_values.specs.Reads.{optional}
+use Rattle.seg_meta.specs.ParsedMetaParts.{kinds, index_options, precisions, entry_members}
+use Rattle.seg_meta.specs.JsonReaders.{given, provided, required, nullable, word_of, list_of, has_only}
+use Rattle.seg_script_values.specs.OptionalMembers.{optional}
 
 -- an entry, of which the name and the kind must be there; an indexed text field has lengths where it doesn't say
 -- otherwise, and a facet is kept as all facets are

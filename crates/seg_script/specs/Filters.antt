@@ -3,7 +3,7 @@ use Rattle.std.specs.Prelude.{ℕ, ◌^◌, List, [], ◌∷◌, map, Bool, true
 use Rattle.std.specs.List.{list_any, range_with_len}
 use Rattle.serde_json.specs.Data.{Data}
 use Rattle.seg_model.specs.Input.{Filter}
-use Rattle.seg_meta.specs.Reads.{given, provided, required, below, list_of, has_only}
+use Rattle.seg_meta.specs.JsonReaders.{given, provided, required, below, list_of, has_only}
 
 -- each number is below the next
 abbrev pub ascends : List ℕ → Bool

@@ -4,7 +4,7 @@ use Rattle.std.specs.Str.{bytes_eq}
 use Rattle.serde_json.specs.Data.{Data, object, no_members, member}
 use Rattle.seg_values.specs.declared.schema.FieldEntry.{FieldEntry}
 use Rattle.seg_model.specs.Operations.{Operation, add, delete}
-use Rattle.seg_meta.specs.Reads.{list_of}
+use Rattle.seg_meta.specs.JsonReaders.{list_of}
 use Rattle.seg_script.specs.Deletes.{term_from}
 use Rattle.seg_script.specs.Pairs.{pair_from}
 

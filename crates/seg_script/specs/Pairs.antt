@@ -9,9 +9,9 @@ use Rattle.seg_values.specs.declared.schema.FieldEntry.{FieldEntry}
 use Rattle.seg_values.specs.declared.schema.FieldKind.{FieldKind}
 use Rattle.seg_values.specs.declared.schema.FieldKind.TheVariants.{Json}
 use Rattle.seg_values.specs.Tree.{Tree, leaf, pre_tokenized}
-use Rattle.seg_meta.specs.PartsRead.{kinds}
-use Rattle.seg_meta.specs.Reads.{given}
-use Rattle.seg_script_values.specs.Tokenized.{tokenized_from}
+use Rattle.seg_meta.specs.ParsedMetaParts.{kinds}
+use Rattle.seg_meta.specs.JsonReaders.{given}
+use Rattle.seg_script_values.specs.TokenizedTexts.{tokenized_from}
 use Rattle.seg_script_values.specs.Trees.{tree_from}
 use Rattle.seg_script.specs.declared.reading.Reading.{Reading}
 use Rattle.seg_script.specs.declared.reading.Reading.TheVariants.{ByKind, WithTokens}

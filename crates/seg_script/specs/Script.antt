@@ -6,10 +6,10 @@ use Rattle.serde_json.specs.Find.{as_str}
 use Rattle.seg_values.specs.declared.schema.FieldEntry.{FieldEntry}
 use Rattle.seg_model.specs.Input.{Input}
 use Rattle.seg_model.specs.Operations.{Operation}
-pub use Rattle.seg_meta.specs.MetaRead.{json_of}
-use Rattle.seg_meta.specs.PartsRead.{id_from}
-use Rattle.seg_meta.specs.Reads.{given, provided, required, natural, nullable, list_of, has_only}
-use Rattle.seg_script_values.specs.Reads.{optional}
+pub use Rattle.seg_meta.specs.ParsedMeta.{json_of}
+use Rattle.seg_meta.specs.ParsedMetaParts.{id_from}
+use Rattle.seg_meta.specs.JsonReaders.{given, provided, required, natural, nullable, list_of, has_only}
+use Rattle.seg_script_values.specs.OptionalMembers.{optional}
 use Rattle.seg_script.specs.Fields.{schema_from}
 use Rattle.seg_script.specs.Settings.{default_settings, settings_from}
 use Rattle.seg_script.specs.Filters.{filter_from}

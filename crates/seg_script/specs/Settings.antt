@@ -4,9 +4,9 @@ use Rattle.serde_json.specs.Data.{Data}
 use Rattle.serde_json.specs.Find.{as_bool}
 use Rattle.seg_model.specs.Input.{default_block_size, uncompressed, Settings}
 pub use Rattle.seg_model.specs.Input.{default_settings}
-use Rattle.seg_meta.specs.PartsRead.{settings_members, compressions}
-use Rattle.seg_meta.specs.Reads.{given, provided, below, word_of, has_only}
-use Rattle.seg_script_values.specs.Reads.{optional}
+use Rattle.seg_meta.specs.ParsedMetaParts.{settings_members, compressions}
+use Rattle.seg_meta.specs.JsonReaders.{given, provided, below, word_of, has_only}
+use Rattle.seg_script_values.specs.OptionalMembers.{optional}
 
 -- settings, of which each member has its default
 abbrev pub settings_from : Data → Option Settings

@@ -1,8 +1,8 @@
 //! Reads the cuts of a script.
 ghost use Rattle.std.specs.Prelude.{◌≡◌, [], codes, Some, None, Err, IfOk};
 ghost use Rattle.serde_json.specs.View.{view};
-ghost use Rattle.seg_meta.specs.Reads.{natural, list_of};
-ghost use Rattle.seg_script_values.specs.Reads.{optional};
+ghost use Rattle.seg_meta.specs.JsonReaders.{natural, list_of};
+ghost use Rattle.seg_script_values.specs.OptionalMembers.{optional};
 
 use crate::error::ScriptError;
 use crate::pushing::push;

@@ -3,12 +3,12 @@ ghost use Rattle.std.specs.Prelude.{◌≡◌, ◌+◌, ◌-◌, ◌<◌, ◌^�
 ghost use Rattle.serde_json.specs.Find.{as_str};
 ghost use Rattle.serde_json.specs.View.{view};
 ghost use Rattle.seg_common.specs.declared.precision.DateTimePrecision.TheVariants.{Seconds};
-ghost use Rattle.seg_values.specs.Names.{field_named, is_allowed, kept_entry};
+ghost use Rattle.seg_values.specs.FieldNames.{field_named, is_allowed, kept_entry};
 ghost use Rattle.seg_values.specs.declared.schema.IndexOption.TheVariants.{No};
 ghost use Rattle.seg_model.specs.Fields.{is_text, is_on};
-ghost use Rattle.seg_meta.specs.PartsRead.{kinds, index_options, precisions};
-ghost use Rattle.seg_meta.specs.Reads.{required, nullable, word_of};
-ghost use Rattle.seg_script_values.specs.Reads.{optional};
+ghost use Rattle.seg_meta.specs.ParsedMetaParts.{kinds, index_options, precisions};
+ghost use Rattle.seg_meta.specs.JsonReaders.{required, nullable, word_of};
+ghost use Rattle.seg_script_values.specs.OptionalMembers.{optional};
 ghost use Rattle.seg_script.specs.Fields.{entry_from, schema_from, field_or_past};
 
 use crate::error::ScriptError;

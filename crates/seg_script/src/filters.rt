@@ -1,8 +1,8 @@
 //! Reads the filters of a script.
 ghost use Rattle.std.specs.Prelude.{◌≡◌, ◌+◌, ◌<◌, length, replicate, codes, Some, None, Err, IfOk};
 ghost use Rattle.serde_json.specs.View.{view};
-ghost use Rattle.seg_meta.specs.Reads.{below, nullable, list_of};
-ghost use Rattle.seg_script_values.specs.Reads.{optional};
+ghost use Rattle.seg_meta.specs.JsonReaders.{below, nullable, list_of};
+ghost use Rattle.seg_script_values.specs.OptionalMembers.{optional};
 ghost use Rattle.seg_script.specs.Filters.{filter_from};
 
 use crate::error::ScriptError;

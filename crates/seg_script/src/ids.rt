@@ -2,9 +2,9 @@
 ghost use Rattle.std.specs.Prelude.{◌≡◌, ◌+◌, length, codes, Some, None, Err, IfOk};
 ghost use Rattle.std.specs.List.{range_with_len};
 ghost use Rattle.serde_json.specs.View.{view};
-ghost use Rattle.seg_meta.specs.PartsRead.{id_from};
-ghost use Rattle.seg_meta.specs.Reads.{list_of};
-ghost use Rattle.seg_script_values.specs.Reads.{optional};
+ghost use Rattle.seg_meta.specs.ParsedMetaParts.{id_from};
+ghost use Rattle.seg_meta.specs.JsonReaders.{list_of};
+ghost use Rattle.seg_script_values.specs.OptionalMembers.{optional};
 ghost use Rattle.seg_script.specs.Script.{id_of};
 
 use crate::error::ScriptError;

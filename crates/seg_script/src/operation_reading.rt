@@ -5,8 +5,8 @@ ghost use Rattle.json.specs.Json.{value, items, members};
 ghost use Rattle.serde_json.specs.Data.{Data, Items, no_members, put};
 ghost use Rattle.serde_json.specs.Read.{of_json, of_items, of_members, converted};
 ghost use Rattle.serde_json.specs.View.{members_view};
-ghost use Rattle.seg_meta.specs.Reads.{each, list_of};
-ghost use Rattle.seg_check.specs.View.{operation_of};
+ghost use Rattle.seg_meta.specs.JsonReaders.{each, list_of};
+ghost use Rattle.seg_check.specs.UserOperations.{operation_of};
 ghost use Rattle.seg_script.specs.Operations.{operation_from};
 
 use crate::error::ScriptError;

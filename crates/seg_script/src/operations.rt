@@ -1,8 +1,8 @@
 //! Reads the operations of a script.
 ghost use Rattle.std.specs.Prelude.{◌≡◌, Some, None, Err, IfOk, map};
 ghost use Rattle.serde_json.specs.View.{view};
-ghost use Rattle.seg_meta.specs.Reads.{list_of};
-ghost use Rattle.seg_check.specs.View.{operation_of};
+ghost use Rattle.seg_meta.specs.JsonReaders.{list_of};
+ghost use Rattle.seg_check.specs.UserOperations.{operation_of};
 ghost use Rattle.seg_script.specs.Deletes.{term_from};
 ghost use Rattle.seg_script.specs.Operations.{operation_named, operation_from};
 

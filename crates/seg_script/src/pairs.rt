@@ -1,8 +1,8 @@
 //! Reads the fields of a document with their values.
 ghost use Rattle.std.specs.Prelude.{◌≡◌, [], ◌∷◌, ◌++◌, Some, None, Err, IfOk, OnOk, option_map};
 ghost use Rattle.serde_json.specs.View.{view};
-ghost use Rattle.seg_values.specs.View.{tree_of};
-ghost use Rattle.seg_meta.specs.Reads.{list_of};
+ghost use Rattle.seg_values.specs.ValueTrees.{tree_of};
+ghost use Rattle.seg_meta.specs.JsonReaders.{list_of};
 ghost use Rattle.seg_script.specs.Pairs.{kind_of, tree_by, pair_from};
 
 use crate::error::ScriptError;

@@ -4,7 +4,7 @@ ghost use Rattle.json.specs.Json.{value};
 ghost use Rattle.serde_json.specs.Data.{Data};
 ghost use Rattle.serde_json.specs.Read.{of_json, converted};
 ghost use Rattle.serde_json.specs.View.{view};
-ghost use Rattle.seg_check.specs.View.{operation_of};
+ghost use Rattle.seg_check.specs.UserOperations.{operation_of};
 ghost use Rattle.seg_script.specs.Script.{input_with, script_from, script};
 
 use crate::cuts::cuts_at;

@@ -2,10 +2,10 @@
 ghost use Rattle.std.specs.Prelude.{◌≡◌, option_map, codes};
 ghost use Rattle.serde_json.specs.View.{view};
 ghost use Rattle.seg_model.specs.Input.{uncompressed};
-ghost use Rattle.seg_meta.specs.PartsRead.{compressions};
-ghost use Rattle.seg_meta.specs.Reads.{word_of};
-ghost use Rattle.seg_meta.specs.View.{settings_of, compression_of};
-ghost use Rattle.seg_script_values.specs.Reads.{optional};
+ghost use Rattle.seg_meta.specs.ParsedMetaParts.{compressions};
+ghost use Rattle.seg_meta.specs.JsonReaders.{word_of};
+ghost use Rattle.seg_meta.specs.MetaMeaning.{settings_of, compression_of};
+ghost use Rattle.seg_script_values.specs.OptionalMembers.{optional};
 ghost use Rattle.seg_script.specs.Settings.{default_settings, settings_from};
 
 use seg_meta::{DEFAULT_BLOCK_SIZE, IndexSettings, compressor_from, has_settings_members};

@@ -7,7 +7,7 @@ use Rattle.std.proofs.lemmas.Bool.Decides.{nat_tests}
 use Rattle.std.proofs.lemmas.List.Elements.{All-from_recursion, recursion_from_All}
 use Rattle.std.proofs.lemmas.Option.{cond_some}
 use Rattle.std.proofs.lemmas.Slice.Eq.{bytes_eq-Decides}
-use Rattle.seg_common.specs.Replacing.{replacement}
+use Rattle.seg_common.specs.Replacements.{replacement}
 use Rattle.seg_values.specs.Facets.{path_of, steps, Tells}
 use Rattle.seg_script_values.specs.FacetTexts.{encoded_from, has_full_steps, facet_of}
 use Rattle.seg_script_values.specs.Laws.{PathsAreFacets}

@@ -2,7 +2,7 @@
 use Rattle.std.proofs.Common.{◌≡◌, ◌≢◌, List, [], ◌∷◌, length, String, Global, None, refl}
 use Rattle.serde_json.specs.View.{members_view}
 use Rattle.serde_json.specs.declared.value.Value.{Value}
-use Rattle.seg_script_values.specs.Tokenized.{text_and_tokens}
+use Rattle.seg_script_values.specs.TokenizedTexts.{text_and_tokens}
 
 -- such an object is no text with its tokens
 pub not_two : (ms : List (String Global × Value)) → length ms ≢ 2 → text_and_tokens (members_view ms) ≡ None

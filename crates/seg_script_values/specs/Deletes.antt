@@ -9,8 +9,8 @@ use Rattle.seg_values.specs.ValueBytes.{value_bytes}
 use Rattle.seg_values.specs.JsonPathTexts.{path_keys}
 use Rattle.seg_values.specs.JsonTerms.{coded_token, coded_value}
 use Rattle.seg_model.specs.Leaves.{joined_path}
-use Rattle.seg_model.specs.Takes.{is_own_leaf}
-use Rattle.seg_meta.specs.Reads.{given, provided}
+use Rattle.seg_model.specs.AcceptedTrees.{is_own_leaf}
+use Rattle.seg_meta.specs.JsonReaders.{given, provided}
 use Rattle.seg_script_values.specs.Trees.{tree_from}
 
 -- the bytes of a leaf: those of a text that isn't cut, of a date in whole seconds, of a facet's one path

@@ -2,7 +2,7 @@
 use Rattle.std.specs.Prelude.{ℕ, List, length, map, drop, Bool, ◌&&◌, Option, Some, None, nat_lt, if◌then◌else◌}
 use Rattle.std.specs.List.{list_all}
 use Rattle.std.specs.Str.{bytes_eq}
-use Rattle.seg_common.specs.Replacing.{replacement}
+use Rattle.seg_common.specs.Replacements.{replacement}
 use Rattle.seg_values.specs.Facets.{path_of, steps}
 
 -- what follows the first slash, with a byte 0 for each other one

@@ -4,7 +4,7 @@ use Rattle.std.specs.Char.{is_ascii_digit}
 use Rattle.std.specs.Option.{option_or, option_map}
 use Rattle.serde_json.specs.Data.{Num}
 use Rattle.serde_json.specs.Find.{as_i64, as_u64}
-use Rattle.seg_common.specs.DateReading.{date_of}
+use Rattle.seg_common.specs.ParsedDates.{date_of}
 use Rattle.seg_values.specs.declared.schema.FieldKind.{FieldKind}
 use Rattle.seg_values.specs.declared.schema.FieldKind.TheVariants as kind
 use Rattle.seg_values.specs.Tree.{Leaf, text, unsigned, signed, date, facet, byte_string, ip}

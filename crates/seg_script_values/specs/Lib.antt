@@ -4,6 +4,6 @@ pub mod Deletes
 pub mod FacetTexts
 pub mod Laws
 pub mod Leaves
-pub mod Reads
-pub mod Tokenized
+pub mod OptionalMembers
+pub mod TokenizedTexts
 pub mod Trees

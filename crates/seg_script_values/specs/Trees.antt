@@ -5,7 +5,7 @@ use Rattle.seg_values.specs.declared.schema.FieldKind.{FieldKind}
 use Rattle.seg_values.specs.declared.schema.FieldKind.TheVariants.{Json}
 use Rattle.seg_values.specs.Tree as tree
 use Rattle.seg_values.specs.Tree.{Tree, leaf, trees_from, members_from}
-use Rattle.seg_meta.specs.Reads.{given}
+use Rattle.seg_meta.specs.JsonReaders.{given}
 use Rattle.seg_script_values.specs.Leaves.{text_leaf, number_leaf}
 
 -- a value by a kind; the values of an array by the same kind, the members of an object by the kind JSON

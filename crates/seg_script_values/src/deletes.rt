@@ -1,7 +1,7 @@
 //! The terms that deletes name.
 ghost use Rattle.std.specs.Prelude.{◌≡◌, ℕ, List, ◌++◌, option_map, IfOk};
 ghost use Rattle.serde_json.specs.View.{view};
-ghost use Rattle.seg_values.specs.View.{tree_of};
+ghost use Rattle.seg_values.specs.ValueTrees.{tree_of};
 ghost use Rattle.seg_script_values.specs.Deletes.{leaf_bytes, plain_term, coded_tree, json_term};
 
 use crate::trees::tree_from;

@@ -3,7 +3,7 @@ ghost use Rattle.std.specs.Prelude.{◌≡◌, option_map, IfOk, None, string_by
 ghost use Rattle.serde_json.specs.View.{number_view};
 ghost use Rattle.seg_values.specs.declared.schema.FieldKind.TheVariants as kind;
 ghost use Rattle.seg_values.specs.Tree.{leaf};
-ghost use Rattle.seg_values.specs.View.{tree_of};
+ghost use Rattle.seg_values.specs.ValueTrees.{tree_of};
 ghost use Rattle.seg_script_values.specs.Leaves.{told_leaf, text_leaf, signed_first, unsigned_first, number_leaf};
 
 use crate::addresses::address_from;

@@ -2,8 +2,8 @@
 ghost use Rattle.std.specs.Prelude.{◌≡◌, ◌^◌, option_map};
 ghost use Rattle.serde_json.specs.Find.{as_bool, get};
 ghost use Rattle.serde_json.specs.View.{view};
-ghost use Rattle.seg_meta.specs.Reads.{required, below};
-ghost use Rattle.seg_script_values.specs.Reads.{optional};
+ghost use Rattle.seg_meta.specs.JsonReaders.{required, below};
+ghost use Rattle.seg_script_values.specs.OptionalMembers.{optional};
 
 use serde_json::Value;
 

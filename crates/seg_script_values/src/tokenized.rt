@@ -1,8 +1,8 @@
 //! Texts that come with their tokens.
 ghost use Rattle.std.specs.Prelude.{◌≡◌, IfOk, option_map};
 ghost use Rattle.serde_json.specs.View.{view, members_view};
-ghost use Rattle.seg_meta.specs.Reads.{list_of};
-ghost use Rattle.seg_script_values.specs.Tokenized.{token_from, text_and_tokens, tokenized_from};
+ghost use Rattle.seg_meta.specs.JsonReaders.{list_of};
+ghost use Rattle.seg_script_values.specs.TokenizedTexts.{token_from, text_and_tokens, tokenized_from};
 
 use crate::members::{small_at, take_member};
 use crate::parts::{text_of, two_members};

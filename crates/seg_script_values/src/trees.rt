@@ -1,7 +1,7 @@
 //! JSON values as trees.
 ghost use Rattle.std.specs.Prelude.{◌≡◌, option_map, IfOk};
 ghost use Rattle.serde_json.specs.View.{view, items_view, members_view};
-ghost use Rattle.seg_values.specs.View.{tree_of};
+ghost use Rattle.seg_values.specs.ValueTrees.{tree_of};
 ghost use Rattle.seg_script_values.specs.Trees.{tree_from, values_from, members_read};
 
 use crate::leaves::{number_leaf, text_leaf};

@@ -3,11 +3,11 @@ use Rattle.std.proofs.Common.{◌≡◌, ℕ, Result, IsTrue, refl, sym, subst}
 use Rattle.seg_common.specs.declared.name.SegmentComponent.TheVariants.{Terms, Postings, Positions, Store, FastFields, FieldNorms}
 use Rattle.seg_directory.proofs.Exports.{keeps_names, started}
 use Rattle.seg_directory.specs.DiskRuns.{KeepsOnDisk}
-use Rattle.seg_directory.specs.State.{DirectoryState}
-use Rattle.seg_directory.specs.Works.{Works}
+use Rattle.seg_directory.specs.DirectoryStates.{DirectoryState}
+use Rattle.seg_directory.specs.DirectorySteps.{Works}
 use Rattle.seg_values.specs.declared.error.TantivyError.{TantivyError}
 use Rattle.seg_segment.specs.SegmentFiles.{IsOtherName, write_steps}
-use Rattle.seg_segment.specs.Serializing.{Closes, Serializing, makes, starves}
+use Rattle.seg_segment.specs.SegmentSerializers.{Closes, Serializing, makes, starves}
 use Rattle.seg_segment.specs.declared.segment_files.SegmentFiles.{SegmentFiles}
 
 -- the six files are made

@@ -2,11 +2,11 @@
 use Rattle.std.proofs.Common.{◌≡◌, ℕ, ◌+◌, ◌<◌, List, [], ◌∷◌, ◌++◌, length, Some, None, Option, sym, refl, ap, ◌∙◌, subst, arith, append_assoc, append-nil}
 use Rattle.std.specs.Prelude.{IfSome, IsSomeAnd}
 use Rattle.std.proofs.lemmas.Option.{same_Some}
-use Rattle.seg_common.specs.Growing.{HasGrown}
-use Rattle.seg_model.specs.Reading.{Posting}
+use Rattle.seg_common.specs.WriterGrowth.{HasGrown}
+use Rattle.seg_model.specs.DocumentTerms.{Posting}
 use Rattle.seg_postings.specs.declared.record_kind.RecordKind.{RecordKind}
-use Rattle.seg_postings.specs.FieldWriting.{FieldWriting, MayOpen, closed, with_open}
-use Rattle.seg_segment.specs.WritingTerms.{IsUnwritten, with_terms, term_with, open_postings, with_more, with_whole_term, AscendBy, AreOfTerm, MayTake}
+use Rattle.seg_postings.specs.FieldSerializers.{FieldWriting, MayOpen, closed, with_open}
+use Rattle.seg_segment.specs.WrittenTerms.{IsUnwritten, with_terms, term_with, open_postings, with_more, with_whole_term, AscendBy, AreOfTerm, MayTake}
 
 open_back : (key : List ℕ) (ps : List Posting) → open_postings (term_with key ps) ≡ ps
 open_back key [] = refl

@@ -7,10 +7,10 @@ use Rattle.seg_values.specs.declared.error.TantivyError.{TantivyError}
 use Rattle.seg_values.specs.declared.error.TantivyError.TheVariants.{OutOfMemory}
 use Rattle.seg_directory.proofs.Exports.{keeps_others}
 use Rattle.seg_directory.specs.Calls.{Call, listed, read, made, replaced, synced, Keeps}
-use Rattle.seg_directory.specs.Does.{GoesOn}
+use Rattle.seg_directory.specs.StepSequences.{GoesOn}
 use Rattle.seg_directory.specs.Files.{NamedFiles}
-use Rattle.seg_directory.specs.State.{DirectoryState}
-use Rattle.seg_directory.specs.Works.{Step, calls, passes, StepGoes, StepBreaks, CallBreaks, failed, has_files, Works, all_files_after}
+use Rattle.seg_directory.specs.DirectoryStates.{DirectoryState}
+use Rattle.seg_directory.specs.DirectorySteps.{Step, calls, passes, StepGoes, StepBreaks, CallBreaks, failed, has_files, Works, all_files_after}
 use Rattle.seg_segment.specs.SegmentFiles.{KeepsAllBut}
 
 -- the names that a call touches

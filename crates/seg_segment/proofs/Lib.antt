@@ -1,16 +1,16 @@
 pub mod Exports
-mod FieldsInTurn
-mod FilesMade
+mod FieldSequences
 mod FilesOnDisk
 mod GivenPostings
 mod KeptFiles
-mod LaidOut
-mod LengthsInTurn
-mod OneContents
-mod OnlyReads
-mod ReadLaws
-mod SixRead
+mod LaidOutFiles
+mod LengthSequences
+mod ListTails
+mod MadeFiles
+mod ReadFiles
+mod ReadOnlySteps
+mod SegmentReads
 mod SpelledFiles
-mod ToldTotals
-mod Turns
+mod TokenTotals
+mod UniqueContents
 mod WrittenDocuments

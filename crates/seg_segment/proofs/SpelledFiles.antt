@@ -9,14 +9,14 @@ use Rattle.seg_model.specs.Contents.{Contents}
 use Rattle.seg_model.specs.Fields.{Schema, Analyzer}
 use Rattle.seg_meta.specs.IndexOfFiles as index
 use Rattle.seg_directory.specs.Files.{NamedFiles}
-use Rattle.seg_segment.specs.Forms.{segment_forms}
-use Rattle.seg_segment.specs.Holds.{Holds}
+use Rattle.seg_segment.specs.IndexForms.{segment_forms}
+use Rattle.seg_segment.specs.FileContents.{Holds}
 use Rattle.seg_segment.specs.Laws.{HeldFilesSpell, HoldsOneContents}
 use Rattle.seg_segment.specs.SegmentFiles.{HasFiles}
-use Rattle.seg_segment.specs.Spelling.{Spell}
-use Rattle.seg_segment.specs.Standing.{StandFor}
+use Rattle.seg_segment.specs.SpelledContents.{Spell}
+use Rattle.seg_segment.specs.DocumentsOfFiles.{StandFor}
 use Rattle.seg_segment.specs.declared.segment_files.SegmentFiles.{SegmentFiles}
-use Rattle.seg_segment.proofs.OneContents.{one, one_spelled}
+use Rattle.seg_segment.proofs.UniqueContents.{one, one_spelled}
 
 -- the files of an id that are there are one set
 same_files : (directory : NamedFiles) (id : ℕ) (a b : SegmentFiles) → HasFiles directory id a → HasFiles directory id b → a ≡ b

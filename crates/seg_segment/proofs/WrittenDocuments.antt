@@ -2,14 +2,14 @@
 use Rattle.std.proofs.Common.{◌≡◌, ℕ, ◌+◌, ◌-◌, ◌<◌, ◌≤◌, ◌^◌, List, [], ◌∷◌, ◌++◌, Some, None, Option, sym, refl, ap, ◌∙◌, subst, arith}
 use Rattle.std.specs.Prelude.{unwrap_or, IfSome, IsSomeAnd}
 use Rattle.std.proofs.lemmas.Option.{none-some, same_Some}
-use Rattle.seg_common.specs.Growing.{HasGrown}
-use Rattle.seg_model.specs.Reading.{Recorded, presence, frequency, positions, Posting}
+use Rattle.seg_common.specs.WriterGrowth.{HasGrown}
+use Rattle.seg_model.specs.DocumentTerms.{Recorded, presence, frequency, positions, Posting}
 use Rattle.seg_postings.specs.declared.record_kind.RecordKind.{RecordKind}
 use Rattle.seg_postings.specs.declared.record_kind.RecordKind.TheVariants.{Documents, Counts, Positions}
-use Rattle.seg_postings.specs.FieldWriting.{TermWritten, FieldWriting, with_document, in_document, next_document, HasPositions, MayOccur, MayOpen}
-use Rattle.seg_postings.specs.PostingsReading.{kind_kept, count_of, places_of}
-use Rattle.seg_postings.specs.Written.{Rise, recorded_as}
-use Rattle.seg_segment.specs.WritingTerms.{term_with, open_postings, opened, posting_of, with_more, AreOfKind, AscendBy, AreOfTerm, MayTake}
+use Rattle.seg_postings.specs.FieldSerializers.{TermWritten, FieldWriting, with_document, in_document, next_document, HasPositions, MayOccur, MayOpen}
+use Rattle.seg_postings.specs.OpenPostings.{kind_kept, count_of, places_of}
+use Rattle.seg_postings.specs.WritablePostings.{Rise, recorded_as}
+use Rattle.seg_segment.specs.WrittenTerms.{term_with, open_postings, opened, posting_of, with_more, AreOfKind, AscendBy, AreOfTerm, MayTake}
 
 -- ---- what a kind records
 

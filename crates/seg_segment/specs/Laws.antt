@@ -3,9 +3,9 @@ use Rattle.std.specs.Prelude.{ℕ, ◌≡◌}
 use Rattle.seg_model.specs.Contents.{Contents}
 use Rattle.seg_model.specs.Fields.{Schema}
 use Rattle.seg_directory.specs.Files.{NamedFiles}
-use Rattle.seg_segment.specs.Holds.{Holds}
+use Rattle.seg_segment.specs.FileContents.{Holds}
 use Rattle.seg_segment.specs.SegmentFiles.{HasFiles}
-use Rattle.seg_segment.specs.Spelling.{Spell}
+use Rattle.seg_segment.specs.SpelledContents.{Spell}
 use Rattle.seg_segment.specs.declared.segment_files.SegmentFiles.{SegmentFiles}
 
 -- files spell at most one contents for a schema

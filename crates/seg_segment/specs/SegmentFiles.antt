@@ -8,7 +8,7 @@ use Rattle.seg_common.specs.declared.name.SegmentComponent.{SegmentComponent}
 use Rattle.seg_common.specs.declared.name.SegmentComponent.TheVariants.{Terms, Postings, Positions, Store, FastFields, FieldNorms}
 use Rattle.seg_directory.specs.Calls.{made}
 use Rattle.seg_directory.specs.Files.{NamedFiles}
-use Rattle.seg_directory.specs.Works.{Step, calls}
+use Rattle.seg_directory.specs.DirectorySteps.{Step, calls}
 use Rattle.seg_directory.specs.declared.answer.Answer.{Answer}
 use Rattle.seg_directory.specs.declared.answer.Answer.TheVariants as answer
 use Rattle.seg_segment.specs.declared.segment_files.SegmentFiles.{SegmentFiles}

@@ -1,5 +1,5 @@
 //! Making the files of several components of a segment.
-ghost use Rattle.seg_directory.specs.Works.{Works};
+ghost use Rattle.seg_directory.specs.DirectorySteps.{Works};
 ghost use Rattle.seg_segment.specs.SegmentFiles.{component_steps};
 
 use crate::segment_files::SegmentFiles;

@@ -1,10 +1,10 @@
 //! The terms of the indexed fields of a segment, written field by field.
 ghost use Rattle.std.specs.Prelude.{◌≡◌, ◌<◌, ◌≤◌, ◌-◌, ◌^◌, true, ℕ, List, Some, IfOk, IfSome, IsSomeAnd, OnOk};
 ghost use Rattle.std.specs.List.{slice_get};
-ghost use Rattle.seg_directory.specs.Composite.{low_after};
+ghost use Rattle.seg_directory.specs.CompositeFiles.{low_after};
 ghost use Rattle.seg_model.specs.Fields.{is_indexed};
-ghost use Rattle.seg_postings.specs.FieldWriting.{TermWritten, fresh};
-ghost use Rattle.seg_segment.specs.FieldsWritten.{AddsIfIndexed, HaveFields, IsWhole};
+ghost use Rattle.seg_postings.specs.FieldSerializers.{TermWritten, fresh};
+ghost use Rattle.seg_segment.specs.WrittenFields.{AddsIfIndexed, HaveFields, IsWhole};
 ghost use Rattle.seg_values.specs.declared.schema.FieldEntry.{FieldEntry};
 
 use crate::term_writer::TermWriter;

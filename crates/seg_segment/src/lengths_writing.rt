@@ -1,9 +1,9 @@
 //! The length ids of the fields of a segment, written field by field.
 ghost use Rattle.std.specs.Prelude.{◌≡◌, ◌≤◌, ◌<◌, ◌-◌, ◌^◌, ◌++◌, ◌∷◌, ℕ, List, [], Some, IfOk, IfSome, OnOk};
-ghost use Rattle.seg_common.specs.Growing.{HasGrown};
-ghost use Rattle.seg_directory.specs.Composite.{composite, low_after};
+ghost use Rattle.seg_common.specs.WriterGrowth.{HasGrown};
+ghost use Rattle.seg_directory.specs.CompositeFiles.{composite, low_after};
 ghost use Rattle.seg_norms.specs.FieldNorms.{fields_with_lengths};
-ghost use Rattle.seg_segment.specs.LengthsWritten.{AscendFrom, parts_with};
+ghost use Rattle.seg_segment.specs.WrittenLengths.{AscendFrom, parts_with};
 
 use seg_norms::{FieldNormsSerializer, FieldNormsWriter};
 use seg_values::{Field, Schema};

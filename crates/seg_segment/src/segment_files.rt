@@ -1,10 +1,10 @@
 //! The six files of a segment, as they are read or were just made.
 ghost use Rattle.std.specs.Prelude.{◌≡◌, IfOk};
 ghost use Rattle.seg_common.specs.declared.name.FileName.{FileName};
-ghost use Rattle.seg_directory.specs.Works.{Works, WorksFor};
+ghost use Rattle.seg_directory.specs.DirectorySteps.{Works, WorksFor};
 ghost use Rattle.seg_segment.specs.MadeFiles.{AreOfParts};
 ghost use Rattle.seg_segment.specs.SegmentFiles.{bytes_of, write_steps};
-ghost use Rattle.seg_segment.specs.SegmentRead.{first_of, first_steps, read_steps, rest_steps};
+ghost use Rattle.seg_segment.specs.SegmentReadSteps.{first_of, first_steps, read_steps, rest_steps};
 
 use crate::component_files::write_components;
 use seg_common::{FileName, OwnedBytes, SegmentComponent, SegmentId};

@@ -2,11 +2,11 @@
 ghost use Rattle.std.specs.Prelude.{◌≡◌, ◌≢◌, ◌⊎◌, ◌↔◌, true, Err, Some, None, option_map, IfOk, IfErr, IsTrue};
 ghost use Rattle.seg_directory.specs.DiskRuns.{KeepsOnDisk};
 ghost use Rattle.std.specs.Borrow.{Lends, sem};
-ghost use Rattle.seg_store.specs.Writing.{taken_bytes};
-ghost use Rattle.seg_segment.specs.Lending.{LendsPostings, LendsStore, bytes_row};
+ghost use Rattle.seg_store.specs.WriterBlocks.{taken_bytes};
+ghost use Rattle.seg_segment.specs.LentComponents.{LendsPostings, LendsStore, bytes_row};
 ghost use Rattle.seg_segment.specs.contracts.segment_serializer.SegmentSerializer.{the_row};
 ghost use Rattle.seg_segment.specs.SegmentFiles.{IsOtherName};
-ghost use Rattle.seg_segment.specs.Serializing.{IsNormsFile};
+ghost use Rattle.seg_segment.specs.SegmentSerializers.{IsNormsFile};
 
 use crate::segment_files::SegmentFiles;
 use seg_directory::Directory;
@@ -32,7 +32,7 @@ pub struct SegmentSerializer {
 
 impl Model for SegmentSerializer {
     ghost use Rattle.std.specs.Prelude.{option_map};
-    ghost use Rattle.seg_segment.specs.Serializing.{Serializing};
+    ghost use Rattle.seg_segment.specs.SegmentSerializers.{Serializing};
 
     ghost Value = { Serializing };
 
@@ -47,7 +47,7 @@ impl Model for SegmentSerializer {
 }
 
 impl SegmentSerializer {
-    ghost use Rattle.seg_segment.specs.Serializing.{unfilled, filled_with, IsLaidOut, Closes};
+    ghost use Rattle.seg_segment.specs.SegmentSerializers.{unfilled, filled_with, IsLaidOut, Closes};
 
     /// A serializer that has nothing yet.
     pub fn for_segment(

@@ -1,8 +1,8 @@
 //! The terms of a field, written document by document.
 ghost use Rattle.std.specs.Prelude.{◌≡◌, ◌<◌, [], ◌∷◌, None, length, IfSome, IsSomeAnd, OnOk};
-ghost use Rattle.seg_common.specs.Growing.{HasGrown};
-ghost use Rattle.seg_postings.specs.FieldWriting.{MayOccur, MayOpen, closed, with_document};
-ghost use Rattle.seg_segment.specs.WritingTerms.{AreOfKind, MayTake, opened, posting_of, with_more};
+ghost use Rattle.seg_common.specs.WriterGrowth.{HasGrown};
+ghost use Rattle.seg_postings.specs.FieldSerializers.{MayOccur, MayOpen, closed, with_document};
+ghost use Rattle.seg_segment.specs.WrittenTerms.{AreOfKind, MayTake, opened, posting_of, with_more};
 
 use seg_postings::{FieldSerializer, RecordKind};
 use std::alloc::AllocError;
@@ -18,7 +18,7 @@ pub struct TermWriter {
 
 impl Model for TermWriter {
     ghost use Rattle.std.specs.Prelude.{◌≡◌, Option, IfSome, is_some};
-    ghost use Rattle.seg_postings.specs.FieldWriting.{FieldWriting};
+    ghost use Rattle.seg_postings.specs.FieldSerializers.{FieldWriting};
 
     ghost Value = { Option FieldWriting };
 

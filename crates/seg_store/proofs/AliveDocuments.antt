@@ -4,7 +4,7 @@ use Rattle.std.specs.List.{slice_get}
 use Rattle.std.proofs.lemmas.Bool.{false≢true}
 use Rattle.std.proofs.lemmas.Option.{none-some, same_Some}
 use Rattle.seg_model.specs.Operations.{kept}
-use Rattle.seg_store.specs.Alive.{alive_behind, alive_at, IsFirstAlive}
+use Rattle.seg_store.specs.AliveDocuments.{alive_behind, alive_at, IsFirstAlive}
 
 module _ {X : Type 0} where
   kept_none : (set : List Bool) → kept {X = X} set [] ≡ []

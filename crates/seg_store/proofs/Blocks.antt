@@ -10,7 +10,7 @@ use Rattle.seg_common.proofs.Bytes.{length-numbers}
 use Rattle.seg_store.specs.Ends.{numbers_of, are_ends, cut_from, last_bytes, but_last}
 use Rattle.seg_doc_bytes.specs.StoredDocument.{is_stored_document}
 use Rattle.seg_store.specs.Block.{Block, block_count, block_ends, block_body, documents_in, is_block}
-use Rattle.seg_store.proofs.Cutting.{last-appended, but_last-appended, u32_at-alone, numbers_read, ends-below}
+use Rattle.seg_store.proofs.CutEnds.{last-appended, but_last-appended, u32_at-alone, numbers_read, ends-below}
 
 -- bytes are a block with these documents
 pub record IsBlockOf (bytes : List ℕ) (documents : Block) : Type 0 where

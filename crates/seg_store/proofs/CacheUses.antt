@@ -7,7 +7,7 @@ use Rattle.std.proofs.lemmas.Bool.{eqb-true}
 use Rattle.std.proofs.lemmas.List.Elements.{All-contains}
 use Rattle.std.proofs.lemmas.Map.Made.{is_some-lookup}
 use Rattle.lru.proofs.CallerLemmas.{Contains-lookup}
-use Rattle.seg_common.specs.Causes.{next_count}
+use Rattle.seg_common.specs.FaultCounts.{next_count}
 use Rattle.seg_store.specs.Block.{Block}
 use Rattle.seg_store.specs.Cache.{entries_after, after_use}
 use Rattle.seg_store.specs.CachedBlocks.{CachedBlocks, after_hit, after_miss, cached_store, IsBlockOf}

@@ -9,9 +9,9 @@ use Rattle.seg_store.specs.declared.checkpoint.Checkpoint.{Checkpoint}
 use Rattle.seg_store.specs.Block.{Block, documents_in, is_block}
 use Rattle.seg_store.specs.Checkpoints.{checkpoint_of, checkpoints, stored_size}
 use Rattle.seg_store.specs.Ends.{are_ends, cut_from}
-use Rattle.seg_store.specs.Stacking.{byte_ends, shifted, HaveBlocks}
+use Rattle.seg_store.specs.StackedBlocks.{byte_ends, shifted, HaveBlocks}
 use Rattle.seg_store.specs.Store.{store_checkpoints, store_body, store_parts, id_ends, document_count, blocks_of, is_store}
-use Rattle.seg_store.proofs.Cutting.{ends-next}
+use Rattle.seg_store.proofs.CutEnds.{ends-next}
 use Rattle.seg_store.proofs.DocumentPlaces.{block_facts, block_size_is, blocks_cut, count_is, size_from, store_facts}
 
 -- from one on, each number has what the one before it has

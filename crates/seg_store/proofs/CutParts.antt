@@ -10,9 +10,9 @@ use Rattle.seg_common.proofs.Lists.{drop-slice_get}
 use Rattle.seg_store.specs.Ends.{numbers_of, cut_from}
 use Rattle.seg_store.specs.Block.{documents_in, is_block}
 use Rattle.seg_store.specs.Store.{checkpoints_of, document_count}
-use Rattle.seg_store.specs.Parts.{are_parts, are_blocks}
-use Rattle.seg_store.proofs.Cutting.{ends-next}
-use Rattle.seg_store.proofs.Tables.{number_at, length-numbers_of, length-checkpoints_of}
+use Rattle.seg_store.specs.CutParts.{are_parts, are_blocks}
+use Rattle.seg_store.proofs.CutEnds.{ends-next}
+use Rattle.seg_store.proofs.EndTables.{number_at, length-numbers_of, length-checkpoints_of}
 
 -- ---- parts
 

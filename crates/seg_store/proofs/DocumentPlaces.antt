@@ -16,9 +16,9 @@ use Rattle.seg_doc_bytes.specs.StoredDocument.{is_stored_document}
 use Rattle.seg_store.specs.Block.{Block, block_count, block_table, block_ends, block_body, documents_in, is_block}
 use Rattle.seg_store.specs.Store.{footer, store_count, store_table, checkpoints_of, store_checkpoints, store_body, store_parts, id_ends, document_count, raw_documents, blocks_of, is_store}
 use Rattle.seg_store.specs.Checkpoints.{stored_size}
-use Rattle.seg_store.specs.Writing.{byte_count}
-use Rattle.seg_store.proofs.Cutting.{length-cut, ends-next, bytes-cut as bytes_cut}
-use Rattle.seg_store.proofs.Tables.{number_at, checkpoint_found, length-numbers_of, length-checkpoints_of}
+use Rattle.seg_store.specs.WriterBlocks.{byte_count}
+use Rattle.seg_store.proofs.CutEnds.{length-cut, ends-next, bytes-cut as bytes_cut}
+use Rattle.seg_store.proofs.EndTables.{number_at, checkpoint_found, length-numbers_of, length-checkpoints_of}
 use Rattle.seg_store.proofs.PartPlaces.{get-left, get-right, passes_at, range_in_take, part_at, starts_after}
 use Rattle.seg_store.proofs.Blocks.{documents_by}
 

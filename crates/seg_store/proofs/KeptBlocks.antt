@@ -11,9 +11,9 @@ use Rattle.seg_store.specs.Ends.{are_ends, cut_from}
 use Rattle.seg_doc_bytes.specs.StoredDocument.{is_stored_document}
 use Rattle.seg_store.specs.Block.{Block, documents_in, is_block}
 use Rattle.seg_store.specs.Store.{id_ends, document_count, store_of}
-use Rattle.seg_store.specs.Writing.{Taken, byte_count, block_bytes, taken_count, last_block, all_blocks, with_all_closed, with_closed, closed_if_full, with_document}
-use Rattle.seg_store.specs.Buffers.{Buffers, closed_parts, taken_of, IsKept}
-use Rattle.seg_store.proofs.Cutting.{ends-push, ends-below, cut-push, length-cut, bytes-cut}
+use Rattle.seg_store.specs.WriterBlocks.{Taken, byte_count, block_bytes, taken_count, last_block, all_blocks, with_all_closed, with_closed, closed_if_full, with_document}
+use Rattle.seg_store.specs.WriterBuffers.{Buffers, closed_parts, taken_of, IsKept}
+use Rattle.seg_store.proofs.CutEnds.{ends-push, ends-below, cut-push, length-cut, bytes-cut}
 use Rattle.seg_store.proofs.Blocks.{block_form, block_read}
 use Rattle.seg_store.proofs.Stores.{AreParts, store_form, store_read}
 

@@ -4,10 +4,10 @@ mod BlockNumbers
 mod Blocks
 mod CacheEntries
 mod CacheUses
-mod Cases
+mod ExampleStores
 mod CheckpointLists
 mod CutParts
-mod Cutting
+mod CutEnds
 mod DocumentNumbers
 mod DocumentPlaces
 mod KeptBlocks
@@ -16,5 +16,5 @@ mod PartPlaces
 mod SplitFiles
 mod StackedBlocks
 mod Stores
-mod Tables
-mod TakenLast
+mod EndTables
+mod LastDocuments

@@ -6,7 +6,7 @@ use Rattle.std.proofs.lemmas.List.{take-append-drop, length-take-le, length-drop
 use Rattle.std.proofs.lemmas.Option.{none-some, same_Some}
 use Rattle.seg_common.proofs.Lists.{range-front}
 use Rattle.seg_store.specs.Ends.{are_ends, cut_from, start_of}
-use Rattle.seg_store.proofs.Cutting.{ends-next}
+use Rattle.seg_store.proofs.CutEnds.{ends-next}
 
 -- ---- lists
 

@@ -9,9 +9,9 @@ use Rattle.seg_store.specs.Ends.{last_bytes, but_last, numbers_of, cut_from}
 use Rattle.seg_doc_bytes.specs.StoredDocument.{is_stored_document}
 use Rattle.seg_store.specs.Block.{block_count, block_body, documents_in, is_block}
 use Rattle.seg_store.specs.Store.{footer, store_count, checkpoints_of, store_checkpoints, store_body, is_store, document_count}
-use Rattle.seg_store.specs.Parts.{are_parts, are_blocks}
-use Rattle.seg_store.proofs.Cutting.{length-cut}
-use Rattle.seg_store.proofs.Tables.{length-numbers_of}
+use Rattle.seg_store.specs.CutParts.{are_parts, are_blocks}
+use Rattle.seg_store.proofs.CutEnds.{length-cut}
+use Rattle.seg_store.proofs.EndTables.{length-numbers_of}
 
 -- ---- blocks
 

@@ -9,15 +9,15 @@ use Rattle.std.proofs.Math.Seq.{drop-append-add}
 use Rattle.seg_common.proofs.Lists.{range-front}
 use Rattle.seg_store.specs.declared.checkpoint.Checkpoint.{Checkpoint}
 use Rattle.seg_store.specs.Block.{Block, documents_in, is_block}
-use Rattle.seg_store.specs.Buffers.{Buffers, closed_parts, taken_of, IsKept}
+use Rattle.seg_store.specs.WriterBuffers.{Buffers, closed_parts, taken_of, IsKept}
 use Rattle.seg_store.specs.Checkpoints.{checkpoint_of, checkpoints}
 use Rattle.seg_store.specs.Ends.{are_ends, cut_from}
-use Rattle.seg_store.specs.Stacking.{byte_ends, shifted, HaveBlocks}
+use Rattle.seg_store.specs.StackedBlocks.{byte_ends, shifted, HaveBlocks}
 use Rattle.seg_store.specs.Store.{id_ends, document_count}
-use Rattle.seg_store.specs.Writing.{Taken, byte_count, block_bytes, taken_count, last_block, all_blocks, with_all_closed, with_stacked}
+use Rattle.seg_store.specs.WriterBlocks.{Taken, byte_count, block_bytes, taken_count, last_block, all_blocks, with_all_closed, with_stacked}
 use Rattle.seg_doc_bytes.specs.StoredDocument.{is_stored_document}
 use Rattle.seg_store.proofs.CheckpointLists.{shifted_ends, shifted_ids, blocks_few, blocks_size}
-use Rattle.seg_store.proofs.Cutting.{ends-go, ends-next}
+use Rattle.seg_store.proofs.CutEnds.{ends-go, ends-next}
 use Rattle.seg_store.proofs.KeptBlocks.{nothing_left, all_are_closed}
 
 -- ---- ends and parts after others

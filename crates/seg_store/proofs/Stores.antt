@@ -13,8 +13,8 @@ use Rattle.seg_store.specs.declared.checkpoint.Checkpoint.{Checkpoint}
 use Rattle.seg_store.specs.Ends.{are_ends, cut_from, last_bytes, but_last}
 use Rattle.seg_store.specs.Block.{documents_in, is_block}
 use Rattle.seg_store.specs.Store.{footer, store_count, checkpoints_of, store_checkpoints, store_body, id_ends, document_count, blocks_of, is_store, store_of}
-use Rattle.seg_store.specs.Buffers.{checkpoint_form}
-use Rattle.seg_store.proofs.Cutting.{last-appended, but_last-appended}
+use Rattle.seg_store.specs.WriterBuffers.{checkpoint_form}
+use Rattle.seg_store.proofs.CutEnds.{last-appended, but_last-appended}
 
 abbrev byte_ends : List (ℕ × ℕ) → List ℕ
 byte_ends cs = map (λ c. c.1) cs

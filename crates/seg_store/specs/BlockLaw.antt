@@ -3,7 +3,7 @@ use Rattle.std.specs.Prelude.{◌≡◌, ℕ, ◌+◌, List, [], ◌∷◌, ◌+
 use Rattle.std.specs.List.{flat_map}
 use Rattle.seg_store.specs.Block.{Block}
 use Rattle.seg_store.specs.Store.{document_count, raw_documents}
-use Rattle.seg_store.specs.Writing.{Taken, with_document, with_stacked, all_blocks, taken_count, taken_bytes, block_bytes}
+use Rattle.seg_store.specs.WriterBlocks.{Taken, with_document, with_stacked, all_blocks, taken_count, taken_bytes, block_bytes}
 
 -- all documents of the blocks, in order
 abbrev pub all_documents : Taken → List (List ℕ)

@@ -1,7 +1,7 @@
 -- The blocks that a reader of a store keeps, by their numbers.
 use Rattle.std.specs.Prelude.{ℕ, zero, suc, ◌-◌, not, nat_eq, nat_lt, if◌then◌else◌, List, [], ◌∷◌, length, take, filter}
 use Rattle.std.specs.List.{list_any}
-use Rattle.seg_common.specs.Causes.{next_count}
+use Rattle.seg_common.specs.FaultCounts.{next_count}
 use Rattle.seg_store.specs.Block.{Block}
 
 -- a reader's blocks; how many it keeps at most, and the numbers of those that it keeps, the last used first; how often

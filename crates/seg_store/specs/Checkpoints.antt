@@ -4,7 +4,7 @@ use Rattle.std.specs.List.{range_with_len}
 use Rattle.seg_store.specs.declared.checkpoint.Checkpoint.{Checkpoint}
 use Rattle.seg_store.specs.Block.{Block}
 use Rattle.seg_store.specs.Store.{document_count}
-use Rattle.seg_store.specs.Writing.{block_bytes}
+use Rattle.seg_store.specs.WriterBlocks.{block_bytes}
 
 -- how many bytes blocks take in a file: their documents, eight for where each of these ends, and
 -- four for each block's number of them

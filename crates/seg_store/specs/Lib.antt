@@ -1,12 +1,12 @@
-pub mod Alive
+pub mod AliveDocuments
 pub mod Block
 pub mod BlockLaw
-pub mod Buffers
 pub mod Cache
 pub mod CachedBlocks
 pub mod Checkpoints
+pub mod CutParts
 pub mod Ends
-pub mod Parts
-pub mod Stacking
+pub mod StackedBlocks
 pub mod Store
-pub mod Writing
+pub mod WriterBlocks
+pub mod WriterBuffers

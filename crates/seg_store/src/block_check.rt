@@ -2,7 +2,7 @@
 ghost use Rattle.std.specs.Prelude.{◌≡◌, ◌≤◌, ◌+◌, ◌*◌, length, true, false, MatchOption};
 ghost use Rattle.seg_store.specs.Block as block;
 ghost use Rattle.seg_store.specs.Ends.{numbers_of};
-ghost use Rattle.seg_store.specs.Parts.{are_parts};
+ghost use Rattle.seg_store.specs.CutParts.{are_parts};
 ghost use Rattle.seg_doc_bytes.specs.StoredDocument as documents;
 
 use crate::parts::part;

@@ -1,7 +1,7 @@
 //! The stored bytes of documents, one after another.
 ghost use Rattle.std.specs.Prelude.{◌≡◌, ◌<◌, ◌≤◌, ◌+◌, ℕ, length, take, true, false, option_map, MatchOption};
 ghost use Rattle.std.specs.Iterator.{YieldsFirst, item_count};
-ghost use Rattle.seg_store.specs.Alive.{alive_at, alive_behind, IsFirstAlive};
+ghost use Rattle.seg_store.specs.AliveDocuments.{alive_at, alive_behind, IsFirstAlive};
 ghost use Rattle.seg_store.specs.Store.{is_store, blocks_of, raw_documents, document_count};
 
 use crate::checkpoint::checkpoint_at;
@@ -24,7 +24,7 @@ pub struct RawDocs<'a> {
 
 impl<'a> Model for RawDocs<'a> {
     ghost use Rattle.std.specs.Prelude.{◌≡◌, ◌≤◌, ℕ, List, true, length, take, option_map};
-    ghost use Rattle.seg_store.specs.Alive.{alive_behind};
+    ghost use Rattle.seg_store.specs.AliveDocuments.{alive_behind};
     ghost use Rattle.seg_store.specs.Store.{is_store, blocks_of, raw_documents, document_count};
 
     ghost Value = { List (List ℕ) };

@@ -1,6 +1,6 @@
 //! Whether bytes are a store.
 ghost use Rattle.std.specs.Prelude.{◌≡◌, ◌≤◌, ◌+◌, ◌*◌, length};
-ghost use Rattle.seg_store.specs.Parts.{are_blocks};
+ghost use Rattle.seg_store.specs.CutParts.{are_blocks};
 ghost use Rattle.seg_store.specs.Store as store;
 
 use crate::block_check::checked_len;

@@ -1,14 +1,14 @@
 //! The reader of stores.
 ghost use Rattle.std.specs.Prelude.{◌≡◌, ◌<◌, ◌≤◌, ◌+◌, ◌*◌, true, length, take, Some, None, option_map, IfOk, IfErr, MatchResult};
 ghost use Rattle.std.specs.List.{slice_get};
-ghost use Rattle.seg_store.specs.Alive.{alive_behind};
+ghost use Rattle.seg_store.specs.AliveDocuments.{alive_behind};
 ghost use Rattle.seg_store.specs.Block.{is_block, documents_in};
 ghost use Rattle.seg_store.specs.Cache.{block_of};
 ghost use Rattle.seg_store.specs.Checkpoints.{checkpoints, stored_size};
 ghost use Rattle.seg_doc_bytes.specs.StoredDocument.{is_stored_document, stored_document_of};
-ghost use Rattle.seg_store.specs.Stacking.{HaveBlocks};
+ghost use Rattle.seg_store.specs.StackedBlocks.{HaveBlocks};
 ghost use Rattle.seg_store.specs.Store.{store_of, document_count, raw_documents, documents_of};
-ghost use Rattle.seg_store.specs.Writing.{block_bytes};
+ghost use Rattle.seg_store.specs.WriterBlocks.{block_bytes};
 
 use crate::checkpoint::{CHECKPOINT_BYTES, Checkpoint, checkpoint_at};
 use crate::checkpoints::Checkpoints;

@@ -1,12 +1,12 @@
 //! The writer of stores.
 ghost use Rattle.std.specs.Prelude.{◌≡◌, ◌≢◌, ◌<◌, ◌+◌, ◌-◌, ◌^◌, ◌⊎◌, ◌↔◌, [], true, Option, Some, None, Err, option_map, IfOk, IfErr, IfSome, OnOk};
-ghost use Rattle.seg_common.specs.Growing.{HasGrown};
-ghost use Rattle.seg_model.specs.Reading.{stored_document};
-ghost use Rattle.seg_values.specs.StoredForm.{stored_form};
+ghost use Rattle.seg_common.specs.WriterGrowth.{HasGrown};
+ghost use Rattle.seg_model.specs.DocumentTerms.{stored_document};
+ghost use Rattle.seg_values.specs.StoredBytes.{stored_form};
 ghost use Rattle.seg_doc_bytes.specs.StoredDocument.{stored_document_of, is_stored_document};
-ghost use Rattle.seg_doc_bytes.specs.StoredLaw.{AreShallow};
+ghost use Rattle.seg_doc_bytes.specs.StoredDocumentLaw.{AreShallow};
 ghost use Rattle.seg_store.specs.Store.{store_of, document_count};
-ghost use Rattle.seg_store.specs.Writing.{Taken, with_document, with_stacked, all_blocks, taken_count, taken_bytes};
+ghost use Rattle.seg_store.specs.WriterBlocks.{Taken, with_document, with_stacked, all_blocks, taken_count, taken_bytes};
 
 use crate::error::StoreError;
 use crate::store_reader::StoreReader;
@@ -23,8 +23,8 @@ pub struct StoreWriter {
 
 impl Model for StoreWriter {
     ghost use Rattle.std.specs.Prelude.{Option, option_map, IfSome};
-    ghost use Rattle.seg_store.specs.Writing.{Taken};
-    ghost use Rattle.seg_store.specs.Buffers.{taken_of, IsKept};
+    ghost use Rattle.seg_store.specs.WriterBlocks.{Taken};
+    ghost use Rattle.seg_store.specs.WriterBuffers.{taken_of, IsKept};
 
     ghost Value = { Option Taken };
 

@@ -2,15 +2,15 @@
 ghost use Rattle.std.specs.Prelude.{◌≡◌, ◌≢◌, ◌≤◌, ◌<◌, ◌+◌, ◌-◌, ◌^◌, ◌++◌, [], true, length, take, drop, map, Some, IfOk, OnOk};
 ghost use Rattle.std.specs.List.{flat_map};
 ghost use Rattle.std.specs.Int.{w32, w64, to_le_bytes};
-ghost use Rattle.seg_model.specs.Reading.{stored_document};
-ghost use Rattle.seg_values.specs.StoredForm.{stored_form};
+ghost use Rattle.seg_model.specs.DocumentTerms.{stored_document};
+ghost use Rattle.seg_values.specs.StoredBytes.{stored_form};
 ghost use Rattle.seg_doc_bytes.specs.StoredDocument.{stored_document_of, is_stored_document};
-ghost use Rattle.seg_doc_bytes.specs.StoredLaw.{AreShallow};
+ghost use Rattle.seg_doc_bytes.specs.StoredDocumentLaw.{AreShallow};
 ghost use Rattle.seg_store.specs.Checkpoints.{checkpoints, stored_size};
-ghost use Rattle.seg_store.specs.Stacking.{shifted};
+ghost use Rattle.seg_store.specs.StackedBlocks.{shifted};
 ghost use Rattle.seg_store.specs.Store.{store_of, document_count};
-ghost use Rattle.seg_store.specs.Writing.{with_document, closed_if_full, with_closed, all_blocks, with_all_closed, with_stacked};
-ghost use Rattle.seg_store.specs.Buffers.{taken_of, IsKept, checkpoint_form};
+ghost use Rattle.seg_store.specs.WriterBlocks.{with_document, closed_if_full, with_closed, all_blocks, with_all_closed, with_stacked};
+ghost use Rattle.seg_store.specs.WriterBuffers.{taken_of, IsKept, checkpoint_form};
 
 use crate::checkpoint::Checkpoint;
 use crate::store_reader::StoreReader;
@@ -33,7 +33,7 @@ pub(crate) struct WrittenBlocks {
 }
 
 impl Model for WrittenBlocks {
-    ghost use Rattle.seg_store.specs.Buffers.{Buffers};
+    ghost use Rattle.seg_store.specs.WriterBuffers.{Buffers};
 
     ghost Value = { Buffers };
 

@@ -12,7 +12,7 @@ use Rattle.std.proofs.lemmas.Cmp.{nat_list_cmp_total}
 use Rattle.seg_common.proofs.Bytes.{same_term}
 use Rattle.seg_termdict.specs.SortedTerms.{is_from}
 use Rattle.seg_termdict.specs.Dictionary.{Term, key_of, AreKeys}
-use Rattle.seg_termdict.specs.Ranges.{comes_before, key_at, IsCut}
+use Rattle.seg_termdict.specs.TermRanges.{comes_before, key_at, IsCut}
 use Rattle.seg_termdict.proofs.KeyOrder.{rising}
 
 less_before : (through : Bool) (bound a : List ℕ) → slice_cmp nat_cmp a bound ≡ Less → comes_before through bound a ≡ true

@@ -12,7 +12,7 @@ use Rattle.std.proofs.lemmas.List.Sums.{sum_by-append, sum_by-cons}
 use Rattle.std.proofs.lemmas.Slice.Eq.{bytes_eq-Decides}
 use Rattle.seg_common.specs.declared.term_info.TermInfo.{TermInfo}
 use Rattle.seg_termdict.specs.SortedTerms.{RankedTerm}
-use Rattle.seg_termdict.specs.Fronts.{Front, front_at, fronts_from}
+use Rattle.seg_termdict.specs.MergerHeap.{Front, front_at, fronts_from}
 use Rattle.seg_termdict.proofs.MergeSteps.{Streams}
 
 -- ---- lists over which every sum is the same

@@ -3,7 +3,7 @@ use Rattle.std.proofs.Common.{◌≡◌, ℕ, suc, ◌+◌, ◌<◌, List, [], �
 use Rattle.std.specs.List.{range_with_len}
 use Rattle.std.proofs.lemmas.List.FromFn.{map-range_with_len_more, length-map-range_with_len, get_or-map-range_with_len, fill_by_all}
 use Rattle.seg_termdict.specs.Dictionary.{Term, term_of, terms_in}
-use Rattle.seg_termdict.specs.Building.{last_term}
+use Rattle.seg_termdict.specs.DictionaryBuilders.{last_term}
 
 pub last_term-push : (before : Option Term) (ts : List Term) (t : Term) → last_term before (ts ++ t ∷ []) ≡ Some t
 last_term-push before [] t = refl

@@ -14,13 +14,13 @@ use Rattle.std.proofs.lemmas.Cmp.{nat_list_cmp_total, tied_itself}
 use Rattle.std.proofs.lemmas.List.{length-append, nil_from_length}
 use Rattle.std.proofs.lemmas.Map.Text.{is_eq-slice_cmp}
 use Rattle.std.proofs.lemmas.Slice.Eq.{bytes_eq-Decides}
-use Rattle.seg_common.proofs.Tables.{texts_apart}
+use Rattle.seg_common.proofs.TabulatedMaps.{texts_apart}
 use Rattle.seg_common.specs.declared.term_info.TermInfo.{TermInfo}
 use Rattle.seg_common.proofs.Bytes.{same_term}
 use Rattle.seg_termdict.specs.SortedTerms.{RankedTerm, SortedTerms, key_cmp}
 use Rattle.seg_termdict.specs.MergedTerms.{Standing, standing_in, standings_from, if_stands, keys_in, merged_terms}
 use Rattle.seg_termdict.proofs.MergedTerms.{merged_terms_answer}
-use Rattle.seg_termdict.specs.Merging.{MergedTerm, Ascends, first, first_with, behind, standing_first, standings_first, NotBelow}
+use Rattle.seg_termdict.specs.MergedStreams.{MergedTerm, Ascends, first, first_with, behind, standing_first, standings_first, NotBelow}
 
 -- ---- keys
 
@@ -191,7 +191,7 @@ no_keys (x ∷ xs) h = ap (λ ts. keys_in ts ++ flat_map keys_in xs) h.0 ∙ no_
 pub none_merged : (hs : Streams) → AllByRecursion (λ (h : List (RankedTerm TermInfo)). h ≡ []) hs → entries (merged_terms hs) ≡ []
 none_merged hs h =
     let m : SortedTerms (List (Standing TermInfo)) = empty in
-    let e : merged_terms hs ≡ m = ap (λ ks. Rattle.seg_common.specs.Tables.tabulated (λ key. if_stands (standings_from 0 key hs)) ks) (no_keys hs h) in
+    let e : merged_terms hs ≡ m = ap (λ ks. Rattle.seg_common.specs.TabulatedMaps.tabulated (λ key. if_stands (standings_from 0 key hs)) ks) (no_keys hs h) in
     ap entries e ∙ nil_from_length (entries m) (sym (len-entries m) ∙ len-empty key_cmp (List (Standing TermInfo)))
 
 -- ---- a key that a first term has

@@ -6,11 +6,11 @@ use Rattle.std.specs.Cmp.Lexicographic.{nat_list_cmp_total}
 use Rattle.std.specs.Str.{bytes_eq}
 use Rattle.std.proofs.lemmas.Map.Text.{is_eq-slice_cmp}
 use Rattle.std.proofs.lemmas.List.Folds.{list_any-append}
-use Rattle.seg_common.specs.Tables.{is_among}
+use Rattle.seg_common.specs.TabulatedMaps.{is_among}
 use Rattle.seg_termdict.specs.SortedTerms.{RankedTerm, key_cmp}
 use Rattle.seg_termdict.specs.MergedTerms.{standing_in, standings_from, if_stands, keys_in}
 use Rattle.seg_termdict.specs.Laws.{MergedTermsAnswer}
-use Rattle.seg_common.proofs.Tables.{texts_apart, first_false, second_false, get-tabulated}
+use Rattle.seg_common.proofs.TabulatedMaps.{texts_apart, first_false, second_false, get-tabulated}
 
 module _ {Info : Type 0} (key : List ℕ) where
   none_in : (segment : ℕ) (terms : List (RankedTerm Info)) → is_among key_cmp (keys_in terms) key ≡ false → standing_in segment key terms ≡ []

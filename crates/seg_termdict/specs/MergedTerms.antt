@@ -3,7 +3,7 @@ use Rattle.std.specs.Prelude.{ℕ, ◌+◌, List, [], ◌∷◌, ◌++◌, map, 
 use Rattle.std.specs.List.{flat_map}
 use Rattle.std.specs.Str.{bytes_eq}
 use Rattle.seg_termdict.specs.SortedTerms.{SortedTerms, RankedTerm}
-use Rattle.seg_common.specs.Tables.{tabulated}
+use Rattle.seg_common.specs.TabulatedMaps.{tabulated}
 
 -- a segment that has a key, with the ordinal and the info of the key there
 pub record Standing (Info : Type 0) : Type 0 where

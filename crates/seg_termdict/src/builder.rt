@@ -1,8 +1,8 @@
 //! The builder of term dictionaries.
 ghost use Rattle.std.specs.Prelude.{◌≡◌, [], Option, Some, None, IfOk, IfErr, IfSome, IsSome, OnOk};
-ghost use Rattle.seg_common.specs.Growing.{HasGrown};
+ghost use Rattle.seg_common.specs.WriterGrowth.{HasGrown};
 ghost use Rattle.seg_termdict.specs.Dictionary.{IsDictionary, terms_of};
-ghost use Rattle.seg_termdict.specs.Building.{Building, complete, with_key, with_info, with_term, MayFollow, Continues, KeyRefused};
+ghost use Rattle.seg_termdict.specs.DictionaryBuilders.{Building, complete, with_key, with_info, with_term, MayFollow, Continues, KeyRefused};
 
 use crate::error::TermDictError;
 use crate::written_terms::WrittenTerms;
@@ -19,7 +19,7 @@ pub struct TermDictionaryBuilder {
 
 impl Model for TermDictionaryBuilder {
     ghost use Rattle.std.specs.Prelude.{Option};
-    ghost use Rattle.seg_termdict.specs.Building.{Building};
+    ghost use Rattle.seg_termdict.specs.DictionaryBuilders.{Building};
 
     ghost Value = { Option Building };
 

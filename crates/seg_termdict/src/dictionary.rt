@@ -5,8 +5,8 @@ ghost use Rattle.std.specs.List.Sorted.{IsStrictlySortedBy};
 ghost use Rattle.std.specs.Ordering.{nat_cmp};
 ghost use Rattle.seg_termdict.specs.Dictionary.{Term, IsDictionary, terms_of};
 ghost use Rattle.seg_termdict.specs.LookUps.{Refuses, Lacks, HasKeyAt};
-ghost use Rattle.seg_termdict.specs.Ranges.{IsCut, comes_before, unbounded};
-ghost use Rattle.seg_termdict.specs.Streaming.{all_terms};
+ghost use Rattle.seg_termdict.specs.TermRanges.{IsCut, comes_before, unbounded};
+ghost use Rattle.seg_termdict.specs.TermStreams.{all_terms};
 
 use crate::builder::TermDictionaryBuilder;
 use crate::check::checked_count;

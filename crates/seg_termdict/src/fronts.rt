@@ -5,7 +5,7 @@ ghost use Rattle.std.specs.List.Sorted.{IsPermutation};
 ghost use Rattle.std.specs.Ordering.{is_le};
 ghost use Rattle.std.specs.Str.{bytes_eq};
 ghost use Rattle.seg_termdict.specs.SortedTerms.{key_cmp};
-ghost use Rattle.seg_termdict.specs.Fronts.{IsFirstFront};
+ghost use Rattle.seg_termdict.specs.MergerHeap.{IsFirstFront};
 
 use std::alloc::{AllocError, Global};
 use std::cmp::Reverse;
@@ -21,7 +21,7 @@ pub(crate) struct Fronts<'a> {
 impl<'a> Model for Fronts<'a> {
     ghost use Rattle.std.specs.Prelude.{map, List};
     ghost use Rattle.std.specs.BinaryHeap.{heap_items, IsHeap};
-    ghost use Rattle.seg_termdict.specs.Fronts.{Front, front_of, greatest_first};
+    ghost use Rattle.seg_termdict.specs.MergerHeap.{Front, front_of, greatest_first};
 
     ghost Value = { List Front };
 

@@ -1,6 +1,6 @@
 //! One of the streams that are merged.
 ghost use Rattle.std.specs.Prelude.{◌≡◌, ◌<◌, drop, false, nat_lt, length};
-ghost use Rattle.seg_termdict.specs.Merging.{Ascends, first, terms_of_stream};
+ghost use Rattle.seg_termdict.specs.MergedStreams.{Ascends, first, terms_of_stream};
 
 use crate::format::TermOrdinal;
 use crate::streamer::TermStreamer;

@@ -3,7 +3,7 @@ ghost use Rattle.std.specs.Prelude.{◌≡◌, ◌≢◌, ◌≤◌, ◌<◌, �
 ghost use Rattle.std.specs.Ordering.{nat_cmp};
 ghost use Rattle.std.specs.Cmp.Lexicographic.{slice_cmp};
 ghost use Rattle.seg_termdict.specs.Dictionary as spec;
-ghost use Rattle.seg_termdict.specs.Ranges as ranges;
+ghost use Rattle.seg_termdict.specs.TermRanges as ranges;
 
 use crate::format::KEY_END;
 use seg_common::u64_at;

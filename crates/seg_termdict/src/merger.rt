@@ -2,9 +2,9 @@
 ghost use Rattle.std.specs.Prelude.{◌≡◌, ◌<◌, false, None, Some, ◌++◌, [], ◌∷◌, map, drop, get_or, slice_set, nat_lt, length, All, IfOk, IfErr, OnOk, IfSome, IsSome, IsSomeAnd, IsTrue};
 ghost use Rattle.std.specs.List.{AllByRecursion};
 ghost use Rattle.std.specs.List.Sorted.{IsPermutation};
-ghost use Rattle.seg_common.specs.Growing.{HasGrown};
-ghost use Rattle.seg_termdict.specs.Fronts.{AreFronts, front_at};
-ghost use Rattle.seg_termdict.specs.Merging.{Ascends, NotBelow, behind, before_merged, first, info_of, ord_of, standings_first, stepped, terms_of_stream};
+ghost use Rattle.seg_common.specs.WriterGrowth.{HasGrown};
+ghost use Rattle.seg_termdict.specs.MergerHeap.{AreFronts, front_at};
+ghost use Rattle.seg_termdict.specs.MergedStreams.{Ascends, NotBelow, behind, before_merged, first, info_of, ord_of, standings_first, stepped, terms_of_stream};
 
 use crate::error::TermDictError;
 use crate::format::TermOrdinal;
@@ -33,8 +33,8 @@ impl<'a> Model for TermMerger<'a> {
     ghost use Rattle.std.specs.FinMap.{entries};
     ghost use Rattle.std.specs.List.{AllByRecursion};
     ghost use Rattle.seg_termdict.specs.MergedTerms.{merged_terms};
-    ghost use Rattle.seg_termdict.specs.Fronts.{AreFronts};
-    ghost use Rattle.seg_termdict.specs.Merging.{Merging, Ascends, noted};
+    ghost use Rattle.seg_termdict.specs.MergerHeap.{AreFronts};
+    ghost use Rattle.seg_termdict.specs.MergedStreams.{Merging, Ascends, noted};
 
     ghost Value = { Option Merging };
 

@@ -1,9 +1,9 @@
 //! The terms of a dictionary, or of a range of them, one after another.
 ghost use Rattle.std.specs.Prelude.{◌≡◌, ◌+◌, ◌<◌, ◌≤◌, false, nat_lt, length, option_map, slice_get};
 ghost use Rattle.std.specs.Borrow.{sem};
-ghost use Rattle.seg_termdict.specs.Merging.{Ascends};
-ghost use Rattle.seg_termdict.specs.Ranges.{between, place_of};
-ghost use Rattle.seg_termdict.specs.Streaming.{before_all, without_ord, current, advanced};
+ghost use Rattle.seg_termdict.specs.MergedStreams.{Ascends};
+ghost use Rattle.seg_termdict.specs.TermRanges.{between, place_of};
+ghost use Rattle.seg_termdict.specs.TermStreams.{before_all, without_ord, current, advanced};
 
 use crate::dictionary::TermDictionary;
 use crate::format::TermOrdinal;
@@ -24,8 +24,8 @@ pub struct TermStreamer<'a> {
 
 impl<'a> Model for TermStreamer<'a> {
     ghost use Rattle.std.specs.Prelude.{◌≡◌, ◌+◌, ◌≤◌, length};
-    ghost use Rattle.seg_termdict.specs.Ranges.{between};
-    ghost use Rattle.seg_termdict.specs.Streaming.{Stream, current};
+    ghost use Rattle.seg_termdict.specs.TermRanges.{between};
+    ghost use Rattle.seg_termdict.specs.TermStreams.{Stream, current};
 
     ghost Value = { Stream };
 

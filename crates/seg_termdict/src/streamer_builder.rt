@@ -2,8 +2,8 @@
 ghost use Rattle.std.specs.Prelude.{◌≡◌, not, IfOk, IfErr};
 ghost use Rattle.std.specs.declared.ops.Bound.TheVariants.{Included, Excluded};
 ghost use Rattle.seg_termdict.specs.SortedTerms.{is_from, is_up_to, streamed};
-ghost use Rattle.seg_termdict.specs.Ranges.{IsCut, sorted_terms, unbounded, with_lower, with_upper, turned_backward};
-ghost use Rattle.seg_termdict.specs.Streaming.{before_all};
+ghost use Rattle.seg_termdict.specs.TermRanges.{IsCut, sorted_terms, unbounded, with_lower, with_upper, turned_backward};
+ghost use Rattle.seg_termdict.specs.TermStreams.{before_all};
 
 use crate::dictionary::TermDictionary;
 use crate::error::TermDictError;
@@ -24,7 +24,7 @@ pub struct TermStreamerBuilder<'a> {
 }
 
 impl<'a> Model for TermStreamerBuilder<'a> {
-    ghost use Rattle.seg_termdict.specs.Ranges.{Ranged};
+    ghost use Rattle.seg_termdict.specs.TermRanges.{Ranged};
 
     ghost Value = { Ranged };
 

@@ -2,8 +2,8 @@
 ghost use Rattle.std.specs.Prelude.{◌≡◌, ◌<◌, ◌^◌, ◌++◌, [], None, length, take, IsSome, IfOk, OnOk, OnErr, MatchBool};
 ghost use Rattle.std.specs.Int.{w64, to_le_bytes};
 ghost use Rattle.seg_termdict.specs.Dictionary.{IsDictionary, terms_of};
-ghost use Rattle.seg_termdict.specs.Building.{Building, complete, with_key, with_info, MayFollow, Continues};
-ghost use Rattle.seg_termdict.specs.Writing.{AreWritten, HasWidths, info_bytes, written};
+ghost use Rattle.seg_termdict.specs.DictionaryBuilders.{Building, complete, with_key, with_info, MayFollow, Continues};
+ghost use Rattle.seg_termdict.specs.BuilderTables.{AreWritten, HasWidths, info_bytes, written};
 
 use crate::format::{COUNT, LIST_TYPE, VERSION};
 use seg_common::{TermInfo, put_u32, put_u64};
@@ -25,8 +25,8 @@ pub(crate) struct WrittenTerms {
 }
 
 impl Model for WrittenTerms {
-    ghost use Rattle.seg_termdict.specs.Building.{Building};
-    ghost use Rattle.seg_termdict.specs.Writing.{AreWritten, written};
+    ghost use Rattle.seg_termdict.specs.DictionaryBuilders.{Building};
+    ghost use Rattle.seg_termdict.specs.BuilderTables.{AreWritten, written};
 
     ghost Value = { Building };
 

@@ -9,13 +9,13 @@ use Rattle.std.proofs.lemmas.List.{get_or_append_left, length-map, map_push}
 use Rattle.std.proofs.lemmas.Nat.{from_le_bytes-to_le_bytes_4}
 use Rattle.seg_paths.specs.Paths.{Extends, HaveNoZero}
 use Rattle.seg_paths.proofs.Exports.{ended-apart, no_zero-at, same_place}
-use Rattle.seg_terms.specs.Adding.{with_occurrence}
-use Rattle.seg_terms.specs.Known.{AreKnown, IsAdded, key_number, with_key}
-use Rattle.seg_terms.specs.Numbered.{AreBelow, numbered_terms}
+use Rattle.seg_terms.specs.AddedOccurrences.{with_occurrence}
+use Rattle.seg_terms.specs.TermsByKey.{AreKnown, IsAdded, key_number, with_key}
+use Rattle.seg_terms.specs.NumberedOccurrences.{AreBelow, numbered_terms}
 use Rattle.seg_terms.specs.PathKeys.{IsPathKey, TermsOnPaths, key_path, path_key, term_on}
 use Rattle.seg_terms.specs.declared.hit.Hit.{Hit}
 use Rattle.seg_terms.specs.declared.known_terms.KnownTerms.{KnownTerms}
-use Rattle.seg_terms.proofs.Numbering.{added_by_key}
+use Rattle.seg_terms.proofs.NumberedOccurrences.{added_by_key}
 
 -- ---- what a key is
 

@@ -12,22 +12,22 @@ use Rattle.std.specs.Str.{bytes_eq}
 use Rattle.std.proofs.lemmas.List.Elements.{All-from_recursion}
 use Rattle.std.proofs.lemmas.List.Sorted.{All-permutation}
 use Rattle.std.proofs.lemmas.Option.{same_Some, slice_get-get_or}
-use Rattle.seg_model.specs.Reading.{Posting}
+use Rattle.seg_model.specs.DocumentTerms.{Posting}
 use Rattle.seg_paths.specs.Paths.{HaveNoZero}
 use Rattle.seg_paths.specs.Ranks.{AreRanks}
 use Rattle.seg_paths.proofs.Exports.{cmp-ended, no_zero-at}
-use Rattle.seg_terms.specs.Entries.{TermEntries}
-use Rattle.seg_terms.specs.Grouped.{grouped}
-use Rattle.seg_terms.specs.Numbered.{hits_of, numbered_from, numbered_terms}
-use Rattle.seg_terms.specs.Parts.{AreCut, IsWithin, cut_from, entries_of}
+use Rattle.seg_terms.specs.TermEntries.{TermEntries}
+use Rattle.seg_terms.specs.PostingGroups.{grouped}
+use Rattle.seg_terms.specs.NumberedOccurrences.{hits_of, numbered_from, numbered_terms}
+use Rattle.seg_terms.specs.TermParts.{AreCut, IsWithin, cut_from, entries_of}
 use Rattle.seg_terms.specs.PathKeys.{IsPathKey, TermsOnPaths, key_path, ranked, term_on}
-use Rattle.seg_terms.specs.PathParts.{IsOnPath, path_entries_of, path_entry_of}
+use Rattle.seg_terms.specs.PathTermParts.{IsOnPath, path_entries_of, path_entry_of}
 use Rattle.seg_terms.specs.declared.hit.Hit.{Hit}
 use Rattle.seg_terms.specs.declared.hit.NumberedHit.{NumberedHit}
 use Rattle.seg_terms.specs.declared.term_part.TermPart.{TermPart}
-use Rattle.seg_terms.proofs.Cutting.{entries_cut, keys_numbered, within_cut}
+use Rattle.seg_terms.proofs.CutOccurrences.{entries_cut, keys_numbered, within_cut}
 use Rattle.seg_terms.proofs.PathKeys.{distinct-kept, path-within}
-use Rattle.seg_terms.proofs.Sorting.{Up, entries-seen, is_sorted-seen}
+use Rattle.seg_terms.proofs.SortedEntries.{Up, entries-seen, is_sorted-seen}
 
 -- ---- the order of ranks is that of terms
 

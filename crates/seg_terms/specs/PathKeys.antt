@@ -2,7 +2,7 @@
 use Rattle.std.specs.Prelude.{◌≡◌, ◌<◌, ◌^◌, ℕ, List, [], ◌∷◌, ◌++◌, drop}
 use Rattle.std.specs.Int.{w32, to_le_bytes, from_le_bytes}
 use Rattle.std.specs.List.{slice_index_or}
-use Rattle.seg_model.specs.Reading.{Terms}
+use Rattle.seg_model.specs.DocumentTerms.{Terms}
 
 -- the paths of a field, by their numbers, and its terms
 pub record TermsOnPaths : Type 0 where

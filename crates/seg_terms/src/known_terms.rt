@@ -2,7 +2,7 @@
 ghost use Rattle.std.specs.Prelude.{◌≡◌, ◌≤◌, ◌^◌, [], false, length, OnOk, OnErr};
 ghost use Rattle.std.specs.List.{list_any};
 ghost use Rattle.std.specs.Str.{bytes_eq};
-ghost use Rattle.seg_terms.specs.Known.{AreKnown, IsAdded};
+ghost use Rattle.seg_terms.specs.TermsByKey.{AreKnown, IsAdded};
 
 use crate::hit::{Hit, NumberedHit};
 use crate::key::{KeyBytes, TermKey};

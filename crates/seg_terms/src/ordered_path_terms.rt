@@ -5,7 +5,7 @@ ghost use Rattle.std.specs.FinMap.{entries};
 ghost use Rattle.std.specs.List.Sorted.{IsPermutation, IsSortedBy};
 ghost use Rattle.std.specs.Map.{keys_of, values_of};
 ghost use Rattle.std.specs.Ordering.{is_lt, nat_cmp};
-ghost use Rattle.seg_terms.specs.Grouped.{grouped};
+ghost use Rattle.seg_terms.specs.PostingGroups.{grouped};
 ghost use Rattle.seg_terms.specs.PathKeys.{ranked};
 
 use crate::hit::Hit;
@@ -32,9 +32,9 @@ impl Model for OrderedPathTerms {
     ghost use Rattle.std.specs.Cmp.Lexicographic.{slice_cmp};
     ghost use Rattle.std.specs.FinMap.{is_sorted};
     ghost use Rattle.std.specs.List.{All};
-    ghost use Rattle.seg_terms.specs.Entries.{TermEntries, entries_code};
-    ghost use Rattle.seg_terms.specs.Parts.{IsWithin};
-    ghost use Rattle.seg_terms.specs.PathParts.{IsOnPath, path_entries_of};
+    ghost use Rattle.seg_terms.specs.TermEntries.{TermEntries, entries_code};
+    ghost use Rattle.seg_terms.specs.TermParts.{IsWithin};
+    ghost use Rattle.seg_terms.specs.PathTermParts.{IsOnPath, path_entries_of};
 
     ghost Value = { TermEntries };
 

@@ -2,7 +2,7 @@
 ghost use Rattle.std.specs.Prelude.{◌≡◌, ◌<◌, length, Some, IfOk, slice_get};
 ghost use Rattle.std.specs.FinMap.{entries};
 ghost use Rattle.std.specs.Map.{keys_of, values_of};
-ghost use Rattle.seg_terms.specs.Grouped.{grouped};
+ghost use Rattle.seg_terms.specs.PostingGroups.{grouped};
 
 use crate::hit::Hit;
 use crate::parts::{CutTerms, cut_terms, part};
@@ -24,8 +24,8 @@ impl Model for OrderedTerms {
     ghost use Rattle.std.specs.Cmp.Lexicographic.{slice_cmp};
     ghost use Rattle.std.specs.FinMap.{is_sorted};
     ghost use Rattle.std.specs.List.{All};
-    ghost use Rattle.seg_terms.specs.Entries.{TermEntries, entries_code};
-    ghost use Rattle.seg_terms.specs.Parts.{entries_of, IsWithin};
+    ghost use Rattle.seg_terms.specs.TermEntries.{TermEntries, entries_code};
+    ghost use Rattle.seg_terms.specs.TermParts.{entries_of, IsWithin};
 
     ghost Value = { TermEntries };
 

@@ -2,8 +2,8 @@
 ghost use Rattle.std.specs.Prelude.{◌≡◌, ◌≤◌, length, slice_range, IfOk};
 ghost use Rattle.std.specs.List.{IsDistinct};
 ghost use Rattle.std.specs.Str.{bytes_eq};
-ghost use Rattle.seg_terms.specs.Known.{AreKnown};
-ghost use Rattle.seg_terms.specs.Parts.{AreCut, cut_from};
+ghost use Rattle.seg_terms.specs.TermsByKey.{AreKnown};
+ghost use Rattle.seg_terms.specs.TermParts.{AreCut, cut_from};
 
 use crate::hit::Hit;
 use crate::key::TermKey;

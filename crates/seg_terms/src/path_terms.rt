@@ -1,12 +1,12 @@
 //! The terms of a JSON field so far, each with its occurrences.
 ghost use Rattle.std.specs.Prelude.{◌≡◌, ◌<◌, None, [], ◌∷◌, ◌++◌, map, length, slice_index_or, IfOk, OnOk, OnErr};
 ghost use Rattle.std.specs.FinMap as fin;
-ghost use Rattle.seg_model.specs.Checked.{tree_refusal};
+ghost use Rattle.seg_model.specs.DocumentCheck.{tree_refusal};
 ghost use Rattle.seg_model.specs.Leaves.{leaves};
 ghost use Rattle.seg_paths.specs.NumberedLeaves.{numbered, in_table};
 ghost use Rattle.seg_paths.specs.Paths.{Extends};
-ghost use Rattle.seg_terms.specs.Adding.{with_occurrence};
-ghost use Rattle.seg_values.specs.View.{tree_of};
+ghost use Rattle.seg_terms.specs.AddedOccurrences.{with_occurrence};
+ghost use Rattle.seg_values.specs.ValueTrees.{tree_of};
 
 use crate::hit::Hit;
 use crate::known_terms::KnownTerms;
@@ -31,8 +31,8 @@ impl Model for PathTerms {
     ghost use Rattle.std.specs.Coded.{codes};
     ghost use Rattle.std.specs.List.{AllByRecursion};
     ghost use Rattle.seg_model.specs.Codes.{terms_code};
-    ghost use Rattle.seg_terms.specs.Known.{AreKnown};
-    ghost use Rattle.seg_terms.specs.Numbered.{numbered_terms};
+    ghost use Rattle.seg_terms.specs.TermsByKey.{AreKnown};
+    ghost use Rattle.seg_terms.specs.NumberedOccurrences.{numbered_terms};
     ghost use Rattle.seg_terms.specs.PathKeys.{TermsOnPaths, IsPathKey, term_on};
 
     ghost Value = { TermsOnPaths };

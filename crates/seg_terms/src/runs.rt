@@ -1,7 +1,7 @@
 //! The postings of a term, one after another.
 ghost use Rattle.std.specs.Prelude.{◌≡◌, ◌<◌, length};
-ghost use Rattle.seg_terms.specs.Grouped.{grouped};
-ghost use Rattle.seg_terms.specs.Runs.{IsFirstRun};
+ghost use Rattle.seg_terms.specs.PostingGroups.{grouped};
+ghost use Rattle.seg_terms.specs.OccurrenceRuns.{IsFirstRun};
 
 use crate::hit::Hit;
 

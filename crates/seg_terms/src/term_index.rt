@@ -1,7 +1,7 @@
 //! The terms of a field so far, each with its occurrences.
 ghost use Rattle.std.specs.Prelude.{◌≡◌, OnOk, OnErr};
 ghost use Rattle.std.specs.FinMap as fin;
-ghost use Rattle.seg_terms.specs.Adding.{with_occurrence};
+ghost use Rattle.seg_terms.specs.AddedOccurrences.{with_occurrence};
 
 use crate::hit::Hit;
 use crate::known_terms::KnownTerms;
@@ -15,10 +15,10 @@ pub struct TermIndex {
 }
 
 impl Model for TermIndex {
-    ghost use Rattle.seg_model.specs.Reading.{Terms};
+    ghost use Rattle.seg_model.specs.DocumentTerms.{Terms};
     ghost use Rattle.seg_model.specs.Codes.{terms_code};
-    ghost use Rattle.seg_terms.specs.Known.{AreKnown};
-    ghost use Rattle.seg_terms.specs.Numbered.{numbered_terms};
+    ghost use Rattle.seg_terms.specs.TermsByKey.{AreKnown};
+    ghost use Rattle.seg_terms.specs.NumberedOccurrences.{numbered_terms};
 
     ghost Value = { Terms };
 

@@ -1,6 +1,6 @@
 //! Directories in memory.
 ghost use Rattle.std.specs.Prelude.{◌≡◌, [], IfOk};
-ghost use Rattle.seg_directory.specs.Memory.{new_memory};
+ghost use Rattle.seg_directory.specs.MemoryDirectories.{new_memory};
 
 use seg_directory::{FailingCall, MemoryDirectory};
 use std::alloc::{AllocError, Global};

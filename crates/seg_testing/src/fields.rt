@@ -1,6 +1,6 @@
 //! Fields and schemas.
 ghost use Rattle.std.specs.Prelude.{◌≡◌, ◌≤◌, ◌<◌, ◌+◌, length, IfOk};
-ghost use Rattle.seg_values.specs.Names.{is_allowed};
+ghost use Rattle.seg_values.specs.FieldNames.{is_allowed};
 
 use seg_common::DateTimePrecision;
 use seg_tokens::Text;

@@ -4,7 +4,7 @@ ghost use Rattle.std.specs.Prelude.{false};
 ghost use Rattle.std.specs.FinMap.{empty};
 ghost use Rattle.std.proofs.Common.{sym};
 ghost use mathlib.Core.Bool.{true≢false};
-ghost use Rattle.seg_directory.specs.State.{untold};
+ghost use Rattle.seg_directory.specs.DirectoryStates.{untold};
 
 use seg_common::{FileName, OwnedBytes};
 use seg_directory::{Directory, DirectoryError, MemoryDirectory};

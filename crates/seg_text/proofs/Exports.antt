@@ -1,2 +1,2 @@
 -- What crates above may cite: all other modules are inner.
-pub use Rattle.seg_text.proofs.AllAlive.{count_by-replicate, dead_text-replicate}
+pub use Rattle.seg_text.proofs.AliveSegments.{count_by-replicate, dead_text-replicate}

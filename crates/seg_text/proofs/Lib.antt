@@ -1,9 +1,9 @@
 pub mod Exports
-mod AllAlive
+mod AliveSegments
 mod DeadIds
 mod FileOrder
 mod KnownTexts
-mod Placing
+mod MemberPlaces
 mod PlainTerms
 mod PrintedCounts
 mod PrintedFronts

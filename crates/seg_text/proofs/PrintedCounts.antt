@@ -3,7 +3,7 @@ use Rattle.std.proofs.Common.{◌≡◌, ◌≤◌, ◌<◌, ℕ, ◌+◌, ◌-�
 use Rattle.serde_json.specs.Data.{Data, Items, no_items, item, array}
 use Rattle.serde_json.specs.Written.{comma_if, compact_text, items_text}
 use Rattle.seg_common.specs.Varint.{varint_at}
-use Rattle.seg_doc_bytes.specs.Reader.{Reader, counted_at}
+use Rattle.seg_doc_bytes.specs.FrontReaders.{Reader, counted_at}
 use Rattle.seg_doc_bytes.proofs.Exports.{Gathered, none_yet, one_more, all_made, counted}
 use Rattle.seg_values.specs.Tree as tree
 use Rattle.seg_values.specs.Tree.{Tree, Document, trees_from}
@@ -11,7 +11,7 @@ use Rattle.seg_tokens.specs.declared.token.Token.{Token}
 use Rattle.seg_values.specs.ValueJson.{value_json, items_json, token_json, tokens_items}
 use Rattle.seg_model.specs.Fields.{Schema}
 use Rattle.seg_text.specs.DocumentText.{pair_json, pairs_items}
-use Rattle.seg_text.specs.Printing.{HasMore, Printed}
+use Rattle.seg_text.specs.PrintedFronts.{HasMore, Printed}
 use Rattle.seg_text.proofs.PrintedFronts.{not_more, more_by, more_then}
 
 -- things as items

@@ -2,11 +2,11 @@
 use Rattle.std.proofs.Common.{◌≡◌, ℕ, List, [], ◌++◌, Option, Some, None, sym, ap, ◌∙◌, append_assoc, append-nil}
 use Rattle.std.specs.Prelude.{Result, Ok, Err, IfOk}
 use Rattle.serde_json.specs.Written.{compact_text}
-use Rattle.seg_doc_bytes.specs.Reader.{Reader, made_of}
+use Rattle.seg_doc_bytes.specs.FrontReaders.{Reader, made_of}
 use Rattle.seg_doc_bytes.specs.StoredTree.{leaf_at}
 use Rattle.seg_values.specs.Tree.{Leaf, Tree}
 use Rattle.seg_values.specs.ValueJson.{leaf_json, value_json}
-use Rattle.seg_text.specs.Printing.{HasMore, Printed, Prints}
+use Rattle.seg_text.specs.PrintedFronts.{HasMore, Printed, Prints}
 
 -- nothing more
 pub not_more : (out : List ℕ) → HasMore out out

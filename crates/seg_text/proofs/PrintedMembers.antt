@@ -9,12 +9,12 @@ use Rattle.serde_json.specs.Data.{put}
 use Rattle.serde_json.specs.Written.{comma_if, compact_text, members_text}
 use Rattle.seg_common.specs.Varint.{varint_at}
 use Rattle.seg_common.proofs.Numbers.{is_less}
-use Rattle.seg_doc_bytes.specs.Reader.{Reader, counted_at, text_at}
+use Rattle.seg_doc_bytes.specs.FrontReaders.{Reader, counted_at, text_at}
 use Rattle.seg_doc_bytes.specs.StoredTree.{member_at}
 use Rattle.seg_doc_bytes.proofs.Exports.{Gathered, none_yet, one_more, all_made, counted, member_made}
 use Rattle.seg_values.specs.Tree.{Tree, object, members_from}
 use Rattle.seg_values.specs.ValueJson.{value_json, members_json}
-use Rattle.seg_text.specs.Printing.{HasMore, Printed, is_after}
+use Rattle.seg_text.specs.PrintedFronts.{HasMore, Printed, is_after}
 use Rattle.seg_text.proofs.PrintedFronts.{not_more, more_by, more_then}
 
 -- members with their values as JSON, in their order

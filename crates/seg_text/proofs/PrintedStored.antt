@@ -3,7 +3,7 @@ use Rattle.std.proofs.Common.{◌≡◌, ℕ, true, List, [], ◌∷◌, ◌++�
 use Rattle.std.specs.Prelude.{nat_eq, Result, OnOk, IsSomeAnd}
 use Rattle.json.specs.Print.{quoted}
 use Rattle.serde_json.specs.Written.{compact_text}
-use Rattle.seg_doc_bytes.specs.Reader.{made_of, counted_at}
+use Rattle.seg_doc_bytes.specs.FrontReaders.{made_of, counted_at}
 use Rattle.seg_doc_bytes.specs.StoredTree.{stored_tree_at}
 use Rattle.seg_doc_bytes.specs.StoredDocument.{most_levels_read, pair_at, stored_document_of}
 use Rattle.seg_doc_bytes.proofs.Exports.{document_whole}
@@ -11,7 +11,7 @@ use Rattle.seg_values.specs.Tree.{Document}
 use Rattle.seg_values.specs.ValueJson.{value_json}
 use Rattle.seg_model.specs.Fields.{Schema}
 use Rattle.seg_text.specs.DocumentText.{name_at, pair_json, document_json, document_line}
-use Rattle.seg_text.specs.Printing.{HasMore, Printed, IsPrinted}
+use Rattle.seg_text.specs.PrintedFronts.{HasMore, Printed, IsPrinted}
 
 -- a field and its tree
 pub pair_printed : (schema : Schema) (field named : ℕ) (old left next start a b c d e : List ℕ) → pair_at old ≡ made_of (λ t. (field, t)) (stored_tree_at most_levels_read left) → named ≡ field

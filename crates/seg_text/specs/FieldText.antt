@@ -4,7 +4,7 @@ use Rattle.std.specs.List.{flat_map}
 use Rattle.std.specs.FinMap.{entries}
 use Rattle.json.specs.Print.{quoted}
 use Rattle.seg_model.specs.Fields.{Schema, is_indexed}
-use Rattle.seg_model.specs.Reading.{Posting, Terms}
+use Rattle.seg_model.specs.DocumentTerms.{Posting, Terms}
 use Rattle.seg_text.specs.PostingText.{posting_text}
 use Rattle.seg_text.specs.TermText.{term_text}
 

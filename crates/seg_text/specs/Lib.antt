@@ -5,7 +5,7 @@ pub mod HeaderText
 pub mod NormsText
 pub mod PlacedMembers
 pub mod PostingText
-pub mod Printing
+pub mod PrintedFronts
 pub mod QuotedText
 pub mod SegmentText
 pub mod TermText

@@ -1,7 +1,7 @@
 -- The text of a posting.
 use Rattle.std.specs.Prelude.{ℕ, List, [], ◌∷◌, ◌++◌, Bool, true, false, length, decimal}
 use Rattle.serde_json.specs.Written.{comma_if}
-use Rattle.seg_model.specs.Reading.{Recorded, presence, frequency, positions, Posting}
+use Rattle.seg_model.specs.DocumentTerms.{Recorded, presence, frequency, positions, Posting}
 use Rattle.seg_text.specs.declared.posting.RecordedRef.{RecordedRef}
 use Rattle.seg_text.specs.declared.posting.RecordedRef.TheVariants.{Presence, Frequency, Positions}
 

@@ -3,7 +3,7 @@ ghost use Rattle.std.specs.Prelude.{◌≡◌, ◌++◌, true, IsSomeAnd, OnOk};
 ghost use Rattle.serde_json.specs.Written.{compact_text};
 ghost use Rattle.seg_doc_bytes.specs.StoredDocument.{is_stored_document, stored_document_of};
 ghost use Rattle.seg_text.specs.DocumentText.{document_json, document_line};
-ghost use Rattle.seg_text.specs.Printing.{IsPrinted};
+ghost use Rattle.seg_text.specs.PrintedFronts.{IsPrinted};
 
 use crate::comma::push_comma_if;
 use crate::decimal::push_decimal;

@@ -10,12 +10,12 @@ ghost use Rattle.json.specs.Print.{quoted};
 ghost use Rattle.serde_json.specs.Data as json;
 ghost use Rattle.serde_json.specs.Written.{compact_text};
 ghost use Rattle.seg_common.specs.DateText.{date_text};
-ghost use Rattle.seg_doc_bytes.specs.Reader as read;
+ghost use Rattle.seg_doc_bytes.specs.FrontReaders as read;
 ghost use Rattle.seg_doc_bytes.specs.StoredTree as trees;
 ghost use Rattle.seg_values.specs.AddressText.{address_text};
 ghost use Rattle.seg_values.specs.Facets.{path_of};
 ghost use Rattle.seg_values.specs.ValueJson.{leaf_json};
-ghost use Rattle.seg_text.specs.Printing.{Prints};
+ghost use Rattle.seg_text.specs.PrintedFronts.{Prints};
 
 use crate::decimal::{push_decimal, push_signed};
 use crate::leaf::{push_address, push_base64, push_bool, push_date, push_facet};

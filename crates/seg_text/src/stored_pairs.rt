@@ -1,10 +1,10 @@
 //! The pairs of a stored document, as JSON: each call prints what is at the front of bytes, or gives up.
 ghost use Rattle.std.specs.Prelude.{IfOk, MatchOption};
 ghost use Rattle.serde_json.specs.Written.{compact_text};
-ghost use Rattle.seg_doc_bytes.specs.Reader as read;
+ghost use Rattle.seg_doc_bytes.specs.FrontReaders as read;
 ghost use Rattle.seg_doc_bytes.specs.StoredDocument.{pair_at};
 ghost use Rattle.seg_text.specs.DocumentText.{document_json, pair_json};
-ghost use Rattle.seg_text.specs.Printing.{HasMore, IsPrinted, Prints};
+ghost use Rattle.seg_text.specs.PrintedFronts.{HasMore, IsPrinted, Prints};
 
 use crate::comma::push_comma_if;
 use crate::pair::push_name;

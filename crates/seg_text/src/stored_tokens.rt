@@ -2,10 +2,10 @@
 ghost use Rattle.std.specs.Prelude.{IfOk};
 ghost use Rattle.serde_json.specs.Data.{array};
 ghost use Rattle.serde_json.specs.Written.{compact_text};
-ghost use Rattle.seg_doc_bytes.specs.Reader as read;
+ghost use Rattle.seg_doc_bytes.specs.FrontReaders as read;
 ghost use Rattle.seg_doc_bytes.specs.StoredTree as trees;
 ghost use Rattle.seg_values.specs.ValueJson.{leaf_json, token_json, tokens_items};
-ghost use Rattle.seg_text.specs.Printing.{Prints};
+ghost use Rattle.seg_text.specs.PrintedFronts.{Prints};
 
 use crate::comma::push_comma_if;
 use crate::pre_tokenized::push_token_parts;

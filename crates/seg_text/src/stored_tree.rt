@@ -4,11 +4,11 @@
 //! stored.
 ghost use Rattle.std.specs.Prelude.{◌≡◌, IfOk};
 ghost use Rattle.serde_json.specs.Written.{compact_text};
-ghost use Rattle.seg_doc_bytes.specs.Reader as read;
+ghost use Rattle.seg_doc_bytes.specs.FrontReaders as read;
 ghost use Rattle.seg_doc_bytes.specs.StoredTree as trees;
 ghost use Rattle.seg_values.specs.Tree as tree;
 ghost use Rattle.seg_values.specs.ValueJson.{value_json};
-ghost use Rattle.seg_text.specs.Printing.{Prints, is_after};
+ghost use Rattle.seg_text.specs.PrintedFronts.{Prints, is_after};
 
 use crate::comma::push_comma_if;
 use crate::quoted::push_quoted;

@@ -4,7 +4,7 @@ ghost use Rattle.json.specs.Print.{quoted};
 ghost use Rattle.serde_json.specs.Data.{no_members};
 ghost use Rattle.serde_json.specs.Written.{compact_text};
 ghost use Rattle.seg_values.specs.Tree.{array, object, trees_from, members_from};
-ghost use Rattle.seg_values.specs.View.{tree_of};
+ghost use Rattle.seg_values.specs.ValueTrees.{tree_of};
 ghost use Rattle.seg_values.specs.ValueJson.{value_json, members_json};
 ghost use Rattle.seg_text.specs.PlacedMembers.{placed_members, ArePlaces};
 

@@ -1,5 +1,5 @@
 pub mod Exports
-mod Cutting
-mod Passed
-mod Registering
-mod Wording
+mod CutWords
+mod PassedItems
+mod RegisteredTokenizers
+mod WordTokens

@@ -1,9 +1,9 @@
-pub mod Code
-pub mod Grows
-pub mod InWords
-pub mod Registered
-pub mod Same
-pub mod Texts
+pub mod CodeEquality
+pub mod GrowingLists
+pub mod RegisteredTokenizers
+pub mod SeparatedWords
+pub mod TextBytes
+pub mod TokenCodes
 pub mod Tokenizers
-pub mod Utf8
+pub mod Utf8Tokens
 pub mod Words

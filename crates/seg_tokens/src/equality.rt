@@ -1,8 +1,8 @@
 //! Equality of texts, bytes and tokens: where what contracts see of them is equal.
 ghost use Rattle.std.specs.Prelude.{◌≡◌, ◌↔◌, IsTrue};
 ghost use Rattle.std.specs.Coded.{coded_list};
-ghost use Rattle.seg_tokens.specs.Code.{key_code, token_code, pre_tokenized_code};
-ghost use Rattle.seg_tokens.specs.Same.{same_by, same_partial_equivalence, same_equivalence};
+ghost use Rattle.seg_tokens.specs.TokenCodes.{key_code, token_code, pre_tokenized_code};
+ghost use Rattle.seg_tokens.specs.CodeEquality.{same_by, same_partial_equivalence, same_equivalence};
 
 use crate::text::{Bytes, Text};
 use crate::token::{PreTokenizedString, Token, Tokens};

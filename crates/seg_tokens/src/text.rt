@@ -1,6 +1,6 @@
 //! A text and bytes, which contracts see as lists of bytes.
 ghost use Rattle.std.specs.Prelude.{◌≡◌, List, ℕ, [], ◌∷◌, ◌++◌, IfOk, OnOk, OnErr, string_bytes, length};
-ghost use Rattle.seg_tokens.specs.Texts.{text_bytes};
+ghost use Rattle.seg_tokens.specs.TextBytes.{text_bytes};
 
 use arrayvec::ArrayString;
 use std::alloc::{AllocError, Global};
@@ -23,7 +23,7 @@ enum Kept {
 
 impl Model for Text {
     ghost use Rattle.std.specs.Prelude.{List, ℕ};
-    ghost use Rattle.seg_tokens.specs.Texts.{text_bytes};
+    ghost use Rattle.seg_tokens.specs.TextBytes.{text_bytes};
 
     ghost Value = { List ℕ };
 

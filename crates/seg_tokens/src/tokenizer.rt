@@ -1,6 +1,6 @@
 //! What turns a text into tokens.
 ghost use Rattle.std.specs.Prelude.{◌≡◌, ◌++◌, List, ℕ, OnOk, OnErr};
-ghost use Rattle.seg_tokens.specs.Grows.{Keeps};
+ghost use Rattle.seg_tokens.specs.GrowingLists.{Keeps};
 ghost use Rattle.seg_tokens.specs.declared.token.Token.{Token};
 
 use crate::token::Tokens;

@@ -2,8 +2,8 @@
 ghost use Rattle.std.specs.Prelude.{◌≡◌, ◌++◌, ◌<◌, List, ℕ, OnOk, OnErr, [], slice_get, length, Some, None, position, IfSome, MatchOption, is_some, false};
 ghost use Rattle.std.specs.Option.{option_map_or};
 ghost use Rattle.std.specs.Str.{bytes_eq};
-ghost use Rattle.seg_tokens.specs.Grows.{Keeps};
-ghost use Rattle.seg_tokens.specs.Registered.{item_named, Registers, KeepsRegistered};
+ghost use Rattle.seg_tokens.specs.GrowingLists.{Keeps};
+ghost use Rattle.seg_tokens.specs.RegisteredTokenizers.{item_named, Registers, KeepsRegistered};
 
 use crate::analyzers::Analyzers;
 use crate::text::Text;

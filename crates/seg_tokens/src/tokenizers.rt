@@ -3,7 +3,7 @@ ghost use Rattle.std.specs.Prelude.{◌≡◌, ◌+◌, ◌<◌, ◌^◌, ◌++�
 ghost use Rattle.std.proofs.Common.{sym};
 ghost use mathlib.Core.Bool.{true≢false};
 ghost use Rattle.std.specs.Char.{to_ascii_lowercase};
-ghost use Rattle.seg_tokens.specs.Grows.{Keeps};
+ghost use Rattle.seg_tokens.specs.GrowingLists.{Keeps};
 ghost use Rattle.seg_tokens.specs.Words.{words, numbered, tokens_cut};
 ghost use Rattle.seg_tokens.specs.Tokenizers.{separates_words, is_blank, default_tokens, raw_tokens, whitespace_tokens, separates_words-ascii, is_blank-ascii};
 

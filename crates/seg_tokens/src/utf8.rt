@@ -1,6 +1,6 @@
 //! Texts are UTF-8 by their type, and a walk over tokens says so of each text in them.
 ghost use Rattle.std.specs.Prelude.{IsUtf8};
-ghost use Rattle.seg_tokens.specs.Utf8.{AreUtf8Tokens};
+ghost use Rattle.seg_tokens.specs.Utf8Tokens.{AreUtf8Tokens};
 
 use crate::text::Text;
 use crate::token::{PreTokenizedString, Tokens};

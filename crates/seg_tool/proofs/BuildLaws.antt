@@ -3,21 +3,21 @@ use Rattle.std.proofs.Common.{◌≡◌, ◌≢◌, ◌≤◌, ℕ, Bool, List, 
 use Rattle.std.specs.Prelude.{◌⊎◌, IfSome}
 use Rattle.std.specs.FinMap.{len}
 use Rattle.std.proofs.lemmas.Option.{MatchOption-from_none}
-use Rattle.seg_common.specs.Causes.{Rose}
+use Rattle.seg_common.specs.FaultCounts.{Rose}
 use Rattle.seg_values.specs.declared.error.TantivyError.{TantivyError}
 use Rattle.seg_values.specs.declared.error.TantivyError.TheVariants.{SchemaError, InvalidArgument, IndexAlreadyExists, OpenReadError, OpenWriteError, IoError, DataCorruption, SystemError, FieldNotFound, OutOfMemory}
 use Rattle.seg_directory.specs.Files.{NamedFiles}
-use Rattle.seg_directory.specs.State.{DirectoryState}
+use Rattle.seg_directory.specs.DirectoryStates.{DirectoryState}
 use Rattle.seg_meta.specs.declared.index_meta.IndexMeta.{IndexMeta}
 use Rattle.seg_model.specs.Fields.{Analyzer}
 use Rattle.seg_model.specs.Input.{Input}
-use Rattle.seg_model.specs.Refused.{IfRefusal, build_refusal}
-use Rattle.seg_model.specs.Valid.{Known, input_refusal}
+use Rattle.seg_model.specs.Refusals.{IfRefusal, build_refusal}
+use Rattle.seg_model.specs.ValidInputs.{Known, input_refusal}
 use Rattle.seg_segment.specs.Laws.{HoldsOneContents}
-use Rattle.seg_segment.specs.SegmentRead.{IsNoDamage, IsReadError}
-use Rattle.seg_index_build.specs.Builds.{IsWhyUntold}
+use Rattle.seg_segment.specs.SegmentReadSteps.{IsNoDamage, IsReadError}
+use Rattle.seg_index_build.specs.BuildOutcomes.{IsWhyUntold}
 use Rattle.seg_index_build.specs.IndexFiles.{IsMergedIndexOf, IsOutputIndexOf, IsWorkIndexOf}
-use Rattle.seg_index_build.specs.Turns.{Directories, goes_on, stops}
+use Rattle.seg_index_build.specs.TwoDirectories.{Directories, goes_on, stops}
 use Rattle.seg_index_build.proofs.Exports.{IsBuildError, RoseIn, build_error, read_unrefused}
 use Rattle.seg_tool.specs.Jobs.{AreEmpty, Built, BuildsText, NotBuilt}
 use Rattle.seg_tool.specs.Printing.{opening}

@@ -3,12 +3,12 @@ use Rattle.std.proofs.Common.{◌≡◌, ◌≢◌, ◌≤◌, ◌+◌, ◌∙�
 use Rattle.std.specs.Prelude.{◌↔◌, String, IfSome}
 use Rattle.std.specs.declared.alloc.Global.{Global}
 use Rattle.std.proofs.KnownBytes.{Consumes-nil}
-use Rattle.seg_common.specs.Idle.{OnlyLastIsIdle}
+use Rattle.seg_common.specs.IdleReads.{OnlyLastIsIdle}
 use Rattle.seg_common.specs.Streams.{TakesAtMost}
 use Rattle.seg_values.specs.declared.error.TantivyError.{TantivyError}
 use Rattle.seg_model.specs.Fields.{Analyzer}
-use Rattle.seg_model.specs.Valid.{Known}
-use Rattle.seg_index_build.specs.Turns.{Directories}
+use Rattle.seg_model.specs.ValidInputs.{Known}
+use Rattle.seg_index_build.specs.TwoDirectories.{Directories}
 use Rattle.seg_tool.specs.Jobs.{GeneratesText, MergesText, ShowsText, WithStatus}
 use Rattle.seg_tool.specs.Run.{IsNoScript, max_script}
 use Rattle.seg_tool.specs.Runs.{RunsBuild, RunsCommand, RunsUnread, Runs, SinkState, SourceState, Takes, TouchesNothing, World}

@@ -7,9 +7,9 @@ use Rattle.seg_values.specs.declared.error.TantivyError.{TantivyError}
 use Rattle.seg_values.specs.declared.error.TantivyError.TheVariants.{SchemaError, InvalidArgument, IndexAlreadyExists, OpenReadError, OpenWriteError, IoError, DataCorruption, SystemError, FieldNotFound, OutOfMemory}
 use Rattle.seg_model.specs.Fields.{Analyzer}
 use Rattle.seg_model.specs.Input.{Input}
-use Rattle.seg_model.specs.Refused.{IfRefusal}
-use Rattle.seg_model.specs.Valid.{Known, input_refusal}
-use Rattle.seg_index_build.specs.Turns.{Directories}
+use Rattle.seg_model.specs.Refusals.{IfRefusal}
+use Rattle.seg_model.specs.ValidInputs.{Known, input_refusal}
+use Rattle.seg_index_build.specs.TwoDirectories.{Directories}
 use Rattle.seg_index_build.proofs.Exports.{IsBuildError, RoseIn}
 use Rattle.seg_script.specs.Script.{script}
 use Rattle.seg_tool.specs.DirectoryCalls.{BuildDoes, Stopped}

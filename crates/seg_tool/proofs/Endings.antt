@@ -2,15 +2,15 @@
 use Rattle.std.proofs.Common.{◌≡◌, ◌≢◌, ◌≤◌, ◌⊎◌, ℕ, List, length, Option, None, Some, refl, sym, ap, subst, ◌∙◌, inl, inr, arith}
 use Rattle.std.specs.Prelude.{IfSome, is_some}
 use mathlib.Core.Bool.{true≢false}
-use Rattle.seg_common.specs.Causes.{Rose}
+use Rattle.seg_common.specs.FaultCounts.{Rose}
 use Rattle.seg_values.specs.declared.error.TantivyError.{TantivyError}
 use Rattle.seg_model.specs.Fields.{Analyzer}
 use Rattle.seg_model.specs.Laws.{ValidInputsAreNotRefused}
 use Rattle.seg_model.specs.Input.{Input}
-use Rattle.seg_model.specs.Valid.{Known, IsValid}
-use Rattle.seg_index_build.specs.Turns.{Directories}
+use Rattle.seg_model.specs.ValidInputs.{Known, IsValid}
+use Rattle.seg_index_build.specs.TwoDirectories.{Directories}
 use Rattle.seg_index_build.proofs.Exports.{RoseIn}
-use Rattle.seg_check.specs.Admitted.{IsValidIf}
+use Rattle.seg_check.specs.AdmittedInputs.{IsValidIf}
 use Rattle.seg_script.specs.Script.{script}
 use Rattle.seg_tool.specs.Run.{max_script, refusal_of, IsNoScript, IsValidScript, IsWhyRefused}
 use Rattle.seg_tool.specs.Statuses.{IfRefused}

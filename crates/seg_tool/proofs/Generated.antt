@@ -1,20 +1,20 @@
 -- What a run of `generate` comes to.
 use Rattle.std.proofs.Common.{◌≡◌, ◌≢◌, ◌∙◌, ℕ, List, Option, None, Some, Result, Ok, Err, IsTrue, refl, sym, ap, subst, inl, inr}
 use Rattle.std.specs.Prelude.{◌⊎◌, IfSome}
-use Rattle.seg_common.specs.Causes.{Rose}
+use Rattle.seg_common.specs.FaultCounts.{Rose}
 use Rattle.seg_values.specs.declared.error.TantivyError.{TantivyError}
 use Rattle.seg_values.specs.declared.error.TantivyError.TheVariants.{SchemaError, InvalidArgument, IndexAlreadyExists, OpenReadError, OpenWriteError, IoError, DataCorruption, SystemError, FieldNotFound, OutOfMemory}
 use Rattle.seg_model.specs.Fields.{Analyzer}
 use Rattle.seg_model.specs.Input.{Input}
 use Rattle.seg_model.specs.Laws.{ValidInputsAreNotRefused}
-use Rattle.seg_model.specs.Refused.{IfRefusal, build_refusal}
-use Rattle.seg_model.specs.Valid.{IsValid, Known, input_refusal}
+use Rattle.seg_model.specs.Refusals.{IfRefusal, build_refusal}
+use Rattle.seg_model.specs.ValidInputs.{IsValid, Known, input_refusal}
 use Rattle.seg_segment.specs.Laws.{HoldsOneContents}
-use Rattle.seg_segment.specs.SegmentRead.{IsNoDamage}
-use Rattle.seg_index_build.specs.Builds.{IsWhyUntold}
-use Rattle.seg_index_build.specs.Turns.{Directories}
+use Rattle.seg_segment.specs.SegmentReadSteps.{IsNoDamage}
+use Rattle.seg_index_build.specs.BuildOutcomes.{IsWhyUntold}
+use Rattle.seg_index_build.specs.TwoDirectories.{Directories}
 use Rattle.seg_index_build.proofs.Exports.{IsBuildError, RoseIn}
-use Rattle.seg_generate.specs.Generated.{generated}
+use Rattle.seg_generate.specs.GeneratedInput.{generated}
 use Rattle.seg_tool.specs.DirectoryCalls.{IsReady}
 use Rattle.seg_tool.specs.Generating.{BuiltIn, EndsFor, Generates}
 use Rattle.seg_tool.specs.Jobs.{BuildsText, GeneratesText, WithStatus, not_generated, of_generated}

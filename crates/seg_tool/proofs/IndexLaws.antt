@@ -5,27 +5,27 @@ use Rattle.std.specs.FinMap.{get}
 use Rattle.std.specs.List.{AllByRecursion}
 use Rattle.std.specs.Option.{option_and_then}
 use Rattle.std.proofs.lemmas.Option.{same_Some}
-use Rattle.seg_common.specs.Causes.{Rose}
+use Rattle.seg_common.specs.FaultCounts.{Rose}
 use Rattle.seg_common.specs.declared.name.FileName.TheVariants as name
 use Rattle.seg_values.specs.declared.error.TantivyError.{TantivyError}
 use Rattle.seg_values.specs.declared.error.TantivyError.TheVariants.{DataCorruption, OpenReadError}
 use Rattle.seg_directory.proofs.Exports.{all_went}
 use Rattle.seg_directory.specs.Files.{NamedFiles}
-use Rattle.seg_directory.specs.State.{DirectoryState}
+use Rattle.seg_directory.specs.DirectoryStates.{DirectoryState}
 use Rattle.seg_meta.specs.IndexOfFiles as index
 use Rattle.seg_meta.specs.IndexOfFiles.{Deletes, ListedSegment, Meta}
-use Rattle.seg_meta.specs.MetaRead.{meta_read}
+use Rattle.seg_meta.specs.ParsedMeta.{meta_read}
 use Rattle.seg_meta.specs.MetaSteps.{LoadsMetas, load_steps, meta_damage}
 use Rattle.seg_meta.specs.Metas.{segment_of}
-use Rattle.seg_meta.specs.View.{meta_of}
+use Rattle.seg_meta.specs.MetaMeaning.{meta_of}
 use Rattle.seg_meta.specs.declared.index_meta.IndexMeta.{IndexMeta}
 use Rattle.seg_model.specs.Fields.{Schema}
-use Rattle.seg_segment.specs.Forms.{segment_forms}
-use Rattle.seg_segment.specs.HoldsAlive.{HoldsAlive}
-use Rattle.seg_segment.specs.SegmentRead.{IsNoDamage, IsReadError}
+use Rattle.seg_segment.specs.IndexForms.{segment_forms}
+use Rattle.seg_segment.specs.AliveFiles.{HoldsAlive}
+use Rattle.seg_segment.specs.SegmentReadSteps.{IsNoDamage, IsReadError}
 use Rattle.seg_segment.proofs.Exports.{FindWhole, FindsDamage, OnlyReads, Unchanged, found_whole, reads_rose, reads_so, reads_stay, then_same}
 use Rattle.seg_open.specs.OpenSegment.{OpenSegment}
-use Rattle.seg_open.specs.SegmentOpened.{Asked, OpensSegments}
+use Rattle.seg_open.specs.OpeningSteps.{Asked, OpensSegments}
 use Rattle.seg_open.proofs.Exports.{EachRead, HoldsMarks as HoldsRead, IsHeld, IsOf, Whole, segments_held, segments_of_schema, segments_rose, segments_so, segments_stay, segments_undamaged}
 use Rattle.seg_index_build.specs.MergeAnswers.{HoldsMarks}
 use Rattle.seg_tool.specs.Indexes.{AreReadOf, IsPrinted, IsReadOf}

@@ -4,30 +4,30 @@ use Rattle.std.specs.Prelude.{◌⊎◌, Bool, replicate, true}
 use Rattle.std.specs.Io.KnownBytes.{Appends}
 use Rattle.std.proofs.lemmas.List.{append-nil}
 use Rattle.std.proofs.lemmas.Option.{same_Some}
-use Rattle.seg_common.specs.Causes.{Rose}
+use Rattle.seg_common.specs.FaultCounts.{Rose}
 use Rattle.seg_common.specs.Streams.{AppendsPart}
 use Rattle.seg_values.specs.declared.error.TantivyError.{TantivyError}
 use Rattle.seg_values.specs.declared.error.TantivyError.TheVariants.{SchemaError, InvalidArgument, IndexAlreadyExists, OpenReadError, OpenWriteError, IoError, DataCorruption, SystemError, FieldNotFound, OutOfMemory}
 use Rattle.seg_directory.specs.Files.{NamedFiles}
-use Rattle.seg_directory.specs.State.{DirectoryState}
+use Rattle.seg_directory.specs.DirectoryStates.{DirectoryState}
 use Rattle.seg_meta.specs.IndexOfFiles as index
 use Rattle.seg_meta.specs.IndexOfFiles.{ListedSegment, Meta}
 use Rattle.seg_meta.specs.MetaSteps.{LoadsMetas}
 use Rattle.seg_meta.specs.Metas.{SegmentParts, segment_of}
-use Rattle.seg_meta.specs.View.{meta_of}
+use Rattle.seg_meta.specs.MetaMeaning.{meta_of}
 use Rattle.seg_meta.specs.declared.index_meta.IndexMeta.{IndexMeta}
 use Rattle.seg_model.specs.Contents.{Contents, reading_part}
 use Rattle.seg_model.specs.Fields.{Schema}
-use Rattle.seg_segment.specs.Forms.{segment_forms}
-use Rattle.seg_segment.specs.Holds.{Holds}
+use Rattle.seg_segment.specs.IndexForms.{segment_forms}
+use Rattle.seg_segment.specs.FileContents.{Holds}
 use Rattle.seg_segment.specs.Laws.{HoldsOneContents}
-use Rattle.seg_segment.specs.SegmentRead.{IsNoDamage, IsReadError}
+use Rattle.seg_segment.specs.SegmentReadSteps.{IsNoDamage, IsReadError}
 use Rattle.seg_segment.proofs.Exports.{Unchanged}
 use Rattle.seg_open.specs.OpenSegment.{OpenSegment, contents_of, kept_count}
 use Rattle.seg_index_build.specs.IndexFiles.{undeleted}
 use Rattle.seg_index_build.specs.MergeAnswers.{AllHaveHeld, IsMergeOf}
-use Rattle.seg_index_build.specs.SegmentsMerged.{IsRefusal, MergeInput, MergesLive, MergesSegments, first_schema, joined, live_asked, output_meta_of}
-use Rattle.seg_index_build.specs.Turns.{Directories, Passes, Then, goes_on, stops}
+use Rattle.seg_index_build.specs.MergedSegments.{IsRefusal, MergeInput, MergesLive, MergesSegments, first_schema, joined, live_asked, output_meta_of}
+use Rattle.seg_index_build.specs.TwoDirectories.{Directories, Passes, Then, goes_on, stops}
 use Rattle.seg_text.specs.SegmentText.{segment_text}
 use Rattle.seg_tool.specs.DirectoryCalls.{JobDoes}
 use Rattle.seg_tool.specs.Indexes.{AreReadOf, HasWholeIndex, IsJoined, IsMergedText, IsPrinted, IsShownText, joined_text}

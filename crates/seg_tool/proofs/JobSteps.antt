@@ -6,27 +6,27 @@ use Rattle.std.specs.List.{AllByRecursion}
 use Rattle.seg_values.specs.declared.error.ArgumentCause.TheVariants.{NoSegments}
 use Rattle.seg_values.specs.declared.error.TantivyError.{TantivyError}
 use Rattle.seg_values.specs.declared.error.TantivyError.TheVariants.{IndexAlreadyExists, InvalidArgument, OutOfMemory}
-use Rattle.seg_directory.specs.State.{DirectoryState, HasOnly, IsEmptyDisk, LeavesOnly}
+use Rattle.seg_directory.specs.DirectoryStates.{DirectoryState, HasOnly, IsEmptyDisk, LeavesOnly}
 use Rattle.seg_meta.specs.IndexOfFiles as index
 use Rattle.seg_meta.specs.IndexOfFiles.{ListedSegment}
 use Rattle.seg_meta.specs.Metas.{SegmentParts, segment_of}
-use Rattle.seg_meta.specs.View.{meta_of}
+use Rattle.seg_meta.specs.MetaMeaning.{meta_of}
 use Rattle.seg_meta.specs.declared.index_meta.IndexMeta.{IndexMeta}
 use Rattle.seg_meta.specs.declared.index_settings.IndexSettings.{IndexSettings}
 use Rattle.seg_model.specs.Fields.{Analyzer, Schema}
 use Rattle.seg_model.specs.Input.{Filter, Input}
-use Rattle.seg_model.specs.Refused.{IfRefusal, build_refusal}
-use Rattle.seg_model.specs.Valid.{Known, input_refusal}
-use Rattle.seg_segment.specs.Forms.{segment_forms}
+use Rattle.seg_model.specs.Refusals.{IfRefusal, build_refusal}
+use Rattle.seg_model.specs.ValidInputs.{Known, input_refusal}
+use Rattle.seg_segment.specs.IndexForms.{segment_forms}
 use Rattle.seg_open.specs.Answers.{seen_as}
-use Rattle.seg_open.specs.SegmentOpened.{IsNoDamage}
-use Rattle.seg_check.specs.Admitted.{IsValidIf}
-use Rattle.seg_index_build.specs.AfterCrash.{MayBeBuilt, MayBeMerged}
-use Rattle.seg_index_build.specs.Builds.{EndsBuilding}
+use Rattle.seg_open.specs.OpeningSteps.{IsNoDamage}
+use Rattle.seg_check.specs.AdmittedInputs.{IsValidIf}
+use Rattle.seg_index_build.specs.FilesAfterCrash.{MayBeBuilt, MayBeMerged}
+use Rattle.seg_index_build.specs.BuildOutcomes.{EndsBuilding}
 use Rattle.seg_index_build.specs.DirectoryCalls.{BuildsIndexes}
 use Rattle.seg_index_build.specs.IndexFiles.{IsOutputIndexOf, IsWorkIndexOf, merged_meta, output_id, work_ids}
-use Rattle.seg_index_build.specs.SegmentsMerged.{AreOfOne, IsRefusal, MergeInput, MergesSegments, merge_input, one_refusal}
-use Rattle.seg_index_build.specs.Turns.{Directories, both, stops}
+use Rattle.seg_index_build.specs.MergedSegments.{AreOfOne, IsRefusal, MergeInput, MergesSegments, merge_input, one_refusal}
+use Rattle.seg_index_build.specs.TwoDirectories.{Directories, both, stops}
 use Rattle.seg_tool.specs.Jobs.{AreEmpty, Built, BuildsBoth, Merges, NotBuilt, last_id, merge_of}
 use Rattle.seg_tool.specs.ReadingBack.{listed_in}
 use Rattle.seg_tool.proofs.OutputOnDisk.{empty_still}

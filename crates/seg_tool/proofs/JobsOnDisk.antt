@@ -3,17 +3,17 @@ use Rattle.std.proofs.Common.{◌≡◌, ℕ, List, [], Result, Ok, Err, IsTrue,
 use Rattle.seg_values.specs.declared.error.TantivyError.{TantivyError}
 use Rattle.seg_directory.specs.FileDisks.{FileDisk}
 use Rattle.seg_directory.specs.Files.{NamedFiles}
-use Rattle.seg_directory.specs.State.{DirectoryState, HasOnly, IsEmptyDisk, LeavesOnly}
+use Rattle.seg_directory.specs.DirectoryStates.{DirectoryState, HasOnly, IsEmptyDisk, LeavesOnly}
 use Rattle.seg_meta.specs.MetaSteps.{LoadsMetas}
 use Rattle.seg_meta.specs.declared.index_meta.IndexMeta.{IndexMeta}
 use Rattle.seg_model.specs.Fields.{Analyzer}
 use Rattle.seg_model.specs.Input.{Input}
-use Rattle.seg_model.specs.Valid.{Known}
+use Rattle.seg_model.specs.ValidInputs.{Known}
 use Rattle.seg_segment.proofs.Exports.{Unchanged}
-use Rattle.seg_index_build.specs.AfterCrash.{AreMergeOf, MayBeBuilt, MayBeMerged}
+use Rattle.seg_index_build.specs.FilesAfterCrash.{AreMergeOf, MayBeBuilt, MayBeMerged}
 use Rattle.seg_index_build.specs.IndexFiles.{IsOutputIndexOf}
-use Rattle.seg_index_build.specs.Turns.{Directories, goes_on, stops}
-use Rattle.seg_generate.specs.Generated.{generated}
+use Rattle.seg_index_build.specs.TwoDirectories.{Directories, goes_on, stops}
+use Rattle.seg_generate.specs.GeneratedInput.{generated}
 use Rattle.seg_tool.specs.AfterCrash.{HasNoIndex, IsMergeOfListed, MayBeMergeOf}
 use Rattle.seg_tool.specs.Jobs.{Built, BuildsText, GeneratesText, Merges, MergesText, merge_of, not_generated, of_generated}
 use Rattle.seg_tool.specs.declared.words.Detail.{Detail}

@@ -4,27 +4,27 @@ use Rattle.std.specs.Prelude.{is_some}
 use Rattle.std.specs.FinMap.{len}
 use Rattle.std.specs.List.{AllByRecursion}
 use Rattle.std.proofs.lemmas.Option.{same_Some}
-use Rattle.seg_common.specs.Causes.{Rose}
+use Rattle.seg_common.specs.FaultCounts.{Rose}
 use Rattle.seg_values.specs.declared.error.TantivyError.{TantivyError}
 use Rattle.seg_values.specs.declared.error.TantivyError.TheVariants.{IndexAlreadyExists}
 use Rattle.seg_directory.specs.Files.{NamedFiles}
-use Rattle.seg_directory.specs.State.{DirectoryState}
+use Rattle.seg_directory.specs.DirectoryStates.{DirectoryState}
 use Rattle.seg_meta.specs.IndexOfFiles as index
 use Rattle.seg_meta.specs.IndexOfFiles.{ListedSegment, Meta}
 use Rattle.seg_meta.specs.MetaSteps.{LoadsMetas}
 use Rattle.seg_meta.specs.Metas.{SegmentParts, segment_of}
-use Rattle.seg_meta.specs.View.{meta_of, settings_of}
+use Rattle.seg_meta.specs.MetaMeaning.{meta_of, settings_of}
 use Rattle.seg_meta.specs.declared.index_meta.IndexMeta.{IndexMeta}
 use Rattle.seg_model.specs.Fields.{Schema}
-use Rattle.seg_model.specs.Valid.{settings_fit}
-use Rattle.seg_segment.specs.Forms.{segment_forms}
-use Rattle.seg_segment.specs.SegmentRead.{IsNoDamage}
+use Rattle.seg_model.specs.ValidInputs.{settings_fit}
+use Rattle.seg_segment.specs.IndexForms.{segment_forms}
+use Rattle.seg_segment.specs.SegmentReadSteps.{IsNoDamage}
 use Rattle.seg_segment.proofs.Exports.{Unchanged, rose_before}
 use Rattle.seg_merger.specs.Merger.{all_fit}
 use Rattle.seg_open.specs.OpenSegment.{OpenSegment}
 use Rattle.seg_index_build.specs.MergeAnswers.{AllHaveHeld, CanBeMerged, LiveAreWhole}
-use Rattle.seg_index_build.specs.SegmentsMerged.{AreMerged, AreOfOne, first_schema, is_live, joined, live_asked, live_documents}
-use Rattle.seg_index_build.specs.Turns.{Directories, goes_on, stops}
+use Rattle.seg_index_build.specs.MergedSegments.{AreMerged, AreOfOne, first_schema, is_live, joined, live_asked, live_documents}
+use Rattle.seg_index_build.specs.TwoDirectories.{Directories, goes_on, stops}
 use Rattle.seg_tool.specs.DirectoryCalls.{IsReady}
 use Rattle.seg_tool.specs.Indexes.{HasMergeableIndex, HasWholeLiveSegments, merged_of}
 use Rattle.seg_tool.specs.Jobs.{Merges, MergesText, MergesWork, WithStatus, merge_of}

@@ -1,14 +1,14 @@
 -- The disk of an output that had nothing.
 use Rattle.std.proofs.Common.{◌≡◌, ◌∙◌, IsTrue, sym, ap, subst}
 use Rattle.std.specs.FinMap.{empty, get, get-empty}
-use Rattle.seg_common.specs.Names.{name_cmp}
+use Rattle.seg_common.specs.FileNameKeys.{name_cmp}
 use Rattle.seg_common.specs.declared.name.FileName.TheVariants.{Meta}
 use Rattle.seg_directory.proofs.Exports.{leaves_on, leaves_only, passes_weaker, settled_files_are_the_only_image, started}
 use Rattle.seg_directory.specs.Disk.{IsImage}
 use Rattle.seg_directory.specs.DiskChanges.{KeepsDisk}
 use Rattle.seg_directory.specs.FileDisks.{FileDisk}
 use Rattle.seg_directory.specs.Files.{NamedFiles}
-use Rattle.seg_directory.specs.State.{DiskState, HasOnly, IsEmptyDisk, LeavesOnly}
+use Rattle.seg_directory.specs.DirectoryStates.{DiskState, HasOnly, IsEmptyDisk, LeavesOnly}
 use Rattle.seg_tool.specs.AfterCrash.{HasNoIndex}
 
 -- it has no index

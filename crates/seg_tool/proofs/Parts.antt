@@ -3,7 +3,7 @@ use Rattle.std.proofs.Common.{ℕ, List, ◌++◌, Option}
 use Rattle.std.specs.Prelude.{Result, Ok, Err, OnErr}
 use Rattle.std.specs.Io.KnownBytes.{Appends}
 use Rattle.seg_common.specs.Streams.{AppendsPart}
-use Rattle.seg_common.proofs.Known.{Appends-append, front_and_part, part_of_front}
+use Rattle.seg_common.proofs.KnownBytes.{Appends-append, front_and_part, part_of_front}
 
 -- what an error leaves of the last part, seen of the whole
 pub last_part : {T E : Type 0} (r : Result T E) (a b c : Option (List ℕ)) (xs ys : List ℕ) → Appends a b xs → OnErr r (AppendsPart b c ys) → OnErr r (AppendsPart a c (xs ++ ys))

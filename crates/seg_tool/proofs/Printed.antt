@@ -11,16 +11,16 @@ use Rattle.seg_common.specs.declared.term_info.TermInfo.{TermInfo}
 use Rattle.seg_common.proofs.Lists.{drop-slice_get}
 use Rattle.seg_values.specs.Tree.{Document}
 use Rattle.seg_values.specs.declared.schema.FieldEntry.{FieldEntry}
-use Rattle.seg_directory.specs.Composite.{Part, field_of}
+use Rattle.seg_directory.specs.CompositeFiles.{Part, field_of}
 use Rattle.seg_model.specs.Columns.{Columns}
 use Rattle.seg_model.specs.Fields.{Schema, has_lengths, is_indexed}
-use Rattle.seg_model.specs.Reading.{Posting}
-use Rattle.seg_norms.specs.NormsRead.{norms_of}
+use Rattle.seg_model.specs.DocumentTerms.{Posting}
+use Rattle.seg_norms.specs.StoredNorms.{norms_of}
 use Rattle.seg_termdict.specs.Dictionary.{Term}
 use Rattle.seg_termdict.specs.SortedTerms.{RankedTerm}
-use Rattle.seg_termdict.specs.Streaming.{Stream, no_ranked, no_term, current, advanced, ranked_terms}
+use Rattle.seg_termdict.specs.TermStreams.{Stream, no_ranked, no_term, current, advanced, ranked_terms}
 use Rattle.seg_termdict.proofs.Exports.{ranked_at, ranked_length, ranked_of}
-use Rattle.seg_postings.specs.FieldReading.{ReadTerm, OpenField, dictionary_terms}
+use Rattle.seg_postings.specs.OpenedFields.{ReadTerm, OpenField, dictionary_terms}
 use Rattle.seg_open.specs.OpenSegment.{terms_in}
 use Rattle.seg_text.specs.DocumentText.{document_line, documents_from, documents_text}
 use Rattle.seg_text.specs.FieldText.{field_text, fields_text, term_line}

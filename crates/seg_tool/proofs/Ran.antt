@@ -3,14 +3,14 @@ use Rattle.std.proofs.Common.{◌≡◌, ◌<◌, ◌≤◌, ◌+◌, ℕ, List,
 use Rattle.std.specs.Prelude.{◌⊎◌, ◌≢◌, IfSome, IsSome, IsTrue}
 use Rattle.std.specs.FinMap.{len}
 use Rattle.std.specs.Io.KnownBytes.{Appends, IsAtEnd}
-use Rattle.seg_common.specs.Causes.{Rose}
+use Rattle.seg_common.specs.FaultCounts.{Rose}
 use Rattle.seg_common.specs.Streams.{AppendsPart, IsAllOf}
 use Rattle.seg_values.specs.declared.error.TantivyError.{TantivyError}
 use Rattle.seg_model.specs.Fields.{Analyzer}
-use Rattle.seg_model.specs.Valid.{Known}
+use Rattle.seg_model.specs.ValidInputs.{Known}
 use Rattle.seg_segment.specs.Laws.{HoldsOneContents}
-use Rattle.seg_index_build.specs.Taken.{gained}
-use Rattle.seg_index_build.specs.Turns.{Directories}
+use Rattle.seg_index_build.specs.TakenBatches.{gained}
+use Rattle.seg_index_build.specs.TwoDirectories.{Directories}
 use Rattle.seg_index_build.proofs.Exports.{RoseIn}
 use Rattle.seg_script.specs.Script.{script}
 use Rattle.seg_tool.specs.DirectoryCalls.{BuildDoes}

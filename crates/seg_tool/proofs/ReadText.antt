@@ -10,7 +10,7 @@ use Rattle.seg_values.specs.Tree.{Document}
 use Rattle.seg_directory.specs.Files.{NamedFiles}
 use Rattle.seg_meta.specs.IndexOfFiles as index
 use Rattle.seg_meta.specs.IndexOfFiles.{Deletes, ListedSegment, Meta}
-use Rattle.seg_meta.specs.View.{meta_of}
+use Rattle.seg_meta.specs.MetaMeaning.{meta_of}
 use Rattle.seg_meta.specs.declared.index_meta.IndexMeta.{IndexMeta}
 use Rattle.seg_model.specs.Columns.{Columns}
 use Rattle.seg_model.specs.Contents.{Contents, full_reading, reading_part}
@@ -19,10 +19,10 @@ use Rattle.seg_model.specs.Input.{Input, input_batches, input_survivors}
 use Rattle.seg_model.specs.Norms.{all_norms}
 use Rattle.seg_model.specs.Operations.{Batch, Operation, batches_from}
 use Rattle.seg_model.proofs.Exports.{was_read}
-use Rattle.seg_segment.specs.Forms.{segment_forms}
+use Rattle.seg_segment.specs.IndexForms.{segment_forms}
 use Rattle.seg_segment.specs.Laws.{HoldsOneContents}
 use Rattle.seg_open.specs.OpenSegment.{OpenSegment, contents_of}
-use Rattle.seg_batches.specs.Segments.{AllStand, AllTellAlive, TellsAlive, all_listed, deletes_of, segment_of, segments_of}
+use Rattle.seg_batches.specs.WrittenSegments.{AllStand, AllTellAlive, TellsAlive, all_listed, deletes_of, segment_of, segments_of}
 use Rattle.seg_batches.proofs.Exports.{length-alive_after}
 use Rattle.seg_index_build.specs.IndexFiles.{IsOutputIndexOf, IsWorkIndexOf, output_id, undeleted, work_ids}
 use Rattle.seg_index_build.specs.MergeAnswers.{HoldsMarks}

@@ -3,12 +3,12 @@ use Rattle.std.proofs.Common.{ℕ, List, [], ◌∷◌, ◌++◌, Result, Ok, Er
 use Rattle.seg_values.specs.declared.error.TantivyError.{TantivyError}
 use Rattle.seg_directory.proofs.Exports.{AllCalls, OnlyReads, keeps_disk, turns_kept, turns_on}
 use Rattle.seg_directory.specs.DiskChanges.{KeepsDisk}
-use Rattle.seg_directory.specs.State.{DirectoryState}
-use Rattle.seg_directory.specs.Works.{Step, calls, passes}
+use Rattle.seg_directory.specs.DirectoryStates.{DirectoryState}
+use Rattle.seg_directory.specs.DirectorySteps.{Step, calls, passes}
 use Rattle.seg_meta.specs.MetaSteps.{LoadsMetas, load_steps}
 use Rattle.seg_meta.specs.declared.index_meta.IndexMeta.{IndexMeta}
 use Rattle.seg_open.specs.OpenSegment.{OpenSegment}
-use Rattle.seg_open.specs.SegmentOpened.{Asked, Found, OpensSegments, all_steps, segment_steps}
+use Rattle.seg_open.specs.OpeningSteps.{Asked, Found, OpensSegments, all_steps, segment_steps}
 use Rattle.seg_open.proofs.Exports.{segment_only}
 use Rattle.seg_tool.specs.ReadingBack.{PrintsIndex, ReadsText, all_of, fails, listed_in, loaded, not_loaded, reads}
 use Rattle.seg_tool.specs.declared.words.Detail.{Detail}

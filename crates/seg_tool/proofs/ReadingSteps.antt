@@ -7,12 +7,12 @@ use Rattle.std.proofs.lemmas.Option.{none-some}
 use Rattle.seg_values.specs.declared.error.TantivyError.{TantivyError}
 use Rattle.seg_values.specs.declared.error.TantivyError.TheVariants.{OutOfMemory}
 use Rattle.seg_directory.proofs.Exports.{does_nothing}
-use Rattle.seg_directory.specs.State.{DirectoryState}
+use Rattle.seg_directory.specs.DirectoryStates.{DirectoryState}
 use Rattle.seg_meta.specs.MetaSteps.{LoadsMetas, load_steps}
 use Rattle.seg_meta.specs.Metas.{SegmentParts}
 use Rattle.seg_meta.specs.declared.index_meta.IndexMeta.{IndexMeta}
 use Rattle.seg_open.specs.OpenSegment.{OpenSegment}
-use Rattle.seg_open.specs.SegmentOpened.{Asked, Opens, OpensSegments, segment_steps}
+use Rattle.seg_open.specs.OpeningSteps.{Asked, Opens, OpensSegments, segment_steps}
 use Rattle.seg_open.proofs.Exports.{none_yet, opens_turn, stops_turn, starves_after}
 use Rattle.seg_index_build.proofs.Exports.{starved}
 use Rattle.seg_tool.specs.Printing.{read_segment_text, read_texts}

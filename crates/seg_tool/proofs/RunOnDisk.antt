@@ -5,14 +5,14 @@ use Rattle.std.specs.Option.{option_and_then}
 use Rattle.std.specs.declared.alloc.Global.{Global}
 use Rattle.seg_values.specs.declared.error.TantivyError.{TantivyError}
 use Rattle.seg_directory.specs.Files.{NamedFiles}
-use Rattle.seg_directory.specs.State.{DirectoryState, HasOnly, IsEmptyDisk, LeavesOnly}
+use Rattle.seg_directory.specs.DirectoryStates.{DirectoryState, HasOnly, IsEmptyDisk, LeavesOnly}
 use Rattle.seg_model.specs.Fields.{Analyzer}
 use Rattle.seg_model.specs.Input.{Input}
-use Rattle.seg_model.specs.Valid.{Known}
+use Rattle.seg_model.specs.ValidInputs.{Known}
 use Rattle.seg_index_build.specs.IndexFiles.{IsOutputIndexOf}
-use Rattle.seg_index_build.specs.Turns.{Directories}
+use Rattle.seg_index_build.specs.TwoDirectories.{Directories}
 use Rattle.seg_script.specs.Script.{script}
-use Rattle.seg_generate.specs.Generated.{generated}
+use Rattle.seg_generate.specs.GeneratedInput.{generated}
 use Rattle.seg_tool.specs.AfterCrash.{CrashLeaves, HasNoIndex, IsBuiltOf, IsMergeOfListed, MayBeBuiltOf}
 use Rattle.seg_tool.specs.Jobs.{BuildsText, GeneratesText, MergesText, WithStatus}
 use Rattle.seg_tool.specs.Runs.{EndsJob, Runs, RunsCommand, TakesAll, World}

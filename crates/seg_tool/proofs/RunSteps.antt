@@ -3,7 +3,7 @@ use Rattle.std.proofs.Common.{◌≡◌, ℕ, List, Option, Some, refl, sym, sub
 use Rattle.std.specs.Prelude.{String}
 use Rattle.std.specs.declared.alloc.Global.{Global}
 use Rattle.seg_model.specs.Fields.{Analyzer}
-use Rattle.seg_model.specs.Valid.{Known}
+use Rattle.seg_model.specs.ValidInputs.{Known}
 use Rattle.seg_tool.specs.Jobs.{GeneratesText, MergesText, ShowsText, WithStatus}
 use Rattle.seg_tool.specs.Runs.{EndsJob, Runs, RunsBuild, RunsCommand, World}
 use Rattle.seg_tool.specs.Words.{command_of}

@@ -6,11 +6,11 @@ use Rattle.seg_values.specs.declared.error.TantivyError.{TantivyError}
 use Rattle.seg_values.specs.declared.error.TantivyError.TheVariants.{SchemaError, InvalidArgument, IndexAlreadyExists, OpenReadError, OpenWriteError, IoError, DataCorruption, SystemError, FieldNotFound, OutOfMemory}
 use Rattle.seg_model.specs.Fields.{Analyzer}
 use Rattle.seg_model.specs.Input.{Input}
-use Rattle.seg_model.specs.Refused.{IfRefusal, IsRefusal}
-use Rattle.seg_model.specs.Valid.{Known, input_refusal}
-use Rattle.seg_open.specs.SegmentOpened.{IsNoDamage}
+use Rattle.seg_model.specs.Refusals.{IfRefusal, IsRefusal}
+use Rattle.seg_model.specs.ValidInputs.{Known, input_refusal}
+use Rattle.seg_open.specs.OpeningSteps.{IsNoDamage}
 use Rattle.seg_check.proofs.Exports.{first_is_refusal}
-use Rattle.seg_index_build.specs.Turns.{Directories}
+use Rattle.seg_index_build.specs.TwoDirectories.{Directories}
 use Rattle.seg_tool.specs.DirectoryCalls.{IsDamage, IsFault, JobDoes}
 use Rattle.seg_tool.specs.Jobs.{with_status}
 use Rattle.seg_tool.specs.Statuses.{IfRefused, IfWritten, status_of}

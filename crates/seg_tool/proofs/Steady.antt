@@ -2,21 +2,21 @@
 use Rattle.std.proofs.Common.{◌≡◌, ◌≤◌, ◌∙◌, List, [], ◌∷◌, Option, Some, None, Result, Ok, Err, IsTrue, refl, sym, ap, subst, inl, inr, arith}
 use Rattle.seg_values.specs.declared.error.TantivyError.{TantivyError}
 use Rattle.seg_values.specs.declared.error.TantivyError.TheVariants.{OutOfMemory}
-use Rattle.seg_directory.specs.Does.{GoesOn}
-use Rattle.seg_directory.specs.State.{DirectoryState}
-use Rattle.seg_directory.specs.Works.{Step, StepBreaks, StepGoes, Works, CallBreaks, calls, failed, has_files, passes}
+use Rattle.seg_directory.specs.StepSequences.{GoesOn}
+use Rattle.seg_directory.specs.DirectoryStates.{DirectoryState}
+use Rattle.seg_directory.specs.DirectorySteps.{Step, StepBreaks, StepGoes, Works, CallBreaks, calls, failed, has_files, passes}
 use Rattle.seg_directory.specs.Calls.{Call}
 use Rattle.seg_meta.specs.declared.index_meta.IndexMeta.{IndexMeta}
 use Rattle.seg_model.specs.Fields.{Analyzer}
 use Rattle.seg_model.specs.Input.{Input}
-use Rattle.seg_model.specs.Valid.{Known}
+use Rattle.seg_model.specs.ValidInputs.{Known}
 use Rattle.seg_segment.proofs.Exports.{Unchanged}
 use Rattle.seg_open.specs.OpenSegment.{OpenSegment}
-use Rattle.seg_open.specs.SegmentOpened.{OpensSegments}
+use Rattle.seg_open.specs.OpeningSteps.{OpensSegments}
 use Rattle.seg_open.proofs.Exports.{segments_stay}
 use Rattle.seg_index_build.specs.DirectoryCalls.{BeginsIndexes, BuildsIndexes, WritesIndexes, merge_of}
-use Rattle.seg_index_build.specs.SegmentsMerged.{FillsOutput, MergeInput, MergesLive, MergesSegments, fills, live_asked, mixes, starves}
-use Rattle.seg_index_build.specs.Turns.{Directories, InOutput, InWork, Passes, Then, goes_on, stops}
+use Rattle.seg_index_build.specs.MergedSegments.{FillsOutput, MergeInput, MergesLive, MergesSegments, fills, live_asked, mixes, starves}
+use Rattle.seg_index_build.specs.TwoDirectories.{Directories, InOutput, InWork, Passes, Then, goes_on, stops}
 
 -- ---- one directory
 

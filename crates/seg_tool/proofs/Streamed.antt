@@ -5,10 +5,10 @@ use Rattle.std.proofs.lemmas.Bool.{ltb-true, ltb-false}
 use Rattle.std.proofs.lemmas.List.{drop_all, length-map}
 use Rattle.seg_termdict.specs.Dictionary.{Term}
 use Rattle.seg_termdict.specs.SortedTerms.{RankedTerm}
-use Rattle.seg_termdict.specs.Streaming.{Stream, no_ranked, no_term, current, advanced, ranked_terms}
+use Rattle.seg_termdict.specs.TermStreams.{Stream, no_ranked, no_term, current, advanced, ranked_terms}
 use Rattle.seg_termdict.proofs.Exports.{ranked_at, ranked_length, ranked_of}
 use Rattle.seg_common.specs.declared.term_info.TermInfo.{TermInfo}
-use Rattle.seg_postings.specs.FieldReading.{ReadTerm, OpenField, dictionary_terms}
+use Rattle.seg_postings.specs.OpenedFields.{ReadTerm, OpenField, dictionary_terms}
 use Rattle.seg_generate.specs.declared.summary.TermTotals.{TermTotals}
 use Rattle.seg_tool.specs.Summaries.{with_terms}
 use Rattle.seg_tool.proofs.TermSums.{with_both, with_none}

@@ -8,17 +8,17 @@ use Rattle.std.proofs.Math.Bool.{or-true}
 use Rattle.seg_common.specs.declared.name.FileName.TheVariants.{Meta}
 use Rattle.seg_directory.proofs.Exports.{all_went}
 use Rattle.seg_directory.specs.Files.{NamedFiles}
-use Rattle.seg_directory.specs.State.{DirectoryState}
-use Rattle.seg_directory.specs.Works.{all_told}
+use Rattle.seg_directory.specs.DirectoryStates.{DirectoryState}
+use Rattle.seg_directory.specs.DirectorySteps.{all_told}
 use Rattle.seg_directory.specs.declared.answer.Answer.{Answer}
 use Rattle.seg_directory.specs.declared.answer.Answer.TheVariants as answer
 use Rattle.seg_meta.specs.IndexOfFiles.{Deletes}
 use Rattle.seg_model.specs.Fields.{Analyzer}
 use Rattle.seg_model.specs.Input.{Input}
-use Rattle.seg_model.specs.Valid.{Known}
-use Rattle.seg_open.specs.SegmentOpened.{Asked, Found, alive_steps, all_steps, segment_steps}
-use Rattle.seg_index_build.specs.Taken.{HoldsTaken, gained}
-use Rattle.seg_index_build.specs.Turns.{Directories}
+use Rattle.seg_model.specs.ValidInputs.{Known}
+use Rattle.seg_open.specs.OpeningSteps.{Asked, Found, alive_steps, all_steps, segment_steps}
+use Rattle.seg_index_build.specs.TakenBatches.{HoldsTaken, gained}
+use Rattle.seg_index_build.specs.TwoDirectories.{Directories}
 use Rattle.seg_index_build.proofs.Exports.{builds_seen, gained_as, holds_taken, told_both}
 use Rattle.seg_tool.specs.Printing.{opening}
 use Rattle.seg_tool.specs.ReadingBack.{PrintsIndex, all_of, fails, listed_in, loaded, not_loaded, reads}

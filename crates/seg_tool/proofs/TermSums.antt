@@ -7,7 +7,7 @@ use Rattle.std.proofs.lemmas.List.{length-append}
 use Rattle.std.proofs.lemmas.List.Sums.{sum_by-append, sum_by-cons}
 use Rattle.seg_values.specs.declared.schema.FieldEntry.{FieldEntry}
 use Rattle.seg_model.specs.Fields.{Schema, is_indexed}
-use Rattle.seg_postings.specs.FieldReading.{OpenField}
+use Rattle.seg_postings.specs.OpenedFields.{OpenField}
 use Rattle.seg_open.specs.OpenSegment.{terms_in}
 use Rattle.seg_generate.specs.SummaryText.{indexed_terms, totals_of}
 use Rattle.seg_generate.specs.declared.summary.TermTotals.{TermTotals}

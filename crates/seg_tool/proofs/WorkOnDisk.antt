@@ -4,9 +4,9 @@ use Rattle.seg_values.specs.declared.error.TantivyError.{TantivyError}
 use Rattle.seg_directory.proofs.Exports.{turns_kept, turns_none, turns_on}
 use Rattle.seg_directory.specs.DiskChanges.{KeepsDisk}
 use Rattle.seg_directory.specs.FileDisks.{FileDisk}
-use Rattle.seg_directory.specs.State.{DirectoryState}
-use Rattle.seg_index_build.specs.SegmentsMerged.{MergeInput, MergesLive, MergesSegments, live_asked}
-use Rattle.seg_index_build.specs.Turns.{Directories, Then, goes_on, stops}
+use Rattle.seg_directory.specs.DirectoryStates.{DirectoryState}
+use Rattle.seg_index_build.specs.MergedSegments.{MergeInput, MergesLive, MergesSegments, live_asked}
+use Rattle.seg_index_build.specs.TwoDirectories.{Directories, Then, goes_on, stops}
 use Rattle.seg_tool.specs.Jobs.{MergesText, merge_of}
 use Rattle.seg_tool.proofs.ReadingOnDisk.{load_keeps, opens_keep}
 

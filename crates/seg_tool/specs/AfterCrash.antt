@@ -1,19 +1,19 @@
 -- What a crash at any moment of a run may leave of an output that had nothing, and what is left once the run is done.
 use Rattle.std.specs.Prelude.{ℕ, ◌≡◌, ◌⊎◌, List, Option, Some, None, IfSome}
 use Rattle.seg_directory.specs.Files.{NamedFiles}
-use Rattle.seg_directory.specs.State.{HasOnly, LeavesOnly}
+use Rattle.seg_directory.specs.DirectoryStates.{HasOnly, LeavesOnly}
 use Rattle.seg_meta.specs.IndexOfFiles as index
-use Rattle.seg_meta.specs.View.{meta_of}
+use Rattle.seg_meta.specs.MetaMeaning.{meta_of}
 use Rattle.seg_meta.specs.declared.index_meta.IndexMeta.{IndexMeta}
 use Rattle.seg_model.specs.Fields.{Analyzer}
 use Rattle.seg_model.specs.Input.{Input}
-use Rattle.seg_segment.specs.Forms.{segment_forms}
-use Rattle.seg_index_build.specs.AfterCrash.{AreMergeOf, MayBeBuilt, MayBeMerged}
+use Rattle.seg_segment.specs.IndexForms.{segment_forms}
+use Rattle.seg_index_build.specs.FilesAfterCrash.{AreMergeOf, MayBeBuilt, MayBeMerged}
 use Rattle.seg_index_build.specs.IndexFiles.{IsOutputIndexOf}
-use Rattle.seg_index_build.specs.SegmentsMerged.{MergeInput}
-use Rattle.seg_index_build.specs.Turns.{Directories}
+use Rattle.seg_index_build.specs.MergedSegments.{MergeInput}
+use Rattle.seg_index_build.specs.TwoDirectories.{Directories}
 use Rattle.seg_script.specs.Script.{script}
-use Rattle.seg_generate.specs.Generated.{generated}
+use Rattle.seg_generate.specs.GeneratedInput.{generated}
 use Rattle.seg_tool.specs.Jobs.{merge_of}
 use Rattle.seg_tool.specs.declared.status.Status.{Status}
 use Rattle.seg_tool.specs.declared.status.Status.TheVariants.{Done}

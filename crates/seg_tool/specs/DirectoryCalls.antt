@@ -1,14 +1,14 @@
 -- What a run of `build` does to the work directory and to the output directory, by its status.
 use Rattle.std.specs.Prelude.{ℕ, ◌≡◌, ◌⊎◌, List, Result, Ok, Err, IsTrue}
 use Rattle.std.specs.FinMap.{len}
-use Rattle.seg_common.specs.Causes.{Rose}
+use Rattle.seg_common.specs.FaultCounts.{Rose}
 use Rattle.seg_values.specs.declared.error.TantivyError.{TantivyError}
 use Rattle.seg_values.specs.declared.error.TantivyError.TheVariants.{IndexAlreadyExists, OpenReadError, OpenWriteError, IoError, DataCorruption, OutOfMemory}
 use Rattle.seg_model.specs.Fields.{Analyzer}
 use Rattle.seg_model.specs.Input.{Input}
-use Rattle.seg_model.specs.Valid.{Known}
-use Rattle.seg_directory.specs.State.{DirectoryState}
-use Rattle.seg_index_build.specs.Turns.{Directories}
+use Rattle.seg_model.specs.ValidInputs.{Known}
+use Rattle.seg_directory.specs.DirectoryStates.{DirectoryState}
+use Rattle.seg_index_build.specs.TwoDirectories.{Directories}
 use Rattle.seg_tool.specs.Jobs.{BuildsText}
 use Rattle.seg_tool.specs.declared.status.Status.{Status}
 use Rattle.seg_tool.specs.declared.status.Status.TheVariants.{Done, Refused, Exists, Directory, Damaged, Stream, Memory}

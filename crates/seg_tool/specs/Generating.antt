@@ -1,17 +1,17 @@
 -- What a run that builds an input of its own comes to, without a script.
 use Rattle.std.specs.Prelude.{ℕ, ◌≡◌, ◌≢◌, ◌⊎◌, None, Some, IfSome, IsTrue}
 use Rattle.std.specs.FinMap.{len}
-use Rattle.seg_common.specs.Causes.{Rose}
+use Rattle.seg_common.specs.FaultCounts.{Rose}
 use Rattle.seg_values.specs.declared.error.TantivyError.{TantivyError}
 use Rattle.seg_model.specs.Fields.{Analyzer}
 use Rattle.seg_model.specs.Input.{Input}
-use Rattle.seg_model.specs.Refused.{build_refusal}
-use Rattle.seg_model.specs.Valid.{Known, input_refusal}
-use Rattle.seg_check.specs.Admitted.{IsValidIf}
-use Rattle.seg_index_build.specs.Builds.{IsWhyUntold}
+use Rattle.seg_model.specs.Refusals.{build_refusal}
+use Rattle.seg_model.specs.ValidInputs.{Known, input_refusal}
+use Rattle.seg_check.specs.AdmittedInputs.{IsValidIf}
+use Rattle.seg_index_build.specs.BuildOutcomes.{IsWhyUntold}
 use Rattle.seg_index_build.specs.IndexFiles.{IsMergedIndexOf, IsOutputIndexOf, IsWorkIndexOf}
-use Rattle.seg_index_build.specs.Taken.{HoldsTaken, gained}
-use Rattle.seg_index_build.specs.Turns.{Directories}
+use Rattle.seg_index_build.specs.TakenBatches.{HoldsTaken, gained}
+use Rattle.seg_index_build.specs.TwoDirectories.{Directories}
 use Rattle.seg_tool.specs.Jobs.{AreEmpty}
 use Rattle.seg_tool.specs.Run.{Gains, GainsPart, IsTextOfInput}
 use Rattle.seg_tool.specs.Runs.{SinkState}

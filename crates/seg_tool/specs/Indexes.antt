@@ -1,24 +1,24 @@
 -- What `merge` and `show` leave and print, where the directories tell their files.
 use Rattle.std.specs.Prelude.{ℕ, ◌≡◌, ◌≢◌, ◌<◌, ◌^◌, List, [], ◌∷◌, ◌++◌, map, replicate, true, Some, None, Ok, IsTrue, is_some, codes}
 use Rattle.std.specs.List.{AllByRecursion}
-use Rattle.seg_common.specs.Causes.{Rose}
+use Rattle.seg_common.specs.FaultCounts.{Rose}
 use Rattle.seg_directory.specs.Files.{NamedFiles}
-use Rattle.seg_directory.specs.State.{DirectoryState}
+use Rattle.seg_directory.specs.DirectoryStates.{DirectoryState}
 use Rattle.seg_meta.specs.IndexOfFiles as index
 use Rattle.seg_meta.specs.IndexOfFiles.{ListedSegment, Meta}
 use Rattle.seg_meta.specs.Metas.{segment_of}
-use Rattle.seg_meta.specs.View.{meta_of}
+use Rattle.seg_meta.specs.MetaMeaning.{meta_of}
 use Rattle.seg_meta.specs.declared.index_meta.IndexMeta.{IndexMeta}
 use Rattle.seg_model.specs.Contents.{Contents, reading_part}
 use Rattle.seg_model.specs.Fields.{Schema}
-use Rattle.seg_model.specs.Valid.{settings_fit}
-use Rattle.seg_segment.specs.Forms.{segment_forms}
-use Rattle.seg_segment.specs.Holds.{Holds}
+use Rattle.seg_model.specs.ValidInputs.{settings_fit}
+use Rattle.seg_segment.specs.IndexForms.{segment_forms}
+use Rattle.seg_segment.specs.FileContents.{Holds}
 use Rattle.seg_open.specs.OpenSegment.{OpenSegment, contents_of, kept_count}
-use Rattle.seg_open.specs.SegmentOpened.{Asked}
+use Rattle.seg_open.specs.OpeningSteps.{Asked}
 use Rattle.seg_index_build.specs.MergeAnswers.{AllHaveHeld, HoldsMarks}
-use Rattle.seg_index_build.specs.SegmentsMerged.{is_live, joined, live_asked, live_documents, output_meta_of}
-use Rattle.seg_index_build.specs.Turns.{Directories}
+use Rattle.seg_index_build.specs.MergedSegments.{is_live, joined, live_asked, live_documents, output_meta_of}
+use Rattle.seg_index_build.specs.TwoDirectories.{Directories}
 use Rattle.seg_text.specs.SegmentText.{segment_text}
 use Rattle.seg_tool.specs.Jobs.{MergesText, ShowsText, last_id, merge_of}
 use Rattle.seg_tool.specs.Printing.{read_texts}

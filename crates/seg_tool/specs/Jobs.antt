@@ -3,25 +3,25 @@ use Rattle.std.specs.Prelude.{ℕ, ◌≡◌, ◌≢◌, ◌⊎◌, ◌-◌, ◌
 use Rattle.std.specs.FinMap.{len}
 use Rattle.seg_values.specs.declared.error.TantivyError.{TantivyError}
 use Rattle.seg_values.specs.declared.error.TantivyError.TheVariants.{IndexAlreadyExists, OutOfMemory}
-use Rattle.seg_directory.specs.State.{HasOnly, IsEmptyDisk, LeavesOnly}
+use Rattle.seg_directory.specs.DirectoryStates.{HasOnly, IsEmptyDisk, LeavesOnly}
 use Rattle.seg_meta.specs.MetaSteps.{LoadsMetas}
-use Rattle.seg_meta.specs.View.{meta_of}
+use Rattle.seg_meta.specs.MetaMeaning.{meta_of}
 use Rattle.seg_meta.specs.declared.index_meta.IndexMeta.{IndexMeta}
 use Rattle.seg_model.specs.Fields.{Analyzer}
 use Rattle.seg_model.specs.Input.{Input}
-use Rattle.seg_model.specs.Refused.{IfRefusal, build_refusal}
-use Rattle.seg_model.specs.Valid.{Known, input_refusal}
-use Rattle.seg_open.specs.SegmentOpened.{IsNoDamage}
-use Rattle.seg_check.specs.Admitted.{IsValidIf}
-use Rattle.seg_index_build.specs.AfterCrash.{AreMergeOf, MayBeMerged}
-use Rattle.seg_index_build.specs.Builds.{IsWhyUntold, LeavesBuilt}
+use Rattle.seg_model.specs.Refusals.{IfRefusal, build_refusal}
+use Rattle.seg_model.specs.ValidInputs.{Known, input_refusal}
+use Rattle.seg_open.specs.OpeningSteps.{IsNoDamage}
+use Rattle.seg_check.specs.AdmittedInputs.{IsValidIf}
+use Rattle.seg_index_build.specs.FilesAfterCrash.{AreMergeOf, MayBeMerged}
+use Rattle.seg_index_build.specs.BuildOutcomes.{IsWhyUntold, LeavesBuilt}
 use Rattle.seg_index_build.specs.DirectoryCalls.{BuildsIndexes}
 use Rattle.seg_index_build.specs.IndexFiles.{IsMergedIndexOf, IsOutputIndexOf, IsWorkIndexOf}
 use Rattle.seg_index_build.specs.MergeAnswers.{CanBeMerged, IsMergeError, IsMergeOf, IsWholeIndex, LiveAreWhole}
-use Rattle.seg_index_build.specs.SegmentsMerged.{MergeInput, MergesSegments, merge_input}
-use Rattle.seg_index_build.specs.Turns.{Directories, InOutput, InWork, Then}
+use Rattle.seg_index_build.specs.MergedSegments.{MergeInput, MergesSegments, merge_input}
+use Rattle.seg_index_build.specs.TwoDirectories.{Directories, InOutput, InWork, Then}
 use Rattle.seg_script.specs.Script.{script}
-use Rattle.seg_generate.specs.Generated.{generated}
+use Rattle.seg_generate.specs.GeneratedInput.{generated}
 use Rattle.seg_tool.specs.Printing.{opening}
 use Rattle.seg_tool.specs.ReadingBack.{PrintsIndex, listed_in}
 use Rattle.seg_tool.specs.Statuses.{status_of}

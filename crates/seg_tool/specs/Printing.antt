@@ -3,7 +3,7 @@ use Rattle.std.specs.Prelude.{List, [], ◌∷◌, ◌++◌, ℕ, Option, Some, 
 use Rattle.std.specs.FinMap.{entries}
 use Rattle.seg_model.specs.Columns.{Columns}
 use Rattle.seg_model.specs.Contents.{reading_part}
-use Rattle.seg_postings.specs.FieldReading.{OpenField}
+use Rattle.seg_postings.specs.OpenedFields.{OpenField}
 use Rattle.seg_open.specs.OpenSegment.{OpenSegment, contents_of, terms_in}
 use Rattle.seg_model.specs.Fields.{Schema}
 use Rattle.seg_text.specs.FieldText.{field_text}

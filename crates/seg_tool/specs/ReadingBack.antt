@@ -1,12 +1,12 @@
 -- The text of an index, of what a directory answers.
 use Rattle.std.specs.Prelude.{ℕ, ◌≡◌, List, ◌++◌, map, None, Result, Ok, Err}
 use Rattle.seg_values.specs.declared.error.TantivyError.{TantivyError}
-use Rattle.seg_directory.specs.State.{DirectoryState}
+use Rattle.seg_directory.specs.DirectoryStates.{DirectoryState}
 use Rattle.seg_meta.specs.MetaSteps.{LoadsMetas}
 use Rattle.seg_meta.specs.Metas.{SegmentParts, segment_of}
 use Rattle.seg_meta.specs.declared.index_meta.IndexMeta.{IndexMeta}
 use Rattle.seg_open.specs.OpenSegment.{OpenSegment}
-use Rattle.seg_open.specs.SegmentOpened.{Asked, Opens, OpensSegments}
+use Rattle.seg_open.specs.OpeningSteps.{Asked, Opens, OpensSegments}
 use Rattle.seg_tool.specs.Printing.{read_segment_text, read_texts}
 use Rattle.seg_tool.specs.declared.words.Detail.{Detail}
 

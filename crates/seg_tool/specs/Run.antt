@@ -14,11 +14,11 @@ use Rattle.seg_model.specs.Fields.{Schema, Analyzer}
 use Rattle.seg_model.specs.Input.{Input, input_batches, input_survivors}
 use Rattle.seg_model.specs.Norms.{all_norms}
 use Rattle.seg_model.specs.Operations.{Batch}
-use Rattle.seg_model.specs.Refused.{build_refusal}
-use Rattle.seg_model.specs.Valid.{Known, input_refusal}
-use Rattle.seg_check.specs.Admitted.{IsValidIf}
+use Rattle.seg_model.specs.Refusals.{build_refusal}
+use Rattle.seg_model.specs.ValidInputs.{Known, input_refusal}
+use Rattle.seg_check.specs.AdmittedInputs.{IsValidIf}
 use Rattle.seg_index_build.specs.IndexFiles.{IsMergedIndexOf, IsOutputIndexOf, IsWorkIndexOf, output_id, work_ids}
-use Rattle.seg_index_build.specs.Turns.{Directories}
+use Rattle.seg_index_build.specs.TwoDirectories.{Directories}
 use Rattle.seg_script.specs.Script.{script}
 use Rattle.seg_text.specs.SegmentText.{PrintedSegment}
 use Rattle.seg_tool.specs.Jobs.{BuildsText}

@@ -2,12 +2,12 @@
 use Rattle.std.specs.Prelude.{ℕ, ◌≡◌, ◌<◌, ◌≤◌, ◌+◌, List, length, Option, Some, None, Result, Ok, Err, IfSome, String}
 use Rattle.std.specs.Io.KnownBytes.{Appends, IsAtEnd}
 use Rattle.std.specs.declared.alloc.Global.{Global}
-use Rattle.seg_common.specs.Causes.{Rose}
-use Rattle.seg_common.specs.Idle.{Idle, OnlyLastIsIdle}
+use Rattle.seg_common.specs.FaultCounts.{Rose}
+use Rattle.seg_common.specs.IdleReads.{Idle, OnlyLastIsIdle}
 use Rattle.seg_common.specs.Streams.{AppendsPart, IsAllOf, TakesAtMost}
 use Rattle.seg_model.specs.Fields.{Analyzer}
-use Rattle.seg_model.specs.Valid.{Known}
-use Rattle.seg_index_build.specs.Turns.{Directories}
+use Rattle.seg_model.specs.ValidInputs.{Known}
+use Rattle.seg_index_build.specs.TwoDirectories.{Directories}
 use Rattle.seg_tool.specs.Jobs.{BuildsScript, GeneratesText, MergesText, ShowsText, WithStatus}
 use Rattle.seg_tool.specs.Run.{max_script}
 use Rattle.seg_tool.specs.Words.{command_of}

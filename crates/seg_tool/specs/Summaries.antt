@@ -2,7 +2,7 @@
 use Rattle.std.specs.Prelude.{ℕ, ◌+◌, List, [], map, length, sum_by, Option, Some, None}
 use Rattle.std.specs.FinMap.{entries}
 use Rattle.seg_bits.specs.BitSets.{member_count}
-use Rattle.seg_postings.specs.FieldReading.{OpenField}
+use Rattle.seg_postings.specs.OpenedFields.{OpenField}
 use Rattle.seg_open.specs.OpenSegment.{OpenSegment, terms_in}
 use Rattle.seg_generate.specs.SummaryText.{summary_text}
 use Rattle.seg_generate.specs.declared.summary.TermTotals.{TermTotals}

@@ -7,7 +7,7 @@ use Rattle.seg_directory.specs.declared.answer.Answer.{Answer}
 use Rattle.seg_directory.specs.declared.answer.Answer.TheVariants as answer
 use Rattle.seg_model.specs.Fields.{Analyzer}
 use Rattle.seg_model.specs.Input.{Input}
-use Rattle.seg_index_build.specs.Taken.{HoldsTaken, same_name}
+use Rattle.seg_index_build.specs.TakenBatches.{HoldsTaken, same_name}
 use Rattle.seg_script.specs.Script.{script}
 
 -- whether an answer gives the bytes of the meta

@@ -1,6 +1,6 @@
 //! From the bytes of a script to its indexes, and to the text of what the directories then answer.
 ghost use Rattle.std.specs.Prelude.{◌≡◌, IfOk};
-ghost use Rattle.seg_index_build.specs.Turns.{both};
+ghost use Rattle.seg_index_build.specs.TwoDirectories.{both};
 ghost use Rattle.seg_open.specs.Answers.{seen_as};
 ghost use Rattle.seg_tool.specs.Jobs.{BuildsBoth, BuildsScript, BuildsText};
 ghost use Rattle.seg_tool.specs.Printing.{opening};

@@ -1,7 +1,7 @@
 //! The name of a damaged file, as it is told of a status.
 ghost use Rattle.std.specs.Prelude.{◌≡◌, ◌∷◌, ◌++◌, [], OnOk, OnErr, codes, decimal};
 ghost use Rattle.std.specs.Io.KnownBytes.{Appends};
-ghost use Rattle.seg_common.specs.Causes.{HasCause};
+ghost use Rattle.seg_common.specs.FaultCounts.{HasCause};
 ghost use Rattle.seg_common.specs.FileNames.{name_text};
 ghost use Rattle.seg_common.specs.SegmentIds.{id_text};
 ghost use Rattle.seg_common.specs.Streams.{StaysTold, AppendsPart};

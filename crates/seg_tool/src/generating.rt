@@ -1,5 +1,5 @@
 //! From a number to the indexes of the input that it generates, and to their summary.
-ghost use Rattle.seg_index_build.specs.Turns.{both};
+ghost use Rattle.seg_index_build.specs.TwoDirectories.{both};
 ghost use Rattle.seg_open.specs.Answers.{seen_as};
 ghost use Rattle.seg_tool.specs.Jobs.{GeneratesText};
 

@@ -1,6 +1,6 @@
 //! From the segments of the work index to an output index of one segment, and to its text.
 ghost use Rattle.std.specs.Prelude.{◌≡◌, map, None, IfOk};
-ghost use Rattle.seg_index_build.specs.Turns.{both};
+ghost use Rattle.seg_index_build.specs.TwoDirectories.{both};
 ghost use Rattle.seg_open.specs.Answers.{seen_as};
 ghost use Rattle.seg_tool.specs.Jobs.{MergesText, MergesWork};
 

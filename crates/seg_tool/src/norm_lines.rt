@@ -1,9 +1,9 @@
 //! The length ids of a segment that is open.
 ghost use Rattle.std.specs.Prelude.{◌≡◌, ◌<◌, ◌-◌, ◌^◌, ◌++◌, [], length, map, if◌then◌else◌, unwrap_or, IfOk, OnOk};
-ghost use Rattle.seg_directory.specs.Composite.{field_of};
+ghost use Rattle.seg_directory.specs.CompositeFiles.{field_of};
 ghost use Rattle.seg_model.specs.Fields.{has_lengths};
 ghost use Rattle.seg_open.specs.OpenSegment.{contents_of};
-ghost use Rattle.seg_norms.specs.NormsRead.{norms_of};
+ghost use Rattle.seg_norms.specs.StoredNorms.{norms_of};
 ghost use Rattle.seg_text.specs.NormsText.{norms_line, norms_text};
 
 use seg_norms::{FieldNormReader, FieldNormReaders};

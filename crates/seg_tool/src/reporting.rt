@@ -1,7 +1,7 @@
 //! The line that is told of a status that is not Done.
 ghost use Rattle.std.specs.Prelude.{◌≡◌, ◌≤◌, ◌∷◌, ◌++◌, [], OnOk, OnErr, codes, option_to_list};
 ghost use Rattle.std.specs.Io.KnownBytes.{Appends};
-ghost use Rattle.seg_common.specs.Causes.{HasCause};
+ghost use Rattle.seg_common.specs.FaultCounts.{HasCause};
 ghost use Rattle.seg_common.specs.Streams.{StaysTold, AppendsPart};
 ghost use Rattle.seg_tool.specs.Statuses.{cause_words, fault_text, schema_cause_words, argument_cause_words, numbers_text, cause_text, status_line};
 

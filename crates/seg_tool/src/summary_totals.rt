@@ -2,8 +2,8 @@
 ghost use Rattle.std.specs.Prelude.{◌≡◌, ◌<◌, ◌-◌, ◌^◌, [], ◌∷◌, length, map, is_some, slice_get, IfOk};
 ghost use Rattle.std.specs.FinMap.{entries};
 ghost use Rattle.seg_model.specs.Fields.{is_indexed};
-ghost use Rattle.seg_postings.specs.FieldReading.{written_terms};
-ghost use Rattle.seg_postings.specs.HeldTerms.{terms_held};
+ghost use Rattle.seg_postings.specs.OpenedFields.{written_terms};
+ghost use Rattle.seg_postings.specs.TermMaps.{terms_held};
 ghost use Rattle.seg_generate.specs.SummaryText.{indexed_terms, totals_of};
 ghost use Rattle.seg_open.specs.OpenSegment.{terms_in};
 ghost use Rattle.seg_tool.specs.Summaries.{opened_terms, with_terms};

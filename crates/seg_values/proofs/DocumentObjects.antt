@@ -15,7 +15,7 @@ use Rattle.serde_json.specs.Find.{get_member}
 use Rattle.serde_json.proofs.Views.{get_member-put, get_member-put_other}
 use Rattle.seg_common.proofs.Lists.{drop-slice_get, take-slice_get}
 use Rattle.seg_values.specs.declared.schema.FieldEntry.{FieldEntry}
-use Rattle.seg_values.specs.Distinct.{all_distinct}
+use Rattle.seg_values.specs.DistinctLists.{all_distinct}
 use Rattle.seg_values.specs.DocumentJson.{values_of, put_values, fields_json, with_last, grown, with_item, has_fields}
 use Rattle.seg_values.specs.SchemaRules.{is_entry, is_schema, same_name}
 use Rattle.seg_values.specs.Schemas.{Schema}

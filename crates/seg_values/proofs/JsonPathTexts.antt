@@ -4,7 +4,7 @@ use Rattle.std.specs.List.{join_with_byte}
 use Rattle.std.proofs.lemmas.Bool.{false≢true, ne_eqb}
 use Rattle.std.proofs.lemmas.List.{map-append}
 use Rattle.std.proofs.Math.ListN.{get_or-append}
-use Rattle.seg_common.specs.Replacing.{replacement}
+use Rattle.seg_common.specs.Replacements.{replacement}
 use Rattle.seg_common.specs.JsonPaths.{written_key, joined_path}
 use Rattle.seg_values.specs.JsonPathTexts.{keys_in, before_first}
 

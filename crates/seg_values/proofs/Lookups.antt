@@ -3,7 +3,7 @@ use Rattle.std.proofs.Common.{◌≡◌, ℕ, ◌+◌, ◌<◌, Bool, cond, List
 use Rattle.std.specs.Map.{lookup}
 use Rattle.seg_common.proofs.Lists.{drop-get_or}
 use Rattle.seg_values.specs.declared.document.FieldValue.{FieldValue}
-use Rattle.seg_values.specs.View.{pair_of, tree_of}
+use Rattle.seg_values.specs.ValueTrees.{pair_of, tree_of}
 
 -- what is found from a place on: at it, or after it
 pub found_from : (field : ℕ) (items : List FieldValue) (i j : ℕ) (p : FieldValue) (b : Bool) → i < length items → j ≡ i + 1 → p ≡ get_or items i p → nat_eq field p.field ≡ b

@@ -6,7 +6,7 @@ use Rattle.std.specs.List.{list_any}
 use Rattle.seg_common.proofs.Lists.{list_any-place}
 use Rattle.seg_common.proofs.Bytes.{bytes_eq-sym}
 use Rattle.seg_values.specs.declared.schema.FieldEntry.{FieldEntry}
-use Rattle.seg_values.specs.Names.{field_named}
+use Rattle.seg_values.specs.FieldNames.{field_named}
 use Rattle.seg_values.specs.SchemaRules.{same_name}
 
 no_place : (b : Bool) (n : ℕ) → cond b (Some n) None ≡ None → b ≡ false

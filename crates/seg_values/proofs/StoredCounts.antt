@@ -1,7 +1,7 @@
 -- How many trees and members a value has.
 use Rattle.std.proofs.Common.{◌≡◌, ℕ, suc, List, [], ◌∷◌, length, refl, ap}
 use Rattle.seg_values.specs.Tree.{Tree, trees_from, members_from}
-use Rattle.seg_values.specs.StoredForm.{tree_count, member_count}
+use Rattle.seg_values.specs.StoredBytes.{tree_count, member_count}
 
 -- as many trees as are in the list
 pub count_trees : (ts : List Tree) → tree_count (trees_from ts) ≡ length ts

@@ -5,8 +5,8 @@ use Rattle.seg_values.specs.declared.value.Member.{Member}
 use Rattle.seg_values.specs.declared.value.OwnedValue.{OwnedValue}
 use Rattle.std.specs.Prelude.{IsUtf8}
 use Rattle.seg_values.specs.Tree.{trees_from, members_from}
-use Rattle.seg_values.specs.Utf8.{IsUtf8Tree, AreUtf8Trees, AreUtf8Members}
-use Rattle.seg_values.specs.View.{tree_of, member_of}
+use Rattle.seg_values.specs.Utf8Values.{IsUtf8Tree, AreUtf8Trees, AreUtf8Members}
+use Rattle.seg_values.specs.ValueTrees.{tree_of, member_of}
 
 pub are_utf8_trees : (vs : List OwnedValue) → AllByRecursion (λ v. IsUtf8Tree (tree_of v)) vs → AreUtf8Trees (trees_from (map tree_of vs))
 are_utf8_trees [] h = tt

@@ -1,7 +1,7 @@
 -- Facets: the encoded text of the steps, and the path that tells it.
 use Rattle.std.specs.Prelude.{ℕ, ◌≡◌, ◌≢◌, ◌<◌, ◌==◌, List, [], ◌∷◌, map, length}
 use Rattle.std.specs.List.{All, slice_split}
-use Rattle.seg_common.specs.Replacing.{replacement}
+use Rattle.seg_common.specs.Replacements.{replacement}
 
 -- the path of an encoded text: a slash, and the text with a slash for each byte 0
 abbrev pub path_of : List ℕ → List ℕ

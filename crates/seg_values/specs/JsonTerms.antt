@@ -1,7 +1,7 @@
 -- The bytes of values in JSON fields.
 use Rattle.std.specs.Prelude.{ℕ, ◌^◌, List, [], ◌∷◌, nat_lt, pos, if◌then◌else◌, Option, Some, None}
 use Rattle.std.specs.Int.{w64, to_be_bytes}
-use Rattle.seg_common.specs.Mappable.{raised, lowered, is_bit, is_one}
+use Rattle.seg_common.specs.MappableValues.{raised, lowered, is_bit, is_one}
 use Rattle.seg_values.specs.declared.fast_value.LeafCode.{LeafCode}
 use Rattle.seg_values.specs.declared.field_type.FieldType.{FieldType}
 use Rattle.seg_values.specs.declared.field_type.FieldType.TheVariants as types

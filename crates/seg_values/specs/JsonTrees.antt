@@ -5,7 +5,7 @@ use Rattle.std.specs.Option.{option_map, option_or}
 use Rattle.serde_json.specs.Data as json
 use Rattle.serde_json.specs.Data.{Num, Data, Items}
 use Rattle.serde_json.specs.Find.{as_i64, as_u64}
-use Rattle.seg_common.specs.DateReading.{date_of}
+use Rattle.seg_common.specs.ParsedDates.{date_of}
 use Rattle.seg_values.specs.declared.reading.Reading.{Reading}
 use Rattle.seg_values.specs.declared.reading.Reading.TheVariants.{Plain, Telling}
 use Rattle.seg_values.specs.Tree.{Leaf, null, text, unsigned, signed, boolean, date, Tree, leaf, array, object, trees_from, members_from}

@@ -1,7 +1,7 @@
 -- What the definitions say together.
 use Rattle.std.specs.Prelude.{◌≡◌, Some}
 use Rattle.seg_values.specs.JsonTrees.{json_tree}
-use Rattle.seg_values.specs.ToldByJson.{IsToldByJson}
+use Rattle.seg_values.specs.LosslessJsonTrees.{IsToldByJson}
 use Rattle.seg_values.specs.Tree.{Tree}
 use Rattle.seg_values.specs.ValueJson.{value_json}
 

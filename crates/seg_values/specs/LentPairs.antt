@@ -3,7 +3,7 @@ use Rattle.std.specs.Prelude.{ℕ}
 use Rattle.std.specs.Borrow.{Bor}
 use Rattle.seg_values.specs.declared.value.OwnedValue.{OwnedValue}
 use Rattle.seg_values.specs.Tree.{Tree}
-use Rattle.seg_values.specs.View.{tree_of}
+use Rattle.seg_values.specs.ValueTrees.{tree_of}
 
 -- a field, and the tree of its value
 abbrev pub lent_pair : ℕ × Bor OwnedValue → ℕ × Tree

@@ -2,7 +2,7 @@
 use Rattle.std.specs.Prelude.{ℕ, ◌≡◌, ◌≢◌, ◌+◌, ◌-◌, ◌<◌, ◌≤◌, List, [], Option, Some, None, length, take, drop, slice_index}
 use Rattle.std.specs.Option.{option_map}
 use Rattle.seg_values.specs.declared.schema.FieldEntry.{FieldEntry}
-use Rattle.seg_values.specs.Names.{field_named}
+use Rattle.seg_values.specs.FieldNames.{field_named}
 
 -- the place of a dot that no backslash precedes
 pub record IsSeparator (name : List ℕ) (at : ℕ) : Type 0 where

@@ -7,8 +7,8 @@ use Rattle.seg_values.specs.declared.schema.FieldKind.{FieldKind}
 use Rattle.seg_values.specs.declared.schema.FieldKind.TheVariants.{Facet}
 use Rattle.seg_values.specs.declared.schema.IndexOption.{IndexOption}
 use Rattle.seg_values.specs.declared.schema.IndexOption.TheVariants as index
-use Rattle.seg_values.specs.Distinct.{all_distinct}
-use Rattle.seg_values.specs.Names.{is_allowed}
+use Rattle.seg_values.specs.DistinctLists.{all_distinct}
+use Rattle.seg_values.specs.FieldNames.{is_allowed}
 
 -- an option: documents alone
 abbrev pub is_basic : IndexOption → Bool

@@ -1,8 +1,8 @@
 -- Terms, and the bytes of values.
 use Rattle.std.specs.Prelude.{ℕ, List, []}
 use Rattle.std.specs.Int.{w64, to_be_bytes}
-use Rattle.seg_common.specs.Dates.{cut_to, nanos_in_second}
-pub use Rattle.seg_common.specs.Mappable.{raised, bit}
+use Rattle.seg_common.specs.DateUnits.{cut_to, nanos_in_second}
+pub use Rattle.seg_common.specs.MappableValues.{raised, bit}
 use Rattle.seg_values.specs.Tree.{Leaf, text, unsigned, signed, boolean, date, facet, byte_string, ip}
 
 -- a term: a field, and value bytes

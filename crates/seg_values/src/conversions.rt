@@ -1,10 +1,10 @@
 //! What a value is made of, and the number of its kind.
 ghost use Rattle.std.specs.Prelude.{◌≡◌, Some, map, string_bytes, slice_get, IfOk, IsOkUnless};
 ghost use Rattle.std.specs.Net.Addr.{ipv6_octets};
-ghost use Rattle.seg_values.specs.StoredForm.{tree_form};
-ghost use Rattle.seg_values.specs.Tags.{tag};
+ghost use Rattle.seg_values.specs.StoredBytes.{tree_form};
+ghost use Rattle.seg_values.specs.ValueTags.{tag};
 ghost use Rattle.seg_values.specs.Tree as trees;
-ghost use Rattle.seg_values.specs.View.{tree_of, named_tree};
+ghost use Rattle.seg_values.specs.ValueTrees.{tree_of, named_tree};
 
 use crate::facet::Facet;
 use crate::value::{Members, OwnedValue};

@@ -2,7 +2,7 @@
 ghost use Rattle.std.specs.Prelude.{◌≡◌, ℕ, ◌<◌, [], ◌∷◌, ◌++◌, length, nat_eq, slice_get, Some, option_map, OnOk, OnErr, IsOkUnless};
 ghost use Rattle.std.specs.Map.{lookup};
 ghost use Rattle.seg_values.specs.Tree as trees;
-ghost use Rattle.seg_values.specs.View.{tree_of};
+ghost use Rattle.seg_values.specs.ValueTrees.{tree_of};
 
 use crate::document_trait::Document;
 use crate::schema::Field;
@@ -30,13 +30,13 @@ impl Model for TantivyDocument {
     ghost use Rattle.std.specs.Prelude.{List, ℕ, map};
     ghost use Rattle.std.specs.Coded.{coded_list, coded×, coded_ℕ};
     ghost use Rattle.seg_values.specs.Tree.{Tree};
-    ghost use Rattle.seg_values.specs.Code.{tree_code};
+    ghost use Rattle.seg_values.specs.ValueCodes.{tree_code};
 
     ghost Value = { List (ℕ × Tree) };
 
     ghost coded = { coded_list (coded× coded_ℕ tree_code) };
 
-    ghost use Rattle.seg_values.specs.View.{pair_of};
+    ghost use Rattle.seg_values.specs.ValueTrees.{pair_of};
 
     ghost view = { λ a. map pair_of a.pairs.items };
 }
@@ -142,7 +142,7 @@ impl Model for Documents {
     ghost use Rattle.std.specs.Prelude.{List};
     ghost use Rattle.std.specs.Coded.{coded_list, coded×, coded_ℕ};
     ghost use Rattle.seg_values.specs.Tree.{Document};
-    ghost use Rattle.seg_values.specs.Code.{tree_code};
+    ghost use Rattle.seg_values.specs.ValueCodes.{tree_code};
 
     ghost Value = { List Document };
 

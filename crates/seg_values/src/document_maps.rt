@@ -1,7 +1,7 @@
 //! Documents as maps, of which each field has one value.
 ghost use Rattle.std.specs.Prelude.{map, IfOk, OnOk};
 ghost use Rattle.seg_values.specs.LastValues.{HasLastValues, PutsValue};
-ghost use Rattle.seg_values.specs.View.{entry_pair, tree_of};
+ghost use Rattle.seg_values.specs.ValueTrees.{entry_pair, tree_of};
 
 use crate::document::TantivyDocument;
 use crate::schema::Field;

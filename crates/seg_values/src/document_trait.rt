@@ -1,7 +1,7 @@
 //! What a document is for those that read it.
 ghost use Rattle.std.specs.Prelude.{◌≡◌, ℕ, ◌<◌, List, length, slice_get, Some, IfOk};
 ghost use Rattle.seg_values.specs.Tree.{Tree};
-ghost use Rattle.seg_values.specs.View.{tree_of};
+ghost use Rattle.seg_values.specs.ValueTrees.{tree_of};
 
 use crate::pairs::Pairs;
 use crate::schema::Field;

@@ -1,10 +1,10 @@
 //! Equality of facets, terms, values and documents: where what contracts see of them is equal.
 ghost use Rattle.std.specs.Prelude.{◌≡◌, ◌↔◌, IsTrue};
 ghost use Rattle.std.specs.Coded.{coded_list, coded×, coded_ℕ};
-ghost use Rattle.seg_tokens.specs.Code.{key_code};
-ghost use Rattle.seg_values.specs.Code.{term_code, tree_code};
-ghost use Rattle.seg_tokens.specs.Same.{same_by, same_partial_equivalence, same_partial_equivalence_on, same_equivalence, same_equivalence_on};
-ghost use Rattle.seg_values.specs.View.{tree_of, member_of};
+ghost use Rattle.seg_tokens.specs.TokenCodes.{key_code};
+ghost use Rattle.seg_values.specs.ValueCodes.{term_code, tree_code};
+ghost use Rattle.seg_tokens.specs.CodeEquality.{same_by, same_partial_equivalence, same_partial_equivalence_on, same_equivalence, same_equivalence_on};
+ghost use Rattle.seg_values.specs.ValueTrees.{tree_of, member_of};
 
 use crate::document::TantivyDocument;
 use crate::facet::Facet;

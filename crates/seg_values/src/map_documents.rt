@@ -1,6 +1,6 @@
 //! Documents of which each field has one value: maps, in the order of their fields.
 ghost use Rattle.std.specs.Prelude.{map};
-ghost use Rattle.seg_values.specs.View.{entry_pair};
+ghost use Rattle.seg_values.specs.ValueTrees.{entry_pair};
 
 use crate::document_trait::Document;
 use crate::pairs::Pairs;

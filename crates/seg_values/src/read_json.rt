@@ -4,7 +4,7 @@ ghost use Rattle.serde_json.specs.Data as json;
 ghost use Rattle.serde_json.specs.View.{view, number_view, items_view, members_view};
 ghost use Rattle.seg_values.specs.JsonTrees.{json_tree, told_tree, number_leaf, told_moment, text_leaf, tree_read, trees_read, members_read};
 ghost use Rattle.seg_values.specs.Tree as trees;
-ghost use Rattle.seg_values.specs.View.{tree_of};
+ghost use Rattle.seg_values.specs.ValueTrees.{tree_of};
 
 use crate::reading::Reading;
 use crate::value::{Members, OwnedValue, Values};

@@ -1,7 +1,7 @@
 //! Fields and schemas.
 ghost use Rattle.std.specs.Prelude.{◌≡◌, List, ℕ, ◌<◌, ◌+◌, ◌-◌, ◌^◌, ◌++◌, [], ◌∷◌, ◌↔◌, ◌⊎◌, length, slice_get, Some, None, Err, true, IfOk, IfErr, IfSome, OnOk, OnErr, IsSome};
-ghost use Rattle.seg_values.specs.Indexed.{has_lengths, is_indexed};
-ghost use Rattle.seg_values.specs.Names.{field_named, kept_entry, is_allowed};
+ghost use Rattle.seg_values.specs.IndexedFields.{has_lengths, is_indexed};
+ghost use Rattle.seg_values.specs.FieldNames.{field_named, kept_entry, is_allowed};
 ghost use Rattle.seg_values.specs.SchemaRules.{is_schema};
 
 use crate::error::{SchemaCause, TResult, TantivyError};

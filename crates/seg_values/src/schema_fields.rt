@@ -1,6 +1,6 @@
 //! The entries of a schema, with their places by name.
 ghost use Rattle.std.specs.Prelude.{◌≡◌, ◌<◌, ◌+◌, ◌-◌, ◌^◌, ◌++◌, ◌∷◌, [], true, None, length, OnErr, OnOk};
-ghost use Rattle.seg_values.specs.Names.{field_named};
+ghost use Rattle.seg_values.specs.FieldNames.{field_named};
 ghost use Rattle.seg_values.specs.SchemaRules.{is_entry, is_schema};
 
 use crate::schema::FieldEntry;
@@ -21,7 +21,7 @@ impl Model for SchemaFields {
 
     ghost Value = { List FieldEntry };
 
-    ghost use Rattle.seg_values.specs.Names.{field_named};
+    ghost use Rattle.seg_values.specs.FieldNames.{field_named};
     ghost use Rattle.seg_values.specs.SchemaRules.{is_schema};
 
     ghost view = { λ a. a.entries.items };

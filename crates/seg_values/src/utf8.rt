@@ -1,8 +1,8 @@
 //! Texts are UTF-8 by their type, and a walk over a value says so of each text in it.
 ghost use Rattle.std.specs.Prelude.{IsUtf8};
 ghost use Rattle.seg_values.specs.Tree.{trees_from, members_from};
-ghost use Rattle.seg_values.specs.Utf8.{IsUtf8Tree, AreUtf8Trees, AreUtf8Members, IsUtf8Document};
-ghost use Rattle.seg_values.specs.View.{tree_of};
+ghost use Rattle.seg_values.specs.Utf8Values.{IsUtf8Tree, AreUtf8Trees, AreUtf8Members, IsUtf8Document};
+ghost use Rattle.seg_values.specs.ValueTrees.{tree_of};
 
 use crate::facet::Facet;
 use crate::pairs::Pairs;

@@ -55,19 +55,19 @@ impl Model for Values {
     ghost use Rattle.std.specs.Coded.{coded_list};
     ghost use Rattle.std.proofs.Common.{arith};
     ghost use Rattle.seg_values.specs.Tree.{Tree, trees_from, most_levels};
-    ghost use Rattle.seg_values.specs.Code.{tree_code};
+    ghost use Rattle.seg_values.specs.ValueCodes.{tree_code};
 
     ghost Value = { List Tree };
 
     ghost coded = { coded_list tree_code };
 
-    ghost use Rattle.seg_values.specs.View.{tree_of};
+    ghost use Rattle.seg_values.specs.ValueTrees.{tree_of};
 
     ghost view = { λ a. map tree_of a.values.items };
 
     ghost size = { λ ts. most_levels (trees_from ts) };
 
-    ghost use Rattle.seg_values.specs.Falls.{most_deep-le};
+    ghost use Rattle.seg_values.specs.TreeLevels.{most_deep-le};
 
     ghost size_decreases = { λ a h. Prim.omega (arith, most_deep-le a.values.items) };
 }
@@ -77,26 +77,26 @@ impl Model for Members {
     ghost use Rattle.std.specs.Coded.{coded_list, coded×};
     ghost use Rattle.std.proofs.Common.{arith};
     ghost use Rattle.seg_values.specs.Tree.{Tree, members_from, most_member_levels};
-    ghost use Rattle.seg_tokens.specs.Code.{key_code};
-    ghost use Rattle.seg_values.specs.Code.{tree_code};
+    ghost use Rattle.seg_tokens.specs.TokenCodes.{key_code};
+    ghost use Rattle.seg_values.specs.ValueCodes.{tree_code};
 
     ghost Value = { List (List ℕ × Tree) };
 
     ghost coded = { coded_list (coded× key_code tree_code) };
 
-    ghost use Rattle.seg_values.specs.View.{member_of};
+    ghost use Rattle.seg_values.specs.ValueTrees.{member_of};
 
     ghost view = { λ a. map member_of a.members.items };
 
     ghost size = { λ ms. most_member_levels (members_from ms) };
 
-    ghost use Rattle.seg_values.specs.Falls.{most_member_deep-le};
+    ghost use Rattle.seg_values.specs.TreeLevels.{most_member_deep-le};
 
     ghost size_decreases = { λ a h. Prim.omega (arith, most_member_deep-le a.members.items) };
 }
 
 impl Values {
-    ghost use Rattle.seg_values.specs.View.{tree_of};
+    ghost use Rattle.seg_values.specs.ValueTrees.{tree_of};
 
     /// The value at a place.
     pub fn get(&self, at: usize) -> &OwnedValue
@@ -130,7 +130,7 @@ impl Values {
 }
 
 impl Members {
-    ghost use Rattle.seg_values.specs.View.{tree_of};
+    ghost use Rattle.seg_values.specs.ValueTrees.{tree_of};
 
     /// The key and the value at a place.
     pub fn get(&self, at: usize) -> (&str, &OwnedValue)

@@ -8,7 +8,7 @@ ghost use Rattle.seg_common.specs.DateText.{date_text};
 ghost use Rattle.seg_values.specs.Facets.{path_of};
 ghost use Rattle.seg_values.specs.Tree.{pre_tokenized, trees_from, members_from};
 ghost use Rattle.seg_values.specs.ValueJson.{value_json, leaf_json, items_json, members_json, token_json, tokens_items};
-ghost use Rattle.seg_values.specs.View.{tree_of};
+ghost use Rattle.seg_values.specs.ValueTrees.{tree_of};
 
 use crate::address::shown_address;
 use crate::facet::Facet;

@@ -1,1 +1,1 @@
-mod Registered
+mod RegisteredTokenizers

@@ -1,7 +1,7 @@
 //! The program: runs the words of its command line over standard input and output, and the folders `work` and `out`.
 #![tactic(auto)]
 
-ghost use Rattle.seg_generate.specs.Taking.{TakesTexts};
+ghost use Rattle.seg_generate.specs.GeneratedTexts.{TakesTexts};
 
 use seg_common::{ReaderSource, WriterSink};
 use seg_directory::FileDirectory;

@@ -1,6 +1,6 @@
 use Rattle.std.proofs.Common.{◌≡◌, ◌∙◌, refl, subst, sym}
 use Rattle.seg_tokens.specs.Tokenizers.{default_tokens}
-use Rattle.segments.proofs.Registered.{taken_at_the_end}
+use Rattle.segments.proofs.RegisteredTokenizers.{taken_at_the_end}
 use Rattle.segments.proofs.main.OwnLists.{own-1}
 use Rattle.segments.proofs.main.Goals as goal
 

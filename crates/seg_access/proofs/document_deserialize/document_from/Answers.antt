@@ -1,11 +1,11 @@
 use Rattle.std.proofs.Common.{◌≡◌, ◌∷◌, ◌∙◌, ap, refl, inr}
 use Rattle.std.proofs.lemmas.Result.{err_from_is_err_and}
-use Rattle.seg_values.specs.View.{tree_of}
+use Rattle.seg_values.specs.ValueTrees.{tree_of}
 use Rattle.seg_access.specs.declared.pieces.Piece.{Piece}
 use Rattle.seg_access.specs.Pieces.{mark_of, field, SpellsNone}
-use Rattle.seg_access.proofs.Documents.{none_behind, none_at_no_field, none_at_no_value, pair_more}
-use Rattle.seg_access.proofs.Heads.{field_piece}
-use Rattle.seg_access.proofs.Spelling.{refused}
+use Rattle.seg_access.proofs.DocumentPieces.{none_behind, none_at_no_field, none_at_no_value, pair_more}
+use Rattle.seg_access.proofs.PieceHeads.{field_piece}
+use Rattle.seg_access.proofs.SpelledTrees.{refused}
 use Rattle.seg_access.proofs.document_deserialize.document_from.Goals as goal
 
 pub returns-in_default-piece : goal.returns-in_default-piece

@@ -1,10 +1,10 @@
 use Rattle.std.proofs.Common.{◌≡◌, [], ◌∷◌, ◌∙◌, ap, length, map, refl, inr, rules, arith}
 use Rattle.std.proofs.lemmas.Result.{err_from_is_err_and}
-use Rattle.seg_access.specs.Json.{tree_of_json}
+use Rattle.seg_access.specs.JsonTrees.{tree_of_json}
 use Rattle.seg_access.specs.declared.pieces.Piece.{Piece}
 use Rattle.seg_access.specs.Pieces.{mark_of, json_mark, values, members}
-use Rattle.seg_access.proofs.Heads.{json_no_key, none_at_json_misplaced}
-use Rattle.seg_access.proofs.Spelling.{none_at_end, none_at_values, none_at_members, none_more, no_key_more, no_value_more, read_more, read_member_more, json_no_longer_after, refused}
+use Rattle.seg_access.proofs.PieceHeads.{json_no_key, none_at_json_misplaced}
+use Rattle.seg_access.proofs.SpelledTrees.{none_at_end, none_at_values, none_at_members, none_more, no_key_more, no_value_more, read_more, read_member_more, json_no_longer_after, refused}
 use Rattle.seg_access.proofs.json_pieces.+reading.Goals as goal
 
 pub read_value-returns-in_default-clause-err : goal.read_value-returns-in_default-clause-err

@@ -1,6 +1,6 @@
 use Rattle.std.proofs.Common.{◌≤◌, ◌*◌, suc, length, map}
 use Rattle.seg_access.specs.Pieces.{json_mark}
-use Rattle.seg_access.proofs.Spelling.{Read, ReadMembers}
+use Rattle.seg_access.proofs.SpelledTrees.{Read, ReadMembers}
 use Rattle.seg_access.proofs.json_pieces.+reading.Given as goal
 
 abbrev pub decreases-read_value : goal.decreases-read_value

@@ -1,4 +1,4 @@
-use Rattle.seg_access.proofs.Spelling.{spelling_once}
+use Rattle.seg_access.proofs.SpelledTrees.{spelling_once}
 use Rattle.seg_access.proofs.laws.pieces_spell_one_tree.Goals as goal
 
 pub returns : goal.returns

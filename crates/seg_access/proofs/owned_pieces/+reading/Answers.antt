@@ -1,10 +1,10 @@
 use Rattle.std.proofs.Common.{◌≡◌, [], ◌∷◌, ◌∙◌, ap, length, refl, inr, rules, arith}
 use Rattle.std.proofs.lemmas.Result.{err_from_is_err_and}
-use Rattle.seg_values.specs.View.{tree_of}
+use Rattle.seg_values.specs.ValueTrees.{tree_of}
 use Rattle.seg_access.specs.declared.pieces.Piece.{Piece}
 use Rattle.seg_access.specs.Pieces.{mark_of, values, members}
-use Rattle.seg_access.proofs.Heads.{none_at_misplaced}
-use Rattle.seg_access.proofs.Spelling.{none_at_end, none_at_values, none_at_members, none_more, no_key_more, no_value_more, read_more, read_member_more, no_longer_after, refused}
+use Rattle.seg_access.proofs.PieceHeads.{none_at_misplaced}
+use Rattle.seg_access.proofs.SpelledTrees.{none_at_end, none_at_values, none_at_members, none_more, no_key_more, no_value_more, read_more, read_member_more, no_longer_after, refused}
 use Rattle.seg_access.proofs.owned_pieces.+reading.Goals as goal
 
 pub read_value-returns-in_default-clause-err : goal.read_value-returns-in_default-clause-err

@@ -1,5 +1,5 @@
 use Rattle.std.proofs.Common.{◌≤◌, ◌*◌, suc, length}
-use Rattle.seg_access.proofs.Spelling.{Read, ReadMembers}
+use Rattle.seg_access.proofs.SpelledTrees.{Read, ReadMembers}
 use Rattle.seg_access.proofs.owned_pieces.+reading.Given as goal
 
 abbrev pub decreases-read_value : goal.decreases-read_value

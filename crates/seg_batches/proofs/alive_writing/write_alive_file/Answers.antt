@@ -2,7 +2,7 @@ use Rattle.std.proofs.Common.{Bool, false, List, subst}
 use Rattle.std.specs.Prelude.{not}
 use Rattle.std.specs.List.{Contains, count_by}
 use Rattle.seg_batches.proofs.AliveSteps.{not_wanted, starved, wanted}
-use Rattle.seg_batches.proofs.Marks.{all_listed_alive, lacking_listed}
+use Rattle.seg_batches.proofs.DocumentMarks.{all_listed_alive, lacking_listed}
 use Rattle.seg_batches.proofs.alive_writing.write_alive_file.Goals as goal
 
 pub returns-in_default : goal.returns-in_default

@@ -2,8 +2,8 @@ use Rattle.std.proofs.Common.{◌≡◌, ℕ, Bool, take, drop, sym, subst, ap, 
 use Rattle.std.specs.Prelude.{OnOk}
 use Rattle.seg_common.proofs.Lists.{drop-slice_get_none}
 use Rattle.seg_open.specs.OpenSegment.{contents_of}
-use Rattle.seg_batches.specs.Applying.{is_left_by, staying}
-use Rattle.seg_batches.proofs.Leaving.{first_left, left_by_none}
+use Rattle.seg_batches.specs.AppliedDeletes.{is_left_by, staying}
+use Rattle.seg_batches.proofs.DeleteSequences.{first_left, left_by_none}
 use Rattle.seg_batches.proofs.applying.apply_current.Goals as goal
 
 pub returns-in-Some-clause-applies : goal.returns-in-Some-clause-applies

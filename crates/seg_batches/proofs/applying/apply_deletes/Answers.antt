@@ -1,6 +1,6 @@
 use Rattle.std.proofs.Common.{drop}
 use Rattle.seg_open.specs.OpenSegment.{contents_of}
-use Rattle.seg_batches.proofs.Leaving.{left_told}
+use Rattle.seg_batches.proofs.DeleteSequences.{left_told}
 use Rattle.seg_batches.proofs.applying.apply_deletes.Goals as goal
 
 pub returns-clause-left : goal.returns-clause-left

@@ -1,9 +1,9 @@
 use Rattle.std.proofs.Common.{ℕ, ◌+◌, Bool, length, take, drop, min, sym, ap, ◌∙◌, arith}
 use Rattle.std.proofs.lemmas.Bool.{false≢true}
 use Rattle.seg_open.specs.OpenSegment.{contents_of}
-use Rattle.seg_batches.specs.Applying.{is_left_by, staying}
-use Rattle.seg_batches.proofs.Staying.{length-staying}
-use Rattle.seg_batches.proofs.Leaving.{left_by_next, left_by_last}
+use Rattle.seg_batches.specs.AppliedDeletes.{is_left_by, staying}
+use Rattle.seg_batches.proofs.StayingMembers.{length-staying}
+use Rattle.seg_batches.proofs.DeleteSequences.{left_by_next, left_by_last}
 use Rattle.seg_batches.proofs.applying.apply_rest.Goals as goal
 
 pub loop-preserved : goal.loop-preserved

@@ -1,6 +1,6 @@
 use Rattle.std.proofs.Common.{◌≡◌, ◌≤◌, ◌-◌, length, drop}
 use Rattle.seg_open.specs.OpenSegment.{contents_of}
-use Rattle.seg_batches.specs.Applying.{is_left_by, staying}
+use Rattle.seg_batches.specs.AppliedDeletes.{is_left_by, staying}
 use Rattle.seg_batches.proofs.applying.apply_rest.Given as goal
 
 abbrev pub invariant-loop : goal.invariant-loop

@@ -2,9 +2,9 @@ use Rattle.std.proofs.Common.{◌∙◌, map, drop, arith}
 use Rattle.std.proofs.lemmas.Result.{IfOk-weaker}
 use Rattle.seg_batches.specs.declared.doc_opstamp_mapping.DocToOpstampMapping.TheVariants.{WithMap}
 use Rattle.seg_open.specs.OpenSegment.{terms_in}
-use Rattle.seg_batches.specs.Applying.{IsTold, left_by, term_names}
-use Rattle.seg_batches.specs.Making.{IsLeft}
-use Rattle.seg_batches.proofs.Left.{none_waits, told_alive}
+use Rattle.seg_batches.specs.AppliedDeletes.{IsTold, left_by, term_names}
+use Rattle.seg_batches.specs.BatchSegments.{IsLeft}
+use Rattle.seg_batches.proofs.LeftBatches.{none_waits, told_alive}
 use Rattle.seg_batches.proofs.batch_alive.alive_documents.Goals as goal
 
 pub returns-then-not-skip_earlier : goal.returns-then-not-skip_earlier

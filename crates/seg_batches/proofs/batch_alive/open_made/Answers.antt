@@ -1,6 +1,6 @@
 use Rattle.std.proofs.Common.{refl, subst}
-use Rattle.seg_open.specs.SegmentOpened.{HasFilesOf}
-use Rattle.seg_batches.proofs.Left.{undamaged}
+use Rattle.seg_open.specs.OpeningSteps.{HasFilesOf}
+use Rattle.seg_batches.proofs.LeftBatches.{undamaged}
 use Rattle.seg_batches.proofs.batch_alive.open_made.Goals as goal
 
 pub unreachable-requires : goal.unreachable-requires

@@ -1,6 +1,6 @@
 use Rattle.std.proofs.Common.{ap, sym, ◌∙◌, arith, rules}
-use Rattle.seg_batches.proofs.Left.{at_end}
-use Rattle.seg_batches.proofs.Passed.{skipped_are_passed}
+use Rattle.seg_batches.proofs.LeftBatches.{at_end}
+use Rattle.seg_batches.proofs.PassedDeletes.{skipped_are_passed}
 use Rattle.seg_batches.proofs.batch_alive.skip_earlier.Goals as goal
 
 pub returns : goal.returns

@@ -1,10 +1,10 @@
 use Rattle.std.proofs.Common.{◌+◌, map, subst, ◌∙◌, arith}
 use Rattle.std.proofs.lemmas.List.{length-map}
-use Rattle.seg_check.specs.View.{operation_of}
-use Rattle.seg_batches.specs.Indexing.{IsTaken, IsNotTaken}
-use Rattle.seg_batches.proofs.Added.{all_added, one_more, not_taken, taken_unrefused}
-use Rattle.seg_batches.proofs.Refused.{still_none}
-use Rattle.seg_batches.proofs.Turns.{operation_at}
+use Rattle.seg_check.specs.UserOperations.{operation_of}
+use Rattle.seg_batches.specs.IndexedBatches.{IsTaken, IsNotTaken}
+use Rattle.seg_batches.proofs.AddedDocuments.{all_added, one_more, not_taken, taken_unrefused}
+use Rattle.seg_batches.proofs.RefusedBatches.{still_none}
+use Rattle.seg_batches.proofs.OperationTurns.{operation_at}
 use Rattle.seg_batches.proofs.batch_indexing.add_operations.Goals as goal
 
 pub returns-in-Err : goal.returns-in-Err

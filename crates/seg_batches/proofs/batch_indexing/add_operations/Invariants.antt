@@ -1,7 +1,7 @@
 use Rattle.std.proofs.Common.{◌≡◌, ◌+◌, map, take, drop}
-use Rattle.seg_check.specs.View.{operation_of}
-use Rattle.seg_batches.specs.Indexing.{HasAdditions}
-use Rattle.seg_batches.proofs.Refused.{refused_from}
+use Rattle.seg_check.specs.UserOperations.{operation_of}
+use Rattle.seg_batches.specs.IndexedBatches.{HasAdditions}
+use Rattle.seg_batches.proofs.RefusedBatches.{refused_from}
 use Rattle.seg_batches.proofs.batch_indexing.add_operations.Given as goal
 
 -- the writer has the documents so far, of which none is refused

@@ -1,9 +1,9 @@
 use Rattle.std.proofs.Common.{◌∙◌, rules, tests}
 use Rattle.std.proofs.lemmas.Iterator.{YieldsList-from_slice}
 use Rattle.std.proofs.lemmas.Iterator.Consumers.{YieldsList-from_filter, count_from_yields_List}
-use Rattle.seg_check.specs.View.{operation_of}
-use Rattle.seg_batches.specs.Indexing.{is_addition}
-use Rattle.seg_batches.proofs.Counted.{counted}
+use Rattle.seg_check.specs.UserOperations.{operation_of}
+use Rattle.seg_batches.specs.IndexedBatches.{is_addition}
+use Rattle.seg_batches.proofs.AdditionCounts.{counted}
 use Rattle.seg_batches.proofs.batch_indexing.count_additions.Goals as goal
 
 pub returns : goal.returns

@@ -1,10 +1,10 @@
 use Rattle.std.proofs.Common.{◌<◌, ◌≤◌, ◌^◌, arith, ap, inl, length, map}
 use Rattle.seg_model.specs.Operations.{additions}
-use Rattle.seg_check.specs.View.{operation_of}
-use Rattle.seg_batches.specs.Indexing.{AreOfBatch}
-use Rattle.seg_batches.proofs.Added.{not_made, of_batch, were_taken}
+use Rattle.seg_check.specs.UserOperations.{operation_of}
+use Rattle.seg_batches.specs.IndexedBatches.{AreOfBatch}
+use Rattle.seg_batches.proofs.AddedDocuments.{not_made, of_batch, were_taken}
 use Rattle.seg_batches.proofs.BatchSteps.{not_refused}
-use Rattle.seg_batches.proofs.Refused.{too_many}
+use Rattle.seg_batches.proofs.RefusedBatches.{too_many}
 use Rattle.seg_batches.proofs.batch_indexing.index_batch.Goals as goal
 
 pub returns-then-count_additions-gt-MAX_DOCUMENTS-clause-tells : goal.returns-then-count_additions-gt-MAX_DOCUMENTS-clause-tells

@@ -1,7 +1,7 @@
 use Rattle.std.proofs.Common.{ap, ◌∙◌}
 use Rattle.seg_meta.specs.Metas.{SegmentParts}
-use Rattle.seg_batches.proofs.Added.{started_unused}
-use Rattle.seg_batches.proofs.Causes.{starts}
+use Rattle.seg_batches.proofs.AddedDocuments.{started_unused}
+use Rattle.seg_batches.proofs.BatchCauses.{starts}
 use Rattle.seg_batches.proofs.batch_indexing.new_writer.Goals as goal
 
 pub returns-clause-unused : goal.returns-clause-unused

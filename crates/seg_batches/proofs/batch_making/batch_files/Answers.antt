@@ -1,9 +1,9 @@
 use Rattle.std.proofs.Common.{ap, map, sym, subst, []}
-use Rattle.seg_check.specs.View.{operation_of}
-use Rattle.seg_build.specs.SegmentWriting.{Writes}
+use Rattle.seg_check.specs.UserOperations.{operation_of}
+use Rattle.seg_build.specs.SegmentWriters.{Writes}
 use Rattle.seg_check.specs.WriterStart.{start_refusal}
-use Rattle.seg_batches.proofs.Causes.{no_cause, tells_batch, tells_start}
-use Rattle.seg_batches.proofs.Left.{of_given}
+use Rattle.seg_batches.proofs.BatchCauses.{no_cause, tells_batch, tells_start}
+use Rattle.seg_batches.proofs.LeftBatches.{of_given}
 use Rattle.seg_batches.proofs.batch_making.batch_files.Goals as goal
 
 pub returns-in-Err-clause-tells : goal.returns-in-Err-clause-tells

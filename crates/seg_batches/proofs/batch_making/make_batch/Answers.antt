@@ -1,10 +1,10 @@
 use Rattle.std.proofs.Common.{inr, ◌≡◌, refl, ap, subst, ◌∙◌, arith, length, map}
 use Rattle.seg_model.specs.Operations.{additions, alive_after}
 use Rattle.seg_model.proofs.Exports.{length-additions, told_on}
-use Rattle.seg_check.specs.View.{operation_of}
-use Rattle.seg_batches.specs.Applying.{IsTold}
-use Rattle.seg_batches.specs.Making.{IsLeft}
-use Rattle.seg_batches.proofs.Left.{made_whole, whole_for}
+use Rattle.seg_check.specs.UserOperations.{operation_of}
+use Rattle.seg_batches.specs.AppliedDeletes.{IsTold}
+use Rattle.seg_batches.specs.BatchSegments.{IsLeft}
+use Rattle.seg_batches.proofs.LeftBatches.{made_whole, whole_for}
 use Rattle.seg_batches.proofs.batch_making.make_batch.Goals as goal
 
 pub overflow_cast-max_doc : goal.overflow_cast-max_doc

@@ -3,12 +3,12 @@ use Rattle.std.specs.Prelude.{slice_range}
 use Rattle.std.specs.List.{enumerate_from}
 use Rattle.std.proofs.lemmas.Result.{IfOk-weaker}
 use Rattle.seg_model.specs.Operations.{Operation, additions}
-use Rattle.seg_check.specs.View.{operation_of}
+use Rattle.seg_check.specs.UserOperations.{operation_of}
 use Rattle.seg_check.specs.WriterStart.{start_refusal}
-use Rattle.seg_model.specs.Telling.{Tells}
-use Rattle.seg_batches.specs.Writing.{StandAndTell, batch_between, batch_cause}
+use Rattle.seg_model.specs.CheckAnswers.{Tells}
+use Rattle.seg_batches.specs.BatchWriteSteps.{StandAndTell, batch_between, batch_cause}
 use Rattle.seg_batches.proofs.BatchSteps.{range_mapped, segment_here, set_here}
-use Rattle.seg_batches.proofs.Causes.{begun, not_begun}
+use Rattle.seg_batches.proofs.BatchCauses.{begun, not_begun}
 use Rattle.seg_batches.proofs.batches_writing.write_batch.Goals as goal
 
 pub returns-in-Err : goal.returns-in-Err

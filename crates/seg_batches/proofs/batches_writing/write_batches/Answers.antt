@@ -4,13 +4,13 @@ use Rattle.std.proofs.lemmas.Option.{slice_get_read}
 use Rattle.seg_model.specs.Operations.{batches}
 use Rattle.seg_batches.specs.Laws.{as_operations}
 use Rattle.seg_check.specs.WriterStart.{start_refusal}
-use Rattle.seg_check.specs.View.{operation_of}
-use Rattle.seg_batches.specs.Segments.{segments_of}
-use Rattle.seg_batches.specs.Writing.{batch_causes}
+use Rattle.seg_check.specs.UserOperations.{operation_of}
+use Rattle.seg_batches.specs.WrittenSegments.{segments_of}
+use Rattle.seg_batches.specs.BatchWriteSteps.{batch_causes}
 use Rattle.seg_batches.proofs.BatchSteps.{ends_here}
 use Rattle.seg_batches.proofs.BatchTurns.{first_place, turn_here}
-use Rattle.seg_batches.proofs.BatchesSoFar.{all_segments, all_written, batch_ends, batch_more, none_yet, segments_turn, starves}
-use Rattle.seg_batches.proofs.Passed.{passed_further}
+use Rattle.seg_batches.proofs.WrittenBatches.{all_segments, all_written, batch_ends, batch_more, none_yet, segments_turn, starves}
+use Rattle.seg_batches.proofs.PassedDeletes.{passed_further}
 use Rattle.seg_batches.proofs.batches_writing.write_batches.Goals as goal
 
 pub returns-in_default-clause-does : goal.returns-in_default-clause-does

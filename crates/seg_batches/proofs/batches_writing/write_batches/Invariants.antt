@@ -3,12 +3,12 @@ use Rattle.seg_model.specs.Operations.{batches}
 use Rattle.seg_model.specs.Stamps.{stamped_deletes}
 use Rattle.seg_batches.specs.Laws.{as_operations}
 use Rattle.seg_check.specs.WriterStart.{start_refusal}
-use Rattle.seg_check.specs.View.{operation_of}
-use Rattle.seg_batches.specs.Segments.{segments_of}
-use Rattle.seg_batches.specs.Waiting.{passed_below}
-use Rattle.seg_batches.specs.Writing.{batch_cause, batch_causes}
+use Rattle.seg_check.specs.UserOperations.{operation_of}
+use Rattle.seg_batches.specs.WrittenSegments.{segments_of}
+use Rattle.seg_batches.specs.DeleteCursors.{passed_below}
+use Rattle.seg_batches.specs.BatchWriteSteps.{batch_cause, batch_causes}
 use Rattle.seg_batches.proofs.BatchTurns.{IsPlace, batches_left, parts_left}
-use Rattle.seg_batches.proofs.BatchesSoFar.{SoFar}
+use Rattle.seg_batches.proofs.WrittenBatches.{SoFar}
 use Rattle.seg_batches.proofs.batches_writing.write_batches.Given as goal
 
 -- the batches so far are written, with those that are left they are all, and the cursor is past no delete that is left

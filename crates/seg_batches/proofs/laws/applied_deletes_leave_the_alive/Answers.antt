@@ -1,4 +1,4 @@
-use Rattle.seg_batches.proofs.Applied.{applied_leave_alive}
+use Rattle.seg_batches.proofs.AppliedDeletes.{applied_leave_alive}
 use Rattle.seg_batches.proofs.laws.applied_deletes_leave_the_alive.Goals as goal
 
 pub returns : goal.returns

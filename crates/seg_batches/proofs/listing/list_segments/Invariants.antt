@@ -1,5 +1,5 @@
 use Rattle.std.proofs.Common.{◌≡◌, ◌++◌, drop}
-use Rattle.seg_batches.specs.Segments.{all_listed}
+use Rattle.seg_batches.specs.WrittenSegments.{all_listed}
 use Rattle.seg_batches.proofs.listing.list_segments.Given as goal
 
 -- those that are listed, with those that are left, are all

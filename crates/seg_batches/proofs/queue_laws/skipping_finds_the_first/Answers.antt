@@ -1,4 +1,4 @@
-use Rattle.seg_batches.proofs.Skips.{skipped_is_first}
+use Rattle.seg_batches.proofs.SkipSteps.{skipped_is_first}
 use Rattle.seg_batches.proofs.queue_laws.skipping_finds_the_first.Goals as goal
 
 pub returns : goal.returns

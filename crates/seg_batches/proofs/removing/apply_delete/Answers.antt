@@ -1,6 +1,6 @@
 use Rattle.std.proofs.Common.{◌∙◌}
 use Rattle.seg_open.specs.OpenSegment.{contents_of}
-use Rattle.seg_batches.proofs.Leaving.{left_by_named}
+use Rattle.seg_batches.proofs.DeleteSequences.{left_by_named}
 use Rattle.seg_batches.proofs.removing.apply_delete.Goals as goal
 
 pub returns-clause-left : goal.returns-clause-left

@@ -1,6 +1,6 @@
 use Rattle.std.proofs.Common.{sym, ◌∙◌, arith}
-use Rattle.seg_batches.specs.Deleted.{is_deleted}
-use Rattle.seg_batches.proofs.Staying.{loses_one, keeps_one}
+use Rattle.seg_batches.specs.DeletedDocuments.{is_deleted}
+use Rattle.seg_batches.proofs.StayingMembers.{loses_one, keeps_one}
 use Rattle.seg_batches.proofs.removing.remove_document.Goals as goal
 
 pub returns-then-doc-max_value : goal.returns-then-doc-max_value

@@ -1,9 +1,9 @@
 use Rattle.std.proofs.Common.{◌<◌, ℕ, Bool, drop, length, sym, ap, ◌∙◌, arith, drop-drop}
 use Rattle.std.proofs.lemmas.List.{drop_all}
-use Rattle.seg_batches.specs.Deleted.{is_deleted}
-use Rattle.seg_batches.specs.Applying.{staying}
-use Rattle.seg_batches.proofs.Dropped.{dropped_more, none_dropped, passes}
-use Rattle.seg_batches.proofs.Staying.{length-staying}
+use Rattle.seg_batches.specs.DeletedDocuments.{is_deleted}
+use Rattle.seg_batches.specs.AppliedDeletes.{staying}
+use Rattle.seg_batches.proofs.DroppedNumbers.{dropped_more, none_dropped, passes}
+use Rattle.seg_batches.proofs.StayingMembers.{length-staying}
 use Rattle.seg_batches.proofs.removing.remove_documents.Goals as goal
 
 pub loop-doc-preserved : goal.loop-doc-preserved

@@ -1,7 +1,7 @@
 use Rattle.std.proofs.Common.{◌≡◌, drop, length}
-use Rattle.seg_batches.specs.Deleted.{is_deleted}
-use Rattle.seg_batches.specs.Applying.{staying}
-use Rattle.seg_batches.proofs.Dropped.{passes}
+use Rattle.seg_batches.specs.DeletedDocuments.{is_deleted}
+use Rattle.seg_batches.specs.AppliedDeletes.{staying}
+use Rattle.seg_batches.proofs.DroppedNumbers.{passes}
 use Rattle.seg_batches.proofs.removing.remove_documents.Given as goal
 
 -- what is left, without those that are still to be taken out, is what is to be left

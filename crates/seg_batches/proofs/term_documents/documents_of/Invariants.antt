@@ -1,5 +1,5 @@
 use Rattle.std.proofs.Common.{◌≡◌, ◌++◌, length}
-use Rattle.seg_batches.proofs.Dropped.{documents_of}
+use Rattle.seg_batches.proofs.DroppedNumbers.{documents_of}
 use Rattle.seg_batches.proofs.term_documents.documents_of.Given as goal
 
 -- those that are taken, with those that are left, are all

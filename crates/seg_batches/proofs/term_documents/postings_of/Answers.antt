@@ -2,7 +2,7 @@ use Rattle.std.proofs.Common.{◌≡◌, ap, sym, subst, ◌∙◌}
 use Rattle.std.specs.Prelude.{IfSome, None}
 use Rattle.std.specs.List.{Contains, slice_get}
 use Rattle.seg_termdict.specs.LookUps.{Lacks}
-use Rattle.seg_batches.proofs.Found.{none_where_closed, none_where_lacking, documents_where_found, answers_none}
+use Rattle.seg_batches.proofs.FoundPostings.{none_where_closed, none_where_lacking, documents_where_found, answers_none}
 use Rattle.seg_batches.proofs.term_documents.postings_of.Goals as goal
 
 pub returns-in_err-index : goal.returns-in_err-index

@@ -1,10 +1,10 @@
 use Rattle.std.proofs.Common.{◌≡◌, map, sym, ◌∙◌}
 use Rattle.std.proofs.lemmas.Result.{IfOk-weaker}
-use Rattle.seg_model.specs.Cleared.{has_posting}
+use Rattle.seg_model.specs.DeletesByPostings.{has_posting}
 use Rattle.seg_open.specs.OpenSegment.{terms_in}
-use Rattle.seg_batches.specs.Applying.{named_below}
-use Rattle.seg_batches.proofs.Dropped.{documents_of}
-use Rattle.seg_batches.proofs.Named.{term_named}
+use Rattle.seg_batches.specs.AppliedDeletes.{named_below}
+use Rattle.seg_batches.proofs.DroppedNumbers.{documents_of}
+use Rattle.seg_batches.proofs.NamedDocuments.{term_named}
 use Rattle.seg_batches.proofs.term_documents.term_documents.Goals as goal
 
 pub returns-in-Some : goal.returns-in-Some

@@ -1,8 +1,8 @@
 use Rattle.std.proofs.Common.{◌∙◌, map}
 use Rattle.seg_model.specs.Stamps.{stamped_deletes}
 use Rattle.seg_batches.specs.Laws.{as_operations}
-use Rattle.seg_check.specs.View.{operation_of}
-use Rattle.seg_batches.proofs.Turns.{operation_at, one_more_waits}
+use Rattle.seg_check.specs.UserOperations.{operation_of}
+use Rattle.seg_batches.proofs.OperationTurns.{operation_at, one_more_waits}
 use Rattle.seg_batches.proofs.waiting_deletes.delete_queue.Goals as goal
 
 pub loop-at-preserved : goal.loop-at-preserved

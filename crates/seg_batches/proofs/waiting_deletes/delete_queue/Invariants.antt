@@ -1,7 +1,7 @@
 use Rattle.std.proofs.Common.{◌≡◌, ◌++◌, map, drop}
 use Rattle.seg_model.specs.Stamps.{stamped_deletes}
 use Rattle.seg_batches.specs.Laws.{as_operations}
-use Rattle.seg_check.specs.View.{operation_of}
+use Rattle.seg_check.specs.UserOperations.{operation_of}
 use Rattle.seg_batches.proofs.waiting_deletes.delete_queue.Given as goal
 
 -- what waits, with the deletes that are left, are all

@@ -1,8 +1,8 @@
 use Rattle.std.proofs.Common.{◌≡◌, ◌/◌, ℕ, List, length, replicate, set, ap, ◌∙◌}
 use Rattle.std.proofs.lemmas.List.{length-replicate}
 use Rattle.seg_bits.specs.BitSets.{words_for, members, is_clear_from}
-use Rattle.seg_bits.proofs.Lowest.{clear_whole}
-use Rattle.seg_bits.proofs.Kept.{all_whole, last_ones, all_cut, cut_clear}
+use Rattle.seg_bits.proofs.LowestBits.{clear_whole}
+use Rattle.seg_bits.proofs.SetWords.{all_whole, last_ones, all_cut, cut_clear}
 use Rattle.seg_bits.proofs.bit_set.full_words.Goals as goal
 
 pub returns-then-used-eq0-clause-all : goal.returns-then-used-eq0-clause-all

@@ -1,8 +1,8 @@
 use Rattle.std.proofs.Common.{◌≡◌, ap, ◌∙◌, arith}
 use Rattle.std.specs.Int.Bits.{bit_and}
 use Rattle.seg_bits.specs.BitSets.{words_for, words_of}
-use Rattle.seg_bits.proofs.Shared.{shared_word, spelled_more, fit_more, are_shared}
-use Rattle.seg_bits.proofs.Spelled.{set_length}
+use Rattle.seg_bits.proofs.SharedWords.{shared_word, spelled_more, fit_more, are_shared}
+use Rattle.seg_bits.proofs.SetBytes.{set_length}
 use Rattle.seg_bits.proofs.intersect.shared_words.Goals as goal
 
 pub word_at-requires-clause-length : goal.word_at-requires-clause-length

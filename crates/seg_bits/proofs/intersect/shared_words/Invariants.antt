@@ -2,7 +2,7 @@ use Rattle.std.proofs.Common.{◌≡◌, ◌<◌, ◌^◌, ◌++◌, ℕ}
 use Rattle.std.specs.Int.{w32, w64, to_le_bytes}
 use Rattle.std.specs.List.{flat_map}
 use Rattle.seg_bits.specs.BitSets.{words_of}
-use Rattle.seg_bits.proofs.Shared.{shared, shared_word}
+use Rattle.seg_bits.proofs.SharedWords.{shared, shared_word}
 use Rattle.seg_bits.proofs.intersect.shared_words.Given as goal
 
 -- the size and the words so far are there

@@ -1,8 +1,8 @@
 use Rattle.std.proofs.Common.{◌≡◌, ◌<◌, length, refl, ap, ◌∙◌, arith}
 use Rattle.std.proofs.lemmas.Nat.{ones-le}
 use Rattle.seg_bits.specs.BitSets.{words_for, bits_of, words_of}
-use Rattle.seg_bits.proofs.Found.{counted_more, counted_below, counted_all}
-use Rattle.seg_bits.proofs.Spelled.{set_length, length-words_of}
+use Rattle.seg_bits.proofs.SetLookUps.{counted_more, counted_below, counted_all}
+use Rattle.seg_bits.proofs.SetBytes.{set_length, length-words_of}
 use Rattle.seg_bits.proofs.look_up.count_members.Goals as goal
 
 pub loop-at-init : goal.loop-at-init

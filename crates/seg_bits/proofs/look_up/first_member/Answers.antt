@@ -1,6 +1,6 @@
 use Rattle.std.proofs.Common.{◌<◌, ◌/◌, ◌%◌, ◌^◌, ◌∙◌, arith}
-use Rattle.seg_bits.proofs.Found.{passed, found_within, found_next}
-use Rattle.seg_bits.proofs.Spelled.{set_length}
+use Rattle.seg_bits.proofs.SetLookUps.{passed, found_within, found_next}
+use Rattle.seg_bits.proofs.SetBytes.{set_length}
 use Rattle.seg_bits.proofs.look_up.first_member.Goals as goal
 
 pub word_at-requires-clause-length : goal.word_at-requires-clause-length

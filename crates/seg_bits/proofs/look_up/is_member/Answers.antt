@@ -1,5 +1,5 @@
-use Rattle.seg_bits.proofs.Found.{member_at}
-use Rattle.seg_bits.proofs.Spelled.{set_length}
+use Rattle.seg_bits.proofs.SetLookUps.{member_at}
+use Rattle.seg_bits.proofs.SetBytes.{set_length}
 use Rattle.seg_bits.proofs.look_up.is_member.Goals as goal
 
 pub word_at-requires-clause-length : goal.word_at-requires-clause-length

@@ -1,6 +1,6 @@
 use Rattle.std.proofs.Common.{length, ap, sym, ◌∙◌}
 use Rattle.seg_common.specs.LittleEndian.{u32_at}
-use Rattle.seg_bits.proofs.Found.{length-set_in}
+use Rattle.seg_bits.proofs.SetLookUps.{length-set_in}
 use Rattle.seg_bits.proofs.read_only_bit_set.intersect_bitsets.Goals as goal
 
 pub shared_words-requires-clause-right : goal.shared_words-requires-clause-right

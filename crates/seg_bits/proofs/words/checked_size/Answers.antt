@@ -1,7 +1,7 @@
 use Rattle.std.proofs.Common.{◌≡◌, ◌+◌, ◌*◌, sym, ap, ◌∙◌, arith}
 use Rattle.seg_common.specs.LittleEndian.{u32_at}
 use Rattle.seg_bits.specs.BitSets.{words_for, words_of, is_clear_from}
-use Rattle.seg_bits.proofs.Spelled.{reads_none, wrong_length, unclear, is_set}
+use Rattle.seg_bits.proofs.SetBytes.{reads_none, wrong_length, unclear, is_set}
 use Rattle.seg_bits.proofs.words.checked_size.Goals as goal
 
 pub returns-then-bytes-lt-SIZE : goal.returns-then-bytes-lt-SIZE

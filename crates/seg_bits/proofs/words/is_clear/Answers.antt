@@ -1,7 +1,7 @@
 use Rattle.std.proofs.Common.{◌≡◌, length, sym, ap, ◌∙◌, arith}
 use Rattle.seg_bits.specs.BitSets.{words_for, words_of}
-use Rattle.seg_bits.proofs.Lowest.{clear_whole, clear_last}
-use Rattle.seg_bits.proofs.Spelled.{length-words_of}
+use Rattle.seg_bits.proofs.LowestBits.{clear_whole, clear_last}
+use Rattle.seg_bits.proofs.SetBytes.{length-words_of}
 use Rattle.seg_bits.proofs.words.is_clear.Goals as goal
 
 pub returns-then-used-eq0 : goal.returns-then-used-eq0

@@ -1,5 +1,5 @@
 use Rattle.std.proofs.Common.{sym, ◌∙◌}
-use Rattle.seg_bits.proofs.Spelled.{get_or-words_of}
+use Rattle.seg_bits.proofs.SetBytes.{get_or-words_of}
 use Rattle.seg_bits.proofs.words.word_at.Goals as goal
 
 pub returns : goal.returns

@@ -3,9 +3,9 @@ use Rattle.std.proofs.lemmas.List.{get_or_default}
 use Rattle.std.specs.Int.{w32, w64, to_le_bytes}
 use Rattle.std.specs.List.{flat_map}
 use Rattle.seg_common.specs.Streams.{AppendsPart}
-use Rattle.seg_common.proofs.Known.{part_of_front}
+use Rattle.seg_common.proofs.KnownBytes.{part_of_front}
 use Rattle.seg_common.proofs.Results.{at_error}
-use Rattle.seg_bits.proofs.Written.{part_of_words}
+use Rattle.seg_bits.proofs.WrittenSets.{part_of_words}
 use Rattle.seg_bits.proofs.write.write_set.Goals as goal
 
 pub returns-in_err-write_whole-clause-err : goal.returns-in_err-write_whole-clause-err

@@ -2,7 +2,7 @@ use Rattle.std.proofs.Common.{◌≡◌, ◌+◌, ◌-◌, ◌^◌, ◌≤◌, m
 use Rattle.std.specs.List.{AllByRecursion}
 use Rattle.seg_check.specs.IndexedValues.{IsPlainIn, value_in}
 use Rattle.seg_build.specs.MemoryUsage.{saturated, value_count}
-use Rattle.seg_build.specs.Steps.{AllFit, with_values}
+use Rattle.seg_build.specs.FieldsByValue.{AllFit, with_values}
 use Rattle.seg_build.proofs.adding.add_values.Given as goal
 
 -- what is so far, with what is left, is all

@@ -2,7 +2,7 @@ use Rattle.std.proofs.Common.{◌≡◌, ◌+◌, ◌++◌, map, drop, length}
 use Rattle.std.specs.FinMap.{entries}
 use Rattle.std.specs.Vec.Iter.{into_iter_items}
 use Rattle.seg_build.specs.FieldTerms.{recorded_fields}
-use Rattle.seg_build.specs.FieldSoFar.{FieldSoFar}
+use Rattle.seg_build.specs.FieldState.{FieldSoFar}
 use Rattle.seg_build.proofs.fields.sort_fields.Given as goal
 
 -- what is sorted, with what is left, is all

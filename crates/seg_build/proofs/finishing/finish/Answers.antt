@@ -1,7 +1,7 @@
 use Rattle.std.proofs.Common.{[], refl}
 use Rattle.seg_directory.proofs.Exports.{answers, stops}
-use Rattle.seg_build.specs.Finishing.{fails}
-use Rattle.seg_build.proofs.Finalized.{finishes}
+use Rattle.seg_build.specs.FinishedFiles.{fails}
+use Rattle.seg_build.proofs.FinalizedFiles.{finishes}
 use Rattle.seg_build.proofs.finishing.finish.Goals as goal
 
 pub returns-in-Err-clause-does : goal.returns-in-Err-clause-does

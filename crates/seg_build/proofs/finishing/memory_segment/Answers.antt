@@ -2,10 +2,10 @@ use Rattle.std.proofs.Common.{◌≡◌, ◌<◌, ◌^◌, length, refl, sym, ap
 use Rattle.std.specs.List.{AllByRecursion}
 use Rattle.seg_model.specs.Fields.{Schema}
 use Rattle.seg_build.specs.FieldTerms.{recorded_fields}
-use Rattle.seg_build.specs.SegmentWriting.{kept_of}
-use Rattle.seg_build.specs.Writable.{CanBeWritten}
+use Rattle.seg_build.specs.SegmentWriters.{kept_of}
+use Rattle.seg_build.specs.WritableTerms.{CanBeWritten}
 use Rattle.seg_build.specs.declared.fields.IndexedBatch.{IndexedBatch}
-use Rattle.seg_build.proofs.Filled.{made_blocks, made_stand, made_totals}
+use Rattle.seg_build.proofs.FilledFiles.{made_blocks, made_stand, made_totals}
 use Rattle.seg_build.proofs.KeptBatch.{listed, are_writable, as_many_fields, as_many_recorded, are_fields, few_stamps}
 use Rattle.seg_build.proofs.KeptColumns.{AreColumnsOf, not_made, starved}
 use Rattle.seg_build.proofs.finishing.memory_segment.Goals as goal

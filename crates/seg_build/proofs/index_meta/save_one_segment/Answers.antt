@@ -1,8 +1,8 @@
 use Rattle.std.proofs.Common.{◌≡◌, [], Some, subst, sym}
 use Rattle.seg_directory.proofs.Exports.{answers, stops}
-use Rattle.seg_meta.specs.MetaRead.{meta_read}
+use Rattle.seg_meta.specs.ParsedMeta.{meta_read}
 use Rattle.seg_meta.specs.MetaText.{meta_text}
-use Rattle.seg_meta.specs.View.{meta_of}
+use Rattle.seg_meta.specs.MetaMeaning.{meta_of}
 use Rattle.seg_meta.specs.declared.index_meta.IndexMeta.{IndexMeta}
 use Rattle.seg_build.proofs.WrittenIndex.{published_of}
 use Rattle.seg_build.proofs.index_meta.save_one_segment.Goals as goal

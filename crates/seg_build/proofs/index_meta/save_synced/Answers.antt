@@ -1,7 +1,7 @@
 use Rattle.std.proofs.Common.{[], ◌∷◌}
 use Rattle.seg_directory.proofs.Exports.{stops, then_does}
 use Rattle.seg_directory.specs.Calls.{synced}
-use Rattle.seg_directory.specs.Works.{calls}
+use Rattle.seg_directory.specs.DirectorySteps.{calls}
 use Rattle.seg_build.proofs.index_meta.save_synced.Goals as goal
 
 pub returns-in-Ok : goal.returns-in-Ok

@@ -1,9 +1,9 @@
 use Rattle.std.proofs.Common.{◌≡◌, false, true, option_map, length, Some, refl, sym, ap, ◌∙◌, subst, arith}
 use Rattle.std.specs.List.{slice_get}
 use Rattle.std.proofs.lemmas.Option.{slice_get_read}
-use Rattle.seg_common.specs.Growing.{HasGrown}
+use Rattle.seg_common.specs.WriterGrowth.{HasGrown}
 use Rattle.seg_norms.specs.FieldNorms.{at_field, with_length}
-use Rattle.seg_build.specs.Lengths.{lacks_length, recorded_once, length_at}
+use Rattle.seg_build.specs.DocumentLengths.{lacks_length, recorded_once, length_at}
 use Rattle.seg_build.proofs.RecordedLengths.{ids_at, stays_recorded, comes_recorded}
 use Rattle.seg_build.proofs.lengths.record_length.Goals as goal
 

@@ -1,5 +1,5 @@
 use Rattle.std.proofs.Common.{◌≡◌, drop, map, option_map}
-use Rattle.seg_build.specs.Lengths.{with_lengths}
+use Rattle.seg_build.specs.DocumentLengths.{with_lengths}
 use Rattle.seg_check.specs.declared.indexed_value.IndexedValue.{IndexedValue}
 use Rattle.seg_build.proofs.lengths.record_lengths.Given as goal
 

@@ -2,10 +2,10 @@ use Rattle.std.proofs.Common.{◌≡◌, ◌∙◌, Some, ap}
 use Rattle.std.specs.Prelude.{ℕ, Vec}
 use Rattle.std.specs.declared.alloc.Global.{Global}
 use Rattle.std.proofs.lemmas.Result.{IfOk-weaker}
-use Rattle.seg_directory.specs.Composite.{composite}
+use Rattle.seg_directory.specs.CompositeFiles.{composite}
 use Rattle.seg_norms.specs.FieldNorms.{fields_with_lengths}
-use Rattle.seg_segment.specs.LengthsWritten.{parts_with}
-use Rattle.seg_build.specs.Filling.{HoldsNorms}
+use Rattle.seg_segment.specs.WrittenLengths.{parts_with}
+use Rattle.seg_build.specs.SerializerContents.{HoldsNorms}
 use Rattle.seg_build.specs.NormsFile.{kept_ids}
 use Rattle.seg_build.proofs.NormParts.{kept_parts_are}
 use Rattle.seg_build.proofs.norms_file.norms_file.Goals as goal

@@ -1,6 +1,6 @@
 use Rattle.std.proofs.Common.{◌≡◌, [], ◌∷◌, ◌++◌, ap, ◌∙◌}
 use Rattle.std.specs.List.{slice_index_or}
-use Rattle.seg_terms.specs.Adding.{with_occurrence}
+use Rattle.seg_terms.specs.AddedOccurrences.{with_occurrence}
 use Rattle.seg_terms.specs.PathKeys.{TermsOnPaths}
 use Rattle.seg_build.proofs.path_tokens.add_path_term.Goals as goal
 

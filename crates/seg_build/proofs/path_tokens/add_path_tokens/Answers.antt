@@ -1,7 +1,7 @@
 use Rattle.std.proofs.Common.{◌<◌, length, refl, sym, ap, ◌∙◌, subst, [], ◌∷◌, ◌++◌}
 use Rattle.std.specs.List.{slice_index_or}
 use Rattle.seg_model.specs.Occurrences.{placed_from}
-use Rattle.seg_terms.specs.Adding.{with_occurrences}
+use Rattle.seg_terms.specs.AddedOccurrences.{with_occurrences}
 use Rattle.seg_segment.proofs.Exports.{drop-item}
 use Rattle.seg_build.proofs.PathTokens.{token_turn, fits_first, fits_rest}
 use Rattle.seg_build.proofs.path_tokens.add_path_tokens.Goals as goal

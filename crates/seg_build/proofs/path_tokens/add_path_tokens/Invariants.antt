@@ -1,7 +1,7 @@
 use Rattle.std.proofs.Common.{◌≡◌, ◌<◌, ◌^◌, [], ◌∷◌, ◌++◌, drop}
 use Rattle.std.specs.List.{slice_index_or}
 use Rattle.seg_model.specs.Occurrences.{start_after, placed_from}
-use Rattle.seg_terms.specs.Adding.{with_occurrences}
+use Rattle.seg_terms.specs.AddedOccurrences.{with_occurrences}
 use Rattle.seg_build.proofs.path_tokens.add_path_tokens.Given as goal
 
 -- what is so far, with what is left, is what all the tokens give, and what is left fits

@@ -1,8 +1,8 @@
 use Rattle.std.proofs.Common.{ap, sym, ◌∙◌, inl, inr}
 use Rattle.seg_build.specs.FieldTerms.{postings_as}
-use Rattle.seg_terms.specs.Grouped.{grouped}
+use Rattle.seg_terms.specs.PostingGroups.{grouped}
 use Rattle.seg_build.specs.TokenTotal.{count_total}
-use Rattle.seg_build.proofs.Totals.{hits_counted, hits_placed, documents_count}
+use Rattle.seg_build.proofs.PostingsTotals.{hits_counted, hits_placed, documents_count}
 use Rattle.seg_build.proofs.sorted.recorded_count.Goals as goal
 
 pub returns-in-Documents : goal.returns-in-Documents

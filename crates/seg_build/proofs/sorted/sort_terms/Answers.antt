@@ -1,8 +1,8 @@
 use Rattle.std.proofs.Common.{ap, ◌∙◌}
 use Rattle.std.specs.FinMap.{entries}
-use Rattle.seg_build.specs.FieldSoFar.{FieldSoFar}
+use Rattle.seg_build.specs.FieldState.{FieldSoFar}
 use Rattle.seg_build.specs.FieldTerms.{entries_as}
-use Rattle.seg_terms.specs.Entries.{TermEntries}
+use Rattle.seg_terms.specs.TermEntries.{TermEntries}
 use Rattle.seg_build.proofs.sorted.sort_terms.Goals as goal
 
 pub returns : goal.returns

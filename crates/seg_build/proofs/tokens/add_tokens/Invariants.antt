@@ -1,6 +1,6 @@
 use Rattle.std.proofs.Common.{◌≡◌, ◌<◌, ◌^◌, drop, []}
 use Rattle.seg_model.specs.Occurrences.{counted, reach, placed_from}
-use Rattle.seg_terms.specs.Adding.{with_occurrences}
+use Rattle.seg_terms.specs.AddedOccurrences.{with_occurrences}
 use Rattle.seg_build.proofs.tokens.add_tokens.Given as goal
 
 -- what is so far, with what is left, is what all the tokens give, and what is left reaches no further than all

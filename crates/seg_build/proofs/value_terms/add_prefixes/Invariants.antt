@@ -1,6 +1,6 @@
 use Rattle.std.proofs.Common.{◌≡◌, ◌+◌, ◌≤◌, map, length}
 use Rattle.seg_model.specs.Occurrences.{at_zero}
-use Rattle.seg_terms.specs.Adding.{with_occurrences}
+use Rattle.seg_terms.specs.AddedOccurrences.{with_occurrences}
 use Rattle.seg_build.proofs.FacetPrefixes.{left_at}
 use Rattle.seg_build.proofs.value_terms.add_prefixes.Given as goal
 

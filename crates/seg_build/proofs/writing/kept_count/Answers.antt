@@ -1,6 +1,6 @@
 use Rattle.std.proofs.Common.{sym, ap}
-use Rattle.seg_postings.specs.PostingsReading.{count_of}
-use Rattle.seg_build.specs.TermsWritten.{kept_hits}
+use Rattle.seg_postings.specs.OpenPostings.{count_of}
+use Rattle.seg_build.specs.WrittenTerms.{kept_hits}
 use Rattle.seg_build.proofs.WrittenHits.{counted_as, counted_placed}
 use Rattle.seg_build.proofs.writing.kept_count.Goals as goal
 

@@ -1,11 +1,11 @@
 use Rattle.std.proofs.Common.{[], ◌∷◌, sym, subst, ◌∙◌}
 use Rattle.std.specs.Prelude.{IsSomeAnd}
 use Rattle.std.proofs.lemmas.Result.{on_ok_weaker}
-use Rattle.seg_common.specs.Growing.{HasGrown}
-use Rattle.seg_model.specs.Reading.{Posting}
-use Rattle.seg_segment.specs.WritingTerms.{MayTake, with_more}
+use Rattle.seg_common.specs.WriterGrowth.{HasGrown}
+use Rattle.seg_model.specs.DocumentTerms.{Posting}
+use Rattle.seg_segment.specs.WrittenTerms.{MayTake, with_more}
 use Rattle.seg_segment.proofs.Exports.{are_of_kind, posting_is}
-use Rattle.seg_build.specs.TermsWritten.{kept_hits}
+use Rattle.seg_build.specs.WrittenTerms.{kept_hits}
 use Rattle.seg_build.proofs.WrittenHits.{run_recorded}
 use Rattle.seg_build.proofs.writing.write_run.Goals as goal
 

@@ -6,7 +6,7 @@ use Rattle.std.proofs.lemmas.Result.{on_ok_weaker}
 use Rattle.seg_segment.proofs.Exports.{all_given, has_whole_term, may_begin, may_end, none_given}
 use Rattle.seg_terms.specs.declared.hit.Hit.{Hit}
 use Rattle.seg_build.specs.FieldTerms.{postings_as}
-use Rattle.seg_terms.specs.Grouped.{grouped}
+use Rattle.seg_terms.specs.PostingGroups.{grouped}
 use Rattle.seg_build.proofs.WrittenHits.{are_of_term, none_left, run_of, run_taken, run_kept, run_more}
 use Rattle.seg_build.proofs.writing.write_term.Goals as goal
 

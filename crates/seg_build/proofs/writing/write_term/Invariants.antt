@@ -1,7 +1,7 @@
 use Rattle.std.proofs.Common.{length}
 use Rattle.seg_segment.proofs.Exports.{AreGiven}
 use Rattle.seg_build.specs.FieldTerms.{postings_as}
-use Rattle.seg_terms.specs.Grouped.{grouped}
+use Rattle.seg_terms.specs.PostingGroups.{grouped}
 use Rattle.seg_build.proofs.writing.write_term.Given as goal
 
 abbrev pub invariant-loop-rest : goal.invariant-loop-rest

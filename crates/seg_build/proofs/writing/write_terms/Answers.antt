@@ -1,13 +1,13 @@
 use Rattle.std.proofs.Common.{Some, ◌≡◌, sym, ap, ◌∙◌, subst}
-use Rattle.seg_postings.specs.Written.{AreWritable}
+use Rattle.seg_postings.specs.WritablePostings.{AreWritable}
 use Rattle.seg_segment.proofs.Exports.{no_terms}
 use Rattle.seg_build.specs.FieldTerms.{kind_in, postings_as}
-use Rattle.seg_terms.specs.Grouped.{grouped}
-use Rattle.seg_segment.specs.WritingTerms.{with_whole_term}
-use Rattle.seg_common.specs.Growing.{HasGrown}
-use Rattle.seg_postings.specs.FieldWriting.{MayOpen}
+use Rattle.seg_terms.specs.PostingGroups.{grouped}
+use Rattle.seg_segment.specs.WrittenTerms.{with_whole_term}
+use Rattle.seg_common.specs.WriterGrowth.{HasGrown}
+use Rattle.seg_postings.specs.FieldSerializers.{MayOpen}
 use Rattle.std.specs.Prelude.{IsSomeAnd}
-use Rattle.seg_build.proofs.Recording.{value_there}
+use Rattle.seg_build.proofs.RecordedForms.{value_there}
 use Rattle.seg_build.proofs.WrittenTerms.{may_open, writable_at, term_more}
 use Rattle.seg_build.proofs.writing.write_terms.Goals as goal
 

@@ -1,5 +1,5 @@
-use Rattle.seg_common.specs.Growing.{HasGrown}
-use Rattle.seg_segment.specs.WritingTerms.{with_terms}
+use Rattle.seg_common.specs.WriterGrowth.{HasGrown}
+use Rattle.seg_segment.specs.WrittenTerms.{with_terms}
 use Rattle.seg_build.proofs.WrittenTerms.{first_written}
 use Rattle.seg_build.proofs.writing.write_terms.Given as goal
 

@@ -1,5 +1,5 @@
-use Rattle.seg_check.specs.View.{operation_of}
-use Rattle.seg_check.proofs.Cuts.{all_fit}
+use Rattle.seg_check.specs.UserOperations.{operation_of}
+use Rattle.seg_check.proofs.RisingCuts.{all_fit}
 use Rattle.seg_check.proofs.batch_cuts.cuts_fit.Goals as goal
 
 pub loop-cut-init : goal.loop-cut-init

@@ -1,7 +1,7 @@
 use Rattle.std.proofs.Common.{◌≡◌, length, map, drop}
-use Rattle.seg_model.specs.Valid.{cuts_fit}
-use Rattle.seg_check.specs.View.{operation_of}
-use Rattle.seg_check.proofs.Cuts.{fit_from}
+use Rattle.seg_model.specs.ValidInputs.{cuts_fit}
+use Rattle.seg_check.specs.UserOperations.{operation_of}
+use Rattle.seg_check.proofs.RisingCuts.{fit_from}
 use Rattle.seg_check.proofs.batch_cuts.cuts_fit.Given as goal
 
 -- what is left decides

@@ -1,6 +1,6 @@
 use Rattle.std.proofs.Common.{◌≡◌, ◌+◌, ◌≤◌, length, map, drop}
 use Rattle.seg_model.specs.Operations.{additions}
-use Rattle.seg_check.specs.View.{operation_of}
+use Rattle.seg_check.specs.UserOperations.{operation_of}
 use Rattle.seg_check.proofs.batch_cuts.num_additions.Given as goal
 
 -- those so far, with those that are left, are all

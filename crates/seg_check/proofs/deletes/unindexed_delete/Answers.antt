@@ -1,8 +1,8 @@
 use Rattle.std.proofs.Common.{rules, tests, ◌∙◌}
 use Rattle.std.proofs.lemmas.Iterator.{YieldsList-from_slice}
 use Rattle.std.proofs.lemmas.Iterator.Search.{position_from_yields_List}
-use Rattle.seg_model.specs.Valid.{is_unindexed_delete}
-use Rattle.seg_check.specs.View.{operation_of}
+use Rattle.seg_model.specs.ValidInputs.{is_unindexed_delete}
+use Rattle.seg_check.specs.UserOperations.{operation_of}
 use Rattle.seg_check.proofs.RefusalPlaces.{position_seen}
 use Rattle.seg_check.proofs.deletes.unindexed_delete.Goals as goal
 

@@ -1,8 +1,8 @@
 use Rattle.std.proofs.Common.{inr, ap, sym, ◌∙◌}
 use Rattle.std.specs.Prelude.{is_some}
-use Rattle.seg_model.specs.Checked.{Cause, at_place, fields_refusal, leaves_refusal}
+use Rattle.seg_model.specs.DocumentCheck.{Cause, at_place, fields_refusal, leaves_refusal}
 use Rattle.seg_model.proofs.Exports.{none_map}
-use Rattle.seg_check.proofs.FieldsCome.{falls-third}
+use Rattle.seg_check.proofs.DocumentFields.{falls-third}
 use Rattle.seg_check.proofs.document.checked_values.Goals as goal
 
 pub returns-in_default-found-clause-err : goal.returns-in_default-found-clause-err

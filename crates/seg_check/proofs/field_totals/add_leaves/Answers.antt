@@ -1,14 +1,14 @@
 use Rattle.std.proofs.Common.{List, [], ◌++◌, append-nil, refl, ap, sym, map, ◌∙◌, subst}
 use Rattle.std.specs.List.{AllByRecursion, slice_index_or}
 use Rattle.std.specs.Vec.Iter.{into_iter_items}
-use Rattle.seg_values.specs.View.{tree_of}
+use Rattle.seg_values.specs.ValueTrees.{tree_of}
 use Rattle.seg_paths.specs.NumberedLeaves.{leaf_in}
 use Rattle.seg_paths.specs.Paths.{number_of}
 use Rattle.seg_paths.specs.declared.leaves.NumberedLeaf.{NumberedLeaf}
 use Rattle.seg_check.specs.Paths.{IsNumbered, path_leaf, texts_of, PathsStand}
-use Rattle.seg_check.specs.Sizes.{measured}
-use Rattle.seg_check.proofs.LeavesCome.{next-cut, next-sized, next-standing, all-sized, all-stand, no_more, starts-sized, starts-standing, SizedWith}
-use Rattle.seg_check.proofs.ValuesCome.{measured-some}
+use Rattle.seg_check.specs.TextSizes.{measured}
+use Rattle.seg_check.proofs.FieldLeaves.{next-cut, next-sized, next-standing, all-sized, all-stand, no_more, starts-sized, starts-standing, SizedWith}
+use Rattle.seg_check.proofs.FieldValues.{measured-some}
 use Rattle.seg_check.proofs.field_totals.add_leaves.Goals as goal
 
 pub loop-found-init : goal.loop-found-init

@@ -3,7 +3,7 @@ use Rattle.std.specs.List.{AllByRecursion}
 use Rattle.std.specs.Vec.Iter.{into_iter_items}
 use Rattle.seg_values.specs.Tree.{Leaf}
 use Rattle.seg_check.specs.Paths.{IsNumbered, PathsStand, path_leaf, texts_of}
-use Rattle.seg_check.proofs.LeavesCome.{SizedWith, StandWith}
+use Rattle.seg_check.proofs.FieldLeaves.{SizedWith, StandWith}
 use Rattle.seg_check.proofs.field_totals.add_leaves.Given as goal
 
 -- what came, with what is left, is all

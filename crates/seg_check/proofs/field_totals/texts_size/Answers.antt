@@ -1,12 +1,12 @@
 use Rattle.std.proofs.Common.{◌≡◌, [], ◌∷◌, ◌++◌, map, ap, sym, ◌∙◌, subst}
 use Rattle.std.proofs.lemmas.Result.{IfOk-weaker}
-use Rattle.seg_values.specs.View.{tree_of}
-use Rattle.seg_model.specs.Checked.{value_texts}
+use Rattle.seg_values.specs.ValueTrees.{tree_of}
+use Rattle.seg_model.specs.DocumentCheck.{value_texts}
 use Rattle.seg_model.specs.Fields.{indexing_tokenizer}
 use Rattle.seg_check.specs.Paths.{path_leaf, texts_of, PathsStand}
-use Rattle.seg_check.specs.Sizes.{measured}
-use Rattle.seg_check.specs.Standing.{found_in}
-use Rattle.seg_check.proofs.ValuesCome.{texts-walked, found-last}
+use Rattle.seg_check.specs.TextSizes.{measured}
+use Rattle.seg_check.specs.FieldContents.{found_in}
+use Rattle.seg_check.proofs.FieldValues.{texts-walked, found-last}
 use Rattle.seg_check.proofs.field_totals.texts_size.Goals as goal
 
 pub returns-in_ok-leaves-in-Json-clause-size : goal.returns-in_ok-leaves-in-Json-clause-size

@@ -1,5 +1,5 @@
 use Rattle.std.proofs.Common.{◌≡◌, drop}
-use Rattle.seg_model.specs.Checked.{fields_refusal}
+use Rattle.seg_model.specs.DocumentCheck.{fields_refusal}
 use Rattle.seg_check.proofs.fields.fields_refusal.Given as goal
 
 -- what is left decides

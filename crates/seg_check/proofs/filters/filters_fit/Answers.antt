@@ -2,9 +2,9 @@ use Rattle.std.proofs.Common.{◌≡◌, ◌+◌, [], ◌∷◌, ◌++◌, lengt
 use Rattle.std.specs.Prelude.{◌&&◌}
 use Rattle.std.proofs.lemmas.List.{length-append}
 use Rattle.std.proofs.lemmas.Slice.Zip.{zip_turn, zip_end}
-use Rattle.seg_check.specs.View.{operation_of}
-use Rattle.seg_check.proofs.Cuts.{all_fit, one_cut}
-use Rattle.seg_check.proofs.Divided.{as_many, one_batch, last_batch, batch, left_fit}
+use Rattle.seg_check.specs.UserOperations.{operation_of}
+use Rattle.seg_check.proofs.RisingCuts.{all_fit, one_cut}
+use Rattle.seg_check.proofs.DividedFilters.{as_many, one_batch, last_batch, batch, left_fit}
 use Rattle.seg_check.proofs.filters.filters_fit.Goals as goal
 
 pub returns-then-filters-cuts : goal.returns-then-filters-cuts

@@ -1,9 +1,9 @@
 use Rattle.std.proofs.Common.{◌≡◌, ◌+◌, length, map, drop, true}
 use Rattle.seg_model.specs.Fields as model
 use Rattle.seg_model.specs.Operations.{batches, batches_from}
-use Rattle.seg_model.specs.Valid.{filters_fit}
-use Rattle.seg_check.specs.View.{operation_of}
-use Rattle.seg_check.proofs.Cuts.{fit_from}
+use Rattle.seg_model.specs.ValidInputs.{filters_fit}
+use Rattle.seg_check.specs.UserOperations.{operation_of}
+use Rattle.seg_check.proofs.RisingCuts.{fit_from}
 use Rattle.seg_check.proofs.filters.filters_fit.Given as goal
 
 -- what is left decides

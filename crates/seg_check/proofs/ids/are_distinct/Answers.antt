@@ -2,8 +2,8 @@ use Rattle.std.proofs.Common.{rules, tests, ◌∙◌, ap, subst, ◌≡◌}
 use Rattle.std.specs.Prelude.{nat_lt}
 use Rattle.std.specs.List.{IsAllAdjacentAnswer}
 use Rattle.std.proofs.lemmas.Fn.{always_returns_same}
-use Rattle.seg_model.specs.Valid.{are_distinct}
-use Rattle.seg_check.proofs.Distinct.{told_by_neighbours}
+use Rattle.seg_model.specs.ValidInputs.{are_distinct}
+use Rattle.seg_check.proofs.DistinctNumbers.{told_by_neighbours}
 use Rattle.seg_check.proofs.ids.are_distinct.Goals as goal
 
 pub returns : goal.returns

@@ -2,11 +2,11 @@ use Rattle.std.proofs.Common.{◌≡◌, ◌∙◌, ap, sym, subst, None, Some, 
 use Rattle.std.specs.Option.{option_map}
 use Rattle.seg_values.specs.declared.error.SchemaCause.TheVariants.{DeleteField}
 use Rattle.seg_values.specs.declared.error.TantivyError.TheVariants.{SchemaError}
-use Rattle.seg_meta.specs.View.{settings_of}
+use Rattle.seg_meta.specs.MetaMeaning.{settings_of}
 use Rattle.seg_model.specs.Input.{Input}
-use Rattle.seg_model.specs.Valid.{input_refusal, schema_refusal}
-use Rattle.seg_check.specs.View.{operation_of}
-use Rattle.seg_check.specs.Admitted.{Fits}
+use Rattle.seg_model.specs.ValidInputs.{input_refusal, schema_refusal}
+use Rattle.seg_check.specs.UserOperations.{operation_of}
+use Rattle.seg_check.specs.AdmittedInputs.{Fits}
 use Rattle.seg_check.proofs.FirstErrors.{all_fit, by_deletes}
 use Rattle.seg_check.proofs.input_check.check_input.Goals as goal
 

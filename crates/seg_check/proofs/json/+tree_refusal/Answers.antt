@@ -1,8 +1,8 @@
 use Rattle.std.proofs.Common.{◌<◌, ap, sym, ◌∙◌, arith}
 use Rattle.seg_values.specs.Tree.{levels, array, object, trees_from, members_from}
-use Rattle.seg_values.specs.View.{tree_of}
+use Rattle.seg_values.specs.ValueTrees.{tree_of}
 use Rattle.seg_values.proofs.Exports.{levels-at, member_levels-at}
-use Rattle.seg_model.specs.Checked.{at_place, has_no_zero, tree_refusal}
+use Rattle.seg_model.specs.DocumentCheck.{at_place, has_no_zero, tree_refusal}
 use Rattle.seg_check.proofs.JsonTrees.{tree_passes, member_passes, tree_refused, member_refused, key_refused}
 use Rattle.seg_check.proofs.json.+tree_refusal.Goals as goal
 

@@ -1,7 +1,7 @@
 use Rattle.std.proofs.Common.{◌≡◌, drop}
 use Rattle.seg_values.specs.Tree.{levels, trees_from, members_from}
-use Rattle.seg_values.specs.View.{tree_of}
-use Rattle.seg_model.specs.Checked.{trees_refusal, members_refusal}
+use Rattle.seg_values.specs.ValueTrees.{tree_of}
+use Rattle.seg_model.specs.DocumentCheck.{trees_refusal, members_refusal}
 use Rattle.seg_check.proofs.json.+tree_refusal.Given as goal
 
 abbrev pub decreases-tree_refusal : goal.decreases-tree_refusal

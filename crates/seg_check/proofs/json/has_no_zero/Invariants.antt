@@ -1,5 +1,5 @@
 use Rattle.std.proofs.Common.{◌≡◌, drop}
-use Rattle.seg_model.specs.Checked.{has_no_zero}
+use Rattle.seg_model.specs.DocumentCheck.{has_no_zero}
 use Rattle.seg_check.proofs.json.has_no_zero.Given as goal
 
 -- what is left decides

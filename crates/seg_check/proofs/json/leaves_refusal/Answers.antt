@@ -1,8 +1,8 @@
 use Rattle.std.proofs.Common.{ℕ, ap, sym, ◌∙◌}
 use Rattle.std.specs.List.{slice_get}
 use Rattle.seg_values.specs.Tree.{Tree}
-use Rattle.seg_values.specs.View.{tree_of}
-use Rattle.seg_model.specs.Checked.{at_place, json_refusal}
+use Rattle.seg_values.specs.ValueTrees.{tree_of}
+use Rattle.seg_model.specs.DocumentCheck.{at_place, json_refusal}
 use Rattle.seg_check.proofs.FirstRefusals.{one_passes, one_stops}
 use Rattle.seg_check.proofs.json.leaves_refusal.Goals as goal
 

@@ -1,5 +1,5 @@
 use Rattle.std.proofs.Common.{◌≡◌, drop}
-use Rattle.seg_model.specs.Checked.{leaves_refusal}
+use Rattle.seg_model.specs.DocumentCheck.{leaves_refusal}
 use Rattle.seg_check.proofs.json.leaves_refusal.Given as goal
 
 -- what is left decides

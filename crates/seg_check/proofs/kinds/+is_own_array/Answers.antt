@@ -1,6 +1,6 @@
 use Rattle.std.proofs.Common.{◌<◌, ap, arith}
 use Rattle.seg_values.specs.Tree.{levels, array, trees_from}
-use Rattle.seg_values.specs.View.{tree_of}
+use Rattle.seg_values.specs.ValueTrees.{tree_of}
 use Rattle.seg_values.proofs.Exports.{levels-at}
 use Rattle.seg_check.proofs.kinds.+is_own_array.Goals as goal
 

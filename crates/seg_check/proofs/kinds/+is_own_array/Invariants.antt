@@ -1,7 +1,7 @@
 use Rattle.std.proofs.Common.{◌≡◌, drop}
 use Rattle.seg_values.specs.Tree.{levels, trees_from}
-use Rattle.seg_values.specs.View.{tree_of}
-use Rattle.seg_model.specs.Takes.{are_own_arrays}
+use Rattle.seg_values.specs.ValueTrees.{tree_of}
+use Rattle.seg_model.specs.AcceptedTrees.{are_own_arrays}
 use Rattle.seg_check.proofs.kinds.+is_own_array.Given as goal
 
 abbrev pub decreases-is_own_array : goal.decreases-is_own_array

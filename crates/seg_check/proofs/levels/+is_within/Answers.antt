@@ -1,7 +1,7 @@
 use Rattle.std.proofs.Common.{◌-◌, nat_le, sym, ap, ◌∙◌}
 use Rattle.seg_values.specs.Tree.{levels, trees_from, members_from, most_levels, most_member_levels}
-use Rattle.seg_values.specs.View.{tree_of}
-use Rattle.seg_check.proofs.Deep.{level_more, tree_within, tree_past, member_within, member_past}
+use Rattle.seg_values.specs.ValueTrees.{tree_of}
+use Rattle.seg_check.proofs.TreeDepths.{level_more, tree_within, tree_past, member_within, member_past}
 use Rattle.seg_check.proofs.levels.+is_within.Goals as goal
 
 pub returns-then-not-is_within : goal.returns-then-not-is_within

@@ -1,10 +1,10 @@
 use Rattle.std.proofs.Common.{true, refl, ap, sym, ◌∙◌, cond, subst, length}
 use Rattle.std.specs.Prelude.{◌&&◌}
-use Rattle.seg_model.specs.Checked.{is_u32, kind_fits}
+use Rattle.seg_model.specs.DocumentCheck.{is_u32, kind_fits}
 use Rattle.seg_model.specs.Fields.{indexing_tokenizer, values_of}
-use Rattle.seg_check.specs.AllFields.{StandsAt, fits_at}
-use Rattle.seg_check.proofs.FieldsCome.{read-at}
-use Rattle.seg_check.proofs.FieldsFit.{fits-empty}
+use Rattle.seg_check.specs.DocumentFields.{StandsAt, fits_at}
+use Rattle.seg_check.proofs.DocumentFields.{read-at}
+use Rattle.seg_check.proofs.FieldLimits.{fits-empty}
 use Rattle.seg_check.proofs.limits.field_fits.Goals as goal
 
 pub returns-in_default-get : goal.returns-in_default-get

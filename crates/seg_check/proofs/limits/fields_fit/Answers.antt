@@ -2,9 +2,9 @@ use Rattle.std.proofs.Common.{◌+◌, drop, sym, ap, ◌∙◌, arith}
 use Rattle.std.specs.Prelude.{◌&&◌}
 use Rattle.std.specs.List.{list_all, slice_get}
 use Rattle.std.proofs.lemmas.List.{at_drop_all}
-use Rattle.seg_values.specs.View.{tree_of}
-use Rattle.seg_check.specs.AllFields.{fits_at}
-use Rattle.seg_check.proofs.FieldsFit.{left-fit, by-pairs}
+use Rattle.seg_values.specs.ValueTrees.{tree_of}
+use Rattle.seg_check.specs.DocumentFields.{fits_at}
+use Rattle.seg_check.proofs.FieldLimits.{left-fit, by-pairs}
 use Rattle.seg_check.proofs.limits.fields_fit.Goals as goal
 
 pub loop-at-preserved : goal.loop-at-preserved

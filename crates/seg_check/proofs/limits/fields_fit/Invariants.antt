@@ -1,7 +1,7 @@
 use Rattle.std.proofs.Common.{◌≡◌, drop}
 use Rattle.std.specs.List.{list_all, slice_get}
 use Rattle.seg_model.specs.Fields.{Analyzer}
-use Rattle.seg_check.specs.AllFields.{AllStand, fits_at}
+use Rattle.seg_check.specs.DocumentFields.{AllStand, fits_at}
 use Rattle.seg_check.proofs.limits.fields_fit.Given as goal
 
 -- what is left decides

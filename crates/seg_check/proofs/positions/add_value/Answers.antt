@@ -1,11 +1,11 @@
 use Rattle.std.proofs.Common.{rules, [], ◌∷◌, ◌++◌, Some, sym, subst}
 use Rattle.std.specs.HashMap.{Updates}
 use Rattle.std.specs.Prelude.{nat_eq}
-use Rattle.seg_values.specs.View.{tree_of}
+use Rattle.seg_values.specs.ValueTrees.{tree_of}
 use Rattle.seg_model.specs.Fields.{indexing_tokenizer, values_of}
-use Rattle.seg_check.specs.AllFields.{TellMore}
-use Rattle.seg_check.specs.Standing.{Stands}
-use Rattle.seg_check.proofs.FieldsCome.{one-field, to-some, to-none, stand-if}
+use Rattle.seg_check.specs.DocumentFields.{TellMore}
+use Rattle.seg_check.specs.FieldContents.{Stands}
+use Rattle.seg_check.proofs.DocumentFields.{one-field, to-some, to-none, stand-if}
 use Rattle.seg_check.proofs.positions.add_value.Goals as goal
 
 pub returns-in-Some-clause-stand : goal.returns-in-Some-clause-stand

@@ -1,10 +1,10 @@
 use Rattle.std.proofs.Common.{◌≡◌, ◌++◌, ◌∷◌, [], take, true, false, refl, ap, sym, ◌∙◌, subst}
 use Rattle.std.specs.Prelude.{is_none}
 use Rattle.std.specs.List.{slice_get}
-use Rattle.seg_values.specs.View.{tree_of}
-use Rattle.seg_model.specs.Checked.{json_refusal, positions_refusal}
-use Rattle.seg_check.specs.AllFields.{HasCut}
-use Rattle.seg_check.proofs.FieldsCome.{none-behind, none-here, rises-on, falls, take-more}
+use Rattle.seg_values.specs.ValueTrees.{tree_of}
+use Rattle.seg_model.specs.DocumentCheck.{json_refusal, positions_refusal}
+use Rattle.seg_check.specs.DocumentFields.{HasCut}
+use Rattle.seg_check.proofs.DocumentFields.{none-behind, none-here, rises-on, falls, take-more}
 use Rattle.seg_check.proofs.positions.cut_texts.Goals as goal
 
 pub loop-at-init : goal.loop-at-init

@@ -1,6 +1,6 @@
 use Rattle.std.proofs.Common.{◌≡◌, None, take, drop}
-use Rattle.seg_model.specs.Checked.{leaves_refusal, order_refusal}
-use Rattle.seg_check.specs.AllFields.{HasCut}
+use Rattle.seg_model.specs.DocumentCheck.{leaves_refusal, order_refusal}
+use Rattle.seg_check.specs.DocumentFields.{HasCut}
 use Rattle.seg_check.proofs.positions.cut_texts.Given as goal
 
 abbrev pub invariant-loop-at : goal.invariant-loop-at

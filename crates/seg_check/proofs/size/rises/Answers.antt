@@ -1,5 +1,5 @@
 use Rattle.seg_model.specs.Occurrences.{counted}
-use Rattle.seg_check.proofs.Rising.{rises_first}
+use Rattle.seg_check.proofs.RisingPositions.{rises_first}
 use Rattle.seg_check.proofs.size.rises.Goals as goal
 
 pub loop-token-init : goal.loop-token-init

@@ -1,7 +1,7 @@
 use Rattle.std.proofs.Common.{◌≡◌, drop}
-use Rattle.seg_model.specs.Checked.{is_rising}
+use Rattle.seg_model.specs.DocumentCheck.{is_rising}
 use Rattle.seg_model.specs.Occurrences.{counted}
-use Rattle.seg_check.proofs.Rising.{rises}
+use Rattle.seg_check.proofs.RisingPositions.{rises}
 use Rattle.seg_check.proofs.size.rises.Given as goal
 
 -- what is left decides

@@ -1,11 +1,11 @@
 use Rattle.std.proofs.Common.{◌≡◌, ◌<◌, ◌+◌, length, ap, sym, ◌∙◌, arith}
 use Rattle.seg_values.specs.Tree.{levels, array, object, trees_from, members_from}
-use Rattle.seg_values.specs.View.{tree_of}
+use Rattle.seg_values.specs.ValueTrees.{tree_of}
 use Rattle.seg_values.proofs.Exports.{levels-at, member_levels-at}
-use Rattle.seg_values.specs.StoredForm.{sized, tree_form}
-use Rattle.seg_check.specs.Sizes.{saturated}
-use Rattle.seg_check.proofs.Adding.{saturated-sum}
-use Rattle.seg_check.proofs.StoredLens.{array_begins, object_begins, tree_more, member_more, sized_bytes}
+use Rattle.seg_values.specs.StoredBytes.{sized, tree_form}
+use Rattle.seg_check.specs.TextSizes.{saturated}
+use Rattle.seg_check.proofs.TextSizeSums.{saturated-sum}
+use Rattle.seg_check.proofs.StoredLengths.{array_begins, object_begins, tree_more, member_more, sized_bytes}
 use Rattle.seg_check.proofs.stored_len.+tree_len.Goals as goal
 
 pub loop-at-init : goal.loop-at-init

@@ -1,8 +1,8 @@
 use Rattle.std.proofs.Common.{◌≡◌, ◌+◌, ◌≤◌, ◌-◌, ◌^◌, length, drop}
 use Rattle.std.specs.List.{flat_map}
 use Rattle.seg_values.specs.Tree.{pre_tokenized}
-use Rattle.seg_values.specs.StoredForm.{token_form, leaf_form}
-use Rattle.seg_check.specs.Sizes.{saturated}
+use Rattle.seg_values.specs.StoredBytes.{token_form, leaf_form}
+use Rattle.seg_check.specs.TextSizes.{saturated}
 use Rattle.seg_check.proofs.stored_len.pre_tokenized_len.Given as goal
 
 -- what is so far, with what is left, is all

@@ -1,11 +1,11 @@
 use Rattle.std.proofs.Common.{◌≡◌, ◌+◌, suc, length, drop, true, ap, sym, ◌∙◌, arith}
 use Rattle.std.specs.List.{slice_get, flat_map}
-use Rattle.seg_values.specs.View.{tree_of}
+use Rattle.seg_values.specs.ValueTrees.{tree_of}
 use Rattle.seg_model.specs.Fields.{is_field}
-use Rattle.seg_model.specs.Reading.{stored_document}
-use Rattle.seg_values.specs.StoredForm.{pair_form}
-use Rattle.seg_check.specs.Sizes.{saturated}
-use Rattle.seg_check.proofs.StoredLens.{pair_skipped, pair_kept, pair_more}
+use Rattle.seg_model.specs.DocumentTerms.{stored_document}
+use Rattle.seg_values.specs.StoredBytes.{pair_form}
+use Rattle.seg_check.specs.TextSizes.{saturated}
+use Rattle.seg_check.proofs.StoredLengths.{pair_skipped, pair_kept, pair_more}
 use Rattle.seg_check.proofs.stored_len.stored_len.Goals as goal
 
 pub loop-at-preserved : goal.loop-at-preserved

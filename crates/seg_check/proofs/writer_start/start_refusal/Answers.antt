@@ -3,8 +3,8 @@ use Rattle.std.specs.Prelude.{IsTrue}
 use Rattle.std.specs.List.{list_any, AllByRecursion}
 use Rattle.seg_values.specs.declared.schema.FieldEntry.{FieldEntry}
 use Rattle.seg_model.specs.Fields.{indexing_tokenizer}
-use Rattle.seg_model.specs.Valid.{has_unknown_fast_tokenizer, names_fit, unknown_tokenizer_of}
-use Rattle.seg_check.proofs.NoRefusal.{all_known, none_refused}
+use Rattle.seg_model.specs.ValidInputs.{has_unknown_fast_tokenizer, names_fit, unknown_tokenizer_of}
+use Rattle.seg_check.proofs.UnrefusedWriters.{all_known, none_refused}
 use Rattle.seg_check.proofs.writer_start.start_refusal.Goals as goal
 
 pub returns-clause-first : goal.returns-clause-first

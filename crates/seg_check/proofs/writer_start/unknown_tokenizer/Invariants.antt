@@ -3,7 +3,7 @@ use Rattle.std.specs.Prelude.{not, IsTrue}
 use Rattle.std.specs.List.{AllByRecursion, position_from}
 use Rattle.seg_values.specs.declared.schema.FieldEntry.{FieldEntry}
 use Rattle.seg_model.specs.Fields.{indexing_tokenizer}
-use Rattle.seg_model.specs.Valid.{unknown_tokenizer_of}
+use Rattle.seg_model.specs.ValidInputs.{unknown_tokenizer_of}
 use Rattle.seg_check.proofs.writer_start.unknown_tokenizer.Given as goal
 
 -- what is left decides

@@ -2,8 +2,8 @@ use Rattle.std.proofs.Common.{◌≡◌, ◌+◌, sym, ap, ◌∙◌, arith, bel
 use Rattle.seg_columns.specs.DynamicColumns.{IsColumnOf}
 use Rattle.seg_column_file.specs.ColumnFiles.{HoldsColumns}
 use Rattle.seg_column_file.specs.ColumnTable.{column_start, end_in, next_place}
-use Rattle.seg_column_file.proofs.FileSteps.{is_piece, of_piece, refused, start_within}
-use Rattle.seg_column_file.proofs.TableSteps.{column_start-first, column_start-next, place_of-first, place_of-next}
+use Rattle.seg_column_file.proofs.FileColumns.{is_piece, of_piece, refused, start_within}
+use Rattle.seg_column_file.proofs.TableEntries.{column_start-first, column_start-next, place_of-first, place_of-next}
 use Rattle.seg_column_file.proofs.columns_check.check_columns.Goals as goal
 
 pub loop-i-init : goal.loop-i-init

@@ -1,5 +1,5 @@
 use Rattle.std.proofs.Common.{◌∙◌, refl}
-use Rattle.seg_column_file.proofs.RowSteps.{next_file, next_row, no_file}
+use Rattle.seg_column_file.proofs.StackedRows.{next_file, next_row, no_file}
 use Rattle.seg_column_file.proofs.row_order.next_stacked.Goals as goal
 
 pub loop-file-init : goal.loop-file-init

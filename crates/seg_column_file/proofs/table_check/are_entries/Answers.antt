@@ -1,6 +1,6 @@
 use Rattle.std.proofs.Common.{◌≡◌, sym, ap, ◌∙◌, arith}
 use Rattle.seg_column_file.specs.ColumnTable.{next_place, place_of}
-use Rattle.seg_column_file.proofs.TableSteps.{each_more, follow_more, out_of_order, place_of-first, place_of-next}
+use Rattle.seg_column_file.proofs.TableEntries.{each_more, follow_more, out_of_order, place_of-first, place_of-next}
 use Rattle.seg_column_file.proofs.table_check.are_entries.Goals as goal
 
 pub loop-i-init : goal.loop-i-init

@@ -2,9 +2,9 @@ use Rattle.std.proofs.Common.{◌≡◌, ◌+◌, ◌-◌, ◌++◌, ℕ, suc, L
 use Rattle.std.proofs.Math.Seq.{drop-cons}
 use Rattle.std.proofs.lemmas.List.{drop_all}
 use Rattle.seg_column_format.specs.ColumnBytes.{ends_from, number_bytes}
-use Rattle.seg_column_format.specs.Rows.{Rise, rows_from}
+use Rattle.seg_column_format.specs.ValuesByRow.{Rise, rows_from}
 use Rattle.seg_column_format.specs.declared.row_number.RowNumber.{RowNumber}
-use Rattle.seg_column_format.proofs.Writing.{lower, none_left, one_more}
+use Rattle.seg_column_format.proofs.RowEnds.{lower, none_left, one_more}
 use Rattle.seg_column_format.proofs.column_writing.put_row_ends.Goals as goal
 
 abbrev row_of : RowNumber → ℕ

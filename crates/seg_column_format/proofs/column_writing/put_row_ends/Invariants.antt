@@ -1,6 +1,6 @@
 use Rattle.std.proofs.Common.{◌≡◌, ◌≤◌, ◌-◌, ◌++◌, drop}
 use Rattle.seg_column_format.specs.ColumnBytes.{ends_from, number_bytes}
-use Rattle.seg_column_format.specs.Rows.{Rise, rows_from}
+use Rattle.seg_column_format.specs.ValuesByRow.{Rise, rows_from}
 use Rattle.seg_column_format.specs.declared.row_number.RowNumber.{RowNumber}
 use Rattle.seg_column_format.proofs.column_writing.put_row_ends.Given as goal
 

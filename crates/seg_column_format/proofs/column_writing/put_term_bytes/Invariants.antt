@@ -1,7 +1,7 @@
 use Rattle.std.proofs.Common.{◌≡◌, ◌<◌, ◌^◌, ◌++◌, drop, take}
 use Rattle.std.specs.List.{AllByRecursion, flat_map}
 use Rattle.seg_column_format.specs.RowNumbers.{term_bytes}
-use Rattle.seg_column_format.specs.Terms.{terms_at}
+use Rattle.seg_column_format.specs.NumberedTerms.{terms_at}
 use Rattle.seg_column_format.specs.declared.row_number.RowNumber.{RowNumber}
 use Rattle.seg_column_format.proofs.column_writing.put_term_bytes.Given as goal
 

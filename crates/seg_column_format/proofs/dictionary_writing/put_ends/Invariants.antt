@@ -1,6 +1,6 @@
 use Rattle.std.proofs.Common.{◌≡◌, ◌+◌, ◌<◌, ◌^◌, ◌++◌, drop}
 use Rattle.seg_column_format.specs.ColumnBytes.{ends_from, number_bytes, total}
-use Rattle.seg_column_format.specs.Terms.{terms_at}
+use Rattle.seg_column_format.specs.NumberedTerms.{terms_at}
 use Rattle.seg_column_format.proofs.dictionary_writing.put_ends.Given as goal
 
 -- what is written, with what is left, is all

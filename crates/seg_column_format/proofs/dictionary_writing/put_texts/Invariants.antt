@@ -1,6 +1,6 @@
 use Rattle.std.proofs.Common.{◌≡◌, ◌++◌, drop}
 use Rattle.std.specs.List.{flat_map}
-use Rattle.seg_column_format.specs.Terms.{terms_at}
+use Rattle.seg_column_format.specs.NumberedTerms.{terms_at}
 use Rattle.seg_column_format.proofs.dictionary_writing.put_texts.Given as goal
 
 -- what is written, with what is left, is all

@@ -1,4 +1,4 @@
-use Rattle.seg_column_format.proofs.TermLaws.{is_bytes_column, term_column_read}
+use Rattle.seg_column_format.proofs.TermColumnRoundTrips.{is_bytes_column, term_column_read}
 use Rattle.seg_column_format.proofs.laws.bytes_columns_read_back.Goals as goal
 
 pub returns-clause-column : goal.returns-clause-column

@@ -1,4 +1,4 @@
-use Rattle.seg_column_format.proofs.FileLaws.{file_read, is_file}
+use Rattle.seg_column_format.proofs.FileRoundTrips.{file_read, is_file}
 use Rattle.seg_column_format.proofs.laws.files_read_back.Goals as goal
 
 pub returns-clause-file : goal.returns-clause-file

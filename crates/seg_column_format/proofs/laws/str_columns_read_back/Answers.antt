@@ -1,4 +1,4 @@
-use Rattle.seg_column_format.proofs.TermLaws.{is_str_column}
+use Rattle.seg_column_format.proofs.TermColumnRoundTrips.{is_str_column}
 use Rattle.seg_column_format.proofs.laws.str_columns_read_back.Goals as goal
 
 pub returns : goal.returns

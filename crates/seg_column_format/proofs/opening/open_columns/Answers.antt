@@ -1,5 +1,5 @@
 use Rattle.std.proofs.Common.{sym, ◌∙◌}
-use Rattle.seg_column_format.proofs.Opened.{hold, hold_not}
+use Rattle.seg_column_format.proofs.OpenedColumns.{hold, hold_not}
 use Rattle.seg_column_format.proofs.opening.open_columns.Goals as goal
 
 pub returns-in-Ok-true : goal.returns-in-Ok-true

@@ -3,7 +3,7 @@ use Rattle.std.specs.Prelude.{slice_index_or}
 use Rattle.std.specs.List.{list_all}
 use Rattle.seg_column_file.specs.ColumnFiles.{NamedColumn}
 use Rattle.seg_column_format.specs.SchemaColumns.{all_marked, has_column, is_suited}
-use Rattle.seg_column_format.proofs.Marks.{all_found, fewer_left, left_suits}
+use Rattle.seg_column_format.proofs.FoundFields.{all_found, fewer_left, left_suits}
 use Rattle.seg_column_format.proofs.suiting.all_suit.Goals as goal
 
 pub loop-path-preserved-else-not-suits_one : goal.loop-path-preserved-else-not-suits_one

@@ -2,7 +2,7 @@ use Rattle.std.proofs.Common.{◌≡◌, false, sym, subst}
 use Rattle.seg_common.specs.declared.column_type.ColumnType.{ColumnType}
 use Rattle.seg_columns.specs.DynamicColumns.{type_of}
 use Rattle.seg_column_format.specs.SchemaColumns.{DeclaresAlone, is_declared_by}
-use Rattle.seg_column_format.proofs.Marks.{as_before, declared_suits, marked_alone}
+use Rattle.seg_column_format.proofs.FoundFields.{as_before, declared_suits, marked_alone}
 use Rattle.seg_column_format.proofs.suiting.suits_one.Goals as goal
 
 pub returns-in-Some-clause-suited : goal.returns-in-Some-clause-suited

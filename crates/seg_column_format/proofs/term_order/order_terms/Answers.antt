@@ -1,8 +1,8 @@
 use Rattle.std.proofs.Common.{ℕ, List, ◌<◌, sym, subst, length}
 use Rattle.std.specs.Prelude.{All, nat_eq}
 use Rattle.std.specs.List.{IsDistinct}
-use Rattle.seg_column_format.specs.Terms.{AreOrdinals}
-use Rattle.seg_column_format.proofs.TermSorting.{below_many, still_distinct}
+use Rattle.seg_column_format.specs.NumberedTerms.{AreOrdinals}
+use Rattle.seg_column_format.proofs.SortedTerms.{below_many, still_distinct}
 use Rattle.seg_column_format.proofs.term_order.order_terms.Goals as goal
 
 pub ordinals_of-requires-clause-below : goal.ordinals_of-requires-clause-below

@@ -1,6 +1,6 @@
 use Rattle.std.proofs.Common.{◌∙◌}
 use Rattle.std.proofs.lemmas.List.{length-set}
-use Rattle.seg_column_format.proofs.Placing.{placed_more}
+use Rattle.seg_column_format.proofs.NumberPlaces.{placed_more}
 use Rattle.seg_column_format.proofs.term_order.ordinals_of.Goals as goal
 
 pub loop-place-preserved : goal.loop-place-preserved

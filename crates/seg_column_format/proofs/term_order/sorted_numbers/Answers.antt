@@ -2,7 +2,7 @@ use Rattle.std.proofs.Common.{ℕ, List, [], rules, subst, get_or}
 use Rattle.std.specs.Cmp.Lexicographic.{nat_list_cmp_total}
 use Rattle.std.specs.List.Sorted.{IsPermutation}
 use Rattle.seg_common.proofs.ByOrder.{sorted_by}
-use Rattle.seg_column_format.proofs.TermSorting.{ascending}
+use Rattle.seg_column_format.proofs.SortedTerms.{ascending}
 use Rattle.seg_column_format.proofs.term_order.sorted_numbers.Goals as goal
 
 pub returns : goal.returns

@@ -4,7 +4,7 @@ use Rattle.seg_columns.specs.declared.dynamic_column.DynamicColumn.{DynamicColum
 use Rattle.seg_column_format.specs.ModelColumns.{column_rows}
 use Rattle.seg_model.specs.Columns.{is_filled}
 use Rattle.seg_column_format.specs.SchemaColumns.{is_row_filled}
-use Rattle.seg_column_format.proofs.Filled.{mapped_rows}
+use Rattle.seg_column_format.proofs.FilledColumns.{mapped_rows}
 use Rattle.seg_column_format.proofs.values.has_value.Goals as goal
 
 abbrev has_one : DynamicColumn → Rattle.std.proofs.Common.Bool

@@ -1,5 +1,5 @@
 use Rattle.std.proofs.Common.{sym, arith}
-use Rattle.seg_column_format.proofs.Filled.{none_filled}
+use Rattle.seg_column_format.proofs.FilledColumns.{none_filled}
 use Rattle.seg_column_format.proofs.values.is_used.Goals as goal
 
 pub returns : goal.returns

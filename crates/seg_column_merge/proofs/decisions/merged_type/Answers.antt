@@ -5,7 +5,7 @@ use Rattle.seg_common.specs.declared.column_type.ColumnType.{ColumnType}
 use Rattle.seg_column_merge.specs.Cells.{is_absent}
 use Rattle.seg_column_merge.specs.MergedBytes.{places_of}
 use Rattle.seg_column_merge_parts.specs.Tables.{column_in}
-use Rattle.seg_column_merge.proofs.Deciding.{number_decides, present_is, value_decides}
+use Rattle.seg_column_merge.proofs.MergedTypes.{number_decides, present_is, value_decides}
 use Rattle.seg_column_merge.proofs.RowFiles.{all_have_rows}
 use Rattle.seg_column_merge.proofs.decisions.merged_type.Goals as goal
 

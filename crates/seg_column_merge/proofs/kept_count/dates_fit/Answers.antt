@@ -1,8 +1,8 @@
 use Rattle.std.proofs.Common.{length, subst}
 use Rattle.std.specs.Prelude.{All, FitsSigned}
 use Rattle.std.specs.Int.{w64}
-use Rattle.seg_columns.specs.Images.{signed}
-use Rattle.seg_column_merge.proofs.KeptFits.{rows_fit, signed_tells}
+use Rattle.seg_columns.specs.ValueImages.{signed}
+use Rattle.seg_column_merge.proofs.FittingValues.{rows_fit, signed_tells}
 use Rattle.seg_column_merge.proofs.kept_count.dates_fit.Goals as goal
 
 pub returns : goal.returns

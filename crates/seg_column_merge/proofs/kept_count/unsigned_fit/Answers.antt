@@ -1,7 +1,7 @@
 use Rattle.std.proofs.Common.{ℕ, ◌<◌, ◌^◌, length, subst}
 use Rattle.std.specs.Prelude.{All}
-use Rattle.seg_columns.specs.Images.{unsigned}
-use Rattle.seg_column_merge.proofs.KeptFits.{rows_fit, unsigned_tells}
+use Rattle.seg_columns.specs.ValueImages.{unsigned}
+use Rattle.seg_column_merge.proofs.FittingValues.{rows_fit, unsigned_tells}
 use Rattle.seg_column_merge.proofs.kept_count.unsigned_fit.Goals as goal
 
 pub returns : goal.returns

@@ -2,7 +2,7 @@ use Rattle.std.proofs.Common.{ℕ, ◌<◌, ◌^◌, ◌∙◌, sym, subst}
 use Rattle.std.specs.Prelude.{FitsSigned}
 use Rattle.std.specs.Int.{w64}
 use Rattle.seg_column_merge_parts.specs.KeptColumns.{IsWhole, kept_fit}
-use Rattle.seg_column_merge.proofs.KeptFits.{kept_are}
+use Rattle.seg_column_merge.proofs.FittingValues.{kept_are}
 use Rattle.seg_column_merge.proofs.kept_count.with_values.Goals as goal
 
 pub returns-in-I64 : goal.returns-in-I64

@@ -1,5 +1,5 @@
-use Rattle.seg_column_merge.proofs.CellLaws.{rows_are}
-use Rattle.seg_column_merge.proofs.RequiredLaws.{declared_is, first_tells}
+use Rattle.seg_column_merge.proofs.MergedCells.{rows_are}
+use Rattle.seg_column_merge.proofs.RequiredColumns.{declared_is, first_tells}
 use Rattle.seg_column_merge.proofs.laws.merged_rows_by_kind.Goals as goal
 
 pub returns-clause-rows : goal.returns-clause-rows

@@ -1,5 +1,5 @@
-use Rattle.seg_column_merge.proofs.LiveAgreeing.{can_merge}
-use Rattle.seg_column_merge.proofs.Joining.{columns_join}
+use Rattle.seg_column_merge.proofs.LiveAgreement.{can_merge}
+use Rattle.seg_column_merge.proofs.JoinedColumns.{columns_join}
 use Rattle.seg_column_merge.proofs.live_column_laws.live_columns_join.Goals as goal
 
 pub returns-clause-columns : goal.returns-clause-columns

@@ -6,7 +6,7 @@ use Rattle.seg_column_merge.specs.Decisions.{merged_type}
 use Rattle.seg_column_merge.specs.Groups.{AreOfFiles}
 use Rattle.seg_column_merge.specs.MergedBytes.{RowFits, places_of}
 use Rattle.seg_column_merge.specs.MergedFiles.{IsColumnGroup, values_of}
-use Rattle.seg_column_merge.proofs.GroupPuts.{is_group, of_files}
+use Rattle.seg_column_merge.proofs.PutGroups.{is_group, of_files}
 use Rattle.seg_column_merge.proofs.RowFiles.{all_have_rows}
 use Rattle.seg_column_merge.proofs.planned_group.planned_group.Goals as goal
 

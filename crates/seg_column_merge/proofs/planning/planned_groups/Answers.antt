@@ -2,8 +2,8 @@ use Rattle.std.proofs.Common.{List, ◌∷◌, [], ◌++◌, sym, ap, subst, ◌
 use Rattle.std.proofs.lemmas.List.{append-nil}
 use Rattle.seg_column_merge.specs.Plans.{ArePlanned}
 use Rattle.seg_column_merge.specs.declared.planned_group.PlannedGroup.{PlannedGroup}
-use Rattle.seg_column_merge.proofs.Finishing.{fails, there_is}
-use Rattle.seg_column_merge.proofs.GroupPuts.{next_cut}
+use Rattle.seg_column_merge.proofs.FinishedFiles.{fails, there_is}
+use Rattle.seg_column_merge.proofs.PutGroups.{next_cut}
 use Rattle.seg_column_merge.proofs.planning.planned_groups.Goals as goal
 
 pub returns-in-Err : goal.returns-in-Err

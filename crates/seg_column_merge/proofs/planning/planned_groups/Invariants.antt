@@ -1,5 +1,5 @@
 use Rattle.std.proofs.Common.{◌-◌, List, ◌++◌, length}
-use Rattle.seg_column_merge.specs.Merging.{IsCut}
+use Rattle.seg_column_merge.specs.MergedGroups.{IsCut}
 use Rattle.seg_column_merge.specs.Plans.{ArePlanned}
 use Rattle.seg_column_merge.specs.declared.planned_group.PlannedGroup.{PlannedGroup}
 use Rattle.seg_column_merge.proofs.planning.planned_groups.Given as goal

@@ -6,8 +6,8 @@ use Rattle.seg_column_merge.specs.MergedBytes.{places_of}
 use Rattle.seg_column_merge.specs.MergedColumns.{IsMerged, required_key}
 use Rattle.seg_column_merge.specs.Plans.{ArePlanned}
 use Rattle.seg_column_merge.specs.declared.planned_group.PlannedGroup.{PlannedGroup}
-use Rattle.seg_column_merge.proofs.Finishing.{merged, nothing_yet}
-use Rattle.seg_column_merge.proofs.GroupPuts.{kinds_decided, put_more}
+use Rattle.seg_column_merge.proofs.FinishedFiles.{merged, nothing_yet}
+use Rattle.seg_column_merge.proofs.PutGroups.{kinds_decided, put_more}
 use Rattle.seg_column_merge.proofs.sorted_merge.put_groups.Goals as goal
 
 pub loop-group-init : goal.loop-group-init

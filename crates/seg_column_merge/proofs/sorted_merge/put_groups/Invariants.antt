@@ -1,5 +1,5 @@
 use Rattle.std.proofs.Common.{drop}
-use Rattle.seg_column_merge.specs.Merging.{SoFar}
+use Rattle.seg_column_merge.specs.MergedGroups.{SoFar}
 use Rattle.seg_column_merge.specs.Plans.{ArePlanned}
 use Rattle.seg_column_merge.proofs.sorted_merge.put_groups.Given as goal
 

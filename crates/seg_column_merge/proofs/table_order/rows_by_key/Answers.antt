@@ -1,7 +1,7 @@
 use Rattle.std.proofs.Common.{List, [], map, Some, sym, subst}
 use Rattle.seg_column_merge.specs.TableOrder.{Slots}
 use Rattle.seg_column_merge_parts.specs.declared.tables.TableRow.{TableRow}
-use Rattle.seg_column_merge.proofs.TableMoves.{SoFar, all_moved, nothing_yet, turned}
+use Rattle.seg_column_merge.proofs.MovedRows.{SoFar, all_moved, nothing_yet, turned}
 use Rattle.seg_column_merge.proofs.TableRuns.{head_is}
 use Rattle.seg_column_merge.proofs.table_order.rows_by_key.Goals as goal
 

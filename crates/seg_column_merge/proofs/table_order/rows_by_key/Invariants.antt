@@ -1,4 +1,4 @@
-use Rattle.seg_column_merge.proofs.TableMoves.{SoFar, measure}
+use Rattle.seg_column_merge.proofs.MovedRows.{SoFar, measure}
 use Rattle.seg_column_merge.proofs.table_order.rows_by_key.Given as goal
 
 abbrev pub invariant-loop-head : goal.invariant-loop-head

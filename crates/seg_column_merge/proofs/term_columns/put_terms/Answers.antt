@@ -8,14 +8,14 @@ use Rattle.std.proofs.lemmas.List.Elements.{All-from_recursion, recursion_from_A
 use Rattle.seg_column_format.specs.ColumnBytes.{column_bytes, dictionary_bytes, total}
 use Rattle.seg_column_merge.specs.MergedBytes.{HasType, places_of}
 use Rattle.seg_column_file.specs.RowOrders.{IsRow}
-use Rattle.seg_column_merge_parts.specs.Sources.{IsPut, joined}
+use Rattle.seg_column_merge_parts.specs.SourceRows.{IsPut, joined}
 use Rattle.seg_column_merge_parts.specs.declared.source.Source.{Source}
 use Rattle.seg_column_merge_parts.specs.declared.tables.TableRow.{TableRow}
 use Rattle.seg_column_merge_parts.specs.MergedTerms.{AreMerged}
 use Rattle.seg_column_merge_parts.specs.TermHeads.{AreMergedTerms}
 use Rattle.seg_column_merge_parts.specs.UsedTerms.{AreTermsOf, MarkedTerms}
 use Rattle.seg_column_merge_parts.proofs.Exports.{rows_merged}
-use Rattle.seg_column_merge.proofs.PutTerms.{all_put_by_type, column_added}
+use Rattle.seg_column_merge.proofs.TermColumnBytes.{all_put_by_type, column_added}
 use Rattle.seg_column_merge.proofs.RowFiles.{all_have_files, all_have_rows, as_many_numbers}
 use Rattle.seg_column_merge.proofs.term_columns.put_terms.Goals as goal
 

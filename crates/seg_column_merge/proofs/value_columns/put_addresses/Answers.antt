@@ -5,10 +5,10 @@ use Rattle.seg_common.specs.declared.column_type.ColumnType.TheVariants.{IpAddr}
 use Rattle.seg_column_format.specs.ColumnBytes.{column_bytes, total}
 use Rattle.seg_column_merge.specs.MergedBytes.{HasType, RowFits, places_of}
 use Rattle.seg_column_file.specs.RowOrders.{IsRow}
-use Rattle.seg_column_merge_parts.specs.Sources.{IsPut, joined}
+use Rattle.seg_column_merge_parts.specs.SourceRows.{IsPut, joined}
 use Rattle.seg_column_merge_parts.specs.declared.source.Source.{Source}
 use Rattle.seg_column_merge_parts.specs.declared.tables.TableRow.{TableRow}
-use Rattle.seg_column_merge.proofs.PutAddresses.{addresses_added, addresses_put}
+use Rattle.seg_column_merge.proofs.AddressColumnBytes.{addresses_added, addresses_put}
 use Rattle.seg_column_merge.proofs.RowFiles.{all_have_files}
 use Rattle.seg_column_merge.proofs.value_columns.put_addresses.Goals as goal
 

@@ -4,10 +4,10 @@ use Rattle.std.proofs.lemmas.List.Elements.{All-from_recursion, recursion_from_A
 use Rattle.seg_column_format.specs.ColumnBytes.{column_bytes, total}
 use Rattle.seg_column_merge.specs.MergedBytes.{HasType, RowFits, places_of}
 use Rattle.seg_column_file.specs.RowOrders.{IsRow}
-use Rattle.seg_column_merge_parts.specs.Sources.{IsPut, joined}
+use Rattle.seg_column_merge_parts.specs.SourceRows.{IsPut, joined}
 use Rattle.seg_column_merge_parts.specs.declared.source.Source.{Source}
 use Rattle.seg_column_merge_parts.specs.declared.tables.TableRow.{TableRow}
-use Rattle.seg_column_merge.proofs.PutValues.{sources_put, values_added}
+use Rattle.seg_column_merge.proofs.SuitableValues.{sources_put, values_added}
 use Rattle.seg_column_merge.proofs.RowFiles.{all_have_files}
 use Rattle.seg_column_merge.proofs.value_columns.put_values.Goals as goal
 

@@ -4,10 +4,10 @@ use Rattle.std.proofs.lemmas.List.{get_or_default}
 use Rattle.std.proofs.lemmas.List.Elements.{All-head, All-rest}
 use Rattle.seg_column_format.specs.ColumnBytes.{ends_from, number_bytes, total}
 use Rattle.seg_column_file.specs.RowOrders.{Place}
-use Rattle.seg_column_merge_parts.specs.Sources.{IsPut, joined, row_codes}
+use Rattle.seg_column_merge_parts.specs.SourceRows.{IsPut, joined, row_codes}
 use Rattle.seg_column_merge_parts.specs.declared.source.Source.{Source}
 use Rattle.seg_column_merge_parts.specs.declared.source.Source.TheVariants.{Nothing}
-use Rattle.seg_column_merge_parts.proofs.JoinSteps.{end_next, total_next}
+use Rattle.seg_column_merge_parts.proofs.JoinedBytes.{end_next, total_next}
 use Rattle.seg_column_merge_parts.proofs.column_joining.put_ends.Goals as goal
 
 pub loop-file-preserved : goal.loop-file-preserved

@@ -2,7 +2,7 @@ use Rattle.std.proofs.Common.{◌≡◌, ◌<◌, ◌++◌, List, ℕ, get_or, l
 use Rattle.std.specs.Prelude.{OnOk}
 use Rattle.std.proofs.lemmas.List.{append-nil, get_or_default}
 use Rattle.seg_column_file.specs.RowOrders.{rows_from}
-use Rattle.seg_column_merge_parts.specs.Sources.{CanPut, first_rows, joined}
+use Rattle.seg_column_merge_parts.specs.SourceRows.{CanPut, first_rows, joined}
 use Rattle.seg_column_merge_parts.specs.declared.source.Source.{Source}
 use Rattle.seg_column_merge_parts.specs.declared.source.Source.TheVariants.{Nothing}
 use Rattle.seg_column_merge_parts.proofs.FirstRows.{file_rows, row_bytes}

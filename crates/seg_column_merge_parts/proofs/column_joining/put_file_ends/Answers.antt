@@ -1,7 +1,7 @@
 use Rattle.std.proofs.Common.{◌≡◌, ◌<◌, List, ℕ, get_or, length, sym, ap, subst, ◌∙◌, arith}
 use Rattle.std.specs.Prelude.{IfOk}
 use Rattle.std.proofs.lemmas.List.{get_or_default}
-use Rattle.seg_column_merge_parts.specs.Sources.{AddsEnds, CanPut, first_rows, joined}
+use Rattle.seg_column_merge_parts.specs.SourceRows.{AddsEnds, CanPut, first_rows, joined}
 use Rattle.seg_column_merge_parts.specs.declared.source.Source.{Source}
 use Rattle.seg_column_merge_parts.specs.declared.source.Source.TheVariants.{Nothing}
 use Rattle.seg_column_file.specs.RowOrders.{rows_from}

@@ -4,8 +4,8 @@ use Rattle.std.proofs.lemmas.Result.{on_ok_weaker}
 use Rattle.seg_common.proofs.Results.{at_ok}
 use Rattle.seg_column_format.specs.ColumnBytes.{column_bytes, ends_from, number_bytes}
 use Rattle.seg_column_file.specs.RowOrders.{Place, rows_in_order}
-use Rattle.seg_column_merge_parts.specs.Sources.{joined}
-use Rattle.seg_column_merge_parts.proofs.JoinSteps.{both_parts}
+use Rattle.seg_column_merge_parts.specs.SourceRows.{joined}
+use Rattle.seg_column_merge_parts.proofs.JoinedBytes.{both_parts}
 use Rattle.seg_column_merge_parts.proofs.column_joining.put_joined.Goals as goal
 
 pub returns : goal.returns

@@ -3,7 +3,7 @@ use Rattle.std.specs.Prelude.{All, OnOk}
 use Rattle.seg_column_format.specs.ColumnBytes.{ends_from, number_bytes, total}
 use Rattle.seg_column_file.specs.RowOrders.{Place, rows_in_order}
 use Rattle.seg_column_file.specs.declared.row_order.MergeRowOrder.{MergeRowOrder}
-use Rattle.seg_column_merge_parts.specs.Sources.{IsPut, joined}
+use Rattle.seg_column_merge_parts.specs.SourceRows.{IsPut, joined}
 use Rattle.seg_column_merge_parts.proofs.column_joining.put_row_ends.Goals as goal
 
 pub put_stacked_ends-requires : goal.put_stacked_ends-requires

@@ -4,10 +4,10 @@ use Rattle.std.specs.List.{flat_map}
 use Rattle.std.proofs.lemmas.List.{get_or_default}
 use Rattle.std.proofs.lemmas.List.Elements.{All-head, All-rest}
 use Rattle.seg_column_file.specs.RowOrders.{Place}
-use Rattle.seg_column_merge_parts.specs.Sources.{IsPut, joined, row_codes}
+use Rattle.seg_column_merge_parts.specs.SourceRows.{IsPut, joined, row_codes}
 use Rattle.seg_column_merge_parts.specs.declared.source.Source.{Source}
 use Rattle.seg_column_merge_parts.specs.declared.source.Source.TheVariants.{Nothing}
-use Rattle.seg_column_merge_parts.proofs.JoinSteps.{put_next}
+use Rattle.seg_column_merge_parts.proofs.JoinedBytes.{put_next}
 use Rattle.seg_column_merge_parts.proofs.column_joining.put_rows.Goals as goal
 
 abbrev bytes_of : List (List ℕ) → List ℕ

@@ -1,7 +1,7 @@
 use Rattle.std.proofs.Common.{◌≡◌, ◌++◌}
 use Rattle.std.specs.Prelude.{All}
 use Rattle.std.specs.List.{flat_map}
-use Rattle.seg_column_merge_parts.specs.Sources.{IsPut, joined}
+use Rattle.seg_column_merge_parts.specs.SourceRows.{IsPut, joined}
 use Rattle.seg_column_merge_parts.proofs.column_joining.put_rows.Given as goal
 
 abbrev pub invariant-loop-file : goal.invariant-loop-file

@@ -1,6 +1,6 @@
 use Rattle.std.proofs.Common.{◌<◌, ◌++◌, length, arith}
 use Rattle.seg_column_file.specs.RowOrders.{stacked}
-use Rattle.seg_column_merge_parts.specs.Sources.{joined}
+use Rattle.seg_column_merge_parts.specs.SourceRows.{joined}
 use Rattle.seg_column_merge_parts.proofs.FirstRows.{left_files, no_more_files, one_more_file, puts_file, row_bytes}
 use Rattle.seg_column_merge_parts.proofs.column_joining.put_stacked.Goals as goal
 

@@ -1,7 +1,7 @@
 use Rattle.std.proofs.Common.{◌≡◌, ◌++◌, drop}
 use Rattle.std.specs.Prelude.{All}
 use Rattle.seg_column_file.specs.RowOrders.{stacked}
-use Rattle.seg_column_merge_parts.specs.Sources.{IsPut, joined}
+use Rattle.seg_column_merge_parts.specs.SourceRows.{IsPut, joined}
 use Rattle.seg_column_merge_parts.proofs.FirstRows.{row_bytes}
 use Rattle.seg_column_merge_parts.proofs.column_joining.put_stacked.Given as goal
 

@@ -1,7 +1,7 @@
 use Rattle.std.proofs.Common.{◌<◌, ◌≤◌, ◌^◌, ◌++◌, ℕ, length, subst, arith}
 use Rattle.seg_column_format.specs.ColumnBytes.{ends_from, number_bytes, total}
 use Rattle.seg_column_file.specs.RowOrders.{stacked}
-use Rattle.seg_column_merge_parts.specs.Sources.{joined}
+use Rattle.seg_column_merge_parts.specs.SourceRows.{joined}
 use Rattle.seg_column_merge_parts.proofs.FirstRows.{left_files, puts_file}
 use Rattle.seg_column_merge_parts.proofs.RowEnds.{all_counted, all_ends, ends_of_file, total_of_file}
 use Rattle.seg_column_merge_parts.proofs.column_joining.put_stacked_ends.Goals as goal

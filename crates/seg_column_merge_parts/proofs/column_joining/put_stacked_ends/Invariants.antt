@@ -2,7 +2,7 @@ use Rattle.std.proofs.Common.{◌≡◌, ◌+◌, ◌<◌, ◌^◌, ◌++◌, dr
 use Rattle.std.specs.Prelude.{All}
 use Rattle.seg_column_format.specs.ColumnBytes.{ends_from, number_bytes, total}
 use Rattle.seg_column_file.specs.RowOrders.{stacked}
-use Rattle.seg_column_merge_parts.specs.Sources.{IsPut, joined}
+use Rattle.seg_column_merge_parts.specs.SourceRows.{IsPut, joined}
 use Rattle.seg_column_merge_parts.proofs.column_joining.put_stacked_ends.Given as goal
 
 abbrev pub invariant-loop-file : goal.invariant-loop-file

@@ -1,7 +1,7 @@
 use Rattle.std.proofs.Common.{◌≡◌, ◌++◌, List, sym, subst}
 use Rattle.std.specs.Prelude.{All, OnOk}
 use Rattle.seg_column_file.specs.RowOrders.{Place, rows_in_order}
-use Rattle.seg_column_merge_parts.specs.Sources.{IsPut, joined}
+use Rattle.seg_column_merge_parts.specs.SourceRows.{IsPut, joined}
 use Rattle.seg_column_file.specs.declared.row_order.MergeRowOrder.{MergeRowOrder}
 use Rattle.seg_column_merge_parts.proofs.FirstRows.{row_bytes}
 use Rattle.seg_column_merge_parts.proofs.column_joining.put_values.Goals as goal

@@ -2,7 +2,7 @@ use Rattle.std.proofs.Common.{◌<◌, ◌≤◌, [], Bool, false, ◌||◌, ◌
 use Rattle.std.specs.List.{list_any}
 use Rattle.seg_column_merge_parts.specs.KeptColumns.{there}
 use Rattle.seg_column_file.specs.KeptRows.{kept_values}
-use Rattle.seg_column_merge_parts.proofs.KeptSteps.{last_kept, there_from}
+use Rattle.seg_column_merge_parts.proofs.KeptRowValues.{last_kept, there_from}
 use Rattle.seg_column_merge_parts.proofs.kept_values.has_value.Goals as goal
 
 pub loop-row-preserved : goal.loop-row-preserved

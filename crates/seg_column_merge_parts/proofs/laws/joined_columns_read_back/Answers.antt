@@ -1,5 +1,5 @@
 use Rattle.std.proofs.Common.{ℕ, true}
-use Rattle.seg_common.specs.Mappable.{lowered}
+use Rattle.seg_common.specs.MappableValues.{lowered}
 use Rattle.seg_column_merge_parts.specs.JoinedNumbers.{joined_numbers}
 use Rattle.seg_column_merge_parts.proofs.JoinedRows.{joined_column, joined_rows, plain_numbers}
 use Rattle.seg_column_merge_parts.proofs.laws.joined_columns_read_back.Goals as goal

@@ -1,4 +1,4 @@
-use Rattle.seg_column_merge_parts.proofs.KeptAny.{any_kept}
+use Rattle.seg_column_merge_parts.proofs.KeptValueTests.{any_kept}
 use Rattle.seg_column_merge_parts.proofs.laws.kept_values_by_places.Goals as goal
 
 pub returns : goal.returns

@@ -3,7 +3,7 @@ use Rattle.std.proofs.lemmas.List.{append-nil}
 use Rattle.seg_columns.specs.Ends.{start_at}
 use Rattle.seg_column_format.specs.ColumnBytes.{number_bytes}
 use Rattle.seg_column_merge_parts.proofs.RowEnds.{ends_behind, first_ends, one_more_end}
-use Rattle.seg_column_merge_parts.proofs.ValueSteps.{no_start}
+use Rattle.seg_column_merge_parts.proofs.RowValueBytes.{no_start}
 use Rattle.seg_column_merge_parts.proofs.row_ends.put_ends_after.Goals as goal
 
 pub returns-then-before-eq0 : goal.returns-then-before-eq0

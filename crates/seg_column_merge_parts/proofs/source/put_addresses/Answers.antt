@@ -1,7 +1,7 @@
 use Rattle.std.proofs.Common.{◌++◌, ap, ◌∙◌}
 use Rattle.std.specs.List.{flat_map}
 use Rattle.std.specs.Net.Addr.{ipv6_octets}
-use Rattle.seg_column_merge_parts.proofs.JoinSteps.{put_next}
+use Rattle.seg_column_merge_parts.proofs.JoinedBytes.{put_next}
 use Rattle.seg_column_merge_parts.proofs.source.put_addresses.Goals as goal
 
 pub loop-address-preserved : goal.loop-address-preserved

@@ -3,8 +3,8 @@ use Rattle.std.specs.Prelude.{All}
 use Rattle.std.specs.List.{flat_map}
 use Rattle.std.specs.Int.{w64, to_le_bytes}
 use Rattle.std.proofs.lemmas.List.Elements.{All-head, All-rest}
-use Rattle.seg_column_merge_parts.specs.Sources.{CanMap, number_code}
-use Rattle.seg_column_merge_parts.proofs.JoinSteps.{put_next}
+use Rattle.seg_column_merge_parts.specs.SourceRows.{CanMap, number_code}
+use Rattle.seg_column_merge_parts.proofs.JoinedBytes.{put_next}
 use Rattle.seg_column_merge_parts.proofs.source.put_numbers.Goals as goal
 
 pub of-requires : goal.of-requires

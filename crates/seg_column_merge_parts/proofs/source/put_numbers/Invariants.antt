@@ -1,7 +1,7 @@
 use Rattle.std.proofs.Common.{◌≡◌, ◌++◌}
 use Rattle.std.specs.Prelude.{All}
 use Rattle.std.specs.List.{flat_map}
-use Rattle.seg_column_merge_parts.specs.Sources.{CanMap, number_code}
+use Rattle.seg_column_merge_parts.specs.SourceRows.{CanMap, number_code}
 use Rattle.seg_column_merge_parts.proofs.source.put_numbers.Given as goal
 
 abbrev pub invariant-loop-number : goal.invariant-loop-number

@@ -1,6 +1,6 @@
 use Rattle.std.proofs.Common.{sym, subst}
 use Rattle.std.specs.Prelude.{IsUtf8}
-use Rattle.seg_column_merge_parts.proofs.TableSteps.{pushed_utf8}
+use Rattle.seg_column_merge_parts.proofs.TableRows.{pushed_utf8}
 use Rattle.seg_column_merge_parts.proofs.tables.push_column.Goals as goal
 
 pub returns-clause-utf8 : goal.returns-clause-utf8

@@ -5,7 +5,7 @@ use Rattle.std.specs.Net.Addr.{ipv6_octets}
 use Rattle.std.specs.declared.net.ipv6_addr.Ipv6Addr.{Ipv6Addr}
 use Rattle.seg_columns.specs.Addresses.{address}
 use Rattle.seg_columns.specs.Ends.{start_at}
-use Rattle.seg_column_merge_parts.proofs.ValueSteps.{address_again, first_rows, fits}
+use Rattle.seg_column_merge_parts.proofs.RowValueBytes.{address_again, first_rows, fits}
 use Rattle.seg_column_merge_parts.proofs.value_bytes.address_bytes.Goals as goal
 
 pub first_addresses-requires-clause-ends : goal.first_addresses-requires-clause-ends

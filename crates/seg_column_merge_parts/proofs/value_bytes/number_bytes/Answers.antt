@@ -3,8 +3,8 @@ use Rattle.std.specs.Prelude.{slice_range}
 use Rattle.std.specs.Int.{w64, to_le_bytes}
 use Rattle.std.specs.List.{flat_map}
 use Rattle.seg_columns.specs.Ends.{start_at}
-use Rattle.seg_columns.specs.Images.{unsigned}
-use Rattle.seg_column_merge_parts.proofs.ValueSteps.{number_again, first_rows, fits}
+use Rattle.seg_columns.specs.ValueImages.{unsigned}
+use Rattle.seg_column_merge_parts.proofs.RowValueBytes.{number_again, first_rows, fits}
 use Rattle.seg_column_merge_parts.proofs.value_bytes.number_bytes.Goals as goal
 
 pub first_numbers-requires-clause-ends : goal.first_numbers-requires-clause-ends

@@ -1,5 +1,5 @@
 use Rattle.std.proofs.Common.{rules, sym, subst}
-use Rattle.seg_column_writer.specs.Encoded.{IsArranged}
+use Rattle.seg_column_writer.specs.EncodedColumns.{IsArranged}
 use Rattle.seg_column_format.specs.declared.row_number.RowNumber.{RowNumber}
 use Rattle.seg_common.proofs.ByOrder.{sorted_by}
 use Rattle.seg_column_writer.proofs.NumberRanks.{number_cmp_total}

@@ -1,5 +1,5 @@
 use Rattle.std.proofs.Common.{◌≡◌, map, take}
-use Rattle.seg_column_writer.specs.Encoded.{imaged}
+use Rattle.seg_column_writer.specs.EncodedColumns.{imaged}
 use Rattle.seg_column_writer.proofs.column_encoding.images.Given as goal
 
 abbrev pub invariant-loop-value : goal.invariant-loop-value

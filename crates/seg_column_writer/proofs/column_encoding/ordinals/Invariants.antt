@@ -1,5 +1,5 @@
 use Rattle.std.proofs.Common.{◌≡◌, map, take}
-use Rattle.seg_column_writer.specs.Encoded.{ranked}
+use Rattle.seg_column_writer.specs.EncodedColumns.{ranked}
 use Rattle.seg_column_writer.proofs.column_encoding.ordinals.Given as goal
 
 abbrev pub invariant-loop-value : goal.invariant-loop-value

@@ -1,5 +1,5 @@
-use Rattle.seg_column_writer.specs.Encoded.{image_of}
-use Rattle.seg_column_writer.proofs.Arranging.{arranged_rise}
+use Rattle.seg_column_writer.specs.EncodedColumns.{image_of}
+use Rattle.seg_column_writer.proofs.ArrangedValues.{arranged_rise}
 use Rattle.seg_column_writer.proofs.column_encoding.put_images.Goals as goal
 
 pub put_numbers-requires : goal.put_numbers-requires

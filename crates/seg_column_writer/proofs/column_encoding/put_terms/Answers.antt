@@ -1,7 +1,7 @@
 use Rattle.std.proofs.Common.{ℕ, List, get_or, map, ap, ◌∙◌}
-use Rattle.seg_column_writer.specs.Encoded.{ranked}
+use Rattle.seg_column_writer.specs.EncodedColumns.{ranked}
 use Rattle.seg_column_writer.specs.declared.row_value.RowValue.{RowValue}
-use Rattle.seg_column_writer.proofs.Arranging.{arranged_rise}
+use Rattle.seg_column_writer.proofs.ArrangedValues.{arranged_rise}
 use Rattle.seg_column_writer.proofs.column_encoding.put_terms.Goals as goal
 
 pub put_ordered_terms-requires : goal.put_ordered_terms-requires

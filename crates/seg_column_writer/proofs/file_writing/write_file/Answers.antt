@@ -1,8 +1,8 @@
 use Rattle.std.proofs.Common.{List, ◌<◌, ◌≤◌, ◌^◌, length, subst, arith}
 use Rattle.std.proofs.lemmas.List.{take_all}
-use Rattle.seg_column_writer.specs.Filed.{AreFiled}
+use Rattle.seg_column_writer.specs.FiledColumns.{AreFiled}
 use Rattle.seg_column_writer.specs.declared.typed_column.TypedColumn.{TypedColumn}
-use Rattle.seg_column_writer.proofs.FileSteps.{filed_file, filed_more}
+use Rattle.seg_column_writer.proofs.FileColumns.{filed_file, filed_more}
 use Rattle.seg_column_writer.proofs.file_writing.write_file.Goals as goal
 
 pub loop-column-preserved : goal.loop-column-preserved

@@ -1,5 +1,5 @@
 use Rattle.std.proofs.Common.{take}
-use Rattle.seg_column_writer.specs.Filed.{AreFiled}
+use Rattle.seg_column_writer.specs.FiledColumns.{AreFiled}
 use Rattle.seg_column_writer.proofs.file_writing.write_file.Given as goal
 
 abbrev pub invariant-loop-column : goal.invariant-loop-column

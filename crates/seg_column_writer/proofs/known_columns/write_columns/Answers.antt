@@ -1,8 +1,8 @@
 use Rattle.std.proofs.Common.{List, map, sym, subst}
 use Rattle.std.proofs.lemmas.Result.{IfOk-weaker}
-use Rattle.seg_column_writer.specs.Typed.{AreTyped, IsFileOf, entry_at}
+use Rattle.seg_column_writer.specs.TypedColumns.{AreTyped, IsFileOf, entry_at}
 use Rattle.seg_column_writer.specs.declared.typed_column.TypedColumn.{TypedColumn}
-use Rattle.seg_column_writer.proofs.Filing.{ready_typed, ready_written}
+use Rattle.seg_column_writer.proofs.OrderedColumns.{ready_typed, ready_written}
 use Rattle.seg_column_writer.proofs.known_columns.write_columns.Goals as goal
 
 pub write_file-requires : goal.write_file-requires

@@ -1,7 +1,7 @@
 use Rattle.std.proofs.Common.{◌≡◌, drop}
 use Rattle.std.specs.Prelude.{◌||◌}
 use Rattle.std.specs.List.{AllByRecursion, list_any}
-use Rattle.seg_column_writer.specs.Recorded.{IsRecorded, lacks_type}
+use Rattle.seg_column_writer.specs.RecordedColumns.{IsRecorded, lacks_type}
 use Rattle.seg_column_writer.proofs.typed_column.lack_types.Given as goal
 
 -- what is seen so far, with what is left, is all

@@ -1,6 +1,6 @@
 use Rattle.std.proofs.Common.{rules}
 use Rattle.seg_model.proofs.Exports.{column_cmp_total}
-use Rattle.seg_column_writer.specs.Typed.{key_at}
+use Rattle.seg_column_writer.specs.TypedColumns.{key_at}
 use Rattle.seg_common.proofs.ByOrder.{sorted_by}
 use Rattle.seg_column_writer.proofs.typed_column.sort_columns.Goals as goal
 

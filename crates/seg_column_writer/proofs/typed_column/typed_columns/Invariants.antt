@@ -1,5 +1,5 @@
 use Rattle.std.proofs.Common.{◌≡◌, ◌++◌, drop}
-use Rattle.seg_column_writer.specs.Typed.{typed_from}
+use Rattle.seg_column_writer.specs.TypedColumns.{typed_from}
 use Rattle.seg_column_writer.proofs.typed_column.typed_columns.Given as goal
 
 -- what there is so far, with what is left, is all

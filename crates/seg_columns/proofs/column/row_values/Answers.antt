@@ -2,7 +2,7 @@ use Rattle.std.proofs.Common.{◌≤◌, ◌*◌, ◌+◌, ◌∙◌, ℕ, List,
 use Rattle.std.specs.Prelude.{IsSome}
 use Rattle.seg_columns.specs.Ends.{start_at}
 use Rattle.seg_columns.specs.Columns.{row_of, value_at, values_between}
-use Rattle.seg_columns.proofs.RowSteps.{within, known}
+use Rattle.seg_columns.proofs.DocumentValues.{within, known}
 use Rattle.seg_columns.proofs.column.row_values.Goals as goal
 
 pub start_at-start-requires : goal.start_at-start-requires

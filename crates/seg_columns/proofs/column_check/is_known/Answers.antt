@@ -1,4 +1,4 @@
-use Rattle.seg_columns.proofs.RowSteps.{at_place, told_some}
+use Rattle.seg_columns.proofs.DocumentValues.{at_place, told_some}
 use Rattle.seg_columns.proofs.column_check.is_known.Goals as goal
 
 pub returns : goal.returns

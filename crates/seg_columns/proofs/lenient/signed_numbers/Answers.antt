@@ -1,5 +1,5 @@
 use Rattle.std.proofs.Common.{true, ◌∙◌}
-use Rattle.seg_common.specs.Mappable.{lowered, raised}
+use Rattle.seg_common.specs.MappableValues.{lowered, raised}
 use Rattle.seg_common.specs.MappableLaws.{raised-lowered}
 use Rattle.seg_columns.proofs.StoredNumbers.{are_numbers, numbers_stand}
 use Rattle.seg_columns.proofs.lenient.signed_numbers.Goals as goal

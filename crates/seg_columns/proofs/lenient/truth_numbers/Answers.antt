@@ -1,5 +1,5 @@
 use Rattle.std.proofs.Common.{◌∙◌}
-use Rattle.seg_common.specs.Mappable.{bit, is_bit, is_one}
+use Rattle.seg_common.specs.MappableValues.{bit, is_bit, is_one}
 use Rattle.seg_columns.proofs.StoredNumbers.{are_numbers, bit-is_one, numbers_stand}
 use Rattle.seg_columns.proofs.lenient.truth_numbers.Goals as goal
 

@@ -1,7 +1,7 @@
 use Rattle.std.proofs.Common.{◌≡◌, ◌+◌, ℕ, List, slice_range, length, ap, ◌∙◌, arith}
 use Rattle.seg_columns.specs.Ends.{start_at}
 use Rattle.seg_columns.specs.Dictionaries.{ends_of, term_at}
-use Rattle.seg_columns.proofs.TermLemmas.{start_within}
+use Rattle.seg_columns.proofs.DictionaryTerms.{start_within}
 use Rattle.seg_columns.proofs.terms.term_at.Goals as goal
 
 pub part-requires-clause-within : goal.part-requires-clause-within

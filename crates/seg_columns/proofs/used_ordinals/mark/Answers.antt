@@ -1,6 +1,6 @@
 use Rattle.std.proofs.Common.{◌≡◌, ◌<◌, ◌∷◌, ◌∙◌, true, length, arith}
 use Rattle.std.proofs.lemmas.List.{length-set}
-use Rattle.seg_columns.proofs.Marking.{left_below, one_marked, with_first}
+use Rattle.seg_columns.proofs.MarkedOrdinals.{left_below, one_marked, with_first}
 use Rattle.seg_columns.proofs.used_ordinals.mark.Goals as goal
 
 pub loop-ord-preserved : goal.loop-ord-preserved

@@ -1,6 +1,6 @@
 use Rattle.std.proofs.Common.{Bool, ap, ◌∙◌, arith}
 use Rattle.std.specs.List.{list_all}
-use Rattle.seg_columns.proofs.Marking.{decided}
+use Rattle.seg_columns.proofs.MarkedOrdinals.{decided}
 use Rattle.seg_columns.proofs.used_ordinals.uses_each.Goals as goal
 
 pub returns : goal.returns

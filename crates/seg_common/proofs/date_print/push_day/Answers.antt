@@ -1,7 +1,7 @@
 use Rattle.std.proofs.Common.{◌≡◌, ◌++◌, ap, sym, subst, ◌∙◌, unsigned_abs, w16, w64, FitsSigned, rules}
 use Rattle.std.proofs.lemmas.Int.{to_z-of_z}
 use Rattle.std.proofs.lemmas.Result.{on_ok_weaker}
-use Rattle.seg_common.specs.Civil.{year_of, month_of, day_of_month}
+use Rattle.seg_common.specs.CivilCalendar.{year_of, month_of, day_of_month}
 use Rattle.seg_common.specs.DateDigits.{digits_text}
 use Rattle.seg_common.proofs.Calendar.{found_is}
 use Rattle.seg_common.proofs.DateParts.{three_parts}

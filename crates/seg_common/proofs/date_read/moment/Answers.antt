@@ -1,7 +1,7 @@
 use Rattle.std.proofs.Common.{arith}
 use Rattle.jiff_core.proofs.SignedLemmas.{signed_arith}
-use Rattle.seg_common.specs.DateReading.{utc_nanos}
-use Rattle.seg_common.proofs.ReadDates.{moment_told, moment_lost}
+use Rattle.seg_common.specs.ParsedDates.{utc_nanos}
+use Rattle.seg_common.proofs.ParsedDates.{moment_told, moment_lost}
 use Rattle.seg_common.proofs.date_read.moment.Goals as goal
 
 pub returns-in-Ok : goal.returns-in-Ok

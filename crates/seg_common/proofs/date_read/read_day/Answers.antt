@@ -2,7 +2,7 @@ use Rattle.std.proofs.Common.{◌<◌, ◌^◌, arith, drop, ◌∙◌, rules, w
 use Rattle.std.proofs.lemmas.Int.{to_z-of_z, to_z_pos}
 use Rattle.std.proofs.lemmas.List.{length-drop, length-take}
 use Rattle.seg_common.proofs.DateNumerals.{bound_at}
-use Rattle.seg_common.proofs.ReadDates.{date_read, no_date_read}
+use Rattle.seg_common.proofs.ParsedDates.{date_read, no_date_read}
 use Rattle.seg_common.proofs.date_read.read_day.Goals as goal
 
 pub returns-in_default-clause-value : goal.returns-in_default-clause-value

@@ -1,6 +1,6 @@
 use Rattle.std.proofs.Common.{◌≡◌, ◌+◌, ◌*◌, ◌-ℤ◌, ◌∙◌, ℤ, pos, neg_ℤ, Some, ap, sym, arith, w64, of_z, to_z}
 use Rattle.std.proofs.lemmas.Int.{ints}
-use Rattle.seg_common.proofs.ReadDates.{west_read}
+use Rattle.seg_common.proofs.ParsedDates.{west_read}
 use Rattle.seg_common.proofs.date_read.read_offset.Goals as goal
 
 pub returns-in-45-clause-value : goal.returns-in-45-clause-value

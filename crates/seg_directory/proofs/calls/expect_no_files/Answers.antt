@@ -1,6 +1,6 @@
 use Rattle.std.proofs.Common.{arith}
-use Rattle.seg_directory.proofs.Doing.{went}
-use Rattle.seg_directory.proofs.WorkSteps.{call_failed, call_lists}
+use Rattle.seg_directory.proofs.StepSequences.{went}
+use Rattle.seg_directory.proofs.SingleSteps.{call_failed, call_lists}
 use Rattle.seg_directory.proofs.calls.expect_no_files.Goals as goal
 
 pub returns-in-Ok-eq0 : goal.returns-in-Ok-eq0

@@ -1,6 +1,6 @@
 use Rattle.std.proofs.Common.{[]}
-use Rattle.seg_directory.proofs.Doing.{went, for_ok}
-use Rattle.seg_directory.proofs.WorkSteps.{call_failed}
+use Rattle.seg_directory.proofs.StepSequences.{went, for_ok}
+use Rattle.seg_directory.proofs.SingleSteps.{call_failed}
 use Rattle.seg_directory.proofs.calls.read_file.Goals as goal
 
 pub returns-in-Ok-clause-does : goal.returns-in-Ok-clause-does

@@ -1,5 +1,5 @@
-use Rattle.seg_directory.proofs.Doing.{went}
-use Rattle.seg_directory.proofs.WorkSteps.{call_failed}
+use Rattle.seg_directory.proofs.StepSequences.{went}
+use Rattle.seg_directory.proofs.SingleSteps.{call_failed}
 use Rattle.seg_directory.proofs.calls.sync_files.Goals as goal
 
 pub returns-in-Ok-clause-does : goal.returns-in-Ok-clause-does

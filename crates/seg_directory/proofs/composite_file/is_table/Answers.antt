@@ -1,5 +1,5 @@
 use Rattle.std.proofs.Common.{sym, ap, ◌∙◌}
-use Rattle.seg_directory.specs.Composite.{are_entries}
+use Rattle.seg_directory.specs.CompositeFiles.{are_entries}
 use Rattle.seg_directory.proofs.CompositeTables.{entries_step, entries-field, entries-end, entries-go}
 use Rattle.seg_directory.proofs.composite_file.is_table.Goals as goal
 

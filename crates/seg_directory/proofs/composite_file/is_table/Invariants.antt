@@ -1,5 +1,5 @@
 use Rattle.std.proofs.Common.{◌≡◌, ◌-◌, ◌*◌, drop}
-use Rattle.seg_directory.specs.Composite.{entries_of, are_entries}
+use Rattle.seg_directory.specs.CompositeFiles.{entries_of, are_entries}
 use Rattle.seg_directory.proofs.composite_file.is_table.Given as goal
 
 abbrev pub invariant-loop-i : goal.invariant-loop-i

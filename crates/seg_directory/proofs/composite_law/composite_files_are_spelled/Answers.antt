@@ -1,5 +1,5 @@
 use Rattle.std.proofs.Common.{arith}
-use Rattle.seg_directory.proofs.CompositeSpelled.{spelled-read, reads_spelled}
+use Rattle.seg_directory.proofs.CompositeBytes.{spelled-read, reads_spelled}
 use Rattle.seg_directory.proofs.composite_law.composite_files_are_spelled.Goals as goal
 
 pub returns : goal.returns

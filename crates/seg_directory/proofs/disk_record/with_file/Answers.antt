@@ -1,7 +1,7 @@
 use Rattle.std.proofs.Common.{ap, ◌∙◌}
 use Rattle.seg_directory.specs.DiskCalls.{disk_after, no_files, with_put}
 use Rattle.seg_directory.specs.declared.disk_call.DiskCall.TheVariants.{Put}
-use Rattle.seg_directory.proofs.Steps.{disk_step}
+use Rattle.seg_directory.proofs.MemorySteps.{disk_step}
 use Rattle.seg_directory.proofs.disk_record.with_file.Goals as goal
 
 pub returns : goal.returns

@@ -1,4 +1,4 @@
-use Rattle.seg_directory.proofs.Images.{untouched_names_stay}
+use Rattle.seg_directory.proofs.PendingImages.{untouched_names_stay}
 use Rattle.seg_directory.proofs.laws.images_of_a_disk.Goals as goal
 
 pub returns-clause-untouched : goal.returns-clause-untouched

@@ -1,5 +1,5 @@
 use Rattle.seg_doc_bytes.specs.StoredDocument as documents
-use Rattle.seg_doc_bytes.proofs.Standing.{turn}
+use Rattle.seg_doc_bytes.proofs.ReadSequences.{turn}
 use Rattle.seg_doc_bytes.proofs.document_check.pass_pairs.Goals as goal
 
 pub loop-preserved : goal.loop-preserved

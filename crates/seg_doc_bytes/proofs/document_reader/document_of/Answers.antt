@@ -1,7 +1,7 @@
 use Rattle.std.proofs.Common.{sym, ◌∙◌, subst}
 use Rattle.seg_values.specs.Tree.{Document}
-use Rattle.seg_doc_bytes.specs.Making.{Makes}
-use Rattle.seg_doc_bytes.specs.Reader as read
+use Rattle.seg_doc_bytes.specs.FrontValues.{Makes}
+use Rattle.seg_doc_bytes.specs.FrontReaders as read
 use Rattle.seg_doc_bytes.specs.StoredDocument as documents
 use Rattle.seg_doc_bytes.proofs.WholeDocuments.{document_lacks, document_whole, document_left_over}
 use Rattle.seg_doc_bytes.proofs.document_reader.document_of.Goals as goal

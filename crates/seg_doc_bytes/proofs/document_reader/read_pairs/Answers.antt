@@ -1,8 +1,8 @@
 use Rattle.std.proofs.Common.{subst}
-use Rattle.seg_values.specs.View.{tree_of}
-use Rattle.seg_doc_bytes.specs.Making.{Makes}
+use Rattle.seg_values.specs.ValueTrees.{tree_of}
+use Rattle.seg_doc_bytes.specs.FrontValues.{Makes}
 use Rattle.seg_doc_bytes.specs.StoredDocument as documents
-use Rattle.seg_doc_bytes.proofs.Gathering.{one_more}
+use Rattle.seg_doc_bytes.proofs.GatheredValues.{one_more}
 use Rattle.seg_doc_bytes.proofs.document_reader.read_pairs.Goals as goal
 
 pub loop-preserved : goal.loop-preserved

@@ -1,7 +1,7 @@
 use Rattle.std.proofs.Common.{◌≡◌, ◌≤◌, ℕ, Bool, true, false, arith}
 use mir.Val.{bool_byte}
 use Rattle.seg_values.specs.Tree.{Tree}
-use Rattle.seg_values.specs.View.{tree_of}
+use Rattle.seg_values.specs.ValueTrees.{tree_of}
 use Rattle.seg_doc_bytes.proofs.StoredPairs.{one_counted}
 use Rattle.seg_doc_bytes.proofs.document_writer.count_stored.Goals as goal
 

@@ -1,5 +1,5 @@
 use Rattle.std.proofs.Common.{◌≡◌, ◌≤◌, ◌+◌, length, drop}
-use Rattle.seg_values.specs.Stored.{stored_document}
+use Rattle.seg_values.specs.StoredDocuments.{stored_document}
 use Rattle.seg_doc_bytes.proofs.document_writer.count_stored.Given as goal
 
 -- what is so far, with what is left, is all

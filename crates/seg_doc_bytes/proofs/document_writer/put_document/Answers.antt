@@ -1,7 +1,7 @@
 use Rattle.std.proofs.Common.{ℕ, ◌∙◌, arith}
 use Rattle.seg_values.specs.Tree.{Tree}
-use Rattle.seg_values.specs.View.{tree_of}
-use Rattle.seg_values.specs.Stored.{stored_document}
+use Rattle.seg_values.specs.ValueTrees.{tree_of}
+use Rattle.seg_values.specs.StoredDocuments.{stored_document}
 use Rattle.seg_doc_bytes.proofs.ReadDocuments.{document_reads}
 use Rattle.seg_doc_bytes.proofs.StoredPairs.{one_pair, one_storable_pair, all_storable}
 use Rattle.seg_doc_bytes.proofs.document_writer.put_document.Goals as goal

@@ -1,8 +1,8 @@
 use Rattle.std.proofs.Common.{◌≡◌, ◌++◌, drop}
 use Rattle.std.specs.List.{flat_map, AllByRecursion}
-use Rattle.seg_values.specs.Stored.{stored_document}
-use Rattle.seg_values.specs.StoredForm.{pair_form}
-use Rattle.seg_doc_bytes.specs.Storable.{IsStoredPair}
+use Rattle.seg_values.specs.StoredDocuments.{stored_document}
+use Rattle.seg_values.specs.StoredBytes.{pair_form}
+use Rattle.seg_doc_bytes.specs.StorableDocuments.{IsStoredPair}
 use Rattle.seg_doc_bytes.proofs.document_writer.put_document.Given as goal
 
 -- what is so far, with what is left, is all

@@ -1,8 +1,8 @@
 use Rattle.std.proofs.Common.{subst}
 use Rattle.seg_tokens.specs.declared.token.Token.{Token}
-use Rattle.seg_doc_bytes.specs.Making.{Makes}
+use Rattle.seg_doc_bytes.specs.FrontValues.{Makes}
 use Rattle.seg_doc_bytes.specs.StoredTree as trees
-use Rattle.seg_doc_bytes.proofs.Gathering.{one_more}
+use Rattle.seg_doc_bytes.proofs.GatheredValues.{one_more}
 use Rattle.seg_doc_bytes.proofs.leaf_reader.read_tokens.Goals as goal
 
 pub loop-preserved : goal.loop-preserved

@@ -1,6 +1,6 @@
 use Rattle.std.proofs.Common.{◌-◌}
 use Rattle.seg_doc_bytes.specs.StoredTree as trees
-use Rattle.seg_doc_bytes.proofs.Gathering.{Gathered}
+use Rattle.seg_doc_bytes.proofs.GatheredValues.{Gathered}
 use Rattle.seg_doc_bytes.proofs.leaf_reader.read_tokens.Given as goal
 
 abbrev pub invariant-loop : goal.invariant-loop

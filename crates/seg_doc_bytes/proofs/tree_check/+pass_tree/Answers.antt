@@ -1,8 +1,8 @@
 use Rattle.std.proofs.Common.{rules, ◌-◌, sym, subst, arith}
-use Rattle.seg_doc_bytes.specs.Passing.{Passes}
+use Rattle.seg_doc_bytes.specs.PassedBytes.{Passes}
 use Rattle.seg_doc_bytes.specs.StoredTree as trees
 use Rattle.seg_doc_bytes.proofs.PassedTrees.{member_passed, no_levels, no_tag, array_passed, object_passed, leaf_passed}
-use Rattle.seg_doc_bytes.proofs.Standing.{turn}
+use Rattle.seg_doc_bytes.proofs.ReadSequences.{turn}
 use Rattle.seg_doc_bytes.proofs.tree_check.+pass_tree.Goals as goal
 
 pub pass_member-returns : goal.pass_member-returns

@@ -1,6 +1,6 @@
 use Rattle.std.proofs.Common.{◌+◌, ◌-◌, ◌*◌}
 use Rattle.seg_doc_bytes.specs.StoredTree as trees
-use Rattle.seg_doc_bytes.proofs.Standing.{Standing}
+use Rattle.seg_doc_bytes.proofs.ReadSequences.{Standing}
 use Rattle.seg_doc_bytes.proofs.tree_check.+pass_tree.Given as goal
 
 -- each call of a tree is of fewer levels

@@ -1,8 +1,8 @@
 use Rattle.std.proofs.Common.{refl, sym, subst}
 use Rattle.std.specs.Int.{w64, cast_signed}
 use Rattle.seg_values.specs.Tree.{null, text, unsigned, signed, boolean, date, facet, byte_string, ip}
-use Rattle.seg_doc_bytes.specs.Passing.{Passed, Passes}
-use Rattle.seg_doc_bytes.specs.Reader as read
+use Rattle.seg_doc_bytes.specs.PassedBytes.{Passed, Passes}
+use Rattle.seg_doc_bytes.specs.FrontReaders as read
 use Rattle.seg_doc_bytes.specs.StoredTree as trees
 use Rattle.seg_doc_bytes.proofs.PassedLeaves.{passed_as}
 use Rattle.seg_doc_bytes.proofs.tree_check.pass_leaf.Goals as goal

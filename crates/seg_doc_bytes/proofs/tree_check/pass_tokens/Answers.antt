@@ -1,5 +1,5 @@
 use Rattle.seg_doc_bytes.specs.StoredTree as trees
-use Rattle.seg_doc_bytes.proofs.Standing.{turn}
+use Rattle.seg_doc_bytes.proofs.ReadSequences.{turn}
 use Rattle.seg_doc_bytes.proofs.tree_check.pass_tokens.Goals as goal
 
 pub loop-preserved : goal.loop-preserved

@@ -1,10 +1,10 @@
 use Rattle.std.proofs.Common.{rules, ◌-◌, subst, arith}
 use Rattle.seg_values.specs.Tree.{leaf, array, object, trees_from, members_from}
-use Rattle.seg_values.specs.View.{tree_of}
-use Rattle.seg_doc_bytes.specs.Making.{Makes}
-use Rattle.seg_doc_bytes.specs.Reader as read
+use Rattle.seg_values.specs.ValueTrees.{tree_of}
+use Rattle.seg_doc_bytes.specs.FrontValues.{Makes}
+use Rattle.seg_doc_bytes.specs.FrontReaders as read
 use Rattle.seg_doc_bytes.specs.StoredTree as trees
-use Rattle.seg_doc_bytes.proofs.Gathering.{one_more}
+use Rattle.seg_doc_bytes.proofs.GatheredValues.{one_more}
 use Rattle.seg_doc_bytes.proofs.MadeTrees.{makes_as, array_front, object_front, leaf_front, member_made}
 use Rattle.seg_doc_bytes.proofs.PassedTrees.{no_levels, no_tag}
 use Rattle.seg_doc_bytes.proofs.tree_reader.+read_tree.Goals as goal

@@ -1,9 +1,9 @@
 use Rattle.std.proofs.Common.{◌≡◌, ◌<◌, ◌++◌, ap, ◌∙◌, arith}
 use Rattle.seg_values.specs.Tree.{levels, array, object, trees_from, members_from}
-use Rattle.seg_values.specs.View.{tree_of}
+use Rattle.seg_values.specs.ValueTrees.{tree_of}
 use Rattle.seg_values.proofs.Exports.{levels-at, member_levels-at}
-use Rattle.seg_values.specs.StoredForm.{sized, tree_form}
-use Rattle.seg_doc_bytes.proofs.PuttingTrees.{one_tree, one_member, one_storable, one_storable_member, array_form, object_form, array_storable, object_storable}
+use Rattle.seg_values.specs.StoredBytes.{sized, tree_form}
+use Rattle.seg_doc_bytes.proofs.TreeBytes.{one_tree, one_member, one_storable, one_storable_member, array_form, object_form, array_storable, object_storable}
 use Rattle.seg_doc_bytes.proofs.tree_writer.+put_tree.Goals as goal
 
 pub put_tree-requires : goal.put_tree-requires

@@ -1,8 +1,8 @@
 use Rattle.std.proofs.Common.{◌≡◌, ◌++◌, drop}
 use Rattle.seg_values.specs.Tree.{levels, trees_from, members_from}
-use Rattle.seg_values.specs.View.{tree_of}
-use Rattle.seg_values.specs.StoredForm.{tree_forms, member_forms}
-use Rattle.seg_doc_bytes.specs.Storable.{AreStorable, AreStorableMembers}
+use Rattle.seg_values.specs.ValueTrees.{tree_of}
+use Rattle.seg_values.specs.StoredBytes.{tree_forms, member_forms}
+use Rattle.seg_doc_bytes.specs.StorableDocuments.{AreStorable, AreStorableMembers}
 use Rattle.seg_doc_bytes.proofs.tree_writer.+put_tree.Given as goal
 
 abbrev pub decreases-put_tree : goal.decreases-put_tree

@@ -1,7 +1,7 @@
 use Rattle.std.proofs.Common.{◌≡◌, ◌++◌, drop}
 use Rattle.std.specs.List.{flat_map}
-use Rattle.seg_values.specs.StoredForm.{token_form}
-use Rattle.seg_doc_bytes.specs.Storable.{AreTokens}
+use Rattle.seg_values.specs.StoredBytes.{token_form}
+use Rattle.seg_doc_bytes.specs.StorableDocuments.{AreTokens}
 use Rattle.seg_doc_bytes.proofs.tree_writer.put_pre_tokenized.Given as goal
 
 -- what is so far, with what is left, is all

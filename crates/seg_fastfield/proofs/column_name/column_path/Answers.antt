@@ -2,7 +2,7 @@ use Rattle.std.proofs.Common.{rules, ◌≡◌, ◌≢◌, true, false, ◌++◌
 use Rattle.seg_common.specs.JsonPaths.{joined_path}
 use Rattle.seg_values.specs.JsonPathTexts.{path_keys}
 use Rattle.seg_model.specs.Fields.{is_json}
-use Rattle.seg_fastfield.proofs.NameLaws.{path_below, no_path}
+use Rattle.seg_fastfield.proofs.JsonColumnPaths.{path_below, no_path}
 use Rattle.seg_fastfield.proofs.column_name.column_path.Goals as goal
 
 pub returns-then-not-is_json : goal.returns-then-not-is_json

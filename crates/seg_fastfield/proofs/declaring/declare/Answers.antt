@@ -1,9 +1,9 @@
 use Rattle.std.proofs.Common.{◌≡◌, List, ℕ, false, subst, sym, ◌∙◌}
 use Rattle.std.specs.Prelude.{All, Some}
-use Rattle.seg_column_writer.specs.Kinds.{kind_of}
-use Rattle.seg_column_writer.specs.Records.{Accepts}
+use Rattle.seg_column_writer.specs.ValueKinds.{kind_of}
+use Rattle.seg_column_writer.specs.ColumnRecords.{Accepts}
 use Rattle.seg_column_writer.proofs.Exports.{may_change_new}
-use Rattle.seg_fastfield.proofs.Turns.{declared_result, is_taken, not_there}
+use Rattle.seg_fastfield.proofs.LoopTurns.{declared_result, is_taken, not_there}
 use Rattle.seg_fastfield.proofs.declaring.declare.Goals as goal
 
 pub record_column_type-requires : goal.record_column_type-requires

@@ -1,5 +1,5 @@
 use Rattle.std.proofs.Common.{◌∙◌}
-use Rattle.seg_fastfield.proofs.Turns.{columns_turn, distinct_turn, new_turn}
+use Rattle.seg_fastfield.proofs.LoopTurns.{columns_turn, distinct_turn, new_turn}
 use Rattle.seg_fastfield.proofs.declaring.declared_columns.Goals as goal
 
 pub loop-entry-preserved : goal.loop-entry-preserved

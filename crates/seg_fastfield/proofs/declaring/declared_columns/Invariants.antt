@@ -1,8 +1,8 @@
 use Rattle.std.proofs.Common.{◌≡◌, ◌++◌, true, drop}
-use Rattle.seg_values.specs.Distinct.{all_distinct}
+use Rattle.seg_values.specs.DistinctLists.{all_distinct}
 use Rattle.seg_values.specs.SchemaRules.{same_name}
-use Rattle.seg_fastfield.specs.FirstColumns.{first_columns}
-use Rattle.seg_fastfield.proofs.Turns.{AreNew}
+use Rattle.seg_fastfield.specs.DeclaredColumns.{first_columns}
+use Rattle.seg_fastfield.proofs.LoopTurns.{AreNew}
 use Rattle.seg_fastfield.proofs.declaring.declared_columns.Given as goal
 
 -- the columns so far, with those of the fields that are left, are all

@@ -1,5 +1,5 @@
 use Rattle.std.proofs.Common.{sym, ◌∙◌}
-use Rattle.seg_fastfield.proofs.Placing.{found_column}
+use Rattle.seg_fastfield.proofs.ColumnIds.{found_column}
 use Rattle.seg_fastfield.proofs.declaring.field_column.Goals as goal
 
 pub returns-clause-same : goal.returns-clause-same

@@ -1,8 +1,8 @@
 use Rattle.std.proofs.Common.{sym, subst, ◌∙◌, List, arith}
 use Rattle.std.proofs.lemmas.List.{take_all}
-use Rattle.seg_column_writer.specs.Records.{ColumnRecord}
+use Rattle.seg_column_writer.specs.ColumnRecords.{ColumnRecord}
 use Rattle.seg_fastfield.specs.FieldColumns.{AreFieldColumns, IsFieldColumn, IsThere}
-use Rattle.seg_fastfield.proofs.Placing.{all_there, ids_turn}
+use Rattle.seg_fastfield.proofs.ColumnIds.{all_there, ids_turn}
 use Rattle.seg_fastfield.proofs.declaring.field_columns.Goals as goal
 
 pub field_column-requires : goal.field_column-requires

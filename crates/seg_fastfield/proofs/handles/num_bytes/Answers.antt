@@ -2,8 +2,8 @@ use Rattle.std.proofs.Common.{ℕ, ◌+◌, ◌-◌, ◌^◌, drop, min, sum_by,
 use Rattle.std.proofs.lemmas.List.{drop_all}
 use Rattle.std.proofs.lemmas.List.Sums.{sum_by-drop_more}
 use Rattle.seg_columns.specs.DynamicColumns.{StoredColumn}
-use Rattle.seg_fastfield.specs.Reading.{bytes_in}
-use Rattle.seg_fastfield.proofs.Sizes.{done, more}
+use Rattle.seg_fastfield.specs.OpenFastFields.{bytes_in}
+use Rattle.seg_fastfield.proofs.ColumnSizes.{done, more}
 use Rattle.seg_fastfield.proofs.handles.num_bytes.Goals as goal
 
 abbrev size : StoredColumn → ℕ

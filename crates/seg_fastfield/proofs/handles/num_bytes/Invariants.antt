@@ -1,5 +1,5 @@
 use Rattle.std.proofs.Common.{◌≡◌, ◌+◌, ◌<◌, ◌^◌, ◌-◌, drop, min, sum_by}
-use Rattle.seg_fastfield.specs.Reading.{bytes_in}
+use Rattle.seg_fastfield.specs.OpenFastFields.{bytes_in}
 use Rattle.seg_fastfield.proofs.handles.num_bytes.Given as goal
 
 -- the bytes so far, with those of the columns that are left, are all

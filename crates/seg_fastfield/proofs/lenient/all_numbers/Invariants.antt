@@ -1,5 +1,5 @@
 use Rattle.std.proofs.Common.{◌≡◌, ◌++◌, drop, filter_map}
-use Rattle.seg_fastfield.specs.Reading.{lenient}
+use Rattle.seg_fastfield.specs.OpenFastFields.{lenient}
 use Rattle.seg_fastfield.proofs.lenient.all_numbers.Given as goal
 
 -- those so far, with those of the columns that are left, are all

@@ -1,7 +1,7 @@
 use Rattle.std.specs.Net.Addr.{ipv6_octets}
 use Rattle.seg_model.specs.Columns.{ip_value}
 use Rattle.seg_column_writer.specs.declared.value_kind.ValueKind.TheVariants.{IpAddr}
-use Rattle.seg_fastfield.proofs.Numbering.{known_found, recorded_found, refused_found, takes_found}
+use Rattle.seg_fastfield.proofs.PathNumbers.{known_found, recorded_found, refused_found, takes_found}
 use Rattle.seg_fastfield.proofs.placed_recording.put_address.Goals as goal
 
 pub record_ip_addr_in-requires : goal.record_ip_addr_in-requires

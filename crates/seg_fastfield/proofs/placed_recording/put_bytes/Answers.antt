@@ -1,6 +1,6 @@
 use Rattle.seg_model.specs.Columns.{bytes_value}
 use Rattle.seg_column_writer.specs.declared.value_kind.ValueKind.TheVariants.{Bytes}
-use Rattle.seg_fastfield.proofs.Numbering.{known_found, recorded_found, refused_found, takes_found}
+use Rattle.seg_fastfield.proofs.PathNumbers.{known_found, recorded_found, refused_found, takes_found}
 use Rattle.seg_fastfield.proofs.placed_recording.put_bytes.Goals as goal
 
 pub record_bytes_in-requires : goal.record_bytes_in-requires

@@ -1,7 +1,7 @@
 use Rattle.seg_column_writer.specs.RowValues.{number_in}
 use Rattle.seg_model.specs.Columns.{number}
 use Rattle.seg_column_writer.specs.declared.value_kind.ValueKind.TheVariants.{Number}
-use Rattle.seg_fastfield.proofs.Numbering.{known_found, recorded_found, refused_found, takes_found}
+use Rattle.seg_fastfield.proofs.PathNumbers.{known_found, recorded_found, refused_found, takes_found}
 use Rattle.seg_fastfield.proofs.placed_recording.put_number.Goals as goal
 
 pub record_numerical_in-requires : goal.record_numerical_in-requires

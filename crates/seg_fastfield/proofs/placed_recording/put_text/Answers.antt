@@ -1,6 +1,6 @@
 use Rattle.seg_model.specs.Columns.{text_value}
 use Rattle.seg_column_writer.specs.declared.value_kind.ValueKind.TheVariants.{Str}
-use Rattle.seg_fastfield.proofs.Numbering.{known_found, recorded_found, refused_found, takes_found}
+use Rattle.seg_fastfield.proofs.PathNumbers.{known_found, recorded_found, refused_found, takes_found}
 use Rattle.seg_fastfield.proofs.placed_recording.put_text.Goals as goal
 
 pub record_str_in-requires : goal.record_str_in-requires

@@ -1,5 +1,5 @@
 use Rattle.std.proofs.Common.{◌≡◌, drop}
-use Rattle.seg_fastfield.specs.Reading.{str_column, first_of}
+use Rattle.seg_fastfield.specs.OpenFastFields.{str_column, first_of}
 use Rattle.seg_fastfield.proofs.typed.first_texts.Given as goal
 
 -- the first one is among those that are left

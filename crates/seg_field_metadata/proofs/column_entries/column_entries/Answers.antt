@@ -1,7 +1,7 @@
 use Rattle.seg_column_file.specs.ColumnFiles.{NamedColumn}
 use Rattle.std.proofs.Common.{map}
-use Rattle.seg_field_metadata.specs.Known.{entry_of}
-use Rattle.seg_field_metadata.proofs.ColumnTurn.{column_turn, columns_end}
+use Rattle.seg_field_metadata.specs.MetadataEntries.{entry_of}
+use Rattle.seg_field_metadata.proofs.ColumnTurns.{column_turn, columns_end}
 use Rattle.seg_field_metadata.proofs.column_entries.column_entries.Goals as goal
 
 pub loop-path-preserved-in_ok-add_column : goal.loop-path-preserved-in_ok-add_column

@@ -1,7 +1,7 @@
 use Rattle.std.proofs.Common.{◌++◌, List, map}
-use Rattle.seg_field_metadata.specs.Known.{Entry, entry_of}
-use Rattle.seg_field_metadata.specs.Columns.{ColumnsSay}
-use Rattle.seg_field_metadata.specs.Listed.{EscapedName, HasNames}
+use Rattle.seg_field_metadata.specs.MetadataEntries.{Entry, entry_of}
+use Rattle.seg_field_metadata.specs.ColumnMetadata.{ColumnsSay}
+use Rattle.seg_field_metadata.specs.ListedNames.{EscapedName, HasNames}
 use Rattle.seg_field_metadata.proofs.column_entries.column_entries.Given as goal
 
 -- what was added, with what those that are left say, is what all say

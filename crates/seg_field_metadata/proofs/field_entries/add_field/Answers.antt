@@ -1,10 +1,10 @@
 use Rattle.std.proofs.Common.{rules, ◌≡◌, ◌++◌, [], ◌∷◌, false, map, string_bytes, ◌∙◌}
 use Rattle.seg_common.proofs.Results.{when_ok}
 use Rattle.seg_model.specs.Fields.{is_json}
-use Rattle.seg_postings.specs.FieldReading.{dictionary_terms}
-use Rattle.seg_field_metadata.specs.Known.{entry_of}
-use Rattle.seg_field_metadata.specs.Indexed.{indexed_entry}
-use Rattle.seg_field_metadata.proofs.FieldAdds.{whole_adds}
+use Rattle.seg_postings.specs.OpenedFields.{dictionary_terms}
+use Rattle.seg_field_metadata.specs.MetadataEntries.{entry_of}
+use Rattle.seg_field_metadata.specs.IndexedFieldMetadata.{indexed_entry}
+use Rattle.seg_field_metadata.proofs.FieldAdditions.{whole_adds}
 use Rattle.seg_field_metadata.proofs.field_entries.add_field.Goals as goal
 
 pub returns : goal.returns

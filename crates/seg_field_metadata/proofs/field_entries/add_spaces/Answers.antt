@@ -1,12 +1,12 @@
 use Rattle.std.proofs.Common.{◌≤◌, ◌++◌, ◌∙◌, List, length, map, sym, ap, subst, arith}
 use Rattle.std.proofs.lemmas.List.{take_all}
 use Rattle.std.specs.List.{flat_map}
-use Rattle.seg_postings.specs.FieldReading.{dictionary_terms}
+use Rattle.seg_postings.specs.OpenedFields.{dictionary_terms}
 use Rattle.seg_postings.specs.declared.field_space.InvertedIndexFieldSpace.{InvertedIndexFieldSpace}
-use Rattle.seg_field_metadata.specs.Known.{entry_of}
-use Rattle.seg_field_metadata.specs.Indexed.{space_entry}
-use Rattle.seg_field_metadata.specs.Listed.{EscapedName, HasNames}
-use Rattle.seg_field_metadata.proofs.FieldAdds.{entries_more, names_more, names_of, spaces_add}
+use Rattle.seg_field_metadata.specs.MetadataEntries.{entry_of}
+use Rattle.seg_field_metadata.specs.IndexedFieldMetadata.{space_entry}
+use Rattle.seg_field_metadata.specs.ListedNames.{EscapedName, HasNames}
+use Rattle.seg_field_metadata.proofs.FieldAdditions.{entries_more, names_more, names_of, spaces_add}
 use Rattle.seg_field_metadata.proofs.Spaces.{within}
 use Rattle.seg_field_metadata.proofs.field_entries.add_spaces.Goals as goal
 

@@ -1,11 +1,11 @@
 use Rattle.std.proofs.Common.{◌≡◌, ◌++◌, List, length, map, take}
 use Rattle.std.specs.List.{flat_map}
-use Rattle.seg_postings.specs.FieldReading.{dictionary_terms}
+use Rattle.seg_postings.specs.OpenedFields.{dictionary_terms}
 use Rattle.seg_postings.specs.JsonSpaces.{AreSpaces}
-use Rattle.seg_field_metadata.specs.Known.{entry_of}
-use Rattle.seg_field_metadata.specs.Indexed.{space_entry}
-use Rattle.seg_field_metadata.specs.Listed.{EscapedName, HasNames}
-use Rattle.seg_field_metadata.proofs.FieldAdds.{names_of}
+use Rattle.seg_field_metadata.specs.MetadataEntries.{entry_of}
+use Rattle.seg_field_metadata.specs.IndexedFieldMetadata.{space_entry}
+use Rattle.seg_field_metadata.specs.ListedNames.{EscapedName, HasNames}
+use Rattle.seg_field_metadata.proofs.FieldAdditions.{names_of}
 use Rattle.seg_field_metadata.proofs.field_entries.add_spaces.Given as goal
 
 -- those of the spaces so far are added

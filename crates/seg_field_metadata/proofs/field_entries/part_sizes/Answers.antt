@@ -2,9 +2,9 @@ use Rattle.std.proofs.Common.{◌≡◌, ℕ, ◌+◌, ◌-◌, ◌∙◌, true,
 use Rattle.std.specs.Prelude.{nat_lt}
 use Rattle.std.specs.List.{sum_by}
 use Rattle.seg_common.specs.declared.term_info.TermInfo.{TermInfo}
-use Rattle.seg_postings.specs.FieldReading.{dictionary_terms}
+use Rattle.seg_postings.specs.OpenedFields.{dictionary_terms}
 use Rattle.seg_termdict.specs.Dictionary.{Term}
-use Rattle.seg_field_metadata.specs.Indexed.{in_64_bits}
+use Rattle.seg_field_metadata.specs.IndexedFieldMetadata.{in_64_bits}
 use Rattle.seg_field_metadata.proofs.PartSums.{at_end, from_zero, key_more, range_more, still_of}
 use Rattle.seg_field_metadata.proofs.field_entries.part_sizes.Goals as goal
 

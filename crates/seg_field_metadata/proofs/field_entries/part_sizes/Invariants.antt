@@ -1,9 +1,9 @@
 use Rattle.std.proofs.Common.{◌≡◌, ◌+◌, ◌-◌, take, length}
 use Rattle.std.specs.List.{sum_by}
 use Rattle.seg_termdict.specs.Dictionary.{Term}
-use Rattle.seg_termdict.specs.Streaming.{ranked_terms}
-use Rattle.seg_postings.specs.FieldReading.{dictionary_terms}
-use Rattle.seg_field_metadata.specs.Indexed.{in_64_bits}
+use Rattle.seg_termdict.specs.TermStreams.{ranked_terms}
+use Rattle.seg_postings.specs.OpenedFields.{dictionary_terms}
+use Rattle.seg_field_metadata.specs.IndexedFieldMetadata.{in_64_bits}
 use Rattle.seg_field_metadata.proofs.field_entries.part_sizes.Given as goal
 
 -- the sizes are those of the terms so far

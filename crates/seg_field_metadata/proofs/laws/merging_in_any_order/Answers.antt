@@ -1,5 +1,5 @@
-use Rattle.seg_field_metadata.proofs.Counting.{alike_lists, merged_same}
-use Rattle.seg_field_metadata.specs.Merged.{all_entries}
+use Rattle.seg_field_metadata.proofs.AlikeEntries.{alike_lists, merged_same}
+use Rattle.seg_field_metadata.specs.MergedMetadata.{all_entries}
 use Rattle.seg_field_metadata.proofs.laws.merging_in_any_order.Goals as goal
 
 pub returns : goal.returns

@@ -1,8 +1,8 @@
 use Rattle.std.proofs.Common.{lit<, ◌++◌, [], ◌∷◌, Some, string_bytes, sym, ap, ◌∙◌, append_assoc, rules}
 use Rattle.std.proofs.lemmas.Str.Pattern.{split_parts}
 use Rattle.seg_common.proofs.Results.{when_ok}
-use Rattle.seg_field_metadata.specs.Listed.{dotted_path, escaped_path}
-use Rattle.seg_field_metadata.proofs.Escaping.{escaped_cut, escaped_last}
+use Rattle.seg_field_metadata.specs.ListedNames.{dotted_path, escaped_path}
+use Rattle.seg_field_metadata.proofs.EscapedPaths.{escaped_cut, escaped_last}
 use Rattle.seg_field_metadata.proofs.listed.push_escaped.Goals as goal
 
 pub loop-part-preserved : goal.loop-part-preserved

@@ -1,7 +1,7 @@
 use Rattle.std.proofs.Common.{◌≡◌, ◌++◌, length, string_bytes}
 use denote.Shadow.{shadow}
 use denote.Text.{Utf8}
-use Rattle.seg_field_metadata.specs.Listed.{escaped_path}
+use Rattle.seg_field_metadata.specs.ListedNames.{escaped_path}
 use Rattle.seg_field_metadata.proofs.listed.push_escaped.Given as goal
 
 -- what was appended, with what is left, is all

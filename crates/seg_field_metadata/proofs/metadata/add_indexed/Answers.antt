@@ -2,10 +2,10 @@ use Rattle.std.proofs.Common.{◌≡◌, ℕ, [], Option, Some, None, map, refl,
 use Rattle.std.specs.Prelude.{IfSome}
 use Rattle.std.specs.List.{slice_get}
 use Rattle.seg_common.proofs.Results.{when_ok}
-use Rattle.seg_postings.specs.FieldReading.{OpenField}
+use Rattle.seg_postings.specs.OpenedFields.{OpenField}
 use Rattle.seg_open.specs.OpenSegment.{contents_of}
-use Rattle.seg_field_metadata.specs.Known.{entry_of}
-use Rattle.seg_field_metadata.specs.Listed.{HasNames}
+use Rattle.seg_field_metadata.specs.MetadataEntries.{entry_of}
+use Rattle.seg_field_metadata.specs.ListedNames.{HasNames}
 use Rattle.seg_field_metadata.proofs.OpenedTerms.{none_open, terms_formed}
 use Rattle.seg_field_metadata.proofs.metadata.add_indexed.Goals as goal
 

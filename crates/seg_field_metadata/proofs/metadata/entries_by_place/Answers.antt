@@ -2,8 +2,8 @@ use Rattle.std.proofs.Common.{◌≡◌, ◌≤◌, ◌∙◌, List, Some, lengt
 use Rattle.std.specs.List.{slice_get}
 use Rattle.std.proofs.lemmas.Option.{slice_get-get_or}
 use Rattle.seg_values.specs.declared.schema.FieldEntry.{FieldEntry}
-use Rattle.seg_field_metadata.specs.Known.{entry_of}
-use Rattle.seg_field_metadata.proofs.FieldTurn.{all_said, none_so_far, place_turn}
+use Rattle.seg_field_metadata.specs.MetadataEntries.{entry_of}
+use Rattle.seg_field_metadata.proofs.FieldTurns.{all_said, none_so_far, place_turn}
 use Rattle.seg_field_metadata.proofs.metadata.entries_by_place.Goals as goal
 
 pub loop-place-init : goal.loop-place-init

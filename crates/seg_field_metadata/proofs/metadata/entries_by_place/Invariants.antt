@@ -1,6 +1,6 @@
 use Rattle.std.proofs.Common.{map}
-use Rattle.seg_field_metadata.specs.Known.{entry_of}
-use Rattle.seg_field_metadata.proofs.FieldTurn.{SoFar}
+use Rattle.seg_field_metadata.specs.MetadataEntries.{entry_of}
+use Rattle.seg_field_metadata.proofs.FieldTurns.{SoFar}
 use Rattle.seg_field_metadata.proofs.metadata.entries_by_place.Given as goal
 
 abbrev pub invariant-loop-place : goal.invariant-loop-place

@@ -3,10 +3,10 @@ use Rattle.std.specs.Prelude.{Vec}
 use Rattle.std.specs.declared.alloc.Global.{Global}
 use Rattle.seg_model.specs.Fields.{Schema}
 use Rattle.seg_column_file.specs.ColumnFiles.{ColumnFile}
-use Rattle.seg_field_metadata.specs.Known.{entry_of}
+use Rattle.seg_field_metadata.specs.MetadataEntries.{entry_of}
 use Rattle.seg_field_metadata.specs.declared.field_metadata.FieldMetadata.{FieldMetadata}
-use Rattle.seg_field_metadata.specs.Columns.{ColumnsSay}
-use Rattle.seg_field_metadata.proofs.FieldTurn.{lists_say}
+use Rattle.seg_field_metadata.specs.ColumnMetadata.{ColumnsSay}
+use Rattle.seg_field_metadata.proofs.FieldTurns.{lists_say}
 use Rattle.seg_field_metadata.proofs.metadata.entry_lists.Goals as goal
 
 pub returns : goal.returns

@@ -1,5 +1,5 @@
-use Rattle.seg_field_metadata.specs.Merged.{all_entries}
-use Rattle.seg_field_metadata.proofs.FieldTurn.{merged_fails, merged_says}
+use Rattle.seg_field_metadata.specs.MergedMetadata.{all_entries}
+use Rattle.seg_field_metadata.proofs.FieldTurns.{merged_fails, merged_says}
 use Rattle.seg_field_metadata.proofs.metadata.fields_metadata.Goals as goal
 
 pub returns-clause-ok : goal.returns-clause-ok

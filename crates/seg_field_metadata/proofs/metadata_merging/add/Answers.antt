@@ -1,11 +1,11 @@
 use Rattle.std.proofs.Common.{rules, ◌≡◌, ◌++◌, ◌∷◌, List, true, map, sym, subst}
 use Rattle.std.specs.Prelude.{IfErr, Option}
-use Rattle.seg_field_metadata.specs.Grouped.{grouped}
-use Rattle.seg_field_metadata.specs.Known.{Entry, entry_of, key_of}
-use Rattle.seg_field_metadata.specs.Merged.{MergeFails, has_key}
+use Rattle.seg_field_metadata.specs.GroupedEntries.{grouped}
+use Rattle.seg_field_metadata.specs.MetadataEntries.{Entry, entry_of, key_of}
+use Rattle.seg_field_metadata.specs.MergedMetadata.{MergeFails, has_key}
 use Rattle.seg_field_metadata.specs.declared.field_metadata.FieldMetadata.{FieldMetadata}
-use Rattle.seg_field_metadata.proofs.AtKeys.{same_keys}
-use Rattle.seg_field_metadata.proofs.Grouping.{overflows}
+use Rattle.seg_field_metadata.proofs.EntriesByKey.{same_keys}
+use Rattle.seg_field_metadata.proofs.GroupedEntries.{overflows}
 use Rattle.seg_field_metadata.proofs.metadata_merging.add.Goals as goal
 
 pub merge_into-requires : goal.merge_into-requires

@@ -1,8 +1,8 @@
 use Rattle.std.proofs.Common.{◌≡◌, List, true, map, subst}
 use Rattle.std.specs.Prelude.{IfErr, IfOk, OnOk}
-use Rattle.seg_field_metadata.specs.Known.{Entry, entry_of}
-use Rattle.seg_field_metadata.specs.Merged.{MergeFails, sizes_fit}
-use Rattle.seg_field_metadata.proofs.Grouping.{sorted_merged}
+use Rattle.seg_field_metadata.specs.MetadataEntries.{Entry, entry_of}
+use Rattle.seg_field_metadata.specs.MergedMetadata.{MergeFails, sizes_fit}
+use Rattle.seg_field_metadata.proofs.GroupedEntries.{sorted_merged}
 use Rattle.seg_field_metadata.proofs.metadata_merging.merge_field_meta_data.Goals as goal
 
 pub returns-clause-ok : goal.returns-clause-ok

@@ -1,7 +1,7 @@
 use Rattle.std.proofs.Common.{rules, ◌≡◌, ◌++◌, ◌∷◌, List, map, ap, sym, subst, ◌∙◌}
-use Rattle.seg_field_metadata.specs.Grouped.{grouped}
-use Rattle.seg_field_metadata.specs.Known.{Entry, entry_of}
-use Rattle.seg_field_metadata.specs.Merged.{MergeFails}
+use Rattle.seg_field_metadata.specs.GroupedEntries.{grouped}
+use Rattle.seg_field_metadata.specs.MetadataEntries.{Entry, entry_of}
+use Rattle.seg_field_metadata.specs.MergedMetadata.{MergeFails}
 use Rattle.seg_field_metadata.proofs.metadata_merging.merge_sorted.Goals as goal
 
 pub returns-in-Err-clause-err : goal.returns-in-Err-clause-err

@@ -1,7 +1,7 @@
 use Rattle.std.proofs.Common.{◌≡◌, ◌++◌, true, map, None}
-use Rattle.seg_field_metadata.specs.Known.{entry_of}
-use Rattle.seg_field_metadata.specs.Grouped.{grouped}
-use Rattle.seg_field_metadata.specs.Merged.{sizes_fit}
+use Rattle.seg_field_metadata.specs.MetadataEntries.{entry_of}
+use Rattle.seg_field_metadata.specs.GroupedEntries.{grouped}
+use Rattle.seg_field_metadata.specs.MergedMetadata.{sizes_fit}
 use Rattle.seg_field_metadata.proofs.metadata_merging.merge_sorted.Given as goal
 
 abbrev pub invariant-loop-next : goal.invariant-loop-next

@@ -1,7 +1,7 @@
 use Rattle.std.proofs.Common.{rules}
-use Rattle.seg_field_metadata.specs.Known.{key_of}
+use Rattle.seg_field_metadata.specs.MetadataEntries.{key_of}
 use Rattle.seg_common.proofs.ByOrder.{sorted_by}
-use Rattle.seg_field_metadata.proofs.Keys.{key_cmp_total}
+use Rattle.seg_field_metadata.proofs.KeyOrder.{key_cmp_total}
 use Rattle.seg_field_metadata.proofs.metadata_merging.sort_by_key.Goals as goal
 
 pub returns-clause-sorted : goal.returns-clause-sorted

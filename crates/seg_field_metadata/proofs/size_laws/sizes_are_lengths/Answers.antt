@@ -1,5 +1,5 @@
-use Rattle.seg_field_metadata.proofs.FilesSaid.{readers_say_files}
-use Rattle.seg_field_metadata.proofs.SaidLengths.{field_says_lengths, paths_make_up, sizes_are}
+use Rattle.seg_field_metadata.proofs.FileLengths.{readers_say_files}
+use Rattle.seg_field_metadata.proofs.FieldLengths.{field_says_lengths, paths_make_up, sizes_are}
 use Rattle.seg_field_metadata.proofs.size_laws.sizes_are_lengths.Goals as goal
 
 pub returns-clause-sizes : goal.returns-clause-sizes

@@ -1,4 +1,4 @@
-use Rattle.seg_generate.proofs.Made.{made}
+use Rattle.seg_generate.proofs.InputParts.{made}
 use Rattle.seg_generate.proofs.input.generated_input.Goals as goal
 
 pub returns : goal.returns

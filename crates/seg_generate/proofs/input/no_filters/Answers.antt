@@ -1,5 +1,5 @@
 use Rattle.std.proofs.Common.{None}
-use Rattle.seg_generate.proofs.Counted.{again}
+use Rattle.seg_generate.proofs.NumberedLists.{again}
 use Rattle.seg_generate.proofs.input.no_filters.Goals as goal
 
 pub loop-batch-preserved : goal.loop-batch-preserved

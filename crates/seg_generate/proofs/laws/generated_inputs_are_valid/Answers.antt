@@ -1,4 +1,4 @@
-use Rattle.seg_generate.proofs.Valid.{generated_valid}
+use Rattle.seg_generate.proofs.ValidInputs.{generated_valid}
 use Rattle.seg_generate.proofs.laws.generated_inputs_are_valid.Goals as goal
 
 pub returns : goal.returns

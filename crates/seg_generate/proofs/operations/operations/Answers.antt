@@ -1,8 +1,8 @@
 use Rattle.std.proofs.Common.{◌≡◌, ◌∙◌, map, arith}
-use Rattle.seg_check.specs.View.{operation_of}
-use Rattle.seg_generate.specs.Generated.{group_operations}
+use Rattle.seg_check.specs.UserOperations.{operation_of}
+use Rattle.seg_generate.specs.GeneratedInput.{group_operations}
 use Rattle.seg_generate.proofs.AllGroups.{all_groups}
-use Rattle.seg_generate.proofs.Counted.{group_more}
+use Rattle.seg_generate.proofs.NumberedLists.{group_more}
 use Rattle.seg_generate.proofs.operations.operations.Goals as goal
 
 pub loop-group-preserved : goal.loop-group-preserved

@@ -1,8 +1,8 @@
 use Rattle.std.proofs.Common.{◌+◌, ◌*◌, map}
 use Rattle.seg_model.specs.Operations.{add}
-use Rattle.seg_check.specs.View.{operation_of}
+use Rattle.seg_check.specs.UserOperations.{operation_of}
 use Rattle.seg_generate.specs.Documents.{document}
-use Rattle.seg_generate.proofs.Counted.{item_more}
+use Rattle.seg_generate.proofs.NumberedLists.{item_more}
 use Rattle.seg_generate.proofs.operations.push_additions.Goals as goal
 
 pub loop-place-preserved : goal.loop-place-preserved

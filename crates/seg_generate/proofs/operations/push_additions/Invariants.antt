@@ -1,7 +1,7 @@
 use Rattle.std.proofs.Common.{◌≡◌, ◌+◌, ◌*◌, ◌++◌, map}
 use Rattle.std.specs.List.{range_with_len}
 use Rattle.seg_model.specs.Operations.{add}
-use Rattle.seg_check.specs.View.{operation_of}
+use Rattle.seg_check.specs.UserOperations.{operation_of}
 use Rattle.seg_generate.specs.Documents.{document}
 use Rattle.seg_generate.proofs.operations.push_additions.Given as goal
 

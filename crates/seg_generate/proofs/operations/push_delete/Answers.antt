@@ -1,6 +1,6 @@
 use Rattle.std.proofs.Common.{◌≡◌, ◌∙◌, ap, rules}
 use Rattle.seg_model.specs.Operations.{TermKey, delete}
-use Rattle.seg_generate.proofs.Pushed.{deletes_as, pushed}
+use Rattle.seg_generate.proofs.PushedOperations.{deletes_as, pushed}
 use Rattle.seg_generate.proofs.operations.push_delete.Goals as goal
 
 pub returns : goal.returns

@@ -1,7 +1,7 @@
 use Rattle.std.proofs.Common.{map}
 use Rattle.std.proofs.lemmas.Result.{on_ok_weaker}
-use Rattle.seg_check.specs.View.{operation_of}
-use Rattle.seg_generate.proofs.Pushed.{grouped}
+use Rattle.seg_check.specs.UserOperations.{operation_of}
+use Rattle.seg_generate.proofs.PushedOperations.{grouped}
 use Rattle.seg_generate.proofs.operations.push_group.Goals as goal
 
 pub returns : goal.returns

@@ -1,20 +1,20 @@
 use Rattle.std.proofs.Common.{◌≡◌, ◌⊎◌, ◌<◌, ◌^◌, ◌∙◌, None, Some, refl, subst}
 use Rattle.std.proofs.lemmas.Option.{MatchOption-from_none}
-use Rattle.seg_meta.specs.Fits.{AreReadBack}
-use Rattle.seg_meta.specs.View.{meta_of}
+use Rattle.seg_meta.specs.MetaBounds.{AreReadBack}
+use Rattle.seg_meta.specs.MetaMeaning.{meta_of}
 use Rattle.seg_values.specs.declared.error.TantivyError.TheVariants.{OutOfMemory}
 use Rattle.seg_model.specs.Input.{Input}
-use Rattle.seg_model.specs.Valid.{input_refusal}
-use Rattle.seg_check.specs.Admitted.{Fits}
+use Rattle.seg_model.specs.ValidInputs.{input_refusal}
+use Rattle.seg_check.specs.AdmittedInputs.{Fits}
 use Rattle.seg_index_build.specs.IndexFiles.{output_id}
-use Rattle.seg_index_build.specs.Turns.{both, goes_on, stops}
+use Rattle.seg_index_build.specs.TwoDirectories.{both, goes_on, stops}
 use Rattle.seg_index_build.proofs.BuildOnDisk.{build_leaves}
-use Rattle.seg_index_build.proofs.Built.{not_begun}
-use Rattle.seg_index_build.proofs.Exits.{exits}
-use Rattle.seg_index_build.proofs.MetasBack.{output_fits}
-use Rattle.seg_index_build.proofs.Stopped.{stopped_fresh, stopped_refused, stopped_untold, stopped_whole}
-use Rattle.seg_index_build.proofs.WholeRefused.{settings_suit}
-use Rattle.seg_index_build.proofs.Written.{builds_both}
+use Rattle.seg_index_build.proofs.BuildOutcomes.{not_begun}
+use Rattle.seg_index_build.proofs.WritingExits.{exits}
+use Rattle.seg_index_build.proofs.MetaRoundTrips.{output_fits}
+use Rattle.seg_index_build.proofs.BuildErrors.{stopped_fresh, stopped_refused, stopped_untold, stopped_whole}
+use Rattle.seg_index_build.proofs.BuildRefusals.{settings_suit}
+use Rattle.seg_index_build.proofs.WrittenIndexes.{builds_both}
 use Rattle.seg_index_build.proofs.building.build_held.Goals as goal
 
 pub returns-in-Err-clause-ends : goal.returns-in-Err-clause-ends

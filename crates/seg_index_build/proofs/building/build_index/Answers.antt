@@ -1,7 +1,7 @@
 use Rattle.std.proofs.lemmas.Option.{MatchOption-from_none}
 use Rattle.seg_check.specs.Inputs.{input_of}
-use Rattle.seg_index_build.specs.Turns.{both}
-use Rattle.seg_index_build.proofs.Built.{first_answer, first_same}
+use Rattle.seg_index_build.specs.TwoDirectories.{both}
+use Rattle.seg_index_build.proofs.BuildOutcomes.{first_answer, first_same}
 use Rattle.seg_index_build.proofs.TakenParts.{holds_taken}
 use Rattle.seg_index_build.proofs.building.build_index.Goals as goal
 

@@ -1,8 +1,8 @@
 use Rattle.std.proofs.Common.{rules, ◌≡◌, sym, subst}
-use Rattle.seg_meta.specs.Fits.{AreReadBack}
-use Rattle.seg_meta.specs.View.{settings_of}
+use Rattle.seg_meta.specs.MetaBounds.{AreReadBack}
+use Rattle.seg_meta.specs.MetaMeaning.{settings_of}
 use Rattle.seg_model.specs.Fields.{Schema}
-use Rattle.seg_index_build.specs.SegmentsMerged.{first_schema}
+use Rattle.seg_index_build.specs.MergedSegments.{first_schema}
 use Rattle.seg_index_build.proofs.filtered_merging.check_segments.Goals as goal
 
 pub returns-clause-reads : goal.returns-clause-reads

@@ -2,10 +2,10 @@ use Rattle.std.proofs.Common.{◌∙◌, Err, Ok, ap, map}
 use Rattle.seg_directory.proofs.Exports.{answers}
 use Rattle.seg_meta.specs.IndexOfFiles.{ListedSegment}
 use Rattle.seg_meta.specs.Metas.{SegmentParts}
-use Rattle.seg_meta.specs.View.{meta_of, settings_of}
+use Rattle.seg_meta.specs.MetaMeaning.{meta_of, settings_of}
 use Rattle.seg_open.specs.OpenSegment.{kept_count}
-use Rattle.seg_index_build.specs.SegmentsMerged.{first_schema, merge_input}
-use Rattle.seg_index_build.proofs.MergeFills.{is_filled, meta_as, not_filled}
+use Rattle.seg_index_build.specs.MergedSegments.{first_schema, merge_input}
+use Rattle.seg_index_build.proofs.MergeOutputs.{is_filled, meta_as, not_filled}
 use Rattle.seg_index_build.proofs.MergeTurns.{works_as}
 use Rattle.seg_index_build.proofs.filtered_merging.fill_output.Goals as goal
 

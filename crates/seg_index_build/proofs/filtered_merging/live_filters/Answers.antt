@@ -1,6 +1,6 @@
 use Rattle.std.proofs.Common.{length}
 use Rattle.std.proofs.lemmas.Slice.Zip.{zip_end}
-use Rattle.seg_index_build.proofs.MergeFills.{all_kept}
+use Rattle.seg_index_build.proofs.MergeOutputs.{all_kept}
 use Rattle.seg_index_build.proofs.filtered_merging.live_filters.Goals as goal
 
 pub returns : goal.returns

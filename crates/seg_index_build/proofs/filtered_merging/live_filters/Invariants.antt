@@ -1,5 +1,5 @@
 use Rattle.std.proofs.Common.{◌≡◌, ◌++◌, drop, length}
-use Rattle.seg_index_build.specs.SegmentsMerged.{kept_filters}
+use Rattle.seg_index_build.specs.MergedSegments.{kept_filters}
 use Rattle.seg_index_build.proofs.filtered_merging.live_filters.Given as goal
 
 -- the filters so far, with those of what is left, are all

@@ -1,6 +1,6 @@
 use Rattle.std.proofs.Common.{◌≡◌, ◌++◌, drop}
 use Rattle.std.specs.List.{filter}
-use Rattle.seg_index_build.specs.SegmentsMerged.{is_live}
+use Rattle.seg_index_build.specs.MergedSegments.{is_live}
 use Rattle.seg_index_build.proofs.filtered_merging.live_segments.Given as goal
 
 -- the live ones so far, with those of what is left, are all

@@ -2,10 +2,10 @@ use Rattle.std.proofs.Common.{◌≡◌, ◌∙◌, subst, sym}
 use Rattle.std.specs.List.{AllByRecursion}
 use Rattle.seg_meta.specs.Metas.{SegmentParts}
 use Rattle.seg_model.specs.Fields.{Schema}
-use Rattle.seg_meta.specs.View.{meta_of}
+use Rattle.seg_meta.specs.MetaMeaning.{meta_of}
 use Rattle.seg_open.specs.Answers.{seen_as}
-use Rattle.seg_index_build.specs.SegmentsMerged.{merge_input}
-use Rattle.seg_index_build.proofs.MergeFills.{all_merged, first_at, not_begun, not_live}
+use Rattle.seg_index_build.specs.MergedSegments.{merge_input}
+use Rattle.seg_index_build.proofs.MergeOutputs.{all_merged, first_at, not_begun, not_live}
 use Rattle.seg_index_build.proofs.filtered_merging.merge_checked.Goals as goal
 
 pub returns-in-Err : goal.returns-in-Err

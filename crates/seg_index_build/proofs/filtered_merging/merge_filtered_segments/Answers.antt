@@ -1,12 +1,12 @@
 use Rattle.std.proofs.Common.{◌∙◌, List, Option, Some, refl, subst, sym}
-use Rattle.seg_meta.specs.View.{meta_of}
+use Rattle.seg_meta.specs.MetaMeaning.{meta_of}
 use Rattle.seg_model.specs.Input.{Filter}
 use Rattle.seg_open.specs.Answers.{seen_as}
-use Rattle.seg_index_build.specs.SegmentsMerged.{AreMerged, IsRefusal, MergesTo, merge_input}
-use Rattle.seg_index_build.specs.Turns.{both}
+use Rattle.seg_index_build.specs.MergedSegments.{AreMerged, IsRefusal, MergesTo, merge_input}
+use Rattle.seg_index_build.specs.TwoDirectories.{both}
 use Rattle.seg_index_build.proofs.MergeOnDisk.{merge_leaves, merge_rests_so, refused_leaves}
 use Rattle.seg_index_build.proofs.MergeTurns.{unanswered}
-use Rattle.seg_index_build.proofs.MergeSaid.{merged_complete, merged_does, merged_error, merged_fresh, merged_index, merged_meta, merged_output, merged_refused, merged_stays, merged_undamaged, merged_whole, refused_complete, refused_does, refused_error, refused_fresh, refused_so, refused_undamaged}
+use Rattle.seg_index_build.proofs.MergeOutcomes.{merged_complete, merged_does, merged_error, merged_fresh, merged_index, merged_meta, merged_output, merged_refused, merged_stays, merged_undamaged, merged_whole, refused_complete, refused_does, refused_error, refused_fresh, refused_so, refused_undamaged}
 use Rattle.seg_index_build.proofs.filtered_merging.merge_filtered_segments.Goals as goal
 
 pub merge_checked-requires : goal.merge_checked-requires

@@ -1,6 +1,6 @@
 use Rattle.std.proofs.Common.{◌∙◌}
-use Rattle.seg_index_build.specs.SegmentsMerged.{live_asked}
-use Rattle.seg_index_build.proofs.MergeFills.{live_of_schema, live_opened, live_starved}
+use Rattle.seg_index_build.specs.MergedSegments.{live_asked}
+use Rattle.seg_index_build.proofs.MergeOutputs.{live_of_schema, live_opened, live_starved}
 use Rattle.seg_index_build.proofs.filtered_merging.open_live.Goals as goal
 
 pub returns-in_default-clause-opens : goal.returns-in_default-clause-opens

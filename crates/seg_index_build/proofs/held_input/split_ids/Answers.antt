@@ -1,5 +1,5 @@
 use Rattle.std.proofs.Common.{◌-◌, ◌∙◌, arith, length}
-use Rattle.seg_index_build.proofs.WholeIds.{last_given, work_taken}
+use Rattle.seg_index_build.proofs.SegmentIds.{last_given, work_taken}
 use Rattle.seg_index_build.proofs.held_input.split_ids.Goals as goal
 
 pub returns-clause-work : goal.returns-clause-work

@@ -1,7 +1,7 @@
 use Rattle.std.proofs.Common.{[]}
 use Rattle.seg_directory.proofs.Exports.{answers, stops}
-use Rattle.seg_meta.specs.View.{settings_of}
-use Rattle.seg_index_build.proofs.Steps.{begun_of}
+use Rattle.seg_meta.specs.MetaMeaning.{settings_of}
+use Rattle.seg_index_build.proofs.PublishSteps.{begun_of}
 use Rattle.seg_index_build.proofs.index_files.begin_index.Goals as goal
 
 pub returns-in-Err : goal.returns-in-Err

@@ -3,8 +3,8 @@ use Rattle.std.specs.List.{AllByRecursion, slice_get}
 use Rattle.seg_values.specs.declared.error.ArgumentCause.TheVariants.{DifferentSettings, NoIndices}
 use Rattle.seg_values.specs.declared.error.TantivyError.TheVariants.{InvalidArgument}
 use Rattle.seg_meta.specs.declared.index_meta.IndexMeta.{IndexMeta}
-use Rattle.seg_index_build.specs.IndicesMerged.{alike, unlike}
-use Rattle.seg_index_build.proofs.Listed.{no_indices, other_settings, same_settings}
+use Rattle.seg_index_build.specs.MergedIndices.{alike, unlike}
+use Rattle.seg_index_build.proofs.UnfilteredSegments.{no_indices, other_settings, same_settings}
 use Rattle.seg_index_build.proofs.index_merging.compare_and_merge.Goals as goal
 
 pub returns-in_default : goal.returns-in_default

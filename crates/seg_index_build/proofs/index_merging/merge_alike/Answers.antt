@@ -1,9 +1,9 @@
 use Rattle.std.proofs.Common.{◌∙◌, None, Some, ap, refl, subst, sym}
-use Rattle.seg_meta.specs.Fits.{AreReadBack}
-use Rattle.seg_index_build.specs.SegmentsMerged.{AreMerged, IsRefusal as IsSegmentsRefusal, MergeInput, first_schema, merge_input}
-use Rattle.seg_index_build.proofs.MergeSaid.{merged_refusal}
-use Rattle.seg_index_build.specs.IndicesMerged.{merges, refuses, starves, unfiltered}
-use Rattle.seg_index_build.proofs.Listed.{called_is, input_is}
+use Rattle.seg_meta.specs.MetaBounds.{AreReadBack}
+use Rattle.seg_index_build.specs.MergedSegments.{AreMerged, IsRefusal as IsSegmentsRefusal, MergeInput, first_schema, merge_input}
+use Rattle.seg_index_build.proofs.MergeOutcomes.{merged_refusal}
+use Rattle.seg_index_build.specs.MergedIndices.{merges, refuses, starves, unfiltered}
+use Rattle.seg_index_build.proofs.UnfilteredSegments.{called_is, input_is}
 use Rattle.seg_index_build.proofs.index_merging.merge_alike.Goals as goal
 
 pub returns-in_default : goal.returns-in_default

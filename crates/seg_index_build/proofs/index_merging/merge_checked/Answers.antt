@@ -1,13 +1,13 @@
 use Rattle.std.proofs.Common.{◌≡◌, ◌∙◌, map, subst, sym}
 use Rattle.std.specs.List.{AllByRecursion}
 use Rattle.seg_meta.specs.Metas.{SegmentParts}
-use Rattle.seg_meta.specs.View.{meta_of}
+use Rattle.seg_meta.specs.MetaMeaning.{meta_of}
 use Rattle.seg_model.specs.Fields.{Schema}
 use Rattle.seg_open.specs.Answers.{seen_as}
-use Rattle.seg_index_build.specs.SegmentsMerged.{MergeInput, merge_input}
-use Rattle.seg_index_build.proofs.MergeFills.{first_at}
-use Rattle.seg_index_build.specs.IndicesMerged.{asked_of_index, indices_input, unfiltered}
-use Rattle.seg_index_build.proofs.Merging.{ends_begun, ends_counted, ends_filled, ends_opened}
+use Rattle.seg_index_build.specs.MergedSegments.{MergeInput, merge_input}
+use Rattle.seg_index_build.proofs.MergeOutputs.{first_at}
+use Rattle.seg_index_build.specs.MergedIndices.{asked_of_index, indices_input, unfiltered}
+use Rattle.seg_index_build.proofs.IndexMergeTurns.{ends_begun, ends_counted, ends_filled, ends_opened}
 use Rattle.seg_index_build.proofs.OpenedSources.{sources_of_schema}
 use Rattle.seg_index_build.proofs.index_merging.merge_checked.Goals as goal
 

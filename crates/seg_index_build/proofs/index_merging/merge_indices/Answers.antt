@@ -1,9 +1,9 @@
 use Rattle.std.proofs.Common.{map}
-use Rattle.seg_meta.specs.View.{meta_of}
+use Rattle.seg_meta.specs.MetaMeaning.{meta_of}
 use Rattle.seg_open.specs.Answers.{seen_as}
-use Rattle.seg_index_build.specs.IndicesMerged.{places}
-use Rattle.seg_index_build.proofs.MergeEnds.{said_complete, said_errors, said_fresh, said_undamaged}
-use Rattle.seg_index_build.proofs.OnDisk.{said_leaves, said_rests}
+use Rattle.seg_index_build.specs.MergedIndices.{places}
+use Rattle.seg_index_build.proofs.IndexMergeErrors.{said_complete, said_errors, said_fresh, said_undamaged}
+use Rattle.seg_index_build.proofs.IndexMergeOnDisk.{said_leaves, said_rests}
 use Rattle.seg_index_build.proofs.MergedIndices.{said_index, said_meta, said_output, said_refused_so, said_stays, said_unlike, said_whole}
 use Rattle.seg_index_build.proofs.index_merging.merge_indices.Goals as goal
 

@@ -1,8 +1,8 @@
 use Rattle.std.proofs.Common.{refl, subst}
-use Rattle.seg_directory.specs.Works.{Works}
+use Rattle.seg_directory.specs.DirectorySteps.{Works}
 use Rattle.seg_model.specs.Input.{Input}
-use Rattle.seg_index_build.specs.Turns.{both, stops, goes_on}
-use Rattle.seg_index_build.specs.WritingSteps.{begin_steps}
+use Rattle.seg_index_build.specs.TwoDirectories.{both, stops, goes_on}
+use Rattle.seg_index_build.specs.IndexWriteSteps.{begin_steps}
 use Rattle.seg_index_build.proofs.indexes.begin_indexes.Goals as goal
 
 pub returns-in-Err : goal.returns-in-Err

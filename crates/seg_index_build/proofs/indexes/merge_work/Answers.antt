@@ -1,12 +1,12 @@
 use Rattle.std.proofs.Common.{◌∙◌, ap, map}
 use Rattle.seg_meta.specs.Metas.{segment_of}
-use Rattle.seg_meta.specs.View.{meta_of}
+use Rattle.seg_meta.specs.MetaMeaning.{meta_of}
 use Rattle.seg_meta.specs.declared.index_meta.IndexMeta.{IndexMeta}
 use Rattle.seg_model.specs.Fields.{Schema}
 use Rattle.seg_model.specs.Input.{Input}
 use Rattle.seg_index_build.specs.DirectoryCalls.{merge_listed}
-use Rattle.seg_index_build.specs.Turns.{both}
-use Rattle.seg_index_build.proofs.MergeCalled.{call_is, merge_called, merge_told}
+use Rattle.seg_index_build.specs.TwoDirectories.{both}
+use Rattle.seg_index_build.proofs.MergeCalls.{call_is, merge_called, merge_told}
 use Rattle.seg_index_build.proofs.MergeTurns.{starved}
 use Rattle.seg_index_build.proofs.indexes.merge_work.Goals as goal
 

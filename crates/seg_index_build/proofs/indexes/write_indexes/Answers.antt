@@ -1,27 +1,27 @@
 use Rattle.std.proofs.Common.{◌≡◌, None, Err, ◌≤◌, ◌<◌, ◌^◌, ◌∙◌, ℕ, List, ap, arith, length, subst, sym}
 use Rattle.std.specs.Prelude.{IfOk}
-use Rattle.seg_meta.specs.View.{meta_of}
+use Rattle.seg_meta.specs.MetaMeaning.{meta_of}
 use Rattle.seg_meta.specs.IndexOfFiles as index
 use Rattle.seg_meta.specs.IndexOfFiles.{ListedSegment}
 use Rattle.seg_meta.specs.declared.index_meta.IndexMeta.{IndexMeta}
 use Rattle.seg_model.specs.Input.{Input}
-use Rattle.seg_model.specs.Valid.{are_distinct, input_refusal}
-use Rattle.seg_check.specs.Admitted.{Fits}
-use Rattle.seg_index_build.specs.Builds.{IsBuilt}
+use Rattle.seg_model.specs.ValidInputs.{are_distinct, input_refusal}
+use Rattle.seg_check.specs.AdmittedInputs.{Fits}
+use Rattle.seg_index_build.specs.BuildOutcomes.{IsBuilt}
 use Rattle.seg_index_build.specs.DirectoryCalls.{WritesIndexes, merge_listed}
 use Rattle.seg_index_build.specs.IndexFiles.{work_ids, work_segments}
 use Rattle.seg_index_build.specs.MergeAnswers.{IsMergedAs}
-use Rattle.seg_index_build.specs.SegmentsMerged.{AreMerged, MergesLive}
-use Rattle.seg_index_build.specs.Turns.{both}
-use Rattle.seg_index_build.proofs.Exits.{filled_so_far}
+use Rattle.seg_index_build.specs.MergedSegments.{AreMerged, MergesLive}
+use Rattle.seg_index_build.specs.TwoDirectories.{both}
+use Rattle.seg_index_build.proofs.WritingExits.{filled_so_far}
 use Rattle.seg_index_build.proofs.FilledIndex.{read_back}
 use Rattle.seg_index_build.proofs.FillSteps.{as_many, ids_are, meta_list}
-use Rattle.seg_index_build.proofs.InTurn.{at_beginning, at_filling, at_merging}
-use Rattle.seg_index_build.proofs.MergeCalled.{is_built}
-use Rattle.seg_index_build.proofs.Reached.{distinct, many}
-use Rattle.seg_index_build.proofs.WholeIds.{ids_many, work_few}
-use Rattle.seg_index_build.proofs.WholeRefused.{settings_suit}
-use Rattle.seg_index_build.proofs.WholeWork.{are_merged}
+use Rattle.seg_index_build.proofs.BuildTurns.{at_beginning, at_filling, at_merging}
+use Rattle.seg_index_build.proofs.MergeCalls.{is_built}
+use Rattle.seg_index_build.proofs.WritingPlaces.{distinct, many}
+use Rattle.seg_index_build.proofs.SegmentIds.{ids_many, work_few}
+use Rattle.seg_index_build.proofs.BuildRefusals.{settings_suit}
+use Rattle.seg_index_build.proofs.FilledWorkIndex.{are_merged}
 use Rattle.seg_index_build.proofs.indexes.write_indexes.Goals as goal
 
 pub returns-in-Err-clause-does : goal.returns-in-Err-clause-does

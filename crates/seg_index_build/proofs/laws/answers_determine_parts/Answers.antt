@@ -1,4 +1,4 @@
-use Rattle.seg_index_build.proofs.TakenOnce.{determined}
+use Rattle.seg_index_build.proofs.UniqueParts.{determined}
 use Rattle.seg_index_build.proofs.laws.answers_determine_parts.Goals as goal
 
 pub returns : goal.returns

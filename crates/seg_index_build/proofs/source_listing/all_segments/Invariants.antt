@@ -1,5 +1,5 @@
 use Rattle.std.proofs.Common.{◌≡◌, ◌++◌, drop}
-use Rattle.seg_index_build.specs.IndicesMerged.{all_segments}
+use Rattle.seg_index_build.specs.MergedIndices.{all_segments}
 use Rattle.seg_index_build.proofs.source_listing.all_segments.Given as goal
 
 -- those so far, with those of what is left, are all

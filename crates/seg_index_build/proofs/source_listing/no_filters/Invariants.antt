@@ -1,5 +1,5 @@
 use Rattle.std.proofs.Common.{◌≡◌, ◌++◌, drop}
-use Rattle.seg_index_build.specs.IndicesMerged.{unfiltered}
+use Rattle.seg_index_build.specs.MergedIndices.{unfiltered}
 use Rattle.seg_index_build.proofs.source_listing.no_filters.Given as goal
 
 -- none so far, with none for what is left, is none for all

@@ -1,6 +1,6 @@
 use Rattle.std.proofs.Common.{◌≡◌, ◌++◌, drop, map}
 use Rattle.seg_meta.specs.Metas.{segment_of}
-use Rattle.seg_index_build.specs.IndicesMerged.{listed_segments}
+use Rattle.seg_index_build.specs.MergedIndices.{listed_segments}
 use Rattle.seg_index_build.proofs.source_listing.push_segments.Given as goal
 
 -- those so far, with those of what is left, are all

@@ -1,9 +1,9 @@
 use Rattle.std.proofs.Common.{◌≡◌, ◌∙◌, List, Option, ap, subst, sym}
 use Rattle.seg_model.specs.Input.{Filter}
 use Rattle.seg_open.specs.Answers.{seen_as}
-use Rattle.seg_open.specs.SegmentOpened.{FiltersFit}
-use Rattle.seg_index_build.specs.IndicesMerged.{asked_of_index, unfiltered}
-use Rattle.seg_index_build.proofs.Listed.{none_fit, opens_as}
+use Rattle.seg_open.specs.OpeningSteps.{FiltersFit}
+use Rattle.seg_index_build.specs.MergedIndices.{asked_of_index, unfiltered}
+use Rattle.seg_index_build.proofs.UnfilteredSegments.{none_fit, opens_as}
 use Rattle.seg_index_build.proofs.SourceTurns.{starved}
 use Rattle.seg_index_build.proofs.source_opening.open_index.Goals as goal
 

@@ -1,9 +1,9 @@
 use Rattle.std.proofs.Common.{◌∙◌, ◌+◌, List, Ok, Err, ap, arith, slice_set, subst, sym}
 use Rattle.std.proofs.lemmas.List.{length-set}
-use Rattle.seg_directory.specs.State.{DirectoryState}
+use Rattle.seg_directory.specs.DirectoryStates.{DirectoryState}
 use Rattle.seg_open.specs.OpenSegment.{OpenSegment}
-use Rattle.seg_open.specs.SegmentOpened.{OpensSegments}
-use Rattle.seg_index_build.specs.IndicesMerged.{asked_of_index}
+use Rattle.seg_open.specs.OpeningSteps.{OpensSegments}
+use Rattle.seg_index_build.specs.MergedIndices.{asked_of_index}
 use Rattle.seg_index_build.proofs.SourceTurns.{SoFar, all_open, none_yet, opens_turn, stops_turn}
 use Rattle.seg_index_build.proofs.source_opening.open_indices.Goals as goal
 

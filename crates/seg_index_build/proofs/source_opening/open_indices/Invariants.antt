@@ -1,5 +1,5 @@
 use Rattle.std.proofs.Common.{◌≡◌, length}
-use Rattle.seg_index_build.specs.IndicesMerged.{asked_of_index}
+use Rattle.seg_index_build.specs.MergedIndices.{asked_of_index}
 use Rattle.seg_index_build.proofs.SourceTurns.{SoFar}
 use Rattle.seg_index_build.proofs.source_opening.open_indices.Given as goal
 

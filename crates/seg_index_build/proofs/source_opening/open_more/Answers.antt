@@ -1,4 +1,4 @@
-use Rattle.seg_index_build.specs.IndicesMerged.{asked_of_index}
+use Rattle.seg_index_build.specs.MergedIndices.{asked_of_index}
 use Rattle.seg_index_build.proofs.SourceTurns.{runs_out}
 use Rattle.seg_index_build.proofs.source_opening.open_more.Goals as goal
 

@@ -1,20 +1,20 @@
 use Rattle.std.proofs.Common.{◌≡◌, ◌<◌, ◌^◌, ◌+◌, ◌∙◌, Err, ℕ, List, None, length, map, refl, sym, ap, subst}
 use Rattle.std.proofs.lemmas.List.{length-map}
 use Rattle.std.proofs.lemmas.Result.{IfOk-weaker}
-use Rattle.seg_check.specs.View.{operation_of}
+use Rattle.seg_check.specs.UserOperations.{operation_of}
 use Rattle.seg_meta.specs.declared.index_meta.IndexMeta.{IndexMeta}
 use Rattle.seg_model.specs.Input.{Input}
-use Rattle.seg_model.specs.Valid.{are_distinct, cuts_fit, input_refusal}
+use Rattle.seg_model.specs.ValidInputs.{are_distinct, cuts_fit, input_refusal}
 use Rattle.seg_check.specs.WriterStart.{start_refusal}
-use Rattle.seg_batches.specs.Segments.{WrittenSegment}
+use Rattle.seg_batches.specs.WrittenSegments.{WrittenSegment}
 use Rattle.seg_check.specs.Inputs.{input_of}
 use Rattle.seg_index_build.specs.DirectoryCalls.{FillsWork}
 use Rattle.seg_index_build.specs.IndexFiles.{work_ids, work_meta, written_of}
-use Rattle.seg_index_build.specs.WorkIndexWriting.{FillsIndex, listing_meta}
+use Rattle.seg_index_build.specs.WorkIndexSteps.{FillsIndex, listing_meta}
 use Rattle.seg_index_build.proofs.FilledIndex.{batches_end, batches_finished}
 use Rattle.seg_index_build.proofs.FillSteps.{as_many, ids_are, ids_of}
-use Rattle.seg_index_build.proofs.WholeIds.{work_distinct, work_few, work_many}
-use Rattle.seg_index_build.proofs.WholeRefused.{starts}
+use Rattle.seg_index_build.proofs.SegmentIds.{work_distinct, work_few, work_many}
+use Rattle.seg_index_build.proofs.BuildRefusals.{starts}
 use Rattle.seg_index_build.proofs.work_index.fill_work_index.Goals as goal
 
 pub write_batches-requires-clause-cuts : goal.write_batches-requires-clause-cuts

@@ -1,4 +1,4 @@
-use Rattle.seg_meta.specs.View.{settings_of}
+use Rattle.seg_meta.specs.MetaMeaning.{settings_of}
 use Rattle.seg_index_build.proofs.FinishSteps.{alive_ends, alive_saved}
 use Rattle.seg_index_build.proofs.work_index.finish_work_index.Goals as goal
 

@@ -2,7 +2,7 @@ use Rattle.std.proofs.Common.{◌∙◌, ap, map}
 use Rattle.std.proofs.lemmas.Result.{MatchResult-weaker}
 use Rattle.seg_column_merge.specs.MergedColumns.{required_key}
 use Rattle.seg_open.specs.OpenSegment.{part_of}
-use Rattle.seg_merger.proofs.ColumnsJoined.{alive_rows, fails, few_rows, has_joined, have_columns, may_merge}
+use Rattle.seg_merger.proofs.JoinedColumns.{alive_rows, fails, few_rows, has_joined, have_columns, may_merge}
 use Rattle.seg_merger.proofs.columns_joining.join_columns.Goals as goal
 
 pub live_order-requires : goal.live_order-requires

@@ -1,7 +1,7 @@
 use Rattle.std.proofs.Common.{ap, map, ◌∙◌}
 use Rattle.seg_column_file.specs.RowOrders.{place_of}
 use Rattle.seg_merger.specs.DocIdMapping.{Mapping}
-use Rattle.seg_merger.proofs.ColumnsJoined.{in_order}
+use Rattle.seg_merger.proofs.JoinedColumns.{in_order}
 use Rattle.seg_merger.proofs.columns_joining.live_addresses.Goals as goal
 
 pub returns : goal.returns

@@ -3,7 +3,7 @@ use Rattle.std.proofs.lemmas.Result.{IfOk-weaker}
 use Rattle.seg_column_file.specs.ColumnFiles.{ColumnFile}
 use Rattle.seg_open.specs.OpenSegment.{OpenSegment}
 use Rattle.seg_merger.specs.DocIdMapping.{all_alive}
-use Rattle.seg_merger.proofs.ColumnsJoined.{all_stacked, is_stacked}
+use Rattle.seg_merger.proofs.JoinedColumns.{all_stacked, is_stacked}
 use Rattle.seg_merger.proofs.columns_joining.live_order.Goals as goal
 
 pub returns-in-Stacked : goal.returns-in-Stacked

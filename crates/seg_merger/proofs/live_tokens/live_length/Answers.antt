@@ -1,5 +1,5 @@
 use Rattle.std.proofs.Common.{sym, ◌∙◌}
-use Rattle.seg_merger.proofs.TotalsJoined.{one_length}
+use Rattle.seg_merger.proofs.JoinedTotals.{one_length}
 use Rattle.seg_merger.proofs.live_tokens.live_length.Goals as goal
 
 pub returns : goal.returns

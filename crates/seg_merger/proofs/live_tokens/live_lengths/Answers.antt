@@ -1,9 +1,9 @@
 use Rattle.std.proofs.Common.{sym, ap, ◌∙◌, map, min, ◌-◌}
 use Rattle.std.specs.Prelude.{sum}
-use Rattle.seg_directory.specs.Composite.{field_of}
+use Rattle.seg_directory.specs.CompositeFiles.{field_of}
 use Rattle.seg_model.specs.Norms.{length_of_id}
 use Rattle.seg_model.specs.Operations.{kept}
-use Rattle.seg_merger.proofs.TotalsJoined.{ids_many, ids_none, ids_there}
+use Rattle.seg_merger.proofs.JoinedTotals.{ids_many, ids_none, ids_there}
 use Rattle.seg_merger.proofs.KeptLists.{kept_of_none}
 use Rattle.seg_merger.proofs.live_tokens.live_lengths.Goals as goal
 

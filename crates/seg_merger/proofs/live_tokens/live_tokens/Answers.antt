@@ -3,7 +3,7 @@ use Rattle.std.specs.List.{slice_get}
 use Rattle.std.proofs.lemmas.List.Sums.{count_by-le-length}
 use Rattle.seg_merger.specs.JoinedTotals.{have_lengths}
 use Rattle.seg_model.specs.Fields.{Schema}
-use Rattle.seg_merger.proofs.TotalsJoined.{shared_is, some_there, tokens_shared, tokens_summed, tokens_whole, within}
+use Rattle.seg_merger.proofs.JoinedTotals.{shared_is, some_there, tokens_shared, tokens_summed, tokens_whole, within}
 use Rattle.seg_merger.proofs.live_tokens.live_tokens.Goals as goal
 
 pub returns-then-not-has_deletes : goal.returns-then-not-has_deletes

@@ -2,7 +2,7 @@ use Rattle.std.proofs.Common.{◌+◌, ◌∙◌, ap, map, min, take, drop, arit
 use Rattle.std.specs.Prelude.{sum}
 use Rattle.seg_model.specs.Norms.{length_of_id}
 use Rattle.seg_model.specs.Operations.{kept}
-use Rattle.seg_merger.proofs.TotalsJoined.{all_counted, lengths_next, lengths_past, more_counted}
+use Rattle.seg_merger.proofs.JoinedTotals.{all_counted, lengths_next, lengths_past, more_counted}
 use Rattle.seg_merger.proofs.live_tokens.sum_of_lengths.Goals as goal
 
 pub loop-doc-preserved : goal.loop-doc-preserved

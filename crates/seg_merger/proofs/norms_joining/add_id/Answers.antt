@@ -1,5 +1,5 @@
 use Rattle.std.proofs.Common.{sym, ◌∙◌}
-use Rattle.seg_merger.proofs.NormsJoined.{one_id}
+use Rattle.seg_merger.proofs.JoinedNorms.{one_id}
 use Rattle.seg_merger.proofs.norms_joining.add_id.Goals as goal
 
 pub returns : goal.returns

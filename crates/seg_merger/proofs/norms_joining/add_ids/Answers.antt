@@ -1,6 +1,6 @@
 use Rattle.std.proofs.Common.{sym, ap, ◌∙◌}
-use Rattle.seg_directory.specs.Composite.{field_of}
-use Rattle.seg_merger.proofs.NormsJoined.{no_ids}
+use Rattle.seg_directory.specs.CompositeFiles.{field_of}
+use Rattle.seg_merger.proofs.JoinedNorms.{no_ids}
 use Rattle.seg_merger.proofs.norms_joining.add_ids.Goals as goal
 
 pub returns-in_default : goal.returns-in_default

@@ -1,4 +1,4 @@
-use Rattle.seg_merger.proofs.NormsJoined.{left_kept}
+use Rattle.seg_merger.proofs.JoinedNorms.{left_kept}
 use Rattle.seg_merger.proofs.norms_joining.add_kept.Goals as goal
 
 pub loop-doc-preserved : goal.loop-doc-preserved

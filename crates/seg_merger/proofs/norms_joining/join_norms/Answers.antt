@@ -4,12 +4,12 @@ use Rattle.std.specs.declared.alloc.Global.{Global}
 use Rattle.std.proofs.lemmas.Result.{IfOk-weaker}
 use Rattle.seg_model.specs.Fields.{fields}
 use Rattle.seg_model.specs.Join.{joined_norms}
-use Rattle.seg_directory.specs.Composite.{composite}
+use Rattle.seg_directory.specs.CompositeFiles.{composite}
 use Rattle.seg_norms.specs.FieldNorms.{fields_with_lengths, norms_parts}
-use Rattle.seg_segment.specs.LengthsWritten.{parts_with}
+use Rattle.seg_segment.specs.WrittenLengths.{parts_with}
 use Rattle.seg_merger.specs.JoinedNorms.{joined_ids}
 use Rattle.seg_open.specs.OpenSegment.{part_of}
-use Rattle.seg_merger.proofs.NormsJoined.{parts_are}
+use Rattle.seg_merger.proofs.JoinedNorms.{parts_are}
 use Rattle.seg_merger.proofs.norms_joining.join_norms.Goals as goal
 
 pub returns : goal.returns

@@ -3,16 +3,16 @@ use Rattle.std.specs.Prelude.{IsSomeAnd}
 use Rattle.std.specs.List.{AllByRecursion}
 use Rattle.seg_meta.specs.Metas.{SegmentParts}
 use Rattle.seg_model.specs.Fields.{Schema}
-use Rattle.seg_segment.specs.Serializing.{Serializing}
+use Rattle.seg_segment.specs.SegmentSerializers.{Serializing}
 use Rattle.seg_column_merge.specs.MergedColumns.{MergeFails}
 use Rattle.seg_model.specs.Join.{joined_columns}
 use Rattle.seg_open.specs.OpenSegment.{IsOfSchema, part_of}
 use Rattle.seg_merger.specs.JoinedColumns.{HasJoinedColumns}
-use Rattle.seg_merger.specs.Joining.{HoldJoined, HoldsJoinedNorms}
+use Rattle.seg_merger.specs.JoinedSegment.{HoldJoined, HoldsJoinedNorms}
 use Rattle.seg_merger.specs.JoinedStore.{joined_documents}
 use Rattle.seg_merger.proofs.KeptCounts.{joined_few}
 use Rattle.seg_merger.proofs.MergedFiles.{is_joined}
-use Rattle.seg_merger.proofs.StoresJoined.{fresh_fits}
+use Rattle.seg_merger.proofs.JoinedStores.{fresh_fits}
 use Rattle.seg_merger.proofs.segment_joining.join_into.Goals as goal
 
 pub join_stores-requires : goal.join_stores-requires

@@ -1,7 +1,7 @@
 use Rattle.std.proofs.Common.{Some, sym, ap, ◌∙◌}
 use Rattle.std.specs.List.{slice_get}
 use Rattle.seg_store.specs.Store.{raw_documents}
-use Rattle.seg_merger.proofs.StoresJoined.{one_stored}
+use Rattle.seg_merger.proofs.JoinedStores.{one_stored}
 use Rattle.seg_merger.proofs.store_joining.add_document.Goals as goal
 
 pub returns-clause-ok : goal.returns-clause-ok

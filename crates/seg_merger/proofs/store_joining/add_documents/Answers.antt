@@ -3,8 +3,8 @@ use Rattle.std.proofs.lemmas.List.{length-append}
 use Rattle.seg_model.specs.Operations.{kept}
 use Rattle.seg_store.specs.Store.{raw_documents}
 use Rattle.seg_merger.proofs.KeptLists.{kept_next, kept_past}
-use Rattle.seg_merger.proofs.StoredRead.{raw_counted}
-use Rattle.seg_merger.proofs.StoresJoined.{all_taken, left_taken, one_fits, room_left}
+use Rattle.seg_merger.proofs.StoredDocuments.{raw_counted}
+use Rattle.seg_merger.proofs.JoinedStores.{all_taken, left_taken, one_fits, room_left}
 use Rattle.seg_merger.proofs.store_joining.add_documents.Goals as goal
 
 pub add_document-requires-clause-limit : goal.add_document-requires-clause-limit

@@ -1,7 +1,7 @@
 use Rattle.std.proofs.Common.{◌≡◌, ◌<◌, ◌+◌, ◌^◌, length, drop, option_map, IfSome}
 use Rattle.seg_model.specs.Operations.{kept}
 use Rattle.seg_store.specs.Store.{raw_documents}
-use Rattle.seg_store.specs.Writing.{taken_count}
+use Rattle.seg_store.specs.WriterBlocks.{taken_count}
 use Rattle.seg_merger.specs.JoinedStore.{kept_bytes, with_documents}
 use Rattle.seg_merger.proofs.store_joining.add_documents.Given as goal
 

@@ -1,5 +1,5 @@
 use Rattle.std.proofs.Common.{sym, ◌∙◌}
-use Rattle.seg_merger.proofs.StoresJoined.{blocks_fit, copies_fit, one_copied, one_stacked}
+use Rattle.seg_merger.proofs.JoinedStores.{blocks_fit, copies_fit, one_copied, one_stacked}
 use Rattle.seg_merger.proofs.store_joining.add_part.Goals as goal
 
 pub stack-requires : goal.stack-requires

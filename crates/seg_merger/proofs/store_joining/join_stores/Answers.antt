@@ -5,7 +5,7 @@ use Rattle.seg_model.specs.Operations.{kept}
 use Rattle.seg_store.specs.Store.{documents_of}
 use Rattle.seg_merger.specs.JoinedStore.{IsStored, joined_documents}
 use Rattle.seg_merger.proofs.KeptCounts.{all_first}
-use Rattle.seg_merger.proofs.StoresJoined.{all_joined, documents_split, left_joined, less_fits, part_split, room_joined, taken_read}
+use Rattle.seg_merger.proofs.JoinedStores.{all_joined, documents_split, left_joined, less_fits, part_split, room_joined, taken_read}
 use Rattle.seg_merger.proofs.store_joining.join_stores.Goals as goal
 
 pub add_part-requires : goal.add_part-requires

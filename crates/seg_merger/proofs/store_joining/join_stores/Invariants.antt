@@ -1,6 +1,6 @@
 use Rattle.std.proofs.Common.{◌≡◌, ◌<◌, ◌+◌, ◌^◌, length, drop, option_map, IfSome}
 use Rattle.std.specs.List.{AllByRecursion}
-use Rattle.seg_store.specs.Writing.{taken_count}
+use Rattle.seg_store.specs.WriterBlocks.{taken_count}
 use Rattle.seg_merger.specs.JoinedStore.{IsStored, joined_documents, with_segments}
 use Rattle.seg_merger.proofs.store_joining.join_stores.Given as goal
 

@@ -3,7 +3,7 @@ use Rattle.std.specs.List.{list_all}
 use Rattle.std.proofs.lemmas.Bool.{and_parts}
 use Rattle.seg_store.specs.Store.{document_count, documents_of, raw_documents}
 use Rattle.seg_merger.proofs.KeptLists.{kept_all}
-use Rattle.seg_merger.proofs.StoredRead.{kept_are_read, raw_counted}
+use Rattle.seg_merger.proofs.StoredDocuments.{kept_are_read, raw_counted}
 use Rattle.seg_merger.proofs.store_joining.stored_count.Goals as goal
 
 pub returns-clause-stored : goal.returns-clause-stored

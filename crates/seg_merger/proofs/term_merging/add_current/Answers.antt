@@ -1,8 +1,8 @@
 use Rattle.std.proofs.Common.{Some, None, sym, subst}
 use Rattle.std.specs.Prelude.{IsSomeAnd}
 use Rattle.std.proofs.lemmas.Result.{on_ok_weaker}
-use Rattle.seg_common.specs.Growing.{HasGrown}
-use Rattle.seg_segment.specs.WritingTerms.{MayTake, with_more}
+use Rattle.seg_common.specs.WriterGrowth.{HasGrown}
+use Rattle.seg_segment.specs.WrittenTerms.{MayTake, with_more}
 use Rattle.seg_merger.proofs.SourcePostings.{doc_within, current_moved}
 use Rattle.seg_segment.proofs.Exports.{none_taken}
 use Rattle.seg_merger.proofs.term_merging.add_current.Goals as goal

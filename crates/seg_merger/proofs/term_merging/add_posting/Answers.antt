@@ -1,11 +1,11 @@
 use Rattle.std.proofs.Common.{List, sym, subst, ◌∙◌}
 use Rattle.std.specs.Prelude.{IsSomeAnd}
 use Rattle.std.proofs.lemmas.Result.{on_ok_weaker}
-use Rattle.seg_common.specs.Growing.{HasGrown}
-use Rattle.seg_model.specs.Reading.{Posting}
-use Rattle.seg_postings.specs.PostingsReading.{positions_of}
-use Rattle.seg_postings.specs.Written.{Rise}
-use Rattle.seg_segment.specs.WritingTerms.{MayTake, with_more}
+use Rattle.seg_common.specs.WriterGrowth.{HasGrown}
+use Rattle.seg_model.specs.DocumentTerms.{Posting}
+use Rattle.seg_postings.specs.OpenPostings.{positions_of}
+use Rattle.seg_postings.specs.WritablePostings.{Rise}
+use Rattle.seg_segment.specs.WrittenTerms.{MayTake, with_more}
 use Rattle.seg_merger.proofs.CurrentPosting.{is_told, told_is}
 use Rattle.seg_merger.proofs.term_merging.add_posting.Goals as goal
 

@@ -1,6 +1,6 @@
 use Rattle.std.proofs.Common.{◌<◌, length, sym, ap, subst, ◌∙◌}
 use Rattle.std.specs.List.{AllByRecursion}
-use Rattle.seg_model.specs.Reading.{Posting}
+use Rattle.seg_model.specs.DocumentTerms.{Posting}
 use Rattle.seg_merger.specs.MovedPostings.{moved, moved_from}
 use Rattle.seg_merger.proofs.SourcePostings.{any_has, left_are, left_within, moved_next, none_left, all_behind}
 use Rattle.seg_segment.proofs.Exports.{AreGiven, all_given, given_more, may_take, none_given}

@@ -3,7 +3,7 @@ use Rattle.std.specs.List.{flat_map}
 use Rattle.std.proofs.lemmas.Result.{on_ok_weaker}
 use Rattle.std.proofs.lemmas.List.{drop_all}
 use Rattle.seg_merger.specs.MovedPostings.{moved_from_all}
-use Rattle.seg_merger.proofs.Standings.{all_given_at, given_at, segment_within, source_joinable, source_has, next_given}
+use Rattle.seg_merger.proofs.KeyStandings.{all_given_at, given_at, segment_within, source_joinable, source_has, next_given}
 use Rattle.seg_segment.proofs.Exports.{AreGiven, all_given, given_more, has_whole_term, may_begin, may_end, may_take, none_given}
 use Rattle.seg_merger.proofs.term_merging.join_term.Goals as goal
 

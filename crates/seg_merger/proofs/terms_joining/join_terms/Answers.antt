@@ -2,16 +2,16 @@ use Rattle.std.proofs.Common.{◌^◌, ◌<◌, Option, ◌∙◌, ap, sym, subs
 use Rattle.std.specs.Prelude.{IsSomeAnd}
 use Rattle.std.specs.List.{AllByRecursion}
 use Rattle.std.proofs.lemmas.Result.{IfOk-weaker}
-use Rattle.seg_postings.specs.Files.{FieldFiles}
-use Rattle.seg_segment.specs.FieldsWritten.{HaveFields}
+use Rattle.seg_postings.specs.FieldFiles.{FieldFiles}
+use Rattle.seg_segment.specs.WrittenFields.{HaveFields}
 use Rattle.seg_merger.specs.JoinedTerms.{AreJoined, IsOfField}
 use Rattle.seg_merger.specs.JoinedTotals.{tokens_in}
-use Rattle.seg_merger.specs.Joining.{HoldJoined}
+use Rattle.seg_merger.specs.JoinedSegment.{HoldJoined}
 use Rattle.seg_merger.specs.NewIds.{parts_of}
 use Rattle.seg_open.specs.OpenSegment.{kept_count}
 use Rattle.seg_merger.proofs.JoinedField.{hold_joined}
 use Rattle.seg_merger.proofs.NumberedParts.{same_parts, are_numbered, all_of_field}
-use Rattle.seg_merger.proofs.TotalsJoined.{all_of_schema, totals_agree}
+use Rattle.seg_merger.proofs.JoinedTotals.{all_of_schema, totals_agree}
 use Rattle.seg_merger.proofs.terms_joining.join_terms.Goals as goal
 
 pub write_fields-requires : goal.write_fields-requires

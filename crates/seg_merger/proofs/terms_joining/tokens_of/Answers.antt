@@ -4,7 +4,7 @@ use Rattle.seg_merger.specs.JoinedTerms.{IsOpenAt}
 use Rattle.seg_merger.specs.JoinedTotals.{tokens_at}
 use Rattle.seg_merger.specs.NewIds.{parts_of}
 use Rattle.seg_merger.proofs.NumberedParts.{part_at}
-use Rattle.seg_merger.proofs.TotalsJoined.{all_counted, more_counted, tokens_next, tokens_past}
+use Rattle.seg_merger.proofs.JoinedTotals.{all_counted, more_counted, tokens_next, tokens_past}
 use Rattle.seg_merger.proofs.terms_joining.tokens_of.Goals as goal
 
 pub tokens-requires : goal.tokens-requires

@@ -1,5 +1,5 @@
 use Rattle.std.proofs.Common.{[], ◌∷◌, ◌++◌, ap, ◌∙◌}
-use Rattle.seg_meta.proofs.NoFloats.{laid_out}
+use Rattle.seg_meta.proofs.FloatFreeMetas.{laid_out}
 use Rattle.seg_meta.proofs.content.meta_text.Goals as goal
 
 pub returns : goal.returns

@@ -1,6 +1,6 @@
 use Rattle.std.proofs.Common.{sym, ◌∙◌, ap, Err}
-use Rattle.seg_meta.proofs.Loads.{loading_keeps, loads, can_not_read, says_none, no_memory}
-use Rattle.seg_meta.specs.MetaRead.{meta_read}
+use Rattle.seg_meta.proofs.MetaLoads.{loading_keeps, loads, can_not_read, says_none, no_memory}
+use Rattle.seg_meta.specs.ParsedMeta.{meta_read}
 use Rattle.seg_meta.proofs.load.load_metas.Goals as goal
 
 pub returns-in-Err-clause-does : goal.returns-in-Err-clause-does

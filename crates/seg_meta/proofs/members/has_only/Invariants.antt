@@ -1,6 +1,6 @@
 use Rattle.std.proofs.Common.{◌≡◌, map, ℕ, List, Bor}
 use Rattle.serde_json.specs.View.{view, members_view}
-use Rattle.seg_meta.specs.Reads.{names_among, has_only}
+use Rattle.seg_meta.specs.JsonReaders.{names_among, has_only}
 use Rattle.seg_meta.proofs.members.has_only.Given as goal
 
 abbrev pub invariant-loop-name : goal.invariant-loop-name

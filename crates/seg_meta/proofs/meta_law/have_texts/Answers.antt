@@ -1,5 +1,5 @@
 use Rattle.seg_tokens.proofs.Exports.{all_passed, one_more}
-use Rattle.seg_meta.specs.Fits.{HasTexts}
+use Rattle.seg_meta.specs.MetaBounds.{HasTexts}
 use Rattle.seg_meta.proofs.meta_law.have_texts.Goals as goal
 
 pub loop-entry-preserved : goal.loop-entry-preserved

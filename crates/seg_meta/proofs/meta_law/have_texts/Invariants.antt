@@ -1,6 +1,6 @@
 use Rattle.std.proofs.Common.{ℕ, ◌<◌, get_or}
 use Rattle.seg_values.specs.declared.schema.FieldEntry.{FieldEntry}
-use Rattle.seg_meta.specs.Fits.{HasTexts}
+use Rattle.seg_meta.specs.MetaBounds.{HasTexts}
 use Rattle.seg_meta.proofs.meta_law.have_texts.Given as goal
 
 abbrev pub invariant-loop-entry : goal.invariant-loop-entry

@@ -1,5 +1,5 @@
-use Rattle.seg_meta.specs.View.{meta_of}
-use Rattle.seg_meta.proofs.MetaBack.{meta_read-meta_text}
+use Rattle.seg_meta.specs.MetaMeaning.{meta_of}
+use Rattle.seg_meta.proofs.MetaRoundTrips.{meta_read-meta_text}
 use Rattle.seg_meta.proofs.meta_law.metas_read_back.Goals as goal
 
 pub returns : goal.returns

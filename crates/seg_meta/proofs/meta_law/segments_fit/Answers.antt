@@ -1,5 +1,5 @@
 use Rattle.seg_tokens.proofs.Exports.{all_passed, one_more}
-use Rattle.seg_meta.specs.Fits.{SegmentFits}
+use Rattle.seg_meta.specs.MetaBounds.{SegmentFits}
 use Rattle.seg_meta.proofs.meta_law.segments_fit.Goals as goal
 
 pub loop-segment-preserved : goal.loop-segment-preserved

@@ -1,5 +1,5 @@
 use Rattle.std.proofs.Common.{sym, true≢false}
-use Rattle.seg_meta.proofs.Json.{json_of-read, json_of-refused}
+use Rattle.seg_meta.proofs.JsonOfBytes.{json_of-read, json_of-refused}
 use Rattle.seg_meta.proofs.meta_read.read_meta.Goals as goal
 
 pub returns-in-Ok-clause-ok : goal.returns-in-Ok-clause-ok

@@ -1,7 +1,7 @@
 use Rattle.std.proofs.Common.{ℕ, List, ◌∙◌, subst}
 use Rattle.seg_common.specs.declared.name.FileName.TheVariants.{Meta}
 use Rattle.seg_directory.proofs.Exports.{saved_on_disk, saves_on_disk, stops, then_does}
-use Rattle.seg_directory.specs.Works.{Works}
+use Rattle.seg_directory.specs.DirectorySteps.{Works}
 use Rattle.seg_meta.specs.MetaSteps.{save_steps}
 use Rattle.seg_meta.proofs.save.save_metas.Goals as goal
 

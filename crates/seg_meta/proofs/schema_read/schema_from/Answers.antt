@@ -3,8 +3,8 @@ use Rattle.std.proofs.lemmas.Grind.{common_steps}
 use Rattle.serde_json.specs.View.{view, items_view}
 use Rattle.seg_values.specs.SchemaRules.{same_name}
 use Rattle.seg_values.proofs.Exports.{named, same_name-sym, unnamed}
-use Rattle.seg_meta.specs.PartsRead.{entry_from}
-use Rattle.seg_meta.proofs.ListRead.{left-cons, distinct_list-long, distinct_list-again, step}
+use Rattle.seg_meta.specs.ParsedMetaParts.{entry_from}
+use Rattle.seg_meta.proofs.ReadLists.{left-cons, distinct_list-long, distinct_list-again, step}
 use Rattle.seg_meta.proofs.schema_read.schema_from.Goals as goal
 
 pub returns-then-len-clause-none : goal.returns-then-len-clause-none

@@ -1,8 +1,8 @@
 use Rattle.std.proofs.Common.{drop}
 use Rattle.serde_json.specs.View.{view, items_view}
 use Rattle.seg_values.specs.SchemaRules.{same_name}
-use Rattle.seg_meta.specs.PartsRead.{entry_from}
-use Rattle.seg_meta.proofs.ListRead.{IsReadSoFar}
+use Rattle.seg_meta.specs.ParsedMetaParts.{entry_from}
+use Rattle.seg_meta.proofs.ReadLists.{IsReadSoFar}
 use Rattle.seg_meta.proofs.schema_read.schema_from.Given as goal
 
 abbrev pub invariant-loop-item : goal.invariant-loop-item

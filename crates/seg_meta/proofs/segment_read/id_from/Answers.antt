@@ -1,6 +1,6 @@
 use Rattle.std.proofs.Common.{◌^◌, ◌<◌, rules}
 use Rattle.std.specs.Prelude.{IfSome}
-use Rattle.seg_meta.proofs.Ids.{is_id_from}
+use Rattle.seg_meta.proofs.IdDigits.{is_id_from}
 use Rattle.seg_meta.proofs.segment_read.id_from.Goals as goal
 
 pub returns : goal.returns

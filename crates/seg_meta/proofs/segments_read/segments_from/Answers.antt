@@ -1,9 +1,9 @@
 use Rattle.std.proofs.Common.{ℕ, Bool, nat_eq, ◌+◌, ◌^◌, drop, sym, ◌∙◌, arith}
 use Rattle.std.specs.List.{list_any}
 use Rattle.serde_json.specs.View.{view, items_view}
-use Rattle.seg_meta.specs.PartsRead.{segment_from}
-use Rattle.seg_meta.specs.Saving.{same_id}
-use Rattle.seg_meta.proofs.ListRead.{left-cons, distinct_list-long, distinct_list-again, step}
+use Rattle.seg_meta.specs.ParsedMetaParts.{segment_from}
+use Rattle.seg_meta.specs.SavableMetas.{same_id}
+use Rattle.seg_meta.proofs.ReadLists.{left-cons, distinct_list-long, distinct_list-again, step}
 use Rattle.seg_meta.proofs.SegmentIds.{same_id-sym, known, unknown, one_more}
 use Rattle.seg_meta.proofs.segments_read.segments_from.Goals as goal
 

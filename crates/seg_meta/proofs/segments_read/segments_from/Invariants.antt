@@ -2,9 +2,9 @@ use Rattle.std.proofs.Common.{◌≡◌, ℕ, drop, nat_eq}
 use Rattle.std.specs.HashSet.{contains}
 use Rattle.std.specs.List.{list_any}
 use Rattle.serde_json.specs.View.{view, items_view}
-use Rattle.seg_meta.specs.PartsRead.{segment_from}
-use Rattle.seg_meta.specs.Saving.{same_id}
-use Rattle.seg_meta.proofs.ListRead.{IsReadSoFar}
+use Rattle.seg_meta.specs.ParsedMetaParts.{segment_from}
+use Rattle.seg_meta.specs.SavableMetas.{same_id}
+use Rattle.seg_meta.proofs.ReadLists.{IsReadSoFar}
 use Rattle.seg_meta.proofs.segments_read.segments_from.Given as goal
 
 -- the segments read so far, whose ids are those of the set

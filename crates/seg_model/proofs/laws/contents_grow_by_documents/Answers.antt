@@ -1,4 +1,4 @@
-use Rattle.seg_model.proofs.Grows.{postings_grow, columns_grow}
+use Rattle.seg_model.proofs.AddedDocuments.{postings_grow, columns_grow}
 use Rattle.seg_model.proofs.laws.contents_grow_by_documents.Goals as goal
 
 pub returns : goal.returns

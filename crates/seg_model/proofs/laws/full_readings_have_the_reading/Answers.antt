@@ -1,4 +1,4 @@
-use Rattle.seg_model.proofs.Live.{reading_of_full}
+use Rattle.seg_model.proofs.LiveParts.{reading_of_full}
 use Rattle.seg_model.proofs.laws.full_readings_have_the_reading.Goals as goal
 
 pub returns : goal.returns

@@ -1,4 +1,4 @@
-use Rattle.seg_model.proofs.Joined.{joined_reading}
+use Rattle.seg_model.proofs.JoinedReadings.{joined_reading}
 use Rattle.seg_model.proofs.laws.joining_is_invisible.Goals as goal
 
 pub returns : goal.returns

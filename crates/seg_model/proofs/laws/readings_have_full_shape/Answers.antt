@@ -1,4 +1,4 @@
-use Rattle.seg_model.proofs.ShapedReading.{readings_have_full_shape}
+use Rattle.seg_model.proofs.ReadingShape.{readings_have_full_shape}
 use Rattle.seg_model.proofs.laws.readings_have_full_shape.Goals as goal
 
 pub returns : goal.returns

@@ -1,4 +1,4 @@
-use Rattle.seg_model.proofs.Refused.{valid_inputs_are_not_refused}
+use Rattle.seg_model.proofs.Refusals.{valid_inputs_are_not_refused}
 use Rattle.seg_model.proofs.laws.valid_inputs_are_not_refused.Goals as goal
 
 pub returns : goal.returns

@@ -1,4 +1,4 @@
-use Rattle.seg_model.proofs.Trees.{trees_read_as_one}
+use Rattle.seg_model.proofs.MergeTrees.{trees_read_as_one}
 use Rattle.seg_model.proofs.merge_tree_laws.trees_of_merges_read_as_one.Goals as goal
 
 pub returns : goal.returns

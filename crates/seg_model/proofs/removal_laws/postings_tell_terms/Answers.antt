@@ -1,4 +1,4 @@
-use Rattle.seg_model.proofs.Told.{postings_tell_terms}
+use Rattle.seg_model.proofs.DocumentsOfTerms.{postings_tell_terms}
 use Rattle.seg_model.proofs.removal_laws.postings_tell_terms.Goals as goal
 
 pub returns : goal.returns

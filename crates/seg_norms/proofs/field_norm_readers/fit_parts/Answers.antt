@@ -1,10 +1,10 @@
 use Rattle.std.proofs.Common.{◌<◌, ◌++◌, ℕ, List, length, take, sym, ap, ◌∙◌, arith}
 use Rattle.std.proofs.lemmas.List.{length-map}
 use Rattle.std.proofs.lemmas.Option.{slice_get_within}
-use Rattle.seg_common.proofs.Along.{goes_on, differs}
-use Rattle.seg_directory.specs.Composite.{Part}
-use Rattle.seg_norms.specs.NormsRead.{lengths_of_parts}
-use Rattle.seg_norms.proofs.NormsFit.{with_lengths, without_lengths}
+use Rattle.seg_common.proofs.ParallelLists.{goes_on, differs}
+use Rattle.seg_directory.specs.CompositeFiles.{Part}
+use Rattle.seg_norms.specs.StoredNorms.{lengths_of_parts}
+use Rattle.seg_norms.proofs.NormsOfFields.{with_lengths, without_lengths}
 use Rattle.seg_norms.proofs.field_norm_readers.fit_parts.Goals as goal
 use Rattle.seg_norms.proofs.field_norm_readers.fit_parts.Goals.{then-has_field_norms+else-not-is_part, else-has_field_norms}
 

@@ -2,7 +2,7 @@ use Rattle.std.proofs.Common.{◌≡◌, ◌≤◌, ◌++◌, ◌∷◌, [], dro
 use Rattle.std.specs.Prelude.{if◌then◌else◌}
 use Rattle.std.specs.List.{enumerate_from, flat_map}
 use Rattle.seg_model.specs.Fields.{has_lengths}
-use Rattle.seg_norms.specs.NormsRead.{lengths_of_parts, lengths_for}
+use Rattle.seg_norms.specs.StoredNorms.{lengths_of_parts, lengths_for}
 use Rattle.seg_norms.proofs.field_norm_readers.fit_parts.Given as goal
 
 -- the parts so far, with those that are wanted of the fields that are left, are all that are wanted

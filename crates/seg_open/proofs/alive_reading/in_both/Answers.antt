@@ -1,4 +1,4 @@
-use Rattle.seg_open.proofs.Marks.{cut_none, cut_some}
+use Rattle.seg_open.proofs.DocumentMarks.{cut_none, cut_some}
 use Rattle.seg_open.proofs.alive_reading.in_both.Goals as goal
 
 pub returns-in_default-alive : goal.returns-in_default-alive

@@ -1,5 +1,5 @@
 use Rattle.std.proofs.Common.{length, ap, arith}
-use Rattle.seg_open.proofs.Marks.{counts_both}
+use Rattle.seg_open.proofs.DocumentMarks.{counts_both}
 use Rattle.seg_open.proofs.alive_reading.num_deleted.Goals as goal
 
 pub overflow_cast-result : goal.overflow_cast-result

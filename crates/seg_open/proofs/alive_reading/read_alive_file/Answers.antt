@@ -1,5 +1,5 @@
 use Rattle.seg_meta.specs.Metas.{deletes_of}
-use Rattle.seg_open.proofs.AliveRead.{alive_damaged, alive_told, alive_unread}
+use Rattle.seg_open.proofs.AliveFileReads.{alive_damaged, alive_told, alive_unread}
 use Rattle.seg_open.proofs.alive_reading.read_alive_file.Goals as goal
 
 pub returns-in-Err : goal.returns-in-Err

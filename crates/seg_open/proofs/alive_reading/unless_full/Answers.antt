@@ -1,5 +1,5 @@
 use Rattle.std.proofs.Common.{rules, ◌≡◌, ◌∙◌, Some, ap, length, sym}
-use Rattle.seg_open.proofs.Marks.{full_is, lacking_is}
+use Rattle.seg_open.proofs.DocumentMarks.{full_is, lacking_is}
 use Rattle.seg_open.proofs.alive_reading.unless_full.Goals as goal
 
 pub returns-then-num_alive_docs-max_value : goal.returns-then-num_alive_docs-max_value

@@ -1,8 +1,8 @@
 use Rattle.std.proofs.Common.{refl}
 use Rattle.std.proofs.lemmas.Result.{IfOk-weaker}
 use Rattle.seg_common.specs.declared.name.SegmentComponent.TheVariants.{Terms}
-use Rattle.seg_open.specs.FilesOpening.{OneLacksDictionary}
-use Rattle.seg_open.proofs.Unopened.{with_table}
+use Rattle.seg_open.specs.OpenedTermFiles.{OneLacksDictionary}
+use Rattle.seg_open.proofs.UnopenedFiles.{with_table}
 use Rattle.seg_open.proofs.dictionaries_opening.open_dictionaries.Goals as goal
 
 pub returns-in_default-clause-err : goal.returns-in_default-clause-err

@@ -1,5 +1,5 @@
 use Rattle.std.proofs.Common.{◌≡◌, length}
-use Rattle.seg_open.specs.FilesOpening.{EachIsFirst}
+use Rattle.seg_open.specs.OpenedTermFiles.{EachIsFirst}
 use Rattle.seg_open.proofs.dictionaries_opening.open_entries.Given as goal
 
 -- this many fields are opened

@@ -1,7 +1,7 @@
 use Rattle.std.proofs.Common.{◌≡◌, ℕ, Option, Some, length}
 use Rattle.std.specs.List.{slice_get}
-use Rattle.seg_postings.specs.FieldReading.{FirstParts, OpenField}
-use Rattle.seg_open.specs.FilesOpening.{AddsPositions, GoesOn}
+use Rattle.seg_postings.specs.OpenedFields.{FirstParts, OpenField}
+use Rattle.seg_open.specs.OpenedTermFiles.{AddsPositions, GoesOn}
 use Rattle.seg_open.proofs.fields_opening.add_positions.Given as goal
 
 -- this many fields are open

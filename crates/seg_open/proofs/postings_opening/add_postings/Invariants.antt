@@ -1,7 +1,7 @@
 use Rattle.std.proofs.Common.{◌≡◌, ℕ, Option, Some, length}
 use Rattle.std.specs.List.{slice_get}
-use Rattle.seg_postings.specs.FieldReading.{FirstPart, FirstParts}
-use Rattle.seg_open.specs.FilesOpening.{AddsPostings, GoesOn}
+use Rattle.seg_postings.specs.OpenedFields.{FirstPart, FirstParts}
+use Rattle.seg_open.specs.OpenedTermFiles.{AddsPostings, GoesOn}
 use Rattle.seg_open.proofs.postings_opening.add_postings.Given as goal
 
 -- this many fields have their postings

@@ -1,9 +1,9 @@
 use Rattle.std.proofs.Common.{IfErr, List, Option, refl, subst}
 use Rattle.std.proofs.lemmas.Result.{IfOk-weaker}
 use Rattle.seg_common.specs.declared.name.SegmentComponent.TheVariants.{Postings}
-use Rattle.seg_postings.specs.FieldReading.{FirstPart}
-use Rattle.seg_open.specs.FilesOpening.{AddsPostings, AllGoOn, IsTold, LacksPostings, OneStops, PostingsUnopened}
-use Rattle.seg_open.proofs.Unopened.{with_table}
+use Rattle.seg_postings.specs.OpenedFields.{FirstPart}
+use Rattle.seg_open.specs.OpenedTermFiles.{AddsPostings, AllGoOn, IsTold, LacksPostings, OneStops, PostingsUnopened}
+use Rattle.seg_open.proofs.UnopenedFiles.{with_table}
 use Rattle.seg_open.proofs.postings_opening.open_postings.Goals as goal
 
 pub returns-in_default-clause-err : goal.returns-in_default-clause-err

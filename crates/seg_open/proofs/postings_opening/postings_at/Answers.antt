@@ -1,7 +1,7 @@
 use Rattle.std.proofs.Common.{◌≡◌, Some, rules}
 use Rattle.seg_common.specs.declared.name.SegmentComponent.TheVariants.{Postings}
-use Rattle.seg_open.specs.FilesOpening.{LacksPostings}
-use Rattle.seg_open.proofs.Unopened.{some_lacks, told_else}
+use Rattle.seg_open.specs.OpenedTermFiles.{LacksPostings}
+use Rattle.seg_open.proofs.UnopenedFiles.{some_lacks, told_else}
 use Rattle.seg_open.proofs.postings_opening.postings_at.Goals as goal
 
 pub returns-in-Err-clause-err : goal.returns-in-Err-clause-err

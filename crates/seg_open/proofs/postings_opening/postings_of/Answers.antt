@@ -1,5 +1,5 @@
 use Rattle.std.proofs.Common.{◌≡◌, refl, rules, inl, inr}
-use Rattle.seg_open.proofs.Unopened.{lacks_postings}
+use Rattle.seg_open.proofs.UnopenedFiles.{lacks_postings}
 use Rattle.seg_open.proofs.postings_opening.postings_of.Goals as goal
 
 pub returns-in-Err-Malformed-clause-err : goal.returns-in-Err-Malformed-clause-err

@@ -1,6 +1,6 @@
 use Rattle.std.proofs.Common.{rules, ◌≡◌, ◌++◌, ◌∷◌, [], Option, Ok, subst}
 use Rattle.seg_model.specs.Input.{Filter}
-use Rattle.seg_open.specs.SegmentOpened.{Opens}
+use Rattle.seg_open.specs.OpeningSteps.{Opens}
 use Rattle.seg_open.proofs.OpeningSteps.{starves}
 use Rattle.seg_open.proofs.segments_opening.open_next.Goals as goal
 

@@ -1,6 +1,6 @@
 use Rattle.std.proofs.Common.{◌≡◌, ◌∙◌, ℕ, List, Ok, ap, arith, length, refl, subst, take}
 use Rattle.std.proofs.lemmas.Option.{slice_get_read}
-use Rattle.seg_open.specs.SegmentOpened.{Asked, OpensSegments, asked_of}
+use Rattle.seg_open.specs.OpeningSteps.{Asked, OpensSegments, asked_of}
 use Rattle.seg_open.proofs.OpeningSteps.{all_asked, as_many, asked_at, fits_at, opens_turn, stops_turn}
 use Rattle.seg_open.proofs.segments_opening.open_segments.Goals as goal
 

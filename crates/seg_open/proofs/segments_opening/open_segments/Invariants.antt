@@ -1,5 +1,5 @@
 use Rattle.std.proofs.Common.{Ok, take}
-use Rattle.seg_open.specs.SegmentOpened.{OpensSegments, asked_of}
+use Rattle.seg_open.specs.OpeningSteps.{OpensSegments, asked_of}
 use Rattle.seg_open.proofs.segments_opening.open_segments.Given as goal
 
 -- the segments so far are open

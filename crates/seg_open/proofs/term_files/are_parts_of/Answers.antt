@@ -1,10 +1,10 @@
 use Rattle.std.proofs.Common.{◌<◌, ◌++◌, ℕ, List, length, take, sym, ap, ◌∙◌, arith}
 use Rattle.std.proofs.lemmas.List.{length-map}
 use Rattle.std.proofs.lemmas.Option.{slice_get_within}
-use Rattle.seg_common.proofs.Along.{goes_on, differs}
-use Rattle.seg_directory.specs.Composite.{Part}
+use Rattle.seg_common.proofs.ParallelLists.{goes_on, differs}
+use Rattle.seg_directory.specs.CompositeFiles.{Part}
 use Rattle.seg_open.specs.IndexedParts.{part_fields}
-use Rattle.seg_open.proofs.FieldsFit.{indexed, not_indexed}
+use Rattle.seg_open.proofs.FittingFields.{indexed, not_indexed}
 use Rattle.seg_open.proofs.term_files.are_parts_of.Goals as goal
 use Rattle.seg_open.proofs.term_files.are_parts_of.Goals.{then-is_indexed+else-not-is_part_of, else-is_indexed}
 

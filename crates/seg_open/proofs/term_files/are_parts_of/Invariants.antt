@@ -2,7 +2,7 @@ use Rattle.std.proofs.Common.{◌≡◌, ◌≤◌, ◌++◌, ◌∷◌, [], dro
 use Rattle.std.specs.Prelude.{if◌then◌else◌}
 use Rattle.std.specs.List.{enumerate_from, flat_map}
 use Rattle.seg_model.specs.Fields.{is_indexed}
-use Rattle.seg_segment.specs.HoldTerms.{indexed_fields}
+use Rattle.seg_segment.specs.TermFiles.{indexed_fields}
 use Rattle.seg_open.specs.IndexedParts.{part_fields}
 use Rattle.seg_open.proofs.term_files.are_parts_of.Given as goal
 

@@ -1,15 +1,15 @@
 use Rattle.std.proofs.Common.{◌<◌, [], ◌∷◌, ◌++◌, ap, sym, ◌∙◌, arith}
 use Rattle.seg_values.specs.Tree.{levels, array, object, trees_from, members_from}
-use Rattle.seg_values.specs.View.{tree_of}
+use Rattle.seg_values.specs.ValueTrees.{tree_of}
 use Rattle.seg_values.proofs.Exports.{levels-at, member_levels-at}
-use Rattle.seg_model.specs.Checked.{tree_refusal}
+use Rattle.seg_model.specs.DocumentCheck.{tree_refusal}
 use Rattle.seg_model.specs.Leaves.{leaves_of_trees, leaves_of_members}
 use Rattle.seg_paths.specs.declared.leaves.NumberedLeaf.{NumberedLeaf}
-use Rattle.seg_paths.proofs.Below.{above-kept}
-use Rattle.seg_paths.proofs.Cutting.{deeper, is_above, path-kept}
-use Rattle.seg_paths.proofs.Numbers.{extends-trans}
-use Rattle.seg_paths.proofs.Walking.{found-kept, leaf-found, one-member, one-tree}
-use Rattle.seg_paths.proofs.Zeros.{taken_member, taken_tree}
+use Rattle.seg_paths.proofs.NodePaths.{above-kept}
+use Rattle.seg_paths.proofs.KeyCuts.{deeper, is_above, path-kept}
+use Rattle.seg_paths.proofs.PathNumbers.{extends-trans}
+use Rattle.seg_paths.proofs.FoundLeaves.{found-kept, leaf-found, one-member, one-tree}
+use Rattle.seg_paths.proofs.ZeroFreeKeys.{taken_member, taken_tree}
 use Rattle.seg_paths.proofs.leaves.+push_leaves.Goals as goal
 
 pub push_leaves-requires : goal.push_leaves-requires

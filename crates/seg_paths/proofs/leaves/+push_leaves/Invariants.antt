@@ -1,10 +1,10 @@
 use Rattle.std.proofs.Common.{◌≡◌, ℕ, List, ◌++◌, map, drop}
 use Rattle.seg_values.specs.Tree.{levels, trees_from, members_from}
-use Rattle.seg_values.specs.View.{tree_of}
+use Rattle.seg_values.specs.ValueTrees.{tree_of}
 use Rattle.seg_model.specs.Leaves.{PlacedLeaf, leaves_of_trees, leaves_of_members}
 use Rattle.seg_paths.specs.NumberedLeaves.{numbered, in_table, IsPathOf}
 use Rattle.seg_paths.specs.Paths.{Extends}
-use Rattle.seg_paths.proofs.Walking.{HasFound}
+use Rattle.seg_paths.proofs.FoundLeaves.{HasFound}
 use Rattle.seg_paths.proofs.leaves.+push_leaves.Given as goal
 
 abbrev pub decreases-push_leaves : goal.decreases-push_leaves

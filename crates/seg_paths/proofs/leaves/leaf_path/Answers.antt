@@ -3,7 +3,7 @@ use Rattle.std.specs.Prelude.{IfOk}
 use Rattle.seg_model.specs.Leaves.{joined_path}
 use Rattle.seg_paths.specs.NumberedLeaves.{IsPathOf}
 use Rattle.seg_paths.specs.Paths.{number_of}
-use Rattle.seg_paths.proofs.Cutting.{root-path}
+use Rattle.seg_paths.proofs.KeyCuts.{root-path}
 use Rattle.seg_paths.proofs.leaves.leaf_path.Goals as goal
 
 pub returns-in-None-clause-number : goal.returns-in-None-clause-number

@@ -1,6 +1,6 @@
 use Rattle.std.proofs.Common.{◌≡◌, ◌+◌, ◌<◌, length, replicate, slice_index_or, refl, ap, ◌∙◌, arith}
 use Rattle.std.proofs.lemmas.List.{length-replicate}
-use Rattle.seg_paths.proofs.GivingOffsets.{AreOffsets-all, OffsetsSoFar-more, OffsetsSoFar-none, end_fits}
+use Rattle.seg_paths.proofs.NodeOffsets.{AreOffsets-all, OffsetsSoFar-more, OffsetsSoFar-none, end_fits}
 use Rattle.seg_paths.proofs.Orders.{IsOrder-from, order-below}
 use Rattle.seg_paths.proofs.offset.offsets.Goals as goal
 

@@ -1,4 +1,4 @@
-use Rattle.seg_paths.proofs.GivingOffsets.{OffsetsSoFar}
+use Rattle.seg_paths.proofs.NodeOffsets.{OffsetsSoFar}
 use Rattle.seg_paths.proofs.offset.offsets.Given as goal
 
 abbrev pub invariant-loop-number : goal.invariant-loop-number

@@ -1,6 +1,6 @@
 use Rattle.std.proofs.Common.{◌<◌, ◌^◌, sym, subst, ◌∙◌}
 use Rattle.seg_paths.specs.Nodes.{asked}
-use Rattle.seg_paths.proofs.Below.{keys-pushed}
+use Rattle.seg_paths.proofs.NodePaths.{keys-pushed}
 use Rattle.seg_paths.proofs.path_table.push_node.Goals as goal
 
 pub returns-clause-ok : goal.returns-clause-ok

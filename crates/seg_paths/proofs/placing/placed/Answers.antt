@@ -1,6 +1,6 @@
 use Rattle.std.proofs.Common.{◌≡◌, ◌+◌, List, ℕ, slice_index_or, refl, ap, subst, sym, ◌∙◌}
 use Rattle.seg_paths.specs.Slots.{base}
-use Rattle.seg_paths.proofs.GivingRanks.{PlacedSoFar, PlacedSoFar-more}
+use Rattle.seg_paths.proofs.NodeRanks.{PlacedSoFar, PlacedSoFar-more}
 use Rattle.seg_paths.proofs.placing.placed.Goals as goal
 
 pub loop-number-preserved : goal.loop-number-preserved

@@ -1,4 +1,4 @@
-use Rattle.seg_paths.proofs.GivingRanks.{PlacedSoFar}
+use Rattle.seg_paths.proofs.NodeRanks.{PlacedSoFar}
 use Rattle.seg_paths.proofs.placing.placed.Given as goal
 
 abbrev pub invariant-loop-number : goal.invariant-loop-number

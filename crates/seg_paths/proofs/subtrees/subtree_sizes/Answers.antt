@@ -1,5 +1,5 @@
 use Rattle.std.proofs.Common.{◌≡◌, ◌-◌, ◌+◌, ◌<◌, ◌≤◌, length, replicate, refl, arith}
-use Rattle.seg_paths.proofs.AddingSizes.{SizesSoFar-more, SizesSoFar-none}
+use Rattle.seg_paths.proofs.SlotSizes.{SizesSoFar-more, SizesSoFar-none}
 use Rattle.seg_paths.proofs.subtrees.subtree_sizes.Goals as goal
 
 pub loop-left-init : goal.loop-left-init

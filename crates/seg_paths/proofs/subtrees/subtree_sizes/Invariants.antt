@@ -1,4 +1,4 @@
-use Rattle.seg_paths.proofs.AddingSizes.{SizesSoFar}
+use Rattle.seg_paths.proofs.SlotSizes.{SizesSoFar}
 use Rattle.std.proofs.Common.{length, ◌≤◌}
 use Rattle.seg_paths.proofs.subtrees.subtree_sizes.Given as goal
 

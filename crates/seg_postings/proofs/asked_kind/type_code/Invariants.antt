@@ -1,5 +1,5 @@
 use Rattle.std.proofs.Common.{◌≡◌, drop}
-use Rattle.seg_model.specs.Reading as reading
+use Rattle.seg_model.specs.DocumentTerms as reading
 use Rattle.seg_postings.proofs.asked_kind.type_code.Given as goal
 
 -- what is left decides

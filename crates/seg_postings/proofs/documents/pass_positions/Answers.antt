@@ -1,5 +1,5 @@
 use Rattle.std.proofs.Common.{◌∙◌, arith, sym, subst}
-use Rattle.seg_postings.specs.Passing.{Passes}
+use Rattle.seg_postings.specs.PassedBytes.{Passes}
 use Rattle.seg_postings.specs.Postings.{positions_at}
 use Rattle.seg_postings.proofs.PassedPositions.{step, ends_early, ends}
 use Rattle.seg_postings.proofs.documents.pass_positions.Goals as goal

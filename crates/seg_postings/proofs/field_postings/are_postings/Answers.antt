@@ -2,10 +2,10 @@ use Rattle.std.proofs.Common.{◌≡◌, ◌∙◌, ℕ, List, None, drop, lengt
 use Rattle.std.specs.List.{AllByRecursion, list_all}
 use Rattle.std.proofs.lemmas.Result.{IfOk-weaker}
 use Rattle.seg_termdict.specs.Dictionary.{Term, terms_of}
-use Rattle.seg_termdict.specs.Building.{last_term, positions_end, postings_end}
+use Rattle.seg_termdict.specs.DictionaryBuilders.{last_term, positions_end, postings_end}
 use Rattle.seg_postings.specs.FieldParts.{LiesWithin}
-use Rattle.seg_postings.specs.PostingsAlone.{is_counted}
-use Rattle.seg_postings.proofs.Completed.{by_terms}
+use Rattle.seg_postings.specs.PostingsWithoutPositions.{is_counted}
+use Rattle.seg_postings.proofs.CompletedPostings.{by_terms}
 use Rattle.seg_postings.proofs.DictionaryRanges.{terms_within}
 use Rattle.seg_postings.proofs.OpenedFields.{behind_total}
 use Rattle.seg_postings.proofs.field_postings.are_postings.Goals as goal

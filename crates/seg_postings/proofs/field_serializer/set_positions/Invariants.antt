@@ -1,6 +1,6 @@
 use Rattle.std.proofs.Common.{◌≡◌, ◌++◌, drop}
-use Rattle.seg_postings.specs.PostingsForm.{positions_after}
-use Rattle.seg_postings.specs.Written.{Rise}
+use Rattle.seg_postings.specs.PostingsBytes.{positions_after}
+use Rattle.seg_postings.specs.WritablePostings.{Rise}
 use Rattle.seg_postings.proofs.field_serializer.set_positions.Given as goal
 
 -- what is so far, with what is left, is all

@@ -1,11 +1,11 @@
 use Rattle.std.proofs.Common.{◌≡◌, ◌+◌, ◌-◌, ◌∙◌, ℕ, List, drop, refl, sym, ap, subst, arith, true}
 use Rattle.std.specs.List.{prefix_len}
 use Rattle.std.specs.Str.{IsUtf8}
-use Rattle.seg_model.specs.Reading.{type_code}
+use Rattle.seg_model.specs.DocumentTerms.{type_code}
 use Rattle.seg_model.specs.Shape.{is_type_code, path_part}
 use Rattle.seg_postings.specs.JsonSpaces.{path_and_type, begins_with}
 use Rattle.seg_postings.specs.JsonRuns.{IsRunOf}
-use Rattle.seg_postings.proofs.SpaceSteps.{is_text, is_coded, forward, last_there, postings_rise, positions_rise, adds}
+use Rattle.seg_postings.proofs.SpaceTerms.{is_text, is_coded, forward, last_there, postings_rise, positions_rise, adds}
 use Rattle.seg_postings.proofs.json_spaces.add_space.Goals as goal
 
 pub overflow_sub-end : goal.overflow_sub-end

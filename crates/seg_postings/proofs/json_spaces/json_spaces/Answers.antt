@@ -1,5 +1,5 @@
 use Rattle.std.proofs.Common.{arith}
-use Rattle.seg_postings.proofs.SpaceSteps.{all_found}
+use Rattle.seg_postings.proofs.SpaceTerms.{all_found}
 use Rattle.seg_postings.proofs.json_spaces.json_spaces.Goals as goal
 
 pub returns : goal.returns

@@ -1,7 +1,7 @@
 use Rattle.std.proofs.Common.{◌∙◌, sym, ap, arith}
 use Rattle.std.specs.Str.{bytes_eq}
 use Rattle.seg_postings.specs.JsonSpaces.{path_and_type}
-use Rattle.seg_postings.proofs.SpaceSteps.{run_goes_on, run_stops}
+use Rattle.seg_postings.proofs.SpaceTerms.{run_goes_on, run_stops}
 use Rattle.seg_postings.proofs.json_spaces.run_end.Goals as goal
 
 pub returns-then-not-begins_with : goal.returns-then-not-begins_with

@@ -1,8 +1,8 @@
 use Rattle.std.proofs.Common.{◌≡◌, ◌++◌, drop, length, take}
 use Rattle.std.specs.List.{flat_map}
 use Rattle.seg_common.specs.Varint.{varint}
-use Rattle.seg_postings.specs.PostingsForm.{differences}
-use Rattle.seg_postings.specs.Written.{Rise}
+use Rattle.seg_postings.specs.PostingsBytes.{differences}
+use Rattle.seg_postings.specs.WritablePostings.{Rise}
 use Rattle.seg_postings.proofs.occurrence.put_gaps.Given as goal
 
 -- what is so far, with what is left, is all

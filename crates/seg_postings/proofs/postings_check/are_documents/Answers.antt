@@ -1,6 +1,6 @@
 use Rattle.std.proofs.Common.{◌∙◌, sym}
 use Rattle.std.proofs.lemmas.Bool.{lt-ltb, le-ltb}
-use Rattle.seg_postings.proofs.CountedSteps.{none_counted, high_counted, counted_turn, counted_ends}
+use Rattle.seg_postings.proofs.CountedDocuments.{none_counted, high_counted, counted_turn, counted_ends}
 use Rattle.seg_postings.proofs.postings_check.are_documents.Goals as goal
 
 pub returns-in_default : goal.returns-in_default

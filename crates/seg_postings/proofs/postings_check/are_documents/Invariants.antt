@@ -1,6 +1,6 @@
 use Rattle.std.proofs.Common.{◌≡◌, ◌-◌}
 use Rattle.seg_postings.specs.Postings.{counts_at}
-use Rattle.seg_postings.specs.PostingsAlone.{are_counted}
+use Rattle.seg_postings.specs.PostingsWithoutPositions.{are_counted}
 use Rattle.seg_postings.proofs.postings_check.are_documents.Given as goal
 
 -- what is left decides

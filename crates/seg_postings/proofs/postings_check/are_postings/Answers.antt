@@ -1,6 +1,6 @@
 use Rattle.std.proofs.Common.{◌∙◌, ◌&&◌, Bool, length, sym, ap, nat_eq}
 use Rattle.std.proofs.lemmas.Bool.{lt-ltb, le-ltb}
-use Rattle.seg_postings.proofs.PostingsSteps.{no_document, high, no_positions, turn, ends}
+use Rattle.seg_postings.proofs.PostingsByDocument.{no_document, high, no_positions, turn, ends}
 use Rattle.seg_postings.proofs.postings_check.are_postings.Goals as goal
 
 pub returns-in_default : goal.returns-in_default

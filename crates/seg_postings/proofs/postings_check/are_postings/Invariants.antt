@@ -1,5 +1,5 @@
 use Rattle.std.proofs.Common.{◌≡◌, ◌-◌}
-use Rattle.seg_postings.specs.PostingsLeft.{postings_at, are_low}
+use Rattle.seg_postings.specs.RemainingPostings.{postings_at, are_low}
 use Rattle.seg_postings.proofs.postings_check.are_postings.Given as goal
 
 abbrev pub invariant-loop : goal.invariant-loop

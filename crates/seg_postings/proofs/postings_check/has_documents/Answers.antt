@@ -1,6 +1,6 @@
 use Rattle.std.proofs.Common.{◌∙◌, ◌≡◌, ◌∷◌, sym, rules}
-use Rattle.seg_postings.specs.Kinds.{kind_byte}
-use Rattle.seg_postings.proofs.CountedSteps.{same_counted}
+use Rattle.seg_postings.specs.RecordKinds.{kind_byte}
+use Rattle.seg_postings.proofs.CountedDocuments.{same_counted}
 use Rattle.seg_postings.proofs.postings_check.has_documents.Goals as goal
 
 pub returns : goal.returns

@@ -1,6 +1,6 @@
 use Rattle.std.proofs.Common.{◌∙◌, ◌≡◌, ◌∷◌, sym, rules}
-use Rattle.seg_postings.specs.Kinds.{kind_byte}
-use Rattle.seg_postings.proofs.KindLemmas.{same_kind}
+use Rattle.seg_postings.specs.RecordKinds.{kind_byte}
+use Rattle.seg_postings.proofs.RecordKinds.{same_kind}
 use Rattle.seg_postings.proofs.postings_check.is_term.Goals as goal
 
 pub returns : goal.returns

@@ -1,8 +1,8 @@
 use Rattle.std.proofs.Common.{◌≡◌, ◌∙◌, Some, false, sym, ap, arith}
 use Rattle.std.specs.Prelude.{get_or}
 use Rattle.std.specs.Int.{from_bool}
-use Rattle.seg_postings.specs.PostingsReading.{kept_kind_of}
-use Rattle.seg_postings.proofs.AliveLeft.{none_counted, is_small, counts_on, stays_few}
+use Rattle.seg_postings.specs.OpenPostings.{kept_kind_of}
+use Rattle.seg_postings.proofs.AliveCounts.{none_counted, is_small, counts_on, stays_few}
 use Rattle.seg_postings.proofs.segment_postings.count_alive.Goals as goal
 
 pub overflow_add-count : goal.overflow_add-count

@@ -1,5 +1,5 @@
 use Rattle.std.proofs.Common.{◌≡◌, ◌+◌, ◌^◌, ◌<◌, length}
-use Rattle.seg_postings.specs.PostingsReading.{alive_count}
+use Rattle.seg_postings.specs.OpenPostings.{alive_count}
 use Rattle.seg_postings.proofs.segment_postings.count_alive.Given as goal
 
 abbrev pub invariant-loop-kind : goal.invariant-loop-kind

@@ -1,5 +1,5 @@
 use Rattle.std.proofs.Common.{arith, ◌-◌}
-use Rattle.seg_postings.proofs.Streams.{last, goes_on, end_reads}
+use Rattle.seg_postings.proofs.PostingsStreams.{last, goes_on, end_reads}
 use Rattle.seg_postings.proofs.segment_postings.next_document.Goals as goal
 
 pub returns-then-left-eq0-clause-left : goal.returns-then-left-eq0-clause-left

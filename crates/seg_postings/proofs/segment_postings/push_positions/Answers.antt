@@ -1,6 +1,6 @@
 use Rattle.std.proofs.Common.{◌∙◌, ◌+◌, ◌-◌, sym, ap, arith, List, ℕ}
 use Rattle.seg_postings.specs.Postings.{positions_at}
-use Rattle.seg_postings.proofs.Streams.{put, put_turn, still_there, always_there, put_ends}
+use Rattle.seg_postings.proofs.PostingsStreams.{put, put_turn, still_there, always_there, put_ends}
 use Rattle.seg_postings.proofs.segment_postings.push_positions.Goals as goal
 
 pub unreachable-requires : goal.unreachable-requires

@@ -1,7 +1,7 @@
 use Rattle.std.proofs.Common.{◌≡◌, ◌-◌, ◌^◌, ◌≤◌, true}
 use Rattle.std.specs.Prelude.{is_some}
 use Rattle.seg_postings.specs.Postings.{positions_at}
-use Rattle.seg_postings.proofs.Streams.{put}
+use Rattle.seg_postings.proofs.PostingsStreams.{put}
 use Rattle.seg_postings.proofs.segment_postings.push_positions.Given as goal
 
 abbrev pub invariant-loop : goal.invariant-loop

@@ -1,5 +1,5 @@
 use Rattle.std.proofs.Common.{sym}
-use Rattle.seg_postings.proofs.FormedTerms.{none_asked}
+use Rattle.seg_postings.proofs.TermForms.{none_asked}
 use Rattle.seg_postings.proofs.term_form.are_formed.Goals as goal
 
 pub returns-in_default : goal.returns-in_default

@@ -1,6 +1,6 @@
 use Rattle.std.proofs.Common.{◌≡◌, ◌-◌, drop, length}
 use Rattle.std.specs.List.{list_all}
-use Rattle.seg_termdict.specs.Streaming.{ranked_terms}
+use Rattle.seg_termdict.specs.TermStreams.{ranked_terms}
 use Rattle.seg_postings.specs.TermForms.{is_formed}
 use Rattle.seg_postings.proofs.term_form.each_is_formed.Given as goal
 

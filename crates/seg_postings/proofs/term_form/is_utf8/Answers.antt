@@ -1,6 +1,6 @@
 use Rattle.std.proofs.Common.{sym}
 use Rattle.std.proofs.lemmas.Str.{is_utf8-from_IsUtf8}
-use Rattle.seg_postings.proofs.FormedTerms.{no_text}
+use Rattle.seg_postings.proofs.TermForms.{no_text}
 use Rattle.seg_postings.proofs.term_form.is_utf8.Goals as goal
 
 pub returns-in-Ok : goal.returns-in-Ok

@@ -1,5 +1,5 @@
 use Rattle.std.proofs.Common.{◌∙◌, sym, arith}
-use Rattle.seg_postings.proofs.TermsChecked.{counted_turn, counted_stops}
+use Rattle.seg_postings.proofs.CheckedTerms.{counted_turn, counted_stops}
 use Rattle.seg_postings.proofs.terms_check.are_counted.Goals as goal
 
 pub returns-then-not-is_info_counted-clause-ok : goal.returns-then-not-is_info_counted-clause-ok

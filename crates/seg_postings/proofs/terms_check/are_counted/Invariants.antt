@@ -1,6 +1,6 @@
 use Rattle.std.proofs.Common.{◌≡◌, drop}
 use Rattle.std.specs.List.{list_all}
-use Rattle.seg_postings.specs.PostingsAlone.{is_counted}
+use Rattle.seg_postings.specs.PostingsWithoutPositions.{is_counted}
 use Rattle.seg_postings.proofs.terms_check.are_counted.Given as goal
 
 -- what is left decides

@@ -1,5 +1,5 @@
 use Rattle.std.proofs.Common.{◌∙◌, sym, arith}
-use Rattle.seg_postings.proofs.TermsChecked.{turn, stops}
+use Rattle.seg_postings.proofs.CheckedTerms.{turn, stops}
 use Rattle.seg_postings.proofs.terms_check.are_terms.Goals as goal
 
 pub returns-then-not-is_info-clause-ok : goal.returns-then-not-is_info-clause-ok

@@ -1,6 +1,6 @@
 use Rattle.std.proofs.Common.{◌≡◌, drop}
 use Rattle.std.specs.List.{list_all}
-use Rattle.seg_postings.specs.FieldReading.{is_read}
+use Rattle.seg_postings.specs.OpenedFields.{is_read}
 use Rattle.seg_postings.proofs.terms_check.are_terms.Given as goal
 
 -- what is left decides

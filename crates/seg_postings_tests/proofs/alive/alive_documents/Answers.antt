@@ -1,10 +1,10 @@
 use Rattle.std.proofs.Common.{◌≡◌, ◌∙◌, ℕ, zero, suc, ◌<◌, Bool, List, [], ◌∷◌, length, get_or, map, refl, ap, subst, arith}
 use Rattle.std.specs.List.{AllByRecursion, Any, Contains}
 use Rattle.seg_common.specs.declared.term_info.TermInfo.{TermInfo}
-use Rattle.seg_model.specs.Reading.{Posting}
+use Rattle.seg_model.specs.DocumentTerms.{Posting}
 use Rattle.seg_termdict.specs.Dictionary.{Term}
-use Rattle.seg_postings.specs.FieldReading.{ReadTerm}
-use Rattle.seg_postings.specs.PostingsReading.{alive_count}
+use Rattle.seg_postings.specs.OpenedFields.{ReadTerm}
+use Rattle.seg_postings.specs.OpenPostings.{alive_count}
 use Rattle.seg_postings_tests.proofs.alive.alive_documents.Goals as goal
 
 -- a term with its info

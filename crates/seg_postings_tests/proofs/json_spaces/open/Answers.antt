@@ -3,7 +3,7 @@ use Rattle.std.specs.List.{list_all}
 use Rattle.seg_values.specs.declared.schema.FieldKind.{FieldKind}
 use Rattle.seg_values.specs.declared.schema.FieldKind.TheVariants.{Json}
 use Rattle.seg_termdict.specs.Dictionary.{Term, terms_of}
-use Rattle.seg_postings.specs.FieldReading.{FirstPart, FirstParts}
+use Rattle.seg_postings.specs.OpenedFields.{FirstPart, FirstParts}
 use Rattle.seg_postings.specs.TermForms.{is_formed}
 use Rattle.seg_postings_tests.proofs.json_spaces.open.Goals as goal
 

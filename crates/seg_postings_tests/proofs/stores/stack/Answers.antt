@@ -1,10 +1,10 @@
 use Rattle.std.proofs.Common.{◌≡◌, ℕ, ◌+◌, ◌<◌, ◌≤◌, ◌^◌, List, sym, subst, arith}
 use Rattle.std.specs.Prelude.{Option, Some, None, IfSome}
-use Rattle.seg_common.specs.Growing.{HasGrown}
+use Rattle.seg_common.specs.WriterGrowth.{HasGrown}
 use Rattle.seg_store.specs.Block.{Block}
 use Rattle.seg_store.specs.BlockLaw.{AllAreStackedLast}
 use Rattle.seg_store.specs.Store.{document_count}
-use Rattle.seg_store.specs.Writing.{Taken, taken_count, with_stacked}
+use Rattle.seg_store.specs.WriterBlocks.{Taken, taken_count, with_stacked}
 use Rattle.seg_postings_tests.proofs.stores.stack.Goals as goal
 
 begun : (before : Option Taken) → IfSome before (λ w. taken_count w ≤ 1) → IfSome before (λ w. taken_count w ≤ 1 + 0)

@@ -1,6 +1,6 @@
 use Rattle.std.proofs.Common.{◌+◌, ◌≤◌}
 use Rattle.std.specs.Prelude.{IfSome}
-use Rattle.seg_store.specs.Writing.{taken_count}
+use Rattle.seg_store.specs.WriterBlocks.{taken_count}
 use Rattle.seg_postings_tests.proofs.stores.stack.Given as goal
 
 -- at most one document more at each turn

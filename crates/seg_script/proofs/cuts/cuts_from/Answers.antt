@@ -1,7 +1,7 @@
 use Rattle.std.proofs.Common.{sym, ◌∙◌}
 use Rattle.serde_json.specs.View.{view}
-use Rattle.seg_meta.specs.Reads.{natural}
-use Rattle.seg_script.proofs.Items.{AtItem, unread, one_more}
+use Rattle.seg_meta.specs.JsonReaders.{natural}
+use Rattle.seg_script.proofs.ItemLists.{AtItem, unread, one_more}
 use Rattle.seg_script.proofs.cuts.cuts_from.Goals as goal
 
 pub returns-in_default-as_u64-clause-none : goal.returns-in_default-as_u64-clause-none

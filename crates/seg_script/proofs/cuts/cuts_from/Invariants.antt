@@ -1,6 +1,6 @@
 use Rattle.std.proofs.Common.{◌≡◌, drop}
 use Rattle.serde_json.specs.View.{view, items_view}
-use Rattle.seg_meta.specs.Reads.{natural, list_of}
+use Rattle.seg_meta.specs.JsonReaders.{natural, list_of}
 use Rattle.seg_meta.proofs.Exports.{so_far}
 use Rattle.seg_script.proofs.cuts.cuts_from.Given as goal
 

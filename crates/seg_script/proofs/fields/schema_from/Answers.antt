@@ -3,7 +3,7 @@ use Rattle.std.specs.Prelude.{IsSome}
 use Rattle.std.proofs.lemmas.Grind.{common_steps}
 use Rattle.std.proofs.lemmas.List.{drop_all}
 use Rattle.serde_json.specs.View.{view, items_view}
-use Rattle.seg_values.specs.Names.{field_named, kept_entry}
+use Rattle.seg_values.specs.FieldNames.{field_named, kept_entry}
 use Rattle.seg_values.specs.SchemaRules.{same_name}
 use Rattle.seg_values.proofs.Exports.{named, same_name-sym, unnamed, name-kept_entry}
 use Rattle.seg_meta.proofs.Exports.{distinct_list-again, distinct_list-long, distinct_list-whole, left-cons, step}

@@ -1,7 +1,7 @@
 use Rattle.std.proofs.Common.{sym, ◌∙◌}
 use Rattle.serde_json.specs.View.{view}
-use Rattle.seg_meta.specs.Reads.{below}
-use Rattle.seg_script.proofs.Items.{AtItem, unread, one_more}
+use Rattle.seg_meta.specs.JsonReaders.{below}
+use Rattle.seg_script.proofs.ItemLists.{AtItem, unread, one_more}
 use Rattle.seg_script.proofs.filters.dropped_from.Goals as goal
 
 pub returns-in_default-document_below-clause-none : goal.returns-in_default-document_below-clause-none

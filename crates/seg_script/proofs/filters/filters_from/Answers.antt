@@ -1,7 +1,7 @@
 use Rattle.serde_json.specs.View.{view}
-use Rattle.seg_meta.specs.Reads.{nullable}
+use Rattle.seg_meta.specs.JsonReaders.{nullable}
 use Rattle.seg_script.specs.Filters.{filter_from}
-use Rattle.seg_script.proofs.Items.{AtItem, one_more}
+use Rattle.seg_script.proofs.ItemLists.{AtItem, one_more}
 use Rattle.seg_script.proofs.filters.filters_from.Goals as goal
 
 pub loop-item-preserved : goal.loop-item-preserved

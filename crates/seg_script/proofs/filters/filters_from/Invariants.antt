@@ -1,6 +1,6 @@
 use Rattle.std.proofs.Common.{◌≡◌, drop}
 use Rattle.serde_json.specs.View.{view, items_view}
-use Rattle.seg_meta.specs.Reads.{nullable, list_of}
+use Rattle.seg_meta.specs.JsonReaders.{nullable, list_of}
 use Rattle.seg_meta.proofs.Exports.{so_far}
 use Rattle.seg_script.specs.Filters.{filter_from}
 use Rattle.seg_script.proofs.filters.filters_from.Given as goal

@@ -1,7 +1,7 @@
 use Rattle.std.proofs.Common.{sym, ◌∙◌}
 use Rattle.serde_json.specs.View.{view}
 use Rattle.seg_script.specs.Script.{id_of}
-use Rattle.seg_script.proofs.Items.{AtItem, unread, one_more}
+use Rattle.seg_script.proofs.ItemLists.{AtItem, unread, one_more}
 use Rattle.seg_script.proofs.ids.ids_from.Goals as goal
 
 pub returns-in_default-id_of-clause-none : goal.returns-in_default-id_of-clause-none

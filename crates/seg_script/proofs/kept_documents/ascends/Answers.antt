@@ -1,5 +1,5 @@
 use Rattle.std.proofs.Common.{sym, ◌∙◌, arith, ◌+◌, drop}
-use Rattle.seg_script.proofs.Ascending.{ascends_from, ascends-all, ascends_from-drop, not_least, from_least}
+use Rattle.seg_script.proofs.AscendingNumbers.{ascends_from, ascends-all, ascends_from-drop, not_least, from_least}
 use Rattle.seg_script.proofs.kept_documents.ascends.Goals as goal
 
 pub loop-number-init : goal.loop-number-init

@@ -1,4 +1,4 @@
-use Rattle.seg_script.proofs.Kept.{kept_of}
+use Rattle.seg_script.proofs.RemainingDocuments.{kept_of}
 use Rattle.seg_script.proofs.kept_documents.kept_documents.Goals as goal
 
 pub loop-document-init : goal.loop-document-init

@@ -1,6 +1,6 @@
 use Rattle.std.proofs.Common.{◌≡◌, drop}
 use Rattle.seg_script.specs.Filters.{all_but}
-use Rattle.seg_script.proofs.Kept.{without}
+use Rattle.seg_script.proofs.RemainingDocuments.{without}
 use Rattle.seg_script.proofs.kept_documents.kept_documents.Given as goal
 
 abbrev pub invariant-loop-document : goal.invariant-loop-document

@@ -2,9 +2,9 @@ use Rattle.std.proofs.Common.{◌≡◌, ◌-◌, ◌<◌, ◌++◌, [], ◌∷�
 use Rattle.json.specs.Json.{after_end_array, parse_map, value}
 use Rattle.serde_json.specs.Data.{no_items, item}
 use Rattle.serde_json.specs.View.{view}
-use Rattle.seg_check.specs.View.{operation_of}
+use Rattle.seg_check.specs.UserOperations.{operation_of}
 use Rattle.seg_script.specs.Operations.{operation_from}
-use Rattle.seg_script.proofs.OneByOne.{each-item, map-push}
+use Rattle.seg_script.proofs.OperationSequences.{each-item, map-push}
 use Rattle.seg_script.proofs.Grammar.{item_read, items_over}
 use Rattle.seg_script.proofs.operation_reading.operations_left.Goals as goal
 

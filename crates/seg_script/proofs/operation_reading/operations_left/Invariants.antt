@@ -4,8 +4,8 @@ use Rattle.json.specs.Json.{items, value}
 use Rattle.serde_json.specs.Data.{Items}
 use Rattle.serde_json.specs.Read.{of_items, converted}
 use Rattle.seg_model.specs.Operations.{Operation}
-use Rattle.seg_meta.specs.Reads.{each}
-use Rattle.seg_check.specs.View.{operation_of}
+use Rattle.seg_meta.specs.JsonReaders.{each}
+use Rattle.seg_check.specs.UserOperations.{operation_of}
 use Rattle.seg_script.specs.Operations.{operation_from}
 use Rattle.seg_script.proofs.operation_reading.operations_left.Given as goal
 

@@ -3,8 +3,8 @@ use Rattle.std.proofs.lemmas.Result.{IfOk-weaker}
 use Rattle.json.specs.Json.{items, value}
 use Rattle.serde_json.specs.Data.{Data, Items, array}
 use Rattle.serde_json.specs.Read.{of_items, of_json, converted}
-use Rattle.seg_meta.specs.Reads.{each, list_of}
-use Rattle.seg_check.specs.View.{operation_of}
+use Rattle.seg_meta.specs.JsonReaders.{each, list_of}
+use Rattle.seg_check.specs.UserOperations.{operation_of}
 use Rattle.seg_script.specs.Operations.{operation_from}
 use Rattle.seg_script.proofs.Grammar.{array_read}
 use Rattle.seg_script.proofs.operation_reading.read_operations.Goals as goal

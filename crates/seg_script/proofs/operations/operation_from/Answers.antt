@@ -1,7 +1,7 @@
 use Rattle.std.proofs.Common.{◌≡◌, None, arith}
 use Rattle.std.proofs.lemmas.Grind.{common_steps}
 use Rattle.serde_json.proofs.Views.{view-Object}
-use Rattle.seg_script.proofs.Each.{not_one}
+use Rattle.seg_script.proofs.ReadItems.{not_one}
 use Rattle.seg_script.proofs.operations.operation_from.Goals as goal
 
 pub returns-in_err-word-clause-none : goal.returns-in_err-word-clause-none

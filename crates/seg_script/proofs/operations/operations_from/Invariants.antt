@@ -1,9 +1,9 @@
 use Rattle.std.proofs.Common.{◌≡◌, map}
 use Rattle.std.specs.Vec.Iter.{into_iter_items}
 use Rattle.serde_json.specs.View.{view, items_view}
-use Rattle.seg_meta.specs.Reads.{list_of}
+use Rattle.seg_meta.specs.JsonReaders.{list_of}
 use Rattle.seg_meta.proofs.Exports.{so_far}
-use Rattle.seg_check.specs.View.{operation_of}
+use Rattle.seg_check.specs.UserOperations.{operation_of}
 use Rattle.seg_script.specs.Operations.{operation_from}
 use Rattle.seg_script.proofs.operations.operations_from.Given as goal
 

@@ -1,7 +1,7 @@
 use Rattle.std.proofs.Common.{◌≡◌, ◌∙◌, Some, option_map, sym, ap}
 use Rattle.serde_json.specs.View.{view, items_view}
 use Rattle.serde_json.proofs.Views.{view-Array}
-use Rattle.seg_values.specs.View.{tree_of}
+use Rattle.seg_values.specs.ValueTrees.{tree_of}
 use Rattle.seg_script.specs.Fields.{field_or_past}
 use Rattle.seg_script.specs.Pairs.{kind_of, reading_of, tree_by, pair_from}
 use Rattle.seg_script.proofs.PairParts.{placed, pair_read}

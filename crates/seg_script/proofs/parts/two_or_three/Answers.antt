@@ -1,5 +1,5 @@
 use Rattle.std.proofs.Common.{sym, arith}
-use Rattle.seg_script.proofs.Each.{not_two_or_three}
+use Rattle.seg_script.proofs.ReadItems.{not_two_or_three}
 use Rattle.seg_script.proofs.parts.two_or_three.Goals as goal
 
 pub returns-in_err-first-2 : goal.returns-in_err-first-2

@@ -6,7 +6,7 @@ use Rattle.json.specs.Lex.{tokens}
 use Rattle.serde_json.specs.Data.{Data}
 use Rattle.serde_json.specs.Read.{of_json, converted}
 use Rattle.seg_script.specs.Script.{script, script_from}
-use Rattle.seg_script.proofs.OneByOne.{script_of_text}
+use Rattle.seg_script.proofs.OperationSequences.{script_of_text}
 use Rattle.seg_script.proofs.script.read_by_operations.Goals as goal
 
 pub returns : goal.returns

@@ -1,7 +1,7 @@
 use Rattle.std.proofs.Common.{sym, ap, true≢false}
-use Rattle.seg_meta.specs.Reads.{given}
+use Rattle.seg_meta.specs.JsonReaders.{given}
 use Rattle.seg_script.specs.Script.{script_from}
-use Rattle.seg_script.proofs.Json.{json_of-read, json_of-refused}
+use Rattle.seg_script.proofs.JsonOfBytes.{json_of-read, json_of-refused}
 use Rattle.seg_script.proofs.script.read_whole.Goals as goal
 
 pub returns-in-Ok-clause-ok : goal.returns-in-Ok-clause-ok

@@ -8,11 +8,11 @@ use Rattle.serde_json.specs.Read.{of_json, converted}
 use Rattle.serde_json.specs.View.{view, members_view}
 use Rattle.serde_json.specs.declared.value.Value.{Object}
 use Rattle.serde_json.proofs.Views.{view-Object}
-use Rattle.seg_meta.specs.Reads.{required}
-use Rattle.seg_check.specs.View.{operation_of}
+use Rattle.seg_meta.specs.JsonReaders.{required}
+use Rattle.seg_check.specs.UserOperations.{operation_of}
 use Rattle.seg_script.specs.Fields.{schema_from}
 use Rattle.seg_script.specs.Script.{input_with, script_from}
-use Rattle.seg_script.proofs.OneByOne.{script_of}
+use Rattle.seg_script.proofs.OperationSequences.{script_of}
 use Rattle.seg_script.proofs.Grammar.{object_read}
 use Rattle.seg_script.proofs.script.script_read.Goals as goal
 

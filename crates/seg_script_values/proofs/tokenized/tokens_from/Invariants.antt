@@ -1,9 +1,9 @@
 use Rattle.std.proofs.Common.{◌≡◌}
 use Rattle.std.specs.Vec.Iter.{into_iter_items}
 use Rattle.serde_json.specs.View.{view, items_view}
-use Rattle.seg_meta.specs.Reads.{list_of}
+use Rattle.seg_meta.specs.JsonReaders.{list_of}
 use Rattle.seg_meta.proofs.Exports.{so_far}
-use Rattle.seg_script_values.specs.Tokenized.{token_from}
+use Rattle.seg_script_values.specs.TokenizedTexts.{token_from}
 use Rattle.seg_script_values.proofs.tokenized.tokens_from.Given as goal
 
 abbrev pub invariant-loop-item : goal.invariant-loop-item

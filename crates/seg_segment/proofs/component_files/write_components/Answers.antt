@@ -1,6 +1,6 @@
 use Rattle.std.proofs.Common.{refl}
 use Rattle.std.proofs.lemmas.List.{get_or_default}
-use Rattle.seg_segment.proofs.FilesMade.{one_more, ends_there}
+use Rattle.seg_segment.proofs.MadeFiles.{one_more, ends_there}
 use Rattle.seg_segment.proofs.component_files.write_components.Goals as goal
 
 pub returns-in-Err : goal.returns-in-Err

@@ -1,5 +1,5 @@
 use Rattle.std.proofs.Common.{Ok, take}
-use Rattle.seg_directory.specs.Works.{Works}
+use Rattle.seg_directory.specs.DirectorySteps.{Works}
 use Rattle.seg_segment.specs.SegmentFiles.{component_steps}
 use Rattle.seg_segment.proofs.component_files.write_components.Given as goal
 

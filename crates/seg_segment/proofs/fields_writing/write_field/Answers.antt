@@ -1,8 +1,8 @@
 use Rattle.std.proofs.Common.{◌≡◌, ◌≤◌, ◌<◌, ◌-◌, ◌^◌, None, refl, sym, ◌∙◌}
 use Rattle.std.specs.Prelude.{IfSome}
-use Rattle.seg_directory.specs.Composite.{low_after}
+use Rattle.seg_directory.specs.CompositeFiles.{low_after}
 use Rattle.seg_model.specs.Fields.{is_indexed}
-use Rattle.seg_segment.proofs.FieldsInTurn.{none_added, of_whole, adds_whole}
+use Rattle.seg_segment.proofs.FieldSequences.{none_added, of_whole, adds_whole}
 use Rattle.seg_segment.proofs.fields_writing.write_field.Goals as goal
 
 pub returns-then-not-is_indexed : goal.returns-then-not-is_indexed

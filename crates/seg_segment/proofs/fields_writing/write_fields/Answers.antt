@@ -2,10 +2,10 @@ use Rattle.std.proofs.Common.{◌≡◌, ◌≤◌, length, Some, sym, refl, ap,
 use Rattle.std.specs.Prelude.{IfSome}
 use Rattle.std.specs.List.{slice_get}
 use Rattle.std.proofs.lemmas.Option.{slice_get_read}
-use Rattle.seg_directory.specs.Composite.{low_after}
+use Rattle.seg_directory.specs.CompositeFiles.{low_after}
 use Rattle.seg_model.specs.Fields.{is_indexed}
-use Rattle.seg_segment.specs.FieldsWritten.{AddsIfIndexed}
-use Rattle.seg_segment.proofs.FieldsInTurn.{none_written, ascends, one_written, have_fields}
+use Rattle.seg_segment.specs.WrittenFields.{AddsIfIndexed}
+use Rattle.seg_segment.proofs.FieldSequences.{none_written, ascends, one_written, have_fields}
 use Rattle.seg_segment.proofs.fields_writing.write_fields.Goals as goal
 
 pub loop-at-init : goal.loop-at-init

@@ -1,4 +1,4 @@
-use Rattle.seg_segment.proofs.FieldsInTurn.{AreWritten}
+use Rattle.seg_segment.proofs.FieldSequences.{AreWritten}
 use Rattle.seg_segment.proofs.fields_writing.write_fields.Given as goal
 
 abbrev pub invariant-loop-at : goal.invariant-loop-at

@@ -1,8 +1,8 @@
 use Rattle.std.proofs.Common.{sym, subst}
 use Rattle.std.specs.Prelude.{IfSome}
-use Rattle.seg_directory.specs.Composite.{low_after}
-use Rattle.seg_segment.specs.LengthsWritten.{AscendFrom}
-use Rattle.seg_segment.proofs.LengthsInTurn.{next_fits, next_limit, next_parts, rest_ascends}
+use Rattle.seg_directory.specs.CompositeFiles.{low_after}
+use Rattle.seg_segment.specs.WrittenLengths.{AscendFrom}
+use Rattle.seg_segment.proofs.LengthSequences.{next_fits, next_limit, next_parts, rest_ascends}
 use Rattle.seg_segment.proofs.lengths_writing.add_fields.Goals as goal
 
 pub write_ids-requires-clause-ascends : goal.write_ids-requires-clause-ascends

@@ -1,6 +1,6 @@
 use Rattle.std.proofs.Common.{◌≡◌, Some, IfSome, take, drop}
-use Rattle.seg_directory.specs.Composite.{low_after}
-use Rattle.seg_segment.specs.LengthsWritten.{AscendFrom, parts_with}
+use Rattle.seg_directory.specs.CompositeFiles.{low_after}
+use Rattle.seg_segment.specs.WrittenLengths.{AscendFrom, parts_with}
 use Rattle.seg_segment.proofs.lengths_writing.add_fields.Given as goal
 
 abbrev pub invariant-loop-field : goal.invariant-loop-field

@@ -1,6 +1,6 @@
 use Rattle.std.proofs.Common.{◌∙◌, Some, ap}
-use Rattle.seg_segment.specs.LengthsWritten.{parts_with}
-use Rattle.seg_segment.proofs.LengthsInTurn.{fields_ascend}
+use Rattle.seg_segment.specs.WrittenLengths.{parts_with}
+use Rattle.seg_segment.proofs.LengthSequences.{fields_ascend}
 use Rattle.seg_segment.proofs.lengths_writing.write_lengths.Goals as goal
 
 pub add_fields-requires-clause-ascend : goal.add_fields-requires-clause-ascend

@@ -1,5 +1,5 @@
 use Rattle.std.proofs.Common.{Some, sym, ◌∙◌}
-use Rattle.seg_store.proofs.Tables.{checkpoint_found}
+use Rattle.seg_store.proofs.EndTables.{checkpoint_found}
 use Rattle.seg_store.proofs.checkpoint.checkpoint_at.Goals as goal
 
 pub returns-clause-found : goal.returns-clause-found

@@ -1,6 +1,6 @@
 use Rattle.std.proofs.Common.{◌≡◌, ◌≤◌, ◌<◌, ◌-◌, ℕ, false}
 use Rattle.std.specs.Prelude.{option_map}
-use Rattle.seg_store.specs.Alive.{alive_at}
+use Rattle.seg_store.specs.AliveDocuments.{alive_at}
 use Rattle.seg_store.proofs.raw_docs.first_alive.Given as goal
 
 -- those before it are dead

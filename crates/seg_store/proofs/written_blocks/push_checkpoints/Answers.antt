@@ -2,7 +2,7 @@ use Rattle.std.proofs.Common.{◌≡◌, ◌++◌, List, map, sym, ap, subst, �
 use Rattle.std.specs.List.{AllByRecursion}
 use Rattle.seg_store.specs.declared.checkpoint.Checkpoint.{Checkpoint}
 use Rattle.seg_store.specs.Checkpoints.{checkpoints}
-use Rattle.seg_store.specs.Stacking.{shifted}
+use Rattle.seg_store.specs.StackedBlocks.{shifted}
 use Rattle.seg_store.proofs.CheckpointLists.{IsBelow, all_below}
 use Rattle.seg_store.proofs.written_blocks.push_checkpoints.Goals as goal
 

@@ -2,7 +2,7 @@ use Rattle.std.proofs.Common.{◌≡◌, ◌<◌, ◌^◌, ◌++◌, map}
 use Rattle.std.specs.List.{AllByRecursion}
 use Rattle.seg_store.specs.declared.checkpoint.Checkpoint.{Checkpoint}
 use Rattle.seg_store.specs.Checkpoints.{checkpoints}
-use Rattle.seg_store.specs.Stacking.{shifted}
+use Rattle.seg_store.specs.StackedBlocks.{shifted}
 use Rattle.seg_store.proofs.written_blocks.push_checkpoints.Given as goal
 
 -- what is so far, with what is left, is all, and each of these fits

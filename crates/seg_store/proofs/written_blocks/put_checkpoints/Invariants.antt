@@ -1,6 +1,6 @@
 use Rattle.std.proofs.Common.{◌≡◌, ◌++◌, drop}
 use Rattle.std.specs.List.{flat_map}
-use Rattle.seg_store.specs.Buffers.{checkpoint_form}
+use Rattle.seg_store.specs.WriterBuffers.{checkpoint_form}
 use Rattle.seg_store.proofs.written_blocks.put_checkpoints.Given as goal
 
 -- what is so far, with what is left, is all

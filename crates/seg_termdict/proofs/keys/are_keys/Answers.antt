@@ -1,7 +1,7 @@
 use Rattle.std.proofs.Common.{◌≡◌, ◌+◌, ◌-◌, sym, ◌∙◌, arith, below_more, inl, inr}
 use Rattle.std.proofs.lemmas.Bool.{cases_lt}
 use Rattle.seg_termdict.specs.Dictionary.{key_start}
-use Rattle.seg_termdict.proofs.KeyLemmas.{key_start-first, key_start-next, start_within, key_of-by}
+use Rattle.seg_termdict.proofs.DictionaryKeys.{key_start-first, key_start-next, start_within, key_of-by}
 use Rattle.seg_termdict.proofs.KeyOrder.{rises_from}
 use Rattle.seg_termdict.proofs.keys.are_keys.Goals as goal
 

@@ -5,7 +5,7 @@ use Rattle.std.specs.declared.cmp.Ordering.TheVariants.{Less, Greater}
 use Rattle.std.proofs.lemmas.Bool.{cases_lt}
 use Rattle.seg_common.proofs.Bytes.{same_term}
 use Rattle.seg_termdict.specs.Dictionary.{key_of}
-use Rattle.seg_termdict.proofs.KeyLemmas.{start_within}
+use Rattle.seg_termdict.proofs.DictionaryKeys.{start_within}
 use Rattle.seg_termdict.proofs.KeyOrder.{below_middle, above_middle, not_same}
 use Rattle.seg_termdict.proofs.keys.find_key.Goals as goal
 

@@ -1,4 +1,4 @@
-use Rattle.seg_termdict.proofs.KeyLemmas.{key_of-by}
+use Rattle.seg_termdict.proofs.DictionaryKeys.{key_of-by}
 use Rattle.seg_termdict.proofs.keys.key_at.Goals as goal
 
 pub returns : goal.returns

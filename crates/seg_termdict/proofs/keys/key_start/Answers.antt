@@ -1,5 +1,5 @@
 use Rattle.std.proofs.Common.{sym, ◌∙◌, arith}
-use Rattle.seg_termdict.proofs.KeyLemmas.{key_start-first, key_start-later}
+use Rattle.seg_termdict.proofs.DictionaryKeys.{key_start-first, key_start-later}
 use Rattle.seg_termdict.proofs.keys.key_start.Goals as goal
 
 pub returns-then-i-eq0 : goal.returns-then-i-eq0

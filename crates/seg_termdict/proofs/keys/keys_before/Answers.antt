@@ -1,7 +1,7 @@
 use Rattle.std.proofs.Common.{◌≡◌, ◌+◌, ◌-◌, ◌/◌, ℕ, true, false, sym, ap, ◌∙◌, arith}
 use Rattle.seg_termdict.specs.Dictionary.{key_of}
-use Rattle.seg_termdict.specs.Ranges.{comes_before}
-use Rattle.seg_termdict.proofs.KeyLemmas.{start_within}
+use Rattle.seg_termdict.specs.TermRanges.{comes_before}
+use Rattle.seg_termdict.proofs.DictionaryKeys.{start_within}
 use Rattle.seg_termdict.proofs.Bounds.{all_before, all_behind}
 use Rattle.seg_termdict.proofs.keys.keys_before.Goals as goal
 

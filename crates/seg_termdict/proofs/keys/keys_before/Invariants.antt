@@ -1,6 +1,6 @@
 use Rattle.std.proofs.Common.{◌≡◌, ◌<◌, ◌≤◌, ◌-◌, ℕ, true, false}
 use Rattle.seg_termdict.specs.Dictionary.{key_of}
-use Rattle.seg_termdict.specs.Ranges.{comes_before}
+use Rattle.seg_termdict.specs.TermRanges.{comes_before}
 use Rattle.seg_termdict.proofs.keys.keys_before.Given as goal
 
 abbrev pub invariant-loop-low : goal.invariant-loop-low

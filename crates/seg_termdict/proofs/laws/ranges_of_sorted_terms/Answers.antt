@@ -1,5 +1,5 @@
 use Rattle.seg_termdict.proofs.Ordinals.{ordinals_are_places}
-use Rattle.seg_termdict.proofs.Ranges.{reversed_bounds_give_none}
+use Rattle.seg_termdict.proofs.ReversedRanges.{reversed_bounds_give_none}
 use Rattle.seg_termdict.proofs.laws.ranges_of_sorted_terms.Goals as goal
 
 pub returns-clause-ordinals : goal.returns-clause-ordinals

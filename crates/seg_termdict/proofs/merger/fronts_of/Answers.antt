@@ -3,7 +3,7 @@ use Rattle.std.specs.List.Sorted.{IsPermutation}
 use Rattle.std.proofs.lemmas.List.{get_or_read}
 use Rattle.seg_common.specs.declared.term_info.TermInfo.{TermInfo}
 use Rattle.seg_termdict.specs.SortedTerms.{RankedTerm}
-use Rattle.seg_termdict.specs.Fronts.{front_at}
+use Rattle.seg_termdict.specs.MergerHeap.{front_at}
 use Rattle.seg_termdict.proofs.FrontSums.{sum_more}
 use Rattle.seg_termdict.proofs.merger.fronts_of.Goals as goal
 

@@ -1,6 +1,6 @@
 use Rattle.std.proofs.Common.{◌≡◌, ◌+◌, ℕ, drop}
 use Rattle.std.specs.Prelude.{sum_by}
-use Rattle.seg_termdict.specs.Fronts.{Front, fronts_from}
+use Rattle.seg_termdict.specs.MergerHeap.{Front, fronts_from}
 use Rattle.seg_termdict.proofs.merger.fronts_of.Given as goal
 
 -- what came, with what is left, is all

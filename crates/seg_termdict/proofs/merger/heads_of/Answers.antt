@@ -3,9 +3,9 @@ use Rattle.std.specs.Prelude.{All}
 use Rattle.std.specs.List.{AllByRecursion}
 use Rattle.std.specs.Vec.Iter.{into_iter_items}
 use Rattle.seg_common.proofs.Lists.{all_push}
-use Rattle.seg_termdict.specs.Streaming.{Stream}
-use Rattle.seg_termdict.specs.Merging.{Ascends, terms_of_stream}
-use Rattle.seg_termdict.proofs.Merges.{one_head}
+use Rattle.seg_termdict.specs.TermStreams.{Stream}
+use Rattle.seg_termdict.specs.MergedStreams.{Ascends, terms_of_stream}
+use Rattle.seg_termdict.proofs.MergerViews.{one_head}
 use Rattle.seg_termdict.proofs.merger.heads_of.Goals as goal
 
 pub loop-stream-preserved : goal.loop-stream-preserved

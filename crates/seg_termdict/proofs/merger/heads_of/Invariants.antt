@@ -2,8 +2,8 @@ use Rattle.std.proofs.Common.{◌≡◌, ◌++◌, false, map}
 use Rattle.std.specs.Prelude.{All}
 use Rattle.std.specs.List.{AllByRecursion}
 use Rattle.std.specs.Vec.Iter.{into_iter_items}
-use Rattle.seg_termdict.specs.Streaming.{Stream}
-use Rattle.seg_termdict.specs.Merging.{Ascends, terms_of_stream}
+use Rattle.seg_termdict.specs.TermStreams.{Stream}
+use Rattle.seg_termdict.specs.MergedStreams.{Ascends, terms_of_stream}
 use Rattle.seg_termdict.proofs.merger.heads_of.Given as goal
 
 -- what came, with what is left, is all

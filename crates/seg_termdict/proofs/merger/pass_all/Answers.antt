@@ -1,8 +1,8 @@
 use Rattle.std.proofs.Common.{◌∙◌, length, sym, ap, subst, arith}
 use Rattle.seg_common.specs.declared.term_info.TermInfo.{TermInfo}
 use Rattle.seg_termdict.specs.MergedTerms.{Standing}
-use Rattle.seg_termdict.specs.Merging.{info_of, ord_of}
-use Rattle.seg_termdict.proofs.Passing.{Passes, passes, at_end, fronts_low, noted_all, noted_more}
+use Rattle.seg_termdict.specs.MergedStreams.{info_of, ord_of}
+use Rattle.seg_termdict.proofs.FirstFronts.{Passes, passes, at_end, fronts_low, noted_all, noted_more}
 use Rattle.seg_termdict.proofs.merger.pass_all.Goals as goal
 use Rattle.seg_termdict.proofs.merger.pass_all.Goals.{In_ok-pass_one}
 

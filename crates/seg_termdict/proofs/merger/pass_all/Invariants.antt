@@ -1,7 +1,7 @@
 use Rattle.std.proofs.Common.{◌≡◌, ◌++◌, map, length}
 use Rattle.std.specs.List.{AllByRecursion}
-use Rattle.seg_termdict.specs.Fronts.{AreFronts}
-use Rattle.seg_termdict.specs.Merging.{Ascends, NotBelow, behind, info_of, ord_of, standings_first}
+use Rattle.seg_termdict.specs.MergerHeap.{AreFronts}
+use Rattle.seg_termdict.specs.MergedStreams.{Ascends, NotBelow, behind, info_of, ord_of, standings_first}
 use Rattle.seg_termdict.proofs.merger.pass_all.Given as goal
 
 -- what was noted and has gone on, with what is left, is all

@@ -1,7 +1,7 @@
 use Rattle.std.proofs.Common.{rules}
 use Rattle.seg_paths.proofs.Exports.{sorted_by_bytes}
 use Rattle.seg_terms.specs.declared.term_part.TermPart.{TermPart}
-use Rattle.seg_terms.proofs.Cutting.{sorted_entries, sorted_whole}
+use Rattle.seg_terms.proofs.CutOccurrences.{sorted_entries, sorted_whole}
 use Rattle.seg_terms.proofs.ordered_terms.order_terms.Goals as goal
 
 pub invariant_of-result : goal.invariant_of-result

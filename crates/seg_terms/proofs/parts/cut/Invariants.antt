@@ -1,5 +1,5 @@
 use Rattle.std.proofs.Common.{◌≡◌, ◌++◌, ◌+◌, drop, length}
-use Rattle.seg_terms.specs.Parts.{cut_from}
+use Rattle.seg_terms.specs.TermParts.{cut_from}
 use Rattle.seg_terms.proofs.parts.cut.Given as goal
 
 -- what is cut, with what is left, is all

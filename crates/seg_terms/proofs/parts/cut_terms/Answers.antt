@@ -1,6 +1,6 @@
 use Rattle.std.proofs.Common.{ap, subst, ◌∙◌}
-use Rattle.seg_terms.specs.Ordered.{AreOrdered}
-use Rattle.seg_terms.specs.Parts.{cut_from}
+use Rattle.seg_terms.specs.OrderedOccurrences.{AreOrdered}
+use Rattle.seg_terms.specs.TermParts.{cut_from}
 use Rattle.seg_terms.proofs.parts.cut_terms.Goals as goal
 
 pub returns : goal.returns

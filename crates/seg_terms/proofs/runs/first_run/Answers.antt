@@ -1,5 +1,5 @@
 use Rattle.std.proofs.Common.{◌≤◌, arith, length}
-use Rattle.seg_terms.proofs.Running.{IsFirstRun-from}
+use Rattle.seg_terms.proofs.OccurrenceRuns.{IsFirstRun-from}
 use Rattle.seg_terms.proofs.runs.first_run.Goals as goal
 
 pub returns-then-hit-document : goal.returns-then-hit-document

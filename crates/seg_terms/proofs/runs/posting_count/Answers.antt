@@ -1,5 +1,5 @@
 use Rattle.std.proofs.Common.{arith}
-use Rattle.seg_terms.proofs.Grouping.{grouped_few}
+use Rattle.seg_terms.proofs.PostingGroups.{grouped_few}
 use Rattle.seg_terms.proofs.runs.posting_count.Goals as goal
 
 pub overflow_add-count : goal.overflow_add-count

@@ -1,5 +1,5 @@
 use Rattle.std.proofs.Common.{◌≡◌, ◌+◌, length}
-use Rattle.seg_terms.specs.Grouped.{grouped}
+use Rattle.seg_terms.specs.PostingGroups.{grouped}
 use Rattle.seg_terms.proofs.runs.posting_count.Given as goal
 
 -- what is so far, with what is left, is all

@@ -1,4 +1,4 @@
-use Rattle.seg_values.specs.View.{tree_of}
+use Rattle.seg_values.specs.ValueTrees.{tree_of}
 use Rattle.seg_text.proofs.PrintedTrees.{one_pair}
 use Rattle.seg_text.proofs.document.push_made_pairs.Goals as goal
 

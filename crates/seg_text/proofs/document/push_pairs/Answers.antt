@@ -3,7 +3,7 @@ use Rattle.std.specs.Prelude.{OnOk, MatchOption}
 use Rattle.serde_json.specs.Written.{compact_text}
 use Rattle.seg_values.specs.Tree.{Document}
 use Rattle.seg_text.specs.DocumentText.{document_json}
-use Rattle.seg_text.specs.Printing.{HasMore, IsPrinted}
+use Rattle.seg_text.specs.PrintedFronts.{HasMore, IsPrinted}
 use Rattle.seg_text.proofs.PrintedStored.{cut_back}
 use Rattle.seg_text.proofs.document.push_pairs.Goals as goal
 

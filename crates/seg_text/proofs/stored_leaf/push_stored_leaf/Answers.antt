@@ -8,12 +8,12 @@ use Rattle.serde_json.specs.Written.{compact_text}
 use Rattle.base64.specs.Engines.{standard}
 use Rattle.base64.specs.GeneralPurpose.{encode_of}
 use Rattle.seg_common.specs.DateText.{date_text}
-use Rattle.seg_doc_bytes.specs.Reader as read
+use Rattle.seg_doc_bytes.specs.FrontReaders as read
 use Rattle.seg_doc_bytes.specs.StoredTree as trees
 use Rattle.seg_values.specs.AddressText.{address_text}
 use Rattle.seg_values.specs.Facets.{path_of}
 use Rattle.seg_values.specs.Tree.{null, text, unsigned, signed, boolean, date, facet, byte_string, ip}
-use Rattle.seg_text.specs.Printing.{Printed, Prints}
+use Rattle.seg_text.specs.PrintedFronts.{Printed, Prints}
 use Rattle.seg_text.proofs.PrintedFronts.{not_more, leaf_text, prints_leaf}
 use Rattle.seg_text.proofs.stored_leaf.push_stored_leaf.Goals as goal
 

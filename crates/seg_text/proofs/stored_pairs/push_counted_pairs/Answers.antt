@@ -1,9 +1,9 @@
 use Rattle.std.proofs.Common.{◌∷◌, [], subst}
 use Rattle.serde_json.specs.Written.{comma_if, compact_text}
-use Rattle.seg_doc_bytes.specs.Reader as read
+use Rattle.seg_doc_bytes.specs.FrontReaders as read
 use Rattle.seg_doc_bytes.specs.StoredDocument.{pair_at}
 use Rattle.seg_text.specs.DocumentText.{document_json, pair_json}
-use Rattle.seg_text.specs.Printing.{Prints}
+use Rattle.seg_text.specs.PrintedFronts.{Prints}
 use Rattle.seg_text.proofs.PrintedFronts.{not_more, printed_text}
 use Rattle.seg_text.proofs.PrintedCounts.{no_item, one_item, item_given_up, all_items, listed_text, pairs_listed}
 use Rattle.seg_text.proofs.stored_pairs.push_counted_pairs.Goals as goal

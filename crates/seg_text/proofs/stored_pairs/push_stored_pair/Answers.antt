@@ -3,7 +3,7 @@ use Rattle.json.specs.Print.{quoted}
 use Rattle.seg_doc_bytes.specs.StoredDocument.{most_levels_read}
 use Rattle.seg_doc_bytes.specs.StoredTree as trees
 use Rattle.seg_text.specs.DocumentText.{name_at}
-use Rattle.seg_text.specs.Printing.{Prints}
+use Rattle.seg_text.specs.PrintedFronts.{Prints}
 use Rattle.seg_text.proofs.PrintedFronts.{not_more, more_by, more_then, tree_text}
 use Rattle.seg_text.proofs.PrintedStored.{pair_printed}
 use Rattle.seg_text.proofs.stored_pairs.push_stored_pair.Goals as goal

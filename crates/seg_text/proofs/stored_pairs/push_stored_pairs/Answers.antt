@@ -1,10 +1,10 @@
 use Rattle.std.proofs.Common.{ℕ, List, sym, subst, ◌∙◌}
 use Rattle.serde_json.specs.Written.{compact_text}
-use Rattle.seg_doc_bytes.specs.Reader as read
+use Rattle.seg_doc_bytes.specs.FrontReaders as read
 use Rattle.seg_doc_bytes.specs.StoredDocument.{pair_at}
 use Rattle.seg_values.specs.Tree.{Document}
 use Rattle.seg_text.specs.DocumentText.{document_json}
-use Rattle.seg_text.specs.Printing.{Prints}
+use Rattle.seg_text.specs.PrintedFronts.{Prints}
 use Rattle.seg_text.proofs.PrintedFronts.{more_by}
 use Rattle.seg_text.proofs.PrintedStored.{whole_printed}
 use Rattle.seg_text.proofs.stored_pairs.push_stored_pairs.Goals as goal

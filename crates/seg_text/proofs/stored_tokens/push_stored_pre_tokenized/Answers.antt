@@ -2,11 +2,11 @@ use Rattle.std.proofs.Common.{codes, refl, subst}
 use Rattle.json.specs.Print.{quoted}
 use Rattle.serde_json.specs.Data.{array}
 use Rattle.serde_json.specs.Written.{compact_text}
-use Rattle.seg_doc_bytes.specs.Reader as read
+use Rattle.seg_doc_bytes.specs.FrontReaders as read
 use Rattle.seg_doc_bytes.specs.StoredTree as trees
 use Rattle.seg_values.specs.Tree.{pre_tokenized}
 use Rattle.seg_values.specs.ValueJson.{tokens_items}
-use Rattle.seg_text.specs.Printing.{Prints}
+use Rattle.seg_text.specs.PrintedFronts.{Prints}
 use Rattle.seg_text.proofs.PrintedFronts.{not_more, more_by, more_then}
 use Rattle.seg_text.proofs.PrintedTokens.{pre_tokenized_pieces}
 use Rattle.seg_text.proofs.stored_tokens.push_stored_pre_tokenized.Goals as goal

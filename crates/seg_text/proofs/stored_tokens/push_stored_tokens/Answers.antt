@@ -1,10 +1,10 @@
 use Rattle.std.proofs.Common.{◌∷◌, [], subst}
 use Rattle.serde_json.specs.Data.{array}
 use Rattle.serde_json.specs.Written.{comma_if, compact_text}
-use Rattle.seg_doc_bytes.specs.Reader as read
+use Rattle.seg_doc_bytes.specs.FrontReaders as read
 use Rattle.seg_doc_bytes.specs.StoredTree as trees
 use Rattle.seg_values.specs.ValueJson.{token_json, tokens_items}
-use Rattle.seg_text.specs.Printing.{Prints}
+use Rattle.seg_text.specs.PrintedFronts.{Prints}
 use Rattle.seg_text.proofs.PrintedFronts.{not_more, printed_text}
 use Rattle.seg_text.proofs.PrintedCounts.{no_item, one_item, item_given_up, all_items, listed_text, tokens_listed}
 use Rattle.seg_text.proofs.stored_tokens.push_stored_tokens.Goals as goal

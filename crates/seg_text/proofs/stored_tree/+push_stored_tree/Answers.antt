@@ -1,12 +1,12 @@
 use Rattle.std.proofs.Common.{rules, ◌∷◌, [], ◌-◌, refl, sym, subst, ◌∙◌, arith}
 use Rattle.json.specs.Print.{quoted}
 use Rattle.serde_json.specs.Written.{comma_if, compact_text}
-use Rattle.seg_doc_bytes.specs.Reader as read
+use Rattle.seg_doc_bytes.specs.FrontReaders as read
 use Rattle.seg_doc_bytes.specs.StoredTree as trees
 use Rattle.seg_doc_bytes.proofs.Exports.{array_front, object_front, leaf_front}
 use Rattle.seg_values.specs.Tree.{leaf, array, object, trees_from, members_from}
 use Rattle.seg_values.specs.ValueJson.{value_json}
-use Rattle.seg_text.specs.Printing.{Prints}
+use Rattle.seg_text.specs.PrintedFronts.{Prints}
 use Rattle.seg_text.proofs.PrintedFronts.{not_more, more_by, more_then, leaf_text, printed_text, prints_as, prints_front, tree_text}
 use Rattle.seg_text.proofs.PrintedCounts.{no_item, one_item, item_given_up, all_items, listed_text, trees_listed}
 use Rattle.seg_text.proofs.PrintedMembers.{no_member, one_member, member_given_up, all_members}

@@ -1,7 +1,7 @@
 use Rattle.std.proofs.Common.{rules, ◌≡◌, ◌++◌, ◌<◌, OnOk, sym, subst, arith}
 use Rattle.serde_json.specs.Written.{compact_text}
 use Rattle.seg_values.specs.Tree.{levels, array, object, trees_from, members_from}
-use Rattle.seg_values.specs.View.{tree_of}
+use Rattle.seg_values.specs.ValueTrees.{tree_of}
 use Rattle.seg_values.proofs.Exports.{levels-at, member_levels-at}
 use Rattle.seg_values.specs.ValueJson.{value_json}
 use Rattle.seg_text.proofs.PrintedTrees.{one_item, one_member, next_place, all_members}

@@ -1,7 +1,7 @@
 use Rattle.std.proofs.Common.{◌≡◌, ◌++◌, ◌+◌, ◌*◌, drop, map, false}
 use Rattle.serde_json.specs.Written.{items_text, members_text}
 use Rattle.seg_values.specs.Tree.{levels, most_levels, most_member_levels, trees_from, members_from}
-use Rattle.seg_values.specs.View.{tree_of}
+use Rattle.seg_values.specs.ValueTrees.{tree_of}
 use Rattle.seg_values.specs.ValueJson.{items_json}
 use Rattle.seg_text.specs.PlacedMembers.{placed_members, ArePlaces}
 use Rattle.seg_text.proofs.value.+push_value.Given as goal

@@ -1,6 +1,6 @@
 use Rattle.std.proofs.Common.{arith}
-use Rattle.seg_values.specs.View.{tree_of}
-use Rattle.seg_text.proofs.Placing.{one_placed, places_placed}
+use Rattle.seg_values.specs.ValueTrees.{tree_of}
+use Rattle.seg_text.proofs.MemberPlaces.{one_placed, places_placed}
 use Rattle.seg_text.proofs.value.last_places.Goals as goal
 
 pub loop-place-preserved : goal.loop-place-preserved

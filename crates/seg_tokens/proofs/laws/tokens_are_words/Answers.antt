@@ -1,7 +1,7 @@
 use Rattle.std.proofs.Common.{false}
 use Rattle.std.specs.Char.{to_ascii_lowercase}
 use Rattle.seg_tokens.specs.Tokenizers.{separates_words, is_blank}
-use Rattle.seg_tokens.proofs.Wording.{in_words_cut}
+use Rattle.seg_tokens.proofs.WordTokens.{in_words_cut}
 use Rattle.seg_tokens.proofs.laws.tokens_are_words.Goals as goal
 
 pub returns : goal.returns

@@ -2,7 +2,7 @@ use Rattle.std.proofs.Common.{rules, tests}
 use Rattle.std.specs.Str.{bytes_eq}
 use Rattle.std.proofs.lemmas.Iterator.{YieldsList-from_slice}
 use Rattle.std.proofs.lemmas.Iterator.Search.{position_from_yields_List}
-use Rattle.seg_tokens.proofs.Registering.{item_named-place}
+use Rattle.seg_tokens.proofs.RegisteredTokenizers.{item_named-place}
 use Rattle.seg_tokens.proofs.tokenizer_manager.place_of.Goals as goal
 
 pub returns-clause-place : goal.returns-clause-place

@@ -1,7 +1,7 @@
 use Rattle.std.proofs.Common.{rules, ◌≡◌, ◌<◌, ◌+◌, ◌∷◌, ◌++◌, [], true, length, sym, ◌∙◌, ap, get_or, arith, subst}
-use Rattle.seg_tokens.specs.Grows.{Keeps}
+use Rattle.seg_tokens.specs.GrowingLists.{Keeps}
 use Rattle.seg_tokens.specs.Words.{words, numbered}
-use Rattle.seg_tokens.proofs.Cutting.{IsCut, IsCut-start, IsCut-skipped, IsCut-cut, IsCut-end}
+use Rattle.seg_tokens.proofs.CutWords.{IsCut, IsCut-start, IsCut-skipped, IsCut-cut, IsCut-end}
 use Rattle.seg_tokens.proofs.tokenizers.push_words.Goals as goal
 use Rattle.seg_tokens.proofs.tokenizers.push_words.Goals.{else-separates, then-separates+in_ok-count}
 

@@ -1,4 +1,4 @@
-use Rattle.seg_tokens.proofs.Cutting.{IsCut}
+use Rattle.seg_tokens.proofs.CutWords.{IsCut}
 use Rattle.seg_tokens.proofs.tokenizers.push_words.Given as goal
 
 abbrev pub invariant-loop-at : goal.invariant-loop-at

@@ -1,6 +1,6 @@
 use Rattle.std.proofs.Common.{refl}
 use Rattle.seg_values.specs.declared.error.TantivyError.TheVariants.{OutOfMemory}
-use Rattle.seg_index_build.specs.Turns.{goes_on, stops}
+use Rattle.seg_index_build.specs.TwoDirectories.{goes_on, stops}
 use Rattle.seg_tool.specs.Printing.{opening}
 use Rattle.seg_tool.proofs.ReadingSteps.{from_front, not_begun}
 use Rattle.seg_tool.proofs.building.build_and_print.Goals as goal

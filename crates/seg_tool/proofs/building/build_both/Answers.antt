@@ -1,4 +1,4 @@
-use Rattle.seg_index_build.specs.Turns.{both}
+use Rattle.seg_index_build.specs.TwoDirectories.{both}
 use Rattle.seg_tool.proofs.JobSteps.{built_so}
 use Rattle.seg_tool.proofs.building.build_both.Goals as goal
 

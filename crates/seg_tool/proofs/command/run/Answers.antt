@@ -1,5 +1,5 @@
 use Rattle.std.proofs.Common.{ap}
-use Rattle.seg_index_build.specs.Turns.{both}
+use Rattle.seg_index_build.specs.TwoDirectories.{both}
 use Rattle.seg_tool.proofs.Commands.{first_in_both, of_build, of_generate, of_merge, of_show, run_later, run_no_script, run_no_words, run_same_sink, run_script, run_sink_later, run_taken, run_turns, run_unread, run_words}
 use Rattle.seg_tool.proofs.Endings.{completes, no-stream}
 use Rattle.seg_tool.proofs.Generated.{generate_completes, generates}

@@ -1,7 +1,7 @@
 use Rattle.std.proofs.Common.{◌∷◌, ◌++◌}
 use Rattle.std.specs.Prelude.{codes, decimal}
 use Rattle.seg_common.specs.SegmentIds.{id_text}
-use Rattle.seg_common.proofs.Known.{part_of_front}
+use Rattle.seg_common.proofs.KnownBytes.{part_of_front}
 use Rattle.seg_common.proofs.Results.{at_error}
 use Rattle.seg_tool.proofs.Parts.{last_part}
 use Rattle.seg_tool.proofs.damage.write_alive.Goals as goal

@@ -3,7 +3,7 @@ use Rattle.std.specs.Prelude.{OnErr}
 use Rattle.seg_common.specs.FileNames.{extension}
 use Rattle.seg_common.specs.SegmentIds.{id_text}
 use Rattle.seg_common.specs.Streams.{AppendsPart}
-use Rattle.seg_common.proofs.Known.{part_of_front}
+use Rattle.seg_common.proofs.KnownBytes.{part_of_front}
 use Rattle.seg_common.proofs.Results.{at_error}
 use Rattle.seg_tool.proofs.Parts.{last_part}
 use Rattle.seg_tool.proofs.damage.write_part.Goals as goal

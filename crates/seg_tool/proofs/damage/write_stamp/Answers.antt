@@ -2,7 +2,7 @@ use Rattle.std.proofs.Common.{◌≡◌, ◌∙◌, [], ◌∷◌, ◌++◌, sub
 use Rattle.std.specs.Prelude.{codes, decimal}
 use Rattle.std.specs.Io.KnownBytes.{Appends}
 use Rattle.seg_common.specs.Streams.{AppendsPart}
-use Rattle.seg_common.proofs.Known.{front_and_part, part_of_front}
+use Rattle.seg_common.proofs.KnownBytes.{front_and_part, part_of_front}
 use Rattle.seg_common.proofs.Results.{at_error}
 use Rattle.seg_tool.proofs.Parts.{last_part}
 use Rattle.seg_tool.proofs.damage.write_stamp.Goals as goal

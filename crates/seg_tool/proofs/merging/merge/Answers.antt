@@ -1,6 +1,6 @@
 use Rattle.std.proofs.Common.{◌∙◌, List, None, ap, map, refl, sym}
 use Rattle.seg_meta.specs.Metas.{SegmentParts}
-use Rattle.seg_index_build.specs.Turns.{goes_on, stops}
+use Rattle.seg_index_build.specs.TwoDirectories.{goes_on, stops}
 use Rattle.seg_tool.proofs.JobSteps.{merge_is, merge_starves}
 use Rattle.seg_tool.proofs.merging.merge.Goals as goal
 

@@ -1,5 +1,5 @@
 use Rattle.std.proofs.Common.{refl}
-use Rattle.seg_index_build.specs.Turns.{goes_on, stops}
+use Rattle.seg_index_build.specs.TwoDirectories.{goes_on, stops}
 use Rattle.seg_tool.proofs.ReadingSteps.{from_nothing}
 use Rattle.seg_tool.proofs.merging.merge_and_print.Goals as goal
 

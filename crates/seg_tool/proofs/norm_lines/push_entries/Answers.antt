@@ -1,8 +1,8 @@
 use Rattle.std.proofs.Common.{◌+◌, ◌++◌, ◌∙◌, [], Some, ap, sym, drop}
 use Rattle.std.specs.Prelude.{unwrap_or}
 use Rattle.std.proofs.lemmas.Option.{slice_get-get_or}
-use Rattle.seg_directory.specs.Composite.{field_of}
-use Rattle.seg_norms.specs.NormsRead.{norms_of}
+use Rattle.seg_directory.specs.CompositeFiles.{field_of}
+use Rattle.seg_norms.specs.StoredNorms.{norms_of}
 use Rattle.seg_text.specs.NormsText.{norms_text}
 use Rattle.seg_tool.proofs.Printed.{norms_at_place, norms_more}
 use Rattle.seg_tool.proofs.norm_lines.push_entries.Goals as goal

@@ -1,5 +1,5 @@
 use Rattle.std.proofs.Common.{◌≡◌, ◌++◌, drop}
-use Rattle.seg_norms.specs.NormsRead.{norms_of}
+use Rattle.seg_norms.specs.StoredNorms.{norms_of}
 use Rattle.seg_text.specs.NormsText.{norms_text}
 use Rattle.seg_tool.proofs.norm_lines.push_entries.Given as goal
 

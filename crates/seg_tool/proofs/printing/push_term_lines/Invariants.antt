@@ -1,7 +1,7 @@
 use Rattle.std.proofs.Common.{◌≡◌, ◌++◌, ◌-◌, drop, map, length}
 use Rattle.std.specs.List.{flat_map}
-use Rattle.seg_termdict.specs.Streaming.{ranked_terms}
-use Rattle.seg_postings.specs.FieldReading.{ReadTerm, dictionary_terms}
+use Rattle.seg_termdict.specs.TermStreams.{ranked_terms}
+use Rattle.seg_postings.specs.OpenedFields.{ReadTerm, dictionary_terms}
 use Rattle.seg_text.specs.FieldText.{term_line}
 use Rattle.seg_tool.proofs.printing.push_term_lines.Given as goal
 

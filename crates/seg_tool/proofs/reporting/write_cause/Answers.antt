@@ -1,6 +1,6 @@
 use Rattle.std.proofs.Common.{◌≡◌, ◌++◌, ◌∙◌, ap, sym}
 use Rattle.std.specs.Prelude.{option_to_list}
-use Rattle.seg_common.proofs.Known.{part_of_front}
+use Rattle.seg_common.proofs.KnownBytes.{part_of_front}
 use Rattle.seg_common.proofs.Results.{at_error}
 use Rattle.seg_tool.specs.Statuses.{cause_words, numbers_text, cause_text}
 use Rattle.seg_tool.proofs.CauseText.{cause_text-parts}

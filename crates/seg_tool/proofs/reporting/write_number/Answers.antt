@@ -1,7 +1,7 @@
 use Rattle.std.proofs.Common.{◌∷◌, [], ◌++◌}
 use Rattle.std.specs.Prelude.{decimal}
 use Rattle.std.proofs.lemmas.List.{append-nil}
-use Rattle.seg_common.proofs.Known.{part_of_front}
+use Rattle.seg_common.proofs.KnownBytes.{part_of_front}
 use Rattle.seg_common.proofs.Results.{at_error}
 use Rattle.seg_tool.proofs.Parts.{last_part}
 use Rattle.seg_tool.proofs.reporting.write_number.Goals as goal

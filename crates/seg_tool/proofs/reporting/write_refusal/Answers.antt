@@ -1,6 +1,6 @@
 use Rattle.std.proofs.Common.{[], ◌∷◌, ◌++◌}
 use Rattle.std.specs.Prelude.{codes}
-use Rattle.seg_common.proofs.Known.{front_and_part, part_of_front}
+use Rattle.seg_common.proofs.KnownBytes.{front_and_part, part_of_front}
 use Rattle.seg_common.proofs.Results.{at_error}
 use Rattle.seg_tool.specs.Statuses.{cause_words, cause_text}
 use Rattle.seg_tool.proofs.Parts.{last_part}

@@ -1,6 +1,6 @@
 use Rattle.std.proofs.Common.{◌≡◌, ◌-◌, drop, map, length}
-use Rattle.seg_termdict.specs.Streaming.{ranked_terms}
-use Rattle.seg_postings.specs.FieldReading.{ReadTerm, dictionary_terms}
+use Rattle.seg_termdict.specs.TermStreams.{ranked_terms}
+use Rattle.seg_postings.specs.OpenedFields.{ReadTerm, dictionary_terms}
 use Rattle.seg_tool.specs.Summaries.{with_terms}
 use Rattle.seg_tool.proofs.summary_totals.with_dictionary.Given as goal
 

@@ -1,8 +1,8 @@
 use Rattle.std.proofs.Common.{◌≡◌, ◌∙◌, ℕ, List, map, sym, ap, subst}
 use Rattle.std.specs.Prelude.{IfOk}
 use Rattle.std.proofs.lemmas.Simd.{map-map}
-use Rattle.seg_model.specs.Reading.{Posting}
-use Rattle.seg_postings.specs.FieldReading.{ReadTerm}
+use Rattle.seg_model.specs.DocumentTerms.{Posting}
+use Rattle.seg_postings.specs.OpenedFields.{ReadTerm}
 use Rattle.seg_tool.specs.Summaries.{with_terms}
 use Rattle.seg_tool.proofs.summary_totals.with_field.Goals as goal
 

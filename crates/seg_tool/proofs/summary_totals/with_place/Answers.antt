@@ -1,7 +1,7 @@
 use Rattle.std.proofs.Common.{◌≡◌, ◌∙◌, ℕ, Option, None, ap, sym, subst, rules}
 use Rattle.std.specs.List.{slice_get}
 use Rattle.std.specs.Prelude.{IfOk, IfSome}
-use Rattle.seg_postings.specs.FieldReading.{OpenField}
+use Rattle.seg_postings.specs.OpenedFields.{OpenField}
 use Rattle.seg_tool.specs.Summaries.{opened_terms, with_terms}
 use Rattle.seg_tool.proofs.TermSums.{none_open}
 use Rattle.seg_tool.proofs.summary_totals.with_place.Goals as goal

@@ -1,5 +1,5 @@
 use Rattle.std.proofs.Common.{◌≡◌, ◌++◌, map}
-use Rattle.seg_values.specs.View.{named_tree}
+use Rattle.seg_values.specs.ValueTrees.{named_tree}
 use Rattle.seg_values.proofs.conversions.members_from.Given as goal
 
 abbrev pub invariant-loop-key : goal.invariant-loop-key

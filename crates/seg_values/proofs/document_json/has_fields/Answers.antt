@@ -1,6 +1,6 @@
 use Rattle.std.proofs.Common.{◌<◌, ◌≤◌, length, arith}
 use Rattle.seg_values.specs.DocumentJson.{has_fields}
-use Rattle.seg_values.specs.View.{tree_of}
+use Rattle.seg_values.specs.ValueTrees.{tree_of}
 use Rattle.seg_values.proofs.DocumentObjects.{field_passes, field_fails}
 use Rattle.seg_values.proofs.document_json.has_fields.Goals as goal
 

@@ -1,6 +1,6 @@
 use Rattle.std.proofs.Common.{sym, ap, ◌∙◌}
 use Rattle.serde_json.specs.View.{view, members_view}
-use Rattle.seg_values.specs.View.{tree_of}
+use Rattle.seg_values.specs.ValueTrees.{tree_of}
 use Rattle.seg_values.proofs.DocumentObjects.{object_more, field_within, nothing}
 use Rattle.seg_values.proofs.document_json.object_from.Goals as goal
 

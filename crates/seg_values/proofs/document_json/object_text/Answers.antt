@@ -5,7 +5,7 @@ use Rattle.serde_json.specs.View.{view}
 use Rattle.serde_json.specs.Written.{compact_text, has_float}
 use Rattle.serde_json.specs.declared.value.Value.{Object}
 use Rattle.seg_values.specs.DocumentJson.{document_object}
-use Rattle.seg_values.proofs.NoFloats.{object_none}
+use Rattle.seg_values.proofs.FloatFreeJson.{object_none}
 use Rattle.seg_values.proofs.document_json.object_text.Goals as goal
 
 pub returns : goal.returns

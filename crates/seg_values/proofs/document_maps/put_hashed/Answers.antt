@@ -1,4 +1,4 @@
-use Rattle.seg_values.specs.View.{tree_of}
+use Rattle.seg_values.specs.ValueTrees.{tree_of}
 use Rattle.seg_values.proofs.LastValues.{found_more}
 use Rattle.seg_values.proofs.document_maps.put_hashed.Goals as goal
 

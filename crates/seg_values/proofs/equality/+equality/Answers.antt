@@ -3,11 +3,11 @@ use mathlib.Core.Bool.{false≢true}
 use Rattle.std.specs.Cmp.Lexicographic.{bytes_decides}
 use Rattle.std.specs.Net.Addr.{octets_of}
 use Rattle.std.proofs.lemmas.Bool.Decides.{Decides-at, Decides-like}
-use Rattle.seg_tokens.specs.Code.{key_code, pre_tokenized_code}
-use Rattle.seg_tokens.specs.Same.{same_by-decides}
+use Rattle.seg_tokens.specs.TokenCodes.{key_code, pre_tokenized_code}
+use Rattle.seg_tokens.specs.CodeEquality.{same_by-decides}
 use Rattle.seg_values.specs.Tree.{leaf, text, pre_tokenized, facet, byte_string, ip, array, object, trees_from, members_from}
-use Rattle.seg_values.specs.View.{tree_of, member_of}
-use Rattle.seg_values.proofs.Alike.{more_seen, seen_at, array-inj, object-inj, octets_of-inj}
+use Rattle.seg_values.specs.ValueTrees.{tree_of, member_of}
+use Rattle.seg_values.proofs.EqualLists.{more_seen, seen_at, array-inj, object-inj, octets_of-inj}
 use Rattle.seg_values.proofs.equality.+equality.Goals as goal
 
 pub is_same-returns-in-Str-Str : goal.is_same-returns-in-Str-Str

@@ -1,5 +1,5 @@
 use Rattle.std.proofs.Common.{◌≡◌, take, map}
-use Rattle.seg_values.specs.View.{tree_of, member_of}
+use Rattle.seg_values.specs.ValueTrees.{tree_of, member_of}
 use Rattle.seg_values.proofs.equality.+equality.Given as goal
 
 -- what was passed is the same

@@ -1,6 +1,6 @@
 use mathlib.Core.Bool.{false≢true}
-use Rattle.seg_values.specs.View.{tree_of}
-use Rattle.seg_values.proofs.Alike.{more_same, same_at, same_pair, other_pair}
+use Rattle.seg_values.specs.ValueTrees.{tree_of}
+use Rattle.seg_values.proofs.EqualLists.{more_same, same_at, same_pair, other_pair}
 use Rattle.seg_values.proofs.equality.are_same_pairs.Goals as goal
 
 pub returns-then-ne : goal.returns-then-ne

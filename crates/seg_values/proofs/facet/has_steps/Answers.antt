@@ -2,7 +2,7 @@ use Rattle.std.proofs.Common.{rules, tests, lit<, ◌==◌, not, eqb, length}
 use Rattle.std.specs.List.{list_any}
 use Rattle.std.proofs.lemmas.Iterator.Search.{all_from_yields_List}
 use Rattle.std.proofs.lemmas.Iterator.Splits.{YieldsList-from_str_split}
-use Rattle.seg_values.proofs.Telling.{passed_two, stopped, tells_from_passes}
+use Rattle.seg_values.proofs.FacetPaths.{passed_two, stopped, tells_from_passes}
 use Rattle.seg_values.proofs.facet.has_steps.Goals as goal
 
 pub returns-then-not-contains : goal.returns-then-not-contains

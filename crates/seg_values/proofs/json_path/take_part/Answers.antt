@@ -3,7 +3,7 @@ use Rattle.std.proofs.lemmas.Str.Pattern.{strip_suffix_char}
 use Rattle.seg_common.specs.JsonPaths.{written_key}
 use Rattle.seg_common.proofs.Results.{when_ok}
 use Rattle.seg_values.proofs.JsonPathTexts.{taken_on, taken_whole}
-use Rattle.seg_values.proofs.Outcomes.{when_both_ok}
+use Rattle.seg_values.proofs.LastCallClauses.{when_both_ok}
 use Rattle.seg_values.proofs.json_path.take_part.Goals as goal
 
 pub returns-in-Some-clause-keys : goal.returns-in-Some-clause-keys

@@ -1,4 +1,4 @@
-use Rattle.seg_values.proofs.JsonReadBack.{tree_back}
+use Rattle.seg_values.proofs.JsonRoundTrips.{tree_back}
 use Rattle.seg_values.proofs.laws.json_reads_back.Goals as goal
 
 pub returns : goal.returns

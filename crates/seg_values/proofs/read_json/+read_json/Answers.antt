@@ -2,8 +2,8 @@ use Rattle.std.proofs.Common.{◌≡◌, ◌++◌, [], ◌∷◌, Some, string_b
 use Rattle.std.specs.Option.{option_map}
 use Rattle.serde_json.specs.View.{view, members_view}
 use Rattle.seg_values.specs.JsonTrees.{tree_read, members_read}
-use Rattle.seg_values.specs.View.{tree_of}
-use Rattle.seg_values.proofs.ReadingJson.{after, after_one}
+use Rattle.seg_values.specs.ValueTrees.{tree_of}
+use Rattle.seg_values.proofs.ReadJsonValues.{after, after_one}
 use Rattle.seg_values.proofs.read_json.+read_json.Goals as goal
 
 pub members_from-loop-key-preserved : goal.members_from-loop-key-preserved

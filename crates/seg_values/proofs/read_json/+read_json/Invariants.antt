@@ -1,7 +1,7 @@
 use Rattle.std.proofs.Common.{◌≡◌, drop}
 use Rattle.serde_json.specs.View.{items_view, members_view}
 use Rattle.seg_values.specs.JsonTrees.{trees_read, members_read}
-use Rattle.seg_values.proofs.ReadingJson.{after}
+use Rattle.seg_values.proofs.ReadJsonValues.{after}
 use Rattle.seg_values.proofs.read_json.+read_json.Given as goal
 
 abbrev pub invariant-values_from-loop-item : goal.invariant-values_from-loop-item

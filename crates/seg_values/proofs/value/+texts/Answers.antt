@@ -1,7 +1,7 @@
 use Rattle.std.proofs.Common.{IsUtf8}
 use Rattle.seg_values.specs.declared.value.Member.{Member}
-use Rattle.seg_values.specs.Utf8.{IsUtf8Tree}
-use Rattle.seg_values.specs.View.{tree_of}
+use Rattle.seg_values.specs.Utf8Values.{IsUtf8Tree}
+use Rattle.seg_values.specs.ValueTrees.{tree_of}
 use Rattle.seg_tokens.proofs.Exports.{all_passed, one_more}
 use Rattle.seg_values.proofs.Utf8Trees.{are_utf8_trees, are_utf8_members}
 use Rattle.seg_values.proofs.value.+texts.Goals as goal

@@ -1,8 +1,8 @@
 use Rattle.std.proofs.Common.{◌≡◌, ◌<◌, ℕ, get_or, map, IsUtf8}
 use Rattle.seg_values.specs.declared.value.Member.{Member}
 use Rattle.seg_values.specs.declared.value.OwnedValue.{OwnedValue}
-use Rattle.seg_values.specs.Utf8.{IsUtf8Tree}
-use Rattle.seg_values.specs.View.{tree_of, member_of}
+use Rattle.seg_values.specs.Utf8Values.{IsUtf8Tree}
+use Rattle.seg_values.specs.ValueTrees.{tree_of, member_of}
 use Rattle.seg_values.proofs.value.+texts.Given as goal
 
 -- the texts that were passed

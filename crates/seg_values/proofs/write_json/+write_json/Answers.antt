@@ -4,9 +4,9 @@ use Rattle.serde_json.specs.Data.{no_members}
 use Rattle.serde_json.specs.View.{view, members_view}
 use Rattle.seg_values.specs.Tree.{levels, array, object, trees_from, members_from}
 use Rattle.seg_values.specs.ValueJson.{items_json, members_json}
-use Rattle.seg_values.specs.View.{tree_of}
-use Rattle.seg_values.proofs.Levels.{levels-at, member_levels-at}
-use Rattle.seg_values.proofs.WritingJson.{followed, followed_none, value_more, member_more}
+use Rattle.seg_values.specs.ValueTrees.{tree_of}
+use Rattle.seg_values.proofs.TreeLevels.{levels-at, member_levels-at}
+use Rattle.seg_values.proofs.WrittenJson.{followed, followed_none, value_more, member_more}
 use Rattle.seg_values.proofs.write_json.+write_json.Goals as goal
 
 pub items_from-json_from-requires : goal.items_from-json_from-requires

@@ -3,8 +3,8 @@ use Rattle.serde_json.specs.Data.{no_members}
 use Rattle.serde_json.specs.View.{view, members_view}
 use Rattle.seg_values.specs.Tree.{levels, most_levels, most_member_levels, trees_from, members_from}
 use Rattle.seg_values.specs.ValueJson.{items_json, members_json}
-use Rattle.seg_values.specs.View.{tree_of}
-use Rattle.seg_values.proofs.WritingJson.{followed}
+use Rattle.seg_values.specs.ValueTrees.{tree_of}
+use Rattle.seg_values.proofs.WrittenJson.{followed}
 use Rattle.seg_values.proofs.write_json.+write_json.Given as goal
 
 -- each call of a value is of fewer levels

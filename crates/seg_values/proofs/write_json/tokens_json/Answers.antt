@@ -5,7 +5,7 @@ use Rattle.serde_json.specs.Data.{array, item}
 use Rattle.serde_json.specs.View.{view}
 use Rattle.seg_common.proofs.Lists.{drop-get_or}
 use Rattle.seg_values.specs.ValueJson.{tokens_items}
-use Rattle.seg_values.proofs.WritingJson.{followed, followed_none, item_more}
+use Rattle.seg_values.proofs.WrittenJson.{followed, followed_none, item_more}
 use Rattle.seg_values.proofs.write_json.tokens_json.Goals as goal
 
 pub loop-token-preserved : goal.loop-token-preserved

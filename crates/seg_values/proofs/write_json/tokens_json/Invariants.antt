@@ -1,7 +1,7 @@
 use Rattle.std.proofs.Common.{◌≡◌, drop, map}
 use Rattle.serde_json.specs.View.{view}
 use Rattle.seg_values.specs.ValueJson.{tokens_items}
-use Rattle.seg_values.proofs.WritingJson.{followed}
+use Rattle.seg_values.proofs.WrittenJson.{followed}
 use Rattle.seg_values.proofs.write_json.tokens_json.Given as goal
 
 abbrev pub invariant-loop-token : goal.invariant-loop-token

@@ -1,4 +1,4 @@
-use Rattle.seg_batches.proofs.Skipping.{skips, stops}
+use Rattle.seg_batches.proofs.SkipTurns.{skips, stops}
 use Rattle.seg_batches.proofs.delete_cursor.DeleteCursor.skip_to.Goals as goal
 
 pub loop-self-preserved : goal.loop-self-preserved

@@ -1,5 +1,5 @@
 use Rattle.std.proofs.Common.{◌-◌, length}
-use Rattle.seg_batches.proofs.Skipping.{IsSkipping}
+use Rattle.seg_batches.proofs.SkipTurns.{IsSkipping}
 use Rattle.seg_batches.proofs.delete_cursor.DeleteCursor.skip_to.Given as goal
 
 abbrev pub invariant-loop-self : goal.invariant-loop-self

@@ -1,8 +1,8 @@
 use Rattle.std.proofs.Common.{◌≡◌, Some, None, option_map, sym, ap, ◌∙◌, arith}
 use Rattle.std.specs.Option.{option_copied}
 use Rattle.seg_meta.specs.Metas as metas
-use Rattle.seg_batches.specs.Segments.{WrittenSegment, deletes_of}
-use Rattle.seg_batches.proofs.Marks.{none_listed, some_listed, are_some}
+use Rattle.seg_batches.specs.WrittenSegments.{WrittenSegment, deletes_of}
+use Rattle.seg_batches.proofs.DocumentMarks.{none_listed, some_listed, are_some}
 use Rattle.seg_batches.proofs.written_segment.WrittenSegment.deletes.Goals as goal
 
 pub returns-in_err-alive-clause-deletes : goal.returns-in_err-alive-clause-deletes

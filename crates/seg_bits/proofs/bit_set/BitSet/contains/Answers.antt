@@ -1,5 +1,5 @@
 use Rattle.std.proofs.Common.{Bool, false, List, get_or, ap, ◌∙◌}
-use Rattle.seg_bits.proofs.Kept.{looked_up}
+use Rattle.seg_bits.proofs.SetWords.{looked_up}
 use Rattle.seg_bits.proofs.bit_set.BitSet.contains.Goals as goal
 
 pub returns : goal.returns

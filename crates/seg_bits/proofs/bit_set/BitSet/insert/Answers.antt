@@ -1,5 +1,5 @@
 use Rattle.std.proofs.Common.{◌<◌, ℕ, Bool, false, true, List, get_or, set, length, sym, ap, ◌∙◌, arith}
-use Rattle.seg_bits.proofs.Kept.{inserted, inserted_is}
+use Rattle.seg_bits.proofs.SetWords.{inserted, inserted_is}
 use Rattle.seg_bits.proofs.Members.{length-members}
 use Rattle.seg_bits.proofs.bit_set.BitSet.insert.Goals as goal
 

@@ -1,6 +1,6 @@
 use Rattle.std.proofs.Common.{◌≡◌, ℕ, List, Some, length, ap, ◌∙◌}
 use Rattle.seg_bits.specs.BitSets.{members, is_clear_from}
-use Rattle.seg_bits.proofs.Written.{spelled, read_back}
+use Rattle.seg_bits.proofs.WrittenSets.{spelled, read_back}
 use Rattle.seg_bits.proofs.bit_set.BitSet.serialize.Goals as goal
 
 pub returns-in-Ok-clause-ok : goal.returns-in-Ok-clause-ok

@@ -1,6 +1,6 @@
 use Rattle.std.proofs.Common.{◌≡◌, ℕ, List, replicate, sym, ap, ◌∙◌, arith, subst}
 use Rattle.seg_bits.specs.BitSets.{words_for, members, KeepsSet}
-use Rattle.seg_bits.proofs.Kept.{none_is, none_kept}
+use Rattle.seg_bits.proofs.SetWords.{none_is, none_kept}
 use Rattle.seg_bits.proofs.bit_set.BitSet.with_max_value.Goals as goal
 
 pub invariant_of-result : goal.invariant_of-result

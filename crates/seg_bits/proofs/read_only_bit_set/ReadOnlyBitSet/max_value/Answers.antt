@@ -1,5 +1,5 @@
 use Rattle.std.proofs.Common.{length, ap, sym, ◌∙◌}
-use Rattle.seg_bits.proofs.Found.{length-set_in}
+use Rattle.seg_bits.proofs.SetLookUps.{length-set_in}
 use Rattle.seg_bits.proofs.read_only_bit_set.ReadOnlyBitSet.max_value.Goals as goal
 
 pub returns : goal.returns

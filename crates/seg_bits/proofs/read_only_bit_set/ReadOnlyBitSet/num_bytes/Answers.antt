@@ -1,7 +1,7 @@
 use Rattle.std.proofs.Common.{◌+◌, ◌*◌, length, ap, sym, ◌∙◌}
 use Rattle.seg_bits.specs.BitSets.{words_for}
-use Rattle.seg_bits.proofs.Found.{length-set_in}
-use Rattle.seg_bits.proofs.Spelled.{set_length}
+use Rattle.seg_bits.proofs.SetLookUps.{length-set_in}
+use Rattle.seg_bits.proofs.SetBytes.{set_length}
 use Rattle.seg_bits.proofs.read_only_bit_set.ReadOnlyBitSet.num_bytes.Goals as goal
 
 pub returns : goal.returns

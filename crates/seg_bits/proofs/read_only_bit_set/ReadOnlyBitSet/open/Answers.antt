@@ -1,6 +1,6 @@
 use Rattle.std.proofs.Common.{ap, sym, ◌∙◌}
 use Rattle.seg_bits.specs.BitSets.{is_bit_set}
-use Rattle.seg_bits.proofs.Spelled.{reads_some}
+use Rattle.seg_bits.proofs.SetBytes.{reads_some}
 use Rattle.seg_bits.proofs.read_only_bit_set.ReadOnlyBitSet.open.Goals as goal
 
 pub returns-in-Some-clause-ok : goal.returns-in-Some-clause-ok

@@ -1,11 +1,11 @@
 use Rattle.std.proofs.Common.{◌≡◌, ◌+◌, map, sym, ap, ◌∙◌, arith}
-use Rattle.seg_values.specs.View.{tree_of}
+use Rattle.seg_values.specs.ValueTrees.{tree_of}
 use Rattle.seg_model.specs.Leaves as model
 use Rattle.seg_check.specs.LeafContents.{with_texts}
 use Rattle.seg_check.specs.Paths.{at_path}
-use Rattle.seg_build.specs.Field.{length_of}
-use Rattle.seg_build.specs.FieldSoFar.{FieldSoFar}
-use Rattle.seg_build.specs.Gathered.{Gathered, gathered, json_gathered, with_leaves}
+use Rattle.seg_build.specs.AddedValues.{length_of}
+use Rattle.seg_build.specs.FieldState.{FieldSoFar}
+use Rattle.seg_build.specs.GatheredFieldTerms.{Gathered, gathered, json_gathered, with_leaves}
 use Rattle.seg_build.proofs.GatheredLeaves.{gathered-leaves}
 use Rattle.seg_build.proofs.field.FieldPostings.add_leaves.Goals as goal
 

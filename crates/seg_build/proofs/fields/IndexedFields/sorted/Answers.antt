@@ -1,6 +1,6 @@
 use Rattle.std.proofs.Common.{sym, subst}
 use Rattle.std.specs.List.{AllByRecursion}
-use Rattle.seg_build.specs.Writable.{CanBeWritten}
+use Rattle.seg_build.specs.WritableTerms.{CanBeWritten}
 use Rattle.seg_build.proofs.fields.IndexedFields.sorted.Goals as goal
 
 pub invariant_of-result : goal.invariant_of-result

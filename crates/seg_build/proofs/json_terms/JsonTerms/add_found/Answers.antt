@@ -1,7 +1,7 @@
 use Rattle.std.proofs.Common.{◌≡◌, ◌+◌, [], ◌∷◌, List, Some, map, refl, sym, ap, ◌∙◌, subst, arith}
 use Rattle.std.specs.List.{AllByRecursion, slice_index_or}
 use Rattle.std.specs.Vec.Iter.{into_iter_items}
-use Rattle.seg_values.specs.View.{tree_of}
+use Rattle.seg_values.specs.ValueTrees.{tree_of}
 use Rattle.seg_paths.specs.NumberedLeaves.{leaf_in}
 use Rattle.seg_paths.specs.Paths.{number_of}
 use Rattle.seg_paths.specs.declared.leaves.NumberedLeaf.{NumberedLeaf}
@@ -9,8 +9,8 @@ use Rattle.seg_tokens.specs.declared.token.Token.{Token}
 use Rattle.seg_check.specs.LeafContents.{leaf_with, with_texts}
 use Rattle.seg_check.specs.Paths.{IsNumbered, path_leaf}
 use Rattle.seg_check.proofs.Exports.{no_more}
-use Rattle.seg_build.specs.Gathered.{AddsLeaf, json_gathered, with_leaves}
-use Rattle.seg_build.specs.LeafSteps.{LeafFits, LeavesFit, leaf_count, leaves_count}
+use Rattle.seg_build.specs.GatheredFieldTerms.{AddsLeaf, json_gathered, with_leaves}
+use Rattle.seg_build.specs.LeafPositions.{LeafFits, LeavesFit, leaf_count, leaves_count}
 use Rattle.seg_build.specs.MemoryUsage.{saturated}
 use Rattle.seg_build.specs.PathStarts.{path_start}
 use Rattle.seg_build.proofs.GatheredLeaves.{leaves_turn, count_turn, fit_turn, fit_first}

@@ -3,8 +3,8 @@ use Rattle.std.specs.List.{AllByRecursion}
 use Rattle.std.specs.Vec.Iter.{into_iter_items}
 use Rattle.seg_check.specs.LeafContents.{with_texts}
 use Rattle.seg_check.specs.Paths.{IsNumbered, path_leaf}
-use Rattle.seg_build.specs.Gathered.{json_gathered, with_leaves}
-use Rattle.seg_build.specs.LeafSteps.{LeavesFit, leaves_count}
+use Rattle.seg_build.specs.GatheredFieldTerms.{json_gathered, with_leaves}
+use Rattle.seg_build.specs.LeafPositions.{LeavesFit, leaves_count}
 use Rattle.seg_build.specs.MemoryUsage.{saturated}
 use Rattle.seg_build.specs.PathStarts.{path_start}
 use Rattle.seg_build.proofs.json_terms.JsonTerms.add_found.Given as goal

@@ -1,13 +1,13 @@
 use Rattle.std.proofs.Common.{List, ℕ, map, sym, ap, ◌∙◌, subst}
 use Rattle.std.proofs.lemmas.Result.{IfOk-weaker}
-use Rattle.seg_values.specs.View.{tree_of}
+use Rattle.seg_values.specs.ValueTrees.{tree_of}
 use Rattle.seg_values.specs.Tree.{Leaf}
 use Rattle.seg_model.specs.Leaves.{leaves}
 use Rattle.seg_check.specs.LeafContents.{with_texts}
 use Rattle.seg_check.specs.Paths.{path_leaf}
 use Rattle.seg_check.proofs.Exports.{are-leaves}
-use Rattle.seg_build.specs.Gathered.{with_leaves}
-use Rattle.seg_build.specs.LeafSteps.{LeavesFit, leaves_count}
+use Rattle.seg_build.specs.GatheredFieldTerms.{with_leaves}
+use Rattle.seg_build.specs.LeafPositions.{LeavesFit, leaves_count}
 use Rattle.seg_build.specs.MemoryUsage.{saturated}
 use Rattle.seg_build.specs.PathStarts.{path_start, starts_of}
 use Rattle.seg_build.proofs.StartsByNumber.{starts-extended}

@@ -5,7 +5,7 @@ use Rattle.std.specs.List.{slice_index_or}
 use Rattle.std.proofs.lemmas.Bool.Decides.{nat_tests}
 use Rattle.seg_model.specs.Occurrences.{start_after, placed_from}
 use Rattle.seg_paths.proofs.Exports.{number-read}
-use Rattle.seg_terms.specs.Adding.{with_occurrences}
+use Rattle.seg_terms.specs.AddedOccurrences.{with_occurrences}
 use Rattle.seg_build.specs.PathStarts.{starts_of}
 use Rattle.seg_build.proofs.StartsByNumber.{starts-put}
 use Rattle.seg_build.proofs.json_terms.JsonTerms.add_text.Goals as goal

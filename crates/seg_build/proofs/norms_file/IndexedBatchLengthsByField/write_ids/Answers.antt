@@ -1,7 +1,7 @@
 use Rattle.std.proofs.Common.{ℕ, List, [], ◌∷◌, ◌++◌, ap, subst}
 use Rattle.std.specs.Prelude.{unwrap_or}
-use Rattle.seg_common.specs.Growing.{HasGrown}
-use Rattle.seg_directory.specs.Composite.{Part}
+use Rattle.seg_common.specs.WriterGrowth.{HasGrown}
+use Rattle.seg_directory.specs.CompositeFiles.{Part}
 use Rattle.seg_build.proofs.norms_file.IndexedBatchLengthsByField.write_ids.Goals as goal
 
 pub returns-in-Ok : goal.returns-in-Ok

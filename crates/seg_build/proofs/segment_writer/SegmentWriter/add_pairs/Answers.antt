@@ -1,12 +1,12 @@
 use Rattle.std.proofs.Common.{◌≡◌, ◌⊎◌, ◌<◌, ◌-◌, ◌^◌, true, map, Some, length, sym, ap, ◌∙◌, subst}
 use Rattle.std.specs.Prelude.{is_none, IsSomeAnd}
 use Rattle.std.specs.List.{AllByRecursion}
-use Rattle.seg_model.specs.Built.{is_taken}
+use Rattle.seg_model.specs.TextDocuments.{is_taken}
 use Rattle.seg_check.specs.IndexedValues.{IsPlainIn, value_in, document_values}
 use Rattle.seg_values.specs.declared.error.TantivyError.TheVariants.{OutOfMemory}
-use Rattle.seg_build.specs.SegmentWriting.{kept_of, Adds, AddsNone, HasPlace, HasTaken, Tells}
-use Rattle.seg_build.proofs.Keeping.{of_parts, room_of, still_under_way, adds}
-use Rattle.seg_build.proofs.Refused.{refused}
+use Rattle.seg_build.specs.SegmentWriters.{kept_of, Adds, AddsNone, HasPlace, HasTaken, Tells}
+use Rattle.seg_build.proofs.WriterContents.{of_parts, room_of, still_under_way, adds}
+use Rattle.seg_build.proofs.RefusedDocuments.{refused}
 use Rattle.seg_build.proofs.segment_writer.SegmentWriter.add_pairs.Goals as goal
 
 pub with_document-requires : goal.with_document-requires

@@ -1,9 +1,9 @@
 use Rattle.std.proofs.Common.{sym, subst}
 use Rattle.std.proofs.lemmas.Result.{on_ok_weaker}
 use Rattle.std.specs.Option.{option_map}
-use Rattle.seg_build.specs.Finishing.{Finalizes, FinishesKept}
-use Rattle.seg_build.specs.SegmentWriting.{kept_of}
-use Rattle.seg_build.proofs.Finalized.{are_finished, finishing_on_disk}
+use Rattle.seg_build.specs.FinishedFiles.{Finalizes, FinishesKept}
+use Rattle.seg_build.specs.SegmentWriters.{kept_of}
+use Rattle.seg_build.proofs.FinalizedFiles.{are_finished, finishing_on_disk}
 use Rattle.seg_build.proofs.segment_writer.SegmentWriter.finalize.Goals as goal
 
 pub returns-in-Some-clause-does : goal.returns-in-Some-clause-does

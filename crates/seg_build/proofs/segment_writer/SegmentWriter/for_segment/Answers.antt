@@ -3,9 +3,9 @@ use Rattle.std.specs.Prelude.{IsTrue}
 use Rattle.std.specs.List.{AllByRecursion}
 use Rattle.seg_values.specs.declared.schema.FieldEntry.{FieldEntry}
 use Rattle.seg_model.specs.Fields.{indexing_tokenizer}
-use Rattle.seg_model.specs.Valid.{names_fit}
+use Rattle.seg_model.specs.ValidInputs.{names_fit}
 use Rattle.seg_column_format.specs.FastTokenizers.{AreKnown}
-use Rattle.seg_build.specs.SegmentWriting.{kept_of, IsKeptOf}
+use Rattle.seg_build.specs.SegmentWriters.{kept_of, IsKeptOf}
 use Rattle.seg_build.proofs.segment_writer.SegmentWriter.for_segment.Goals as goal
 
 pub invariant_of-result : goal.invariant_of-result

@@ -6,11 +6,11 @@ use Rattle.seg_values.specs.declared.error.TantivyError.TheVariants.{InvalidArgu
 use Rattle.seg_values.specs.Tree.{Document}
 use Rattle.seg_model.specs.Columns.{columns}
 use Rattle.seg_build.specs.FieldTerms.{fields_of}
-use Rattle.seg_build.specs.Finishing.{Fails, IsMadeOfKept}
-use Rattle.seg_build.specs.SegmentWriting.{kept_of, IsKeptOf, Writes}
+use Rattle.seg_build.specs.FinishedFiles.{Fails, IsMadeOfKept}
+use Rattle.seg_build.specs.SegmentWriters.{kept_of, IsKeptOf, Writes}
 use Rattle.seg_build.specs.StoredBlocks.{HasBlocks}
-use Rattle.seg_segment.specs.Standing.{StandFor}
-use Rattle.seg_build.proofs.Keeping.{of_parts}
+use Rattle.seg_segment.specs.DocumentsOfFiles.{StandFor}
+use Rattle.seg_build.proofs.WriterContents.{of_parts}
 use Rattle.seg_build.proofs.KeptColumns.{must_fail, told_error}
 use Rattle.seg_build.proofs.segment_writer.SegmentWriter.into_segment.Goals as goal
 

@@ -1,8 +1,8 @@
 use Rattle.std.proofs.Common.{◌≡◌, ◌∙◌, ap, arith, subst}
 use Rattle.seg_build.specs.MemoryUsage.{length_fields, memory_usage, saturated}
-use Rattle.seg_build.specs.SegmentWriting.{kept_of, IsKeptOf, Writes}
-use Rattle.seg_build.proofs.Keeping.{of_parts}
-use Rattle.seg_build.proofs.MemoryTaken.{usage_is}
+use Rattle.seg_build.specs.SegmentWriters.{kept_of, IsKeptOf, Writes}
+use Rattle.seg_build.proofs.WriterContents.{of_parts}
+use Rattle.seg_build.proofs.UsedMemory.{usage_is}
 use Rattle.seg_build.proofs.segment_writer.SegmentWriter.mem_usage.Goals as goal
 
 pub returns-clause-of : goal.returns-clause-of

@@ -1,5 +1,5 @@
 use Rattle.std.proofs.Common.{◌∙◌, subst, sym}
-use Rattle.seg_build.specs.IndexWriting.{IsUnderWay}
+use Rattle.seg_build.specs.IndexWriters.{IsUnderWay}
 use Rattle.seg_build.proofs.AddedDocuments.{still_under_way}
 use Rattle.seg_build.proofs.single_segment_index_writer.SingleSegmentIndexWriter.add_document.Goals as goal
 

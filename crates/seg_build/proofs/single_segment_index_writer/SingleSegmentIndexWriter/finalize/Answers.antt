@@ -6,15 +6,15 @@ use Rattle.seg_common.specs.declared.name.FileName.TheVariants.{Part}
 use Rattle.seg_common.specs.declared.name.SegmentComponent.TheVariants.{Postings, Store}
 use Rattle.seg_values.specs.Tree.{Document}
 use Rattle.seg_meta.specs.IndexOfFiles as index
-use Rattle.seg_meta.specs.View.{meta_of, settings_of}
+use Rattle.seg_meta.specs.MetaMeaning.{meta_of, settings_of}
 use Rattle.seg_meta.specs.declared.index.Index.{Index}
 use Rattle.seg_values.specs.declared.error.TantivyError.{TantivyError}
-use Rattle.seg_segment.specs.Forms.{segment_forms}
+use Rattle.seg_segment.specs.IndexForms.{segment_forms}
 use Rattle.seg_build.specs.FieldTerms.{fields_of}
-use Rattle.seg_build.specs.SegmentWriting.{Writes, document_count}
+use Rattle.seg_build.specs.SegmentWriters.{Writes, document_count}
 use Rattle.seg_build.specs.StoredBlocks.{HasBlocks}
-use Rattle.seg_build.specs.Totals.{TotalsAreCounts}
-use Rattle.seg_build.specs.IndexWriting.{FinalizesIndex, meta_written, one_segment_meta}
+use Rattle.seg_build.specs.PostingsTotals.{TotalsAreCounts}
+use Rattle.seg_build.specs.IndexWriters.{FinalizesIndex, meta_written, one_segment_meta}
 use Rattle.seg_build.proofs.AddedDocuments.{are_few, counted}
 use Rattle.seg_build.proofs.WrittenIndex.{meta_as, others_stay, same_meta, saved_as, segment_goes_on, segment_stops, segment_tells, still_said, still_stands}
 use Rattle.seg_build.proofs.single_segment_index_writer.SingleSegmentIndexWriter.finalize.Goals as goal

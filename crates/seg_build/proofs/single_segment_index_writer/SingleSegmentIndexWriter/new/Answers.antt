@@ -1,7 +1,7 @@
 use Rattle.std.proofs.Common.{◌∙◌, [], ap, subst, sym}
 use Rattle.seg_meta.specs.IndexOfFiles.{ListedSegment}
 use Rattle.seg_meta.specs.Metas.{SegmentParts}
-use Rattle.seg_build.specs.IndexWriting.{IsUnderWay}
+use Rattle.seg_build.specs.IndexWriters.{IsUnderWay}
 use Rattle.seg_build.proofs.AddedDocuments.{writes_some}
 use Rattle.seg_build.proofs.single_segment_index_writer.SingleSegmentIndexWriter.new.Goals as goal
 

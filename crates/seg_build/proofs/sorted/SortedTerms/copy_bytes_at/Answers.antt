@@ -1,7 +1,7 @@
 use Rattle.std.proofs.Common.{arith}
 use Rattle.std.proofs.lemmas.Result.{IfOk-weaker}
 use Rattle.seg_build.specs.OrderedFields.{ordered_terms}
-use Rattle.seg_build.proofs.Recording.{as_many, bytes_of_place}
+use Rattle.seg_build.proofs.RecordedForms.{as_many, bytes_of_place}
 use Rattle.seg_build.proofs.sorted.SortedTerms.copy_bytes_at.Goals as goal
 
 pub copy_bytes_at-requires : goal.copy_bytes_at-requires

@@ -1,7 +1,7 @@
 use Rattle.std.proofs.Common.{arith}
-use Rattle.seg_terms.specs.Grouped.{grouped}
+use Rattle.seg_terms.specs.PostingGroups.{grouped}
 use Rattle.seg_build.specs.OrderedFields.{ordered_terms}
-use Rattle.seg_build.proofs.Recording.{as_many, postings_of_place}
+use Rattle.seg_build.proofs.RecordedForms.{as_many, postings_of_place}
 use Rattle.seg_build.proofs.sorted.SortedTerms.hits_at.Goals as goal
 
 pub hits_at-requires : goal.hits_at-requires

@@ -1,6 +1,6 @@
 use Rattle.std.proofs.Common.{◌∙◌}
 use Rattle.seg_build.specs.OrderedFields.{ordered_terms}
-use Rattle.seg_build.proofs.Recording.{as_many}
+use Rattle.seg_build.proofs.RecordedForms.{as_many}
 use Rattle.seg_build.proofs.sorted.SortedTerms.len.Goals as goal
 
 pub returns : goal.returns

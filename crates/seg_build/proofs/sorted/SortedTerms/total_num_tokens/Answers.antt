@@ -2,10 +2,10 @@ use Rattle.std.proofs.Common.{◌≡◌, ◌≤◌, length, ap, ◌∙◌, arith
 use Rattle.std.specs.Map.{values_of}
 use Rattle.std.proofs.lemmas.List.{length-map}
 use Rattle.seg_build.specs.FieldTerms.{kind_in, postings_as}
-use Rattle.seg_terms.specs.Grouped.{grouped}
+use Rattle.seg_terms.specs.PostingGroups.{grouped}
 use Rattle.seg_build.specs.TokenTotal.{count_total}
-use Rattle.seg_build.proofs.Recording.{value_there}
-use Rattle.seg_build.proofs.Totals.{saturated_end, saturated_more}
+use Rattle.seg_build.proofs.RecordedForms.{value_there}
+use Rattle.seg_build.proofs.PostingsTotals.{saturated_end, saturated_more}
 use Rattle.seg_build.proofs.sorted.SortedTerms.total_num_tokens.Goals as goal
 
 pub loop-at-preserved : goal.loop-at-preserved

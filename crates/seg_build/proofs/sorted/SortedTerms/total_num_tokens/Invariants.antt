@@ -2,7 +2,7 @@ use Rattle.std.proofs.Common.{◌≡◌, ◌-◌, ◌^◌, ◌≤◌, min, drop}
 use Rattle.std.specs.List.{fold}
 use Rattle.std.specs.Map.{values_of}
 use Rattle.seg_build.specs.TokenTotal.{token_total}
-use Rattle.seg_build.proofs.Totals.{and_total}
+use Rattle.seg_build.proofs.PostingsTotals.{and_total}
 use Rattle.seg_build.proofs.sorted.SortedTerms.total_num_tokens.Given as goal
 
 -- what is so far, with what is left, is all

@@ -1,7 +1,7 @@
 use Rattle.std.proofs.Common.{sym, ap, ◌∙◌}
 use Rattle.std.specs.List.{slice_get}
 use Rattle.std.proofs.lemmas.Result.{IfOk-weaker}
-use Rattle.seg_build.specs.TermsWritten.{written_total}
+use Rattle.seg_build.specs.WrittenTerms.{written_total}
 use Rattle.seg_build.proofs.terms_files.IndexedFieldsTermsByField.total_num_tokens.Goals as goal
 
 pub returns : goal.returns

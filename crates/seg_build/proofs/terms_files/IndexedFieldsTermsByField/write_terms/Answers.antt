@@ -2,8 +2,8 @@ use Rattle.std.proofs.Common.{Some, refl, sym, ap, subst, ◌∙◌}
 use Rattle.std.specs.Prelude.{IsSomeAnd}
 use Rattle.std.specs.List.{slice_get}
 use Rattle.seg_segment.proofs.Exports.{is_whole}
-use Rattle.seg_segment.specs.WritingTerms.{IsUnwritten}
-use Rattle.seg_build.specs.TermsWritten.{all_written}
+use Rattle.seg_segment.specs.WrittenTerms.{IsUnwritten}
+use Rattle.seg_build.specs.WrittenTerms.{all_written}
 use Rattle.seg_build.proofs.WrittenFields.{AreIn, total_in}
 use Rattle.seg_build.proofs.terms_files.IndexedFieldsTermsByField.write_terms.Goals as goal
 

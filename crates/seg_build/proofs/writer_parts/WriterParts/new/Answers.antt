@@ -1,9 +1,9 @@
 use Rattle.std.proofs.Common.{[], map, refl, sym, ap, ◌∙◌, subst, arith}
 use Rattle.std.specs.Prelude.{IsSomeAnd}
 use Rattle.seg_values.specs.declared.schema.FieldEntry.{FieldEntry}
-use Rattle.seg_build.specs.Lengths.{HaveLengths}
-use Rattle.seg_build.specs.SegmentWriting.{Stores}
-use Rattle.seg_build.specs.Steps.{fresh}
+use Rattle.seg_build.specs.DocumentLengths.{HaveLengths}
+use Rattle.seg_build.specs.SegmentWriters.{Stores}
+use Rattle.seg_build.specs.FieldsByValue.{fresh}
 use Rattle.seg_build.proofs.KeptLengths.{lengths_before}
 use Rattle.seg_build.proofs.writer_parts.WriterParts.new.Goals as goal
 

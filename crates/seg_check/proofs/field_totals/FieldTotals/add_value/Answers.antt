@@ -1,8 +1,8 @@
 use Rattle.std.proofs.Common.{ap, sym, ◌∙◌}
 use Rattle.std.specs.Prelude.{is_some}
-use Rattle.seg_values.specs.View.{tree_of}
+use Rattle.seg_values.specs.ValueTrees.{tree_of}
 use Rattle.seg_model.specs.Fields.{indexing_tokenizer}
-use Rattle.seg_check.proofs.ValuesCome.{one-more}
+use Rattle.seg_check.proofs.FieldValues.{one-more}
 use Rattle.seg_check.proofs.field_totals.FieldTotals.add_value.Goals as goal
 
 pub returns-in-Some-clause-stands : goal.returns-in-Some-clause-stands

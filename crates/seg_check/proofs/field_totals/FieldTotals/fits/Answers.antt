@@ -1,5 +1,5 @@
 use Rattle.std.proofs.Common.{◌∙◌}
-use Rattle.seg_check.proofs.ValuesCome.{text-fits, json-fits, other-fits}
+use Rattle.seg_check.proofs.FieldValues.{text-fits, json-fits, other-fits}
 use Rattle.seg_check.proofs.field_totals.FieldTotals.fits.Goals as goal
 
 pub returns-in-Text : goal.returns-in-Text

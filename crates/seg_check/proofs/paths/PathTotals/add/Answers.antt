@@ -1,8 +1,8 @@
 use Rattle.std.proofs.Common.{◌≡◌, ℕ, cond, get_or, refl, ap, ◌∙◌, subst}
 use Rattle.std.specs.Prelude.{◌&&◌, ◌==◌}
-use Rattle.seg_check.specs.Totals.{with_more}
+use Rattle.seg_check.specs.TotalsOfFields.{with_more}
 use Rattle.seg_check.specs.declared.totals.Totals.{Totals}
-use Rattle.seg_check.proofs.OnPaths.{stands-more}
+use Rattle.seg_check.proofs.PathLeaves.{stands-more}
 use Rattle.seg_check.proofs.paths.PathTotals.add.Goals as goal
 
 pub returns-clause-stands : goal.returns-clause-stands

@@ -1,9 +1,9 @@
 use Rattle.std.proofs.Common.{refl}
 use Rattle.std.proofs.lemmas.Result.{IfOk-weaker}
-use Rattle.seg_values.specs.View.{tree_of}
+use Rattle.seg_values.specs.ValueTrees.{tree_of}
 use Rattle.seg_model.specs.Leaves.{leaves}
-use Rattle.seg_check.proofs.LeavesCome.{are-leaves}
-use Rattle.seg_check.proofs.OnPaths.{stands-grown}
+use Rattle.seg_check.proofs.FieldLeaves.{are-leaves}
+use Rattle.seg_check.proofs.PathLeaves.{stands-grown}
 use Rattle.seg_check.proofs.paths.PathTotals.leaves_of.Goals as goal
 
 pub returns-clause-leaves : goal.returns-clause-leaves

@@ -2,11 +2,11 @@ use Rattle.std.proofs.Common.{◌≡◌, true, refl, ap, sym, ◌∙◌, subst}
 use Rattle.std.specs.Prelude.{IfOk}
 use Rattle.std.proofs.lemmas.Result.{IfOk-weaker}
 use Rattle.std.proofs.lemmas.Option.{same_Some}
-use Rattle.seg_values.specs.View.{tree_of}
+use Rattle.seg_values.specs.ValueTrees.{tree_of}
 use Rattle.seg_model.specs.Fields.{is_indexed}
-use Rattle.seg_check.specs.AllFields.{CutsMore}
-use Rattle.seg_check.specs.Known.{KnowsTexts}
-use Rattle.seg_check.proofs.FieldsCome.{each-at, keys-plain, order-of, order-none, read-at, none-past}
+use Rattle.seg_check.specs.DocumentFields.{CutsMore}
+use Rattle.seg_check.specs.KnownTokenizers.{KnowsTexts}
+use Rattle.seg_check.proofs.DocumentFields.{each-at, keys-plain, order-of, order-none, read-at, none-past}
 use Rattle.seg_check.proofs.KeptValues.{cut-passed}
 use Rattle.seg_check.proofs.positions.CutDocument.add_pair.Goals as goal
 

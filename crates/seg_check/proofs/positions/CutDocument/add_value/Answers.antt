@@ -1,6 +1,6 @@
 use Rattle.std.proofs.Common.{◌++◌, refl, ap, ◌∙◌}
-use Rattle.seg_values.specs.View.{tree_of}
-use Rattle.seg_model.specs.Checked.{value_texts}
+use Rattle.seg_values.specs.ValueTrees.{tree_of}
+use Rattle.seg_model.specs.DocumentCheck.{value_texts}
 use Rattle.seg_model.specs.Fields.{indexing_tokenizer}
 use Rattle.seg_check.proofs.CutContents.{content_cut}
 use Rattle.seg_check.proofs.KeptValues.{cut-kept}

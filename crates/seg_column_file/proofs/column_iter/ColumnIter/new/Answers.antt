@@ -1,6 +1,6 @@
 use Rattle.std.proofs.Common.{sym, arith}
 use Rattle.seg_column_file.specs.ColumnFiles.{table_of}
-use Rattle.seg_column_file.proofs.TableSteps.{column_start-first, place_of-first}
+use Rattle.seg_column_file.proofs.TableEntries.{column_start-first, place_of-first}
 use Rattle.seg_column_file.proofs.column_iter.ColumnIter.new.Goals as goal
 
 pub invariant_of-result : goal.invariant_of-result

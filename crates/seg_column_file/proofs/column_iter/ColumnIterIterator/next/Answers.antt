@@ -2,7 +2,7 @@ use Rattle.std.proofs.Common.{◌+◌, ◌<◌, ◌∷◌, ℕ, List, Some, sym,
 use Rattle.seg_columns.specs.DynamicColumns.{IsColumnOf, stored_column}
 use Rattle.seg_column_file.specs.ColumnFiles.{NamedColumn, column_count, columns_from, row_count, table_of}
 use Rattle.seg_column_file.specs.ColumnTable.{code_in, end_in, path_in, type_of_code}
-use Rattle.seg_column_file.proofs.FileSteps.{columns_from-end, columns_from-next, end_is, goes, next_at, of_piece, order, read_column, within}
+use Rattle.seg_column_file.proofs.FileColumns.{columns_from-end, columns_from-next, end_is, goes, next_at, of_piece, order, read_column, within}
 use Rattle.seg_column_file.proofs.column_iter.ColumnIterIterator.next.Goals as goal
 
 pub returns-then-self-clause-steps : goal.returns-then-self-clause-steps

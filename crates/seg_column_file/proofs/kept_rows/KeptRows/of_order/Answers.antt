@@ -2,7 +2,7 @@ use Rattle.std.proofs.Common.{sym, subst}
 use Rattle.seg_column_file.specs.KeptRows.{AreMarks}
 use Rattle.seg_column_file.specs.RowOrders.{rows_in_order, stacked}
 use Rattle.seg_column_file.specs.declared.row_order.MergeRowOrder.{MergeRowOrder}
-use Rattle.seg_column_file.proofs.Answering.{if_ok_so}
+use Rattle.seg_column_file.proofs.CallAnswers.{if_ok_so}
 use Rattle.seg_column_file.proofs.StackedMarks.{all_are_kept}
 use Rattle.seg_column_file.proofs.kept_rows.KeptRows.of_order.Goals as goal
 

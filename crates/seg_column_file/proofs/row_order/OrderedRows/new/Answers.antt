@@ -1,7 +1,7 @@
 use Rattle.std.proofs.Common.{◌++◌, [], ◌∙◌, sym, ap, List, map}
 use Rattle.std.proofs.lemmas.List.{append-nil}
 use Rattle.seg_column_file.specs.RowOrders.{Place, place_of, rows_in_order, stacked_from}
-use Rattle.seg_column_file.proofs.RowSteps.{all_stacked}
+use Rattle.seg_column_file.proofs.StackedRows.{all_stacked}
 use Rattle.seg_column_file.proofs.row_order.OrderedRows.new.Goals as goal
 
 pub returns-in-Stack : goal.returns-in-Stack

@@ -1,6 +1,6 @@
 use Rattle.std.proofs.Common.{◌+◌, ◌∙◌, sym}
 use Rattle.seg_column_file.specs.RowOrders.{stacked_from}
-use Rattle.seg_column_file.proofs.RowSteps.{next_address, none_left}
+use Rattle.seg_column_file.proofs.StackedRows.{next_address, none_left}
 use Rattle.seg_column_file.proofs.row_order.OrderedRowsIterator.next.Goals as goal
 
 pub returns-clause-steps : goal.returns-clause-steps

@@ -1,7 +1,7 @@
 use Rattle.std.proofs.Common.{ap, arith, Some}
 use Rattle.std.proofs.lemmas.Nat.{from_le_bytes-to_le_bytes_4}
 use Rattle.seg_common.specs.LittleEndian.{u32_at, u64_at}
-use Rattle.seg_column_file.specs.Columnar.{is_without_columns, rows_of}
+use Rattle.seg_column_file.specs.EmptyColumnFile.{is_without_columns, rows_of}
 use Rattle.seg_column_file.proofs.writer.ColumnarWriter.serialize.Goals as goal
 
 pub returns-clause-ok : goal.returns-clause-ok

@@ -1,4 +1,4 @@
-use Rattle.seg_column_merge_parts.proofs.HeadLemmas.{popped}
+use Rattle.seg_column_merge_parts.proofs.HeadHeaps.{popped}
 use Rattle.seg_column_merge_parts.specs.HeadHeaps.{Entry}
 use Rattle.seg_column_merge_parts.proofs.head_heap.HeadHeap.pop.Goals as goal
 

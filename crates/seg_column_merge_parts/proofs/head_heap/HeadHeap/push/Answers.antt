@@ -1,4 +1,4 @@
-use Rattle.seg_column_merge_parts.proofs.HeadLemmas.{pushed}
+use Rattle.seg_column_merge_parts.proofs.HeadHeaps.{pushed}
 use Rattle.seg_column_merge_parts.proofs.head_heap.HeadHeap.push.Goals as goal
 
 pub returns : goal.returns

@@ -1,6 +1,6 @@
 use Rattle.std.proofs.Common.{[], cond, false, get_or, ap, sym, ◌∙◌, arith}
 use Rattle.seg_column_merge_parts.specs.NumberRanges.{with_all, with_signed}
-use Rattle.seg_column_merge_parts.proofs.KeptSteps.{with_row, with_last}
+use Rattle.seg_column_merge_parts.proofs.KeptRowValues.{with_row, with_last}
 use Rattle.seg_column_merge_parts.proofs.number_range.NumberRange.with_signed.Goals as goal
 
 pub loop-row-preserved : goal.loop-row-preserved

@@ -1,6 +1,6 @@
 use Rattle.std.proofs.Common.{take, sym, ap, ◌∙◌}
 use Rattle.std.specs.List.{flat_map}
-use Rattle.seg_column_merge_parts.specs.Sources.{number_code}
+use Rattle.seg_column_merge_parts.specs.SourceRows.{number_code}
 use Rattle.seg_column_merge_parts.specs.declared.number_map.NumberMap.{NumberMap}
 use Rattle.seg_column_merge_parts.proofs.source.NumberSource.first_bytes.Goals as goal
 

@@ -3,7 +3,7 @@ use Rattle.std.specs.Prelude.{IfSome}
 use Rattle.std.specs.List.{range_with_len}
 use Rattle.std.specs.Net.Addr.{ipv6_octets}
 use Rattle.seg_column_merge_parts.specs.declared.source.Source.{Source}
-use Rattle.seg_column_merge_parts.specs.Sources.{CanPutFirst, first_rows, number_code}
+use Rattle.seg_column_merge_parts.specs.SourceRows.{CanPutFirst, first_rows, number_code}
 use Rattle.seg_column_merge_parts.proofs.FirstRows.{at_most, first_codes, no_bytes, row_bytes}
 use Rattle.seg_column_merge_parts.proofs.source.Source.first_bytes.Goals as goal
 

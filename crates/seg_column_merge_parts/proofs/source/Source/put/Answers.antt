@@ -3,8 +3,8 @@ use Rattle.std.specs.Prelude.{OnOk}
 use Rattle.std.specs.List.{flat_map}
 use Rattle.std.specs.Net.Addr.{ipv6_octets}
 use Rattle.seg_column_merge_parts.specs.declared.source.Source.{Source}
-use Rattle.seg_column_merge_parts.specs.Sources.{number_code, row_codes}
-use Rattle.seg_column_merge_parts.proofs.JoinSteps.{flat_map-map}
+use Rattle.seg_column_merge_parts.specs.SourceRows.{number_code, row_codes}
+use Rattle.seg_column_merge_parts.proofs.JoinedBytes.{flat_map-map}
 use Rattle.seg_column_merge_parts.proofs.source.Source.put.Goals as goal
 
 abbrev bytes_of : Source → ℕ → List ℕ

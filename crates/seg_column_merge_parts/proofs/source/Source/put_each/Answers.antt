@@ -1,6 +1,6 @@
 use Rattle.std.proofs.Common.{◌≡◌, ◌++◌, ℕ, sym, ap, ◌∙◌, arith}
 use Rattle.std.proofs.lemmas.List.{append-nil}
-use Rattle.seg_column_merge_parts.specs.Sources.{first_rows}
+use Rattle.seg_column_merge_parts.specs.SourceRows.{first_rows}
 use Rattle.seg_column_merge_parts.proofs.FirstRows.{one_more_row, row_bytes}
 use Rattle.seg_column_merge_parts.proofs.source.Source.put_each.Goals as goal
 

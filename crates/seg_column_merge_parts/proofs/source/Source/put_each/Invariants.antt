@@ -1,5 +1,5 @@
 use Rattle.std.proofs.Common.{◌≡◌, ◌≤◌, ◌++◌}
-use Rattle.seg_column_merge_parts.specs.Sources.{first_rows}
+use Rattle.seg_column_merge_parts.specs.SourceRows.{first_rows}
 use Rattle.seg_column_merge_parts.proofs.FirstRows.{row_bytes}
 use Rattle.seg_column_merge_parts.proofs.source.Source.put_each.Given as goal
 

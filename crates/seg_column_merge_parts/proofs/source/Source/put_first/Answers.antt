@@ -1,6 +1,6 @@
 use Rattle.std.proofs.Common.{◌++◌, List, ℕ, ap, ◌∙◌}
 use Rattle.std.proofs.lemmas.Result.{on_ok_weaker}
-use Rattle.seg_column_merge_parts.proofs.JoinSteps.{on_ok_cond}
+use Rattle.seg_column_merge_parts.proofs.JoinedBytes.{on_ok_cond}
 use Rattle.seg_column_merge_parts.proofs.source.Source.put_first.Goals as goal
 
 pub returns-in-Some : goal.returns-in-Some

@@ -2,8 +2,8 @@ use Rattle.std.proofs.Common.{length, sym, subst, arith}
 use Rattle.std.specs.Prelude.{IfOk}
 use Rattle.std.specs.Net.Addr.{ipv6_octets}
 use Rattle.seg_columns.specs.Addresses.{address}
-use Rattle.seg_columns.specs.Images.{unsigned}
-use Rattle.seg_column_merge_parts.specs.Sources.{AddsEnds, CanPutFirst, first_rows, number_code}
+use Rattle.seg_columns.specs.ValueImages.{unsigned}
+use Rattle.seg_column_merge_parts.specs.SourceRows.{AddsEnds, CanPutFirst, first_rows, number_code}
 use Rattle.seg_column_merge_parts.specs.declared.source.Source.{Source}
 use Rattle.seg_column_merge_parts.proofs.FirstRows.{at_most}
 use Rattle.seg_column_merge_parts.proofs.RowEnds.{adds_same_ends, all_ends_added}

@@ -1,5 +1,5 @@
 use Rattle.std.proofs.Common.{sym, ◌∙◌}
-use Rattle.seg_column_writer.proofs.KnownLaws.{place-new}
+use Rattle.seg_column_writer.proofs.NamedColumns.{place-new}
 use Rattle.seg_column_writer.proofs.known_columns.KnownColumns.add.Goals as goal
 
 pub returns-clause-place : goal.returns-clause-place

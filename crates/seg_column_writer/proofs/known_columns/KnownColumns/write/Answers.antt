@@ -1,5 +1,5 @@
 use Rattle.std.proofs.Common.{sym, ◌∙◌}
-use Rattle.seg_column_writer.proofs.Filing.{known_mixed, known_ready, known_refused, known_written}
+use Rattle.seg_column_writer.proofs.OrderedColumns.{known_mixed, known_ready, known_refused, known_written}
 use Rattle.seg_column_writer.proofs.known_columns.KnownColumns.write.Goals as goal
 
 pub returns-then-lack_types-clause-err : goal.returns-then-lack_types-clause-err

@@ -1,4 +1,4 @@
-use Rattle.seg_column_writer.proofs.SoundLaws.{is_recorded}
+use Rattle.seg_column_writer.proofs.SoundColumns.{is_recorded}
 use Rattle.seg_column_writer.proofs.recorded_column.RecordedColumn.column_type.Goals as goal
 
 pub returns-in-Some-clause-recorded : goal.returns-in-Some-clause-recorded

@@ -1,7 +1,7 @@
 use Rattle.std.proofs.Common.{◌≡◌, Some, All, sym, subst}
-use Rattle.seg_column_writer.specs.Kinds.{kind_of}
-use Rattle.seg_column_writer.specs.Records.{Accepts, Recording, RowedValue}
-use Rattle.seg_column_writer.proofs.SoundLaws.{declared_sound}
+use Rattle.seg_column_writer.specs.ValueKinds.{kind_of}
+use Rattle.seg_column_writer.specs.ColumnRecords.{Accepts, Recording, RowedValue}
+use Rattle.seg_column_writer.proofs.SoundColumns.{declared_sound}
 use Rattle.seg_column_writer.proofs.recorded_column.RecordedColumn.declare.Goals as goal
 
 pub invariant_of-self : goal.invariant_of-self

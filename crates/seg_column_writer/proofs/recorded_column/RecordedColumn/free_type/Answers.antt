@@ -1,4 +1,4 @@
-use Rattle.seg_column_writer.proofs.SoundLaws.{free_seen}
+use Rattle.seg_column_writer.proofs.SoundColumns.{free_seen}
 use Rattle.seg_column_writer.proofs.recorded_column.RecordedColumn.free_type.Goals as goal
 
 pub returns-in-Number : goal.returns-in-Number

@@ -1,9 +1,9 @@
 use Rattle.std.proofs.Common.{[], Bool, sym, ap, subst, ◌∙◌}
 use Rattle.std.specs.Prelude.{◌&&◌}
-use Rattle.seg_column_writer.specs.Records.{Accepts, HasReached, Recording}
+use Rattle.seg_column_writer.specs.ColumnRecords.{Accepts, HasReached, Recording}
 use Rattle.seg_column_writer.specs.RowValues.{value_of}
-use Rattle.seg_column_writer.specs.Sound.{AreSound, Fits}
-use Rattle.seg_column_writer.proofs.SoundLaws.{pushed, reached}
+use Rattle.seg_column_writer.specs.SoundColumns.{AreSound, Fits}
+use Rattle.seg_column_writer.proofs.SoundColumns.{pushed, reached}
 use Rattle.seg_column_writer.proofs.recorded_column.RecordedColumn.push.Goals as goal
 
 pub invariant_of-self-2 : goal.invariant_of-self-2

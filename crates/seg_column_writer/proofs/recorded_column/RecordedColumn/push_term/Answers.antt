@@ -1,7 +1,7 @@
 use Rattle.std.proofs.Common.{sym, subst}
-use Rattle.seg_column_writer.specs.Records.{HasReached, Recording}
-use Rattle.seg_column_writer.specs.Sound.{IsTermOf}
-use Rattle.seg_column_writer.proofs.SoundLaws.{reached, seen_added, still_sound}
+use Rattle.seg_column_writer.specs.ColumnRecords.{HasReached, Recording}
+use Rattle.seg_column_writer.specs.SoundColumns.{IsTermOf}
+use Rattle.seg_column_writer.proofs.SoundColumns.{reached, seen_added, still_sound}
 use Rattle.seg_column_writer.proofs.recorded_column.RecordedColumn.push_term.Goals as goal
 
 pub invariant_of-self : goal.invariant_of-self

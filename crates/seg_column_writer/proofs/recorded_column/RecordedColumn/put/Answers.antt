@@ -1,11 +1,11 @@
 use Rattle.std.proofs.Common.{◌≡◌, ◌<◌, ◌^◌, List, map, sym, subst}
 use Rattle.std.specs.List.{AllByRecursion}
 use Rattle.seg_common.specs.declared.column_type.ColumnType.TheVariants as types
-use Rattle.seg_column_writer.specs.Encoded.{AddsValues, imaged}
+use Rattle.seg_column_writer.specs.EncodedColumns.{AddsValues, imaged}
 use Rattle.seg_column_format.specs.RowNumbers.{eight_bytes}
-use Rattle.seg_column_format.specs.Rows.{Rise}
+use Rattle.seg_column_format.specs.ValuesByRow.{Rise}
 use Rattle.seg_column_writer.specs.declared.row_value.RowValue.{RowValue}
-use Rattle.seg_column_writer.proofs.PutSteps.{addresses_put, bytes_put, fits, images_put, texts_put}
+use Rattle.seg_column_writer.proofs.AddedColumns.{addresses_put, bytes_put, fits, images_put, texts_put}
 use Rattle.seg_column_writer.proofs.recorded_column.RecordedColumn.put.Goals as goal
 
 pub put_images-requires : goal.put_images-requires

@@ -1,6 +1,6 @@
 use Rattle.std.proofs.Common.{List, ℕ, ap, ◌∙◌}
-use Rattle.seg_column_writer.specs.Records.{place_of, with_column}
-use Rattle.seg_column_writer.proofs.KnownLaws.{place_now, placed_counted, placed_now}
+use Rattle.seg_column_writer.specs.ColumnRecords.{place_of, with_column}
+use Rattle.seg_column_writer.proofs.NamedColumns.{place_now, placed_counted, placed_now}
 use Rattle.seg_column_writer.proofs.writer.ColumnarWriter.column.Goals as goal
 
 pub invariant_of-self-2 : goal.invariant_of-self-2

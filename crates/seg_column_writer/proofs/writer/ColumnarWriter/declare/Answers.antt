@@ -1,7 +1,7 @@
 use Rattle.std.proofs.Common.{refl, arith}
-use Rattle.seg_column_writer.specs.Records.{with_type}
-use Rattle.seg_column_writer.specs.Takes.{CanDeclare}
-use Rattle.seg_column_writer.proofs.KnownLaws.{at_known, changed_now, changed_still}
+use Rattle.seg_column_writer.specs.ColumnRecords.{with_type}
+use Rattle.seg_column_writer.specs.RecordingRules.{CanDeclare}
+use Rattle.seg_column_writer.proofs.NamedColumns.{at_known, changed_now, changed_still}
 use Rattle.seg_column_writer.proofs.writer.ColumnarWriter.declare.Goals as goal
 
 pub declare-requires-clause-within : goal.declare-requires-clause-within

@@ -1,7 +1,7 @@
 use Rattle.std.proofs.Common.{refl, arith}
 use Rattle.std.proofs.lemmas.List.{length_push}
-use Rattle.seg_column_writer.specs.Takes.{CanPush, pushed}
-use Rattle.seg_column_writer.proofs.KnownLaws.{at_known, changed_counted, changed_now}
+use Rattle.seg_column_writer.specs.RecordingRules.{CanPush, pushed}
+use Rattle.seg_column_writer.proofs.NamedColumns.{at_known, changed_counted, changed_now}
 use Rattle.seg_column_writer.proofs.writer.ColumnarWriter.push.Goals as goal
 
 pub push-requires-clause-within : goal.push-requires-clause-within

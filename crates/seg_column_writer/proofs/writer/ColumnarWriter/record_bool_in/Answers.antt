@@ -1,7 +1,7 @@
 use Rattle.std.proofs.Common.{◌∙◌}
 use Rattle.seg_model.specs.Columns.{boolean_value}
 use Rattle.seg_column_writer.specs.declared.value_kind.ValueKind.TheVariants.{Bool as Boolean}
-use Rattle.seg_column_writer.proofs.TakeLaws.{may_push, push_adds, row_is, truth_fits, truth_is}
+use Rattle.seg_column_writer.proofs.RecordingRules.{may_push, push_adds, row_is, truth_fits, truth_is}
 use Rattle.seg_column_writer.proofs.writer.ColumnarWriter.record_bool_in.Goals as goal
 
 pub push-requires : goal.push-requires

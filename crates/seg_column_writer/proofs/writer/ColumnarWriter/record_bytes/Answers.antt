@@ -1,8 +1,8 @@
 use Rattle.std.proofs.Common.{sym, subst}
 use Rattle.seg_model.specs.Columns.{bytes_value}
-use Rattle.seg_column_writer.specs.Takes.{At, CanTake}
+use Rattle.seg_column_writer.specs.RecordingRules.{At, CanTake}
 use Rattle.seg_column_writer.specs.declared.value_kind.ValueKind.TheVariants.{Bytes}
-use Rattle.seg_column_writer.proofs.TakeLaws.{takes_named}
+use Rattle.seg_column_writer.proofs.RecordingRules.{takes_named}
 use Rattle.seg_column_writer.proofs.writer.ColumnarWriter.record_bytes.Goals as goal
 
 pub record_bytes_in-requires : goal.record_bytes_in-requires

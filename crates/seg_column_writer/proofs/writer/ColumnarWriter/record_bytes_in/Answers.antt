@@ -1,7 +1,7 @@
 use Rattle.std.proofs.Common.{refl, ◌∙◌}
 use Rattle.seg_model.specs.Columns.{bytes_value}
 use Rattle.seg_column_writer.specs.declared.value_kind.ValueKind.TheVariants.{Bytes}
-use Rattle.seg_column_writer.proofs.TakeLaws.{may_push_term, push_term_adds}
+use Rattle.seg_column_writer.proofs.RecordingRules.{may_push_term, push_term_adds}
 use Rattle.seg_column_writer.proofs.writer.ColumnarWriter.record_bytes_in.Goals as goal
 
 pub push_term-requires : goal.push_term-requires

@@ -1,8 +1,8 @@
 use Rattle.std.proofs.Common.{◌∙◌, ap, sym, subst}
-use Rattle.seg_column_writer.specs.Records.{place_of, with_column}
-use Rattle.seg_column_writer.specs.Takes.{At, CanDeclare}
+use Rattle.seg_column_writer.specs.ColumnRecords.{place_of, with_column}
+use Rattle.seg_column_writer.specs.RecordingRules.{At, CanDeclare}
 use Rattle.seg_column_writer.specs.declared.value_kind.ValueKind.{ValueKind}
-use Rattle.seg_column_writer.proofs.TakeLaws.{declares_named}
+use Rattle.seg_column_writer.proofs.RecordingRules.{declares_named}
 use Rattle.seg_column_writer.proofs.writer.ColumnarWriter.record_column_type.Goals as goal
 
 pub declare-requires : goal.declare-requires

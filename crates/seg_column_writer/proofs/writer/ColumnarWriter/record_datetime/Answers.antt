@@ -1,8 +1,8 @@
 use Rattle.std.proofs.Common.{sym, subst}
 use Rattle.seg_model.specs.Columns.{date_value}
-use Rattle.seg_column_writer.specs.Takes.{At, CanTake}
+use Rattle.seg_column_writer.specs.RecordingRules.{At, CanTake}
 use Rattle.seg_column_writer.specs.declared.value_kind.ValueKind.TheVariants.{DateTime}
-use Rattle.seg_column_writer.proofs.TakeLaws.{takes_named}
+use Rattle.seg_column_writer.proofs.RecordingRules.{takes_named}
 use Rattle.seg_column_writer.proofs.writer.ColumnarWriter.record_datetime.Goals as goal
 
 pub record_datetime_in-requires : goal.record_datetime_in-requires

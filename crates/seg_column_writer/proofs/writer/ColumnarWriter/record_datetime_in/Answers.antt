@@ -1,7 +1,7 @@
 use Rattle.std.proofs.Common.{◌∙◌}
 use Rattle.seg_model.specs.Columns.{date_value}
 use Rattle.seg_column_writer.specs.declared.value_kind.ValueKind.TheVariants.{DateTime}
-use Rattle.seg_column_writer.proofs.TakeLaws.{may_push, moment_is, push_adds, row_is}
+use Rattle.seg_column_writer.proofs.RecordingRules.{may_push, moment_is, push_adds, row_is}
 use Rattle.seg_column_writer.proofs.writer.ColumnarWriter.record_datetime_in.Goals as goal
 
 pub push-requires : goal.push-requires

@@ -2,7 +2,7 @@ use Rattle.std.proofs.Common.{◌≡◌, length, ap, arith, ◌∙◌}
 use Rattle.std.specs.Net.Addr.{ipv6_octets}
 use Rattle.seg_model.specs.Columns.{ip_value}
 use Rattle.seg_column_writer.specs.declared.value_kind.ValueKind.TheVariants.{IpAddr}
-use Rattle.seg_column_writer.proofs.TakeLaws.{may_push_term, push_term_adds}
+use Rattle.seg_column_writer.proofs.RecordingRules.{may_push_term, push_term_adds}
 use Rattle.seg_column_writer.proofs.writer.ColumnarWriter.record_ip_addr_in.Goals as goal
 
 pub push_term-requires : goal.push_term-requires

@@ -1,9 +1,9 @@
 use Rattle.std.proofs.Common.{sym, subst}
 use Rattle.seg_model.specs.Columns.{number}
 use Rattle.seg_column_writer.specs.RowValues.{number_in}
-use Rattle.seg_column_writer.specs.Takes.{At, CanTake}
+use Rattle.seg_column_writer.specs.RecordingRules.{At, CanTake}
 use Rattle.seg_column_writer.specs.declared.value_kind.ValueKind.TheVariants.{Number}
-use Rattle.seg_column_writer.proofs.TakeLaws.{takes_named}
+use Rattle.seg_column_writer.proofs.RecordingRules.{takes_named}
 use Rattle.seg_column_writer.proofs.writer.ColumnarWriter.record_numerical.Goals as goal
 
 pub record_numerical_in-requires : goal.record_numerical_in-requires

@@ -2,7 +2,7 @@ use Rattle.std.proofs.Common.{ap, ◌∙◌}
 use Rattle.seg_model.specs.Columns.{number}
 use Rattle.seg_column_writer.specs.RowValues.{number_in}
 use Rattle.seg_column_writer.specs.declared.value_kind.ValueKind.TheVariants.{Number}
-use Rattle.seg_column_writer.proofs.TakeLaws.{may_push, push_adds}
+use Rattle.seg_column_writer.proofs.RecordingRules.{may_push, push_adds}
 use Rattle.seg_column_writer.proofs.writer.ColumnarWriter.record_numerical_in.Goals as goal
 
 pub push-requires : goal.push-requires

@@ -1,7 +1,7 @@
 use Rattle.std.proofs.Common.{ap, ◌∙◌}
 use Rattle.seg_model.specs.Columns.{text_value}
 use Rattle.seg_column_writer.specs.declared.value_kind.ValueKind.TheVariants.{Str}
-use Rattle.seg_column_writer.proofs.TakeLaws.{may_push_term, push_term_adds}
+use Rattle.seg_column_writer.proofs.RecordingRules.{may_push_term, push_term_adds}
 use Rattle.seg_column_writer.proofs.writer.ColumnarWriter.record_str_in.Goals as goal
 
 pub push_term-requires : goal.push_term-requires

@@ -1,10 +1,10 @@
 use Rattle.std.proofs.Common.{List, subst, sym, ap, ◌∙◌}
 use Rattle.std.specs.List.{AllByRecursion}
 use Rattle.std.proofs.lemmas.Result.{IfErr-weaker, IfOk-weaker}
-use Rattle.seg_column_writer.specs.Recorded.{recorded_columns}
-use Rattle.seg_column_writer.specs.Records.{ColumnRecord}
-use Rattle.seg_column_writer.specs.Typed.{IsWithin, refusal_of}
-use Rattle.seg_column_writer.proofs.Filing.{within_known}
+use Rattle.seg_column_writer.specs.RecordedColumns.{recorded_columns}
+use Rattle.seg_column_writer.specs.ColumnRecords.{ColumnRecord}
+use Rattle.seg_column_writer.specs.TypedColumns.{IsWithin, refusal_of}
+use Rattle.seg_column_writer.proofs.OrderedColumns.{within_known}
 use Rattle.seg_column_writer.proofs.writer.ColumnarWriter.serialize.Goals as goal
 
 pub write-requires-clause-within : goal.write-requires-clause-within

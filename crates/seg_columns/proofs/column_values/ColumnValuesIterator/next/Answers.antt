@@ -1,7 +1,7 @@
 use Rattle.std.proofs.Common.{◌≡◌, ◌<◌, ◌+◌, List, ◌∷◌, arith, subst}
 use Rattle.std.specs.Prelude.{IsSomeAnd}
 use Rattle.seg_columns.specs.Columns.{values_between}
-use Rattle.seg_columns.proofs.RowSteps.{next_value, at_place, steps, goes}
+use Rattle.seg_columns.proofs.DocumentValues.{next_value, at_place, steps, goes}
 use Rattle.seg_columns.proofs.column_values.ColumnValuesIterator.next.Goals as goal
 use Rattle.seg_columns.proofs.column_values.ColumnValuesIterator.next.Given.{Over}
 

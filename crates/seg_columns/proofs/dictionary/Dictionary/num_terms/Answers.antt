@@ -1,5 +1,5 @@
 use Rattle.std.proofs.Common.{sym}
-use Rattle.seg_columns.proofs.TermLemmas.{seen_length}
+use Rattle.seg_columns.proofs.DictionaryTerms.{seen_length}
 use Rattle.seg_columns.proofs.dictionary.Dictionary.num_terms.Goals as goal
 
 pub returns : goal.returns

@@ -1,6 +1,6 @@
 use Rattle.std.proofs.Common.{arith}
 use Rattle.std.proofs.lemmas.Option.{slice_get_past}
-use Rattle.seg_columns.proofs.TermLemmas.{seen_length}
+use Rattle.seg_columns.proofs.DictionaryTerms.{seen_length}
 use Rattle.seg_columns.proofs.dictionary.Dictionary.ord_to_term.Goals as goal
 
 pub returns-then-ord-self : goal.returns-then-ord-self

@@ -1,6 +1,6 @@
 use Rattle.std.proofs.Common.{ℕ, List, Some, ap, sym, ◌∙◌, arith}
 use Rattle.seg_columns.specs.Dictionaries.{term_at}
-use Rattle.seg_columns.proofs.TermLemmas.{seen_get, seen_length}
+use Rattle.seg_columns.proofs.DictionaryTerms.{seen_get, seen_length}
 use Rattle.seg_columns.proofs.dictionary.Dictionary.term.Goals as goal
 
 pub term_at-requires-clause-place : goal.term_at-requires-clause-place

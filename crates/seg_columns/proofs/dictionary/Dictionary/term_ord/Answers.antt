@@ -1,6 +1,6 @@
 use Rattle.std.proofs.Common.{ℕ, List, Some, ap, sym, ◌∙◌}
 use Rattle.seg_columns.specs.Dictionaries.{term_at}
-use Rattle.seg_columns.proofs.TermLemmas.{seen_get, seen_none}
+use Rattle.seg_columns.proofs.DictionaryTerms.{seen_get, seen_none}
 use Rattle.seg_columns.proofs.dictionary.Dictionary.term_ord.Goals as goal
 
 pub returns-in-Some : goal.returns-in-Some

@@ -1,7 +1,7 @@
 use Rattle.std.proofs.Common.{ap, sym, length, arith}
 use Rattle.std.proofs.lemmas.List.{length-map}
 use Rattle.seg_columns.specs.Columns.{first_or}
-use Rattle.seg_columns.proofs.RowSteps.{has_default}
+use Rattle.seg_columns.proofs.DocumentValues.{has_default}
 use Rattle.seg_columns.proofs.first_or_default.ColumnFirstOrDefault.get_val.Goals as goal
 
 pub returns-in-None : goal.returns-in-None

@@ -2,7 +2,7 @@ use Rattle.std.proofs.Common.{◌≡◌, ◌+◌, ◌*◌, ℕ, List, take, drop
 use Rattle.seg_columns.specs.Columns.{rows_of}
 use Rattle.seg_columns.specs.Dictionaries.{terms_of}
 use Rattle.seg_columns.specs.Ends.{start_at}
-use Rattle.seg_columns.specs.Images.{unsigned}
+use Rattle.seg_columns.specs.ValueImages.{unsigned}
 use Rattle.seg_columns.specs.TermColumns.{dictionary_in, ordinals_in}
 use Rattle.seg_columns.proofs.TermParts.{uses_terms}
 use Rattle.seg_columns.proofs.term_column.TermColumn.of_checked.Goals as goal

@@ -1,6 +1,6 @@
 use Rattle.std.proofs.Common.{◌≡◌, ◌-◌, arith, length, take, drop, refl, sym, ap, ◌∙◌, ℤ, w64, of_z, to_z, Some, None, slice_range}
 use Rattle.jiff_core.proofs.SignedLemmas.{signed_arith}
-use Rattle.seg_common.specs.DateReading.{clock_read, fraction_read, moment_of, offset_read}
+use Rattle.seg_common.specs.ParsedDates.{clock_read, fraction_read, moment_of, offset_read}
 use Rattle.seg_common.proofs.WholeTexts.{fraction_len-le, front_digits, no_sign_parsed, parsed, short_parsed}
 use Rattle.seg_common.proofs.date.DateTime.parse_rfc3339.Goals as goal
 use Rattle.seg_common.proofs.date.DateTime.parse_rfc3339.Goals.{then-bytes-lt19-via-then-bytes-lt19, then-bytes-lt19-via-else-bytes-lt19+then-not-eq_ignore_ascii_case}

@@ -1,4 +1,4 @@
-use Rattle.seg_common.proofs.FlatTurns.{in_turn, are_pieces}
+use Rattle.seg_common.proofs.FlatMapTurns.{in_turn, are_pieces}
 use Rattle.seg_common.proofs.flat_map_with_buffer.FlatMapWithBufferIter.flat_map_with_buffer.Goals as goal
 
 pub returns-clause-in_turn : goal.returns-clause-in_turn

@@ -1,7 +1,7 @@
 use Rattle.std.proofs.Common.{◌≡◌, ◌<◌, [], refl, arith}
 use Rattle.std.proofs.lemmas.List.{nil_from_length}
 use Rattle.std.specs.Iterator.{size}
-use Rattle.seg_common.proofs.FlatSteps.{gives_piece, gives_end, gives_refused, gives_filled}
+use Rattle.seg_common.proofs.FlatMapSteps.{gives_piece, gives_end, gives_refused, gives_filled}
 use Rattle.seg_common.proofs.flat_map_with_buffer.FlatMapWithBufferIterator.next.Goals as goal
 
 pub returns-in-Some-clause-steps : goal.returns-in-Some-clause-steps

@@ -1,6 +1,6 @@
 use Rattle.std.proofs.Common.{ap, sym, ◌∙◌, length}
-use Rattle.seg_directory.specs.CompositeSpelling.{spelling}
-use Rattle.seg_directory.proofs.CompositeSpelled.{length-spelling}
+use Rattle.seg_directory.specs.CompositeBytes.{spelling}
+use Rattle.seg_directory.proofs.CompositeBytes.{length-spelling}
 use Rattle.seg_directory.proofs.composite_file.CompositeFile.num_bytes.Goals as goal
 
 pub returns : goal.returns

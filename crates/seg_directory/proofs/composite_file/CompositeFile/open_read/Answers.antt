@@ -1,5 +1,5 @@
 use Rattle.std.proofs.Common.{◌+◌, ◌*◌, ◌-◌, ℕ, List, sym, ap, ◌∙◌, arith, length}
-use Rattle.seg_directory.specs.Composite.{are_entries, entries_of, field_of, Part}
+use Rattle.seg_directory.specs.CompositeFiles.{are_entries, entries_of, field_of, Part}
 use Rattle.seg_directory.proofs.CompositeTables.{laid_out, split-from, length-table, composite-by, parts-by}
 use Rattle.seg_directory.proofs.composite_file.CompositeFile.open_read.Goals as goal
 

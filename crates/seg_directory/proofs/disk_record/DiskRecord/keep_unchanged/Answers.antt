@@ -1,7 +1,7 @@
 use Rattle.std.proofs.Common.{◌≡◌, [], ◌∷◌, ◌++◌, ap, sym, ◌∙◌, subst, length, ◌≤◌, rules}
 use Rattle.seg_directory.specs.DiskCalls.{latest_files}
 use Rattle.seg_directory.specs.declared.disk_call.DiskCall.TheVariants.{Unchanged}
-use Rattle.seg_directory.proofs.Steps.{files_unchanged, longer}
+use Rattle.seg_directory.proofs.MemorySteps.{files_unchanged, longer}
 use Rattle.seg_directory.proofs.disk_record.DiskRecord.keep_unchanged.Goals as goal
 
 pub invariant_of-self : goal.invariant_of-self

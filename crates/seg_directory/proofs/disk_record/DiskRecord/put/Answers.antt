@@ -2,7 +2,7 @@ use Rattle.std.proofs.Common.{◌≡◌, [], ◌∷◌, ◌++◌, ap, sym, ◌�
 use Rattle.std.specs.FinMap.{insert}
 use Rattle.seg_directory.specs.DiskCalls.{latest_files}
 use Rattle.seg_directory.specs.declared.disk_call.DiskCall.TheVariants.{Put}
-use Rattle.seg_directory.proofs.Puts.{files_put}
+use Rattle.seg_directory.proofs.PutFiles.{files_put}
 use Rattle.seg_directory.proofs.disk_record.DiskRecord.put.Goals as goal
 
 pub invariant_of-self-2 : goal.invariant_of-self-2

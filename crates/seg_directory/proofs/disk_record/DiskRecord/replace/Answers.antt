@@ -2,7 +2,7 @@ use Rattle.std.proofs.Common.{◌≡◌, [], ◌∷◌, ◌++◌, ap, sym, ◌�
 use Rattle.std.specs.FinMap.{insert}
 use Rattle.seg_directory.specs.DiskCalls.{latest_files}
 use Rattle.seg_directory.specs.declared.disk_call.DiskCall.TheVariants.{Replaced}
-use Rattle.seg_directory.proofs.Steps.{files_replaced, longer}
+use Rattle.seg_directory.proofs.MemorySteps.{files_replaced, longer}
 use Rattle.seg_directory.proofs.disk_record.DiskRecord.replace.Goals as goal
 
 pub invariant_of-self-2 : goal.invariant_of-self-2

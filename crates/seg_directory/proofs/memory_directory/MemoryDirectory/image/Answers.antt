@@ -1,7 +1,7 @@
 use Rattle.std.proofs.Common.{ap, sym, subst, ◌∙◌}
 use Rattle.seg_directory.specs.Disk.{IsImage}
 use Rattle.seg_directory.specs.DiskCalls.{latest, disk_at, picked}
-use Rattle.seg_directory.proofs.Puts.{picked_is_an_image}
+use Rattle.seg_directory.proofs.PutFiles.{picked_is_an_image}
 use Rattle.seg_directory.proofs.memory_directory.MemoryDirectory.image.Goals as goal
 
 pub returns-clause-is_image : goal.returns-clause-is_image

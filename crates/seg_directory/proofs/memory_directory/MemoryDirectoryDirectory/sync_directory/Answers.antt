@@ -1,6 +1,6 @@
 use Rattle.std.proofs.Common.{◌≡◌, Err, refl, rules, subst, sym}
 use Rattle.seg_directory.specs.Calls.{Fails, Goes, synced}
-use Rattle.seg_directory.specs.Memory.{MemoryState, memory_state, memory_went}
+use Rattle.seg_directory.specs.MemoryDirectories.{MemoryState, memory_state, memory_went}
 use Rattle.seg_directory.specs.declared.error.DirectoryError.TheVariants.{Fault, OutOfMemory}
 use Rattle.seg_directory.specs.CallRecord.{Calls}
 use Rattle.seg_directory.specs.CallResults.{Syncs}

@@ -3,7 +3,7 @@ use Rattle.seg_directory.specs.CallRecord.{Calls}
 use Rattle.seg_directory.specs.CallResults.{Makes}
 use Rattle.seg_directory.specs.Calls.{Fails, Goes, made}
 use Rattle.seg_directory.specs.DiskCalls.{with_disk_call}
-use Rattle.seg_directory.specs.Memory.{MemoryState, memory_state, memory_went}
+use Rattle.seg_directory.specs.MemoryDirectories.{MemoryState, memory_state, memory_went}
 use Rattle.seg_directory.specs.declared.disk_call.DiskCall.TheVariants.{Unchanged}
 use Rattle.seg_directory.specs.declared.error.DirectoryError.TheVariants.{Exists, Fault, OutOfMemory}
 use Rattle.seg_directory.proofs.MemoryCalls.{goes, starved, starved_answer, unchanged}

@@ -1,6 +1,6 @@
 use Rattle.std.proofs.Common.{ap, ◌∙◌, rules}
 use Rattle.std.specs.FinMap.{insert}
-use Rattle.seg_directory.proofs.Entries.{one_written}
+use Rattle.seg_directory.proofs.FileEntries.{one_written}
 use Rattle.seg_directory.proofs.stored_files.StoredFiles.put.Goals as goal
 
 pub returns-clause-set : goal.returns-clause-set

@@ -1,6 +1,6 @@
 use Rattle.std.proofs.Common.{ap, ◌∙◌}
 use Rattle.std.specs.Prelude.{Some}
-use Rattle.seg_directory.proofs.CompositeGrowing.{written}
+use Rattle.seg_directory.proofs.CompositeWriterParts.{written}
 use Rattle.seg_directory.proofs.written_parts.WrittenParts.close.Goals as goal
 
 pub returns : goal.returns

@@ -1,7 +1,7 @@
 use Rattle.std.proofs.Common.{◌≤◌, ◌++◌, ◌∷◌, [], List, length, subst, sym, ap, ◌∙◌, arith}
 use Rattle.std.proofs.lemmas.List.{length-append}
-use Rattle.seg_directory.specs.Composite.{low_after, Part}
-use Rattle.seg_directory.proofs.CompositeGrowing.{is_pushed}
+use Rattle.seg_directory.specs.CompositeFiles.{low_after, Part}
+use Rattle.seg_directory.proofs.CompositeWriterParts.{is_pushed}
 use Rattle.seg_directory.proofs.written_parts.WrittenParts.write.Goals as goal
 
 pub overflow_add-self : goal.overflow_add-self

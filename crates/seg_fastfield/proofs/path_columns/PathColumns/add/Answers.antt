@@ -1,9 +1,9 @@
 use Rattle.std.proofs.Common.{refl, sym, ap, ◌∙◌}
 use Rattle.seg_common.specs.JsonPaths.{written_key}
-use Rattle.seg_model.specs.Checked.{has_no_zero}
+use Rattle.seg_model.specs.DocumentCheck.{has_no_zero}
 use Rattle.seg_paths.specs.Paths.{below}
 use Rattle.seg_paths.proofs.Exports.{number-read}
-use Rattle.seg_fastfield.proofs.Numbering.{no_more, paths_more}
+use Rattle.seg_fastfield.proofs.PathNumbers.{no_more, paths_more}
 use Rattle.seg_fastfield.proofs.path_columns.PathColumns.add.Goals as goal
 
 pub returns-then-not-has_no_zero-clause-more : goal.returns-then-not-has_no_zero-clause-more

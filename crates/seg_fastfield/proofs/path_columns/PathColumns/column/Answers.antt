@@ -1,7 +1,7 @@
 use Rattle.std.proofs.Common.{inl, inr}
-use Rattle.seg_column_writer.specs.Takes.{AreKeptBut}
+use Rattle.seg_column_writer.specs.RecordingRules.{AreKeptBut}
 use Rattle.seg_common.proofs.Results.{at_error}
-use Rattle.seg_fastfield.proofs.Numbering.{held_found, held_there}
+use Rattle.seg_fastfield.proofs.PathNumbers.{held_found, held_there}
 use Rattle.seg_fastfield.proofs.path_columns.PathColumns.column.Goals as goal
 
 pub returns-in-Some-clause-found : goal.returns-in-Some-clause-found

@@ -1,4 +1,4 @@
-use Rattle.seg_fastfield.proofs.Numbering.{held_at}
+use Rattle.seg_fastfield.proofs.PathNumbers.{held_at}
 use Rattle.seg_fastfield.proofs.path_columns.PathColumns.held.Goals as goal
 
 pub returns-then-is_some : goal.returns-then-is_some

@@ -1,5 +1,5 @@
 use Rattle.std.proofs.Common.{refl}
-use Rattle.seg_fastfield.proofs.Numbering.{held_with, set_told}
+use Rattle.seg_fastfield.proofs.PathNumbers.{held_with, set_told}
 use Rattle.seg_fastfield.proofs.path_columns.PathColumns.hold.Goals as goal
 
 pub returns-in_default-clause-held : goal.returns-in_default-clause-held

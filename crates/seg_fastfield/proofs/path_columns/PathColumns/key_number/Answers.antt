@@ -1,5 +1,5 @@
 use Rattle.seg_common.specs.JsonPaths.{written_key}
-use Rattle.seg_fastfield.proofs.Numbering.{below_numbered, no_more}
+use Rattle.seg_fastfield.proofs.PathNumbers.{below_numbered, no_more}
 use Rattle.seg_fastfield.proofs.path_columns.PathColumns.key_number.Goals as goal
 
 pub returns-in_default-clause-more : goal.returns-in_default-clause-more

@@ -1,4 +1,4 @@
-use Rattle.seg_fastfield.proofs.Numbering.{none_known}
+use Rattle.seg_fastfield.proofs.PathNumbers.{none_known}
 use Rattle.seg_fastfield.proofs.path_columns.PathColumns.new.Goals as goal
 
 pub returns : goal.returns

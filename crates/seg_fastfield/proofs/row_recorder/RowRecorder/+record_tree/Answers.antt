@@ -1,21 +1,21 @@
 use Rattle.std.proofs.Common.{◌≡◌, ◌<◌, ◌∙◌, List, [], ◌∷◌, ◌++◌, ℕ, suc, refl, sym, ap, subst, arith}
 use Rattle.std.specs.List.{flat_map, join_with_byte}
-use Rattle.seg_column_writer.specs.Documents.{with_values}
+use Rattle.seg_column_writer.specs.DocumentRows.{with_values}
 use Rattle.seg_fastfield.specs.FastLeaves.{entry_leaf}
 use Rattle.seg_common.specs.JsonPaths.{written_key}
 use Rattle.seg_values.specs.Tree.{levels, array, object, trees_from, members_from}
-use Rattle.seg_values.specs.View.{tree_of}
+use Rattle.seg_values.specs.ValueTrees.{tree_of}
 use Rattle.seg_values.proofs.Exports.{levels-at, member_levels-at}
 use Rattle.seg_model.specs.Fields.{is_json}
 use Rattle.seg_model.specs.Leaves.{leaves_at, level_in_array}
-use Rattle.seg_model.specs.Takes.{is_own_array}
+use Rattle.seg_model.specs.AcceptedTrees.{is_own_array}
 use Rattle.seg_paths.specs.NumberedLeaves.{leaf_in}
-use Rattle.seg_fastfield.specs.Walking.{IsPlaceOf}
-use Rattle.seg_fastfield.proofs.Numbering.{can_be_above, key_behind, path_number, still_then, text_number}
-use Rattle.seg_fastfield.proofs.Placing.{leaf_column}
-use Rattle.seg_fastfield.proofs.Steps.{can_record_leaf, in_level, popped, recorded_deep, recorded_leaf}
-use Rattle.seg_fastfield.proofs.Turns.{is_leaf, member_turn, object_json, takes_tree, tree_turn}
-use Rattle.seg_fastfield.proofs.Walks.{place_below, place_in_array}
+use Rattle.seg_fastfield.specs.RecordedLeaves.{IsPlaceOf}
+use Rattle.seg_fastfield.proofs.PathNumbers.{can_be_above, key_behind, path_number, still_then, text_number}
+use Rattle.seg_fastfield.proofs.ColumnIds.{leaf_column}
+use Rattle.seg_fastfield.proofs.DocumentSteps.{can_record_leaf, in_level, popped, recorded_deep, recorded_leaf}
+use Rattle.seg_fastfield.proofs.LoopTurns.{is_leaf, member_turn, object_json, takes_tree, tree_turn}
+use Rattle.seg_fastfield.proofs.LeafRecords.{place_below, place_in_array}
 use Rattle.seg_fastfield.proofs.row_recorder.RowRecorder.+record_tree.Goals as goal
 use Rattle.std.specs.Prelude.{◌||◌}
 

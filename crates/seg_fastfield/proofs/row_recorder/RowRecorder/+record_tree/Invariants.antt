@@ -1,13 +1,13 @@
 use Rattle.std.proofs.Common.{◌≡◌, ◌+◌, ℕ, suc, List, drop}
 use Rattle.std.specs.List.{flat_map}
 use Rattle.seg_values.specs.Tree.{levels, trees_from, members_from}
-use Rattle.seg_values.specs.View.{tree_of}
+use Rattle.seg_values.specs.ValueTrees.{tree_of}
 use Rattle.seg_model.specs.Leaves.{leaves_of_members, leaves_of_trees, level_in_array}
-use Rattle.seg_column_writer.specs.Documents.{with_values}
+use Rattle.seg_column_writer.specs.DocumentRows.{with_values}
 use Rattle.seg_fastfield.specs.FastLeaves.{entry_leaf}
 use Rattle.seg_fastfield.specs.PathNumbers.{IsKnownStill}
-use Rattle.seg_fastfield.specs.Walking.{IsPlaceOf}
-use Rattle.seg_fastfield.specs.Writing.{AreUnderWay}
+use Rattle.seg_fastfield.specs.RecordedLeaves.{IsPlaceOf}
+use Rattle.seg_fastfield.specs.FastFieldWriters.{AreUnderWay}
 use Rattle.seg_fastfield.proofs.row_recorder.RowRecorder.+record_tree.Given as goal
 
 abbrev pub decreases-record_tree : goal.decreases-record_tree

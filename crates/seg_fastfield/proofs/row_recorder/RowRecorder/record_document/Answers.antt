@@ -1,7 +1,7 @@
 use Rattle.std.proofs.Common.{ℕ, ◌∙◌}
 use Rattle.seg_values.specs.Tree.{Tree}
-use Rattle.seg_values.specs.View.{tree_of}
-use Rattle.seg_fastfield.proofs.Turns.{pair_taken, pair_turn}
+use Rattle.seg_values.specs.ValueTrees.{tree_of}
+use Rattle.seg_fastfield.proofs.LoopTurns.{pair_taken, pair_turn}
 use Rattle.seg_fastfield.proofs.row_recorder.RowRecorder.record_document.Goals as goal
 
 pub record_pair-requires-clause-taken : goal.record_pair-requires-clause-taken

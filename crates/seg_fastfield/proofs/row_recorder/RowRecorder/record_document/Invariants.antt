@@ -1,9 +1,9 @@
 use Rattle.std.proofs.Common.{◌≡◌, ◌+◌, drop}
 use Rattle.std.specs.List.{AllByRecursion}
-use Rattle.seg_column_writer.specs.Documents.{with_values}
+use Rattle.seg_column_writer.specs.DocumentRows.{with_values}
 use Rattle.seg_fastfield.specs.FastLeaves.{IsTaken, recorded_values}
 use Rattle.seg_fastfield.specs.PathNumbers.{AreColumnsOf}
-use Rattle.seg_fastfield.specs.Writing.{AreUnderWay}
+use Rattle.seg_fastfield.specs.FastFieldWriters.{AreUnderWay}
 use Rattle.seg_fastfield.proofs.row_recorder.RowRecorder.record_document.Given as goal
 
 -- what is recorded so far, with what is left, is all

@@ -5,11 +5,11 @@ use Rattle.std.specs.Net.Addr.{ipv6_octets}
 use Rattle.std.specs.Prelude.{FitsSigned}
 use Rattle.seg_model.specs.Columns.{number, bytes_value, text_value, boolean_value, ip_value, date_value}
 use Rattle.seg_paths.specs.NumberedLeaves.{leaf_in}
-use Rattle.seg_values.specs.View.{tree_of}
+use Rattle.seg_values.specs.ValueTrees.{tree_of}
 use Rattle.seg_fastfield.specs.FieldColumns.{IsLeafColumn}
-use Rattle.seg_fastfield.specs.Walking.{MayLeafCome}
-use Rattle.seg_fastfield.specs.Writing.{MayCome}
-use Rattle.seg_fastfield.proofs.Walks.{may_be_recorded, still_under_way}
+use Rattle.seg_fastfield.specs.RecordedLeaves.{MayLeafCome}
+use Rattle.seg_fastfield.specs.FastFieldWriters.{MayCome}
+use Rattle.seg_fastfield.proofs.LeafRecords.{may_be_recorded, still_under_way}
 use Rattle.seg_fastfield.proofs.row_recorder.RowRecorder.record_leaf.Goals as goal
 
 pub put_number-requires-clause-may : goal.put_number-requires-clause-may

@@ -1,9 +1,9 @@
 use Rattle.std.proofs.Common.{ℕ, [], get_or}
 use Rattle.seg_values.specs.Tree.{Tree}
-use Rattle.seg_values.specs.View.{tree_of}
-use Rattle.seg_fastfield.proofs.Numbering.{field_path, only_known}
-use Rattle.seg_fastfield.proofs.Placing.{field_column_in}
-use Rattle.seg_fastfield.proofs.Steps.{can_record, entry_at, recorded_pair, slow_pair}
+use Rattle.seg_values.specs.ValueTrees.{tree_of}
+use Rattle.seg_fastfield.proofs.PathNumbers.{field_path, only_known}
+use Rattle.seg_fastfield.proofs.ColumnIds.{field_column_in}
+use Rattle.seg_fastfield.proofs.DocumentSteps.{can_record, entry_at, recorded_pair, slow_pair}
 use Rattle.seg_fastfield.proofs.row_recorder.RowRecorder.record_pair.Goals as goal
 use Rattle.std.specs.Prelude.{None}
 

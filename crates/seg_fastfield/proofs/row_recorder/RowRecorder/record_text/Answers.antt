@@ -1,5 +1,5 @@
 use Rattle.seg_model.specs.Columns.{text_value}
-use Rattle.seg_fastfield.proofs.Walks.{may_be_recorded, still_under_way}
+use Rattle.seg_fastfield.proofs.LeafRecords.{may_be_recorded, still_under_way}
 use Rattle.seg_fastfield.proofs.row_recorder.RowRecorder.record_text.Goals as goal
 
 pub returns-in_default-clause-under_way : goal.returns-in_default-clause-under_way

@@ -1,12 +1,12 @@
 use Rattle.std.proofs.Common.{◌∙◌, subst, sym}
-use Rattle.seg_column_writer.specs.RowByRow.{AreThere}
+use Rattle.seg_column_writer.specs.RowOrderedColumns.{AreThere}
 use Rattle.seg_column_writer.specs.declared.value_kind.ValueKind.TheVariants.{Str}
 use Rattle.seg_column_writer.proofs.Exports.{there_recorded}
-use Rattle.seg_fastfield.proofs.Numbering.{still_then}
-use Rattle.seg_fastfield.proofs.Placing.{column_still}
+use Rattle.seg_fastfield.proofs.PathNumbers.{still_then}
+use Rattle.seg_fastfield.proofs.ColumnIds.{column_still}
 use Rattle.seg_model.specs.Columns.{text_value}
-use Rattle.seg_fastfield.proofs.Turns.{token_turn}
-use Rattle.seg_fastfield.proofs.Walks.{may_be_recorded, still_under_way}
+use Rattle.seg_fastfield.proofs.LoopTurns.{token_turn}
+use Rattle.seg_fastfield.proofs.LeafRecords.{may_be_recorded, still_under_way}
 use Rattle.seg_fastfield.proofs.row_recorder.RowRecorder.record_tokens.Goals as goal
 
 pub put_text-requires-clause-may : goal.put_text-requires-clause-may

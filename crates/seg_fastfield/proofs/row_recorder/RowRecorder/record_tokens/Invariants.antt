@@ -1,11 +1,11 @@
 use Rattle.std.proofs.Common.{◌≡◌, ◌+◌, drop}
-use Rattle.seg_column_writer.specs.Documents.{with_values}
+use Rattle.seg_column_writer.specs.DocumentRows.{with_values}
 use Rattle.seg_model.specs.Columns.{token_texts}
 use Rattle.seg_column_writer.specs.declared.value_kind.ValueKind.TheVariants.{Str}
 use Rattle.seg_fastfield.specs.FieldColumns.{IsColumnOf}
 use Rattle.seg_fastfield.specs.FastLeaves.{values_under}
 use Rattle.seg_fastfield.specs.PathNumbers.{IsKnownStill}
-use Rattle.seg_fastfield.specs.Writing.{AreUnderWay}
+use Rattle.seg_fastfield.specs.FastFieldWriters.{AreUnderWay}
 use Rattle.seg_fastfield.proofs.row_recorder.RowRecorder.record_tokens.Given as goal
 
 -- what is recorded so far, with what is left, is all

@@ -1,7 +1,7 @@
 use Rattle.std.proofs.Common.{◌≡◌, None, subst, sym}
 use Rattle.seg_values.specs.Tree.{Document}
-use Rattle.seg_model.specs.Checked.{document_refusal}
-use Rattle.seg_fastfield.proofs.Steps.{pairs_added}
+use Rattle.seg_model.specs.DocumentCheck.{document_refusal}
+use Rattle.seg_fastfield.proofs.DocumentSteps.{pairs_added}
 use Rattle.seg_fastfield.proofs.writer.FastFieldsWriter.add_document.Goals as goal
 
 pub add_pairs-requires-clause-taken : goal.add_pairs-requires-clause-taken

@@ -2,8 +2,8 @@ use Rattle.std.proofs.Common.{◌+◌, refl, subst, sym}
 use Rattle.std.specs.Prelude.{IfSome}
 use Rattle.seg_model.specs.Fields.{Schema}
 use Rattle.seg_fastfield.specs.PathNumbers.{AreColumnsOf}
-use Rattle.seg_fastfield.specs.Writing.{AreUnderWay, FastWriting}
-use Rattle.seg_fastfield.proofs.Steps.{document_added, document_taken, under_way_more}
+use Rattle.seg_fastfield.specs.FastFieldWriters.{AreUnderWay, FastWriting}
+use Rattle.seg_fastfield.proofs.DocumentSteps.{document_added, document_taken, under_way_more}
 use Rattle.seg_fastfield.proofs.writer.FastFieldsWriter.add_pairs.Goals as goal
 
 pub record_document-requires-clause-taken : goal.record_document-requires-clause-taken

@@ -1,6 +1,6 @@
 use Rattle.std.proofs.Common.{◌∙◌}
-use Rattle.seg_fastfield.proofs.Placing.{shared_columns}
-use Rattle.seg_fastfield.proofs.Steps.{started}
+use Rattle.seg_fastfield.proofs.ColumnIds.{shared_columns}
+use Rattle.seg_fastfield.proofs.DocumentSteps.{started}
 use Rattle.seg_fastfield.proofs.writer.FastFieldsWriter.from_schema_and_tokenizer_manager.Goals as goal
 
 pub invariant_of-result : goal.invariant_of-result

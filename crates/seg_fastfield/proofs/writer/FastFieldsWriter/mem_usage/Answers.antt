@@ -1,5 +1,5 @@
-use Rattle.seg_fastfield.specs.Writing.{FastWriting}
-use Rattle.seg_fastfield.proofs.Counts.{usage_told}
+use Rattle.seg_fastfield.specs.FastFieldWriters.{FastWriting}
+use Rattle.seg_fastfield.proofs.ValueCounts.{usage_told}
 use Rattle.seg_fastfield.proofs.writer.FastFieldsWriter.mem_usage.Goals as goal
 
 pub returns-clause-documents : goal.returns-clause-documents

@@ -1,9 +1,9 @@
 use Rattle.std.proofs.Common.{Some, refl, sym, ap, ◌∙◌}
 use Rattle.seg_column_file.specs.ColumnFiles.{column_file_of}
-use Rattle.seg_column_writer.specs.Recorded.{recorded_columns}
+use Rattle.seg_column_writer.specs.RecordedColumns.{recorded_columns}
 use Rattle.seg_column_format.specs.ModelColumns.{columns_in}
-use Rattle.seg_fastfield.specs.Writing.{FastWriting, refusal_of}
-use Rattle.seg_fastfield.proofs.Steps.{rows_within, told_columns, told_error}
+use Rattle.seg_fastfield.specs.FastFieldWriters.{FastWriting, refusal_of}
+use Rattle.seg_fastfield.proofs.DocumentSteps.{rows_within, told_columns, told_error}
 use Rattle.seg_fastfield.proofs.writer.FastFieldsWriter.serialize.Goals as goal
 
 pub serialize-requires : goal.serialize-requires

@@ -1,5 +1,5 @@
 use Rattle.std.proofs.Common.{◌++◌, [], ◌∷◌, ℕ, List, ap, sym, ◌∙◌, append_assoc}
-use Rattle.seg_field_metadata.specs.Listed.{dotted_path}
+use Rattle.seg_field_metadata.specs.ListedNames.{dotted_path}
 use Rattle.seg_field_metadata.proofs.KeptNames.{escaped_added}
 use Rattle.seg_field_metadata.proofs.listed.EscapedNames.add.Goals as goal
 

@@ -1,6 +1,6 @@
 use Rattle.std.proofs.Common.{◌++◌, ℕ, List, ap, sym, ◌∙◌}
 use Rattle.std.proofs.lemmas.Result.{IfOk-weaker}
-use Rattle.seg_field_metadata.specs.Listed.{dotted_path}
+use Rattle.seg_field_metadata.specs.ListedNames.{dotted_path}
 use Rattle.seg_field_metadata.proofs.KeptNames.{name_absent, name_there}
 use Rattle.seg_field_metadata.proofs.listed.EscapedNames.column_name.Goals as goal
 

@@ -2,7 +2,7 @@ use Rattle.std.proofs.Common.{◌∙◌, Err, List, Ok, Option, ap, refl, subst,
 use Rattle.seg_values.specs.declared.error.TantivyError.TheVariants.{InvalidArgument}
 use Rattle.seg_values.specs.declared.error.ArgumentCause.TheVariants.{Filters}
 use Rattle.seg_model.specs.Input.{Filter}
-use Rattle.seg_open.specs.SegmentOpened.{OpensSegments, asked_of}
+use Rattle.seg_open.specs.OpeningSteps.{OpensSegments, asked_of}
 use Rattle.seg_merger.specs.Merger.{all_fit, opens, refuses, stops}
 use Rattle.seg_merger.proofs.FittingFilters.{are_fitting, not_refused, opened_schema, refused_filters}
 use Rattle.seg_merger.proofs.index_merger.IndexMerger.open_with_custom_alive_set.Goals as goal

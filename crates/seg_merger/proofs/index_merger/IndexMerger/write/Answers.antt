@@ -5,7 +5,7 @@ use Rattle.seg_values.specs.declared.error.TantivyError.{TantivyError}
 use Rattle.seg_model.specs.Fields.{Schema}
 use Rattle.seg_model.specs.Join.{joined_columns}
 use Rattle.seg_open.specs.OpenSegment.{IsMarked, IsOfSchema, OpenSegment, part_of}
-use Rattle.seg_merger.specs.Joining.{IsJoined}
+use Rattle.seg_merger.specs.JoinedSegment.{IsJoined}
 use Rattle.seg_merger.specs.Merger.{Merging, WritesJoined}
 use Rattle.seg_merger.proofs.MergedFiles.{writes_err, writes_none, writes_ok}
 use Rattle.seg_merger.proofs.index_merger.IndexMerger.write.Goals as goal

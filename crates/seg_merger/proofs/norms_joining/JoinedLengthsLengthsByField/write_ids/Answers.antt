@@ -1,6 +1,6 @@
 use Rattle.std.proofs.Common.{ℕ, List, [], ◌∷◌, ◌++◌, ◌∙◌, ap, subst}
-use Rattle.seg_common.specs.Growing.{HasGrown}
-use Rattle.seg_directory.specs.Composite.{Part}
+use Rattle.seg_common.specs.WriterGrowth.{HasGrown}
+use Rattle.seg_directory.specs.CompositeFiles.{Part}
 use Rattle.seg_merger.specs.JoinedNorms.{joined_ids}
 use Rattle.seg_open.specs.OpenSegment.{OpenSegment}
 use Rattle.seg_merger.proofs.norms_joining.JoinedLengthsLengthsByField.write_ids.Goals as goal

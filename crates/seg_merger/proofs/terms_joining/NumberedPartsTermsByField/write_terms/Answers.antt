@@ -1,7 +1,7 @@
 use Rattle.std.proofs.Common.{ℕ, List, map, refl, sym, ap, subst, ◌∙◌}
 use Rattle.std.specs.Prelude.{IsSomeAnd}
 use Rattle.std.specs.List.{AllByRecursion}
-use Rattle.seg_segment.specs.WritingTerms.{IsUnwritten}
+use Rattle.seg_segment.specs.WrittenTerms.{IsUnwritten}
 use Rattle.seg_merger.specs.JoinedTerms.{IsOpenAt, source_of}
 use Rattle.seg_merger.specs.JoinedTotals.{tokens_in}
 use Rattle.seg_merger.specs.MovedPostings.{SourceTerms, Ascend}

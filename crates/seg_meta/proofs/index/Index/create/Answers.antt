@@ -3,11 +3,11 @@ use Rattle.seg_model.specs.Fields.{Schema}
 use Rattle.seg_meta.specs.IndexOfFiles.{ListedSegment}
 use Rattle.seg_common.specs.declared.name.FileName.TheVariants.{Meta}
 use Rattle.seg_directory.proofs.Exports.{answers, begins_on_disk, stops, then_does}
-use Rattle.seg_directory.specs.Works.{Works}
+use Rattle.seg_directory.specs.DirectorySteps.{Works}
 use Rattle.seg_meta.specs.MetaSteps.{create_steps}
 use Rattle.seg_meta.specs.MetaText.{meta_text}
-use Rattle.seg_meta.specs.Saving.{empty_meta}
-use Rattle.seg_meta.specs.View.{settings_of}
+use Rattle.seg_meta.specs.SavableMetas.{empty_meta}
+use Rattle.seg_meta.specs.MetaMeaning.{settings_of}
 use Rattle.seg_meta.specs.declared.index.Index.{Index}
 use Rattle.seg_meta.specs.declared.index_settings.IndexSettings.{IndexSettings}
 use Rattle.seg_meta.proofs.index.Index.create.Goals as goal

@@ -1,6 +1,6 @@
 use Rattle.std.proofs.Common.{rules, subst, ◌≡◌, ◌≢◌}
 use Rattle.std.specs.Prelude.{MatchBool}
-use Rattle.seg_norms.specs.NormsRead.{lengths_of_parts, lengths_for, HaveIds}
+use Rattle.seg_norms.specs.StoredNorms.{lengths_of_parts, lengths_for, HaveIds}
 use Rattle.seg_norms.proofs.NormsOfParts.{fitting_norms, other_norms}
 use Rattle.seg_norms.proofs.field_norm_readers.FieldNormReaders.fit.Goals as goal
 

@@ -1,5 +1,5 @@
 use Rattle.std.proofs.Common.{◌∙◌, ap, arith, length, sym}
-use Rattle.seg_open.proofs.Marks.{next_left}
+use Rattle.seg_open.proofs.DocumentMarks.{next_left}
 use Rattle.seg_open.proofs.alive_docs.AliveDocsIterator.next.Goals as goal
 
 pub returns-clause-steps : goal.returns-clause-steps

@@ -3,7 +3,7 @@ use Rattle.std.specs.Prelude.{if◌then◌else◌}
 use Rattle.std.specs.List.{list_all}
 use Rattle.seg_bits.specs.BitSets.{words_for}
 use Rattle.seg_open.specs.OpenSegment.{OpenSegment}
-use Rattle.seg_open.proofs.Marks.{none_missing}
+use Rattle.seg_open.proofs.DocumentMarks.{none_missing}
 use Rattle.seg_open.proofs.segment_reader.SegmentReader.alive_bytes.Goals as goal
 
 pub returns-in-None : goal.returns-in-None

@@ -1,7 +1,7 @@
 use Rattle.std.proofs.Common.{◌∙◌, Bool, List, Option, ap, sym}
 use Rattle.seg_bits.specs.BitSets.{numbers_from}
 use Rattle.seg_open.specs.OpenSegment.{OpenSegment, alive_of}
-use Rattle.seg_open.proofs.Marks.{all_numbers}
+use Rattle.seg_open.proofs.DocumentMarks.{all_numbers}
 use Rattle.seg_open.proofs.segment_reader.SegmentReader.doc_ids_alive.Goals as goal
 
 pub returns-in-None : goal.returns-in-None

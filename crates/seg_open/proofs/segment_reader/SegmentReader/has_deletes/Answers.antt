@@ -2,7 +2,7 @@ use Rattle.std.proofs.Common.{◌∙◌, ap}
 use Rattle.std.specs.Prelude.{not}
 use Rattle.std.specs.List.{list_all}
 use Rattle.seg_open.specs.OpenSegment.{OpenSegment}
-use Rattle.seg_open.proofs.Marks.{marked_some}
+use Rattle.seg_open.proofs.DocumentMarks.{marked_some}
 use Rattle.seg_open.proofs.segment_reader.SegmentReader.has_deletes.Goals as goal
 
 pub returns : goal.returns

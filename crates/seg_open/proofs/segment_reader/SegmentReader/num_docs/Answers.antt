@@ -3,7 +3,7 @@ use Rattle.std.specs.Prelude.{not}
 use Rattle.std.specs.List.{count_by}
 use Rattle.seg_bits.specs.BitSets.{member_count}
 use Rattle.seg_open.specs.OpenSegment.{OpenSegment}
-use Rattle.seg_open.proofs.Marks.{few_deleted, left_alive}
+use Rattle.seg_open.proofs.DocumentMarks.{few_deleted, left_alive}
 use Rattle.seg_open.proofs.segment_reader.SegmentReader.num_docs.Goals as goal
 
 pub overflow_sub-result : goal.overflow_sub-result

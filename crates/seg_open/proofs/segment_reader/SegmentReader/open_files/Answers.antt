@@ -1,11 +1,11 @@
 use Rattle.std.proofs.Common.{rules, ◌≡◌, ◌∙◌, [], None, ap, true}
 use Rattle.seg_common.specs.declared.name.SegmentComponent.TheVariants.{FastFields, FieldNorms, Positions, Postings, Store, Terms}
-use Rattle.seg_fastfield.specs.Reading.{FastFields as Readers}
+use Rattle.seg_fastfield.specs.OpenFastFields.{FastFields as Readers}
 use Rattle.seg_open.specs.OpenSegment.{OpenSegment}
-use Rattle.seg_open.proofs.Disagreeing.{columns_wrong, norms_wrong, positions_wrong, postings_wrong, store_wrong, terms_wrong, told, why}
-use Rattle.seg_open.proofs.Opened.{as_listed, has_files, has_shape, told_of_listed}
-use Rattle.seg_open.proofs.PlacesOpened.{open_places}
-use Rattle.seg_open.proofs.Stages.{are_opened, terms_are_open}
+use Rattle.seg_open.proofs.IncompleteFiles.{columns_wrong, norms_wrong, positions_wrong, postings_wrong, store_wrong, terms_wrong, told, why}
+use Rattle.seg_open.proofs.OpeningOutcomes.{as_listed, has_files, has_shape, told_of_listed}
+use Rattle.seg_open.proofs.OpenedPlaces.{open_places}
+use Rattle.seg_open.proofs.OpeningStages.{are_opened, terms_are_open}
 use Rattle.seg_open.proofs.segment_reader.SegmentReader.open_files.Goals as goal
 
 pub returns-in_err-dictionaries-clause-err : goal.returns-in_err-dictionaries-clause-err

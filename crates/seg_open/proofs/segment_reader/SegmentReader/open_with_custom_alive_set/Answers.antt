@@ -3,10 +3,10 @@ use Rattle.std.specs.Prelude.{IfSome}
 use Rattle.std.specs.Option.{option_map}
 use Rattle.seg_meta.specs.Metas.{deletes_of}
 use Rattle.seg_open.specs.OpenSegment.{OpenSegment, alive_of}
-use Rattle.seg_open.specs.SegmentOpened.{Asked, HasFilesOf}
-use Rattle.seg_open.proofs.AliveRead.{as_many_read}
-use Rattle.seg_open.proofs.Marks.{long_set}
-use Rattle.seg_open.proofs.OpenedLaws.{opens_holds, opens_undamaged}
+use Rattle.seg_open.specs.OpeningSteps.{Asked, HasFilesOf}
+use Rattle.seg_open.proofs.AliveFileReads.{as_many_read}
+use Rattle.seg_open.proofs.DocumentMarks.{long_set}
+use Rattle.seg_open.proofs.OpenedSegments.{opens_holds, opens_undamaged}
 use Rattle.seg_open.proofs.OpeningOnDisk.{opening_on_disk}
 use Rattle.seg_open.proofs.OpeningSteps.{opens, stops_after_alive, stops_in_alive, stops_in_files, with_marks}
 use Rattle.seg_open.proofs.segment_reader.SegmentReader.open_with_custom_alive_set.Goals as goal

@@ -1,5 +1,5 @@
 use Rattle.std.proofs.Common.{rules, ◌≡◌}
-use Rattle.seg_open.proofs.Opened.{is_opened, is_unopened, is_unread}
+use Rattle.seg_open.proofs.OpeningOutcomes.{is_opened, is_unopened, is_unread}
 use Rattle.seg_open.proofs.segment_reader.SegmentReader.read_files.Goals as goal
 
 pub returns-in-Ok-open_files : goal.returns-in-Ok-open_files

@@ -1,11 +1,11 @@
 use Rattle.std.proofs.Common.{◌≡◌, ◌+◌, Some, sym, ap, ◌∙◌, subst}
 use Rattle.std.specs.Prelude.{IfOk}
-use Rattle.seg_model.specs.Checked.{has_no_zero}
+use Rattle.seg_model.specs.DocumentCheck.{has_no_zero}
 use Rattle.seg_paths.specs.Nodes.{IsPart}
 use Rattle.seg_paths.specs.Paths.{below, number_of}
-use Rattle.seg_paths.proofs.Cutting.{cut_nowhere, cut_step, cut_there}
-use Rattle.seg_paths.proofs.Numbers.{extends-trans, number-read}
-use Rattle.seg_paths.proofs.Zeros.{no_zero-drop}
+use Rattle.seg_paths.proofs.KeyCuts.{cut_nowhere, cut_step, cut_there}
+use Rattle.seg_paths.proofs.PathNumbers.{extends-trans, number-read}
+use Rattle.seg_paths.proofs.ZeroFreeKeys.{no_zero-drop}
 use Rattle.seg_paths.proofs.path_table.PathTable.add_key.Goals as goal
 
 pub add_part-requires-clause-part : goal.add_part-requires-clause-part

@@ -1,6 +1,6 @@
 use Rattle.std.proofs.Common.{◌≡◌, true, length}
 use Rattle.seg_common.specs.JsonPaths.{written_key}
-use Rattle.seg_model.specs.Checked.{has_no_zero}
+use Rattle.seg_model.specs.DocumentCheck.{has_no_zero}
 use Rattle.seg_paths.specs.Paths.{Extends, IsAbove, below}
 use Rattle.seg_paths.proofs.path_table.PathTable.add_key.Given as goal
 

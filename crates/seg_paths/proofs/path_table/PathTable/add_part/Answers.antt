@@ -1,6 +1,6 @@
 use Rattle.std.proofs.Common.{sym}
 use Rattle.seg_paths.specs.Nodes.{Node, IsSound}
-use Rattle.seg_paths.proofs.Below.{known-node, push-extends, push-grown, push-number}
+use Rattle.seg_paths.proofs.NodePaths.{known-node, push-extends, push-grown, push-number}
 use Rattle.seg_paths.proofs.path_table.PathTable.add_part.Goals as goal
 
 pub invariant_of-self : goal.invariant_of-self

@@ -1,8 +1,8 @@
 use Rattle.std.proofs.Common.{◌≡◌, [], length, ap, arith, subst}
 use Rattle.seg_paths.specs.Nodes.{paths_with}
 use Rattle.seg_paths.specs.Paths.{HaveNoZero}
-use Rattle.seg_paths.proofs.Below.{length-paths}
-use Rattle.seg_paths.proofs.Zeros.{no_zero-paths}
+use Rattle.seg_paths.proofs.NodePaths.{length-paths}
+use Rattle.seg_paths.proofs.ZeroFreeKeys.{no_zero-paths}
 use Rattle.seg_paths.proofs.path_table.PathTable.len.Goals as goal
 
 pub returns-clause-length : goal.returns-clause-length

@@ -1,7 +1,7 @@
 use Rattle.std.proofs.Common.{◌≡◌, ◌<◌, List, length, get_or, sym, ap, subst, ◌∙◌}
 use Rattle.seg_paths.specs.Nodes.{Node}
 use Rattle.seg_paths.specs.Paths.{StepsUp}
-use Rattle.seg_paths.proofs.Up.{node_within, steps-up}
+use Rattle.seg_paths.proofs.PathAncestors.{node_within, steps-up}
 use Rattle.seg_paths.proofs.path_table.PathTable.push_reversed.Goals as goal
 
 pub bounds-nodes-number : goal.bounds-nodes-number

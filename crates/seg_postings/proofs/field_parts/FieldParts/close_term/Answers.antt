@@ -1,5 +1,5 @@
 use Rattle.std.proofs.Common.{◌-◌, sym, arith}
-use Rattle.seg_postings.proofs.FieldGoals.{close_step}
+use Rattle.seg_postings.proofs.FieldStepParts.{close_step}
 use Rattle.seg_postings.proofs.field_parts.FieldParts.close_term.Goals as goal
 
 pub invariant_of-self : goal.invariant_of-self

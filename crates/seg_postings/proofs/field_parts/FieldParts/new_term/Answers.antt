@@ -1,6 +1,6 @@
 use Rattle.std.proofs.Common.{◌≡◌, ◌-◌, ◌++◌, ◌∷◌, [], ap, sym, ◌∙◌, arith}
-use Rattle.seg_postings.specs.Kinds.{kind_byte}
-use Rattle.seg_postings.proofs.FieldGoals.{open_step}
+use Rattle.seg_postings.specs.RecordKinds.{kind_byte}
+use Rattle.seg_postings.proofs.FieldStepParts.{open_step}
 use Rattle.seg_postings.proofs.field_parts.FieldParts.new_term.Goals as goal
 
 pub invariant_of-self : goal.invariant_of-self

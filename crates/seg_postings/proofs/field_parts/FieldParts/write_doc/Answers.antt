@@ -1,5 +1,5 @@
 use Rattle.std.proofs.Common.{sym, arith}
-use Rattle.seg_postings.proofs.FieldGoals.{lies_behind, places_rise, occur_step}
+use Rattle.seg_postings.proofs.FieldStepParts.{lies_behind, places_rise, occur_step}
 use Rattle.seg_postings.proofs.field_parts.FieldParts.write_doc.Goals as goal
 
 pub overflow_sub-gap : goal.overflow_sub-gap

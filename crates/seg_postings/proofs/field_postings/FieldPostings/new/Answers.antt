@@ -1,5 +1,5 @@
 use Rattle.std.proofs.Common.{refl, inr}
-use Rattle.seg_postings.proofs.Completed.{none_by}
+use Rattle.seg_postings.proofs.CompletedPostings.{none_by}
 use Rattle.seg_postings.proofs.field_postings.FieldPostings.new.Goals as goal
 
 pub returns-then-not-branch-clause-err : goal.returns-then-not-branch-clause-err

@@ -1,11 +1,11 @@
 use Rattle.std.proofs.Common.{◌≡◌, ◌∙◌, ◌⊎◌, ℕ, List, None, length, drop, refl, sym, ap, subst, inr}
 use Rattle.seg_common.specs.LittleEndian.{u64_at}
 use Rattle.seg_termdict.specs.Dictionary.{Term, terms_of}
-use Rattle.seg_termdict.specs.Building.{last_term, positions_end}
+use Rattle.seg_termdict.specs.DictionaryBuilders.{last_term, positions_end}
 use Rattle.seg_values.specs.declared.postings_error.PostingsError.TheVariants.{Malformed, OutOfMemory}
-use Rattle.seg_postings.specs.FieldWriting.{TermWritten}
-use Rattle.seg_postings.specs.FieldReading.{FirstParts, IsFieldBy, written_terms, dictionary_terms}
-use Rattle.seg_postings.specs.RangesFollow.{RangesFollow}
+use Rattle.seg_postings.specs.FieldSerializers.{TermWritten}
+use Rattle.seg_postings.specs.OpenedFields.{FirstParts, IsFieldBy, written_terms, dictionary_terms}
+use Rattle.seg_postings.specs.AdjacentRanges.{RangesFollow}
 use Rattle.seg_postings.proofs.RangeSums.{ranges_follow}
 use Rattle.seg_postings.proofs.OpenedFields.{behind_total, lie_within, no_field_by, are_readable, opened, its_terms}
 use Rattle.seg_postings.proofs.field_postings.FieldPostings.with_positions.Goals as goal

@@ -2,7 +2,7 @@ use Rattle.std.proofs.Common.{◌≡◌, ◌∙◌, List, true, sym, ap, subst}
 use Rattle.std.specs.List.{list_all}
 use Rattle.seg_values.specs.declared.schema.FieldKind.TheVariants.{Json}
 use Rattle.seg_termdict.specs.Dictionary.{Term}
-use Rattle.seg_postings.specs.FieldReading.{dictionary_terms}
+use Rattle.seg_postings.specs.OpenedFields.{dictionary_terms}
 use Rattle.seg_postings.specs.JsonSpaces.{AreSpaces}
 use Rattle.seg_postings.specs.TermForms.{is_formed}
 use Rattle.seg_postings.proofs.OpenedFields.{dictionary_back}

@@ -1,5 +1,5 @@
 use Rattle.std.proofs.Common.{◌≡◌, ◌∙◌, ℕ, List, ap, length, arith, slice_range}
-use Rattle.seg_postings.proofs.TermReads.{here, is_there, all_left, number}
+use Rattle.seg_postings.proofs.InfoPostings.{here, is_there, all_left, number}
 use Rattle.seg_postings.proofs.inverted_index_reader.InvertedIndexReader.read_postings_from_terminfo.Goals as goal
 
 pub bytes_in-documents-requires-clause-rise : goal.bytes_in-documents-requires-clause-rise

@@ -1,5 +1,5 @@
 use Rattle.std.proofs.Common.{◌∙◌, sym, ap}
-use Rattle.seg_postings.specs.FieldReading.{dictionary_terms}
+use Rattle.seg_postings.specs.OpenedFields.{dictionary_terms}
 use Rattle.seg_postings.proofs.OpenedFields.{dictionary_back}
 use Rattle.seg_postings.proofs.inverted_index_reader.InvertedIndexReader.terms.Goals as goal
 

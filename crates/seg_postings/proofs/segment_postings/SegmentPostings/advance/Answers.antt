@@ -1,7 +1,7 @@
 use Rattle.std.proofs.Common.{◌≡◌, ◌∙◌, [], List, drop, sym, ap}
-use Rattle.seg_model.specs.Reading.{Posting}
-use Rattle.seg_postings.specs.PostingsReading.{OpenPostings, document_of}
-use Rattle.seg_postings.proofs.Streams.{ended}
+use Rattle.seg_model.specs.DocumentTerms.{Posting}
+use Rattle.seg_postings.specs.OpenPostings.{OpenPostings, document_of}
+use Rattle.seg_postings.proofs.PostingsStreams.{ended}
 use Rattle.seg_postings.proofs.segment_postings.SegmentPostings.advance.Goals as goal
 
 pub returns-in_default-clause-left : goal.returns-in_default-clause-left

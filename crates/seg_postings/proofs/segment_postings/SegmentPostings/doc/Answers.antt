@@ -1,6 +1,6 @@
 use Rattle.std.proofs.Common.{◌∙◌, sym, ap}
-use Rattle.seg_postings.specs.PostingsReading.{OpenPostings, document_of}
-use Rattle.seg_postings.proofs.Streams.{stands, ended}
+use Rattle.seg_postings.specs.OpenPostings.{OpenPostings, document_of}
+use Rattle.seg_postings.proofs.PostingsStreams.{stands, ended}
 use Rattle.seg_postings.proofs.segment_postings.SegmentPostings.doc.Goals as goal
 
 pub returns-in-Some : goal.returns-in-Some

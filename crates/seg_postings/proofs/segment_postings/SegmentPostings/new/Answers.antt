@@ -1,5 +1,5 @@
 use Rattle.std.proofs.Common.{◌∙◌, sym, ap, Some}
-use Rattle.seg_postings.proofs.Streams.{begins, taken}
+use Rattle.seg_postings.proofs.PostingsStreams.{begins, taken}
 use Rattle.seg_postings.proofs.segment_postings.SegmentPostings.new.Goals as goal
 
 pub invariant_of-result : goal.invariant_of-result

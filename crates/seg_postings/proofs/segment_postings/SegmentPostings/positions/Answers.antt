@@ -1,9 +1,9 @@
 use Rattle.std.proofs.Common.{◌≡◌, ◌∙◌, ◌++◌, List, ℕ, Some, sym, ap, subst}
 use Rattle.std.specs.Prelude.{option_map}
 use Rattle.seg_postings.specs.Postings.{positions_at}
-use Rattle.seg_postings.specs.PostingsReading.{OpenPostings, positions_of}
+use Rattle.seg_postings.specs.OpenPostings.{OpenPostings, positions_of}
 use Rattle.seg_postings.proofs.RisingPositions.{none_rise, put_rise}
-use Rattle.seg_postings.proofs.Streams.{stands, ended, placed, not_placed}
+use Rattle.seg_postings.proofs.PostingsStreams.{stands, ended, placed, not_placed}
 use Rattle.seg_postings.proofs.segment_postings.SegmentPostings.positions.Goals as goal
 
 pub returns-in_default-clause-ok : goal.returns-in_default-clause-ok

@@ -1,6 +1,6 @@
 use Rattle.std.proofs.Common.{◌∙◌, Some, sym, ap}
-use Rattle.seg_postings.specs.PostingsReading.{OpenPostings, kept_kind_of}
-use Rattle.seg_postings.proofs.Streams.{stands, ended, recorded_kind}
+use Rattle.seg_postings.specs.OpenPostings.{OpenPostings, kept_kind_of}
+use Rattle.seg_postings.proofs.PostingsStreams.{stands, ended, recorded_kind}
 use Rattle.seg_postings.proofs.segment_postings.SegmentPostings.record_kind.Goals as goal
 
 pub returns-in-Some : goal.returns-in-Some

@@ -1,6 +1,6 @@
 use Rattle.std.proofs.Common.{◌<◌, ◌^◌, length, subst}
-use Rattle.seg_postings.specs.PostingsReading.{OpenPostings}
-use Rattle.seg_postings.proofs.FewLeft.{few_left}
+use Rattle.seg_postings.specs.OpenPostings.{OpenPostings}
+use Rattle.seg_postings.proofs.PostingsLimits.{few_left}
 use Rattle.seg_postings.proofs.segment_postings.SegmentPostings.share.Goals as goal
 
 pub returns-clause-few : goal.returns-clause-few

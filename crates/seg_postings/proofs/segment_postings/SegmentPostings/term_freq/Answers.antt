@@ -1,6 +1,6 @@
 use Rattle.std.proofs.Common.{◌∙◌, sym, ap}
-use Rattle.seg_postings.specs.PostingsReading.{OpenPostings, term_freq_of}
-use Rattle.seg_postings.proofs.Streams.{stands, ended, count_kept, documents_keep, others_keep}
+use Rattle.seg_postings.specs.OpenPostings.{OpenPostings, term_freq_of}
+use Rattle.seg_postings.proofs.PostingsStreams.{stands, ended, count_kept, documents_keep, others_keep}
 use Rattle.seg_postings.proofs.segment_postings.SegmentPostings.term_freq.Goals as goal
 
 pub returns-in-Documents : goal.returns-in-Documents

@@ -1,5 +1,5 @@
 use Rattle.std.proofs.Common.{[]}
-use Rattle.seg_segment.proofs.SixRead.{only_first, six_read}
+use Rattle.seg_segment.proofs.SegmentReads.{only_first, six_read}
 use Rattle.seg_segment.proofs.segment_files.SegmentFiles.read.Goals as goal
 
 pub returns-in-Err : goal.returns-in-Err

@@ -1,7 +1,7 @@
 use Rattle.std.proofs.Common.{◌≡◌, ℕ, refl, ap, subst, ◌∙◌}
-use Rattle.seg_directory.specs.Works.{Works}
+use Rattle.seg_directory.specs.DirectorySteps.{Works}
 use Rattle.seg_segment.specs.SegmentFiles.{write_steps}
-use Rattle.seg_segment.specs.Serializing.{Serializing, starves, makes}
+use Rattle.seg_segment.specs.SegmentSerializers.{Serializing, starves, makes}
 use Rattle.seg_segment.proofs.FilesOnDisk.{closing_on_disk}
 use Rattle.seg_segment.proofs.segment_serializer.SegmentSerializer.close.Goals as goal
 

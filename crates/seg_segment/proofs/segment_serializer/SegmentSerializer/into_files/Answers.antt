@@ -1,6 +1,6 @@
 use Rattle.std.proofs.Common.{refl, subst}
-use Rattle.seg_segment.specs.Serializing.{Serializing, IsLaidOut}
-use Rattle.seg_segment.proofs.LaidOut.{laid_out}
+use Rattle.seg_segment.specs.SegmentSerializers.{Serializing, IsLaidOut}
+use Rattle.seg_segment.proofs.LaidOutFiles.{laid_out}
 use Rattle.seg_segment.proofs.segment_serializer.SegmentSerializer.into_files.Goals as goal
 
 pub returns : goal.returns

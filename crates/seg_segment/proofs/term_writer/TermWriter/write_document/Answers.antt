@@ -1,6 +1,6 @@
 use Rattle.std.proofs.Common.{sym, subst}
 use Rattle.std.specs.Prelude.{IfSome, IsSomeAnd}
-use Rattle.seg_postings.specs.FieldWriting.{MayOccur}
+use Rattle.seg_postings.specs.FieldSerializers.{MayOccur}
 use Rattle.seg_segment.proofs.term_writer.TermWriter.write_document.Goals as goal
 
 pub write_doc_at-requires : goal.write_doc_at-requires

@@ -1,5 +1,5 @@
 use Rattle.std.proofs.Common.{sym, ap, ◌∙◌, subst}
-use Rattle.seg_store.specs.Stacking.{HaveBlocks}
+use Rattle.seg_store.specs.StackedBlocks.{HaveBlocks}
 use Rattle.seg_store.specs.Store.{store_body, blocks_of}
 use Rattle.seg_store.proofs.CheckpointLists.{have_blocks}
 use Rattle.seg_store.proofs.store_reader.StoreReader.blocks.Goals as goal

@@ -2,8 +2,8 @@ use Rattle.std.proofs.Common.{◌≡◌, ◌++◌, [], ◌∷◌, Some, length, 
 use Rattle.std.specs.List.{flat_map}
 use Rattle.std.specs.Int.{to_le_bytes}
 use Rattle.seg_store.specs.Store.{store_of}
-use Rattle.seg_store.specs.Writing.{Taken}
-use Rattle.seg_store.specs.Buffers.{Buffers, taken_of, IsKept, checkpoint_form}
+use Rattle.seg_store.specs.WriterBlocks.{Taken}
+use Rattle.seg_store.specs.WriterBuffers.{Buffers, taken_of, IsKept, checkpoint_form}
 use Rattle.seg_store.proofs.Stores.{store_form}
 use Rattle.seg_store.proofs.KeptBlocks.{file_read}
 use Rattle.seg_store.proofs.written_blocks.WrittenBlocks.close.Goals as goal

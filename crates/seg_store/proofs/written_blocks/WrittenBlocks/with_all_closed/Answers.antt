@@ -1,6 +1,6 @@
 use Rattle.std.proofs.Common.{◌≡◌, rules}
-use Rattle.seg_store.specs.Writing.{with_all_closed, with_closed}
-use Rattle.seg_store.specs.Buffers.{Buffers, taken_of}
+use Rattle.seg_store.specs.WriterBlocks.{with_all_closed, with_closed}
+use Rattle.seg_store.specs.WriterBuffers.{Buffers, taken_of}
 use Rattle.seg_store.proofs.KeptBlocks.{all_closed, if_ok}
 use Rattle.seg_store.proofs.written_blocks.WrittenBlocks.with_all_closed.Goals as goal
 

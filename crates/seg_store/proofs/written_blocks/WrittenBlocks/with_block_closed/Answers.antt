@@ -1,8 +1,8 @@
 use Rattle.std.proofs.Common.{◌≡◌, ◌++◌, length, sym, ap, subst, ◌∙◌, arith, w32, w64}
 use Rattle.std.specs.List.{flat_map}
 use Rattle.std.specs.Int.{to_le_bytes}
-use Rattle.seg_store.specs.Writing.{with_closed}
-use Rattle.seg_store.specs.Buffers.{Buffers, taken_of, IsKept}
+use Rattle.seg_store.specs.WriterBlocks.{with_closed}
+use Rattle.seg_store.specs.WriterBuffers.{Buffers, taken_of, IsKept}
 use Rattle.seg_store.proofs.KeptBlocks.{is_closed, closed_at}
 use Rattle.seg_store.proofs.written_blocks.WrittenBlocks.with_block_closed.Goals as goal
 

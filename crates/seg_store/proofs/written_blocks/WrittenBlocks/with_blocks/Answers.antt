@@ -1,10 +1,10 @@
 use Rattle.std.proofs.Common.{◌≡◌, ◌++◌, ◌+◌, ℕ, [], map, length, sym, ap, subst, ◌∙◌, arith}
 use Rattle.std.proofs.lemmas.List.{length-append}
-use Rattle.seg_store.specs.Buffers.{Buffers, taken_of, IsKept}
+use Rattle.seg_store.specs.WriterBuffers.{Buffers, taken_of, IsKept}
 use Rattle.seg_store.specs.Checkpoints.{checkpoints}
-use Rattle.seg_store.specs.Stacking.{shifted}
+use Rattle.seg_store.specs.StackedBlocks.{shifted}
 use Rattle.seg_store.specs.Store.{document_count}
-use Rattle.seg_store.specs.Writing.{with_stacked}
+use Rattle.seg_store.specs.WriterBlocks.{with_stacked}
 use Rattle.seg_store.proofs.CheckpointLists.{blocks_size}
 use Rattle.seg_store.proofs.StackedBlocks.{ends_here, is_stacked, stacked_on}
 use Rattle.seg_store.proofs.written_blocks.WrittenBlocks.with_blocks.Goals as goal

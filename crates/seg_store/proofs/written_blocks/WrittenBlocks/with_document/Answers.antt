@@ -1,8 +1,8 @@
 use Rattle.std.proofs.Common.{◌≡◌, List, ℕ, take, drop, ap, ◌∙◌, arith}
 use Rattle.std.proofs.lemmas.List.{take_at, drop_at}
-use Rattle.seg_values.specs.StoredForm.{stored_form}
-use Rattle.seg_store.specs.Writing.{with_document}
-use Rattle.seg_store.specs.Buffers.{Buffers, taken_of}
+use Rattle.seg_values.specs.StoredBytes.{stored_form}
+use Rattle.seg_store.specs.WriterBlocks.{with_document}
+use Rattle.seg_store.specs.WriterBuffers.{Buffers, taken_of}
 use Rattle.seg_store.proofs.KeptBlocks.{if_ok}
 use Rattle.seg_store.proofs.written_blocks.WrittenBlocks.with_document.Goals as goal
 

@@ -1,6 +1,6 @@
 use Rattle.std.proofs.Common.{◌≡◌, ◌++◌, ◌-◌, ◌+◌, ◌∷◌, [], length, take, drop, sym, ap, subst, ◌∙◌, arith}
-use Rattle.seg_store.specs.Writing.{closed_if_full, with_document}
-use Rattle.seg_store.specs.Buffers.{Buffers, taken_of, IsKept}
+use Rattle.seg_store.specs.WriterBlocks.{closed_if_full, with_document}
+use Rattle.seg_store.specs.WriterBuffers.{Buffers, taken_of, IsKept}
 use Rattle.seg_store.proofs.KeptBlocks.{is_grown, short, if_ok}
 use Rattle.seg_store.proofs.written_blocks.WrittenBlocks.with_end.Goals as goal
 

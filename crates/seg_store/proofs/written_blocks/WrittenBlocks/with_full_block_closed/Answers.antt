@@ -1,6 +1,6 @@
 use Rattle.std.proofs.Common.{◌≡◌, length, ap, ◌∙◌, arith}
-use Rattle.seg_store.specs.Writing.{with_closed, closed_if_full}
-use Rattle.seg_store.specs.Buffers.{Buffers, taken_of}
+use Rattle.seg_store.specs.WriterBlocks.{with_closed, closed_if_full}
+use Rattle.seg_store.specs.WriterBuffers.{Buffers, taken_of}
 use Rattle.seg_store.proofs.KeptBlocks.{not_full, is_full, if_ok}
 use Rattle.seg_store.proofs.written_blocks.WrittenBlocks.with_full_block_closed.Goals as goal
 

@@ -1,6 +1,6 @@
 use Rattle.std.proofs.Common.{◌≡◌, ap, ◌∙◌, arith}
-use Rattle.seg_store.specs.Buffers.{Buffers, taken_of}
-use Rattle.seg_store.specs.Writing.{with_stacked}
+use Rattle.seg_store.specs.WriterBuffers.{Buffers, taken_of}
+use Rattle.seg_store.specs.WriterBlocks.{with_stacked}
 use Rattle.seg_store.proofs.KeptBlocks.{if_ok}
 use Rattle.seg_store.proofs.StackedBlocks.{same_count, stacked_on_closed}
 use Rattle.seg_store.proofs.written_blocks.WrittenBlocks.with_stacked.Goals as goal

@@ -1,6 +1,6 @@
 use Rattle.std.proofs.Common.{◌≡◌, ℕ, List, sym, subst, ◌∙◌}
 use Rattle.seg_termdict.specs.Dictionary.{IsDictionary, count_of}
-use Rattle.seg_termdict.proofs.TermLemmas.{none_counted}
+use Rattle.seg_termdict.proofs.DictionaryTerms.{none_counted}
 use Rattle.seg_termdict.proofs.dictionary.TermDictionary.empty.Goals as goal
 
 pub invariant_of-result : goal.invariant_of-result

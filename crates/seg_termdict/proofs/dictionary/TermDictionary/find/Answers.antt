@@ -1,7 +1,7 @@
 use Rattle.std.proofs.Common.{◌≡◌, ap, sym, ◌∙◌, arith}
 use Rattle.seg_termdict.specs.Dictionary.{ends_of, keys_of}
-use Rattle.seg_termdict.proofs.KeyLemmas.{same_key}
-use Rattle.seg_termdict.proofs.TermLemmas.{seen_length, seen_key, seen_none, weaker}
+use Rattle.seg_termdict.proofs.DictionaryKeys.{same_key}
+use Rattle.seg_termdict.proofs.DictionaryTerms.{seen_length, seen_key, seen_none, weaker}
 use Rattle.seg_termdict.proofs.dictionary.TermDictionary.find.Goals as goal
 
 pub returns : goal.returns

@@ -1,4 +1,4 @@
-use Rattle.seg_termdict.proofs.TermLemmas.{pair_at}
+use Rattle.seg_termdict.proofs.DictionaryTerms.{pair_at}
 use Rattle.seg_termdict.proofs.dictionary.TermDictionary.get.Goals as goal
 
 pub returns-in-Some : goal.returns-in-Some

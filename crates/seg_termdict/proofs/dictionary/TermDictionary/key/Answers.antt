@@ -1,7 +1,7 @@
 use Rattle.std.proofs.Common.{◌≡◌, ◌<◌, ◌+◌, ap, sym, ◌∙◌, arith}
 use Rattle.seg_termdict.specs.Dictionary.{ends_of, keys_of, AreKeys}
-use Rattle.seg_termdict.proofs.KeyLemmas.{start_within, same_key}
-use Rattle.seg_termdict.proofs.TermLemmas.{seen_length, seen_key}
+use Rattle.seg_termdict.proofs.DictionaryKeys.{start_within, same_key}
+use Rattle.seg_termdict.proofs.DictionaryTerms.{seen_length, seen_key}
 use Rattle.seg_termdict.proofs.dictionary.TermDictionary.key.Goals as goal
 
 pub key_at-requires-clause-room : goal.key_at-requires-clause-room

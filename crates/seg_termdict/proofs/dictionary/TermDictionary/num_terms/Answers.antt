@@ -1,5 +1,5 @@
 use Rattle.std.proofs.Common.{sym}
-use Rattle.seg_termdict.proofs.TermLemmas.{seen_length}
+use Rattle.seg_termdict.proofs.DictionaryTerms.{seen_length}
 use Rattle.seg_termdict.proofs.dictionary.TermDictionary.num_terms.Goals as goal
 
 pub returns : goal.returns

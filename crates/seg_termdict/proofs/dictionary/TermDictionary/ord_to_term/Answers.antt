@@ -1,5 +1,5 @@
 use Rattle.std.proofs.Common.{arith}
-use Rattle.seg_termdict.proofs.TermLemmas.{seen_length}
+use Rattle.seg_termdict.proofs.DictionaryTerms.{seen_length}
 use Rattle.seg_termdict.proofs.dictionary.TermDictionary.ord_to_term.Goals as goal
 
 pub returns-then-ord-self-clause-ok : goal.returns-then-ord-self-clause-ok

@@ -1,6 +1,6 @@
 use Rattle.std.proofs.Common.{false, ap, ◌∙◌}
-use Rattle.seg_termdict.specs.Streaming.{before_all}
-use Rattle.seg_termdict.proofs.Ranked.{all_between}
+use Rattle.seg_termdict.specs.TermStreams.{before_all}
+use Rattle.seg_termdict.proofs.RankedTerms.{all_between}
 use Rattle.seg_termdict.proofs.dictionary.TermDictionary.stream.Goals as goal
 
 pub returns : goal.returns

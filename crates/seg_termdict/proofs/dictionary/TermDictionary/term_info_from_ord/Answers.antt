@@ -1,6 +1,6 @@
 use Rattle.std.proofs.Common.{◌<◌, ℕ, List, ap, ◌∙◌, arith}
 use Rattle.seg_termdict.specs.Dictionary.{infos_of, info_of}
-use Rattle.seg_termdict.proofs.TermLemmas.{seen_length, seen_info}
+use Rattle.seg_termdict.proofs.DictionaryTerms.{seen_length, seen_info}
 use Rattle.seg_termdict.proofs.dictionary.TermDictionary.term_info_from_ord.Goals as goal
 
 pub info_at-requires : goal.info_at-requires

@@ -1,9 +1,9 @@
 use Rattle.std.proofs.Common.{◌≡◌, ℕ, ◌<◌, List, ap, sym, ◌∙◌, arith}
 use Rattle.seg_termdict.specs.Dictionary.{Term, ends_of, keys_of, key_of}
-use Rattle.seg_termdict.specs.Streaming.{no_term}
-use Rattle.seg_termdict.specs.Ranges.{comes_before, key_at}
-use Rattle.seg_termdict.proofs.KeyLemmas.{same_key}
-use Rattle.seg_termdict.proofs.TermLemmas.{seen_length, seen_term}
+use Rattle.seg_termdict.specs.TermStreams.{no_term}
+use Rattle.seg_termdict.specs.TermRanges.{comes_before, key_at}
+use Rattle.seg_termdict.proofs.DictionaryKeys.{same_key}
+use Rattle.seg_termdict.proofs.DictionaryTerms.{seen_length, seen_term}
 use Rattle.seg_termdict.proofs.dictionary.TermDictionary.terms_before.Goals as goal
 
 pub returns : goal.returns

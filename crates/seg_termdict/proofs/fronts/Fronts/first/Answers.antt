@@ -1,4 +1,4 @@
-use Rattle.seg_termdict.proofs.FrontLemmas.{first_of, first_among}
+use Rattle.seg_termdict.proofs.MergerHeap.{first_of, first_among}
 use Rattle.seg_termdict.proofs.fronts.Fronts.first.Goals as goal
 
 pub returns-clause-some : goal.returns-clause-some

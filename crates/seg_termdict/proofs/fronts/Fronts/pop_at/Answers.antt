@@ -1,7 +1,7 @@
 use Rattle.std.proofs.Common.{◌≡◌, refl, rules, arith, false, sym, ap, ◌∙◌}
 use Rattle.std.specs.Str.{bytes_eq}
-use Rattle.seg_termdict.specs.Fronts.{Entry, front_of}
-use Rattle.seg_termdict.proofs.FrontLemmas.{first_of, first_among, none_at, popped}
+use Rattle.seg_termdict.specs.MergerHeap.{Entry, front_of}
+use Rattle.seg_termdict.proofs.MergerHeap.{first_of, first_among, none_at, popped}
 use Rattle.seg_termdict.proofs.fronts.Fronts.pop_at.Goals as goal
 
 pub returns-then-ne-clause-none : goal.returns-then-ne-clause-none

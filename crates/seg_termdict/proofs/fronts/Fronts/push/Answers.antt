@@ -1,4 +1,4 @@
-use Rattle.seg_termdict.proofs.FrontLemmas.{pushed}
+use Rattle.seg_termdict.proofs.MergerHeap.{pushed}
 use Rattle.seg_termdict.proofs.fronts.Fronts.push.Goals as goal
 
 pub returns : goal.returns

@@ -1,8 +1,8 @@
 use Rattle.std.proofs.Common.{◌<◌, ◌∙◌, List, length, ap, sym, subst}
 use Rattle.seg_common.specs.declared.term_info.TermInfo.{TermInfo}
 use Rattle.seg_termdict.specs.SortedTerms.{RankedTerm}
-use Rattle.seg_termdict.specs.Merging.{first}
-use Rattle.seg_termdict.proofs.Heads.{seen_as, stands_from}
+use Rattle.seg_termdict.specs.MergedStreams.{first}
+use Rattle.seg_termdict.proofs.StreamHeads.{seen_as, stands_from}
 use Rattle.seg_termdict.proofs.head.Head.key.Goals as goal
 
 pub returns : goal.returns

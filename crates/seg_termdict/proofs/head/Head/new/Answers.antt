@@ -1,6 +1,6 @@
 use Rattle.std.proofs.Common.{ℕ, ◌∙◌, drop, ap, sym, subst}
-use Rattle.seg_termdict.specs.Merging.{Ascends}
-use Rattle.seg_termdict.proofs.Heads.{after_advance}
+use Rattle.seg_termdict.specs.MergedStreams.{Ascends}
+use Rattle.seg_termdict.proofs.StreamHeads.{after_advance}
 use Rattle.seg_termdict.proofs.head.Head.new.Goals as goal
 
 pub returns-clause-order : goal.returns-clause-order

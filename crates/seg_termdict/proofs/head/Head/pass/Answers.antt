@@ -1,7 +1,7 @@
 use Rattle.std.proofs.Common.{◌∙◌, ◌<◌, List, length, drop, ap, sym, subst}
 use Rattle.seg_common.specs.declared.term_info.TermInfo.{TermInfo}
 use Rattle.seg_termdict.specs.SortedTerms.{RankedTerm}
-use Rattle.seg_termdict.proofs.Heads.{seen_as, stands_from, after_advance}
+use Rattle.seg_termdict.proofs.StreamHeads.{seen_as, stands_from, after_advance}
 use Rattle.seg_termdict.proofs.head.Head.pass.Goals as goal
 
 pub returns : goal.returns

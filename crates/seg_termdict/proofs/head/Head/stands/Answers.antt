@@ -1,6 +1,6 @@
 use Rattle.std.proofs.Common.{◌∙◌, ap}
 use Rattle.std.specs.Prelude.{nat_lt, length}
-use Rattle.seg_termdict.proofs.Heads.{stands_is}
+use Rattle.seg_termdict.proofs.StreamHeads.{stands_is}
 use Rattle.seg_termdict.proofs.head.Head.stands.Goals as goal
 
 pub returns : goal.returns

@@ -1,8 +1,8 @@
 use Rattle.std.proofs.Common.{◌≡◌, ◌∙◌, ◌<◌, length, ◌++◌, map, ap}
 use Rattle.std.specs.List.{AllByRecursion}
-use Rattle.seg_termdict.specs.Merging.{NotBelow, ord_of, info_of, standings_first}
-use Rattle.seg_termdict.proofs.Merges.{at_end, no_more, at_next, one_more, stands}
-use Rattle.seg_termdict.proofs.Passing.{none_left, first_low, first_noted}
+use Rattle.seg_termdict.specs.MergedStreams.{NotBelow, ord_of, info_of, standings_first}
+use Rattle.seg_termdict.proofs.MergerViews.{at_end, no_more, at_next, one_more, stands}
+use Rattle.seg_termdict.proofs.FirstFronts.{none_left, first_low, first_noted}
 use Rattle.seg_termdict.proofs.merger.TermMerger.advance.Goals as goal
 
 pub returns-in_default-clause-ok : goal.returns-in_default-clause-ok

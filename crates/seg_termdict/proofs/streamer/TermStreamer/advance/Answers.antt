@@ -1,9 +1,9 @@
 use Rattle.std.proofs.Common.{◌≡◌, ℕ, ◌+◌, ◌<◌, true, length, get_or, sym, ap, ◌∙◌, arith}
 use Rattle.std.specs.Prelude.{nat_lt}
 use Rattle.std.proofs.lemmas.Bool.{lt-ltb, cond-true}
-use Rattle.seg_termdict.specs.Streaming.{Stream, no_term, advanced}
-use Rattle.seg_termdict.specs.Ranges.{between, place_of}
-use Rattle.seg_termdict.proofs.Ranked.{between_length, comes_to, info_there}
+use Rattle.seg_termdict.specs.TermStreams.{Stream, no_term, advanced}
+use Rattle.seg_termdict.specs.TermRanges.{between, place_of}
+use Rattle.seg_termdict.proofs.RankedTerms.{between_length, comes_to, info_there}
 use Rattle.seg_termdict.proofs.streamer.TermStreamer.advance.Goals as goal
 
 more : (c : goal.After-self-2-1) → nat_lt c.self.inside.taken (length (between c.self.inside.backward c.self.inside.dictionary.now c.self.inside.start c.self.inside.end)) ≡ true

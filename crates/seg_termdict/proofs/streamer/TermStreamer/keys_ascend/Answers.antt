@@ -1,8 +1,8 @@
 use Rattle.std.proofs.Common.{Bool, sym, ap, subst, ◌∙◌}
-use Rattle.seg_termdict.specs.Streaming.{Stream}
-use Rattle.seg_termdict.specs.Ranges.{between}
-use Rattle.seg_termdict.specs.Merging.{Ascends}
-use Rattle.seg_termdict.proofs.Heads.{between_ascends}
+use Rattle.seg_termdict.specs.TermStreams.{Stream}
+use Rattle.seg_termdict.specs.TermRanges.{between}
+use Rattle.seg_termdict.specs.MergedStreams.{Ascends}
+use Rattle.seg_termdict.proofs.StreamHeads.{between_ascends}
 use Rattle.seg_termdict.proofs.streamer.TermStreamer.keys_ascend.Goals as goal
 
 pub returns : goal.returns

@@ -1,7 +1,7 @@
 use Rattle.std.proofs.Common.{sym, ap, ◌∙◌, arith}
-use Rattle.seg_termdict.specs.Streaming.{Stream, current}
-use Rattle.seg_termdict.specs.Ranges.{key_at}
-use Rattle.seg_termdict.proofs.Ranked.{stands_at, key_there}
+use Rattle.seg_termdict.specs.TermStreams.{Stream, current}
+use Rattle.seg_termdict.specs.TermRanges.{key_at}
+use Rattle.seg_termdict.proofs.RankedTerms.{stands_at, key_there}
 use Rattle.seg_termdict.proofs.streamer.TermStreamer.last_key.Goals as goal
 
 pub returns : goal.returns

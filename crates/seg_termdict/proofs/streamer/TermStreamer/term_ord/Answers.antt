@@ -1,6 +1,6 @@
 use Rattle.std.proofs.Common.{sym, ap, ◌∙◌, arith}
-use Rattle.seg_termdict.specs.Streaming.{Stream, current}
-use Rattle.seg_termdict.proofs.Ranked.{stands_at}
+use Rattle.seg_termdict.specs.TermStreams.{Stream, current}
+use Rattle.seg_termdict.proofs.RankedTerms.{stands_at}
 use Rattle.seg_termdict.proofs.streamer.TermStreamer.term_ord.Goals as goal
 
 pub returns-else-self-eq0 : goal.returns-else-self-eq0

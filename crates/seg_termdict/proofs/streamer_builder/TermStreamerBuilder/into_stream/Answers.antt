@@ -1,8 +1,8 @@
 use Rattle.std.proofs.Common.{◌≡◌, ◌-◌, ap, ◌∙◌, arith}
 use Rattle.seg_termdict.specs.SortedTerms.{TermRange, streamed}
-use Rattle.seg_termdict.specs.Ranges.{Ranged, sorted_terms}
-use Rattle.seg_termdict.specs.Streaming.{before_all}
-use Rattle.seg_termdict.proofs.Ranked.{streamed_between}
+use Rattle.seg_termdict.specs.TermRanges.{Ranged, sorted_terms}
+use Rattle.seg_termdict.specs.TermStreams.{before_all}
+use Rattle.seg_termdict.proofs.RankedTerms.{streamed_between}
 use Rattle.seg_termdict.proofs.streamer_builder.TermStreamerBuilder.into_stream.Goals as goal
 
 pub returns : goal.returns

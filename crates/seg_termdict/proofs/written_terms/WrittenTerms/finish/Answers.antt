@@ -1,8 +1,8 @@
 use Rattle.std.proofs.Common.{◌≡◌, ◌+◌, List, ℕ, ◌++◌, ap, subst, sym, ◌∙◌, arith}
 use Rattle.std.specs.Int.{w64, to_le_bytes}
 use Rattle.seg_termdict.specs.Dictionary.{IsDictionary, terms_of, AreInfos}
-use Rattle.seg_termdict.proofs.Growth.{none_more, terms_seen}
-use Rattle.seg_termdict.proofs.Assembled.{AreParts, AreSteps, all, all_from, is_dictionary, terms_are}
+use Rattle.seg_termdict.proofs.BuilderGrowth.{none_more, terms_seen}
+use Rattle.seg_termdict.proofs.DictionaryParts.{AreParts, AreSteps, all, all_from, is_dictionary, terms_are}
 use Rattle.seg_termdict.proofs.written_terms.WrittenTerms.finish.Goals as goal
 
 module _ (c : goal.After-drop-self-inside-4) where

@@ -1,8 +1,8 @@
 use Rattle.std.proofs.Common.{◌≡◌, ◌<◌, ◌-◌, List, drop, sym, ap, subst, ◌∙◌, arith}
 use Rattle.std.specs.declared.cmp.Ordering.TheVariants.{Less, Equal, Greater}
 use Rattle.seg_termdict.specs.Dictionary.{Term, key_of, terms_in}
-use Rattle.seg_termdict.specs.Building.{MayFollow}
-use Rattle.seg_termdict.proofs.Growth.{terms_seen, follows_none, may_follow, follows, last_from}
+use Rattle.seg_termdict.specs.DictionaryBuilders.{MayFollow}
+use Rattle.seg_termdict.proofs.BuilderGrowth.{terms_seen, follows_none, may_follow, follows, last_from}
 use Rattle.seg_termdict.proofs.written_terms.WrittenTerms.may_follow.Goals as goal
 
 pub returns-then-self-eq0 : goal.returns-then-self-eq0

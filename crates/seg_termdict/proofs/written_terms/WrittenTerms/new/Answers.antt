@@ -1,4 +1,4 @@
-use Rattle.seg_termdict.proofs.Growth.{none_written, none_view}
+use Rattle.seg_termdict.proofs.BuilderGrowth.{none_written, none_view}
 use Rattle.seg_termdict.proofs.written_terms.WrittenTerms.new.Goals as goal
 
 pub invariant_of-result : goal.invariant_of-result

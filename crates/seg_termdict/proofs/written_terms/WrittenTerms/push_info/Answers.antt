@@ -1,4 +1,4 @@
-use Rattle.seg_termdict.proofs.Growth.{info_keeps, info_view}
+use Rattle.seg_termdict.proofs.BuilderGrowth.{info_keeps, info_view}
 use Rattle.seg_termdict.proofs.written_terms.WrittenTerms.push_info.Goals as goal
 
 pub invariant_of-self-2 : goal.invariant_of-self-2

@@ -1,5 +1,5 @@
 use Rattle.std.proofs.Common.{◌<◌, ◌^◌, ◌++◌, ℕ, List, length, refl, subst, arith}
-use Rattle.seg_termdict.proofs.Growth.{key_keeps, key_view}
+use Rattle.seg_termdict.proofs.BuilderGrowth.{key_keeps, key_view}
 use Rattle.seg_termdict.proofs.written_terms.WrittenTerms.push_key.Goals as goal
 
 pub invariant_of-self-2 : goal.invariant_of-self-2

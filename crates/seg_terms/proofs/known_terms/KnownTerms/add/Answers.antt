@@ -1,5 +1,5 @@
 use Rattle.std.proofs.Common.{◌++◌, ◌∷◌, [], sym, ap, ◌∙◌}
-use Rattle.seg_terms.proofs.Numbering.{key_number-there, with_key-there}
+use Rattle.seg_terms.proofs.NumberedOccurrences.{key_number-there, with_key-there}
 use Rattle.seg_terms.proofs.known_terms.KnownTerms.add.Goals as goal
 
 pub returns-clause-ok : goal.returns-clause-ok

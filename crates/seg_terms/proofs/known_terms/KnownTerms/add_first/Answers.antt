@@ -1,6 +1,6 @@
 use Rattle.std.proofs.Common.{◌<◌, ◌^◌, ◌++◌, ◌∷◌, [], List, sym, ap, subst, ◌∙◌}
 use Rattle.seg_terms.specs.declared.hit.NumberedHit.{NumberedHit}
-use Rattle.seg_terms.proofs.Numbering.{key_number-new, keys_pushed, still_numbered, with_key-new}
+use Rattle.seg_terms.proofs.NumberedOccurrences.{key_number-new, keys_pushed, still_numbered, with_key-new}
 use Rattle.seg_terms.proofs.known_terms.KnownTerms.add_first.Goals as goal
 
 pub returns-clause-known : goal.returns-clause-known

@@ -1,9 +1,9 @@
 use Rattle.std.proofs.Common.{◌++◌, length}
 use Rattle.std.specs.Map.{keys_of}
 use Rattle.seg_terms.specs.PathKeys.{term_on}
-use Rattle.seg_terms.specs.PathParts.{path_entry_of}
+use Rattle.seg_terms.specs.PathTermParts.{path_entry_of}
 use Rattle.seg_terms.proofs.PathOrder.{copied, copied_if_ok, path_of_place}
-use Rattle.seg_terms.proofs.Sorting.{key_at, place_within}
+use Rattle.seg_terms.proofs.SortedEntries.{key_at, place_within}
 use Rattle.seg_terms.proofs.ordered_path_terms.OrderedPathTerms.copy_bytes_at.Goals as goal
 
 pub path_at-requires : goal.path_at-requires

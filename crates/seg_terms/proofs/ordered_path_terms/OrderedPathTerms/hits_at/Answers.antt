@@ -1,10 +1,10 @@
 use Rattle.std.proofs.Common.{List, Some, ap, sym, ◌∙◌, length, subst, ◌≤◌}
 use Rattle.std.specs.Prelude.{slice_range}
-use Rattle.seg_terms.specs.Grouped.{grouped}
-use Rattle.seg_terms.specs.PathParts.{path_entry_of}
+use Rattle.seg_terms.specs.PostingGroups.{grouped}
+use Rattle.seg_terms.specs.PathTermParts.{path_entry_of}
 use Rattle.seg_terms.specs.declared.hit.Hit.{Hit}
-use Rattle.seg_terms.proofs.Cutting.{within_place}
-use Rattle.seg_terms.proofs.Sorting.{place_within, value_at}
+use Rattle.seg_terms.proofs.CutOccurrences.{within_place}
+use Rattle.seg_terms.proofs.SortedEntries.{place_within, value_at}
 use Rattle.seg_terms.proofs.ordered_path_terms.OrderedPathTerms.hits_at.Goals as goal
 
 pub part-requires-clause-forward : goal.part-requires-clause-forward

@@ -1,6 +1,6 @@
 use Rattle.std.proofs.Common.{Some, ap, sym, ◌∙◌}
-use Rattle.seg_terms.specs.Parts.{entry_of}
-use Rattle.seg_terms.proofs.Sorting.{key_at}
+use Rattle.seg_terms.specs.TermParts.{entry_of}
+use Rattle.seg_terms.proofs.SortedEntries.{key_at}
 use Rattle.seg_terms.proofs.ordered_terms.OrderedTerms.bytes_at.Goals as goal
 
 pub returns : goal.returns

@@ -1,4 +1,4 @@
-use Rattle.seg_terms.proofs.Numbering.{added_known}
+use Rattle.seg_terms.proofs.NumberedOccurrences.{added_known}
 use Rattle.seg_terms.proofs.term_index.TermIndex.add.Goals as goal
 
 pub returns-clause-ok : goal.returns-clause-ok

@@ -1,6 +1,6 @@
 use Rattle.std.proofs.Common.{rules}
-use Rattle.seg_tokens.specs.Code.{pre_tokenized_code}
-use Rattle.seg_tokens.specs.Same.{same_by-is}
+use Rattle.seg_tokens.specs.TokenCodes.{pre_tokenized_code}
+use Rattle.seg_tokens.specs.CodeEquality.{same_by-is}
 use Rattle.seg_tokens.proofs.equality.PreTokenizedStringPartialEq.eq.Goals as goal
 
 pub returns-then-eq-clause-value : goal.returns-then-eq-clause-value

@@ -1,6 +1,6 @@
 use Rattle.std.proofs.Common.{rules}
-use Rattle.seg_tokens.specs.Code.{token_code}
-use Rattle.seg_tokens.specs.Same.{same_by-is}
+use Rattle.seg_tokens.specs.TokenCodes.{token_code}
+use Rattle.seg_tokens.specs.CodeEquality.{same_by-is}
 use Rattle.seg_tokens.proofs.equality.TokenPartialEq.eq.Goals as goal
 
 pub returns-then-self-other-4-clause-value : goal.returns-then-self-other-4-clause-value

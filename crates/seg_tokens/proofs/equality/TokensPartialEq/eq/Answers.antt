@@ -3,8 +3,8 @@ use Rattle.std.specs.Bool.{Decides}
 use Rattle.std.specs.Coded.{coded_list}
 use Rattle.std.specs.Cmp.Lexicographic.{pointwise, pointwise_decides}
 use Rattle.std.proofs.lemmas.Bool.Decides.{Decides-at}
-use Rattle.seg_tokens.specs.Code.{token_code}
-use Rattle.seg_tokens.specs.Same.{same_by, same_by-is, same_by-decides}
+use Rattle.seg_tokens.specs.TokenCodes.{token_code}
+use Rattle.seg_tokens.specs.CodeEquality.{same_by, same_by-is, same_by-decides}
 use Rattle.seg_tokens.proofs.equality.TokensPartialEq.eq.Goals as goal
 
 same : (c : goal.After-eq) → Decides c.eq.result (c.args.self.now ≡ c.args.other.now)

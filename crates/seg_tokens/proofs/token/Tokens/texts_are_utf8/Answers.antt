@@ -1,6 +1,6 @@
 use Rattle.std.proofs.Common.{IsUtf8}
 use Rattle.seg_tokens.specs.declared.token.Token.{Token}
-use Rattle.seg_tokens.proofs.Passed.{one_more, all_passed}
+use Rattle.seg_tokens.proofs.PassedItems.{one_more, all_passed}
 use Rattle.seg_tokens.proofs.token.Tokens.texts_are_utf8.Goals as goal
 
 pub loop-token-preserved : goal.loop-token-preserved

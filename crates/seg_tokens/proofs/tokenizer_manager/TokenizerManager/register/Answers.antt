@@ -1,7 +1,7 @@
 use Rattle.std.proofs.Common.{◌≡◌, Some, None, set, sym, ◌∙◌, ap, subst}
 use Rattle.std.specs.Prelude.{position}
 use Rattle.std.specs.Str.{bytes_eq}
-use Rattle.seg_tokens.proofs.Registering.{Puts, Puts-replaced, Puts-pushed, named_at, registers}
+use Rattle.seg_tokens.proofs.RegisteredTokenizers.{Puts, Puts-replaced, Puts-pushed, named_at, registers}
 use Rattle.seg_tokens.proofs.tokenizer_manager.TokenizerManager.register.Goals as goal
 
 pub returns-in-Some-clause-ok : goal.returns-in-Some-clause-ok

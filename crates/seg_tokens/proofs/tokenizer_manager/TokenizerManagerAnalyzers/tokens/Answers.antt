@@ -1,8 +1,8 @@
 use Rattle.std.proofs.Common.{◌≡◌, ◌∙◌, Some, ap}
 use Rattle.std.specs.Prelude.{position}
 use Rattle.std.specs.Str.{bytes_eq}
-use Rattle.seg_tokens.specs.Registered.{item_named}
-use Rattle.seg_tokens.proofs.Registering.{found_at}
+use Rattle.seg_tokens.specs.RegisteredTokenizers.{item_named}
+use Rattle.seg_tokens.proofs.RegisteredTokenizers.{found_at}
 use Rattle.seg_tokens.proofs.tokenizer_manager.TokenizerManagerAnalyzers.tokens.Goals as goal
 
 pub returns-clause-ok : goal.returns-clause-ok

@@ -1,7 +1,7 @@
 use Rattle.std.proofs.Common.{◌≡◌, ◌+◌, true, false, nat_eq, map, refl, sym, ap, ◌∙◌, rules, arith}
 use Rattle.std.specs.Map.{lookup}
 use Rattle.std.proofs.lemmas.List.{drop_all}
-use Rattle.seg_values.specs.View.{pair_of}
+use Rattle.seg_values.specs.ValueTrees.{pair_of}
 use Rattle.seg_values.proofs.Lookups.{found_from}
 use Rattle.seg_values.proofs.document.TantivyDocument.get_first.Goals as goal
 

@@ -1,6 +1,6 @@
 use Rattle.std.proofs.Common.{◌≡◌, map, drop, nat_eq}
 use Rattle.std.specs.Map.{lookup}
-use Rattle.seg_values.specs.View.{pair_of}
+use Rattle.seg_values.specs.ValueTrees.{pair_of}
 use Rattle.seg_values.proofs.document.TantivyDocument.get_first.Given as goal
 
 -- what is found is found from here on

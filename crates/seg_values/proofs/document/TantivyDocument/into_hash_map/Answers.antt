@@ -1,7 +1,7 @@
 use Rattle.std.proofs.Common.{◌≡◌, [], map, sym, ap, ◌∙◌, rules}
 use Rattle.std.proofs.lemmas.List.{nil_from_length}
 use Rattle.std.specs.Vec.Iter.{into_iter_items}
-use Rattle.seg_values.specs.View.{entry_pair, pair_of}
+use Rattle.seg_values.specs.ValueTrees.{entry_pair, pair_of}
 use Rattle.seg_values.proofs.LastValues.{begun, ended, one_less}
 use Rattle.seg_values.proofs.document.TantivyDocument.into_hash_map.Goals as goal
 

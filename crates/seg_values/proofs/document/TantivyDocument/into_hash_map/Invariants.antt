@@ -1,6 +1,6 @@
 use Rattle.std.proofs.Common.{map}
 use Rattle.std.specs.Vec.Iter.{into_iter_items}
-use Rattle.seg_values.specs.View.{entry_pair, pair_of}
+use Rattle.seg_values.specs.ValueTrees.{entry_pair, pair_of}
 use Rattle.seg_values.proofs.LastValues.{LeavesLast}
 use Rattle.seg_values.proofs.document.TantivyDocument.into_hash_map.Given as goal
 

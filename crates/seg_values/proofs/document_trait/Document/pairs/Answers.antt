@@ -1,7 +1,7 @@
 use Rattle.std.proofs.Common.{ℕ, [], ◌∷◌, ◌++◌, sym, ap, ◌∙◌}
 use Rattle.seg_common.proofs.Lists.{take-slice_get}
 use Rattle.seg_values.specs.Tree.{Tree}
-use Rattle.seg_values.specs.View.{tree_of}
+use Rattle.seg_values.specs.ValueTrees.{tree_of}
 use Rattle.seg_values.proofs.document_trait.Document.pairs.Goals as goal
 
 pub loop-at-preserved : goal.loop-at-preserved

@@ -1,6 +1,6 @@
 use Rattle.std.proofs.Common.{rules}
-use Rattle.seg_tokens.specs.Code.{key_code}
-use Rattle.seg_tokens.specs.Same.{same_by-is}
+use Rattle.seg_tokens.specs.TokenCodes.{key_code}
+use Rattle.seg_tokens.specs.CodeEquality.{same_by-is}
 use Rattle.seg_values.proofs.equality.FacetPartialEq.eq.Goals as goal
 
 pub returns-clause-value : goal.returns-clause-value

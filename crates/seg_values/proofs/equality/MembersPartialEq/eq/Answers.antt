@@ -1,7 +1,7 @@
 use Rattle.std.specs.Coded.{coded_list, coded×}
-use Rattle.seg_tokens.specs.Code.{key_code}
-use Rattle.seg_values.specs.Code.{tree_code}
-use Rattle.seg_tokens.specs.Same.{same_by-is}
+use Rattle.seg_tokens.specs.TokenCodes.{key_code}
+use Rattle.seg_values.specs.ValueCodes.{tree_code}
+use Rattle.seg_tokens.specs.CodeEquality.{same_by-is}
 use Rattle.seg_values.proofs.equality.MembersPartialEq.eq.Goals as goal
 
 pub returns-clause-value : goal.returns-clause-value

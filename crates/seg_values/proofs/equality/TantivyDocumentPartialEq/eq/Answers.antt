@@ -1,6 +1,6 @@
 use Rattle.std.specs.Coded.{coded_list, coded×, coded_ℕ}
-use Rattle.seg_values.specs.Code.{tree_code}
-use Rattle.seg_tokens.specs.Same.{same_by-is}
+use Rattle.seg_values.specs.ValueCodes.{tree_code}
+use Rattle.seg_tokens.specs.CodeEquality.{same_by-is}
 use Rattle.seg_values.proofs.equality.TantivyDocumentPartialEq.eq.Goals as goal
 
 pub returns-clause-value : goal.returns-clause-value

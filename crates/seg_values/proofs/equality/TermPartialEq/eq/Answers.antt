@@ -1,5 +1,5 @@
-use Rattle.seg_values.specs.Code.{term_code}
-use Rattle.seg_tokens.specs.Same.{same_by-is}
+use Rattle.seg_values.specs.ValueCodes.{term_code}
+use Rattle.seg_tokens.specs.CodeEquality.{same_by-is}
 use Rattle.seg_values.proofs.equality.TermPartialEq.eq.Goals as goal
 
 pub returns-clause-value : goal.returns-clause-value

@@ -1,9 +1,9 @@
 use Rattle.std.proofs.Common.{lit<, ◌++◌, map, sym, ap, ◌∙◌, subst}
 use Rattle.std.proofs.lemmas.Bool.{false≢true}
 use Rattle.std.proofs.lemmas.Str.Pattern.{strip_prefix_char}
-use Rattle.seg_common.specs.Replacing.{replacement}
+use Rattle.seg_common.specs.Replacements.{replacement}
 use Rattle.seg_values.specs.Facets.{Tells}
-use Rattle.seg_values.proofs.Telling.{encoded_again}
+use Rattle.seg_values.proofs.FacetPaths.{encoded_again}
 use Rattle.seg_values.proofs.facet.Facet.from_text.Goals as goal
 use Rattle.seg_values.proofs.facet.Facet.from_text.Goals.{in_default-via-in-Some+else-has_steps, in_default-via-in_default}
 

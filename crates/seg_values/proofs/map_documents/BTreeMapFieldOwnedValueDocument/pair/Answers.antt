@@ -3,7 +3,7 @@ use Rattle.std.specs.Option.{option_map}
 use Rattle.std.specs.Map.Iter.{deref_pair}
 use Rattle.std.proofs.lemmas.Option.{slice_get-map}
 use Rattle.std.proofs.lemmas.Iterator.Consumers.{nth_from_yields_List, YieldsList-from_rest}
-use Rattle.seg_values.specs.View.{entry_pair}
+use Rattle.seg_values.specs.ValueTrees.{entry_pair}
 use Rattle.seg_values.proofs.map_documents.BTreeMapFieldOwnedValueDocument.pair.Goals as goal
 
 pub returns : goal.returns

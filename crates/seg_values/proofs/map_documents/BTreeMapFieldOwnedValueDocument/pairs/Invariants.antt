@@ -1,5 +1,5 @@
 use Rattle.std.proofs.Common.{◌≡◌, ◌++◌, map}
-use Rattle.seg_values.specs.View.{entry_pair}
+use Rattle.seg_values.specs.ValueTrees.{entry_pair}
 use Rattle.seg_values.proofs.map_documents.BTreeMapFieldOwnedValueDocument.pairs.Given as goal
 
 abbrev pub invariant-loop-field : goal.invariant-loop-field

@@ -1,6 +1,6 @@
 use Rattle.std.proofs.Common.{◌<◌, ℕ, get_or}
 use Rattle.seg_values.specs.Tree.{Tree}
-use Rattle.seg_values.specs.Utf8.{IsUtf8Tree}
+use Rattle.seg_values.specs.Utf8Values.{IsUtf8Tree}
 use Rattle.seg_values.proofs.pairs.Pairs.texts_are_utf8.Given as goal
 
 -- the texts that were passed

@@ -2,7 +2,7 @@ use Rattle.std.proofs.Common.{◌≡◌, ◌+◌, ◌-◌, take, drop, None, sub
 use Rattle.std.proofs.lemmas.Grind.{common_steps}
 use Rattle.std.proofs.lemmas.Str.{IsCharBoundary-after_ascii}
 use Rattle.seg_values.specs.NameSearch.{IsSeparator, NoPartFrom, whole_name}
-use Rattle.seg_values.proofs.Searching.{finds_part, finds_default, finds_none}
+use Rattle.seg_values.proofs.FoundNames.{finds_part, finds_default, finds_none}
 use Rattle.seg_values.proofs.schema.Schema.find_field_with_default.Goals as goal
 
 pub returns-in-Ok : goal.returns-in-Ok

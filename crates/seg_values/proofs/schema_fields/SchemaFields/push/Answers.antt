@@ -2,9 +2,9 @@ use Rattle.std.proofs.Common.{rules, ◌≡◌, ◌<◌, ◌+◌, ◌-◌, ◌^�
 use Rattle.std.specs.HashMap.{UpdatesBy}
 use Rattle.std.specs.Str.{bytes_eq}
 use Rattle.std.specs.String.{string_bytes, string_eq}
-use Rattle.seg_values.specs.Names.{field_named}
-use Rattle.seg_values.proofs.Entries.{is_schema-push}
-use Rattle.seg_values.proofs.Places.{places-push}
+use Rattle.seg_values.specs.FieldNames.{field_named}
+use Rattle.seg_values.proofs.SchemaEntries.{is_schema-push}
+use Rattle.seg_values.proofs.FieldPlaces.{places-push}
 use Rattle.seg_values.proofs.schema_fields.SchemaFields.push.Goals as goal
 
 pub invariant_of-self-in-Ok : goal.invariant_of-self-in-Ok
