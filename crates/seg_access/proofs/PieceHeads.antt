@@ -1,44 +1,20 @@
 -- Which pieces are keys and fields.
 use Rattle.std.proofs.Common.{◌≡◌, ℕ, ℤ, ◌⊎◌, inl, inr, List, [], ◌∷◌, map, ap, ◌∙◌}
 use Rattle.seg_access.specs.declared.pieces.Piece.{Piece}
-use Rattle.seg_access.specs.declared.pieces.Piece.TheVariants.{Null, Str, PreTokStr, U64, I64, Bool, Date, Facet, Bytes, IpAddr, Array, Object, Key, FieldOf}
+use Rattle.seg_access.specs.declared.pieces.Piece.TheVariants.{PreTokStr, Date, Facet, Bytes, IpAddr, Key, FieldOf}
 use Rattle.seg_tokens.specs.declared.token.PreTokenizedString.{PreTokenizedString}
 use Rattle.std.specs.declared.net.ipv6_addr.Ipv6Addr.{Ipv6Addr}
 use Rattle.seg_values.specs.Tree.{Leaf, null, text, pre_tokenized, unsigned, signed, boolean, date, facet, byte_string, ip}
-use Rattle.seg_access.specs.Pieces.{Mark, value, values, members, key, field, unknown, mark_of, json_mark, json_value, SpellsNone, SpellsNoKey}
+use Rattle.seg_access.specs.Pieces.{Mark, value, key, field, mark_of, json_mark, json_value, SpellsNone, SpellsNoKey}
 use Rattle.seg_access.proofs.SpelledTrees.{none_at_key, none_at_field, none_at_unknown}
 
 pub key_piece : (p : Piece) (k : List ℕ) → mark_of p ≡ key k → p ≡ Key k
-key_piece Null k e = absurd cc
-key_piece (Str s) k e = absurd cc
-key_piece (PreTokStr p) k e = absurd cc
-key_piece (U64 n) k e = absurd cc
-key_piece (I64 z) k e = absurd cc
-key_piece (Bool b) k e = absurd cc
-key_piece (Date z) k e = absurd cc
-key_piece (Facet s) k e = absurd cc
-key_piece (Bytes b) k e = absurd cc
-key_piece (IpAddr a) k e = absurd cc
-key_piece (Array n) k e = absurd cc
-key_piece (Object n) k e = absurd cc
 key_piece (Key s) k e = ap Key (let same : s ≡ k = cc in same)
-key_piece (FieldOf g) k e = absurd cc
+key_piece piece k e = absurd cc
 
 pub field_piece : (p : Piece) (f : ℕ) → mark_of p ≡ field f → p ≡ FieldOf f
-field_piece Null f e = absurd cc
-field_piece (Str s) f e = absurd cc
-field_piece (PreTokStr p) f e = absurd cc
-field_piece (U64 n) f e = absurd cc
-field_piece (I64 z) f e = absurd cc
-field_piece (Bool b) f e = absurd cc
-field_piece (Date z) f e = absurd cc
-field_piece (Facet s) f e = absurd cc
-field_piece (Bytes b) f e = absurd cc
-field_piece (IpAddr a) f e = absurd cc
-field_piece (Array n) f e = absurd cc
-field_piece (Object n) f e = absurd cc
-field_piece (Key s) f e = absurd cc
 field_piece (FieldOf g) f e = ap FieldOf (let same : g ≡ f = cc in same)
+field_piece piece f e = absurd cc
 
 -- ---- the same, as JSON sees pieces
 
@@ -56,11 +32,8 @@ leaf_no_key (ip a) k e = cc
 
 json_key : (m : Mark) (k : List ℕ) → json_mark m ≡ key k → m ≡ key k
 json_key (value l) k e = absurd (leaf_no_key l k e)
-json_key (values n) k e = absurd cc
-json_key (members n) k e = absurd cc
 json_key (key s) k e = e
-json_key (field f) k e = absurd cc
-json_key unknown k e = absurd cc
+json_key mark k e = absurd cc
 
 pub json_no_key : (marks : List Mark) → SpellsNoKey marks → SpellsNoKey (map json_mark marks)
 json_no_key [] none k rest e = absurd cc

@@ -43,7 +43,8 @@ pub record FindsLeft {E : Type 0} (schema : Schema) (files : SegmentFiles) (firs
 
 -- the segment of a batch: its six files with their totals and the blocks of their store, how many documents it has, and what is told of those that deletes leave; its first
 -- operation has the place `first`
-pub record IsSegmentOf (schema : Schema) (block_size : ℕ) (analyzer : Analyzer) (first : ℕ) (operations : List Operation)
+pub record IsSegmentOf (schema : Schema) (block_size : ℕ) (analyzer : Analyzer)
+    (first : ℕ) (operations : List Operation)
     (waiting : List (DeleteOperation TermTarget)) (files : SegmentFiles) (documents : ℕ) (told : Option (List Bool))
     : Type 0 where
   pub stand : StandFor schema analyzer (additions operations) files

@@ -52,14 +52,16 @@ batches_steps (id ∷ ids) (cause ∷ causes) [] = []
 batches_steps (id ∷ ids) (cause ∷ causes) (f ∷ files) = batch_steps id cause f ++ batches_steps ids causes files
 
 -- six files stand for documents, tell how often their terms occur, and have them in blocks of a size
-pub record StandAndTell (schema : Schema) (block_size : ℕ) (analyzer : Analyzer) (documents : List Document) (files : SegmentFiles)
+pub record StandAndTell (schema : Schema) (block_size : ℕ) (analyzer : Analyzer)
+    (documents : List Document) (files : SegmentFiles)
     : Type 0 where
   pub stand : StandFor schema analyzer documents files
   pub totals : TellTotals schema (documents_total schema analyzer documents) files.postings
   pub blocks : HasBlocks schema block_size documents files.store
 
 -- the segment of a batch is written: six files that stand for its documents
-pub record MakesBatch {T : Type 0} (cause : Option TantivyError) (schema : Schema) (block_size : ℕ) (analyzer : Analyzer)
+pub record MakesBatch {T : Type 0} (cause : Option TantivyError) (schema : Schema)
+    (block_size : ℕ) (analyzer : Analyzer)
     (id : ℕ) (batch : Batch) (result : Result T TantivyError) (before after : DirectoryState) : Type 0 where
   pub files : SegmentFiles
   pub stand : OnOk result (StandAndTell schema block_size analyzer batch.documents files)
@@ -67,7 +69,8 @@ pub record MakesBatch {T : Type 0} (cause : Option TantivyError) (schema : Schem
 
 -- and its segment is answered, while the deletes that wait are passed by; its first operation has the place `first`
 pub record WritesBatch (cause : Option TantivyError) (schema : Schema) (block_size : ℕ) (analyzer : Analyzer)
-    (id first : ℕ) (batch : Batch) (result : Result WrittenSegment TantivyError) (old new : Queue TermTarget) (cursor : ℕ)
+    (id first : ℕ) (batch : Batch) (result : Result WrittenSegment TantivyError)
+    (old new : Queue TermTarget) (cursor : ℕ)
     (before after : DirectoryState) : Type 0 where
   pub does : MakesBatch cause schema block_size analyzer id batch result before after
   pub segment : IfOk result (λ s. s ≡ segment_of id batch)
@@ -82,7 +85,8 @@ AllStandFor schema block_size analyzer (f ∷ files) (batch ∷ batches) =
 
 -- the segments of batches are written, each under its id: six files for each
 pub record MakesBatches {T : Type 0} (causes : List (Option TantivyError)) (schema : Schema) (block_size : ℕ)
-    (analyzer : Analyzer) (ids : List ℕ) (batches : List Batch) (result : Result T TantivyError) (before after : DirectoryState)
+    (analyzer : Analyzer) (ids : List ℕ) (batches : List Batch) (result : Result T TantivyError)
+    (before after : DirectoryState)
     : Type 0 where
   pub files : List SegmentFiles
   pub many : length files ≡ length ids

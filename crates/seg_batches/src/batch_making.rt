@@ -51,9 +51,11 @@ pub(crate) fn make_batch<Z: Analyzers>(
     requires places { first + length operations.now < 2 ^ 64 }
     requires cursor { cursor.old ≤ queue.old.flushed }
     requires passed { passed_below first (take cursor.old queue.old.operations) }
-    ensures segment { IfOk result (λ b. IsSegmentOf schema.now settings.now.docstore_blocksize (Z.tokens_of analyzers.now) first
+    ensures segment { IfOk result (λ b. IsSegmentOf schema.now settings.now.docstore_blocksize
+        (Z.tokens_of analyzers.now) first
         (map operation_of operations.now) queue.old.operations b.files b.max_doc b.alive) }
-    ensures makes { MakesSegment (batch_cause (start_refusal (Z.knows analyzers.now) 15000 schema.now settings.now) schema.now
+    ensures makes { MakesSegment
+        (batch_cause (start_refusal (Z.knows analyzers.now) 15000 schema.now settings.now) schema.now
         (Z.tokens_of analyzers.now) (enumerate_from first (map operation_of operations.now)))
         first result queue.old queue.new cursor.new }
 {
@@ -81,9 +83,13 @@ fn batch_files<Z: Analyzers>(
     operations: &[UserOperation<TantivyDocument>],
 ) -> TResult<(SegmentFiles, Vec<Opstamp>)>
     requires places { first + length operations.now < 2 ^ 64 }
-    ensures made { IfOk result (λ m. AreOfBatch schema.now settings.now.docstore_blocksize (Z.tokens_of analyzers.now) first
+    ensures made { IfOk result (λ m. AreOfBatch schema.now settings.now.docstore_blocksize
+        (Z.tokens_of analyzers.now) first
         (map operation_of operations.now) m.0 m.1.items) }
-    ensures tells { Tells (batch_cause (start_refusal (Z.knows analyzers.now) 15000 schema.now settings.now) schema.now (Z.tokens_of analyzers.now) (enumerate_from first (map operation_of operations.now))) result }
+    ensures tells { Tells
+        (batch_cause (start_refusal (Z.knows analyzers.now) 15000 schema.now settings.now) schema.now
+        (Z.tokens_of analyzers.now) (enumerate_from first (map operation_of operations.now)))
+        result }
 {
     let writer = match new_writer(alloc, schema, settings, analyzers, id) {
         Ok(writer) => writer,

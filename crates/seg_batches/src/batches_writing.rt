@@ -43,8 +43,11 @@ pub fn write_batches<Z: Analyzers, W: Directory>(
 ) -> TResult<Vec<WrittenSegment>>
     requires cuts { cuts_fit (map operation_of operations.now) cuts.now ≡ true }
     requires ids { length ids.now ≡ length cuts.now + 1 }
-    ensures does { MakesBatches (batch_causes (start_refusal (Z.knows analyzers.now) 15000 schema.now settings.now) schema.now (Z.tokens_of analyzers.now) cuts.now (map operation_of operations.now))
-        schema.now settings.now.docstore_blocksize (Z.tokens_of analyzers.now) ids.now (batches schema.now (Z.tokens_of analyzers.now) cuts.now (map operation_of operations.now)) result
+    ensures does { MakesBatches
+        (batch_causes (start_refusal (Z.knows analyzers.now) 15000 schema.now settings.now) schema.now
+        (Z.tokens_of analyzers.now) cuts.now (map operation_of operations.now))
+        schema.now settings.now.docstore_blocksize (Z.tokens_of analyzers.now) ids.now
+        (batches schema.now (Z.tokens_of analyzers.now) cuts.now (map operation_of operations.now)) result
         (W.state directory.old)
         (W.state directory.new) }
     ensures segments { IfOk result (λ ws. ws.items
@@ -118,8 +121,11 @@ fn write_batch<Z: Analyzers, W: Directory>(
     requires waits { as_operations queue.old.operations ≡ stamped_deletes 0 (map operation_of operations.now) }
     requires cursor { cursor.old ≤ queue.old.flushed }
     requires passed { passed_below first (take cursor.old queue.old.operations) }
-    ensures { WritesBatch (batch_cause (start_refusal (Z.knows analyzers.now) 15000 schema.now settings.now) schema.now (Z.tokens_of analyzers.now) (enumerate_from first (slice_range (map operation_of operations.now) first end)))
-        schema.now settings.now.docstore_blocksize (Z.tokens_of analyzers.now) id first (batch_between schema.now (Z.tokens_of analyzers.now) first end (map operation_of operations.now)) result
+    ensures { WritesBatch
+        (batch_cause (start_refusal (Z.knows analyzers.now) 15000 schema.now settings.now) schema.now
+        (Z.tokens_of analyzers.now) (enumerate_from first (slice_range (map operation_of operations.now) first end)))
+        schema.now settings.now.docstore_blocksize (Z.tokens_of analyzers.now) id first
+        (batch_between schema.now (Z.tokens_of analyzers.now) first end (map operation_of operations.now)) result
         queue.old queue.new cursor.new
         (W.state directory.old)
         (W.state directory.new) }

@@ -20,14 +20,14 @@ use Rattle.seg_doc_bytes.specs.StoredDocumentLaw.{AreShallow}
 use Rattle.seg_store.specs.WriterBlocks.{Taken, with_document, all_blocks, taken_count}
 use Rattle.seg_build.specs.StoredBlocks.{stored_with}
 
-low_enough : (n : ℕ) → nat_le n 200 ≡ true → n ≤ most_levels_read
+low_enough : (n : ℕ) → nat_le n most_levels_read ≡ true → n ≤ most_levels_read
 low_enough n h = grind (arith, nat_tests)
 
 -- a document that is taken has few levels
-pub shallow_taken : (ps : Document) → list_all (λ p. nat_le (levels p.1) 200) ps ≡ true → AreShallow ps
+pub shallow_taken : (ps : Document) → list_all (λ p. nat_le (levels p.1) most_levels_read) ps ≡ true → AreShallow ps
 shallow_taken [] h = tt
 shallow_taken (p ∷ ps) h =
-    let two = and_parts (nat_le (levels p.1) 200) (list_all (λ p. nat_le (levels p.1) 200) ps) h in
+    let two = and_parts (nat_le (levels p.1) most_levels_read) (list_all (λ p. nat_le (levels p.1) most_levels_read) ps) h in
     (low_enough (levels p.1) two.0, shallow_taken ps two.1)
 
 -- what a stored document reads as, in a list

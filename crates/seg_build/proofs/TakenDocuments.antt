@@ -8,7 +8,7 @@ use Rattle.seg_values.specs.Tree.{levels, Document}
 use Rattle.seg_model.specs.TextDocuments.{is_taken}
 use Rattle.seg_model.specs.DocumentCheck.{Cause, past_limit, is_u32, kind_fits, field_fits, is_within_limits, fields_refusal, leaves_refusal, order_refusal, limit_refusal, document_refusal}
 use Rattle.seg_model.specs.Fields.{Schema, Analyzer, is_indexed, indexing_tokenizer, values_of, fields}
-use Rattle.seg_values.specs.StoredBytes.{stored_form}
+use Rattle.seg_values.specs.StoredBytes.{most_levels_read, stored_form}
 use Rattle.seg_model.proofs.Exports.{or_first, or_second, unless_true}
 use Rattle.seg_build.proofs.FieldContents.{AreBounded, kind_bounded}
 use Rattle.seg_build.proofs.FieldStates.{contents_of}
@@ -23,7 +23,7 @@ pub record HasPassed (schema : Schema) (analyzer : Analyzer) (ps : Document) : T
   pub json : leaves_refusal schema ps ≡ None
   pub order : order_refusal schema analyzer ps ≡ None
   pub fit : list_all (field_fits analyzer ps) (fields schema) ≡ true
-  pub shallow : list_all (λ p. nat_le (levels p.1) 200) ps ≡ true
+  pub shallow : list_all (λ p. nat_le (levels p.1) most_levels_read) ps ≡ true
 
 pub passed : (schema : Schema) (analyzer : Analyzer) (ps : Document) → is_taken schema analyzer ps ≡ true → HasPassed schema analyzer ps
 passed schema analyzer ps h =
@@ -31,7 +31,7 @@ passed schema analyzer ps h =
     let second = or_second (fields_refusal schema ps) _ all in
     let third = or_second (leaves_refusal schema ps) _ second in
     let fourth = or_second (order_refusal schema analyzer ps) (limit_refusal schema analyzer ps) third in
-    let limits = and_parts (list_all (field_fits analyzer ps) (fields schema) && is_u32 (length (stored_form schema ps))) (list_all (λ p. nat_le (levels p.1) 200) ps) (unless_true (is_within_limits schema analyzer ps) past_limit fourth) in
+    let limits = and_parts (list_all (field_fits analyzer ps) (fields schema) && is_u32 (length (stored_form schema ps))) (list_all (λ p. nat_le (levels p.1) most_levels_read) ps) (unless_true (is_within_limits schema analyzer ps) past_limit fourth) in
     record {
       taken = or_first (fields_refusal schema ps) _ all;
       json = or_first (leaves_refusal schema ps) _ second;

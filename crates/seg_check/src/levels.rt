@@ -1,6 +1,7 @@
 //! How deep values are nested.
 ghost use Rattle.std.specs.Prelude.{◌≡◌, nat_le};
 ghost use Rattle.std.specs.List.{list_all};
+ghost use Rattle.seg_values.specs.StoredBytes.{most_levels_read};
 ghost use Rattle.seg_values.specs.Tree.{levels};
 ghost use Rattle.seg_values.specs.ValueTrees.{tree_of};
 
@@ -9,7 +10,7 @@ use seg_values::{MOST_LEVELS, OwnedValue, Pairs};
 /// Whether no value has more than the most levels.
 #[tactic(auto, using(crate::proofs::ListTails::drop_at))]
 pub(crate) fn are_shallow(document: &Pairs<'_>) -> bool
-    ensures { result ≡ list_all (λ p. nat_le (levels p.1) 200) document.now }
+    ensures { result ≡ list_all (λ p. nat_le (levels p.1) most_levels_read) document.now }
 {
     for at in 0..document.len() {
         let (_, value) = document.pair(at);

@@ -17,7 +17,7 @@ use Rattle.seg_values.specs.declared.schema.FieldKind.{FieldKind}
 use Rattle.seg_values.specs.declared.schema.FieldKind.TheVariants as kinds
 use Rattle.seg_values.specs.DistinctLists.{all_distinct}
 use Rattle.seg_values.specs.SchemaRules.{is_entry, is_schema, same_name}
-use Rattle.seg_values.specs.Tree.{Document, Leaf, null, text, pre_tokenized, unsigned, signed, boolean, date, facet, byte_string, ip, Tree, leaf, array, object, Trees, no_trees, tree}
+use Rattle.seg_values.specs.Tree.{Document, Leaf, null, facet, Tree, leaf, array, object, Trees, no_trees, tree}
 use Rattle.seg_model.specs.DocumentCheck.{document_refusal, fields_refusal, leaves_refusal, limit_refusal, order_refusal, unless, value_refusal, wrong_value}
 use Rattle.seg_model.specs.Columns.{ColumnValue, column_tokenizer, declared_type, json_column_path, leaf_values}
 use Rattle.seg_model.specs.Fields.{Analyzer, Schema, is_indexed, is_json, is_text, values_of}
@@ -109,15 +109,8 @@ plain_column (x ∷ xs) apart (suc place) e is fast t typed =
     (past.0 ∙ there.0, past.1 ∙ there.1)
 
 json_untyped : (k : FieldKind) → is_json k ≡ true → declared_type k ≡ None
-json_untyped kinds.Text e = absurd (false≢true e)
-json_untyped kinds.U64 e = absurd (false≢true e)
-json_untyped kinds.I64 e = absurd (false≢true e)
-json_untyped kinds.Bool e = absurd (false≢true e)
-json_untyped kinds.Date e = absurd (false≢true e)
-json_untyped kinds.Facet e = absurd (false≢true e)
-json_untyped kinds.Bytes e = absurd (false≢true e)
-json_untyped kinds.IpAddr e = absurd (false≢true e)
 json_untyped kinds.Json e = refl
+json_untyped kind e = absurd (false≢true e)
 
 -- no column is declared at a path of a JSON field
 free_path : (schema : Schema) → AreApart schema → (place : ℕ) (e : FieldEntry) → slice_get schema place ≡ Some e
@@ -260,15 +253,8 @@ module _ (analyzer : Analyzer) (tokenizer : Option (List ℕ)) (cut : ℤ → �
   facet_leaf : (l : Leaf) → (is_null l || is_of_kind kinds.Facet l) ≡ true
       → AreTexts (leaf_values analyzer tokenizer cut l)
   facet_leaf null e = tt
-  facet_leaf (text s) e = absurd (false≢true e)
-  facet_leaf (pre_tokenized p) e = absurd (false≢true e)
-  facet_leaf (unsigned n) e = absurd (false≢true e)
-  facet_leaf (signed z) e = absurd (false≢true e)
-  facet_leaf (boolean b) e = absurd (false≢true e)
-  facet_leaf (date z) e = absurd (false≢true e)
   facet_leaf (facet s) e = (tt, tt)
-  facet_leaf (byte_string b) e = absurd (false≢true e)
-  facet_leaf (ip a) e = absurd (false≢true e)
+  facet_leaf l e = absurd (false≢true e)
 
   mutual
     facet_tree : (keys : List (List ℕ)) (level : ℕ) (t : Tree) → is_own_array kinds.Facet t ≡ true

@@ -40,9 +40,7 @@ use Rattle.seg_index_build.proofs.WorkReadings.{live_batches}
 use Rattle.seg_index_build.proofs.BuildRefusals.{by_batches, by_numbers, by_survivors, refusal_undamaged}
 use Rattle.seg_index_build.proofs.FilledWorkIndex.{are_merged, work_schema}
 use Rattle.seg_index_build.proofs.WriteErrors.{IsWriteError, calls_so, so_before, write_unrefused, write_undamaged}
-
-abbrev failing : (T : Type 0) → TantivyError → Result T TantivyError
-failing T e = Err e
+use Rattle.seg_index_build.proofs.SameErrors.{failing, same_error}
 
 -- ---- kinds of errors
 
@@ -224,9 +222,6 @@ module _ (analyzer : Analyzer) (input : Input) where
           merge_refused (merge_of analyzer input) merged e n b P
           (λ opened was more. in_count n b.work b.output opened filled was more)
           (λ opened o was few none. in_numbers n b.work o opened filled was few none) h
-
-same_error : (T : Type 0) (e d : TantivyError) → failing T e ≡ failing T d → e ≡ d
-same_error T e d is = cc is
 
 module _ (known : Known) (analyzer : Analyzer) (input : Input) where
   -- an error comes of memory, a refusal, damage, or a call that failed, and then a fault was counted

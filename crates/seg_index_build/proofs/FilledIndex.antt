@@ -38,6 +38,7 @@ use Rattle.seg_index_build.proofs.FinishSteps.{FinishParts, in_alive, in_meta, f
 use Rattle.seg_index_build.proofs.ToldDirectories.{tells-still}
 use Rattle.seg_index_build.proofs.PublishSteps.{published, publishing_keeps}
 use Rattle.seg_index_build.proofs.WriteErrors.{IsWriteError, all_alive_write, batches_write, both_write, calls_so, finish_writes, write_unrefused, writes_so}
+use Rattle.seg_index_build.proofs.SameErrors.{same_error}
 
 -- the meta that lists the segments of batches is read back
 pub read_back : (schema : Schema) (analyzer : Analyzer) (ids cuts : List ℕ) (operations : List Operation)
@@ -51,13 +52,6 @@ read_back schema analyzer ids cuts operations many few distinct settings given i
     (law (meta_list (length operations) written given.segments (ap (λ (m : index.Meta). m.segments) is)
     (subst (λ (n : ℕ). n < 2 ^ 32) (sym (as_many schema analyzer ids cuts operations many)) few)
     (ap are_distinct (ids_are schema analyzer ids cuts operations many) ∙ distinct)))
-
-abbrev failing : (T : Type 0) → TantivyError → Result T TantivyError
-failing T e = Err e
-
--- one error
-pub error_is : (T : Type 0) (e d : TantivyError) → failing T e ≡ Err d → e ≡ d
-error_is T e d is = cc is
 
 -- the steps of batches touch the six files of each
 touched_six : (ids : List ℕ) (causes : List (Option TantivyError)) (files : List SegmentFiles)
@@ -301,10 +295,10 @@ module _ (settings : Settings) (schema : Schema) (analyzer : Analyzer) (ids cuts
     refused_by : {T : Type 0} (e : TantivyError) (a c : DirectoryState) → FillParts {T = T} (Err e) a c → IfRefusal IsCause e
     refused_by {T = T} e a c (in_batches d is w) =
         let ended : Result T TantivyError = Err d in
-        subst (IfRefusal IsCause) (sym (error_is T e d is))
+        subst (IfRefusal IsCause) (sym (same_error T e d is))
         (refusal_weaker (IsFirst causes) IsCause cause_of d (batches_told ids causes w.files ended a c w.works))
     refused_by {T = T} e a c (after_batches b still kept (in_alive d is w)) =
-        subst (IfRefusal IsCause) (sym (error_is T e d is)) (write_unrefused IsCause d b.faults c.faults (calls_so {T =
+        subst (IfRefusal IsCause) (sym (same_error T e d is)) (write_unrefused IsCause d b.faults c.faults (calls_so {T =
         T} d (all_alive_write (λ x. ⊥) (length operations) w.files written) w.works))
     refused_by {T =
         T} e a c (after_batches b still kept (in_meta d w next)) = write_unrefused IsCause e d.faults c.faults (calls_so

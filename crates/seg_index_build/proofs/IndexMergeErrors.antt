@@ -26,12 +26,7 @@ use Rattle.seg_index_build.specs.IndexMergeAnswers.{AnyRose, CanBeMerged, IsMerg
 use Rattle.seg_index_build.specs.Sources.{AllTell, OpensSources, files_of}
 use Rattle.seg_index_build.proofs.OpenedSources.{sources_few, sources_held, sources_rose, sources_so, sources_undamaged}
 use Rattle.seg_index_build.proofs.MergedIndices.{not_both}
-
-abbrev failing : (T : Type 0) → TantivyError → Result T TantivyError
-failing T e = Err e
-
-same_error : (T : Type 0) (e d : TantivyError) → failing T e ≡ failing T d → e ≡ d
-same_error T e d is = cc is
+use Rattle.seg_index_build.proofs.SameErrors.{failing, same_error}
 
 -- ---- where it ends
 

@@ -45,3 +45,4 @@ mod BuildRefusals
 mod FilledWorkIndex
 mod WriteErrors
 mod WrittenIndexes
+mod SameErrors

@@ -30,12 +30,7 @@ use Rattle.seg_index_build.proofs.MergeTurns.{Begins, MergeExits, Opened, at_beg
 use Rattle.seg_index_build.proofs.OutputSteps.{absent-parts, one_fresh}
 use Rattle.seg_index_build.proofs.BuildRefusals.{read_exists, read_unrefused, refusal_undamaged}
 use Rattle.seg_index_build.proofs.WriteErrors.{IsWriteError, calls_so, so_before, write_undamaged, write_unrefused}
-
-abbrev failing : (T : Type 0) → TantivyError → Result T TantivyError
-failing T e = Err e
-
-same_error : (T : Type 0) (e d : TantivyError) → failing T e ≡ failing T d → e ≡ d
-same_error T e d is = cc is
+use Rattle.seg_index_build.proofs.SameErrors.{failing, same_error}
 
 -- ---- too many documents
 

@@ -28,12 +28,7 @@ use Rattle.seg_index_build.specs.MergedSegments.{FillsOutput, FillsTo, MergeInpu
 use Rattle.seg_index_build.specs.TwoDirectories.{both, goes_on, stops}
 use Rattle.seg_index_build.specs.IndexWriteSteps.{begin_steps, publish_steps}
 use Rattle.seg_index_build.proofs.MergeLists.{live_fit, live_parts}
-
-abbrev failing : (T : Type 0) → TantivyError → Result T TantivyError
-failing T e = Err e
-
-same_error : (T : Type 0) (e d : TantivyError) → failing T e ≡ failing T d → e ≡ d
-same_error T e d is = cc is
+use Rattle.seg_index_build.proofs.SameErrors.{failing, same_error}
 
 -- ---- the filters of live segments, one after another
 

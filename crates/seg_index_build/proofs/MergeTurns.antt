@@ -17,13 +17,7 @@ use Rattle.seg_merger.specs.Merger.{AreJoinedFiles, too_many}
 use Rattle.seg_index_build.specs.MergedSegments.{FillsOutput, IsReadBack, MergeInput, MergesLive, MergesTo, fills, first_schema, live_asked, mixes, output_meta_of, starves}
 use Rattle.seg_index_build.specs.TwoDirectories.{Directories, goes_on, stops}
 use Rattle.seg_index_build.specs.IndexWriteSteps.{begin_steps, fill_one_steps}
-
-abbrev failing : (T : Type 0) → TantivyError → Result T TantivyError
-failing T e = Err e
-
--- an error that is handed on
-same_error : (T : Type 0) (e d : TantivyError) → failing T e ≡ failing T d → e ≡ d
-same_error T e d is = cc is
+use Rattle.seg_index_build.proofs.SameErrors.{failing, same_error}
 
 -- the same error of another call
 pub works_as : (S T : Type 0) (steps : List Step) (e : TantivyError) (a b : DirectoryState)

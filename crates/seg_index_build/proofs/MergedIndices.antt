@@ -27,12 +27,7 @@ use Rattle.seg_index_build.specs.MergedIndices.{AreAlike, Begins, IsRefusal, IsU
 use Rattle.seg_index_build.specs.IndexMergeAnswers.{IsMergeOfIndices}
 use Rattle.seg_index_build.specs.Sources.{AllTell, OpensSources, files_of}
 use Rattle.seg_index_build.proofs.OpenedSources.{sources_held, sources_stay as opening_stays, sources_stored}
-
-abbrev failing : (T : Type 0) → TantivyError → Result T TantivyError
-failing T e = Err e
-
-same_error : (T : Type 0) (e d : TantivyError) → failing T e ≡ failing T d → e ≡ d
-same_error T e d is = cc is
+use Rattle.seg_index_build.proofs.SameErrors.{failing, same_error}
 
 -- an error is seen as itself
 pub seen_error : {T U : Type 0} (f : T → U) (r : Result T TantivyError) (e : TantivyError) → seen_as f r ≡ Err e → r ≡ Err e

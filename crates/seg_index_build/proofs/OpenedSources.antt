@@ -22,6 +22,7 @@ use Rattle.seg_index_build.proofs.MergeContents.{opened_held}
 use Rattle.seg_index_build.specs.MergedIndices.{all_segments, asked_of_index, listed_segments, unfiltered}
 use Rattle.seg_index_build.specs.IndexMergeAnswers.{AnyRose, HaveHeld, SourcesAreWhole}
 use Rattle.seg_index_build.specs.Sources.{AllTell, OpensSources, files_of, goes_on, stops}
+use Rattle.seg_index_build.proofs.SameErrors.{same_error}
 
 abbrev opened_so : List OpenSegment → Result (List OpenSegment) TantivyError
 opened_so opened = Ok opened
@@ -169,12 +170,6 @@ sources_few (i ∷ indices) (s ∷ before) after opened (goes_on mine state (Ok 
 
 -- ---- with which errors they are not opened
 
-abbrev failing : TantivyError → Result (List OpenSegment) TantivyError
-failing e = Err e
-
-same_error : (e d : TantivyError) → failing e ≡ Err d → e ≡ d
-same_error e d is = cc is
-
 -- what holds where those of one index are not opened, and is handed on from what is left, holds of all
 module _ (P : List IndexMeta → TantivyError → List DirectoryState → List DirectoryState → Type 0)
     (here : (i : IndexMeta) (indices : List IndexMeta) (e : TantivyError) (s t : DirectoryState) (rest : List DirectoryState)
@@ -188,13 +183,13 @@ module _ (P : List IndexMeta → TantivyError → List DirectoryState → List D
   on_error (i ∷ indices) e (s ∷ before) after (stops d state opens is same) =
       subst (λ (l : List DirectoryState). P (i ∷ indices) e (s ∷ before) l) (sym same)
       (here i indices e s state before
-      (subst (λ (x : TantivyError). OpensSegments (asked_of_index i) (Err x) s state) (sym (same_error e d is)) opens))
+      (subst (λ (x : TantivyError). OpensSegments (asked_of_index i) (Err x) s state) (sym (same_error (List OpenSegment) e d is)) opens))
   on_error (i ∷ indices) e (s ∷ before) after (goes_on opened state (Ok more) states opens next is same) = absurd (cc is)
   on_error (i ∷ indices) e (s ∷ before) after (goes_on opened state (Err d) states opens next is same) =
       subst (λ (l : List DirectoryState). P (i ∷ indices) e (s ∷ before) l) (sym same)
       (there i indices e s state before states
       (on_error indices e before states
-      (subst (λ (x : TantivyError). OpensSources (map asked_of_index indices) (Err x) before states) (sym (same_error e d is)) next)))
+      (subst (λ (x : TantivyError). OpensSources (map asked_of_index indices) (Err x) before states) (sym (same_error (List OpenSegment) e d is)) next)))
 
 pub sources_so : (indices : List IndexMeta) (e : TantivyError) (before after : List DirectoryState)
     → OpensSources (map asked_of_index indices) (Err e) before after → IsReadError e

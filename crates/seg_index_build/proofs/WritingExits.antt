@@ -13,13 +13,7 @@ use Rattle.seg_index_build.specs.TwoDirectories.{Directories, both, stops, goes_
 use Rattle.seg_index_build.specs.IndexWriteSteps.{begin_steps}
 use Rattle.seg_index_build.proofs.FilledIndex.{filled_as}
 use Rattle.seg_index_build.proofs.MergeTurns.{MergeExits, Merged, merge_exits, merged}
-
-abbrev failing : (T : Type 0) → TantivyError → Result T TantivyError
-failing T e = Err e
-
--- an error that is handed on
-same_error : (T : Type 0) (e d : TantivyError) → failing T e ≡ failing T d → e ≡ d
-same_error T e d is = cc is
+use Rattle.seg_index_build.proofs.SameErrors.{failing, same_error}
 
 module _ (analyzer : Analyzer) (input : Input) where
   abbrev pub Lists : Result (Unit {0}) TantivyError → DirectoryState → DirectoryState → Type 0

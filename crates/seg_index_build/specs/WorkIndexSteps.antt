@@ -43,7 +43,8 @@ pub record FillsIndex {T : Type 0} (settings : Settings) (schema : Schema) (anal
     (operations : List Operation) (result : Result T TantivyError) (before after : DirectoryState) : Type 0 where
   pub files : List SegmentFiles
   pub many : length files ≡ length ids
-  pub stand : OnOk result (AllStandFor schema settings.block_size analyzer files (batches schema analyzer cuts operations))
+  pub stand : OnOk result
+      (AllStandFor schema settings.block_size analyzer files (batches schema analyzer cuts operations))
   pub alive : List (List ℕ)
   pub tell : AllTellMarks (length operations) alive (written_of schema analyzer ids cuts operations)
   pub whole : OnOk result (length alive ≡ length (written_of schema analyzer ids cuts operations))

@@ -21,7 +21,7 @@ use Rattle.seg_values.specs.declared.error.TantivyError.{TantivyError}
 use Rattle.seg_values.specs.declared.error.TantivyError.TheVariants.{OutOfMemory}
 use Rattle.seg_values.specs.declared.schema.FieldEntry.{FieldEntry}
 use Rattle.seg_values.specs.declared.schema.FieldKind.{FieldKind}
-use Rattle.seg_values.specs.declared.schema.FieldKind.TheVariants.{Text, U64, I64, Bool as Boolean, Date, Facet, Bytes, IpAddr, Json}
+use Rattle.seg_values.specs.declared.schema.FieldKind.TheVariants.{Facet}
 use Rattle.seg_columns.specs.DynamicColumns.{StoredColumn, type_of}
 use Rattle.seg_columns.specs.TermColumns.{TermColumn}
 use Rattle.seg_columns.specs.declared.dynamic_column.DynamicColumn.{DynamicColumn}
@@ -42,15 +42,8 @@ use Rattle.seg_open.specs.OpenSegment.{OpenSegment, contents_of}
 -- ---- the field of a name
 
 facet_kind : (kind : FieldKind) → is_facet kind ≡ true → kind ≡ Facet
-facet_kind Text h = absurd (false≢true h)
-facet_kind U64 h = absurd (false≢true h)
-facet_kind I64 h = absurd (false≢true h)
-facet_kind Boolean h = absurd (false≢true h)
-facet_kind Date h = absurd (false≢true h)
 facet_kind Facet h = refl
-facet_kind Bytes h = absurd (false≢true h)
-facet_kind IpAddr h = absurd (false≢true h)
-facet_kind Json h = absurd (false≢true h)
+facet_kind kind h = absurd (false≢true h)
 
 module _ (schema : Schema) (name : List ℕ) where
   -- a name is that of a facet field, which is fast
