@@ -41,8 +41,8 @@ pub record FindsLeft {E : Type 0} (schema : Schema) (files : SegmentFiles) (firs
   pub left : IfOk result (IsLeft schema files first stamps old.operations)
   pub earlier : PassesEarlier first old new cursor
 
--- the segment of a batch: its six files with their totals and the blocks of their store, how many documents it has, and what is told of those that deletes leave; its first
--- operation has the place `first`
+-- the segment of a batch: its six files with their totals and the blocks of their store, how many documents it has, and
+-- what is told of those that deletes leave; its first operation has the place `first`
 pub record IsSegmentOf (schema : Schema) (block_size : ℕ) (analyzer : Analyzer)
     (first : ℕ) (operations : List Operation)
     (waiting : List (DeleteOperation TermTarget)) (files : SegmentFiles) (documents : ℕ) (told : Option (List Bool))

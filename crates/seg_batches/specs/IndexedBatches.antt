@@ -60,7 +60,8 @@ pub record AddsAll {T Z : Type 0} (tokens_of : Z → Analyzer) (first : ℕ) (op
   pub err : IfErr result (λ e. (batch_error old.1.schema (tokens_of old.0) first operations ≡ Some e)
       ⊎ (e ≡ OutOfMemory))
 
--- six files and stamps are those of a batch, whose first operation has the place `first`: the files stand for the documents that it adds, tell their totals, and have them in blocks of a size
+-- six files and stamps are those of a batch, whose first operation has the place `first`: the files stand for the
+-- documents that it adds, tell their totals, and have them in blocks of a size
 pub record AreOfBatch (schema : Schema) (block_size : ℕ) (analyzer : Analyzer) (first : ℕ) (operations : List Operation)
     (files : SegmentFiles) (stamps : List ℕ) : Type 0 where
   pub stand : StandFor schema analyzer (additions operations) files

@@ -11,8 +11,8 @@ use std::alloc::Global;
 
 /// What a delete names: of each segment some documents.
 pub trait DeleteTarget {
-    /// Whether a document is named, of a segment with a schema and contents. Which of its documents are alive, its id and
-    /// its files play no part in it.
+    /// Whether a document is named, of a segment with a schema and contents. Its id, its files, and which of its
+    /// documents are alive, play no part in it.
     ghost names: { Self → Schema → Contents → ℕ → Bool };
 
     /// The ids of the documents of a segment that are named, ascending. The reader stays as it was.

@@ -8,7 +8,6 @@ use Rattle.std.proofs.lemmas.List.{length-append, drop_at}
 use Rattle.std.proofs.lemmas.Bool.{le-leb, eq-eqb}
 use Rattle.seg_common.specs.LittleEndian.{u32_at, u64_at}
 use Rattle.seg_common.proofs.Bytes.{u32_at-written, u64_at-written, bytes_are}
-use Rattle.seg_doc_bytes.proofs.Exports.{member_grouped}
 use Rattle.seg_store.specs.declared.checkpoint.Checkpoint.{Checkpoint}
 use Rattle.seg_store.specs.Ends.{are_ends, cut_from, last_bytes, but_last}
 use Rattle.seg_store.specs.Block.{documents_in, is_block}
@@ -78,6 +77,9 @@ seconds (c ∷ cs) = ap (λ ns. c.byte_end ∷ ns) (seconds cs)
 abbrev pub store_form : List ℕ → List Checkpoint → ℕ → List ℕ
 store_form body cs documents = (((body ++ flat_map checkpoint_form cs) ++ to_le_bytes w32 (length cs)) ++ to_le_bytes w32 documents) ++ 0 ∷ []
 
+grouped : (a b c d : List ℕ) → ((a ++ b) ++ c) ++ d ≡ a ++ (b ++ (c ++ d))
+grouped a b c d = simp append_assoc
+
 -- the parts of a store
 pub record AreParts (body : List ℕ) (cs : List Checkpoint) (documents : ℕ) (parts : List (List ℕ)) : Type 0 where
   pub cut : cut_from 0 (map (λ c. c.byte_end) cs) body ≡ parts
@@ -96,7 +98,7 @@ store_read body cs documents parts are =
     let table = flat_map checkpoint_form cs in
     let foot : List ℕ = to_le_bytes w32 n ++ (to_le_bytes w32 documents ++ 0 ∷ []) in
     let all : List ℕ = store_form body cs documents in
-    let split : all ≡ (body ++ table) ++ foot = member_grouped (body ++ table) (to_le_bytes w32 n) (to_le_bytes w32 documents) (0 ∷ []) in
+    let split : all ≡ (body ++ table) ++ foot = grouped (body ++ table) (to_le_bytes w32 n) (to_le_bytes w32 documents) (0 ∷ []) in
     let nine : length foot ≡ 9 = refl in
     let room : length table ≡ 12 * n = length-checkpoints cs in
     let foot_is : footer all ≡ foot = ap (last_bytes 9) split ∙ last-appended (body ++ table) foot 9 (sym nine) in
