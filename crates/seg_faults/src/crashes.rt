@@ -2,9 +2,9 @@
 ghost use Rattle.std.specs.Prelude.{◌≤◌};
 ghost use Rattle.seg_directory.specs.DiskCalls.{calls_of};
 
+use crate::directories::{failing, memory};
 use crate::running::{outcome, script_of_titles};
 use seg_directory::{CallKind, FailingCall, MemoryDirectory, Pick};
-use seg_testing::{failing, memory};
 use std::alloc::{AllocError, Global};
 
 /// A document, the deletion of it, and the same document again.

@@ -22,7 +22,11 @@ mod running;
 #[cfg(test)]
 mod crashes;
 #[cfg(test)]
+mod directories;
+#[cfg(test)]
 mod folder;
+#[cfg(test)]
+mod odd_directory;
 #[cfg(test)]
 mod other_bytes;
 #[cfg(test)]

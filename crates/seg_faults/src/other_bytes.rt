@@ -1,9 +1,10 @@
 //! A build over a work directory that answers other bytes than it was given: they are what is merged and printed.
 
+use crate::directories::memory;
+use crate::odd_directory::OddDirectory;
 use crate::running::{both_segments, outcome, script_of_titles};
 use seg_common::{FileName, SegmentComponent, SegmentId};
 use seg_directory::Directory;
-use seg_testing::{OddDirectory, memory};
 use std::alloc::{AllocError, Global};
 
 /// The file of the stored documents of the work segment.

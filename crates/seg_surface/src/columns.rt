@@ -1,0 +1,22 @@
+//! Columns: readers of bytes that were written by hand, and files that are written and merged.
+//!
+//! To be read in this order: `answers` (how files and columns are printed); `texts`, `files`, `fast_fields` (reading);
+//! `writing`, `merges`.
+
+mod answers;
+mod fast_fields;
+mod files;
+mod merges;
+mod texts;
+mod writing;
+
+use crate::failure::Failure;
+
+pub(crate) fn print_columns<R: Print + AllocGlobal>(rt: &R) -> Result<(), Failure> {
+    println!(rt; "# columns")?;
+    texts::print_texts(rt)?;
+    files::print_files(rt)?;
+    fast_fields::print_fast_fields(rt)?;
+    writing::print_writing(rt)?;
+    merges::print_merges(rt)
+}

@@ -1,0 +1,19 @@
+//! Postings, sets of alive documents, and stores.
+
+mod alive;
+mod bit_sets;
+mod fields;
+mod json_spaces;
+mod stores;
+mod writing;
+
+use crate::failure::Failure;
+
+pub(crate) fn print_postings<R: Print + AllocGlobal>(rt: &R) -> Result<(), Failure> {
+    println!(rt; "# postings, alive documents, stores")?;
+    writing::print_writing(rt)?;
+    bit_sets::print_bit_sets(rt)?;
+    alive::print_alive(rt)?;
+    json_spaces::print_json_spaces(rt)?;
+    stores::print_stores(rt)
+}

@@ -1,0 +1,17 @@
+//! What the writer and the reader of a small segment answer, and what merges open segments.
+
+mod columns;
+mod joining;
+mod reading;
+mod titles;
+mod writing;
+
+use crate::failure::Failure;
+
+pub(crate) fn print_segments<R: Print + AllocGlobal>(rt: &R) -> Result<(), Failure> {
+    println!(rt; "# segments")?;
+    writing::print_writing(rt)?;
+    reading::print_reading(rt)?;
+    joining::print_joining(rt)?;
+    columns::print_columns(rt)
+}
