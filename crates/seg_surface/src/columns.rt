@@ -1,10 +1,11 @@
 //! Columns: readers of bytes that were written by hand, and files that are written and merged.
 //!
 //! To be read in this order: `answers` (how files and columns are printed); `texts`, `files`, `fast_fields` (reading);
-//! `writing`, `merges`.
+//! `writing`, `merges`, `fast_writing`.
 
 mod answers;
 mod fast_fields;
+mod fast_writing;
 mod files;
 mod merges;
 mod texts;
@@ -18,5 +19,6 @@ pub(crate) fn print_columns<R: Print + AllocGlobal>(rt: &R) -> Result<(), Failur
     files::print_files(rt)?;
     fast_fields::print_fast_fields(rt)?;
     writing::print_writing(rt)?;
-    merges::print_merges(rt)
+    merges::print_merges(rt)?;
+    fast_writing::print_fast_writing(rt)
 }

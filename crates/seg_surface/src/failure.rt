@@ -3,29 +3,19 @@
 use seg_columns::ColumnError;
 use seg_common::CommonError;
 use seg_directory::DirectoryError;
-use seg_open::OpenError;
 use seg_store::StoreError;
 use seg_termdict::TermDictError;
 use seg_values::{PostingsError, TantivyError, ValueError};
 use std::alloc::{AllocError, AllocFailed};
 use std::io;
 
-/// Why the program ends before its last line: memory, its text that can't be printed, or a call that should succeed.
+/// Why the program ends before its last line.
 #[derive(Clone, Copy, Debug)]
 pub(crate) enum Failure {
     OutOfMemory,
+    /// The text can't be printed.
     Io(io::Error),
-    Common(CommonError),
-    Columns(ColumnError),
-    Dictionary(TermDictError),
-    Directory(DirectoryError),
-    Index(TantivyError),
-    Meta(seg_meta::ReadError),
-    Open(OpenError),
-    Postings(PostingsError),
-    Store(StoreError),
-    Value(ValueError),
-    /// A call that answers nothing where it should, by its name.
+    /// A call that should succeed doesn't: which, or of what.
     Refused(&'static str),
 }
 
@@ -48,61 +38,55 @@ impl From<io::Error> for Failure {
 }
 
 impl From<CommonError> for Failure {
-    fn from(e: CommonError) -> Failure {
-        Failure::Common(e)
-    }
-}
-
-impl From<ColumnError> for Failure {
-    fn from(e: ColumnError) -> Failure {
-        Failure::Columns(e)
-    }
-}
-
-impl From<TermDictError> for Failure {
-    fn from(e: TermDictError) -> Failure {
-        Failure::Dictionary(e)
-    }
-}
-
-impl From<DirectoryError> for Failure {
-    fn from(e: DirectoryError) -> Failure {
-        Failure::Directory(e)
+    fn from(_e: CommonError) -> Failure {
+        Failure::Refused("seg_common")
     }
 }
 
 impl From<TantivyError> for Failure {
-    fn from(e: TantivyError) -> Failure {
-        Failure::Index(e)
-    }
-}
-
-impl From<seg_meta::ReadError> for Failure {
-    fn from(e: seg_meta::ReadError) -> Failure {
-        Failure::Meta(e)
-    }
-}
-
-impl From<OpenError> for Failure {
-    fn from(e: OpenError) -> Failure {
-        Failure::Open(e)
+    fn from(_e: TantivyError) -> Failure {
+        Failure::Refused("an index")
     }
 }
 
 impl From<PostingsError> for Failure {
-    fn from(e: PostingsError) -> Failure {
-        Failure::Postings(e)
-    }
-}
-
-impl From<StoreError> for Failure {
-    fn from(e: StoreError) -> Failure {
-        Failure::Store(e)
+    fn from(_e: PostingsError) -> Failure {
+        Failure::Refused("postings")
     }
 }
 
 impl From<ValueError> for Failure {
-    fn from(e: ValueError) -> Failure {
-        Failure::Value(e)
+    fn from(_e: ValueError) -> Failure {
+        Failure::Refused("a value")
+    }
+}
+
+impl From<TermDictError> for Failure {
+    fn from(_e: TermDictError) -> Failure {
+        Failure::Refused("a dictionary")
+    }
+}
+
+impl From<DirectoryError> for Failure {
+    fn from(_e: DirectoryError) -> Failure {
+        Failure::Refused("a directory")
+    }
+}
+
+impl From<StoreError> for Failure {
+    fn from(_e: StoreError) -> Failure {
+        Failure::Refused("a store")
+    }
+}
+
+impl From<ColumnError> for Failure {
+    fn from(_e: ColumnError) -> Failure {
+        Failure::Refused("columns")
+    }
+}
+
+impl From<seg_meta::ReadError> for Failure {
+    fn from(_e: seg_meta::ReadError) -> Failure {
+        Failure::Refused("a meta")
     }
 }

@@ -1,5 +1,5 @@
-//! Prints, each on a line, what each writer writes, byte for byte, and what each public call answers that no other program
-//! runs: what was called with what, and what came.
+//! Prints, each on a line, what each writer writes, byte for byte, and what each public call answers that no other
+//! program runs: what was called with what, and what came.
 #![tactic(auto)]
 
 // How bytes are printed, and why the program can't end well.

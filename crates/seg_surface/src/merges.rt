@@ -2,6 +2,7 @@
 
 mod described;
 mod indices;
+mod known_parts;
 mod merging;
 mod metadata;
 mod refusing;
@@ -17,5 +18,6 @@ pub(crate) fn print_merges<R: Print + AllocGlobal>(rt: &R) -> Result<(), Failure
     sizes::print_sizes(rt)?;
     merging::print_merging(rt)?;
     stacking::print_stacking(rt)?;
-    refusing::print_refusing(rt)
+    refusing::print_refusing(rt)?;
+    known_parts::print_known_parts(rt)
 }

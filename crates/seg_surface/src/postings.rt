@@ -3,7 +3,9 @@
 mod alive;
 mod bit_sets;
 mod fields;
+mod frequencies;
 mod json_spaces;
+mod raw_documents;
 mod stores;
 mod writing;
 
@@ -15,5 +17,7 @@ pub(crate) fn print_postings<R: Print + AllocGlobal>(rt: &R) -> Result<(), Failu
     bit_sets::print_bit_sets(rt)?;
     alive::print_alive(rt)?;
     json_spaces::print_json_spaces(rt)?;
-    stores::print_stores(rt)
+    stores::print_stores(rt)?;
+    frequencies::print_frequencies(rt)?;
+    raw_documents::print_raw_documents(rt)
 }

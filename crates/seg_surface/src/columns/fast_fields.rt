@@ -55,7 +55,9 @@ fn readers(alloc: Global) -> TResult<FastFieldReaders> {
 
 pub(crate) fn print_fast_fields<R: Print + AllocGlobal>(rt: &R) -> Result<(), Failure> {
     println!(rt; "FastFieldReaders of a document with 42, \"bar\" and true at json.foo:")?;
-    let readers = readers(rt.alloc())?;
+    let Ok(readers) = readers(rt.alloc()) else {
+        return Err(Failure::Refused("FastFieldReaders::new"));
+    };
     print_readers(rt, &readers)?;
     print_not_available(rt)
 }
@@ -67,7 +69,9 @@ fn print_readers<R: Print + AllocGlobal>(
     print_at(rt, readers, "json.foo")?;
     print_at(rt, readers, "json")?;
     print_below(rt, readers, "json")?;
-    print_path(rt, readers)?;
+    print_handle(rt, readers, "json.foo")?;
+    print_size(rt, readers, "json.foo")?;
+    print_path(rt, readers, "json.foo")?;
     print_typed(rt, readers)?;
     print_first_alone(rt, readers)?;
     print_terms(rt, readers)?;
@@ -81,7 +85,9 @@ fn print_at<R: Print + AllocGlobal>(
     readers: &FastFieldReaders,
     name: &str,
 ) -> Result<(), Failure> {
-    let handles = readers.dynamic_column_handles(rt.alloc(), name)?;
+    let Ok(handles) = readers.dynamic_column_handles(rt.alloc(), name) else {
+        return Err(Failure::Refused("dynamic_column_handles"));
+    };
     print_handles(rt, "dynamic_column_handles", name, &handles)
 }
 
@@ -91,20 +97,51 @@ fn print_below<R: Print + AllocGlobal>(
     readers: &FastFieldReaders,
     name: &str,
 ) -> Result<(), Failure> {
-    let handles = readers.dynamic_subpath_column_handles(rt.alloc(), name)?;
+    let Ok(handles) = readers.dynamic_subpath_column_handles(rt.alloc(), name) else {
+        return Err(Failure::Refused("dynamic_subpath_column_handles"));
+    };
     print_handles(rt, "dynamic_subpath_column_handles", name, &handles)
 }
 
-/// Prints whether a name has a column of texts, how many bytes all its columns have, and their path.
-fn print_path<R: Print + AllocGlobal>(rt: &R, readers: &FastFieldReaders) -> Result<(), Failure> {
-    let found = readers
-        .dynamic_column_handle(rt.alloc(), "json.foo", ColumnType::Str)?
-        .is_some();
-    println!(rt; "dynamic_column_handle(\"json.foo\", Str) is there: {found}")?;
-    let size = readers.column_num_bytes(rt.alloc(), "json.foo")?;
-    println!(rt; "column_num_bytes(\"json.foo\"): {}", size.0)?;
-    let path = readers.resolve_column_name_given_default_field(rt.alloc(), "json.foo", None)?;
-    println!(rt; "resolve_column_name_given_default_field(\"json.foo\", None): {path:?}")?;
+/// Prints whether a name has a column of texts.
+fn print_handle<R: Print + AllocGlobal>(
+    rt: &R,
+    readers: &FastFieldReaders,
+    name: &str,
+) -> Result<(), Failure> {
+    let Ok(handle) = readers.dynamic_column_handle(rt.alloc(), name, ColumnType::Str) else {
+        return Err(Failure::Refused("dynamic_column_handle"));
+    };
+    println!(rt;
+        "dynamic_column_handle({name:?}, Str) is there: {}",
+        handle.is_some()
+    )?;
+    Ok(())
+}
+
+/// Prints how many bytes the columns of a name have.
+fn print_size<R: Print + AllocGlobal>(
+    rt: &R,
+    readers: &FastFieldReaders,
+    name: &str,
+) -> Result<(), Failure> {
+    let Ok(size) = readers.column_num_bytes(rt.alloc(), name) else {
+        return Err(Failure::Refused("column_num_bytes"));
+    };
+    println!(rt; "column_num_bytes({name:?}): {}", size.0)?;
+    Ok(())
+}
+
+/// Prints the path that a name stands for.
+fn print_path<R: Print + AllocGlobal>(
+    rt: &R,
+    readers: &FastFieldReaders,
+    name: &str,
+) -> Result<(), Failure> {
+    let Ok(path) = readers.resolve_column_name_given_default_field(rt.alloc(), name, None) else {
+        return Err(Failure::Refused("resolve_column_name_given_default_field"));
+    };
+    println!(rt; "resolve_column_name_given_default_field({name:?}, None): {path:?}")?;
     Ok(())
 }
 
@@ -112,9 +149,9 @@ fn print_path<R: Print + AllocGlobal>(rt: &R, readers: &FastFieldReaders) -> Res
 fn print_typed<R: Print + AllocGlobal>(rt: &R, readers: &FastFieldReaders) -> Result<(), Failure> {
     print_column(rt, "i64", readers.i64(rt.alloc(), "json.foo"))?;
     print_column(rt, "bool", readers.bool(rt.alloc(), "json.foo"))?;
-    match readers.column_opt::<i64>(rt.alloc(), "json.foo")? {
-        Some(column) => print_column(rt, "column_opt::<i64>", Ok(column)),
-        None => Err(Failure::Refused("column_opt")),
+    match readers.column_opt::<i64>(rt.alloc(), "json.foo") {
+        Ok(Some(column)) => print_column(rt, "column_opt::<i64>", Ok(column)),
+        _ => Err(Failure::Refused("column_opt")),
     }
 }
 
@@ -147,7 +184,9 @@ fn print_first_alone<R: Print + AllocGlobal>(
         .column_first_or_default::<i64>(rt.alloc(), "json.foo")
         .is_ok();
     println!(rt; "column_first_or_default::<i64>(\"json.foo\") is there: {found}")?;
-    let column = readers.i64(rt.alloc(), "json.foo")?;
+    let Ok(column) = readers.i64(rt.alloc(), "json.foo") else {
+        return Err(Failure::Refused("i64"));
+    };
     if column.num_docs() == 0 {
         return Err(Failure::Refused("i64"));
     }
@@ -156,14 +195,16 @@ fn print_first_alone<R: Print + AllocGlobal>(
     Ok(())
 }
 
-/// Prints the columns of texts and byte strings.
+/// Prints the first text of the path, and that it has no byte strings.
 fn print_terms<R: Print + AllocGlobal>(rt: &R, readers: &FastFieldReaders) -> Result<(), Failure> {
-    match readers.str(rt.alloc(), "json.foo")? {
-        Some(column) => println!(rt; "str(\"json.foo\"), text(0): {:?}", column.text(0))?,
-        None => return Err(Failure::Refused("str")),
-    }
-    let found = readers.bytes(rt.alloc(), "json.foo")?.is_some();
-    println!(rt; "bytes(\"json.foo\") is there: {found}")?;
+    let Ok(Some(texts)) = readers.str(rt.alloc(), "json.foo") else {
+        return Err(Failure::Refused("str"));
+    };
+    println!(rt; "str(\"json.foo\"), text(0): {:?}", texts.text(0))?;
+    let Ok(bytes) = readers.bytes(rt.alloc(), "json.foo") else {
+        return Err(Failure::Refused("bytes"));
+    };
+    println!(rt; "bytes(\"json.foo\") is there: {}", bytes.is_some())?;
     Ok(())
 }
 
@@ -177,7 +218,9 @@ fn print_numbers<R: Print + AllocGlobal>(
     let types = [ColumnType::Str];
     let texts = readers.u64_lenient_for_type(rt.alloc(), Some(&types), "json.foo");
     print_lenient(rt, "u64_lenient_for_type([Str], \"json.foo\")", texts)?;
-    let all = readers.u64_lenient_for_type_all(rt.alloc(), None, "json.foo")?;
+    let Ok(all) = readers.u64_lenient_for_type_all(rt.alloc(), None, "json.foo") else {
+        return Err(Failure::Refused("u64_lenient_for_type_all"));
+    };
     print_all_lenient(rt, &all)
 }
 
@@ -187,7 +230,7 @@ fn print_lenient<R: Print>(
     what: &str,
     answer: TResult<Option<(Column<u64>, ColumnType)>>,
 ) -> Result<(), Failure> {
-    let Some((column, column_type)) = answer? else {
+    let Ok(Some((column, column_type))) = answer else {
         return Err(Failure::Refused("a column as numbers"));
     };
     println!(rt;
@@ -214,7 +257,9 @@ fn print_all_lenient<R: Print>(
 /// Prints the error of a field that isn't fast.
 fn print_not_available<R: Print + AllocGlobal>(rt: &R) -> Result<(), Failure> {
     let entry = entry(rt.alloc(), "title", FieldKind::Text, IndexOption::No)?;
-    let error = FastFieldNotAvailableError::new(rt.alloc(), &entry)?;
+    let Ok(error) = FastFieldNotAvailableError::new(rt.alloc(), &entry) else {
+        return Err(Failure::Refused("FastFieldNotAvailableError::new"));
+    };
     println!(rt; "FastFieldNotAvailableError of the field title: {error}")?;
     Ok(())
 }

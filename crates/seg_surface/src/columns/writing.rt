@@ -7,7 +7,7 @@ use crate::columns::answers::print_file;
 use crate::columns::files::open;
 use crate::failure::Failure;
 use seg_column_writer::{ColumnarWriter, NumericalValue, ValueKind};
-use seg_columns::{Column, ColumnError, DynamicColumn};
+use seg_columns::{Column, ColumnError, DynamicColumn, DynamicColumnHandle};
 use seg_common::{ColumnType, DateTime};
 use std::alloc::Global;
 use std::net::Ipv6Addr;
@@ -136,9 +136,14 @@ fn print_sparse<R: Print + AllocGlobal>(rt: &R) -> Result<(), Failure> {
     println!(rt; "record_numerical(500, \"n\", I64(7)), 1000 rows, read back:")?;
     let file = sparse(rt.alloc())?;
     let reader = open(rt.alloc(), file.as_slice())?;
-    for handle in reader.read_columns(rt.alloc(), "n")? {
+    let handles = reader.read_columns(rt.alloc(), "n")?;
+    print_numbers_of(rt, &handles)
+}
+
+fn print_numbers_of<R: Print>(rt: &R, handles: &[DynamicColumnHandle]) -> Result<(), Failure> {
+    for handle in handles {
         match handle.open() {
-            DynamicColumn::I64(values) => print_rows_with_values(rt, &values)?,
+            DynamicColumn::I64(numbers) => print_rows_with_values(rt, &numbers)?,
             _ => return Err(Failure::Refused("a column of another type")),
         }
     }

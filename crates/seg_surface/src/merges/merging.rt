@@ -77,7 +77,7 @@ fn two_titles(alloc: Global) -> TResult<StoredIndex> {
     merged(alloc, first, second)
 }
 
-/// A work index, merged with the same once more.
+/// A work index, merged with the same again.
 fn merged_with_itself(alloc: Global) -> TResult<SegmentReader> {
     let first = work_index(alloc)?;
     let second = work_index(alloc)?;

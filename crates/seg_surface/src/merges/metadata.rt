@@ -10,12 +10,12 @@ pub(super) fn print_entry<R: Print>(rt: &R, entry: &FieldMetadata) -> Result<(),
     let name = entry.field_name.as_str();
     let typ = entry.typ;
     let stored = entry.stored;
-    let columns = entry.fast_size;
+    let fast = entry.fast_size;
     let terms = entry.term_dictionary_size;
     let postings = entry.postings_size;
-    let positions = entry.positions_size;
+    let places = entry.positions_size;
     println!(rt;
-        "  {name} {typ:?}: stored {stored}, fast {columns:?}, terms {terms:?}, postings {postings:?}, positions {positions:?}"
+        "  {name} {typ:?}: stored {stored}, fast {fast:?}, terms {terms:?}, postings {postings:?}, positions {places:?}"
     )?;
     Ok(())
 }

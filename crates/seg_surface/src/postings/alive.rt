@@ -8,7 +8,7 @@ use seg_postings::InvertedIndexReader;
 use std::alloc::Global;
 
 /// A set of numbers below a size, by its bits.
-fn set(alloc: Global, size: u8, bits: u8) -> Result<ReadOnlyBitSet, CommonError> {
+pub(super) fn set(alloc: Global, size: u8, bits: u8) -> Result<ReadOnlyBitSet, CommonError> {
     let bytes = [size, 0, 0, 0, bits, 0, 0, 0, 0, 0, 0, 0];
     ReadOnlyBitSet::open(OwnedBytes::new(alloc, &bytes)?)
 }

@@ -2,26 +2,21 @@
 
 use crate::bytes::print_bytes;
 use crate::failure::Failure;
-use seg_postings::{FieldSerializer, InvertedIndexSerializer, PostingsFiles, RecordKind};
+use seg_postings::{InvertedIndexSerializer, PostingsFiles, RecordKind};
 use seg_values::{Field, PostingsError};
 use std::alloc::Global;
 
-/// Writes two terms with positions, each told as its difference from the one before.
-fn write_terms(field: &mut FieldSerializer) -> Result<(), PostingsError> {
+/// The files of one field, whose two terms have positions, each told as its difference from the one before.
+fn written(alloc: Global) -> Result<PostingsFiles, PostingsError> {
+    let mut serializer = InvertedIndexSerializer::new(alloc);
+    let mut field = serializer.new_field(Field::from_field_id(0), 4)?;
     field.new_term(b"a", RecordKind::Positions)?;
     field.write_doc(0, 2, &[0, 3])?;
     field.write_doc(2, 1, &[1])?;
     field.close_term()?;
     field.new_term(b"b", RecordKind::Positions)?;
     field.write_doc(1, 1, &[2])?;
-    field.close_term()
-}
-
-/// The files of one field.
-fn written(alloc: Global) -> Result<PostingsFiles, PostingsError> {
-    let mut serializer = InvertedIndexSerializer::new(alloc);
-    let mut field = serializer.new_field(Field::from_field_id(0), 4)?;
-    write_terms(&mut field)?;
+    field.close_term()?;
     field.close(&mut serializer)?;
     serializer.close()
 }

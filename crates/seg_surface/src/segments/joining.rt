@@ -31,7 +31,7 @@ fn mapping_of_both(alloc: Global, reader: SegmentReader) -> TResult<SegmentDocId
     merger.get_doc_id_from_concatenated_data(alloc)
 }
 
-fn mapping(alloc: Global) -> TResult<SegmentDocIdMapping> {
+pub(super) fn mapping(alloc: Global) -> TResult<SegmentDocIdMapping> {
     mapping_of_both(alloc, opened(alloc)?)
 }
 

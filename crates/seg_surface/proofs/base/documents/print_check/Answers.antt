@@ -9,5 +9,5 @@ all_known : (entries : List FieldEntry) → AllByRecursion (KnowsTexts (λ _. tr
 all_known [] = tt
 all_known (e ∷ es) = ((λ _. refl), all_known es)
 
-pub check_document-requires : goal.check_document-requires
-check_document-requires c = all_known _
+pub check_document-checked-requires : goal.check_document-checked-requires
+check_document-checked-requires c = all_known c.in_ok-schema.schema

@@ -1,0 +1,133 @@
+//! What the components of a segment are written to, one at a time, and the file that comes of it.
+ghost use Rattle.std.specs.Prelude.{◌≡◌, ◌<◌, ◌-◌, ◌^◌, [], Some, IfOk, IfSome};
+ghost use Rattle.seg_postings.specs.FieldFiles.{no_fields};
+ghost use Rattle.seg_store.specs.WriterBlocks.{taken_count};
+
+use crate::bytes::print_bytes;
+use crate::failure::Failure;
+use crate::samples::{schema, segment, settings};
+use seg_postings::{InvertedIndexSerializer, RecordKind};
+use seg_segment::{SegmentFiles, SegmentSerializer};
+use seg_store::{StoreError, StoreWriter};
+use seg_values::{Field, FieldKind, IndexOption, PostingsError, Schema, TantivyDocument};
+use std::alloc::{AllocError, Global};
+
+fn titles(alloc: Global) -> Result<Schema, AllocError> {
+    schema(alloc, &[("title", FieldKind::Text, IndexOption::Basic)])
+}
+
+/// A serializer that has nothing yet, of a segment of one document.
+fn empty(alloc: Global) -> Result<SegmentSerializer, AllocError>
+    ensures postings { IfOk result (λ s. s.postings ≡ Some no_fields) }
+    ensures store { IfOk result (λ s. IfSome s.store (λ w. taken_count w ≡ 0)) }
+    ensures lengths { IfOk result (λ s. s.lengths ≡ Some (Some [])) }
+{
+    let segment = segment(titles(alloc)?, 1);
+    match SegmentSerializer::for_segment(alloc, segment, &settings(16384)) {
+        Ok(serializer) => Ok(serializer),
+        Err(_) => Err(AllocError),
+    }
+}
+
+/// Writes the term `a` of document 0 in field 0.
+fn write_term(files: &mut InvertedIndexSerializer) -> Result<(), PostingsError>
+    requires { files.old ≡ Some no_fields }
+{
+    let mut field = files.new_field(Field::from_field_id(0), 1)?;
+    field.new_term(b"a", RecordKind::Documents)?;
+    field.write_doc(0, 1, &[])?;
+    field.close_term()?;
+    field.close(files)
+}
+
+fn with_term(alloc: Global) -> Result<SegmentFiles, AllocError> {
+    let mut serializer = empty(alloc)?;
+    let Ok(()) = write_term(serializer.get_postings_serializer()) else {
+        return Err(AllocError);
+    };
+    serializer.into_files()
+}
+
+/// Stores a document without a value.
+fn store_empty(alloc: Global, store: &mut StoreWriter) -> Result<(), StoreError>
+    requires { IfSome store.old (λ w. taken_count w < 2 ^ 31 - 1) }
+{
+    let schema = titles(alloc)?;
+    store.store(&TantivyDocument::new(alloc), &schema)
+}
+
+fn with_document(alloc: Global) -> Result<SegmentSerializer, AllocError> {
+    let mut serializer = empty(alloc)?;
+    match store_empty(alloc, serializer.get_store_writer()) {
+        Ok(()) => Ok(serializer),
+        Err(_) => Err(AllocError),
+    }
+}
+
+fn with_columns(alloc: Global) -> Result<SegmentFiles, AllocError> {
+    let mut serializer = empty(alloc)?;
+    serializer.get_fast_field_write().extend_from_slice(b"ab")?;
+    serializer.into_files()
+}
+
+/// Writes the length id 5 of the one document in field 0, and puts the file.
+fn write_length(serializer: &mut SegmentSerializer) -> Result<(), PostingsError>
+    requires { serializer.old.lengths ≡ Some (Some []) }
+{
+    if let Some(mut lengths) = serializer.extract_fieldnorms_serializer() {
+        lengths.serialize_field(Field::from_field_id(0), &[5])?;
+        serializer.put_fieldnorms(lengths.close()?);
+    }
+    Ok(())
+}
+
+/// A serializer with the file of lengths.
+fn with_length(alloc: Global) -> Result<SegmentSerializer, AllocError> {
+    let mut serializer = empty(alloc)?;
+    match write_length(&mut serializer) {
+        Ok(()) => Ok(serializer),
+        Err(_) => Err(AllocError),
+    }
+}
+
+fn print_terms<R: Print + AllocGlobal>(rt: &R) -> Result<(), Failure> {
+    let files = with_term(rt.alloc())?;
+    let what = "  get_postings_serializer, the term a of document 0 in field 0, terms";
+    print_bytes(rt, what, files.terms.as_slice())?;
+    print_bytes(rt, "  and postings", files.postings.as_slice())
+}
+
+fn print_store<R: Print + AllocGlobal>(rt: &R) -> Result<(), Failure> {
+    let serializer = with_document(rt.alloc())?;
+    let (id, bytes) = (serializer.segment().id(), serializer.mem_usage());
+    println!(rt; "  segment().id(): {id:?}")?;
+    println!(rt; "  mem_usage after a document without a value: {bytes}")?;
+    let files = serializer.into_files()?;
+    let what = "  get_store_writer, a document without a value, store";
+    print_bytes(rt, what, files.store.as_slice())
+}
+
+fn print_columns<R: Print + AllocGlobal>(rt: &R) -> Result<(), Failure> {
+    let files = with_columns(rt.alloc())?;
+    let what = "  get_fast_field_write, the bytes 61 and 62, fast fields";
+    print_bytes(rt, what, files.fast_fields.as_slice())
+}
+
+fn print_lengths<R: Print + AllocGlobal>(rt: &R) -> Result<(), Failure> {
+    let mut serializer = with_length(rt.alloc())?;
+    let again = serializer.extract_fieldnorms_serializer().is_some();
+    println!(rt; "  extract_fieldnorms_serializer a second time is there: {again}")?;
+    let files = serializer.into_files()?;
+    let what = "  put_fieldnorms of the length id 5 in field 0, field norms";
+    print_bytes(rt, what, files.field_norms.as_slice())
+}
+
+pub(super) fn print_components<R: Print + AllocGlobal>(rt: &R) -> Result<(), Failure> {
+    println!(rt;
+        "SegmentSerializer, what was written to a component, and its file of `into_files`:"
+    )?;
+    print_terms(rt)?;
+    print_store(rt)?;
+    print_columns(rt)?;
+    print_lengths(rt)
+}
