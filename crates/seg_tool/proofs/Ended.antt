@@ -12,7 +12,7 @@ use Rattle.seg_model.specs.ValidInputs.{Known, input_refusal}
 use Rattle.seg_index_build.specs.TwoDirectories.{Directories}
 use Rattle.seg_index_build.proofs.Exports.{IsBuildError, RoseIn}
 use Rattle.seg_script.specs.Script.{script}
-use Rattle.seg_tool.specs.DirectoryCalls.{BuildDoes, Stopped}
+use Rattle.seg_tool.specs.DirectoryCalls.{BuildDoes, BuildsSome, JobDoes}
 use Rattle.seg_tool.specs.Jobs.{AreEmpty, BuildsScript, BuildsText, NotBuilt, WithStatus, no_memory, no_script, of_input}
 use Rattle.seg_tool.specs.Run.{first_of, refusal_of, IsWhyRefused, IsWhyRefusedUntold}
 use Rattle.seg_tool.specs.Statuses.{IfRefused, IfWritten, RefusedFor, status_of}
@@ -20,7 +20,7 @@ use Rattle.seg_tool.specs.declared.status.Status.{Status}
 use Rattle.seg_tool.specs.declared.status.Status.TheVariants.{Done, Words, Script, Refused, Exists, Directory, Damaged, Stream, Memory}
 use Rattle.seg_tool.specs.declared.words.Detail.{Detail}
 use Rattle.seg_tool.proofs.BuildLaws.{NotPrinted, not_admitted, not_damaged, not_error, not_first, not_fresh, not_printed, not_refused, not_untold}
-use Rattle.seg_tool.proofs.StatusLaws.{IsEarly, IsErrorOf, IsOfError, answer_of, early_error, error_of, exists_only, first_statuses, if_refused, is_error, of_error, refused_as, undamaged_as, when_written}
+use Rattle.seg_tool.proofs.StatusLaws.{IsEarly, IsErrorOf, IsOfError, answer_of, early_error, error_of, exists_only, first_statuses, if_refused, is_error, job_as, memory_only, of_error, refused_as, undamaged_as, when_written}
 
 -- ---- the first refusal
 
@@ -74,19 +74,18 @@ module _ {known : Known} {analyzer : Analyzer} {detail : Detail} {bytes : List �
     builds = subst (λ (r : Result (List ℕ) TantivyError). BuildsText known analyzer meant detail r a b) (answer_of text w.answer w.is) w.does_so;
   }
 
-module _ {known : Known} {analyzer : Analyzer} {detail : Detail} {a b : Directories} where
-  -- the status of the error with which it stops
-  ends_as : (meant : Input) (e : TantivyError) → BuildsText known analyzer meant detail (Err e) a b → IsBuildError e a b → BuildDoes known analyzer detail (status_of e) a b
-  ends_as meant IndexAlreadyExists s h = (refl, record { meant = meant; stops = s })
-  ends_as meant OpenReadError s h = (inl refl, record { meant = meant; stops = s })
-  ends_as meant OpenWriteError s h = (inr (inl refl), record { meant = meant; stops = s })
-  ends_as meant IoError s h = (inr (inr refl), record { meant = meant; stops = s })
-  ends_as meant OutOfMemory s h = inr (record { meant = meant; stops = s })
-  ends_as meant (SchemaError cause) s h = record { meant = meant; stops = s }
-  ends_as meant (InvalidArgument cause) s h = record { meant = meant; stops = s }
-  ends_as meant (DataCorruption name) s h = (tt, record { meant = meant; stops = s })
-  ends_as meant SystemError s h = absurd h
-  ends_as meant FieldNotFound s h = absurd h
+module _ (known : Known) (analyzer : Analyzer) (detail : Detail) (a b : Directories) where
+  -- a job that stops with an error is what is done
+  ends_as : (s : Status) → IsOfError s → JobDoes (BuildsSome known analyzer detail) s a b → BuildDoes known analyzer detail s a b
+  ends_as (Refused e) of h = h
+  ends_as (Exists e) of h = h
+  ends_as (Directory e) of h = h
+  ends_as (Damaged e) of h = h
+  ends_as Memory of h = inr h
+  ends_as Done of h = absurd of
+  ends_as Words of h = absurd of
+  ends_as Script of h = absurd of
+  ends_as Stream of h = absurd of
 
 module _ {known : Known} {analyzer : Analyzer} {detail : Detail} {bytes : List ℕ} {status : Status} {a b : Directories} where
   pub ended_early : Ends known analyzer detail bytes status a b → IsEarly status
@@ -153,7 +152,10 @@ module _ {known : Known} {analyzer : Analyzer} {detail : Detail} {bytes : List �
   ended_does (e_script is none same) = subst (λ (s : Status). BuildDoes known analyzer detail s a b) (sym is) same
   ended_does (e_memory is same) = subst (λ (s : Status). BuildDoes known analyzer detail s a b) (sym is) (inl same)
   ended_does (e_input meant e says is stops h) =
-      subst (λ (s : Status). BuildDoes known analyzer detail s a b) (sym is) (ends_as meant e stops (not_error known analyzer meant detail e a b h))
+      ends_as known analyzer detail a b status (subst IsOfError (sym is) (of_error e))
+      (job_as (BuildsSome known analyzer detail) a b status e is
+      (memory_only (λ x. IsBuildError x a b) (λ none. none) (λ none. none) e (not_error known analyzer meant detail e a b h))
+      (record { meant = meant; builds = stops }))
 
   -- the error of a directory was counted
   pub ended_fault : Ends known analyzer detail bytes status a b → (x : TantivyError) → status ≡ Directory x → RoseIn a b

@@ -26,7 +26,7 @@ use Rattle.seg_tool.specs.declared.status.Status.TheVariants.{Done, Refused, Str
 use Rattle.seg_tool.specs.declared.words.Detail.TheVariants.{Summary}
 use Rattle.seg_tool.proofs.BuildLaws.{NotPrinted, Printed, not_damaged, not_error, not_first, not_fresh, not_printed, not_refused, not_untold, printed, printed_meta, printed_output, printed_text, printed_work}
 use Rattle.seg_tool.proofs.JobLaws.{job_by, job_completes, job_gains, job_stream}
-use Rattle.seg_tool.proofs.StatusLaws.{exists_only, first_statuses, refused_as, undamaged_as, when_written}
+use Rattle.seg_tool.proofs.StatusLaws.{exists_only, first_statuses, memory_only, refused_as, undamaged_as, when_written}
 use Rattle.seg_tool.proofs.Taken.{printed_taken}
 
 module _ (known : Known) (analyzer : Analyzer) (input : Input) (a b : Directories) where
@@ -65,6 +65,13 @@ module _ (known : Known) (analyzer : Analyzer) (input : Input) (a b : Directorie
     fresh = λ empty e is. cc is;
     whole = λ told told_out e is. cc is;
   }
+
+  -- Memory is only for out of memory
+  unmade_memory : (e : TantivyError) → Unmade e → status_of e ≡ Memory → e ≡ OutOfMemory
+  unmade_memory e (unbegun is same) at = is
+  unmade_memory e (begun h) at =
+      memory_only (λ x. IsBuildError x a b) (λ none. none) (λ none. none) e
+      (not_error known analyzer input Summary e a b h) at
 
   unmade_ends : (e : TantivyError) → Unmade e → Ends (status_of e)
   unmade_ends e (unbegun is same) = subst (λ (x : TantivyError). Ends (status_of x)) (sym is) (starved same)
@@ -192,6 +199,12 @@ module _ {K : Type 0} {known : Known} {analyzer : Analyzer} {seed : ℕ} {status
       (λ text h. done_ends known analyzer (generated seed) a.directories b.directories text (printed_run text h))
       (λ text h. stream_ends known analyzer (generated seed) a.directories b.directories text (printed_run text h))
       (λ e h. unmade_ends known analyzer (generated seed) a.directories b.directories e (unmade known analyzer seed a.directories b.directories e h))
+
+  pub generate_memory : (e : TantivyError) → GeneratesText known analyzer seed (Err e) a.directories b.directories
+      → status_of e ≡ Memory → e ≡ OutOfMemory
+  generate_memory e h =
+      unmade_memory known analyzer (generated seed) a.directories b.directories e
+      (unmade known analyzer seed a.directories b.directories e h)
 
   pub generates : HoldsOneContents
       → Generates known analyzer Summary (generated seed) status a.sink b.sink a.directories b.directories

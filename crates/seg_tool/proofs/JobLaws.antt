@@ -41,7 +41,7 @@ use Rattle.seg_tool.specs.declared.status.Status.{Status}
 use Rattle.seg_tool.specs.declared.status.Status.TheVariants.{Done, Words, Script, Stream, Memory}
 use Rattle.seg_tool.specs.declared.words.Detail.TheVariants.{Brief, Full}
 use Rattle.seg_tool.proofs.IndexLaws.{load_index, load_stays, prints_rose, prints_so, prints_stay, prints_told, prints_undamaged, tells_on}
-use Rattle.seg_tool.proofs.StatusLaws.{IsErrorOf, IsOfError, answer_of, error_of, is_error, job_as, of_error}
+use Rattle.seg_tool.proofs.StatusLaws.{IsErrorOf, IsOfError, answer_of, error_of, is_error, job_as, memory_only, of_error}
 use Rattle.seg_tool.proofs.Steady.{Steady, merges_steady}
 
 -- ---- how a job ends
@@ -108,11 +108,12 @@ module _ {K : Type 0} {does : Result (List ℕ) TantivyError → Directories →
       by (j_failed text is h part rose later) = later
       by (j_done text is h appends later) = later
 
-  pub job_does : JobDoes does status a.directories b.directories
-  job_does = by exits
+  pub job_does : ((e : TantivyError) → does (Err e) a.directories b.directories → status_of e ≡ Memory → e ≡ OutOfMemory)
+      → JobDoes does status a.directories b.directories
+  job_does starved = by exits
     where
       by : JobExits does status sink sink_after a b → JobDoes does status a.directories b.directories
-      by (j_error e is h same_sink none) = subst (λ (s : Status). JobDoes does s a.directories b.directories) (sym is) (job_as does e a.directories b.directories h)
+      by (j_error e is h same_sink none) = job_as does a.directories b.directories status e is (starved e h) h
       by (j_failed text is h part rose later) = subst (λ (s : Status). JobDoes does s a.directories b.directories) (sym is) (text, h)
       by (j_done text is h appends later) = subst (λ (s : Status). JobDoes does s a.directories b.directories) (sym is) (text, h)
 
@@ -182,6 +183,10 @@ module _ (a b : Directories) where
 
   pub shows_stay : (r : Result (List ℕ) TantivyError) → ShowsText r a b → (b.work.files ≡ a.work.files) × (b.output ≡ a.output)
   shows_stay r h = ((prints_stay [] (codes "segment") Full a.work b.work r h.0).files, h.1)
+
+  pub show_memory : (e : TantivyError) → ShowsText (Err e) a b → status_of e ≡ Memory → e ≡ OutOfMemory
+  show_memory e h =
+      memory_only IsReadError (λ none. none) (λ none. none) e (prints_so [] (codes "segment") Full a.work b.work e h.0)
 
   pub memory_left : (e : TantivyError) → IsReadError e → IsNoDamage e → e ≢ OpenReadError → status_of e ≡ Memory
   memory_left OutOfMemory h k not = refl

@@ -6,7 +6,7 @@ use Rattle.std.specs.List.{AllByRecursion}
 use Rattle.std.proofs.lemmas.Option.{same_Some}
 use Rattle.seg_common.specs.FaultCounts.{Rose}
 use Rattle.seg_values.specs.declared.error.TantivyError.{TantivyError}
-use Rattle.seg_values.specs.declared.error.TantivyError.TheVariants.{IndexAlreadyExists}
+use Rattle.seg_values.specs.declared.error.TantivyError.TheVariants.{IndexAlreadyExists, OutOfMemory}
 use Rattle.seg_directory.specs.Files.{NamedFiles}
 use Rattle.seg_directory.specs.DirectoryStates.{DirectoryState}
 use Rattle.seg_meta.specs.IndexOfFiles as index
@@ -18,11 +18,11 @@ use Rattle.seg_meta.specs.declared.index_meta.IndexMeta.{IndexMeta}
 use Rattle.seg_model.specs.Fields.{Schema}
 use Rattle.seg_model.specs.ValidInputs.{settings_fit}
 use Rattle.seg_segment.specs.IndexForms.{segment_forms}
-use Rattle.seg_segment.specs.SegmentReadSteps.{IsNoDamage}
+use Rattle.seg_segment.specs.SegmentReadSteps.{IsNoDamage, IsReadError}
 use Rattle.seg_segment.proofs.Exports.{Unchanged, rose_before}
 use Rattle.seg_merger.specs.Merger.{all_fit}
 use Rattle.seg_open.specs.OpenSegment.{OpenSegment}
-use Rattle.seg_index_build.specs.MergeAnswers.{AllHaveHeld, CanBeMerged, LiveAreWhole}
+use Rattle.seg_index_build.specs.MergeAnswers.{AllHaveHeld, CanBeMerged, IsMergeError, LiveAreWhole}
 use Rattle.seg_index_build.specs.MergedSegments.{AreMerged, AreOfOne, first_schema, is_live, joined, live_asked, live_documents}
 use Rattle.seg_index_build.specs.TwoDirectories.{Directories, goes_on, stops}
 use Rattle.seg_tool.specs.DirectoryCalls.{IsReady}
@@ -37,7 +37,7 @@ use Rattle.seg_tool.specs.declared.words.Detail.TheVariants.{Brief}
 use Rattle.seg_tool.proofs.BuildLaws.{read_exists}
 use Rattle.seg_tool.proofs.IndexLaws.{load_index, load_rose, load_so, load_stays, load_undamaged, prints_rose, prints_so, prints_undamaged, tells_on}
 use Rattle.seg_tool.proofs.JobLaws.{first_of, job_so, memory_left}
-use Rattle.seg_tool.proofs.StatusLaws.{exists_only, undamaged_as}
+use Rattle.seg_tool.proofs.StatusLaws.{exists_only, memory_only, undamaged_as}
 use Rattle.seg_tool.proofs.Steady.{BothSteady, merges_steady}
 
 abbrev failing : (T : Type 0) → TantivyError → Result T TantivyError
@@ -116,6 +116,20 @@ module _ (e : TantivyError) (a b : Directories) where
   exit_of : MergesText (Err e) a b → Exits e a b
   exit_of (stops d is w) = exit_as (List ℕ) d is (in_work d w)
   exit_of (goes_on merged n w p) = in_output merged n w p.0
+
+-- ---- Memory is only for out of memory
+
+module _ (a b : Directories) where
+  exit_memory : (e : TantivyError) → Exits e a b → status_of e ≡ Memory → e ≡ OutOfMemory
+  exit_memory e (at_loading l) = memory_only IsReadError (λ none. none) (λ none. none) e (load_so a.work b.work e l)
+  exit_memory e (at_merging metas m l same k) =
+      memory_only (IsMergeError (merge_of metas) m b) (λ none. none) (λ none. none) e k.errors
+  exit_memory e (at_printing metas merged m n l same k prints) =
+      memory_only IsReadError (λ none. none) (λ none. none) e
+      (prints_so [] (codes "output") Brief n.output b.output e prints)
+
+  pub merge_memory : (e : TantivyError) → MergesText (Err e) a b → status_of e ≡ Memory → e ≡ OutOfMemory
+  merge_memory e h = exit_memory e (exit_of e a b h)
 
 -- ---- what is known on the way
 

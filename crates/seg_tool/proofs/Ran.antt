@@ -248,9 +248,9 @@ module _ {K : Type 0} {known : Known} {analyzer : Analyzer} {detail : Detail} {s
       by (x_starved is takes same_sink none same) = subst (λ (s : Status). BuildDoes known analyzer detail s a.directories b.directories) (sym is) (inl same)
       by (x_ended bytes takes ends same_sink none) = ended_does ends
       by (x_failed bytes text is takes prints part rose later) =
-          subst (λ (s : Status). BuildDoes known analyzer detail s a.directories b.directories) (sym is) (inr (record { meant = prints.meant; text = text; prints = prints.builds }))
+          subst (λ (s : Status). BuildDoes known analyzer detail s a.directories b.directories) (sym is) (inr (text, record { meant = prints.meant; builds = prints.builds }))
       by (x_done bytes text is takes prints appends later) =
-          subst (λ (s : Status). BuildDoes known analyzer detail s a.directories b.directories) (sym is) (record { meant = prints.meant; text = text; prints = prints.builds })
+          subst (λ (s : Status). BuildDoes known analyzer detail s a.directories b.directories) (sym is) (text, record { meant = prints.meant; builds = prints.builds })
 
   -- ---- the streams
 

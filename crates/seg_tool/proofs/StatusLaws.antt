@@ -1,6 +1,6 @@
 -- The statuses of errors.
-use Rattle.std.proofs.Common.{◌≡◌, ◌≢◌, ◌∙◌, ℕ, List, Option, None, Some, Result, Ok, Err, inl, inr, refl, sym, ap, subst}
-use Rattle.std.specs.Prelude.{◌⊎◌, IfSome}
+use Rattle.std.proofs.Common.{◌≡◌, ◌≢◌, ◌∙◌, ℕ, List, Option, None, Some, Result, Ok, Err, refl, sym, ap, subst}
+use Rattle.std.specs.Prelude.{IfSome}
 use Rattle.seg_common.specs.declared.name.FileName.{FileName}
 use Rattle.seg_values.specs.declared.error.TantivyError.{TantivyError}
 use Rattle.seg_values.specs.declared.error.TantivyError.TheVariants.{SchemaError, InvalidArgument, IndexAlreadyExists, OpenReadError, OpenWriteError, IoError, DataCorruption, SystemError, FieldNotFound, OutOfMemory}
@@ -11,7 +11,7 @@ use Rattle.seg_model.specs.ValidInputs.{Known, input_refusal}
 use Rattle.seg_open.specs.OpeningSteps.{IsNoDamage}
 use Rattle.seg_check.proofs.Exports.{first_is_refusal}
 use Rattle.seg_index_build.specs.TwoDirectories.{Directories}
-use Rattle.seg_tool.specs.DirectoryCalls.{IsDamage, IsFault, JobDoes}
+use Rattle.seg_tool.specs.DirectoryCalls.{JobDoes, StopsAs}
 use Rattle.seg_tool.specs.Jobs.{with_status}
 use Rattle.seg_tool.specs.Statuses.{IfRefused, IfWritten, status_of}
 use Rattle.seg_tool.specs.declared.status.Status.{Status}
@@ -161,19 +161,38 @@ first_statuses known analyzer input = by (input_refusal known analyzer input) re
     by None is = tt
     by (Some x) is = status_is x (first_is_refusal known analyzer input x is)
 
+-- Memory is the status of out of memory alone, among errors without these two
+pub memory_only : (P : TantivyError → Type 0) → (P SystemError → ⊥) → (P FieldNotFound → ⊥) → (e : TantivyError) → P e
+    → status_of e ≡ Memory → e ≡ OutOfMemory
+memory_only P system field OutOfMemory p is = refl
+memory_only P system field SystemError p is = absurd (system p)
+memory_only P system field FieldNotFound p is = absurd (field p)
+memory_only P system field (SchemaError cause) p is = absurd (cc is)
+memory_only P system field (InvalidArgument cause) p is = absurd (cc is)
+memory_only P system field IndexAlreadyExists p is = absurd (cc is)
+memory_only P system field OpenReadError p is = absurd (cc is)
+memory_only P system field OpenWriteError p is = absurd (cc is)
+memory_only P system field IoError p is = absurd (cc is)
+memory_only P system field (DataCorruption name) p is = absurd (cc is)
+
 -- what a job does, by the status of its error
-pub job_as : (does : Result (List ℕ) TantivyError → Directories → Directories → Type 0) (e : TantivyError) (a b : Directories)
-    → does (Err e) a b → JobDoes does (status_of e) a b
-job_as does (SchemaError cause) a b h = h
-job_as does (InvalidArgument cause) a b h = h
-job_as does IndexAlreadyExists a b h = h
-job_as does OpenReadError a b h = (inl refl, h)
-job_as does OpenWriteError a b h = (inr (inl refl), h)
-job_as does IoError a b h = (inr (inr refl), h)
-job_as does (DataCorruption name) a b h = (tt, h)
-job_as does SystemError a b h = (SystemError, h)
-job_as does FieldNotFound a b h = (FieldNotFound, h)
-job_as does OutOfMemory a b h = (OutOfMemory, h)
+module _ (does : Result (List ℕ) TantivyError → Directories → Directories → Type 0) (a b : Directories) where
+  stops_as : (s : Status) → IsOfError s → StopsAs does s a b → JobDoes does s a b
+  stops_as (Refused e) of h = h
+  stops_as (Exists e) of h = h
+  stops_as (Directory e) of h = h
+  stops_as (Damaged e) of h = h
+  stops_as Memory of h = h
+  stops_as Done of h = absurd of
+  stops_as Words of h = absurd of
+  stops_as Script of h = absurd of
+  stops_as Stream of h = absurd of
+
+  pub job_as : (s : Status) (e : TantivyError) → s ≡ status_of e → (status_of e ≡ Memory → e ≡ OutOfMemory)
+      → does (Err e) a b → JobDoes does s a b
+  job_as s e is starved h =
+      stops_as s (subst IsOfError (sym is) (of_error e))
+      (record { error = e; is_its = is; starved = λ at. starved (sym is ∙ at); stops = h })
 
 -- ---- results with statuses
 

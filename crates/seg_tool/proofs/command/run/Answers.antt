@@ -2,9 +2,9 @@ use Rattle.std.proofs.Common.{ap}
 use Rattle.seg_index_build.specs.TwoDirectories.{both}
 use Rattle.seg_tool.proofs.Commands.{first_in_both, of_build, of_generate, of_merge, of_show, run_later, run_no_script, run_no_words, run_same_sink, run_script, run_sink_later, run_taken, run_turns, run_unread, run_words}
 use Rattle.seg_tool.proofs.Endings.{completes, no-stream}
-use Rattle.seg_tool.proofs.Generated.{generate_completes, generates}
-use Rattle.seg_tool.proofs.JobLaws.{is_merged, is_shown, job_completes, job_does, job_each, job_gains, job_stream, merges_stay, show_starves, shows_stay}
-use Rattle.seg_tool.proofs.MergeLaws.{ended_fresh, ended_whole, merges_starve}
+use Rattle.seg_tool.proofs.Generated.{generate_completes, generate_memory, generates}
+use Rattle.seg_tool.proofs.JobLaws.{is_merged, is_shown, job_completes, job_does, job_each, job_gains, job_stream, merges_stay, show_memory, show_starves, shows_stay}
+use Rattle.seg_tool.proofs.MergeLaws.{ended_fresh, ended_whole, merge_memory, merges_starve}
 use Rattle.seg_tool.proofs.Ran.{ran_does, ran_done, ran_end, ran_end_refused, ran_end_written, ran_fault, ran_first, ran_fresh, ran_no_words, ran_output_index, ran_output_meta, ran_output_was_empty, ran_read, ran_refused, ran_script, ran_stream, ran_untold, ran_valid, ran_whole, ran_work_index, ran_work_was_empty, ran_written, ran_reads}
 use Rattle.seg_tool.proofs.RunOnDisk.{run_keeps, run_leaves}
 use Rattle.seg_tool.proofs.command.run.Goals as goal
@@ -41,7 +41,7 @@ returns-clause-generated g c =
     of_generate c.execute-status.ensures _ (λ seed r. generates r.ends c.files_hold_one_contents.ensures)
 
 pub returns-clause-generate_calls : goal.returns-clause-generate_calls
-returns-clause-generate_calls g c = of_generate c.execute-status.ensures _ (λ seed r. job_does r.ends)
+returns-clause-generate_calls g c = of_generate c.execute-status.ensures _ (λ seed r. job_does r.ends (generate_memory r.ends))
 
 pub returns-clause-merged : goal.returns-clause-merged
 returns-clause-merged g c = of_merge c.execute-status.ensures _ (λ r. job_gains r.ends _ (λ text h. is_merged _ _ c.files_hold_one_contents.ensures text h))
@@ -91,10 +91,10 @@ pub returns-clause-calls : goal.returns-clause-calls
 returns-clause-calls g c = of_build c.execute-status.ensures _ (λ detail r. ran_does r)
 
 pub returns-clause-merge_calls : goal.returns-clause-merge_calls
-returns-clause-merge_calls g c = of_merge c.execute-status.ensures _ (λ r. job_does r.ends)
+returns-clause-merge_calls g c = of_merge c.execute-status.ensures _ (λ r. job_does r.ends (λ e h. merge_memory _ _ e h))
 
 pub returns-clause-show_calls : goal.returns-clause-show_calls
-returns-clause-show_calls g c = of_show c.execute-status.ensures _ (λ r. job_does r.ends)
+returns-clause-show_calls g c = of_show c.execute-status.ensures _ (λ r. job_does r.ends (λ e h. show_memory _ _ e h))
 
 pub returns-clause-merge_stays : goal.returns-clause-merge_stays
 returns-clause-merge_stays g c = of_merge c.execute-status.ensures _ (λ r. job_each r.ends _ (λ q h. merges_stay _ _ q h))
