@@ -146,7 +146,7 @@ module _ (known : Known) (analyzer : Analyzer) (input : Input) (detail : Detail)
     not_admitted (in_work metas m built k same) = inr built.admitted
     not_admitted (in_output metas m work built k l) = inr built.admitted
 
-    -- where both directories tell their files, reading back is refused nothing
+    -- where both directories tell their files, reading back finds no damage
     reads_so : IsTrue a.work.tells → IsTrue a.output.tells → NotPrinted e a b → NotBuilt known analyzer input e a b ⊎ (IsReadError e × IsNoDamage e)
     reads_so told told_out (in_building h) = inl h
     reads_so told told_out (in_work metas m built k same) =
@@ -164,10 +164,10 @@ module _ (known : Known) (analyzer : Analyzer) (input : Input) (detail : Detail)
           prints_undamaged work (codes "output") detail m.output b.output _ tells is.index_of e (output_whole analyzer input m.output.files is) l,
         )
 
-    pub not_refused : IsTrue a.work.tells → IsTrue a.output.tells → NotPrinted e a b → IfRefusal (λ x. build_refusal known analyzer input ≡ Some x) e
-    not_refused told told_out h = elim (reads_so told told_out h) [
+    pub not_refused : IsTrue a.work.tells → NotPrinted e a b → IfRefusal (λ x. build_refusal known analyzer input ≡ Some x) e
+    not_refused told h = elim (ends_so h) [
       | inl built ↦ built.refused told
-      | inr so ↦ read_unrefused (λ x. build_refusal known analyzer input ≡ Some x) e so.0
+      | inr so ↦ read_unrefused (λ x. build_refusal known analyzer input ≡ Some x) e so
     ]
 
     -- why it is refused where they need not tell

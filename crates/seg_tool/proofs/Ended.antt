@@ -108,13 +108,13 @@ module _ {known : Known} {analyzer : Analyzer} {detail : Detail} {bytes : List �
   ended_read (e_memory is same) = subst (λ (s : Status). IfRefused s (λ _. IsSome (script bytes))) (sym is) tt
   ended_read (e_input meant e says is stops h) = if_refused status _ (ap is_some says)
 
-  pub ended_refused : IsTrue a.work.tells → IsTrue a.output.tells → Ends known analyzer detail bytes status a b → IfRefused status (IsWhyRefused known analyzer bytes)
-  ended_refused told told_out (e_script is none same) = subst (λ (s : Status). IfRefused s (IsWhyRefused known analyzer bytes)) (sym is) tt
-  ended_refused told told_out (e_memory is same) = subst (λ (s : Status). IfRefused s (IsWhyRefused known analyzer bytes)) (sym is) tt
-  ended_refused told told_out (e_input meant e says is stops h) =
+  pub ended_refused : IsTrue a.work.tells → Ends known analyzer detail bytes status a b → IfRefused status (IsWhyRefused known analyzer bytes)
+  ended_refused told (e_script is none same) = subst (λ (s : Status). IfRefused s (IsWhyRefused known analyzer bytes)) (sym is) tt
+  ended_refused told (e_memory is same) = subst (λ (s : Status). IfRefused s (IsWhyRefused known analyzer bytes)) (sym is) tt
+  ended_refused told (e_input meant e says is stops h) =
       subst (λ (s : Status). IfRefused s (IsWhyRefused known analyzer bytes)) (sym is)
       (refused_as (IsWhyRefused known analyzer bytes) e
-      (subst (λ (o : Option Input). IfRefusal (λ x. refusal_of known analyzer o ≡ Some x) e) (sym says) (not_refused known analyzer meant detail e a b told told_out h)))
+      (subst (λ (o : Option Input). IfRefusal (λ x. refusal_of known analyzer o ≡ Some x) e) (sym says) (not_refused known analyzer meant detail e a b told h)))
 
   pub ended_untold : Ends known analyzer detail bytes status a b → IfRefused status (IsWhyRefusedUntold known analyzer bytes)
   ended_untold (e_script is none same) = subst (λ (s : Status). IfRefused s (IsWhyRefusedUntold known analyzer bytes)) (sym is) tt

@@ -59,7 +59,7 @@ module _ (known : Known) (analyzer : Analyzer) (input : Input) (a b : Directorie
   starved : b ≡ a → Ends Memory
   starved same = record {
     first = starved_first (input_refusal known analyzer input) same;
-    refused = λ told told_out. tt;
+    refused = λ told. tt;
     untold = tt;
     written = tt;
     fresh = λ empty e is. cc is;
@@ -79,7 +79,7 @@ module _ (known : Known) (analyzer : Analyzer) (input : Input) (a b : Directorie
       let first = not_first known analyzer input Summary e a b h in
       record {
         first = first_as e (input_refusal known analyzer input) (first_statuses known analyzer input) first;
-        refused = λ told told_out. refused_as (λ x. build_refusal known analyzer input ≡ Some x) e (not_refused known analyzer input Summary e a b told told_out h);
+        refused = λ told. refused_as (λ x. build_refusal known analyzer input ≡ Some x) e (not_refused known analyzer input Summary e a b told h);
         untold = refused_as (IsWhyUntold known analyzer input) e (not_untold known analyzer input Summary e a b h);
         written = written_as e (input_refusal known analyzer input) (first_statuses known analyzer input) first;
         fresh = λ empty x is. exists_only e x is (not_fresh known analyzer input Summary e a b empty h);
@@ -96,7 +96,7 @@ module _ (known : Known) (analyzer : Analyzer) (input : Input) (a b : Directorie
     done_ends : Ends Done
     done_ends = record {
       first = none_first (input_refusal known analyzer input) _ p.built.admitted;
-      refused = λ told told_out. tt;
+      refused = λ told. tt;
       untold = tt;
       written = tt;
       fresh = λ empty e is. cc is;
@@ -106,7 +106,7 @@ module _ (known : Known) (analyzer : Analyzer) (input : Input) (a b : Directorie
     stream_ends : Ends Stream
     stream_ends = record {
       first = none_first (input_refusal known analyzer input) _ p.built.admitted;
-      refused = λ told told_out. tt;
+      refused = λ told. tt;
       untold = tt;
       written = tt;
       fresh = λ empty e is. cc is;
@@ -154,7 +154,7 @@ module _ (known : Known) (analyzer : Analyzer) (input : Input) (law : ValidInput
   unmade_starves : (e : TantivyError) → Unmade known analyzer input a b e → status_of e ≡ Memory
   unmade_starves e (unbegun is same) = ap status_of is
   unmade_starves e (begun h) =
-      starved_only e (not_refused known analyzer input Summary e a b work.tells output.tells h)
+      starved_only e (not_refused known analyzer input Summary e a b work.tells h)
       (not_fresh known analyzer input Summary e a b (record { work_tells = work.tells; work = work.empty; output_tells = output.tells; output = output.empty }) h)
       (not_damaged known analyzer input Summary e a b work.tells output.tells h)
       (not_error known analyzer input Summary e a b h)

@@ -147,8 +147,8 @@ module _ {K : Type 0} {known : Known} {analyzer : Analyzer} {detail : Detail} {s
       by (x_failed bytes text is takes prints part rose later) = subst P (sym is) idle.at_stream
       by (x_done bytes text is takes prints appends later) = subst P (sym is) idle.at_done
 
-  pub ran_refused : IsTrue a.directories.work.tells → IsTrue a.directories.output.tells → IfRefused status (λ e. IfSome a.source.left (λ bytes. IsWhyRefused known analyzer bytes e))
-  ran_refused told told_out = of_ended _ (refused_idle _) (λ bytes takes ends. refused_then _ _ status (λ e why. of_all a.source.left bytes _ takes.all why) (ended_refused told told_out ends))
+  pub ran_refused : IsTrue a.directories.work.tells → IfRefused status (λ e. IfSome a.source.left (λ bytes. IsWhyRefused known analyzer bytes e))
+  ran_refused told = of_ended _ (refused_idle _) (λ bytes takes ends. refused_then _ _ status (λ e why. of_all a.source.left bytes _ takes.all why) (ended_refused told ends))
 
   pub ran_untold : IfRefused status (λ e. IfSome a.source.left (λ bytes. IsWhyRefusedUntold known analyzer bytes e))
   ran_untold = of_ended _ (refused_idle _) (λ bytes takes ends. refused_then _ _ status (λ e why. of_all a.source.left bytes _ takes.all why) (ended_untold ends))

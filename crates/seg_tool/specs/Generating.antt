@@ -36,8 +36,7 @@ pub record BuiltIn (known : Known) (analyzer : Analyzer) (input : Input) (a b : 
 pub record EndsFor (known : Known) (analyzer : Analyzer) (input : Input) (status : Status)
     (a b : Directories) : Type 0 where
   pub first : IfSome (input_refusal known analyzer input) (λ e. ((status ≡ Refused e) ⊎ (status ≡ Memory)) × (b ≡ a))
-  pub refused : IsTrue a.work.tells → IsTrue a.output.tells
-      → IfRefused status (λ e. build_refusal known analyzer input ≡ Some e)
+  pub refused : IsTrue a.work.tells → IfRefused status (λ e. build_refusal known analyzer input ≡ Some e)
   pub untold : IfRefused status (IsWhyUntold known analyzer input)
   pub written : IfWritten status (λ _. input_refusal known analyzer input ≡ None)
   pub fresh : AreEmpty a → (e : TantivyError) → status ≢ Exists e

@@ -75,7 +75,7 @@ pub fn run<S: Source, K: Sink, F: Sink, Z: Analyzers, W: Directory, O: Directory
 
     // What each status says about the bytes that the source had left.
     ensures script { result ≡ Status.Script → IfSome (S.left source.old) IsNoScript }
-    ensures refused { IsTrue (W.state work.old).tells → IsTrue (O.state output.old).tells
+    ensures refused { IsTrue (W.state work.old).tells
         → IfBuild (command_of words.now) (λ _. IfRefused result (λ e. IfSome (S.left source.old)
         (λ bytes. IsWhyRefused (Z.knows analyzers.now) (Z.tokens_of analyzers.now) bytes e))) }
     ensures refused_untold { IfBuild (command_of words.now) (λ _. IfRefused result (λ e. IfSome (S.left source.old)

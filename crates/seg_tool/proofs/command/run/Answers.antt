@@ -16,7 +16,7 @@ pub returns-clause-script : goal.returns-clause-script
 returns-clause-script g c = run_script c.execute-status.ensures
 
 pub returns-clause-refused : goal.returns-clause-refused
-returns-clause-refused g c told told_out = of_build c.execute-status.ensures _ (λ detail r. ran_refused r told told_out)
+returns-clause-refused g c told = of_build c.execute-status.ensures _ (λ detail r. ran_refused r told)
 
 pub returns-clause-refused_untold : goal.returns-clause-refused_untold
 returns-clause-refused_untold g c = of_build c.execute-status.ensures _ (λ detail r. ran_untold r)
@@ -153,7 +153,7 @@ returns-clause-complete g c =
     c.valid_inputs_are_not_refused.ensures left short valid (ran_no_words r)
     (λ is. no-stream source sink (ran_stream r c.files_hold_one_contents.ensures is))
     (ran_fresh r (record { work_tells = work.tells; work = work.empty; output_tells = output.tells; output = output.empty }))
-    (ran_whole r work.tells output.tells) (ran_fault r) (ran_script r) (ran_refused r work.tells output.tells) work.sound output.sound)
+    (ran_whole r work.tells output.tells) (ran_fault r) (ran_script r) (ran_refused r work.tells) work.sound output.sound)
 
 pub returns-clause-complete_generate : goal.returns-clause-complete_generate
 returns-clause-complete_generate g c =
