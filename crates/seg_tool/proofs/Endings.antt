@@ -38,11 +38,6 @@ no-fault : (a b : Directories) → (Rose a.work.faults b.work.faults → ⊥) �
 no-fault a b work output (inl rose) = work rose
 no-fault a b work output (inr rose) = output rose
 
--- neither the source nor the sink fails
-pub no-stream : {A B C D : Type 0} → (A → ⊥) → (C → ⊥) → (A × B) ⊎ (C × D) → ⊥
-no-stream source sink (inl f) = source f.0
-no-stream source sink (inr f) = sink f.0
-
 -- the source is known
 at-left : (P : List ℕ → Type 0) (left : Option (List ℕ)) (bytes : List ℕ) → left ≡ Some bytes → IfSome left P → P bytes
 at-left P left bytes is p = subst (λ (o : Option (List ℕ)). IfSome o P) is p

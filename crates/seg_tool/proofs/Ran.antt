@@ -13,7 +13,7 @@ use Rattle.seg_index_build.specs.TakenBatches.{gained}
 use Rattle.seg_index_build.specs.TwoDirectories.{Directories}
 use Rattle.seg_index_build.proofs.Exports.{RoseIn}
 use Rattle.seg_script.specs.Script.{script}
-use Rattle.seg_tool.specs.DirectoryCalls.{BuildDoes}
+use Rattle.seg_tool.specs.DirectoryCalls.{BuildDoes, BuildsSome, JobDoes}
 use Rattle.seg_tool.specs.Jobs.{AreEmpty, BuildsScript}
 use Rattle.seg_tool.specs.Run.{Gains, GainsPart, HasMergedIndex, HasOutputIndex, HasWorkIndex, IsAdmitted, IsNoScript, IsScript, IsTextOf, IsValidScript, IsWhyRefused, IsWhyRefusedUntold, first_of, max_script}
 use Rattle.seg_tool.specs.Runs.{EndsJob, RunsBuild, SinkState, Takes, TakesAll, World, WritesText, failed, has_text, is_read, no_text, not_read, starved, too_long, written}
@@ -203,6 +203,18 @@ module _ {K : Type 0} {known : Known} {analyzer : Analyzer} {detail : Detail} {s
       by (x_failed bytes text is takes prints part rose later) = absurd (cc (sym is ∙ at))
       by (x_done bytes text is takes prints appends later) = absurd (cc (sym is ∙ at))
 
+  -- neither the source nor the sink fails
+  pub ran_no_stream : (Rose a.source.faults b.source.faults → ⊥) → (Rose a.sink.faults b.sink.faults → ⊥) → status ≡ Stream → ⊥
+  ran_no_stream source sound at = by (exits r)
+    where
+      by : Exits known analyzer detail status sink sink_after a b → ⊥
+      by (x_read is rose takes same_sink none same) = source rose
+      by (x_long is long takes same_sink none same) = cc (sym is ∙ at)
+      by (x_starved is takes same_sink none same) = cc (sym is ∙ at)
+      by (x_ended bytes takes ends same_sink none) = subst IsEarly at (ended_early ends)
+      by (x_failed bytes text is takes prints part rose later) = sound rose
+      by (x_done bytes text is takes prints appends later) = cc (sym is ∙ at)
+
   -- no directory is called before a script is read
   pub ran_untouched : status ≡ Script → b.directories ≡ a.directories
   ran_untouched at = by (exits r)
@@ -266,20 +278,28 @@ module _ {K : Type 0} {known : Known} {analyzer : Analyzer} {detail : Detail} {s
       by (x_done bytes text is takes prints appends later) = absurd (not_done is)
 
   pub ran_stream : HoldsOneContents → status ≡ Stream
-      → (Rose a.source.faults b.source.faults × (sink_after ≡ sink))
-      ⊎ (Rose a.sink.faults b.sink.faults × IfSome a.source.left (λ bytes. GainsPart (IsTextOf known analyzer detail bytes a.directories b.directories) a.sink.written b.sink.written))
+      → (Rose a.source.faults b.source.faults × (sink_after ≡ sink)
+      × (b.directories.work ≡ a.directories.work) × (b.directories.output ≡ a.directories.output))
+      ⊎ (Rose a.sink.faults b.sink.faults
+      × JobDoes (BuildsSome known analyzer detail) Stream a.directories b.directories
+      × IfSome a.source.left (λ bytes. GainsPart (IsTextOf known analyzer detail bytes a.directories b.directories) a.sink.written b.sink.written))
   ran_stream law at = by (exits r)
     where
       by : Exits known analyzer detail status sink sink_after a b
-          → (Rose a.source.faults b.source.faults × (sink_after ≡ sink))
-          ⊎ (Rose a.sink.faults b.sink.faults × IfSome a.source.left (λ bytes. GainsPart (IsTextOf known analyzer detail bytes a.directories b.directories) a.sink.written b.sink.written))
-      by (x_read is rose takes same_sink none same) = inl (rose, same_sink)
+          → (Rose a.source.faults b.source.faults × (sink_after ≡ sink)
+          × (b.directories.work ≡ a.directories.work) × (b.directories.output ≡ a.directories.output))
+          ⊎ (Rose a.sink.faults b.sink.faults
+          × JobDoes (BuildsSome known analyzer detail) Stream a.directories b.directories
+          × IfSome a.source.left (λ bytes. GainsPart (IsTextOf known analyzer detail bytes a.directories b.directories) a.sink.written b.sink.written))
+      by (x_read is rose takes same_sink none same) =
+          inl (rose, same_sink, ap (λ (d : Directories). d.work) same, ap (λ (d : Directories). d.output) same)
       by (x_long is long takes same_sink none same) = absurd (cc (sym is ∙ at))
       by (x_starved is takes same_sink none same) = absurd (cc (sym is ∙ at))
       by (x_ended bytes takes ends same_sink none) = absurd (subst IsEarly at (ended_early ends))
       by (x_failed bytes text is takes prints part rose later) =
           inr (
             rose,
+            (text, record { meant = prints.meant; builds = prints.builds }),
             of_all a.source.left bytes (λ bytes. GainsPart (IsTextOf known analyzer detail bytes a.directories b.directories) a.sink.written b.sink.written) takes.all
                 (record { text = text; is_text = is_text prints law; appended = part }),
           )

@@ -14,7 +14,7 @@ ghost use Rattle.seg_index_build.specs.TwoDirectories.{both};
 ghost use Rattle.seg_open.specs.Answers.{seen_as};
 ghost use Rattle.seg_script.specs.Script.{script};
 ghost use Rattle.seg_tool.specs.AfterCrash.{CrashLeaves};
-ghost use Rattle.seg_tool.specs.DirectoryCalls.{BuildDoes, IsReady, JobDoes};
+ghost use Rattle.seg_tool.specs.DirectoryCalls.{BuildDoes, BuildsSome, IsReady, JobDoes};
 ghost use Rattle.seg_tool.specs.Generating.{Generates};
 ghost use Rattle.seg_tool.specs.Indexes.{HasMergeableIndex, HasWholeIndex, HasWholeLiveSegments, IsMergedText, IsShownText};
 ghost use Rattle.seg_tool.specs.Jobs.{BuildsScript, GeneratesText, MergesText, ShowsText, WithStatus};
@@ -112,9 +112,14 @@ pub fn run<S: Source, K: Sink, F: Sink, Z: Analyzers, W: Directory, O: Directory
         (both (W.state work.old) (O.state output.old)) (both (W.state work.new) (O.state output.new)))
         (K.written sink.old) (K.written sink.new)) }
     ensures untouched { result ≢ Status.Done → result ≢ Status.Stream → sink.new ≡ sink.old }
+    // A source that fails ends it before a directory is called, a sink once both indexes are built.
     ensures stream { IfBuild (command_of words.now) (λ detail. result ≡ Status.Stream →
-        (Rose (S.faults source.old) (S.faults source.new) × (sink.new ≡ sink.old))
-        ⊎ (Rose (K.faults sink.old) (K.faults sink.new) × IfSome (S.left source.old)
+        (Rose (S.faults source.old) (S.faults source.new) × (sink.new ≡ sink.old)
+        × (W.state work.new ≡ W.state work.old) × (O.state output.new ≡ O.state output.old))
+        ⊎ (Rose (K.faults sink.old) (K.faults sink.new)
+        × JobDoes (BuildsSome (Z.knows analyzers.now) (Z.tokens_of analyzers.now) detail) Status.Stream
+        (both (W.state work.old) (O.state output.old)) (both (W.state work.new) (O.state output.new))
+        × IfSome (S.left source.old)
         (λ bytes. GainsPart (IsTextOf (Z.knows analyzers.now) (Z.tokens_of analyzers.now) detail bytes
         (both (W.state work.old) (O.state output.old)) (both (W.state work.new) (O.state output.new)))
         (K.written sink.old) (K.written sink.new)))) }

@@ -1,11 +1,11 @@
 use Rattle.std.proofs.Common.{ap}
 use Rattle.seg_index_build.specs.TwoDirectories.{both}
 use Rattle.seg_tool.proofs.Commands.{first_in_both, of_build, of_generate, of_merge, of_show, run_later, run_no_script, run_no_words, run_same_sink, run_script, run_sink_later, run_taken, run_turns, run_unread, run_words}
-use Rattle.seg_tool.proofs.Endings.{completes, no-stream}
+use Rattle.seg_tool.proofs.Endings.{completes}
 use Rattle.seg_tool.proofs.Generated.{generate_completes, generate_memory, generates}
 use Rattle.seg_tool.proofs.JobLaws.{is_merged, is_shown, job_completes, job_does, job_each, job_gains, job_stream, merges_stay, show_memory, show_starves, shows_stay}
 use Rattle.seg_tool.proofs.MergeLaws.{ended_fresh, ended_whole, merge_memory, merges_starve}
-use Rattle.seg_tool.proofs.Ran.{ran_does, ran_done, ran_end, ran_end_refused, ran_end_written, ran_fault, ran_first, ran_fresh, ran_no_words, ran_output_index, ran_output_meta, ran_output_was_empty, ran_read, ran_refused, ran_script, ran_stream, ran_untold, ran_valid, ran_whole, ran_work_index, ran_work_was_empty, ran_written, ran_reads}
+use Rattle.seg_tool.proofs.Ran.{ran_does, ran_done, ran_end, ran_end_refused, ran_end_written, ran_fault, ran_first, ran_fresh, ran_no_stream, ran_no_words, ran_output_index, ran_output_meta, ran_output_was_empty, ran_read, ran_refused, ran_script, ran_stream, ran_untold, ran_valid, ran_whole, ran_work_index, ran_work_was_empty, ran_written, ran_reads}
 use Rattle.seg_tool.proofs.RunOnDisk.{run_keeps, run_leaves}
 use Rattle.seg_tool.proofs.command.run.Goals as goal
 
@@ -151,7 +151,7 @@ returns-clause-complete g c =
     completes c.execute-status.result (g.Z.Analyzers.knows c.args.analyzers.now) (g.Z.Analyzers.tokens_of c.args.analyzers.now) _ bytes
     (both (g.W.Directory.state c.args.work.now) (g.O.Directory.state c.args.output.now)) (both (g.W.Directory.state c.execute-status.new.work) (g.O.Directory.state c.execute-status.new.output))
     c.valid_inputs_are_not_refused.ensures left short valid (ran_no_words r)
-    (λ is. no-stream source sink (ran_stream r c.files_hold_one_contents.ensures is))
+    (ran_no_stream r source sink)
     (ran_fresh r (record { work_tells = work.tells; work = work.empty; output_tells = output.tells; output = output.empty }))
     (ran_whole r work.tells output.tells) (ran_fault r) (ran_script r) (ran_refused r work.tells) work.sound output.sound)
 
