@@ -7,15 +7,16 @@ use Rattle.seg_common.specs.FaultCounts.{Rose}
 use Rattle.seg_common.specs.Streams.{AppendsPart, IsAllOf}
 use Rattle.seg_values.specs.declared.error.TantivyError.{TantivyError}
 use Rattle.seg_model.specs.Fields.{Analyzer}
+use Rattle.seg_model.specs.Input.{Input}
 use Rattle.seg_model.specs.ValidInputs.{Known}
 use Rattle.seg_segment.specs.Laws.{HoldsOneContents}
 use Rattle.seg_index_build.specs.TakenBatches.{gained}
 use Rattle.seg_index_build.specs.TwoDirectories.{Directories}
 use Rattle.seg_index_build.proofs.Exports.{RoseIn}
 use Rattle.seg_script.specs.Script.{script}
-use Rattle.seg_tool.specs.DirectoryCalls.{BuildDoes, BuildsSome, JobDoes}
+use Rattle.seg_tool.specs.DirectoryCalls.{BuildDoes}
 use Rattle.seg_tool.specs.Jobs.{AreEmpty, BuildsScript}
-use Rattle.seg_tool.specs.Run.{Gains, GainsPart, HasMergedIndex, HasOutputIndex, HasWorkIndex, IsAdmitted, IsNoScript, IsScript, IsTextOf, IsValidScript, IsWhyRefused, IsWhyRefusedUntold, first_of, max_script}
+use Rattle.seg_tool.specs.Run.{Gains, GainsPart, HasMergedIndex, HasOutputIndex, HasWorkIndex, IsAdmitted, IsMeantBy, IsNoScript, IsScript, IsTextOf, IsValidScript, IsWhyRefused, IsWhyRefusedUntold, first_of, max_script}
 use Rattle.seg_tool.specs.Runs.{EndsJob, RunsBuild, SinkState, Takes, TakesAll, World, WritesText, failed, has_text, is_read, no_text, not_read, starved, too_long, written}
 use Rattle.seg_tool.specs.Statuses.{IfRefused, IfWritten, RefusedFor}
 use Rattle.seg_tool.specs.Taken.{HasTaken, before_meta}
@@ -27,16 +28,28 @@ use Rattle.seg_tool.proofs.Ended.{Ends, Prints, ended_does, ended_early, ended_f
 use Rattle.seg_tool.proofs.StatusLaws.{IsEarly, refused_then, written_then}
 use Rattle.seg_tool.proofs.Taken.{printed_taken}
 
+-- a fact of all bytes that were left
+pub of_all : (left : Option (List ℕ)) (bytes : List ℕ) (P : List ℕ → Type 0) → IsAllOf left bytes → P bytes → IfSome left P
+of_all None bytes P all p = tt
+of_all (Some xs) bytes P all p = subst P all p
+
+-- a script of all bytes that were left
+meant_by : (left : Option (List ℕ)) (bytes : List ℕ) (meant : Input) → IsAllOf left bytes → script bytes ≡ Some meant
+    → length bytes ≤ max_script → IsMeantBy left meant
+meant_by left bytes meant all says short =
+    of_all left bytes (λ (xs : List ℕ). (script xs ≡ Some meant) × (length xs ≤ max_script)) all (says, short)
+
 -- ---- the text of a script
 
 module _ {known : Known} {analyzer : Analyzer} {detail : Detail} {bytes text : List ℕ} {a b : Directories} (prints : Prints known analyzer detail bytes text a b) where
   what : Printed known analyzer prints.meant detail text a b
   what = printed known analyzer prints.meant detail text a b prints.builds
 
-  is_text : HoldsOneContents → IsTextOf known analyzer detail bytes a b text
-  is_text law = record {
+  is_text : (left : Option (List ℕ)) → IsAllOf left bytes → length bytes ≤ max_script → HoldsOneContents
+      → IsTextOf known analyzer detail left a b text
+  is_text left all short law = record {
     meant = prints.meant;
-    is_script = prints.is_script;
+    is_meant = meant_by left bytes prints.meant all prints.is_script short;
     text_of = record { builds = prints.builds; told = printed_text known analyzer prints.meant detail law text a b what };
   }
 
@@ -63,11 +76,6 @@ module _ {known : Known} {analyzer : Analyzer} {detail : Detail} {bytes text : L
 
   admits : first_of known analyzer (script bytes) ≡ None
   admits = ap (first_of known analyzer) prints.is_script ∙ what.built.admitted
-
--- a fact of all bytes that were left
-pub of_all : (left : Option (List ℕ)) (bytes : List ℕ) (P : List ℕ → Type 0) → IsAllOf left bytes → P bytes → IfSome left P
-of_all None bytes P all p = tt
-of_all (Some xs) bytes P all p = subst P all p
 
 all_is : (left : Option (List ℕ)) (bytes all : List ℕ) → IsAllOf left bytes → left ≡ Some all → bytes ≡ all
 all_is left bytes all is at = subst (λ (o : Option (List ℕ)). IsAllOf o bytes) at is
@@ -281,16 +289,14 @@ module _ {K : Type 0} {known : Known} {analyzer : Analyzer} {detail : Detail} {s
       → (Rose a.source.faults b.source.faults × (sink_after ≡ sink)
       × (b.directories.work ≡ a.directories.work) × (b.directories.output ≡ a.directories.output))
       ⊎ (Rose a.sink.faults b.sink.faults
-      × JobDoes (BuildsSome known analyzer detail) Stream a.directories b.directories
-      × IfSome a.source.left (λ bytes. GainsPart (IsTextOf known analyzer detail bytes a.directories b.directories) a.sink.written b.sink.written))
+      × GainsPart (IsTextOf known analyzer detail a.source.left a.directories b.directories) a.sink.written b.sink.written)
   ran_stream law at = by (exits r)
     where
       by : Exits known analyzer detail status sink sink_after a b
           → (Rose a.source.faults b.source.faults × (sink_after ≡ sink)
           × (b.directories.work ≡ a.directories.work) × (b.directories.output ≡ a.directories.output))
           ⊎ (Rose a.sink.faults b.sink.faults
-          × JobDoes (BuildsSome known analyzer detail) Stream a.directories b.directories
-          × IfSome a.source.left (λ bytes. GainsPart (IsTextOf known analyzer detail bytes a.directories b.directories) a.sink.written b.sink.written))
+          × GainsPart (IsTextOf known analyzer detail a.source.left a.directories b.directories) a.sink.written b.sink.written)
       by (x_read is rose takes same_sink none same) =
           inl (rose, same_sink, ap (λ (d : Directories). d.work) same, ap (λ (d : Directories). d.output) same)
       by (x_long is long takes same_sink none same) = absurd (cc (sym is ∙ at))
@@ -299,9 +305,7 @@ module _ {K : Type 0} {known : Known} {analyzer : Analyzer} {detail : Detail} {s
       by (x_failed bytes text is takes prints part rose later) =
           inr (
             rose,
-            (text, record { meant = prints.meant; builds = prints.builds }),
-            of_all a.source.left bytes (λ bytes. GainsPart (IsTextOf known analyzer detail bytes a.directories b.directories) a.sink.written b.sink.written) takes.all
-                (record { text = text; is_text = is_text prints law; appended = part }),
+            record { text = text; is_text = is_text prints a.source.left takes.all takes.short law; appended = part },
           )
       by (x_done bytes text is takes prints appends later) = absurd (cc (sym is ∙ at))
 
@@ -344,10 +348,10 @@ module _ {K : Type 0} {known : Known} {analyzer : Analyzer} {detail : Detail} {s
       by (x_done bytes text is takes prints appends later) = record { bytes = bytes; text = text; takes = takes; prints = prints; appends = appends }
 
   pub ran_done : HoldsOneContents → status ≡ Done
-      → IfSome a.source.left (λ bytes. (length bytes ≤ max_script) × Gains (IsTextOf known analyzer detail bytes a.directories b.directories) a.sink.written b.sink.written)
-  ran_done law at = let d = is_done at in
-      of_all a.source.left d.bytes (λ bytes. (length bytes ≤ max_script) × Gains (IsTextOf known analyzer detail bytes a.directories b.directories) a.sink.written b.sink.written) d.takes.all
-      (d.takes.short, record { text = d.text; is_text = is_text d.prints law; appended = d.appends })
+      → Gains (IsTextOf known analyzer detail a.source.left a.directories b.directories) a.sink.written b.sink.written
+  ran_done law at =
+      let d = is_done at in
+      record { text = d.text; is_text = is_text d.prints a.source.left d.takes.all d.takes.short law; appended = d.appends }
 
   pub ran_valid : status ≡ Done → IfSome a.source.left (IsValidScript (IsTrue a.directories.work.tells) known analyzer)
   ran_valid at = let d = is_done at in of_all a.source.left d.bytes _ d.takes.all (is_valid d.prints)

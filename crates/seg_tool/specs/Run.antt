@@ -1,5 +1,5 @@
 -- What a run of `build` prints, what it leaves in the directories, and why it is refused.
-use Rattle.std.specs.Prelude.{ℕ, ◌≡◌, ◌<◌, ◌≤◌, ◌⊎◌, List, [], ◌∷◌, ◌++◌, length, replicate, Bool, true, Option, Some, None, Ok, IsSome, unwrap_or, codes, IsTrue}
+use Rattle.std.specs.Prelude.{ℕ, ◌≡◌, ◌<◌, ◌≤◌, ◌⊎◌, List, [], ◌∷◌, ◌++◌, length, replicate, Bool, true, Option, Some, None, Ok, IsSome, unwrap_or, codes, IfSome, IsTrue}
 use Rattle.std.specs.FinMap.{empty}
 use Rattle.std.specs.Io.KnownBytes.{Appends}
 use Rattle.seg_common.specs.Streams.{AppendsPart}
@@ -69,6 +69,10 @@ max_script = 67108864
 abbrev pub IsScript : List ℕ → Type 0
 IsScript bytes = IsSome (script bytes) × (length bytes ≤ max_script)
 
+-- an input is meant: where it is told what bytes are left, they are a script of it, and not too many
+abbrev pub IsMeantBy : Option (List ℕ) → Input → Type 0
+IsMeantBy left input = IfSome left (λ bytes. (script bytes ≡ Some input) × (length bytes ≤ max_script))
+
 -- the bytes are no script, or too many
 abbrev pub IsNoScript : List ℕ → Type 0
 IsNoScript bytes = (script bytes ≡ None) ⊎ (max_script < length bytes)
@@ -84,10 +88,11 @@ pub record IsTextOfInput (known : Known) (analyzer : Analyzer) (detail : Detail)
   pub builds : BuildsText known analyzer input detail (Ok text) before after
   pub told : IsTrue before.work.tells → IsTrue before.output.tells → text ≡ build_text detail analyzer input
 
--- the bytes are a script, and this is the text of its indexes
-pub record IsTextOf (known : Known) (analyzer : Analyzer) (detail : Detail) (bytes : List ℕ) (before after : Directories) (text : List ℕ) : Type 0 where
+-- an input is meant by what is left of the source, and this is the text of its indexes
+pub record IsTextOf (known : Known) (analyzer : Analyzer) (detail : Detail) (left : Option (List ℕ))
+    (before after : Directories) (text : List ℕ) : Type 0 where
   pub meant : Input
-  pub is_script : script bytes ≡ Some meant
+  pub is_meant : IsMeantBy left meant
   pub text_of : IsTextOfInput known analyzer detail meant before after text
 
 -- the bytes are a script, and the files are its work index

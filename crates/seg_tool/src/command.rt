@@ -14,7 +14,7 @@ ghost use Rattle.seg_index_build.specs.TwoDirectories.{both};
 ghost use Rattle.seg_open.specs.Answers.{seen_as};
 ghost use Rattle.seg_script.specs.Script.{script};
 ghost use Rattle.seg_tool.specs.AfterCrash.{CrashLeaves};
-ghost use Rattle.seg_tool.specs.DirectoryCalls.{BuildDoes, BuildsSome, IsReady, JobDoes};
+ghost use Rattle.seg_tool.specs.DirectoryCalls.{BuildDoes, IsReady, JobDoes};
 ghost use Rattle.seg_tool.specs.Generating.{Generates};
 ghost use Rattle.seg_tool.specs.Indexes.{HasMergeableIndex, HasWholeIndex, HasWholeLiveSegments, IsMergedText, IsShownText};
 ghost use Rattle.seg_tool.specs.Jobs.{BuildsScript, GeneratesText, MergesText, ShowsText, WithStatus};
@@ -95,11 +95,10 @@ pub fn run<S: Source, K: Sink, F: Sink, Z: Analyzers, W: Directory, O: Directory
         (IsValidScript (IsTrue (W.state work.old).tells) (Z.knows analyzers.now) (Z.tokens_of analyzers.now))) }
 
     // What goes to the sink: the text of the segments that are opened once all is written.
-    ensures done { IfBuild (command_of words.now) (λ detail. result ≡ Status.Done → IfSome (S.left source.old)
-        (λ bytes. (length bytes ≤ max_script)
-        × Gains (IsTextOf (Z.knows analyzers.now) (Z.tokens_of analyzers.now) detail bytes
+    ensures done { IfBuild (command_of words.now) (λ detail. result ≡ Status.Done
+        → Gains (IsTextOf (Z.knows analyzers.now) (Z.tokens_of analyzers.now) detail (S.left source.old)
         (both (W.state work.old) (O.state output.old)) (both (W.state work.new) (O.state output.new)))
-        (K.written sink.old) (K.written sink.new))) }
+        (K.written sink.old) (K.written sink.new)) }
     // What `generate` prints and leaves, and why it ends otherwise, of the input that its number generates.
     ensures generated { IfGenerate (command_of words.now) (λ seed.
         Generates (Z.knows analyzers.now) (Z.tokens_of analyzers.now) Detail.Summary (generated seed) result
@@ -117,12 +116,9 @@ pub fn run<S: Source, K: Sink, F: Sink, Z: Analyzers, W: Directory, O: Directory
         (Rose (S.faults source.old) (S.faults source.new) × (sink.new ≡ sink.old)
         × (W.state work.new ≡ W.state work.old) × (O.state output.new ≡ O.state output.old))
         ⊎ (Rose (K.faults sink.old) (K.faults sink.new)
-        × JobDoes (BuildsSome (Z.knows analyzers.now) (Z.tokens_of analyzers.now) detail) Status.Stream
-        (both (W.state work.old) (O.state output.old)) (both (W.state work.new) (O.state output.new))
-        × IfSome (S.left source.old)
-        (λ bytes. GainsPart (IsTextOf (Z.knows analyzers.now) (Z.tokens_of analyzers.now) detail bytes
+        × GainsPart (IsTextOf (Z.knows analyzers.now) (Z.tokens_of analyzers.now) detail (S.left source.old)
         (both (W.state work.old) (O.state output.old)) (both (W.state work.new) (O.state output.new)))
-        (K.written sink.old) (K.written sink.new)))) }
+        (K.written sink.old) (K.written sink.new))) }
     ensures stream_merged { IfMerge (command_of words.now) (result ≡ Status.Stream →
         Rose (K.faults sink.old) (K.faults sink.new) × GainsPart (IsMergedText
         (both (W.state work.old) (O.state output.old)) (both (W.state work.new) (O.state output.new)))
