@@ -12,9 +12,9 @@ use Rattle.seg_model.specs.ValidInputs.{Known, input_refusal}
 use Rattle.seg_index_build.specs.TwoDirectories.{Directories}
 use Rattle.seg_index_build.proofs.Exports.{IsBuildError, RoseIn}
 use Rattle.seg_script.specs.Script.{script}
-use Rattle.seg_tool.specs.DirectoryCalls.{BuildDoes, BuildsSome, JobDoes}
+use Rattle.seg_tool.specs.DirectoryCalls.{BuildDoes, BuildsMeant, JobDoes}
 use Rattle.seg_tool.specs.Jobs.{AreEmpty, BuildsScript, BuildsText, NotBuilt, WithStatus, no_memory, no_script, of_input}
-use Rattle.seg_tool.specs.Run.{first_of, refusal_of, IsWhyRefused, IsWhyRefusedUntold}
+use Rattle.seg_tool.specs.Run.{first_of, refusal_of, IsMeantBy, IsWhyRefused, IsWhyRefusedUntold}
 use Rattle.seg_tool.specs.Statuses.{IfRefused, IfWritten, RefusedFor, status_of}
 use Rattle.seg_tool.specs.declared.status.Status.{Status}
 use Rattle.seg_tool.specs.declared.status.Status.TheVariants.{Done, Words, Script, Refused, Exists, Directory, Damaged, Stream, Memory}
@@ -74,9 +74,10 @@ module _ {known : Known} {analyzer : Analyzer} {detail : Detail} {bytes : List �
     builds = subst (λ (r : Result (List ℕ) TantivyError). BuildsText known analyzer meant detail r a b) (answer_of text w.answer w.is) w.does_so;
   }
 
-module _ (known : Known) (analyzer : Analyzer) (detail : Detail) (a b : Directories) where
+module _ (known : Known) (analyzer : Analyzer) (detail : Detail) (left : Option (List ℕ)) (a b : Directories) where
   -- a job that stops with an error is what is done
-  ends_as : (s : Status) → IsOfError s → JobDoes (BuildsSome known analyzer detail) s a b → BuildDoes known analyzer detail s a b
+  ends_as : (s : Status) → IsOfError s → JobDoes (BuildsMeant known analyzer detail left) s a b
+      → BuildDoes known analyzer detail left s a b
   ends_as (Refused e) of h = h
   ends_as (Exists e) of h = h
   ends_as (Directory e) of h = h
@@ -148,14 +149,15 @@ module _ {known : Known} {analyzer : Analyzer} {detail : Detail} {bytes : List �
   ended_whole told told_out (e_memory is same) x at = cc (sym is ∙ at)
   ended_whole told told_out (e_input meant e says is stops h) x at = undamaged_as e x (sym is ∙ at) (not_damaged known analyzer meant detail e a b told told_out h)
 
-  pub ended_does : Ends known analyzer detail bytes status a b → BuildDoes known analyzer detail status a b
-  ended_does (e_script is none same) = subst (λ (s : Status). BuildDoes known analyzer detail s a b) (sym is) same
-  ended_does (e_memory is same) = subst (λ (s : Status). BuildDoes known analyzer detail s a b) (sym is) (inl same)
-  ended_does (e_input meant e says is stops h) =
-      ends_as known analyzer detail a b status (subst IsOfError (sym is) (of_error e))
-      (job_as (BuildsSome known analyzer detail) a b status e is
+  pub ended_does : (left : Option (List ℕ)) → ((meant : Input) → script bytes ≡ Some meant → IsMeantBy left meant)
+      → Ends known analyzer detail bytes status a b → BuildDoes known analyzer detail left status a b
+  ended_does left of (e_script is none same) = subst (λ (s : Status). BuildDoes known analyzer detail left s a b) (sym is) same
+  ended_does left of (e_memory is same) = subst (λ (s : Status). BuildDoes known analyzer detail left s a b) (sym is) (inl same)
+  ended_does left of (e_input meant e says is stops h) =
+      ends_as known analyzer detail left a b status (subst IsOfError (sym is) (of_error e))
+      (job_as (BuildsMeant known analyzer detail left) a b status e is
       (memory_only (λ x. IsBuildError x a b) (λ none. none) (λ none. none) e (not_error known analyzer meant detail e a b h))
-      (record { meant = meant; builds = stops }))
+      (record { meant = meant; is_meant = of meant says; builds = stops }))
 
   -- the error of a directory was counted
   pub ended_fault : Ends known analyzer detail bytes status a b → (x : TantivyError) → status ≡ Directory x → RoseIn a b

@@ -14,7 +14,7 @@ use Rattle.seg_index_build.specs.TakenBatches.{gained}
 use Rattle.seg_index_build.specs.TwoDirectories.{Directories}
 use Rattle.seg_index_build.proofs.Exports.{RoseIn}
 use Rattle.seg_script.specs.Script.{script}
-use Rattle.seg_tool.specs.DirectoryCalls.{BuildDoes}
+use Rattle.seg_tool.specs.DirectoryCalls.{BuildDoes, BuildsMeant}
 use Rattle.seg_tool.specs.Jobs.{AreEmpty, BuildsScript}
 use Rattle.seg_tool.specs.Run.{Gains, GainsPart, HasMergedIndex, HasOutputIndex, HasWorkIndex, IsAdmitted, IsMeantBy, IsNoScript, IsScript, IsTextOf, IsValidScript, IsWhyRefused, IsWhyRefusedUntold, first_of, max_script}
 use Rattle.seg_tool.specs.Runs.{EndsJob, RunsBuild, SinkState, Takes, TakesAll, World, WritesText, failed, has_text, is_read, no_text, not_read, starved, too_long, written}
@@ -51,6 +51,14 @@ module _ {known : Known} {analyzer : Analyzer} {detail : Detail} {bytes text : L
     meant = prints.meant;
     is_meant = meant_by left bytes prints.meant all prints.is_script short;
     text_of = record { builds = prints.builds; told = printed_text known analyzer prints.meant detail law text a b what };
+  }
+
+  builds_meant : (left : Option (List ℕ)) → IsAllOf left bytes → length bytes ≤ max_script
+      → BuildsMeant known analyzer detail left (Ok text) a b
+  builds_meant left all short = record {
+    meant = prints.meant;
+    is_meant = meant_by left bytes prints.meant all prints.is_script short;
+    builds = prints.builds;
   }
 
   is_valid : IsValidScript (IsTrue a.work.tells) known analyzer bytes
@@ -259,18 +267,24 @@ module _ {K : Type 0} {known : Known} {analyzer : Analyzer} {detail : Detail} {s
       by (x_failed other text is takes prints part rose later) = admitted other text takes prints
       by (x_done other text is takes prints appends later) = admitted other text takes prints
 
-  pub ran_does : BuildDoes known analyzer detail status a.directories b.directories
+  pub ran_does : BuildDoes known analyzer detail a.source.left status a.directories b.directories
   ran_does = by (exits r)
     where
-      by : Exits known analyzer detail status sink sink_after a b → BuildDoes known analyzer detail status a.directories b.directories
-      by (x_read is rose takes same_sink none same) = subst (λ (s : Status). BuildDoes known analyzer detail s a.directories b.directories) (sym is) (inl same)
-      by (x_long is long takes same_sink none same) = subst (λ (s : Status). BuildDoes known analyzer detail s a.directories b.directories) (sym is) same
-      by (x_starved is takes same_sink none same) = subst (λ (s : Status). BuildDoes known analyzer detail s a.directories b.directories) (sym is) (inl same)
-      by (x_ended bytes takes ends same_sink none) = ended_does ends
+      by : Exits known analyzer detail status sink sink_after a b → BuildDoes known analyzer detail a.source.left status a.directories b.directories
+      by (x_read is rose takes same_sink none same) =
+          subst (λ (s : Status). BuildDoes known analyzer detail a.source.left s a.directories b.directories) (sym is) (inl same)
+      by (x_long is long takes same_sink none same) =
+          subst (λ (s : Status). BuildDoes known analyzer detail a.source.left s a.directories b.directories) (sym is) same
+      by (x_starved is takes same_sink none same) =
+          subst (λ (s : Status). BuildDoes known analyzer detail a.source.left s a.directories b.directories) (sym is) (inl same)
+      by (x_ended bytes takes ends same_sink none) =
+          ended_does a.source.left (λ meant says. meant_by a.source.left bytes meant takes.all says takes.short) ends
       by (x_failed bytes text is takes prints part rose later) =
-          subst (λ (s : Status). BuildDoes known analyzer detail s a.directories b.directories) (sym is) (inr (text, record { meant = prints.meant; builds = prints.builds }))
+          subst (λ (s : Status). BuildDoes known analyzer detail a.source.left s a.directories b.directories) (sym is)
+          (inr (text, builds_meant prints a.source.left takes.all takes.short))
       by (x_done bytes text is takes prints appends later) =
-          subst (λ (s : Status). BuildDoes known analyzer detail s a.directories b.directories) (sym is) (text, record { meant = prints.meant; builds = prints.builds })
+          subst (λ (s : Status). BuildDoes known analyzer detail a.source.left s a.directories b.directories) (sym is)
+          (text, builds_meant prints a.source.left takes.all takes.short)
 
   -- ---- the streams
 

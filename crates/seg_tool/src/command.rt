@@ -157,7 +157,7 @@ pub fn run<S: Source, K: Sink, F: Sink, Z: Analyzers, W: Directory, O: Directory
         (IsTrue (W.state work.old).tells → IsTrue (O.state output.old).tells
         → HasWholeLiveSegments (W.state work.old).files → (e : TantivyError) → result ≢ Status.Damaged e) }
     ensures calls { IfBuild (command_of words.now)
-        (λ detail. BuildDoes (Z.knows analyzers.now) (Z.tokens_of analyzers.now) detail result
+        (λ detail. BuildDoes (Z.knows analyzers.now) (Z.tokens_of analyzers.now) detail (S.left source.old) result
         (both (W.state work.old) (O.state output.old)) (both (W.state work.new) (O.state output.new))) }
     ensures generate_calls { IfGenerate (command_of words.now) (λ seed.
         JobDoes (GeneratesText (Z.knows analyzers.now) (Z.tokens_of analyzers.now) seed) result
