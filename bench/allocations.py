@@ -29,7 +29,7 @@ HERE = Path(__file__).resolve().parent
 
 # The first rule that the innermost frame meets decides, then those of the frame that called it, and so on.
 CAUSES = [
-    ('the script: its bytes, and an operation as a JSON tree', 'seg_script::(json_reading|operation_reading|pushing)'),
+    ('the script: its bytes, and an operation as a JSON tree', 'seg_script::(json_values|operation_list|pushed_item)'),
     ('documents and deletes out of it', 'seg_script'),
     ('tokens', 'seg_tokens::tokenizers'),
     ('the check of a document, with its JSON paths', 'seg_check|seg_paths'),
@@ -37,12 +37,12 @@ CAUSES = [
     ('terms and their occurrences', 'seg_terms::known_terms|seg_build::(field|path_tokens)'),
     ('stored bytes', 'seg_store'),
     ('the rest of adding a document: a map of its fields', 'add_pairs'),
-    ('the segment of a batch: terms in order, postings, columns, files', 'seg_build::finishing'),
+    ('the segment of a batch: terms in order, postings, columns, files', 'seg_build::finished_segment'),
     ('files as they are read', 'seg_directory::calls::read_file'),
     ('opening and checking', 'seg_open'),
-    ('merging', 'seg_index_build::filtered_merging'),
+    ('merging', 'seg_index_build::filtered_merge'),
     ('the text', 'seg_tool::reading_back'),
-    ('the script: its bytes, and an operation as a JSON tree', 'seg_tool::building|segments::run_in_folders'),
+    ('the script: its bytes, and an operation as a JSON tree', 'seg_tool::build_job|segments::run_in_folders'),
 ]
 PURPOSES = {'files as they are read': [('merge_filtered', ', for the merge'), ('reading_back', ', for the text')]}
 REST = 'all else'

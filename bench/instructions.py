@@ -18,18 +18,18 @@ from bench import PROGRAM, ROOM
 
 # The first rule decides that is found in the name of a function.
 CAUSES = [
-    ('the script read, an operation at a time as a JSON tree', 'seg_script::(json_|operation_)reading|^json::'),
+    ('the script read, an operation at a time as a JSON tree', 'seg_script::(json_values|operation_list)|^json::'),
     ('documents and deletes out of it', '^seg_script'),
     ('tokens', 'seg_tokens::tokenizers'),
     ('the check of a document, with its JSON paths', '^seg_(check|paths)'),
     ('column values', 'seg_fastfield|seg_column_writer::writer'),
     ('terms and their occurrences', 'seg_terms::known_terms|seg_build::(field|path_tokens)'),
     ('the rest of adding documents: the map of a document, stored bytes', 'add_pairs'),
-    ('the segment of a batch: terms in order, postings, columns, files', 'seg_build::finishing'),
+    ('the segment of a batch: terms in order, postings, columns, files', 'seg_build::finished_segment'),
     ('the rest of a batch: deletes, files written', 'seg_batches'),
     ('files read', 'seg_directory::calls::read_file'),
     ('opened and checked', '^seg_open'),
-    ('merged', 'seg_index_build::filtered_merging'),
+    ('merged', 'seg_index_build::filtered_merge'),
     ('the text', 'seg_tool::reading_back|^seg_(column_)?text'),
 ]
 REST = 'all else'

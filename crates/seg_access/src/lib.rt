@@ -30,9 +30,9 @@ mod no_items;
 mod owned_value;
 
 // A value of its own, made of any.
-mod leaf_to_owned;
+mod leaf_copy;
 mod readable;
-mod to_owned;
+mod value_copy;
 
 // Values and documents, read from pieces.
 mod document_deserialize;
@@ -53,6 +53,6 @@ pub use laws::pieces_spell_one_tree;
 pub use no_items::NoItems;
 pub use owned_value::{ArrayIter, ObjectMapIter};
 pub use pieces::{Piece, Pieces};
-pub use to_owned::to_owned_value;
 pub use value::{ReferenceValue, ReferenceValueLeaf, Value};
+pub use value_copy::to_owned_value;
 pub use value_deserialize::ValueDeserialize;

@@ -4,7 +4,7 @@ ghost use Rattle.std.specs.Iterator.{IsFinite, YieldsFirstBy};
 ghost use Rattle.seg_access.specs.ReadTrees.{tree_of_reading};
 ghost use Rattle.seg_values.specs.Tree.{Tree};
 
-use crate::leaf_to_owned::leaf_to_owned;
+use crate::leaf_copy::leaf_to_owned;
 use crate::value::{ReferenceValue, Value};
 use seg_values::OwnedValue;
 use std::alloc::{AllocError, Global};

@@ -7,7 +7,7 @@ ghost use Rattle.seg_batches.specs.AppliedDeletes.{IsTold, KeepsDeletes, left_by
 ghost use Rattle.seg_batches.specs.BatchSegments.{AreWhole, FindsLeft};
 ghost use Rattle.seg_batches.specs.DeleteCursors.{SkipsEarlier, passed_below};
 
-use crate::applying::apply_deletes;
+use crate::applied_deletes::apply_deletes;
 use crate::laws::applied_deletes_leave_the_alive;
 use crate::term_target::TermTarget;
 use crate::{DeleteCursor, DeleteQueue, DocToOpstampMapping, Opstamp};

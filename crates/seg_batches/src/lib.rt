@@ -35,31 +35,31 @@ mod term_documents;
 mod term_target;
 
 // Deletes, applied to a segment.
-mod applying;
+mod applied_deletes;
+mod deleted_documents;
 mod laws;
-mod removing;
 
 // One batch, in memory.
 mod batch_alive;
-mod batch_indexing;
-mod batch_making;
+mod indexed_batch;
+mod made_batch;
 
 // All batches, in a directory.
-mod alive_writing;
-mod batches_writing;
-mod listing;
+mod alive_files;
+mod listed_segments;
+mod written_batches;
 mod written_segment;
 
-pub use alive_writing::write_alive_files;
-pub use applying::apply_deletes;
-pub use batches_writing::write_batches;
+pub use alive_files::write_alive_files;
+pub use applied_deletes::apply_deletes;
 pub use delete_cursor::DeleteCursor;
 pub use delete_queue::DeleteQueue;
 pub use delete_target::DeleteTarget;
 pub use doc_opstamp_mapping::DocToOpstampMapping;
 pub use laws::applied_deletes_leave_the_alive;
-pub use listing::list_segments;
+pub use listed_segments::list_segments;
 pub use operation::{DeleteOperation, Opstamp};
 pub use queue_laws::skipping_finds_the_first;
 pub use term_target::TermTarget;
+pub use written_batches::write_batches;
 pub use written_segment::WrittenSegment;

@@ -7,7 +7,7 @@ ghost use Rattle.seg_build.specs.FieldsByValue.{fresh};
 ghost use Rattle.seg_build.specs.WritableTerms.{CanBeWritten};
 
 use crate::field::FieldPostings;
-use crate::sorted::{SortedTerms, sort_terms};
+use crate::sorted_terms::{SortedTerms, sort_terms};
 use seg_norms::FieldNormsWriter;
 use seg_postings::AskedKind;
 use seg_values::FieldEntry;

@@ -33,7 +33,7 @@ mod value_terms;
 
 // The terms of a field in byte order.
 mod ordered_field;
-mod sorted;
+mod sorted_terms;
 
 // All fields, with the lengths of documents, and how much memory they take.
 mod fields;
@@ -41,16 +41,16 @@ mod lengths;
 mod usage;
 
 // What the files of a segment are to hold.
-mod filling;
 mod laws;
 mod norms_file;
+mod serializer_contents;
 mod terms_files;
-mod writing;
+mod written_terms;
 
 // The writer of a segment.
 mod add_operation;
-mod adding;
-mod finishing;
+mod added_values;
+mod finished_segment;
 mod memory_segment;
 mod segment_writer;
 mod writer_parts;
@@ -66,4 +66,4 @@ pub use memory_segment::MemorySegment;
 pub use seg_terms::{Hit, first_run};
 pub use segment_writer::SegmentWriter;
 pub use single_segment_index_writer::SingleSegmentIndexWriter;
-pub use sorted::SortedTerms;
+pub use sorted_terms::SortedTerms;

@@ -17,7 +17,7 @@ ghost use Rattle.seg_build.specs.PostingsTotals.{TotalsAreCounts};
 ghost use Rattle.seg_check.specs.WriterStart.{IsStartError, start_refusal};
 
 use crate::add_operation::{AddOperation, Opstamp};
-use crate::finishing::{finish, memory_segment};
+use crate::finished_segment::{finish, memory_segment};
 use crate::memory_segment::MemorySegment;
 use crate::usage::length_fields;
 use crate::writer_parts::WriterParts;

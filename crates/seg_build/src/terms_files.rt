@@ -3,7 +3,7 @@ ghost use Rattle.std.specs.Prelude.{◌≡◌, length, IfOk, IsSomeAnd};
 ghost use Rattle.seg_build.specs.SerializerContents.{HoldFields};
 
 use crate::fields::IndexedFields;
-use crate::writing::write_terms;
+use crate::written_terms::write_terms;
 use seg_postings::InvertedIndexSerializer;
 use seg_segment::{TermWriter, TermsByField, write_fields};
 use seg_values::{Field, Schema};

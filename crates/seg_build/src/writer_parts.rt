@@ -4,7 +4,7 @@ ghost use Rattle.seg_model.specs.Fields.{Analyzer};
 ghost use Rattle.seg_model.specs.ValidInputs.{names_fit};
 
 use crate::add_operation::Opstamp;
-use crate::adding::add_values;
+use crate::added_values::add_values;
 use crate::field::FieldPostings;
 use crate::fields::new_fields;
 use crate::lengths::record_lengths;

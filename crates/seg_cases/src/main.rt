@@ -19,13 +19,13 @@
 // Cases: a script, what comes of it, and calls that fail.
 mod case;
 mod difference;
-mod failing;
+mod failing_calls;
 mod failure;
-mod running;
+mod step_run;
 
 // Files that are damaged, and how many of them are refused.
 mod damage;
-mod damaging;
+mod damage_case;
 mod data_file;
 mod field;
 mod reader;
@@ -33,13 +33,13 @@ mod segment_file;
 mod tally;
 
 use case::{Case, sorted_names};
-use damaging::print_damage;
+use damage_case::print_damage;
 use difference::first_difference;
-use failing::first_unexpected;
+use failing_calls::first_unexpected;
 use failure::Failure;
-use running::Directories;
 use std::fs;
 use std::rt::Files;
+use step_run::Directories;
 
 fn main(rt: HostRuntime) -> Result<(), Failure> {
     for folder in sorted_names(&rt, ".")? {

@@ -1,7 +1,7 @@
 //! A merge of an index, of which a file of the segment has other bytes.
 
 use crate::failure::Failure;
-use crate::running::{directory, outcome};
+use crate::step_run::{directory, outcome};
 use crate::tally::Outcome;
 use seg_common::{FileName, SegmentComponent, SegmentId};
 use seg_directory::MemoryDirectory;

@@ -22,22 +22,22 @@
 mod laws;
 
 // The table of a file.
+mod column_table;
 mod room;
-mod table_writing;
 
 // The distinct terms of a column, by their numbers and in byte order.
-mod dictionary_writing;
+mod column_dictionary;
 mod term;
 mod term_order;
 mod term_table;
 
 // The bytes of a column.
-mod column_writing;
+mod column_bytes;
 mod row_number;
 mod same_ends;
 
 // The columns that a schema declares, and what cuts their texts.
-mod declared;
+mod declared_columns;
 mod fast_tokenizers;
 
 // The paths at which JSON fields may have columns.
@@ -47,19 +47,19 @@ mod path_start;
 mod path_starts;
 
 // The check of a file by a schema.
-mod opening;
-mod suiting;
+mod opened_columns;
+mod schema_columns;
 mod values;
 
-pub use column_writing::{put_numbers, put_ordered_terms};
-pub use declared::declared_type;
-pub use dictionary_writing::put_dictionary;
+pub use column_bytes::{put_numbers, put_ordered_terms};
+pub use column_dictionary::put_dictionary;
+pub use column_table::{put_entry, put_table, type_code};
+pub use declared_columns::declared_type;
 pub use fast_tokenizers::{column_tokenizer, lack_tokenizers};
 pub use laws::{bytes_columns_read_back, files_read_back, str_columns_read_back};
-pub use opening::open_columns;
+pub use opened_columns::open_columns;
 pub use room::sum;
 pub use row_number::RowNumber;
 pub use same_ends::put_same_ends;
-pub use table_writing::{put_entry, put_table, type_code};
 pub use term_order::TermOrder;
 pub use term_table::TermTable;

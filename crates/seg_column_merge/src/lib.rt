@@ -22,8 +22,8 @@ mod table_order;
 mod decisions;
 mod kept_count;
 mod merge;
+mod merge_plan;
 mod planned_group;
-mod planning;
 mod room;
 
 // The bytes of the columns, and of the file.
@@ -33,16 +33,16 @@ mod term_columns;
 mod value_columns;
 
 // The whole.
+mod columnar_merge;
 mod laws;
-mod merging;
 mod sorted_merge;
 
 // The columns of segments of which some documents are alive.
 mod live_column_laws;
 mod live_declarations;
 
+pub use columnar_merge::merge_columnar;
 pub use laws::merged_rows_by_kind;
 pub use live_column_laws::live_columns_join;
 pub use live_declarations::declared_columns;
-pub use merging::merge_columnar;
 pub use seg_column_file::MergeRowOrder;

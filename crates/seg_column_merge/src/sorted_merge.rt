@@ -9,9 +9,9 @@ ghost use Rattle.seg_column_merge.specs.Plans.{ArePlanned, IsPlanned};
 
 use crate::group_column::put_group;
 use crate::merge::Merge;
+use crate::merge_plan::planned_groups;
 use crate::merged_file::MergedFile;
 use crate::planned_group::{PlannedGroup, rows_between};
-use crate::planning::planned_groups;
 use seg_column_file::OrderedRows;
 use seg_column_merge_parts::TableRow;
 use seg_columns::ColumnError;

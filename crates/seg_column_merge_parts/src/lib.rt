@@ -27,7 +27,7 @@ mod tables;
 
 // The terms that kept rows have, in one dictionary.
 mod dictionaries;
-mod dictionary_putting;
+mod merged_dictionary;
 mod used_ordinals;
 mod used_terms;
 
@@ -38,21 +38,21 @@ mod source;
 mod value_bytes;
 
 // The bytes of a column that has rows of several files.
-mod column_joining;
 mod column_sources;
+mod joined_column;
 
 // What holds of all.
 mod laws;
 
-pub use column_joining::put_joined;
 pub use column_sources::{no_sources, number_sources, source_of};
 pub use dictionaries::MergedTerms;
-pub use dictionary_putting::put_terms_dictionary;
 pub use head_heap::HeadHeap;
+pub use joined_column::put_joined;
 pub use kept_values::{has_kept_value, with_kept_numbers};
 pub use laws::{
     joined_columns_read_back, kept_values_by_places, ranges_tell_types, written_numbers_keep_values,
 };
+pub use merged_dictionary::put_terms_dictionary;
 pub use number_map::NumberMap;
 pub use number_range::NumberRange;
 pub use source::{NumberSource, Source};

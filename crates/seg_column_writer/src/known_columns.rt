@@ -9,8 +9,8 @@ ghost use Rattle.seg_column_writer.specs.ColumnRecords.{with_type};
 ghost use Rattle.seg_column_writer.specs.RecordingRules.{CanDeclare, CanPush, CanPushTerm, pushed, pushed_term};
 ghost use Rattle.seg_column_writer.specs.TypedColumns.{AreReady, IsRecordedFile, IsWithin, refusal_of};
 
+use crate::column_file::write_file;
 use crate::column_name::{ColumnName, NameParts};
-use crate::file_writing::write_file;
 use crate::recorded_column::RecordedColumn;
 use crate::row_value::RowValue;
 use crate::typed_column::{lack_types, sort_columns, typed_columns};

@@ -28,18 +28,18 @@ mod recorded_column;
 mod row_value;
 
 // Its bytes.
-mod column_encoding;
-mod column_putting;
+mod column_bytes;
+mod encoded_values;
 
 // The columns so far, and the whole file.
+mod column_file;
 mod column_name;
-mod file_writing;
 mod known_columns;
 mod typed_column;
 
 // The writer and its calls, by the id of a column and by its name.
-mod column_recording;
-mod named_recording;
+mod values_by_column;
+mod values_by_name;
 mod writer;
 
 pub use numerical_value::NumericalValue;

@@ -13,7 +13,7 @@ ghost use Rattle.seg_values.specs.ValueTrees.{tree_of};
 
 use crate::path_columns::PathColumns;
 use crate::place::Place;
-use crate::placed_recording::{put_address, put_bool, put_bytes, put_moment, put_number, put_text};
+use crate::placed_values::{put_address, put_bool, put_bytes, put_moment, put_number, put_text};
 use crate::row_recorder::RowRecorder;
 use seg_column_format::column_tokenizer;
 use seg_column_writer::{ColumnarWriter, NumericalValue};

@@ -19,14 +19,14 @@
 #![tactic(auto)]
 
 // What a schema declares, and what is known of a column before it is looked up.
-mod declaring;
 mod kind_columns;
 mod path_columns;
 mod place;
+mod schema_columns;
 
 // Values, leaves, trees and documents, recorded.
 mod leaf;
-mod placed_recording;
+mod placed_values;
 mod row_recorder;
 mod tree;
 
@@ -42,7 +42,7 @@ mod facet_reader;
 mod handles;
 mod lenient;
 mod readers;
-mod typed;
+mod typed_columns;
 
 pub use facet_reader::FacetReader;
 pub use not_available::FastFieldNotAvailableError;

@@ -13,9 +13,9 @@ ghost use Rattle.seg_fastfield.specs.PathNumbers.{AreColumnsOf};
 ghost use Rattle.seg_fastfield.specs.MemoryUsage.{saturated, total};
 ghost use Rattle.seg_fastfield.specs.FastFieldWriters.{Holds, error_of, refusal_of};
 
-use crate::declaring::{declared_columns, field_columns};
 use crate::path_columns::PathColumns;
 use crate::row_recorder::RowRecorder;
+use crate::schema_columns::{declared_columns, field_columns};
 use seg_column_format::lack_tokenizers;
 use seg_column_writer::{ColumnId, ColumnarWriter};
 use seg_columns::ColumnError;

@@ -3,7 +3,7 @@ ghost use Rattle.std.specs.Prelude.{◌≤◌};
 ghost use Rattle.seg_directory.specs.DiskCalls.{calls_of};
 
 use crate::directories::{failing, memory};
-use crate::running::{outcome, script_of_titles};
+use crate::word_run::{outcome, script_of_titles};
 use seg_directory::{CallKind, FailingCall, MemoryDirectory, Pick};
 use std::alloc::{AllocError, Global};
 

@@ -16,7 +16,7 @@
 
 // What the tests share.
 #[cfg(test)]
-mod running;
+mod word_run;
 
 // What only code shows.
 #[cfg(test)]

@@ -2,7 +2,7 @@
 
 use crate::directories::memory;
 use crate::odd_directory::OddDirectory;
-use crate::running::{both_segments, outcome, script_of_titles};
+use crate::word_run::{both_segments, outcome, script_of_titles};
 use seg_common::{FileName, SegmentComponent, SegmentId};
 use seg_directory::Directory;
 use std::alloc::{AllocError, Global};

@@ -1,7 +1,7 @@
 //! Streams that fail in the middle of a build.
 
 use crate::directories::memory;
-use crate::running::{Limits, WHOLE, both_segments, run_word, script_of_titles, streams_over};
+use crate::word_run::{Limits, WHOLE, both_segments, run_word, script_of_titles, streams_over};
 use std::alloc::{AllocError, Global};
 
 /// Whether bytes are the front, of this length, of the text of an index without documents.

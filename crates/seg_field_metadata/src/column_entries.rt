@@ -8,7 +8,7 @@ ghost use Rattle.seg_field_metadata.specs.ColumnMetadata.{ColumnsSay, IsStored};
 ghost use Rattle.seg_field_metadata.specs.ListedNames.{EscapedName, HasNames, column_name};
 
 use crate::FieldMetadata;
-use crate::listed::EscapedNames;
+use crate::listed_names::EscapedNames;
 use seg_column_file::ColumnarReader;
 use seg_columns::DynamicColumnHandle;
 use seg_common::ColumnType;

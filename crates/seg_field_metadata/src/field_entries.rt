@@ -11,7 +11,7 @@ ghost use Rattle.seg_field_metadata.specs.ListedNames as listed;
 ghost use Rattle.seg_field_metadata.specs.IndexedFieldMetadata.{Adds, FieldSays, indexed_entry, sizes_of};
 
 use crate::FieldMetadata;
-use crate::listed::{EscapedNames, listed_name};
+use crate::listed_names::{EscapedNames, listed_name};
 use seg_common::ByteCount;
 use seg_postings::{InvertedIndexFieldSpace, InvertedIndexReader};
 use seg_values::{FieldEntry, FieldKind, FieldType};

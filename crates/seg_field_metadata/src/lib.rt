@@ -20,12 +20,12 @@
 // What is known of a field, and of the fields of several segments.
 mod field_metadata;
 mod laws;
-mod metadata_merging;
+mod merged_metadata;
 
 // What a segment says of its fields.
 mod column_entries;
 mod field_entries;
-mod listed;
+mod listed_names;
 mod metadata;
 
 // The sizes are the lengths of the parts that a field has in the files.
@@ -33,6 +33,6 @@ mod size_laws;
 
 pub use field_metadata::FieldMetadata;
 pub use laws::merging_in_any_order;
+pub use merged_metadata::merge_field_meta_data;
 pub use metadata::fields_metadata;
-pub use metadata_merging::merge_field_meta_data;
 pub use size_laws::sizes_are_lengths;

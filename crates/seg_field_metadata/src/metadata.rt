@@ -10,7 +10,7 @@ ghost use Rattle.seg_field_metadata.specs.SegmentMetadata.{FieldsSay, MetadataFa
 
 use crate::column_entries::column_entries;
 use crate::field_entries::add_field;
-use crate::listed::EscapedNames;
+use crate::listed_names::EscapedNames;
 use crate::{FieldMetadata, merge_field_meta_data};
 use seg_open::SegmentReader;
 use seg_values::{Field, FieldEntry, TResult, TantivyError};

@@ -10,7 +10,7 @@ ghost use Rattle.seg_index_build.specs.MergeAnswers.{IsMergedAs};
 ghost use Rattle.seg_index_build.specs.MergedSegments.{AreMerged, MergesLive};
 ghost use Rattle.seg_index_build.specs.TwoDirectories.{both};
 
-use crate::filtered_merging::merge_filtered_segments;
+use crate::filtered_merge::merge_filtered_segments;
 use crate::held_input::{HeldInput, split_ids};
 use crate::index_files::begin_index;
 use crate::work_index::fill_work_index;

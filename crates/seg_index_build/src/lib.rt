@@ -25,24 +25,24 @@ mod metas;
 mod payload;
 
 // Segments, merged into an index of one.
-mod filtered_merging;
+mod filtered_merge;
 
 // An index, built of operations.
-mod building;
 mod held_input;
+mod index_build;
 mod indexes;
 mod work_index;
 
 // Indices, merged into one.
-mod index_merging;
-mod source_listing;
-mod source_opening;
+mod index_merge;
+mod source_readers;
+mod source_segments;
 
 // What holds of all.
 mod laws;
 
-pub use building::{build_index, build_index_of};
-pub use filtered_merging::{check_segments, fill_output, live_segments, merge_filtered_segments};
+pub use filtered_merge::{check_segments, fill_output, live_segments, merge_filtered_segments};
+pub use index_build::{build_index, build_index_of};
 pub use index_files::begin_index;
-pub use index_merging::merge_indices;
+pub use index_merge::merge_indices;
 pub use laws::answers_determine_parts;

@@ -7,10 +7,10 @@ ghost use Rattle.seg_open.specs.OpenSegment.{kept_count};
 ghost use Rattle.seg_merger.specs.DocIdMapping.{mapping_of};
 ghost use Rattle.seg_merger.specs.Merger.{IsMergerOf, OpensMerger, WritesJoined, refusal_of, too_many};
 
-use crate::counting::num_joined_docs;
 use crate::doc_id_mapping::SegmentDocIdMapping;
 use crate::filters::{filters_fit, no_filters};
-use crate::segment_joining::join_into;
+use crate::joined_count::num_joined_docs;
+use crate::joined_segment::join_into;
 use seg_bits::AliveBitSet;
 use seg_columns::ColumnError;
 use seg_directory::Directory;

@@ -18,28 +18,28 @@
 #![tactic(auto)]
 
 // How many documents there are, and where they come from.
-mod counting;
 mod doc_id_mapping;
+mod joined_count;
 
 // Stored documents, and lengths.
-mod norms_joining;
-mod store_joining;
+mod joined_norms;
+mod joined_store;
 
 // Terms, by the ids that documents get.
+mod joined_terms;
 mod live_tokens;
 mod new_ids;
 mod numbered_part;
-mod term_merging;
+mod term_merge;
 mod term_source;
-mod terms_joining;
 
 // Columns.
-mod columns_joining;
+mod joined_columns;
 
 // The whole, and the merger.
 mod filters;
 mod index_merger;
-mod segment_joining;
+mod joined_segment;
 
 pub use doc_id_mapping::{MappingType, SegmentDocIdMapping};
 pub use filters::filters_fit;

@@ -24,14 +24,14 @@
 mod open_error;
 
 // The three files that have a part for each indexed field.
-mod dictionaries_opening;
-mod fields_opening;
-mod postings_opening;
+mod opened_dictionaries;
+mod opened_fields;
+mod opened_postings;
 mod term_files;
 
 // The other three, and the alive file.
-mod alive_reading;
-mod parts_opening;
+mod alive_set;
+mod opened_parts;
 
 // A segment that is open, and what it has.
 mod alive_docs;
@@ -42,11 +42,11 @@ mod segment_reader;
 mod space_usage;
 
 // Several segments.
-mod segments_opening;
+mod opened_segments;
 
 pub use alive_docs::AliveDocs;
 pub use file_sizes::FileSizes;
 pub use open_error::OpenError;
+pub use opened_segments::open_segments;
 pub use segment_reader::SegmentReader;
-pub use segments_opening::open_segments;
 pub use space_usage::SegmentSpaceUsage;

@@ -10,8 +10,8 @@ ghost use Rattle.seg_open.specs.ReaderParts.{IsIndexOf, IsSpaceOf};
 ghost use Rattle.seg_store.specs.Cache.{unused};
 
 use crate::alive_docs::AliveDocs;
-use crate::alive_reading::num_deleted;
-use crate::fields_opening::share_fields;
+use crate::alive_set::num_deleted;
+use crate::opened_fields::share_fields;
 use crate::segment_reader::SegmentReader;
 use crate::space_usage::SegmentSpaceUsage;
 use seg_bits::AliveBitSet;

@@ -9,13 +9,13 @@ ghost use Rattle.seg_open.specs.Disagreement.{IsWhyNotOpen};
 ghost use Rattle.seg_open.specs.OpenSegment.{LacksSome, alive_of, contents_of};
 ghost use Rattle.seg_open.specs.OpeningSteps.{HasFilesOf, IsNoDamage, Opens, OpensFiles};
 
-use crate::alive_reading::{cut_by, read_deletes};
-use crate::dictionaries_opening::open_dictionaries;
-use crate::fields_opening::open_fields;
+use crate::alive_set::{cut_by, read_deletes};
 use crate::file_sizes::FileSizes;
 use crate::open_error::OpenError;
-use crate::parts_opening::{open_fast_fields, open_norms, open_store};
-use crate::postings_opening::open_postings;
+use crate::opened_dictionaries::open_dictionaries;
+use crate::opened_fields::open_fields;
+use crate::opened_parts::{open_fast_fields, open_norms, open_store};
+use crate::opened_postings::open_postings;
 use seg_bits::AliveBitSet;
 use seg_common::{SegmentComponent, SegmentId, Shared};
 use seg_directory::Directory;

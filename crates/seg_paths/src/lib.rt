@@ -31,7 +31,7 @@ mod by_path;
 
 // The order of the paths.
 mod offset;
-mod placing;
+mod placed_ranks;
 mod ranks;
 mod subtrees;
 

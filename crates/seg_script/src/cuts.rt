@@ -5,7 +5,7 @@ ghost use Rattle.seg_meta.specs.JsonReaders.{natural, list_of};
 ghost use Rattle.seg_script_values.specs.OptionalMembers.{optional};
 
 use crate::error::ScriptError;
-use crate::pushing::push;
+use crate::pushed_item::push;
 use serde_json::Value;
 use std::alloc::Global;
 

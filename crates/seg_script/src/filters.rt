@@ -7,7 +7,7 @@ ghost use Rattle.seg_script.specs.Filters.{filter_from};
 
 use crate::error::ScriptError;
 use crate::kept_documents::{alive_set, ascends};
-use crate::pushing::push;
+use crate::pushed_item::push;
 use seg_bits::AliveBitSet;
 use seg_meta::has_only;
 use seg_script_values::small_at;

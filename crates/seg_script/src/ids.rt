@@ -8,7 +8,7 @@ ghost use Rattle.seg_script_values.specs.OptionalMembers.{optional};
 ghost use Rattle.seg_script.specs.Script.{id_of};
 
 use crate::error::ScriptError;
-use crate::pushing::push;
+use crate::pushed_item::push;
 use seg_common::SegmentId;
 use serde_json::Value;
 use std::alloc::{AllocError, Global};

@@ -18,10 +18,10 @@
 mod error;
 
 // JSON values off a text, numbers off their tokens, and items of lists.
-mod json_reading;
+mod json_values;
 mod numbers;
 mod parts;
-mod pushing;
+mod pushed_item;
 
 // The schema and the settings.
 mod fields;
@@ -29,7 +29,7 @@ mod settings;
 
 // The operations: what is added, and what deletes name.
 mod deletes;
-mod operation_reading;
+mod operation_list;
 mod operations;
 mod pairs;
 mod reading;

@@ -9,7 +9,7 @@ ghost use Rattle.seg_script.specs.Operations.{operation_named, operation_from};
 use crate::deletes::term_from;
 use crate::error::ScriptError;
 use crate::pairs::document_from;
-use crate::pushing::push;
+use crate::pushed_item::push;
 use seg_check::UserOperation;
 use seg_script_values::only_member;
 use seg_values::{Schema, TantivyDocument, Term};

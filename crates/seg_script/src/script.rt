@@ -12,9 +12,7 @@ use crate::error::ScriptError;
 use crate::fields::schema_from;
 use crate::filters::filters_at;
 use crate::ids::ids_at;
-use crate::operation_reading::{
-    begin_object, end_object, is_over, members_before, read_operations,
-};
+use crate::operation_list::{begin_object, end_object, is_over, members_before, read_operations};
 use crate::operations::operations_from;
 use crate::settings::settings_at;
 use json::{Reader, Scratch};

@@ -29,7 +29,7 @@ mod laws;
 
 // Values of documents.
 mod leaves;
-mod tokenized;
+mod tokenized_texts;
 mod trees;
 
 // The terms that deletes name.
@@ -42,5 +42,5 @@ pub use facet_texts::facet_from;
 pub use laws::{addresses_are_texts, paths_are_facets};
 pub use members::{flag_or, small_at, small_or, take_member};
 pub use parts::{only_member, text_of};
-pub use tokenized::tokenized_from;
+pub use tokenized_texts::tokenized_from;
 pub use trees::tree_from;

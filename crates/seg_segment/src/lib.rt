@@ -19,9 +19,9 @@
 #![tactic(auto)]
 
 // The terms and the lengths of the fields, written field by field.
-mod fields_writing;
-mod lengths_writing;
+mod lengths_by_field;
 mod term_writer;
+mod terms_by_field;
 
 // The six files, and the serializer that makes them.
 mod component_files;
@@ -31,9 +31,9 @@ mod segment_serializer;
 // What holds of all.
 mod laws;
 
-pub use fields_writing::{TermsByField, write_fields};
 pub use laws::{files_hold_one_contents, files_spell_one_contents, held_files_spell};
-pub use lengths_writing::{LengthsByField, write_lengths};
+pub use lengths_by_field::{LengthsByField, write_lengths};
 pub use segment_files::{MAX_DOCUMENTS, SegmentFiles};
 pub use segment_serializer::SegmentSerializer;
 pub use term_writer::TermWriter;
+pub use terms_by_field::{TermsByField, write_fields};

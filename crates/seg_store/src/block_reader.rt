@@ -4,8 +4,8 @@ ghost use Rattle.std.specs.Option.{option_and_then};
 ghost use Rattle.seg_doc_bytes.specs.StoredDocument as documents;
 ghost use Rattle.seg_store.specs.Block.{is_block, documents_in};
 
+use crate::document_places::place_in_block;
 use crate::error::StoreError;
-use crate::locating::place_in_block;
 use seg_doc_bytes::document_of;
 use seg_values::TantivyDocument;
 use std::alloc::Global;

@@ -36,7 +36,7 @@ mod store_check;
 // What is read.
 mod block_reader;
 mod checkpoints;
-mod locating;
+mod document_places;
 mod raw_docs;
 mod store_reader;
 

@@ -5,7 +5,7 @@ ghost use Rattle.seg_store.specs.AliveDocuments.{alive_at, alive_behind, IsFirst
 ghost use Rattle.seg_store.specs.Store.{is_store, blocks_of, raw_documents, document_count};
 
 use crate::checkpoint::checkpoint_at;
-use crate::locating::{checkpoint_table, place_in_store};
+use crate::document_places::{checkpoint_table, place_in_store};
 use seg_bits::ReadOnlyBitSet;
 use seg_common::OwnedBytes;
 use std::iter::FusedIterator;

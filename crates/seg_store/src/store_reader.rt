@@ -12,10 +12,10 @@ ghost use Rattle.seg_store.specs.WriterBlocks.{block_bytes};
 
 use crate::checkpoint::{CHECKPOINT_BYTES, Checkpoint, checkpoint_at};
 use crate::checkpoints::Checkpoints;
-use crate::error::StoreError;
-use crate::locating::{
+use crate::document_places::{
     self, block_place, blocks_and_table, checkpoint_table, document_place, first_document,
 };
+use crate::error::StoreError;
 use crate::raw_docs::RawDocs;
 use crate::store_check::is_store;
 use seg_bits::ReadOnlyBitSet;
@@ -135,7 +135,7 @@ impl StoreReader {
         ensures from { document_count (take result self.now) ≤ doc }
         ensures to { doc < document_count (take (result + 1) self.now) }
     {
-        locating::block_number(self.bytes.as_slice(), doc)
+        document_places::block_number(self.bytes.as_slice(), doc)
     }
 
     /// The number of the first document of a block.

@@ -1,23 +1,23 @@
 //! What an index of one segment says of its fields, and what comes of merging indices.
 
-mod described;
+mod described_fields;
 mod indices;
 mod known_parts;
-mod merging;
+mod merged_indices;
 mod metadata;
-mod refusing;
+mod refused_indices;
 mod sizes;
-mod stacking;
+mod stacked_blocks;
 mod work_index;
 
 use crate::failure::Failure;
 
 pub(crate) fn print_merges<R: Print + AllocGlobal>(rt: &R) -> Result<(), Failure> {
     println!(rt; "# merges")?;
-    described::print_described(rt)?;
+    described_fields::print_described(rt)?;
     sizes::print_sizes(rt)?;
-    merging::print_merging(rt)?;
-    stacking::print_stacking(rt)?;
-    refusing::print_refusing(rt)?;
+    merged_indices::print_merging(rt)?;
+    stacked_blocks::print_stacking(rt)?;
+    refused_indices::print_refusing(rt)?;
     known_parts::print_known_parts(rt)
 }

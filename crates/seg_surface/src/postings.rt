@@ -7,13 +7,13 @@ mod frequencies;
 mod json_spaces;
 mod raw_documents;
 mod stores;
-mod writing;
+mod written_field;
 
 use crate::failure::Failure;
 
 pub(crate) fn print_postings<R: Print + AllocGlobal>(rt: &R) -> Result<(), Failure> {
     println!(rt; "# postings, alive documents, stores")?;
-    writing::print_writing(rt)?;
+    written_field::print_writing(rt)?;
     bit_sets::print_bit_sets(rt)?;
     alive::print_alive(rt)?;
     json_spaces::print_json_spaces(rt)?;

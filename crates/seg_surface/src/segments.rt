@@ -2,19 +2,19 @@
 
 mod columns;
 mod components;
-mod joining;
+mod doc_id_mapping;
 mod mapping_types;
-mod reading;
+mod reader_answers;
 mod titles;
-mod writing;
+mod writer_answers;
 
 use crate::failure::Failure;
 
 pub(crate) fn print_segments<R: Print + AllocGlobal>(rt: &R) -> Result<(), Failure> {
     println!(rt; "# segments")?;
-    writing::print_writing(rt)?;
-    reading::print_reading(rt)?;
-    joining::print_joining(rt)?;
+    writer_answers::print_writing(rt)?;
+    reader_answers::print_reading(rt)?;
+    doc_id_mapping::print_joining(rt)?;
     columns::print_columns(rt)?;
     mapping_types::print_mapping_types(rt)?;
     components::print_components(rt)

@@ -3,7 +3,7 @@ ghost use Rattle.std.specs.Prelude.{◌≡◌, ◌++◌, OnOk};
 ghost use Rattle.seg_text.specs.FieldText.{field_line};
 
 use crate::decimal::push_decimal;
-use crate::quoted::push_quoted;
+use crate::quoted_text::push_quoted;
 use std::alloc::{AllocError, Global};
 
 /// The line of a field with this many terms.

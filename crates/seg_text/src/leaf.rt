@@ -10,7 +10,7 @@ ghost use Rattle.seg_common.specs.DateText.{date_text};
 ghost use Rattle.seg_values.specs.AddressText.{address_text};
 ghost use Rattle.seg_values.specs.Facets.{path_of};
 
-use crate::quoted::push_quoted;
+use crate::quoted_text::push_quoted;
 use base64::engine::general_purpose::STANDARD;
 use seg_common::{DateTime, push_rfc3339};
 use seg_values::{Facet, shown_address};

@@ -22,7 +22,7 @@
 mod comma;
 mod decimal;
 mod hexadecimal;
-mod quoted;
+mod quoted_text;
 
 // The first lines, and those of fields, terms and postings.
 mod field;
@@ -33,7 +33,7 @@ mod term;
 // Values as JSON.
 mod leaf;
 mod pair;
-mod pre_tokenized;
+mod pre_tokenized_text;
 mod value;
 
 // The same from the bytes of a store, and the line of a document.
@@ -62,5 +62,5 @@ pub use header::{push_dead, push_header};
 pub use leaf::{push_address, push_base64, push_bool, push_date};
 pub use norms::push_norms;
 pub use posting::{RecordedRef, push_posting};
-pub use quoted::push_quoted;
+pub use quoted_text::push_quoted;
 pub use term::push_term;

@@ -5,7 +5,7 @@ ghost use Rattle.seg_text.specs.HeaderText.{id_word};
 ghost use Rattle.seg_text.specs.NormsText.{norms_line};
 
 use crate::decimal::push_decimal;
-use crate::quoted::push_quoted;
+use crate::quoted_text::push_quoted;
 use std::alloc::{AllocError, Global};
 
 /// The line of the length ids that a field has, one for each document.

@@ -5,7 +5,7 @@ ghost use Rattle.serde_json.specs.Written.{compact_text};
 ghost use Rattle.seg_values.specs.ValueTrees.{tree_of};
 ghost use Rattle.seg_text.specs.DocumentText.{name_at, pair_json};
 
-use crate::quoted::push_quoted;
+use crate::quoted_text::push_quoted;
 use crate::value::push_value;
 use seg_values::{Field, OwnedValue, Schema};
 use std::alloc::{AllocError, Global};

@@ -19,7 +19,7 @@ ghost use Rattle.seg_text.specs.PrintedFronts.{Prints};
 
 use crate::decimal::{push_decimal, push_signed};
 use crate::leaf::{push_address, push_base64, push_bool, push_date, push_facet};
-use crate::quoted::push_quoted;
+use crate::quoted_text::push_quoted;
 use crate::stored_tokens::push_stored_pre_tokenized;
 use seg_common::DateTime;
 use seg_doc_bytes::{take_address, take_bit, take_number, take_sized, take_text};

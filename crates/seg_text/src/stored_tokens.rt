@@ -8,8 +8,8 @@ ghost use Rattle.seg_values.specs.ValueJson.{leaf_json, token_json, tokens_items
 ghost use Rattle.seg_text.specs.PrintedFronts.{Prints};
 
 use crate::comma::push_comma_if;
-use crate::pre_tokenized::push_token_parts;
-use crate::quoted::push_quoted;
+use crate::pre_tokenized_text::push_token_parts;
+use crate::quoted_text::push_quoted;
 use seg_doc_bytes::{take_small, take_text, take_varint};
 use std::alloc::{AllocError, Global};
 

@@ -11,7 +11,7 @@ ghost use Rattle.seg_values.specs.ValueJson.{value_json};
 ghost use Rattle.seg_text.specs.PrintedFronts.{Prints, is_after};
 
 use crate::comma::push_comma_if;
-use crate::quoted::push_quoted;
+use crate::quoted_text::push_quoted;
 use crate::stored_leaf::push_stored_leaf;
 use seg_doc_bytes::{take_byte, take_text, take_varint};
 use std::alloc::{AllocError, Global};

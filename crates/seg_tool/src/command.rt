@@ -24,12 +24,12 @@ ghost use Rattle.seg_tool.specs.Statuses.{IfRefused, IfWritten, RefusedFor, stat
 ghost use Rattle.seg_tool.specs.Taken.{HasTaken, before_meta};
 ghost use Rattle.seg_tool.specs.Words.{IfBuild, IfGenerate, IfMerge, IfShow, UnlessBuild, UnlessWritten, command_of};
 
-use crate::building::{build, status_of};
-use crate::generating::generate;
-use crate::merging::merge_and_print;
+use crate::build_job::{build, status_of};
+use crate::generate_job::generate;
+use crate::merge_job::merge_and_print;
 use crate::reading_back::print_index;
-use crate::reporting::report;
 use crate::status::Status;
+use crate::status_line::report;
 use crate::words::{Command, Detail, command_of};
 use seg_common::{FileName, ReadError, Sink, SinkFailed, Source, read_to_end, write_whole};
 use seg_directory::Directory;

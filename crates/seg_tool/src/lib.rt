@@ -20,13 +20,13 @@
 
 // The words of a command line, and how a run ends.
 mod damage;
-mod reporting;
 mod status;
+mod status_line;
 mod words;
 
 // The text of a segment that is open, and its line in a summary.
 mod norm_lines;
-mod printing;
+mod segment_text;
 mod summary_line;
 mod summary_totals;
 
@@ -34,14 +34,14 @@ mod summary_totals;
 mod reading_back;
 
 // The jobs.
-mod building;
-mod generating;
-mod merging;
+mod build_job;
+mod generate_job;
+mod merge_job;
 
 // The whole.
 mod command;
 
 pub use command::run;
-pub use reporting::report;
 pub use status::Status;
+pub use status_line::report;
 pub use summary_line::push_segment_summary;

@@ -2,7 +2,7 @@
 ghost use Rattle.seg_open.specs.Answers.{seen_as};
 ghost use Rattle.seg_tool.specs.ReadingBack.{PrintsIndex, PrintsNext, ReadsText, all_of};
 
-use crate::printing::push_segment;
+use crate::segment_text::push_segment;
 use crate::words::Detail;
 use seg_directory::Directory;
 use seg_meta::{Index, Segment};

@@ -1,6 +1,6 @@
 //! How the documents of open segments are put together.
 
-use super::joining::mapping;
+use super::doc_id_mapping::mapping;
 use crate::failure::Failure;
 
 pub(super) fn print_mapping_types<R: Print + AllocGlobal>(rt: &R) -> Result<(), Failure> {

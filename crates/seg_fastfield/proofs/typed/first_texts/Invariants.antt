@@ -1,8 +1,0 @@
-use Rattle.std.proofs.Common.{◌≡◌, drop}
-use Rattle.seg_fastfield.specs.OpenFastFields.{str_column, first_of}
-use Rattle.seg_fastfield.proofs.typed.first_texts.Given as goal
-
--- the first one is among those that are left
-abbrev pub invariant-loop-handle : goal.invariant-loop-handle
-invariant-loop-handle l =
-    first_of (λ c. str_column c.column) (drop l.handle-index l.handles) ≡ first_of (λ c. str_column c.column) l.handles

@@ -1,0 +1,9 @@
+use Rattle.std.proofs.Common.{◌≡◌, drop}
+use Rattle.seg_fastfield.specs.OpenFastFields.{first_of}
+use Rattle.seg_fastfield.proofs.typed_columns.first_column.Given as goal
+
+-- the first one is among those that are left
+abbrev pub invariant-loop-handle : goal.invariant-loop-handle
+invariant-loop-handle g l =
+    first_of (λ c. g.T.HasAssociatedColumnType.column_of c.column) (drop l.handle-index l.handles)
+    ≡ first_of (λ c. g.T.HasAssociatedColumnType.column_of c.column) l.handles

@@ -1,0 +1,120 @@
+use Rattle.std.proofs.Common.{◌≡◌, ◌-◌, ◌<◌, ◌∷◌, length, Some, None, option_map, sym, ap, ◌∙◌, arith, rules}
+use Rattle.std.proofs.lemmas.Result.{IfOk-weaker}
+use Rattle.json.specs.Token.{Token}
+use Rattle.json.specs.Json.{parse_map, after_end_array, read_key, items, members, value}
+use Rattle.json.specs.Reads.{token_of}
+use Rattle.json.proofs.Grammar.{value_is, value-begin_array, value-begin_object, read_key-shorter}
+use Rattle.serde_json.specs.Data.{null, boolean, number, string, array, object}
+use Rattle.serde_json.specs.Read.{of_json, of_items, of_members, converted, number_of}
+use Rattle.serde_json.specs.View.{view, members_view}
+use Rattle.serde_json.specs.declared.value.Value.{String, Bool, Null, the_lemmas}
+use Rattle.serde_json.proofs.Views.{view-Array, view-Object}
+use Rattle.seg_script.proofs.Grammar.{converted-array, converted-object, item_read, items_over, member_read, members_over, items_before, items_before-no_items, one_more_item, none_before}
+use Rattle.seg_script.proofs.json_values.+reading.Goals as goal
+
+pub read_value-returns-in_ok-from_str-in-String-clause-ok : goal.read_value-returns-in_ok-from_str-in-String-clause-ok
+read_value-returns-in_ok-from_str-in-String-clause-ok t c =
+    let first : c.args.reader.now ≡ token_of c.in-Some.token ∷ c.next.new.self = c.in-Some.ensures.value in
+    let is : c.args.reader.now ≡ Token.string c.in-String.text.now ∷ c.next.new.self = first ∙ ap (λ k. token_of k ∷ c.next.new.self) c.in-String.is in
+    let seen : view (String c.in_ok-from_str-in-String.field-0) ≡ string c.in-String.text.now = search (rules, the_lemmas) in
+    ap (converted of_json) (ap (value c.args.depth) is ∙ value_is c.args.depth _) ∙ ap (λ d. Some (d, c.next.new.self)) (sym seen)
+
+pub read_value-returns-in-Bool-clause-ok : goal.read_value-returns-in-Bool-clause-ok
+read_value-returns-in-Bool-clause-ok t c =
+    let first : c.args.reader.now ≡ token_of c.in-Some.token ∷ c.next.new.self = c.in-Some.ensures.value in
+    let is : c.args.reader.now ≡ Token.boolean c.in-Bool.truth ∷ c.next.new.self = first ∙ ap (λ k. token_of k ∷ c.next.new.self) c.in-Bool.is in
+    let seen : view (Bool c.in-Bool.truth) ≡ boolean c.in-Bool.truth = search (rules, the_lemmas) in
+    ap (converted of_json) (ap (value c.args.depth) is ∙ value_is c.args.depth _) ∙ ap (λ d. Some (d, c.next.new.self)) (sym seen)
+
+pub read_value-returns-in-Null-clause-ok : goal.read_value-returns-in-Null-clause-ok
+read_value-returns-in-Null-clause-ok t c =
+    let first : c.args.reader.now ≡ token_of c.in-Some.token ∷ c.next.new.self = c.in-Some.ensures.value in
+    let is : c.args.reader.now ≡ Token.null ∷ c.next.new.self = first ∙ ap (λ k. token_of k ∷ c.next.new.self) c.in-Null.is in
+    let seen : view (Null) ≡ null = search (rules, the_lemmas) in
+    ap (converted of_json) (ap (value c.args.depth) is ∙ value_is c.args.depth _) ∙ ap (λ d. Some (d, c.next.new.self)) (sym seen)
+
+pub read_value-returns-in-Number-clause-ok : goal.read_value-returns-in-Number-clause-ok
+read_value-returns-in-Number-clause-ok t c =
+    let text = c.in-Number.text.now in
+    let first : c.args.reader.now ≡ token_of c.in-Some.token ∷ c.next.new.self = c.in-Some.ensures.value in
+    let is : c.args.reader.now ≡ Token.number text ∷ c.next.new.self = first ∙ ap (λ k. token_of k ∷ c.next.new.self) c.in-Number.is in
+    IfOk-weaker c.number_value.result (λ v. option_map number (number_of text) ≡ Some (view v)) (λ v. converted of_json (value c.args.depth c.args.reader.now) ≡ Some (view v, c.next.new.self)) (λ v said. ap (converted of_json) (ap (value c.args.depth) is ∙ value_is c.args.depth _) ∙ ap (option_map (λ d. (d, c.next.new.self))) said) c.number_value.ensures.ok
+
+pub read_value-returns-in_ok-read_items-in-BeginArray-clause-ok : goal.read_value-returns-in_ok-read_items-in-BeginArray-clause-ok
+read_value-returns-in_ok-read_items-in-BeginArray-clause-ok t c =
+    let first : c.args.reader.now ≡ token_of c.in-Some.token ∷ c.next.new.self = c.in-Some.ensures.value in
+    let opened = ap (converted of_json) (ap (value c.args.depth) (first ∙ ap (λ k. token_of k ∷ c.next.new.self) c.in-BeginArray.is) ∙ value-begin_array c.args.depth c.next.new.self (omega arith)) ∙ converted-array (items (value (c.args.depth - 1)) (length c.next.new.self) c.next.new.self) in
+    let found = c.in_ok-read_items-in-BeginArray in
+    opened ∙ ap (parse_map array) found.ensures.ok ∙ ap (λ d. Some (d, c.read_items.new.reader)) (sym (view-Array found.field-0))
+
+pub read_value-returns-in_ok-read_members-in-BeginObject-clause-ok : goal.read_value-returns-in_ok-read_members-in-BeginObject-clause-ok
+read_value-returns-in_ok-read_members-in-BeginObject-clause-ok t c =
+    let first : c.args.reader.now ≡ token_of c.in-Some.token ∷ c.next.new.self = c.in-Some.ensures.value in
+    let opened = ap (converted of_json) (ap (value c.args.depth) (first ∙ ap (λ k. token_of k ∷ c.next.new.self) c.in-BeginObject.is) ∙ value-begin_object c.args.depth c.next.new.self (omega arith)) ∙ converted-object (members (value (c.args.depth - 1)) (length c.next.new.self) c.next.new.self) in
+    let found = c.in_ok-read_members-in-BeginObject in
+    opened ∙ ap (parse_map object) found.ensures.ok ∙ ap (λ d. Some (d, c.read_members.new.reader)) (sym (view-Object found.field-0))
+
+pub read_items-loop-alloc-init : goal.read_items-loop-alloc-init
+read_items-loop-alloc-init t c =
+    let all = converted of_items (items (value c.args.depth) (length c.args.reader.now) c.args.reader.now) in
+    (length c.args.reader.now, omega arith, none_before all ∙ ap (λ vs. parse_map (items_before vs) all) (sym c.new-found.ensures.items), omega arith)
+
+pub read_items-loop-alloc-preserved : goal.read_items-loop-alloc-preserved
+read_items-loop-alloc-preserved t c =
+    let p = value c.args.depth in
+    let l = c.loop-alloc in
+    let n = l.invariant.0 in
+    let going : (after_end_array l.reader ≡ None) × (c.take_end_array.new.self ≡ l.reader) = grind arith in
+    let done = c.in_ok-item.ensures in
+    let v = c.in_ok-item.item in
+    let r = c.read_value.new.reader in
+    let less : length r < length l.reader = rw (← going.1) done.shorter in
+    let turn = item_read p n l.reader r (view v) (omega (arith, l.invariant.1)) going.0 (rw (← going.1) done.ok) in (
+      n - 1,
+      omega (arith, l.invariant.1),
+      l.invariant.2 ∙ ap (parse_map (items_before l.found.items)) turn ∙ one_more_item l.found.items v _
+          ∙ ap (λ vs. parse_map (items_before vs) (converted of_items (items p (n - 1) r))) (sym c.in_ok-push.ensures),
+      omega (arith, l.invariant.3),
+    )
+
+pub read_items-returns-clause-ok : goal.read_items-returns-clause-ok
+read_items-returns-clause-ok t c =
+    let p = value c.args.depth in
+    let l = c.loop-alloc in
+    let n = l.invariant.0 in
+    let r = c.take_end_array.new.self in
+    l.invariant.2 ∙ ap (parse_map (items_before l.found.items)) (items_over p n l.reader r l.invariant.1 (grind arith)) ∙ ap (λ ds. Some (ds, r)) (items_before-no_items l.found.items)
+
+pub read_members-loop-found-init : goal.read_members-loop-found-init
+read_members-loop-found-init t c =
+    let all = members (value c.args.depth) (length c.args.reader.now) c.args.reader.now in
+    (length c.args.reader.now, omega arith, ap (λ es. converted (λ ms. of_members ms (members_view es)) all) (sym c.new-found.ensures.empty), omega arith)
+
+pub read_members-loop-found-preserved : goal.read_members-loop-found-preserved
+read_members-loop-found-preserved t c =
+    let p = value c.args.depth in
+    let l = c.loop-found in
+    let n = l.invariant.0 in
+    let old = members_view l.found.entries in
+    let k = c.in-Some.name.now in
+    let s = c.next_key.new.self in
+    let named : read_key l.reader ≡ Some (Some k, s) = grind arith in
+    let done = c.in_ok-member.ensures in
+    let v = c.in_ok-member.member in
+    let r = c.read_value.new.reader in
+    let less = read_key-shorter l.reader (Some k) s named in
+    let lesser = done.shorter in (
+      n - 1,
+      omega (arith, l.invariant.1),
+      l.invariant.2 ∙ member_read p old n k l.reader s r (view v) (omega (arith, l.invariant.1)) named done.ok
+          ∙ ap (λ found. converted (λ ms. of_members ms found) (members p (n - 1) r)) (sym c.in_ok-put.ensures),
+      omega (arith, l.invariant.3),
+    )
+
+pub read_members-returns-clause-ok : goal.read_members-returns-clause-ok
+read_members-returns-clause-ok t c =
+    let p = value c.args.depth in
+    let l = c.loop-found in
+    let n = l.invariant.0 in
+    let old = members_view l.found.entries in
+    l.invariant.2 ∙ members_over p old n l.reader c.next_key.new.self l.invariant.1 (grind arith)

@@ -1,0 +1,24 @@
+use Rattle.std.proofs.Common.{◌∙◌, List, None, ap, map, refl, sym}
+use Rattle.seg_meta.specs.Metas.{SegmentParts}
+use Rattle.seg_index_build.specs.TwoDirectories.{goes_on, stops}
+use Rattle.seg_tool.proofs.JobSteps.{merge_is, merge_starves}
+use Rattle.seg_tool.proofs.merge_job.merge.Goals as goal
+
+pub returns-in-Err : goal.returns-in-Err
+returns-in-Err g c = stops c.in-Err.e refl (c.in-Err.ensures.does, refl)
+
+pub returns-in_default : goal.returns-in_default
+returns-in_default g c = goes_on c.in-Ok.index _ (c.in-Ok.ensures.does, refl) (merge_starves c.in-Ok.index _)
+
+pub returns-in_default-no_filters : goal.returns-in_default-no_filters
+returns-in_default-no_filters g c = goes_on c.in-Ok.index _ (c.in-Ok.ensures.does, refl) (merge_starves c.in-Ok.index _)
+
+pub returns : goal.returns
+returns g c =
+    let m = c.merge_filtered_segments.ensures in
+    goes_on c.in-Ok.index _ (c.in-Ok.ensures.does, refl)
+    (merge_is c.in-Ok.index c.deref-2.result.now c.settings.result.now c.in-Ok-no_filters.filters.items c.from_u128-id.result c.merge_filtered_segments.result _ _
+    (c.deref-2.ensures.value ∙ c.in-Ok-searchable_segments.ensures.ok) c.settings.ensures
+    (c.in-Ok-no_filters.ensures ∙ ap (λ (l : List SegmentParts). map (λ _. None) l) (c.deref.ensures.value ∙ sym c.deref-2.ensures.value))
+    c.from_u128-id.ensures
+    (record { does = m.does; errors = m.errors; index = m.index; work_stays = m.work_stays; undamaged = m.undamaged; output_whole = m.output_whole; fresh = m.fresh; complete = m.complete; any_moment = m.any_moment; at_rest = m.at_rest }))
