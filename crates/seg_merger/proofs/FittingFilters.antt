@@ -13,8 +13,7 @@ use Rattle.seg_meta.specs.Metas.{SegmentParts}
 use Rattle.seg_model.specs.DocumentCheck.{unless}
 use Rattle.seg_model.specs.Fields.{Schema}
 use Rattle.seg_model.specs.Input.{Filter}
-use Rattle.seg_model.specs.Shape.{HasFullShape}
-use Rattle.seg_open.specs.OpenSegment.{IsOfSchema, OpenSegment, contents_of}
+use Rattle.seg_open.specs.OpenSegment.{IsOfSchema, OpenSegment}
 use Rattle.seg_open.specs.OpeningSteps.{AreReadersOf, FilterFits, FiltersFit, Found, OpensSegments, asked_of}
 use Rattle.seg_merger.specs.Merger.{all_fit, fits, merger_refusal, too_many}
 use Rattle.seg_merger.proofs.KeptCounts.{HasShape}
@@ -108,4 +107,4 @@ module _ (documents : ℕ) where
 pub of_full_shape : (schema : Schema) (readers : List OpenSegment) → AllByRecursion (λ (r : OpenSegment). r.schema ≡ schema) readers → AllByRecursion HasShape readers → AllByRecursion (IsOfSchema schema) readers
 of_full_shape schema [] same shape = tt
 of_full_shape schema (r ∷ readers) same shape =
-    ((same.0, subst (λ (s : Schema). HasFullShape s (contents_of r)) same.0 shape.0), of_full_shape schema readers same.1 shape.1)
+    (subst (λ (s : Schema). IsOfSchema s r) same.0 shape.0, of_full_shape schema readers same.1 shape.1)

@@ -6,13 +6,12 @@ use Rattle.seg_model.specs.Operations.{kept}
 use Rattle.seg_bits.specs.BitSets.{member_count}
 use Rattle.seg_store.specs.Store.{documents_of}
 use Rattle.seg_merger.specs.JoinedStore.{joined_documents}
-use Rattle.seg_model.specs.Shape.{HasFullShape}
-use Rattle.seg_open.specs.OpenSegment.{OpenSegment, contents_of, kept_count}
+use Rattle.seg_open.specs.OpenSegment.{IsOfSchema, OpenSegment, kept_count}
 use Rattle.seg_open.proofs.Exports.{count-more}
 
--- what a segment holds has full shape, for its schema
+-- a segment is one of its own schema
 abbrev pub HasShape : OpenSegment → Type 0
-HasShape s = HasFullShape s.schema (contents_of s)
+HasShape s = IsOfSchema s.schema s
 
 few_first : {X : Type 0} (b : Bool) (x : X) (rest : List X) (n : ℕ) → length rest ≤ n → length (cond b (x ∷ rest) rest) ≤ cond b 1 0 + n
 few_first true x rest n few = omega (arith, few)

@@ -31,7 +31,7 @@ use Rattle.seg_merger.specs.JoinedColumns.{HasJoinedColumns}
 use Rattle.seg_merger.specs.JoinedStore.{joined_documents, no_documents, taken_documents, with_segments}
 use Rattle.seg_merger.specs.JoinedSegment.{HoldJoined, HoldsJoinedNorms, IsJoined}
 use Rattle.seg_merger.specs.Merger.{AreJoinedFiles, WritesJoined, makes, mixes, refusal_of, runs_out}
-use Rattle.seg_merger.proofs.JoinedSegments.{all_stored, joined_shape}
+use Rattle.seg_merger.proofs.JoinedSegments.{all_stored, joined_fields, joined_shape}
 
 -- what fills a serializer that had nothing yet
 pub is_joined : (given : Serializing) (readers : List OpenSegment) (block_size : ℕ) → given ≡ unfilled given.segment block_size
@@ -79,6 +79,7 @@ module _ (law : JoinsHaveFullShape) (segment : SegmentParts) (block_size : ℕ) 
           hold_terms = all.0;
           norm_parts = norms_put segment.schema readers s.norms files.field_norms laid.norms joined.norms;
           stored = ap (option_map documents_of) laid.store ∙ ap (option_map taken_documents) (sym laid.stored) ∙ joined.stored;
+          stored_fields = joined_fields segment.schema readers are;
           columns = have_columns files.fast_fields laid.fast;
           shape = joined_shape segment.schema law readers are joined_contents is_join;
         };

@@ -19,6 +19,7 @@ use Rattle.seg_model.specs.Columns.{Columns}
 use Rattle.seg_column_format.specs.SchemaColumns.{HoldColumns, SuitColumns}
 use Rattle.seg_store.specs.Block.{Block}
 use Rattle.seg_store.specs.Store.{store_of, documents_of}
+use Rattle.seg_store.specs.StoredFields.{have_stored_fields}
 use Rattle.seg_norms.specs.FieldNorms.{norms_parts}
 use Rattle.seg_norms.specs.StoredNorms.{AreNorms}
 use Rattle.seg_postings.specs.OpenedFields.{FieldRules, FirstPart, FirstParts, IsFieldBy, OpenField, rules_of}
@@ -55,11 +56,11 @@ record ByRules (postings positions : List Part) (field : ℕ) (part : FirstPart)
   by : IsFieldBy part.rules part.dictionary postings_part positions_part total terms
 
 module _ (schema : Schema) (documents : ℕ) (files : SegmentFiles) where
-  -- the store isn't one of this many documents
-  store_disagrees : ((blocks : List Block) → store_of files.store ≡ Some blocks → length (documents_of blocks) ≢ documents) → Disagree schema documents files Store
+  -- the store isn't one of this many documents in the stored fields of the schema
+  store_disagrees : ((blocks : List Block) → store_of files.store ≡ Some blocks → have_stored_fields schema (documents_of blocks) ≡ true → length (documents_of blocks) ≢ documents) → Disagree schema documents files Store
   store_disagrees none completed contents same spell number =
       let m = mapped (store_of completed.store) contents.stored spell.stored in
-      none m.blocks (ap store_of (sym same.1.0) ∙ m.is) (ap length m.same ∙ spell.shape.stored ∙ number)
+      none m.blocks (ap store_of (sym same.1.0) ∙ m.is) (ap (have_stored_fields schema) m.same ∙ spell.stored_fields) (ap length m.same ∙ spell.shape.stored ∙ number)
 
   -- the columns aren't those of this many documents
   columns_disagree : (HoldColumns schema documents files.fast_fields → ⊥) → Disagree schema documents files FastFields
@@ -163,12 +164,12 @@ module _ (schema : Schema) (documents : ℕ) (files : SegmentFiles) where
     terms_are : SoundTerms schema files.terms
     terms_are = sound_terms schema documents files.terms dictionaries first
 
-    pub store_wrong : ((blocks : List Block) → store_of files.store ≡ Some blocks → length (documents_of blocks) ≢ documents) → IsFirstWrong schema documents files Store
+    pub store_wrong : ((blocks : List Block) → store_of files.store ≡ Some blocks → have_stored_fields schema (documents_of blocks) ≡ true → length (documents_of blocks) ≢ documents) → IsFirstWrong schema documents files Store
     store_wrong none = record { disagree = store_disagrees none; first = (terms_are, tt) }
 
-    module _ (blocks : List Block) (is : store_of files.store ≡ Some blocks) (stored : length (documents_of blocks) ≡ documents) where
-      store_is : SoundStore documents files.store
-      store_is = record { blocks = blocks; is = is; stored = stored }
+    module _ (blocks : List Block) (is : store_of files.store ≡ Some blocks) (of_fields : have_stored_fields schema (documents_of blocks) ≡ true) (stored : length (documents_of blocks) ≡ documents) where
+      store_is : SoundStore schema documents files.store
+      store_is = record { blocks = blocks; is = is; stored_fields = of_fields; stored = stored }
 
       pub postings_wrong : PostingsUnopened schema files.postings dictionaries → IsFirstWrong schema documents files Postings
       postings_wrong unopened = record { disagree = postings_disagree dictionaries first unopened; first = (terms_are, (store_is, tt)) }

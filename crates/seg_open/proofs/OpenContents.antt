@@ -149,6 +149,7 @@ module _ (law : TermsReadHaveShape) (files : SegmentFiles) (s : OpenSegment) (ha
     };
     norm_parts = has.norms ∙ ap (λ (p : List Part). Some p) has.fit.parts_are;
     stored = ap (option_map documents_of) has.store;
+    stored_fields = has.stored_fields;
     columns = record { file = has.columns.file; rows = has.columns.rows; are = ap columns_in (sym has.columns_are) };
     shape = shaped;
   }

@@ -12,6 +12,7 @@ use Rattle.seg_model.specs.Shape.{HasFullShape}
 use Rattle.seg_directory.specs.CompositeFiles.{Part}
 use Rattle.seg_store.specs.Block.{Block}
 use Rattle.seg_store.specs.Store.{documents_of}
+use Rattle.seg_store.specs.StoredFields.{have_stored_fields}
 use Rattle.seg_postings.specs.OpenedFields.{OpenField, written_terms}
 use Rattle.seg_postings.specs.TermMaps.{terms_held}
 use Rattle.seg_norms.specs.StoredNorms.{norms_of}
@@ -55,9 +56,11 @@ contents_of s = contents_in s.schema s.documents s.fields s.blocks s.norms s.col
 abbrev pub part_of : OpenSegment → join.Part
 part_of s = record { contents = contents_of s; alive = s.alive }
 
--- a segment of a schema, whose contents have full shape
+-- a segment of a schema, whose contents have full shape, and whose stored documents have pairs of stored fields
 abbrev pub IsOfSchema : Schema → OpenSegment → Type 0
-IsOfSchema schema s = (s.schema ≡ schema) × HasFullShape schema (contents_of s)
+IsOfSchema schema s =
+    (s.schema ≡ schema) × HasFullShape schema (contents_of s)
+    × (have_stored_fields schema (documents_of s.blocks) ≡ true)
 
 -- each document is marked as alive or not
 abbrev pub IsMarked : OpenSegment → Type 0

@@ -1,10 +1,11 @@
 -- A segment whose files are opened.
-use Rattle.std.specs.Prelude.{◌≡◌, ℕ, List, length, Option, Some}
+use Rattle.std.specs.Prelude.{◌≡◌, ℕ, List, length, true, Option, Some}
 use Rattle.seg_model.specs.Fields.{Schema}
 use Rattle.seg_directory.specs.CompositeFiles.{Part, composite}
 use Rattle.seg_column_file.specs.ColumnFiles.{column_file_of}
 use Rattle.seg_column_format.specs.SchemaColumns.{HoldColumns}
 use Rattle.seg_store.specs.Store.{store_of, documents_of}
+use Rattle.seg_store.specs.StoredFields.{have_stored_fields}
 use Rattle.seg_postings.specs.OpenedFields.{OpenField}
 use Rattle.seg_norms.specs.StoredNorms.{norms_of, HoldNorms}
 use Rattle.seg_open.specs.OpenedFields.{AreOpened}
@@ -27,6 +28,7 @@ pub record TermsAreOpen (schema : Schema) (documents : ℕ) (terms postings posi
 pub record IsOpen (files : SegmentFiles) (s : OpenSegment) : Type 0 where
   pub terms : TermsAreOpen s.schema s.documents files.terms files.postings files.positions s.fields
   pub store : store_of files.store ≡ Some s.blocks
+  pub stored_fields : have_stored_fields s.schema (documents_of s.blocks) ≡ true
   pub stored : length (documents_of s.blocks) ≡ s.documents
   pub columns : HoldColumns s.schema s.documents files.fast_fields
   pub columns_are : s.columns ≡ column_file_of files.fast_fields

@@ -9,6 +9,7 @@ use Rattle.seg_directory.specs.CompositeFiles.{Part, composite, field_of}
 use Rattle.seg_column_format.specs.SchemaColumns.{HoldColumns}
 use Rattle.seg_store.specs.Block.{Block}
 use Rattle.seg_store.specs.Store.{store_of, documents_of}
+use Rattle.seg_store.specs.StoredFields.{have_stored_fields}
 use Rattle.seg_postings.specs.CompletedPostings.{ArePostingsBy}
 use Rattle.seg_postings.specs.OpenedFields.{OpenField, rules_of}
 use Rattle.seg_postings.specs.TermForms.{IsDictionaryOf}
@@ -34,10 +35,11 @@ pub record SoundTerms (schema : Schema) (terms : List ℕ) : Type 0 where
   pub file : HaveIndexedParts schema terms parts
   pub each : EachIndexed schema (λ entry field. HasDictionary entry parts field)
 
--- it is a store of this many documents
-pub record SoundStore (documents : ℕ) (store : List ℕ) : Type 0 where
+-- it is a store of this many documents, each pair of which has a field that is in the schema and stored
+pub record SoundStore (schema : Schema) (documents : ℕ) (store : List ℕ) : Type 0 where
   pub blocks : List Block
   pub is : store_of store ≡ Some blocks
+  pub stored_fields : have_stored_fields schema (documents_of blocks) ≡ true
   pub stored : length (documents_of blocks) ≡ documents
 
 -- the part of a field are postings of the terms of its dictionary, each of which some positions complete
@@ -70,7 +72,7 @@ pub record SoundNorms (schema : Schema) (documents : ℕ) (field_norms : List �
 -- the file of a component is sound, together with those that are read before it
 abbrev pub IsSound : Schema → ℕ → SegmentFiles → SegmentComponent → Type 0
 IsSound schema documents files Terms = SoundTerms schema files.terms
-IsSound schema documents files Store = SoundStore documents files.store
+IsSound schema documents files Store = SoundStore schema documents files.store
 IsSound schema documents files Postings = SoundPostings schema documents files.terms files.postings
 IsSound schema documents files Positions = SoundPositions schema documents files.terms files.postings files.positions
 IsSound schema documents files FastFields = HoldColumns schema documents files.fast_fields

@@ -1,5 +1,5 @@
 //! The store, the columns and the length ids of a segment, each checked against its number of documents.
-ghost use Rattle.std.specs.Prelude.{◌≡◌, ◌≢◌, ℕ, List, length, Some, None, MatchOption, MatchResult};
+ghost use Rattle.std.specs.Prelude.{◌≡◌, ◌≢◌, ℕ, List, length, true, false, Some, None, MatchOption, MatchResult};
 ghost use Rattle.seg_column_file.specs.ColumnFiles.{column_file_of};
 ghost use Rattle.seg_open.specs.OpenedTermFiles.{IsTold};
 ghost use Rattle.seg_column_format.specs.SchemaColumns.{HoldColumns};
@@ -8,6 +8,7 @@ ghost use Rattle.seg_norms.specs.FieldNorms.{norms_parts};
 ghost use Rattle.seg_norms.specs.StoredNorms.{norms_of, AreNorms, HoldNorms};
 ghost use Rattle.seg_store.specs.Block.{Block};
 ghost use Rattle.seg_store.specs.Store.{store_of, documents_of};
+ghost use Rattle.seg_store.specs.StoredFields.{have_stored_fields};
 
 use crate::open_error::OpenError;
 use seg_column_format::open_columns;
@@ -19,13 +20,15 @@ use seg_store::StoreReader;
 use seg_values::Schema;
 use std::alloc::Global;
 
-/// The store of this many documents, where the bytes are one.
-pub(crate) fn open_store(bytes: OwnedBytes, max_doc: u32) -> Option<StoreReader>
+/// The store of this many documents in the stored fields of a schema, where the bytes are one.
+pub(crate) fn open_store(bytes: OwnedBytes, schema: &Schema, max_doc: u32) -> Option<StoreReader>
     ensures { MatchOption result
-        ((blocks : List Block) → store_of bytes ≡ Some blocks → length (documents_of blocks) ≢ max_doc)
-        (λ r. (store_of bytes ≡ Some r) × (length (documents_of r) ≡ max_doc)) }
+        ((blocks : List Block) → store_of bytes ≡ Some blocks
+        → have_stored_fields schema.now (documents_of blocks) ≡ true → length (documents_of blocks) ≢ max_doc)
+        (λ r. (store_of bytes ≡ Some r) × (have_stored_fields schema.now (documents_of r) ≡ true)
+        × (length (documents_of r) ≡ max_doc)) }
 {
-    let Ok(store) = StoreReader::open(bytes) else {
+    let Ok(store) = StoreReader::open_with_schema(bytes, schema) else {
         return None;
     };
     if store.num_docs() != max_doc {

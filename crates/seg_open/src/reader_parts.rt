@@ -8,6 +8,8 @@ ghost use Rattle.seg_model.specs.Shape.{HasFullShape};
 ghost use Rattle.seg_open.specs.OpenSegment.{contents_of};
 ghost use Rattle.seg_open.specs.ReaderParts.{IsIndexOf, IsSpaceOf};
 ghost use Rattle.seg_store.specs.Cache.{unused};
+ghost use Rattle.seg_store.specs.Store.{documents_of};
+ghost use Rattle.seg_store.specs.StoredFields.{have_stored_fields};
 
 use crate::alive_docs::AliveDocs;
 use crate::alive_set::num_deleted;
@@ -159,6 +161,13 @@ impl SegmentReader {
     /// What the segment holds has full shape.
     pub fn contents_have_full_shape(&self)
         ensures { HasFullShape self.now.schema (contents_of self.now) }
+    {
+        let _store = &self.store;
+    }
+
+    /// Each pair of a stored document has a field that is in the schema and stored.
+    pub fn stored_pairs_are_of_schema(&self)
+        ensures { have_stored_fields self.now.schema (documents_of self.now.blocks) ≡ true }
     {
         let _store = &self.store;
     }

@@ -52,6 +52,8 @@ impl Model for SegmentReader {
     ghost use Rattle.seg_model.specs.Fields.{is_indexed};
     ghost use Rattle.seg_model.specs.Shape.{HasFullShape};
     ghost use Rattle.seg_open.specs.OpenSegment.{LacksSome, OpenSegment, alive_of, contents_in};
+    ghost use Rattle.seg_store.specs.Store.{documents_of};
+    ghost use Rattle.seg_store.specs.StoredFields.{have_stored_fields};
 
     ghost Value = { OpenSegment };
 
@@ -70,7 +72,8 @@ impl Model for SegmentReader {
 
     ghost invariant = { λ r. (map is_some r.fields.items ≡ map is_indexed r.schema) × LacksSome r.max_doc r.alive
         × (r.fast_fields.schema ≡ r.schema) × (r.fast_fields.file.rows ≡ r.max_doc)
-        × HasFullShape r.schema (contents_in r.schema r.max_doc r.fields.items r.store r.norms r.fast_fields.file) };
+        × HasFullShape r.schema (contents_in r.schema r.max_doc r.fields.items r.store r.norms r.fast_fields.file)
+        × (have_stored_fields r.schema (documents_of r.store) ≡ true) };
 }
 
 impl SegmentReader {
@@ -175,7 +178,7 @@ impl SegmentReader {
             field_norms,
         } = files;
         let dictionaries = open_dictionaries(alloc, terms, &schema, max_doc)?;
-        let Some(store) = open_store(store, max_doc) else {
+        let Some(store) = open_store(store, &schema, max_doc) else {
             return Err(OpenError::Damaged(SegmentComponent::Store));
         };
         let both = open_postings(alloc, postings, &schema, dictionaries)?;

@@ -8,7 +8,7 @@ use Rattle.std.proofs.Math.Bool.{and-true}
 use Rattle.seg_common.specs.LittleEndian.{u64_at}
 use Rattle.seg_common.proofs.Lists.{drop-slice_get}
 use Rattle.seg_store.specs.Ends.{numbers_of, cut_from}
-use Rattle.seg_store.specs.Block.{documents_in, is_block}
+use Rattle.seg_store.specs.Block.{documents_in}
 use Rattle.seg_store.specs.Store.{checkpoints_of, document_count}
 use Rattle.seg_store.specs.CutParts.{are_parts, are_blocks}
 use Rattle.seg_store.proofs.CutEnds.{ends-next}
@@ -62,55 +62,55 @@ parts_end test count table bytes start index past so_far =
 -- ---- blocks
 
 -- the first block, and the others
-pub record IsBlockFirst (first total start doc_end byte_end : ℕ) (others : List (ℕ × ℕ)) (bytes : List ℕ) : Type 0 where
+pub record IsBlockFirst (test : List ℕ → Bool) (first total start doc_end byte_end : ℕ) (others : List (ℕ × ℕ)) (bytes : List ℕ) : Type 0 where
   pub from : start ≤ byte_end
   pub within : byte_end ≤ length bytes
-  pub block : is_block (slice_range bytes start byte_end) ≡ true
+  pub block : test (slice_range bytes start byte_end) ≡ true
   pub documents : doc_end ≡ first + length (documents_in (slice_range bytes start byte_end))
 
-pub first_block : (first total start doc_end byte_end : ℕ) (others : List (ℕ × ℕ)) (bytes : List ℕ) → are_blocks first total start ((doc_end, byte_end) ∷ others) bytes ≡ true → IsBlockFirst first total start doc_end byte_end others bytes
-first_block first total start doc_end byte_end others bytes h =
+pub first_block : (test : List ℕ → Bool) (first total start doc_end byte_end : ℕ) (others : List (ℕ × ℕ)) (bytes : List ℕ) → are_blocks test first total start ((doc_end, byte_end) ∷ others) bytes ≡ true → IsBlockFirst test first total start doc_end byte_end others bytes
+first_block test first total start doc_end byte_end others bytes h =
     let p = and_parts _ _ h in
     let n = ends-next start (length bytes) byte_end (map (λ c. c.1) others) p.0 in
     let q = and_parts _ _ p.1 in
     let r = and_parts _ _ q.1 in
     record { from = n.from; within = n.within; block = (and_parts _ _ q.0).0; documents = eqb-true _ _ (and_parts _ _ r.0).0 }
 
-block_numbered : (first total start byte_end : ℕ) (others : List (ℕ × ℕ)) (bytes : List ℕ) → start ≤ byte_end → is_block (slice_range bytes start byte_end) ≡ true → are_blocks first total start ((first + length (documents_in (slice_range bytes start byte_end)), byte_end) ∷ others) bytes ≡ are_blocks (first + length (documents_in (slice_range bytes start byte_end))) total byte_end others bytes
-block_numbered first total start byte_end others bytes le ok =
+block_numbered : (test : List ℕ → Bool) (first total start byte_end : ℕ) (others : List (ℕ × ℕ)) (bytes : List ℕ) → start ≤ byte_end → test (slice_range bytes start byte_end) ≡ true → are_blocks test first total start ((first + length (documents_in (slice_range bytes start byte_end)), byte_end) ∷ others) bytes ≡ are_blocks test (first + length (documents_in (slice_range bytes start byte_end))) total byte_end others bytes
+block_numbered test first total start byte_end others bytes le ok =
     let count = length (documents_in (slice_range bytes start byte_end)) in
     let more = document_count (map documents_in (cut_from byte_end (map (λ c. c.1) others) bytes)) in
     let sum : first + (count + more) ≡ (first + count) + more = omega arith in
     rw (le-leb start byte_end le, ok, eq-eqb (first + count) (first + count) refl, sum) refl
 
-block_passed : (first total start doc_end byte_end : ℕ) (others : List (ℕ × ℕ)) (bytes : List ℕ) → start ≤ byte_end → is_block (slice_range bytes start byte_end) ≡ true → doc_end ≡ first + length (documents_in (slice_range bytes start byte_end)) → are_blocks first total start ((doc_end, byte_end) ∷ others) bytes ≡ are_blocks doc_end total byte_end others bytes
-block_passed first total start doc_end byte_end others bytes le ok is =
-    subst (λ d. are_blocks first total start ((d, byte_end) ∷ others) bytes ≡ are_blocks d total byte_end others bytes) (sym is) (block_numbered first total start byte_end others bytes le ok)
+block_passed : (test : List ℕ → Bool) (first total start doc_end byte_end : ℕ) (others : List (ℕ × ℕ)) (bytes : List ℕ) → start ≤ byte_end → test (slice_range bytes start byte_end) ≡ true → doc_end ≡ first + length (documents_in (slice_range bytes start byte_end)) → are_blocks test first total start ((doc_end, byte_end) ∷ others) bytes ≡ are_blocks test doc_end total byte_end others bytes
+block_passed test first total start doc_end byte_end others bytes le ok is =
+    subst (λ d. are_blocks test first total start ((d, byte_end) ∷ others) bytes ≡ are_blocks test d total byte_end others bytes) (sym is) (block_numbered test first total start byte_end others bytes le ok)
 
 -- some blocks passed, and the others decide
-abbrev pub BlocksPassed : (total count : ℕ) (table bytes : List ℕ) (first start index : ℕ) → Type 0
-BlocksPassed total count table bytes first start index = are_blocks 0 total 0 (checkpoints_of count table) bytes ≡ are_blocks first total start (drop index (checkpoints_of count table)) bytes
+abbrev pub BlocksPassed : (List ℕ → Bool) → (total count : ℕ) (table bytes : List ℕ) (first start index : ℕ) → Type 0
+BlocksPassed test total count table bytes first start index = are_blocks test 0 total 0 (checkpoints_of count table) bytes ≡ are_blocks test first total start (drop index (checkpoints_of count table)) bytes
 
-pub block_turn : (total count : ℕ) (table bytes : List ℕ) (first start index doc_end byte_end : ℕ) → slice_get (checkpoints_of count table) index ≡ Some (doc_end, byte_end) → BlocksPassed total count table bytes first start index → start ≤ byte_end → is_block (slice_range bytes start byte_end) ≡ true → doc_end ≡ first + length (documents_in (slice_range bytes start byte_end)) → BlocksPassed total count table bytes doc_end byte_end (index + 1)
-block_turn total count table bytes first start index doc_end byte_end is so_far le ok numbered =
+pub block_turn : (test : List ℕ → Bool) (total count : ℕ) (table bytes : List ℕ) (first start index doc_end byte_end : ℕ) → slice_get (checkpoints_of count table) index ≡ Some (doc_end, byte_end) → BlocksPassed test total count table bytes first start index → start ≤ byte_end → test (slice_range bytes start byte_end) ≡ true → doc_end ≡ first + length (documents_in (slice_range bytes start byte_end)) → BlocksPassed test total count table bytes doc_end byte_end (index + 1)
+block_turn test total count table bytes first start index doc_end byte_end is so_far le ok numbered =
     so_far
-    ∙ ap (λ cs. are_blocks first total start cs bytes) (drop-slice_get (checkpoints_of count table) index (doc_end, byte_end) is)
-    ∙ block_passed first total start doc_end byte_end (drop (index + 1) (checkpoints_of count table)) bytes le ok numbered
+    ∙ ap (λ cs. are_blocks test first total start cs bytes) (drop-slice_get (checkpoints_of count table) index (doc_end, byte_end) is)
+    ∙ block_passed test first total start doc_end byte_end (drop (index + 1) (checkpoints_of count table)) bytes le ok numbered
 
 -- a block that isn't there, is none, or has another number of documents
-pub block_stops : (total count : ℕ) (table bytes : List ℕ) (first start index doc_end byte_end : ℕ) → slice_get (checkpoints_of count table) index ≡ Some (doc_end, byte_end) → BlocksPassed total count table bytes first start index → (start ≤ byte_end → byte_end ≤ length bytes → is_block (slice_range bytes start byte_end) ≡ true → doc_end ≡ first + length (documents_in (slice_range bytes start byte_end)) → ⊥) → are_blocks 0 total 0 (checkpoints_of count table) bytes ≡ false
-block_stops total count table bytes first start index doc_end byte_end is so_far refused =
+pub block_stops : (test : List ℕ → Bool) (total count : ℕ) (table bytes : List ℕ) (first start index doc_end byte_end : ℕ) → slice_get (checkpoints_of count table) index ≡ Some (doc_end, byte_end) → BlocksPassed test total count table bytes first start index → (start ≤ byte_end → byte_end ≤ length bytes → test (slice_range bytes start byte_end) ≡ true → doc_end ≡ first + length (documents_in (slice_range bytes start byte_end)) → ⊥) → are_blocks test 0 total 0 (checkpoints_of count table) bytes ≡ false
+block_stops test total count table bytes first start index doc_end byte_end is so_far refused =
     let others = drop (index + 1) (checkpoints_of count table) in
     so_far
-    ∙ ap (λ cs. are_blocks first total start cs bytes) (drop-slice_get (checkpoints_of count table) index (doc_end, byte_end) is)
-    ∙ false_from_ne_true (are_blocks first total start ((doc_end, byte_end) ∷ others) bytes)
-    (λ h. let p = first_block first total start doc_end byte_end others bytes h in refused p.from p.within p.block p.documents)
+    ∙ ap (λ cs. are_blocks test first total start cs bytes) (drop-slice_get (checkpoints_of count table) index (doc_end, byte_end) is)
+    ∙ false_from_ne_true (are_blocks test first total start ((doc_end, byte_end) ∷ others) bytes)
+    (λ h. let p = first_block test first total start doc_end byte_end others bytes h in refused p.from p.within p.block p.documents)
 
-no_more : (first total start : ℕ) (bytes : List ℕ) → are_blocks first total start [] bytes ≡ ((start == length bytes) && (total == first))
-no_more first total start bytes = let sum : first + 0 ≡ first = omega arith in ap (λ n. (start == length bytes) && (total == n)) sum
+no_more : (test : List ℕ → Bool) (first total start : ℕ) (bytes : List ℕ) → are_blocks test first total start [] bytes ≡ ((start == length bytes) && (total == first))
+no_more test first total start bytes = let sum : first + 0 ≡ first = omega arith in ap (λ n. (start == length bytes) && (total == n)) sum
 
-pub blocks_end : (total count : ℕ) (table bytes : List ℕ) (first start index : ℕ) → count ≤ index → BlocksPassed total count table bytes first start index → are_blocks 0 total 0 (checkpoints_of count table) bytes ≡ ((start == length bytes) && (total == first))
-blocks_end total count table bytes first start index past so_far =
+pub blocks_end : (test : List ℕ → Bool) (total count : ℕ) (table bytes : List ℕ) (first start index : ℕ) → count ≤ index → BlocksPassed test total count table bytes first start index → are_blocks test 0 total 0 (checkpoints_of count table) bytes ≡ ((start == length bytes) && (total == first))
+blocks_end test total count table bytes first start index past so_far =
     so_far
-    ∙ ap (λ cs. are_blocks first total start cs bytes) (drop_all index (checkpoints_of count table) (omega (arith, past, length-checkpoints_of count table)))
-    ∙ no_more first total start bytes
+    ∙ ap (λ cs. are_blocks test first total start cs bytes) (drop_all index (checkpoints_of count table) (omega (arith, past, length-checkpoints_of count table)))
+    ∙ no_more test first total start bytes

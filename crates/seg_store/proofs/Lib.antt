@@ -10,9 +10,13 @@ mod CutParts
 mod CutEnds
 mod DocumentNumbers
 mod DocumentPlaces
+mod FittingFields
 mod KeptBlocks
 mod MadeDocuments
 mod PartPlaces
+mod PassedPairs
+mod PassedTrees
+mod ReadSequences
 mod SplitFiles
 mod StackedBlocks
 mod Stores

@@ -8,10 +8,13 @@ use Rattle.seg_common.proofs.Numbers.{zero_plus}
 use Rattle.seg_store.specs.Ends.{last_bytes, but_last, numbers_of, cut_from}
 use Rattle.seg_doc_bytes.specs.StoredDocument.{is_stored_document}
 use Rattle.seg_store.specs.Block.{block_count, block_body, documents_in, is_block}
-use Rattle.seg_store.specs.Store.{footer, store_count, checkpoints_of, store_checkpoints, store_body, is_store, document_count}
+use Rattle.seg_store.specs.CheckedFields.{is_block_of, is_document_of, is_store_of, read_documents}
+use Rattle.seg_store.specs.Store.{blocks_of, documents_of, footer, store_count, checkpoints_of, store_checkpoints, store_body, is_store, document_count}
+use Rattle.seg_store.specs.StoredFields.{have_fields}
 use Rattle.seg_store.specs.CutParts.{are_parts, are_blocks}
 use Rattle.seg_store.proofs.CutEnds.{length-cut}
 use Rattle.seg_store.proofs.EndTables.{length-numbers_of}
+use Rattle.seg_store.proofs.FittingFields.{blocks_fit, parts_fit}
 
 -- ---- blocks
 
@@ -62,14 +65,12 @@ split_documents bytes count body table s =
     let b : body ≡ block_body bytes = s.body_is ∙ ap (λ (k : ℕ). but_last (8 * k) (but_last 4 bytes)) n in
     documents_by bytes ∙ (λ i. cut_from 0 (numbers_of (sym n i) (sym t i)) (sym b i))
 
-pub split_refused : (bytes : List ℕ) (count : ℕ) (body table : List ℕ) → IsSplit bytes count body table → are_parts is_stored_document 0 (numbers_of count table) body ≡ false → is_block bytes ≡ false
-split_refused bytes count body table s no_parts =
-    split_test bytes count body table s
-    ∙ and_right (nat_lt 0 count) _ (and_right (nat_le (4 + 8 * count) (length bytes)) _ no_parts)
-
-pub split_passed : (bytes : List ℕ) (count : ℕ) (body table : List ℕ) → IsSplit bytes count body table → 0 < count → 4 + 8 * count ≤ length bytes → are_parts is_stored_document 0 (numbers_of count table) body ≡ true → is_block bytes ≡ true
-split_passed bytes count body table s some room parts =
-    split_test bytes count body table s ∙ rw (lt-ltb 0 count some, le-leb (4 + 8 * count) (length bytes) room, parts) refl
+-- it is one of some fields where its documents are, each in its part
+pub block_parts : (test : ℕ → Bool) (bytes : List ℕ) (count : ℕ) (body table : List ℕ) → IsSplit bytes count body table → 0 < count → 4 + 8 * count ≤ length bytes → is_block_of test bytes ≡ are_parts (is_document_of test) 0 (numbers_of count table) body
+block_parts test bytes count body table s some room =
+    let block : is_block bytes ≡ are_parts is_stored_document 0 (numbers_of count table) body = split_test bytes count body table s ∙ rw (lt-ltb 0 count some, le-leb (4 + 8 * count) (length bytes) room) refl in
+    (λ i. block i && have_fields test (read_documents (split_documents bytes count body table s i)))
+    ∙ sym (parts_fit test 0 (numbers_of count table) body)
 
 pub split_count : (bytes : List ℕ) (count : ℕ) (body table : List ℕ) → IsSplit bytes count body table → count ≡ length (documents_in bytes)
 split_count bytes count body table s =
@@ -78,7 +79,7 @@ split_count bytes count body table s =
 -- ---- stores
 
 abbrev store_test : (count size last total : ℕ) → List ℕ → List ℕ → Bool
-store_test count size last total table body = nat_le (9 + 12 * count) size && ((last == 0) && are_blocks 0 total 0 (checkpoints_of count table) body)
+store_test count size last total table body = nat_le (9 + 12 * count) size && ((last == 0) && are_blocks is_block 0 total 0 (checkpoints_of count table) body)
 
 store_by : (bytes : List ℕ) → is_store bytes ≡ store_test (store_count bytes) (length bytes) (slice_index (footer bytes) 8) (u32_at (footer bytes) 4) (last_bytes (12 * store_count bytes) (but_last 9 bytes)) (store_body bytes)
 unfolding is_store
@@ -109,10 +110,24 @@ store_cut bytes rest count body table count_is rest_is body_is table_is = record
   table_is = table_is ∙ ap (last_bytes (12 * count)) rest_is;
 }
 
-pub store_split_test : (bytes : List ℕ) (count total : ℕ) (body table : List ℕ) → IsStoreSplit bytes count body table → total ≡ u32_at (footer bytes) 4 → 9 + 12 * count ≤ length bytes → slice_index (footer bytes) 8 ≡ 0 → is_store bytes ≡ are_blocks 0 total 0 (checkpoints_of count table) body
+store_split_test : (bytes : List ℕ) (count total : ℕ) (body table : List ℕ) → IsStoreSplit bytes count body table → total ≡ u32_at (footer bytes) 4 → 9 + 12 * count ≤ length bytes → slice_index (footer bytes) 8 ≡ 0 → is_store bytes ≡ are_blocks is_block 0 total 0 (checkpoints_of count table) body
 store_split_test bytes count total body table s total_is room last =
     let n = s.count_is in
     let t : table ≡ last_bytes (12 * store_count bytes) (but_last 9 bytes) = s.table_is ∙ ap (λ (k : ℕ). last_bytes (12 * k) (but_last 9 bytes)) n in
     let b : body ≡ store_body bytes = s.body_is ∙ ap (λ (k : ℕ). but_last (12 * k) (but_last 9 bytes)) n in
     store_by bytes ∙ (λ i. store_test (sym n i) (length bytes) (last i) (sym total_is i) (sym t i) (sym b i))
     ∙ rw (le-leb (9 + 12 * count) (length bytes) room) refl
+
+store_blocks : (bytes : List ℕ) (count : ℕ) (body table : List ℕ) → IsStoreSplit bytes count body table → blocks_of bytes ≡ map documents_in (cut_from 0 (map (λ c. c.1) (checkpoints_of count table)) body)
+unfolding blocks_of
+store_blocks bytes count body table s =
+    let n = s.count_is in
+    let t : table ≡ last_bytes (12 * store_count bytes) (but_last 9 bytes) = s.table_is ∙ ap (λ (k : ℕ). last_bytes (12 * k) (but_last 9 bytes)) n in
+    let b : body ≡ store_body bytes = s.body_is ∙ ap (λ (k : ℕ). but_last (12 * k) (but_last 9 bytes)) n in
+    λ i. map documents_in (cut_from 0 (map (λ c. c.1) (checkpoints_of (sym n i) (sym t i))) (sym b i))
+
+-- it is one of some fields where its blocks are
+pub store_parts_test : (test : ℕ → Bool) (bytes : List ℕ) (count total : ℕ) (body table : List ℕ) → IsStoreSplit bytes count body table → total ≡ u32_at (footer bytes) 4 → 9 + 12 * count ≤ length bytes → slice_index (footer bytes) 8 ≡ 0 → is_store_of test bytes ≡ are_blocks (is_block_of test) 0 total 0 (checkpoints_of count table) body
+store_parts_test test bytes count total body table s total_is room last =
+    (λ i. store_split_test bytes count total body table s total_is room last i && have_fields test (documents_of (store_blocks bytes count body table s i)))
+    ∙ sym (blocks_fit test 0 total 0 (checkpoints_of count table) body)

@@ -3,10 +3,12 @@ pub mod Block
 pub mod BlockLaw
 pub mod Cache
 pub mod CachedBlocks
+pub mod CheckedFields
 pub mod Checkpoints
 pub mod CutParts
 pub mod Ends
 pub mod StackedBlocks
 pub mod Store
+pub mod StoredFields
 pub mod WriterBlocks
 pub mod WriterBuffers

@@ -30,8 +30,10 @@ mod written_blocks;
 
 // The check.
 mod block_check;
+mod document_check;
 mod parts;
 mod store_check;
+mod tree_check;
 
 // What is read.
 mod block_reader;

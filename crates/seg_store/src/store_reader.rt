@@ -1,13 +1,15 @@
 //! The reader of stores.
-ghost use Rattle.std.specs.Prelude.{◌≡◌, ◌<◌, ◌≤◌, ◌+◌, ◌*◌, true, length, take, Some, None, option_map, IfOk, IfErr, MatchResult};
+ghost use Rattle.std.specs.Prelude.{◌≡◌, ◌<◌, ◌≤◌, ◌+◌, ◌*◌, List, true, false, length, take, Some, None, option_map, IfOk, IfErr, MatchResult};
 ghost use Rattle.std.specs.List.{slice_get};
 ghost use Rattle.seg_store.specs.AliveDocuments.{alive_behind};
-ghost use Rattle.seg_store.specs.Block.{is_block, documents_in};
+ghost use Rattle.seg_store.specs.Block.{Block, is_block, documents_in};
 ghost use Rattle.seg_store.specs.Cache.{block_of};
+ghost use Rattle.seg_store.specs.CheckedFields.{is_store_of, may_have};
 ghost use Rattle.seg_store.specs.Checkpoints.{checkpoints, stored_size};
 ghost use Rattle.seg_doc_bytes.specs.StoredDocument.{is_stored_document, stored_document_of};
 ghost use Rattle.seg_store.specs.StackedBlocks.{HaveBlocks};
 ghost use Rattle.seg_store.specs.Store.{store_of, document_count, raw_documents, documents_of};
+ghost use Rattle.seg_store.specs.StoredFields.{have_fields, have_stored_fields};
 ghost use Rattle.seg_store.specs.WriterBlocks.{block_bytes};
 
 use crate::checkpoint::{CHECKPOINT_BYTES, Checkpoint, checkpoint_at};
@@ -21,7 +23,7 @@ use crate::store_check::is_store;
 use seg_bits::ReadOnlyBitSet;
 use seg_common::{ByteCount, OwnedBytes, u32_at};
 use seg_doc_bytes::document_of;
-use seg_values::TantivyDocument;
+use seg_values::{Schema, TantivyDocument};
 use std::alloc::Global;
 use std::marker::Model;
 
@@ -55,7 +57,26 @@ impl StoreReader {
         ensures { MatchResult result (λ r. store_of bytes ≡ Some r)
             (λ e. (e ≡ StoreError.Malformed) × (store_of bytes ≡ None)) }
     {
-        if !is_store(bytes.as_slice()) {
+        StoreReader::open_checked(bytes, None)
+    }
+
+    /// As `open`; `Malformed` also where a pair of a document has a field that the schema lacks, or doesn't store.
+    pub fn open_with_schema(bytes: OwnedBytes, schema: &Schema) -> Result<StoreReader, StoreError>
+        ensures ok { IfOk result (λ r. (store_of bytes ≡ Some r)
+            × (have_stored_fields schema.now (documents_of r) ≡ true)) }
+        ensures err { IfErr result (λ e. (e ≡ StoreError.Malformed) × ((blocks : List Block)
+            → store_of bytes ≡ Some blocks → have_stored_fields schema.now (documents_of blocks) ≡ false)) }
+    {
+        StoreReader::open_checked(bytes, Some(schema))
+    }
+
+    fn open_checked(bytes: OwnedBytes, schema: Option<&Schema>) -> Result<StoreReader, StoreError>
+        ensures ok { IfOk result (λ r. (store_of bytes ≡ Some r)
+            × (have_fields (may_have (option_map (λ s. s.now) schema.entry)) (documents_of r) ≡ true)) }
+        ensures err { IfErr result (λ e. (e ≡ StoreError.Malformed)
+            × (is_store_of (may_have (option_map (λ s. s.now) schema.entry)) bytes ≡ false)) }
+    {
+        if !is_store(bytes.as_slice(), schema) {
             return Err(StoreError::Malformed);
         }
         Ok(StoreReader { bytes })

@@ -1,4 +1,4 @@
-use Rattle.std.proofs.Common.{ap, sym, subst, arith}
+use Rattle.std.proofs.Common.{refl, ap, sym, subst, arith}
 use Rattle.std.specs.List.{AllByRecursion}
 use Rattle.std.proofs.lemmas.List.{drop_all}
 use Rattle.seg_open.specs.OpenSegment.{IsMarked, kept_count}
@@ -15,7 +15,7 @@ loop-part-preserved c =
       few = omega (arith, c.if-live-count.false);
       counted = omega (arith, split, c.num_docs-live.ensures, c.loop-part.invariant.counted);
       marked = λ rest. c.loop-part.invariant.marked (all_first IsMarked parts i p c.loop-part-test.true c.part-item.is c.documents_are_marked.ensures rest);
-      shape = λ rest. c.loop-part.invariant.shape (all_first HasShape parts i p c.loop-part-test.true c.part-item.is c.contents_have_full_shape.ensures rest);
+      shape = λ rest. c.loop-part.invariant.shape (all_first HasShape parts i p c.loop-part-test.true c.part-item.is (refl, c.contents_have_full_shape.ensures, c.stored_pairs_are_of_schema.ensures) rest);
     }
 
 pub returns-then-live-count-clause-counted : goal.returns-then-live-count-clause-counted

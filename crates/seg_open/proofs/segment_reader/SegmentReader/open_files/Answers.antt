@@ -33,7 +33,7 @@ returns-in_err-both-clause-err c =
     let documents = c.max_doc-max_doc.result in
     let schema_is : schema ≡ c.args.segment.now.schema = search rules in
     let number_is : documents ≡ c.args.segment.now.meta.documents = search rules in
-    let wrong = postings_wrong schema documents c.args.files c.in_ok-dictionaries.dictionaries.items c.in_ok-dictionaries.ensures.ok c.in-Some.store c.in-Some.ensures.0 c.in-Some.ensures.1 in
+    let wrong = postings_wrong schema documents c.args.files c.in_ok-dictionaries.dictionaries.items c.in_ok-dictionaries.ensures.ok c.in-Some.store c.in-Some.ensures.0 c.in-Some.ensures.1 c.in-Some.ensures.2 in
     as_listed schema _ documents _ c.args.files schema_is number_is _
     (why schema documents c.args.files c.in_err-both.field-0.0 c.from_residual-in_err-both.result c.from_residual-in_err-both.ensures.1
     (told schema documents c.args.files Postings _ wrong c.in_err-both.field-0.0 c.in_err-both.ensures.err))
@@ -44,7 +44,7 @@ returns-in_err-fields-clause-err c =
     let documents = c.max_doc-max_doc.result in
     let schema_is : schema ≡ c.args.segment.now.schema = search rules in
     let number_is : documents ≡ c.args.segment.now.meta.documents = search rules in
-    let wrong = positions_wrong schema documents c.args.files c.in_ok-dictionaries.dictionaries.items c.in_ok-dictionaries.ensures.ok c.in-Some.store c.in-Some.ensures.0 c.in-Some.ensures.1 c.in_ok-both.both.items c.in_ok-both.ensures.ok in
+    let wrong = positions_wrong schema documents c.args.files c.in_ok-dictionaries.dictionaries.items c.in_ok-dictionaries.ensures.ok c.in-Some.store c.in-Some.ensures.0 c.in-Some.ensures.1 c.in-Some.ensures.2 c.in_ok-both.both.items c.in_ok-both.ensures.ok in
     as_listed schema _ documents _ c.args.files schema_is number_is _
     (why schema documents c.args.files c.in_err-fields.field-0.0 c.from_residual-in_err-fields.result c.from_residual-in_err-fields.ensures.1
     (told schema documents c.args.files Positions _ wrong c.in_err-fields.field-0.0 c.in_err-fields.ensures.err))
@@ -55,7 +55,7 @@ returns-in_err-columns-clause-err c =
     let documents = c.max_doc-max_doc.result in
     let schema_is : schema ≡ c.args.segment.now.schema = search rules in
     let number_is : documents ≡ c.args.segment.now.meta.documents = search rules in
-    let wrong = columns_wrong schema documents c.args.files c.in_ok-dictionaries.dictionaries.items c.in_ok-dictionaries.ensures.ok c.in-Some.store c.in-Some.ensures.0 c.in-Some.ensures.1 c.in_ok-both.both.items c.in_ok-both.ensures.ok c.in_ok-fields.fields.items c.in_ok-fields.ensures.ok in
+    let wrong = columns_wrong schema documents c.args.files c.in_ok-dictionaries.dictionaries.items c.in_ok-dictionaries.ensures.ok c.in-Some.store c.in-Some.ensures.0 c.in-Some.ensures.1 c.in-Some.ensures.2 c.in_ok-both.both.items c.in_ok-both.ensures.ok c.in_ok-fields.fields.items c.in_ok-fields.ensures.ok in
     as_listed schema _ documents _ c.args.files schema_is number_is _
     (why schema documents c.args.files c.in_err-columns.field-0.0 c.from_residual-in_err-columns.result c.from_residual-in_err-columns.ensures.1
     (told schema documents c.args.files FastFields _ wrong c.in_err-columns.field-0.0 c.in_err-columns.ensures))
@@ -67,7 +67,7 @@ returns-in_default-open_norms-clause-err c =
     let schema_is : schema ≡ c.args.segment.now.schema = search rules in
     let number_is : documents ≡ c.args.segment.now.meta.documents = search rules in
     told_of_listed schema _ documents _ c.args.files FieldNorms schema_is number_is
-    (norms_wrong schema documents c.args.files c.in_ok-dictionaries.dictionaries.items c.in_ok-dictionaries.ensures.ok c.in-Some.store c.in-Some.ensures.0 c.in-Some.ensures.1 c.in_ok-both.both.items c.in_ok-both.ensures.ok c.in_ok-fields.fields.items c.in_ok-fields.ensures.ok c.in_ok-columns.ensures.0 c.in_default-open_norms.ensures)
+    (norms_wrong schema documents c.args.files c.in_ok-dictionaries.dictionaries.items c.in_ok-dictionaries.ensures.ok c.in-Some.store c.in-Some.ensures.0 c.in-Some.ensures.1 c.in-Some.ensures.2 c.in_ok-both.both.items c.in_ok-both.ensures.ok c.in_ok-fields.fields.items c.in_ok-fields.ensures.ok c.in_ok-columns.ensures.0 c.in_default-open_norms.ensures)
 
 pub returns-clause-ok : goal.returns-clause-ok
 returns-clause-ok c =
@@ -76,7 +76,8 @@ returns-clause-ok c =
     has_files c.terms_read_have_shape.ensures c.args.segment.now c.args.files _ (search rules) schema_is number_is (search rules) (search rules) (record {
       terms = terms_are_open c.share-schema.result c.max_doc-max_doc.result c.args.files.terms c.in_ok-dictionaries.dictionaries.items c.in_ok-dictionaries.ensures.ok c.args.files.postings c.in_ok-both.both.items c.in_ok-both.ensures.ok c.args.files.positions c.in_ok-fields.fields.items c.in_ok-fields.ensures.ok;
       store = c.in-Some.ensures.0;
-      stored = c.in-Some.ensures.1;
+      stored_fields = c.in-Some.ensures.1;
+      stored = c.in-Some.ensures.2;
       columns = c.in_ok-columns.ensures.0;
       columns_are = ap (λ (f : Readers). f.file) c.in_ok-columns.ensures.1;
       norms = c.in-Some-open_norms.ensures.0;
@@ -109,10 +110,12 @@ invariant_of-result c =
       has_shape c.terms_read_have_shape.ensures c.args.files opened (record {
         terms = terms_are_open c.share-schema.result c.max_doc-max_doc.result c.args.files.terms c.in_ok-dictionaries.dictionaries.items first c.args.files.postings c.in_ok-both.both.items second c.args.files.positions c.in_ok-fields.fields.items third;
         store = c.in-Some.ensures.0;
-        stored = c.in-Some.ensures.1;
+        stored_fields = c.in-Some.ensures.1;
+        stored = c.in-Some.ensures.2;
         columns = c.in_ok-columns.ensures.0;
         columns_are = ap (λ (f : Readers). f.file) c.in_ok-columns.ensures.1;
         norms = c.in-Some-open_norms.ensures.0;
         fit = c.in-Some-open_norms.ensures.1;
       }),
+      c.in-Some.ensures.1,
     )

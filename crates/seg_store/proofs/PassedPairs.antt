@@ -1,0 +1,49 @@
+-- Pairs of a stored document that are passed, each with a field that passes a test.
+use Rattle.std.proofs.Common.{◌≡◌, ℕ, suc, Bool, true, false, List, [], ◌∷◌, length, Option, Some, None, arith, refl, sym, ap, ◌∙◌, if◌then◌else◌}
+use Rattle.std.specs.Prelude.{nat_eq, is_some}
+use Rattle.std.proofs.lemmas.Bool.Decides.{nat_tests}
+use Rattle.seg_values.specs.Tree.{Tree}
+use Rattle.seg_doc_bytes.specs.PassedBytes.{Passed, Passes}
+use Rattle.seg_doc_bytes.specs.FrontReaders.{then_read, made_of, counted_at}
+use Rattle.seg_doc_bytes.specs.StoredDocument.{most_levels_read, pair_at, all_read}
+use Rattle.seg_doc_bytes.specs.StoredTree.{stored_tree_at}
+use Rattle.seg_store.specs.CheckedFields.{pair_of, is_document_of}
+
+module _ (test : ℕ → Bool) where
+  with_field : (field : ℕ) (b : Bool) → test field ≡ b → (o : Option (Tree × List ℕ)) → then_read (made_of (λ t. (field, t)) o) (λ p rest. if test p.0 then Some (p, rest) else None) ≡ (if b then made_of (λ t. (field, t)) o else None)
+  with_field field true is None = refl
+  with_field field true is (Some x) = rw is refl
+  with_field field false is None = refl
+  with_field field false is (Some x) = rw is refl
+
+  -- a pair whose field was taken, and passes the test or not
+  front : (old left : List ℕ) (field : ℕ) (b : Bool) → pair_at old ≡ made_of (λ t. (field, t)) (stored_tree_at most_levels_read left) → test field ≡ b → pair_of test old ≡ (if b then made_of (λ t. (field, t)) (stored_tree_at most_levels_read left) else None)
+  front old left field b is passes =
+      ap (λ o. then_read o (λ p rest. if test p.0 then Some (p, rest) else None)) is ∙ with_field field b passes (stored_tree_at most_levels_read left)
+
+  pub pair_lacks : (old : List ℕ) → pair_at old ≡ None → pair_of test old ≡ None
+  pair_lacks old none = ap (λ o. then_read o (λ p rest. if test p.0 then Some (p, rest) else None)) none
+
+  pub pair_refused : (old left : List ℕ) (field : ℕ) → pair_at old ≡ made_of (λ t. (field, t)) (stored_tree_at most_levels_read left) → test field ≡ false → pair_of test old ≡ None
+  pair_refused old left field is fails = front old left field false is fails
+
+  pub pair_passed : {B : Type 0} (old left new : List ℕ) (field : ℕ) (r : Option B) → pair_at old ≡ made_of (λ t. (field, t)) (stored_tree_at most_levels_read left) → test field ≡ true → Passes (stored_tree_at most_levels_read) left new r → Passes (pair_of test) old new r
+  pair_passed old left new field (Some done) is passes p = record { value = (field, p.value); is = front old left field true is passes ∙ ap (made_of (λ t. (field, t))) p.is }
+  pair_passed old left new field None is passes p = front old left field true is passes ∙ ap (made_of (λ t. (field, t))) p
+
+-- ---- a whole document
+
+not_none : (n : ℕ) → nat_eq (suc n) 0 ≡ false
+not_none n = grind (arith, nat_tests)
+
+rest_empty : (pairs : List (ℕ × Tree)) (left : List ℕ) → nat_eq (length left) 0 ≡ is_some (all_read (Some (pairs, left)))
+rest_empty pairs [] = refl
+rest_empty pairs (b ∷ left) = not_none (length left)
+
+pub document_passed : (test : ℕ → Bool) (bytes left : List ℕ) (empty : Bool) → Passed (counted_at (pair_of test)) bytes left → empty ≡ nat_eq (length left) 0 → empty ≡ is_document_of test bytes
+unfolding is_document_of
+document_passed test bytes left empty p is = is ∙ rest_empty p.value left ∙ ap (λ o. is_some (all_read o)) (sym p.is)
+
+pub document_refused : (test : ℕ → Bool) (bytes : List ℕ) → counted_at (pair_of test) bytes ≡ None → false ≡ is_document_of test bytes
+unfolding is_document_of
+document_refused test bytes none = ap (λ o. is_some (all_read o)) (sym none)
