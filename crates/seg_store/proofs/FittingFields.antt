@@ -1,15 +1,12 @@
 -- Documents, blocks and stores of some fields alone: they are such, and their pairs have these fields.
-use Rattle.std.proofs.Common.{◌≡◌, ℕ, zero, suc, Bool, true, false, List, [], ◌∷◌, ◌++◌, ◌+◌, length, map, Option, Some, None, refl, sym, ap, ◌∙◌, ◌&&◌, if◌then◌else◌}
-use Rattle.std.specs.Prelude.{is_some, ◌==◌}
+use Rattle.std.proofs.Common.{◌≡◌, ℕ, zero, suc, Bool, true, false, List, [], ◌∷◌, ◌++◌, ◌+◌, length, map, Option, Some, None, refl, sym, ap, ◌∙◌, ◌&&◌, cond, if◌then◌else◌}
+use Rattle.std.specs.Prelude.{is_some, ◌==◌, Result, Ok, Err, IfOk, IfErr, MatchResult}
 use Rattle.std.specs.List.{list_all}
 use Rattle.std.specs.Option.{option_to_list}
 use Rattle.std.specs.Str.{bytes_eq}
-use Rattle.std.proofs.lemmas.Bool.{and_parts}
 use Rattle.std.proofs.Math.Bool.{and-true}
 use Rattle.std.proofs.lemmas.List.Folds.{list_all-append}
-use Rattle.std.proofs.lemmas.Option.{same_Some}
 use Rattle.seg_common.specs.Varint.{varint_at}
-use Rattle.seg_values.specs.Schemas.{Schema}
 use Rattle.seg_values.specs.Tree.{Tree, Document}
 use Rattle.seg_doc_bytes.specs.FrontReaders.{then_read, times_at, counted_at}
 use Rattle.seg_doc_bytes.specs.StoredDocument.{pair_at, all_read, stored_document_of, is_stored_document}
@@ -18,7 +15,9 @@ use Rattle.seg_store.specs.CheckedFields.{is_block_of, is_document_of, is_store_
 use Rattle.seg_store.specs.CutParts.{are_blocks, are_parts}
 use Rattle.seg_store.specs.Ends.{are_ends, cut_from}
 use Rattle.seg_store.specs.Store.{blocks_of, documents_of, document_count, id_ends, is_store, store_of}
-use Rattle.seg_store.specs.StoredFields.{have_fields, have_stored_fields}
+use Rattle.seg_store.specs.StoredFields.{have_fields}
+use Rattle.seg_store.specs.declared.error.StoreError.{StoreError}
+use Rattle.seg_store.specs.declared.error.StoreError.TheVariants.{Malformed}
 
 -- ---- conditions in another order
 
@@ -71,15 +70,15 @@ module _ (test : ℕ → Bool) where
 
   times_fit : (n : ℕ) (bytes : List ℕ) → times_at (pair_of test) n bytes ≡ if_fit (times_at pair_at n bytes)
   times_fit zero bytes = refl
-  times_fit (suc n) bytes = by (pair_at bytes)
+  times_fit (suc n) bytes = by (times_fit n) (pair_at bytes)
     where
-      one : (x : ℕ × Tree) (rest : List ℕ) (b : Bool) → test x.0 ≡ b → then_read (if b then Some (x, rest) else None) (λ y more. then_read (times_at (pair_of test) n more) (λ ys after. Some (y ∷ ys, after))) ≡ if_fit (then_read (times_at pair_at n rest) (λ ys after. Some (x ∷ ys, after)))
-      one x rest true is = ap (λ o. then_read o (λ ys after. Some (x ∷ ys, after))) (times_fit n rest) ∙ one_more x is (times_at pair_at n rest)
-      one x rest false is = sym (none_more x is (times_at pair_at n rest))
+      one : (x : ℕ × Tree) (rest : List ℕ) → times_at (pair_of test) n rest ≡ if_fit (times_at pair_at n rest) → (b : Bool) → test x.0 ≡ b → then_read (if b then Some (x, rest) else None) (λ y more. then_read (times_at (pair_of test) n more) (λ ys after. Some (y ∷ ys, after))) ≡ if_fit (then_read (times_at pair_at n rest) (λ ys after. Some (x ∷ ys, after)))
+      one x rest others true is = ap (λ o. then_read o (λ ys after. Some (x ∷ ys, after))) others ∙ one_more x is (times_at pair_at n rest)
+      one x rest others false is = sym (none_more x is (times_at pair_at n rest))
 
-      by : (o : Option ((ℕ × Tree) × List ℕ)) → then_read (then_read o (λ p rest. if test p.0 then Some (p, rest) else None)) (λ y more. then_read (times_at (pair_of test) n more) (λ ys after. Some (y ∷ ys, after))) ≡ if_fit (then_read o (λ y more. then_read (times_at pair_at n more) (λ ys after. Some (y ∷ ys, after))))
-      by None = refl
-      by (Some r) = one r.0 r.1 (test r.0.0) refl
+      by : ((rest : List ℕ) → times_at (pair_of test) n rest ≡ if_fit (times_at pair_at n rest)) → (o : Option ((ℕ × Tree) × List ℕ)) → then_read (then_read o (λ p rest. if test p.0 then Some (p, rest) else None)) (λ y more. then_read (times_at (pair_of test) n more) (λ ys after. Some (y ∷ ys, after))) ≡ if_fit (then_read o (λ y more. then_read (times_at pair_at n more) (λ ys after. Some (y ∷ ys, after))))
+      by others None = refl
+      by others (Some r) = one r.0 r.1 (others r.1) (test r.0.0) refl
 
   counted_fit : (bytes : List ℕ) → counted_at (pair_of test) bytes ≡ if_fit (counted_at pair_at bytes)
   counted_fit bytes = by (varint_at bytes)
@@ -153,24 +152,13 @@ any_field (d ∷ ds) = (λ i. any d i && any_field ds i)
     any [] = refl
     any (p ∷ ps) = any ps
 
--- ---- a store that is open
-
--- a store whose documents have these fields
-pub store_fits : (test : ℕ → Bool) (bytes : List ℕ) → is_store_of test bytes ≡ true → (store_of bytes ≡ Some (blocks_of bytes)) × (have_fields test (documents_of (blocks_of bytes)) ≡ true)
-store_fits test bytes good = let p = and_parts _ _ good in (rw p.0 refl, p.1)
-
 -- bytes that are no store of any fields are none
-pub no_store : (bytes : List ℕ) → is_store_of (may_have None) bytes ≡ false → store_of bytes ≡ None
+no_store : (bytes : List ℕ) → is_store_of (may_have None) bytes ≡ false → store_of bytes ≡ None
 no_store bytes none =
     let bad : is_store bytes ≡ false = sym (and-true (is_store bytes)) ∙ ap (λ b. is_store bytes && b) (sym (any_field (documents_of (blocks_of bytes)))) ∙ none in
-    rw bad refl
+    ap (λ b. cond {A = Option (List Block)} b (Some (blocks_of bytes)) None) bad
 
--- bytes that are no store of the stored fields have others
-pub other_fields : (schema : Schema) (bytes : List ℕ) (blocks : List Block) → is_store_of (may_have (Some schema)) bytes ≡ false → store_of bytes ≡ Some blocks → have_stored_fields schema (documents_of blocks) ≡ false
-other_fields schema bytes blocks none found = by (is_store bytes) refl
-  where
-    by : (b : Bool) → is_store bytes ≡ b → have_stored_fields schema (documents_of blocks) ≡ false
-    by true is =
-        let same : blocks_of bytes ≡ blocks = same_Some (blocks_of bytes) blocks (rw is found) in
-        ap (λ (bs : List Block). have_stored_fields schema (documents_of bs)) (sym same) ∙ sym (ap (λ b. b && have_stored_fields schema (documents_of (blocks_of bytes))) is) ∙ none
-    by false is = absurd (cc)
+-- a store that is open, of any fields, or why it isn't
+pub opened : (bytes : List ℕ) (result : Result (List Block) StoreError) → IfOk result (λ r. (store_of bytes ≡ Some r) × (have_fields (may_have None) (documents_of r) ≡ true)) → IfErr result (λ e. (e ≡ Malformed) × (is_store_of (may_have None) bytes ≡ false)) → MatchResult result (λ r. store_of bytes ≡ Some r) (λ e. (e ≡ Malformed) × (store_of bytes ≡ None))
+opened bytes (Ok r) ok err = ok.0
+opened bytes (Err e) ok err = (err.0, no_store bytes err.1)

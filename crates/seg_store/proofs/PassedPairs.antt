@@ -9,27 +9,34 @@ use Rattle.seg_doc_bytes.specs.StoredDocument.{most_levels_read, pair_at, all_re
 use Rattle.seg_doc_bytes.specs.StoredTree.{stored_tree_at}
 use Rattle.seg_store.specs.CheckedFields.{pair_of, is_document_of}
 
-module _ (test : ℕ → Bool) where
-  with_field : (field : ℕ) (b : Bool) → test field ≡ b → (o : Option (Tree × List ℕ)) → then_read (made_of (λ t. (field, t)) o) (λ p rest. if test p.0 then Some (p, rest) else None) ≡ (if b then made_of (λ t. (field, t)) o else None)
-  with_field field true is None = refl
-  with_field field true is (Some x) = rw is refl
-  with_field field false is None = refl
-  with_field field false is (Some x) = rw is refl
+abbrev with_field : ℕ → Option (Tree × List ℕ) → Option ((ℕ × Tree) × List ℕ)
+with_field field o = made_of (λ t. (field, t)) o
 
-  -- a pair whose field was taken, and passes the test or not
-  front : (old left : List ℕ) (field : ℕ) (b : Bool) → pair_at old ≡ made_of (λ t. (field, t)) (stored_tree_at most_levels_read left) → test field ≡ b → pair_of test old ≡ (if b then made_of (λ t. (field, t)) (stored_tree_at most_levels_read left) else None)
-  front old left field b is passes =
-      ap (λ o. then_read o (λ p rest. if test p.0 then Some (p, rest) else None)) is ∙ with_field field b passes (stored_tree_at most_levels_read left)
+module _ (test : ℕ → Bool) where
+  abbrev if_passed : Option ((ℕ × Tree) × List ℕ) → Option ((ℕ × Tree) × List ℕ)
+  if_passed o = then_read o (λ p rest. if test p.0 then Some (p, rest) else None)
+
+  passed : (field : ℕ) → test field ≡ true → (o : Option (Tree × List ℕ)) → if_passed (with_field field o) ≡ with_field field o
+  passed field passes None = refl
+  passed field passes (Some x) = rw passes refl
+
+  failed : (field : ℕ) → test field ≡ false → (o : Option (Tree × List ℕ)) → if_passed (with_field field o) ≡ None
+  failed field fails None = refl
+  failed field fails (Some x) = rw fails refl
 
   pub pair_lacks : (old : List ℕ) → pair_at old ≡ None → pair_of test old ≡ None
-  pair_lacks old none = ap (λ o. then_read o (λ p rest. if test p.0 then Some (p, rest) else None)) none
+  pair_lacks old none = ap if_passed none
 
-  pub pair_refused : (old left : List ℕ) (field : ℕ) → pair_at old ≡ made_of (λ t. (field, t)) (stored_tree_at most_levels_read left) → test field ≡ false → pair_of test old ≡ None
-  pair_refused old left field is fails = front old left field false is fails
+  -- a pair whose field was taken, and passes the test or not
+  pub pair_refused : (old left : List ℕ) (field : ℕ) → pair_at old ≡ with_field field (stored_tree_at most_levels_read left) → test field ≡ false → pair_of test old ≡ None
+  pair_refused old left field is fails = ap if_passed is ∙ failed field fails (stored_tree_at most_levels_read left)
 
-  pub pair_passed : {B : Type 0} (old left new : List ℕ) (field : ℕ) (r : Option B) → pair_at old ≡ made_of (λ t. (field, t)) (stored_tree_at most_levels_read left) → test field ≡ true → Passes (stored_tree_at most_levels_read) left new r → Passes (pair_of test) old new r
-  pair_passed old left new field (Some done) is passes p = record { value = (field, p.value); is = front old left field true is passes ∙ ap (made_of (λ t. (field, t))) p.is }
-  pair_passed old left new field None is passes p = front old left field true is passes ∙ ap (made_of (λ t. (field, t))) p
+  front : (old left : List ℕ) (field : ℕ) → pair_at old ≡ with_field field (stored_tree_at most_levels_read left) → test field ≡ true → pair_of test old ≡ with_field field (stored_tree_at most_levels_read left)
+  front old left field is passes = ap if_passed is ∙ passed field passes (stored_tree_at most_levels_read left)
+
+  pub pair_passed : {B : Type 0} (old left new : List ℕ) (field : ℕ) (r : Option B) → pair_at old ≡ with_field field (stored_tree_at most_levels_read left) → test field ≡ true → Passes (stored_tree_at most_levels_read) left new r → Passes (pair_of test) old new r
+  pair_passed old left new field (Some done) is passes p = record { value = (field, p.value); is = front old left field is passes ∙ ap (with_field field) p.is }
+  pair_passed old left new field None is passes p = front old left field is passes ∙ ap (with_field field) p
 
 -- ---- a whole document
 
